@@ -1,0 +1,58 @@
+//! Shelves: finite maps from a key to its row.
+ghost use Rattle.std.specs.Prelude.{◌≡◌, ℕ, ◌+◌, ◌<◌, ◌≤◌, ◌→◌, List, [], Option, Some, length, map, filter, slice_get, IsTrue, IsOk, OnOk, IfOk, OnSome, IfNone, option_copied};
+ghost use Rattle.std.specs.List.Sorted.{IsPermutation};
+ghost use Rattle.clr_shelf.specs.Rows.{in_key_order, row_of, with_row, without_row};
+
+use crate::row::Row;
+use std::alloc::{AllocError, Global};
+
+/// A finite map from a key to its row.
+pub trait Shelf<R: Row> {
+    // The rows in key order, one row a key.
+    ghost rows: { Self → List R };
+
+    // The rows in the order in which `at` gives them.
+    ghost places: { Self → List R };
+
+    // How many rows may be put before memory is asked for.
+    ghost room: { Self → ℕ };
+
+    fn empty(alloc: Global) -> Self
+        ensures { rows result ≡ [] };
+
+    fn len(&self) -> usize
+        ensures rows { result ≡ length (rows self.now) }
+        ensures places { result ≡ length (places self.now) };
+
+    fn get(&self, key: &R::Key) -> Option<&R>
+        ensures { option_copied result ≡ row_of R.key_cmp R.key_of key.now (rows self.now) };
+
+    /// The row at a place. Each row stands at exactly one place below `len`, in no order that is promised.
+    fn at(&self, place: usize) -> &R
+        requires { place < length (places self.now) }
+        ensures { slice_get (places self.now) place ≡ Some result.now };
+
+    fn group(&self, alloc: Global, group: &R::Group) -> Result<Vec<&R>, AllocError>
+        ensures { IfOk result (λ found. map (λ row. row.now) found.items ≡ filter (R.is_in group.now) (rows self.now)) };
+
+    fn reserve(&mut self, n: usize) -> Result<(), AllocError>
+        ensures rows { rows self.new ≡ rows self.old }
+        ensures places { places self.new ≡ places self.old }
+        ensures ok { OnOk result (n ≤ room self.new) }
+        ensures kept { room self.old ≤ room self.new };
+
+    fn put(&mut self, row: R)
+        requires { 0 < room self.old }
+        ensures rows { rows self.new ≡ with_row R.key_cmp R.key_of row (rows self.old) }
+        ensures room { room self.old ≤ room self.new + 1 };
+
+    fn take(&mut self, key: &R::Key) -> Option<R>
+        ensures given { result ≡ row_of R.key_cmp R.key_of key.now (rows self.old) }
+        ensures rows { rows self.new ≡ without_row R.key_cmp R.key_of key.now (rows self.old) }
+        ensures room { OnSome result (room self.old + 1 ≤ room self.new) }
+        ensures missing { IfNone result ((room self.new ≡ room self.old) × (places self.new ≡ places self.old)) };
+
+    ghost in_order: { (shelf : Self) → IsTrue (in_key_order R.key_cmp R.key_of (rows shelf)) };
+
+    ghost each_once: { (shelf : Self) → IsPermutation (rows shelf) (places shelf) };
+}
