@@ -1,0 +1,127 @@
+-- Where names stand in a list: in the order of names, and where one stands twice.
+use Rattle.std.proofs.Common.{◌≡◌, ◌∙◌, ℕ, ◌+◌, ◌<◌, ◌≤◌, Bool, true, false, cond, not, ◌||◌, Some, None, List, [], ◌∷◌, ◌⊎◌, inl, inr, length, get_or, take, map, position, refl, sym, ap, arith, Result, Ok, Err}
+use Rattle.std.specs.Result.{result_ok}
+use borrow.Author.Count.{below_more}
+use Rattle.std.proofs.Math.Bool.{or-true, or-false, not-not}
+use Rattle.std.specs.declared.cmp.Ordering.{Ordering}
+use Rattle.std.specs.declared.cmp.Ordering.TheVariants.{Less, Equal, Greater}
+use Rattle.std.specs.Ordering.{is_eq, is_lt, ordering_reverse}
+use Rattle.std.specs.List.{range_with_len}
+use Rattle.std.specs.List.Sorted.{IsStrictlySortedBy, IsSortedBy, IsBinarySearchResult, IsSearchInRange, IsPartitionPoint}
+use Rattle.std.specs.Cmp.Lexicographic.{same_text, texts_ties}
+use Rattle.std.proofs.lemmas.Cmp.{nat_list_cmp_total, nat_list_eq_equiv}
+use Rattle.std.proofs.lemmas.Bool.{lt-ltb, le-ltb, cases_lt}
+use Rattle.std.proofs.lemmas.List.{get_or-map, length-map}
+use Rattle.std.proofs.lemmas.List.Sums.{position_or_len_is}
+use Rattle.std.proofs.lemmas.List.Sorted.{searchable_from_sorted}
+use Rattle.std.proofs.lemmas.List.FromFn.{get_or-range_with_len, length-range_with_len}
+use Rattle.std.proofs.lemmas.List.Folds.{list_any_more}
+use Rattle.std.specs.BTreeSet.{BTreeSet, Updates, contains}
+use Rattle.std.proofs.lemmas.Map.Keys.{Less-from_sorted}
+use Rattle.clr_net.specs.Name.{same_name, name_cmp}
+use Rattle.clr_net.specs.Names.{has_name, is_repeat, repeat_place}
+
+-- the first element that passes
+pub position_found : {X : Type 0} (p : X → Bool) (xs : List X) (i : ℕ) (d : X) → i < length xs → ((k : ℕ) → k < i → p (get_or xs k d) ≡ false) → p (get_or xs i d) ≡ true → position p xs ≡ Some i
+position_found p xs i d inside before here =
+    let e = position_or_len_is p xs i d (omega arith) before (λ _. here) in
+    rw (e, lt-ltb i (length xs) inside) refl
+
+-- no element passes
+pub position_none : {X : Type 0} (p : X → Bool) (xs : List X) (d : X) → ((k : ℕ) → k < length xs → p (get_or xs k d) ≡ false) → position p xs ≡ None
+position_none p xs d fails =
+    let e = position_or_len_is p xs (length xs) d (omega arith) fails (λ h. absurd (omega arith)) in
+    rw (e, le-ltb (length xs) (length xs) (omega arith)) refl
+
+-- whether two names are the same, from how they compare
+pub same_from_cmp : (m n : List ℕ) (o : Ordering) → name_cmp m n ≡ o → same_name n m ≡ is_eq (ordering_reverse o)
+same_from_cmp m n o e = texts_ties n m ∙ ap is_eq (nat_list_cmp_total.antisymm n m ∙ ap ordering_reverse e)
+
+-- names that compare as equal are one
+pub one_from_cmp : (m n : List ℕ) → name_cmp m n ≡ Equal → n ≡ m
+one_from_cmp m n e = same_text n m (sym (same_from_cmp m n Equal e))
+
+-- the order of rows in the order of their names, as a search asks for it
+pub rows_in_order : {X : Type 0} (name_of : X → List ℕ) (rows : List X) → IsStrictlySortedBy name_cmp (map name_of rows) → IsSortedBy (λ a b. is_lt (name_cmp (name_of a) (name_of b))) rows
+rows_in_order name_of rows rises k d low high =
+    let size = length-map rows name_of in
+    let here : name_cmp (name_of (get_or rows k d)) (name_of (get_or rows (k + 1) d)) ≡ Less =
+      rw (sym (get_or-map name_of rows k d [] (omega arith)), sym (get_or-map name_of rows (k + 1) d [] (omega arith)))
+      (Less-from_sorted name_cmp (map name_of rows) k (k + 1) [] rises (omega arith) (omega arith)) in
+    ap is_lt (nat_list_cmp_total.antisymm (name_of (get_or rows (k + 1) d)) (name_of (get_or rows k d)) ∙ ap ordering_reverse here)
+
+-- the place of a name that compares as equal
+found_at : (names : List (List ℕ)) (n : List ℕ) (i : ℕ) → IsStrictlySortedBy name_cmp names → i < length names → name_cmp (get_or names i []) n ≡ Equal → Some i ≡ position (same_name n) names
+found_at names n i rises inside here =
+    sym (position_found (same_name n) names i [] inside before (same_from_cmp (get_or names i []) n Equal here))
+  where
+    before : (k : ℕ) → k < i → same_name n (get_or names k []) ≡ false
+    before k lower =
+      let less : name_cmp (get_or names k []) n ≡ Less = rw (one_from_cmp (get_or names i []) n here) (Less-from_sorted name_cmp names k i [] rises lower inside) in
+      same_from_cmp (get_or names k []) n Less less
+
+-- what a search by name finds is the place of the name
+pub place_from_search : {X : Type 0} (name_of : X → List ℕ) (rows : List X) (n : List ℕ) (r : Result ℕ ℕ) → IsStrictlySortedBy name_cmp (map name_of rows)
+    → IsSearchInRange r (length rows) → IsBinarySearchResult (λ x. name_cmp (name_of x) n) rows r → result_ok r ≡ position (same_name n) (map name_of rows)
+place_from_search name_of [] n (Ok i) rises inside found = absurd (omega arith)
+place_from_search name_of (x ∷ rows) n (Ok i) rises inside found =
+    let size = length-map (x ∷ rows) name_of in
+    found_at (map name_of (x ∷ rows)) n i rises (omega arith) (rw (get_or-map name_of (x ∷ rows) i x [] inside) (found x))
+place_from_search name_of [] n (Err i) rises inside found = refl
+place_from_search {X} name_of (x ∷ rows) n (Err i) rises inside found =
+    sym (position_none (same_name n) (map name_of (x ∷ rows)) [] (λ k lower. apart k lower (cases_lt k i)))
+  where
+    parts : IsPartitionPoint (λ y. name_cmp (name_of y) n ≡ Less) (λ y. name_cmp (name_of y) n ≡ Greater) (x ∷ rows) i
+    parts = found (searchable_from_sorted nat_list_cmp_total name_of (x ∷ rows) n (rows_in_order name_of (x ∷ rows) rises))
+
+    apart : (k : ℕ) → k < length (map name_of (x ∷ rows)) → (k < i) ⊎ (i ≤ k) → same_name n (get_or (map name_of (x ∷ rows)) k []) ≡ false
+    apart k lower (inl before) =
+      let size = length-map (x ∷ rows) name_of in
+      same_from_cmp (get_or (map name_of (x ∷ rows)) k []) n Less (rw (get_or-map name_of (x ∷ rows) k x [] (omega arith)) (parts.0 k x (omega arith) before))
+    apart k lower (inr after) =
+      let size = length-map (x ∷ rows) name_of in
+      same_from_cmp (get_or (map name_of (x ∷ rows)) k []) n Greater (rw (get_or-map name_of (x ∷ rows) k x [] (omega arith)) (parts.1 k x after (omega arith)))
+
+-- the place at a place of a range from 0
+at_range : (n k : ℕ) → k < n → get_or (range_with_len 0 n) k 0 ≡ k
+at_range n k lower = omega (arith, get_or-range_with_len 0 n k 0 lower)
+
+-- the first repeat
+pub repeat_found : (names : List (List ℕ)) (i : ℕ) → i < length names → ((k : ℕ) → k < i → is_repeat names k ≡ false) → is_repeat names i ≡ true → Some i ≡ repeat_place names
+repeat_found names i inside before here =
+    let size = length-range_with_len 0 (length names) in
+    sym (position_found (is_repeat names) (range_with_len 0 (length names)) i 0 (omega arith)
+      (λ k lower. rw (at_range (length names) k (omega arith)) (before k lower))
+      (rw (at_range (length names) i inside) here))
+
+-- no repeat
+pub repeat_none : (names : List (List ℕ)) → ((k : ℕ) → k < length names → is_repeat names k ≡ false) → None ≡ repeat_place names
+repeat_none names fails =
+    let size = length-range_with_len 0 (length names) in
+    sym (position_none (is_repeat names) (range_with_len 0 (length names)) 0 (λ k lower. rw (at_range (length names) k (omega arith)) (fails k (omega arith))))
+
+-- the name of the row at a place
+pub name_at : {X : Type 0} (name_of : X → List ℕ) (rows : List X) (i : ℕ) (x : X) (name : List ℕ) → i < length rows → x ≡ get_or rows i x → name ≡ name_of x → get_or (map name_of rows) i [] ≡ name
+name_at name_of rows i x name inside is named = get_or-map name_of rows i x [] inside ∙ ap name_of (sym is) ∙ sym named
+
+-- one more name that was seen
+pub seen_more : (old new : BTreeSet (List ℕ)) (names : List (List ℕ)) (i : ℕ) (name : List ℕ) → i < length names → get_or names i [] ≡ name
+    → ((q : List ℕ) → contains name_cmp old q ≡ has_name (take i names) q) → Updates name_cmp old new name true
+    → (q : List ℕ) → contains name_cmp new q ≡ has_name (take (i + 1) names) q
+seen_more old new names i name inside is seen updates q =
+    let more = list_any_more (same_name q) names i [] inside in
+    let tie : same_name q (get_or names i []) ≡ is_eq (name_cmp name q) = rw is (nat_list_eq_equiv.symm q name ∙ texts_ties name q) in
+    updates.0 q ∙ or_as_cond (is_eq (name_cmp name q)) (contains name_cmp old q) ∙ rw (more, tie, seen q) refl
+  where
+    or_as_cond : (b c : Bool) → cond b true c ≡ (c || b)
+    or_as_cond true c = sym (or-true c)
+    or_as_cond false c = sym (or-false c)
+
+-- a name that was seen is a repeat
+pub repeat_seen : (names : List (List ℕ)) (i : ℕ) (name : List ℕ) (seen : BTreeSet (List ℕ)) (added : Bool) → get_or names i [] ≡ name
+    → ((q : List ℕ) → contains name_cmp seen q ≡ has_name (take i names) q) → added ≡ not (contains name_cmp seen name) → is_repeat names i ≡ not added
+repeat_seen names i name seen added is same e = rw (is, e, sym (same name)) (sym (not-not (contains name_cmp seen name)))
+
+-- one more name that is no repeat
+pub unrepeated_more : (names : List (List ℕ)) (i : ℕ) → ((k : ℕ) → k < i → is_repeat names k ≡ false) → is_repeat names i ≡ false → (k : ℕ) → k < i + 1 → is_repeat names k ≡ false
+unrepeated_more names i before here = below_more (λ k. is_repeat names k ≡ false) i before here

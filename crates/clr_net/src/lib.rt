@@ -1,0 +1,12 @@
+//! Names, the network of sections and switching points, and the fence of a section.
+#![tactic(auto)]
+
+mod name;
+mod named;
+mod point;
+mod section;
+
+pub use name::{MAX_NAME_LEN, Name, NameFault};
+pub use named::{Named, place_of, repeat_place, sort_by_name};
+pub use point::{PointRow, Position};
+pub use section::SectionRow;

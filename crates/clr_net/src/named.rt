@@ -1,0 +1,46 @@
+//! Rows that go by a name: their order, the place of a name, and a name that stands twice.
+ghost use Rattle.std.specs.Prelude.{◌≡◌, ℕ, List, map, position, IfOk, vec_len};
+ghost use Rattle.std.specs.List.Sorted.{IsPermutation, IsStrictlySortedBy, IsSortedByKey};
+ghost use Rattle.clr_net.specs.Name.{same_name, name_cmp};
+ghost use Rattle.clr_net.specs.Names.{has_name, repeat_place};
+
+use crate::name::Name;
+use std::alloc::{AllocError, Global};
+use std::collections::BTreeSet;
+
+/// A row that goes by a name.
+pub trait Named {
+    ghost name_of: { Self → List ℕ };
+
+    fn name(&self) -> Name
+        ensures { result ≡ name_of self.now };
+}
+
+/// Puts rows into the order of their names.
+pub fn sort_by_name<R: Named>(rows: &mut Vec<R>)
+    ensures permutation { IsPermutation rows.old.items rows.new.items }
+    ensures sorted { IsSortedByKey R.name_of name_cmp rows.new.items }
+{
+    rows.sort_unstable_by_key(|row| row.name());
+}
+
+/// The place of the row with this name, among rows in the order of their names.
+pub fn place_of<R: Named>(rows: &[R], name: Name) -> Option<usize>
+    requires { IsStrictlySortedBy name_cmp (map R.name_of rows.now) }
+    ensures { result ≡ position (same_name name) (map R.name_of rows.now) }
+{
+    rows.binary_search_by(|row| row.name().cmp(&name)).ok()
+}
+
+/// The first place of a row whose name an earlier row has too.
+pub fn repeat_place<R: Named>(alloc: Global, rows: &[R]) -> Result<Option<usize>, AllocError>
+    ensures { IfOk result (λ place. place ≡ repeat_place (map R.name_of rows.now)) }
+{
+    let mut seen = BTreeSet::new(alloc);
+    for (place, row) in rows.iter().enumerate() {
+        if !seen.insert(row.name())? {
+            return Ok(Some(place));
+        }
+    }
+    Ok(None)
+}
