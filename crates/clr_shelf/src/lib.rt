@@ -1,8 +1,10 @@
 //! Shelves of rows: finite maps from a key to its row.
 #![tactic(auto)]
 
+mod list_shelf;
 mod row;
 mod shelf;
 
+pub use list_shelf::ListShelf;
 pub use row::Row;
 pub use shelf::Shelf;

@@ -1,5 +1,5 @@
 //! Rows: records of plain data that a key tells apart.
-ghost use Rattle.std.specs.Prelude.{◌≡◌, Bool, Drop};
+ghost use Rattle.std.specs.Prelude.{◌≡◌, Bool};
 ghost use Rattle.std.specs.Cmp.{IsTotalOrder};
 ghost use Rattle.std.specs.declared.cmp.Ordering.{Ordering};
 ghost use Rattle.std.specs.declared.cmp.Ordering.TheVariants.{Equal};

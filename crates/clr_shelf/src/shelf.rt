@@ -1,5 +1,5 @@
 //! Shelves: finite maps from a key to its row.
-ghost use Rattle.std.specs.Prelude.{◌≡◌, ℕ, ◌+◌, ◌<◌, ◌≤◌, ◌→◌, List, [], Option, Some, length, map, filter, slice_get, IsTrue, IsOk, OnOk, IfOk, OnSome, IfNone, option_copied};
+ghost use Rattle.std.specs.Prelude.{◌≡◌, ℕ, ◌+◌, ◌<◌, ◌≤◌, List, [], Option, Some, length, map, filter, slice_get, IsTrue, IsOk, OnOk, IfOk, OnSome, IfNone, option_copied};
 ghost use Rattle.std.specs.List.Sorted.{IsPermutation};
 ghost use Rattle.clr_shelf.specs.Rows.{in_key_order, row_of, with_row, without_row};
 
