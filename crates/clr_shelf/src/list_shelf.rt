@@ -1,16 +1,88 @@
 //! A shelf over a list of rows in key order.
-ghost use Rattle.std.specs.Prelude.{◌≡◌, ◌-◌, IsTrue, vec_len, vec_capacity};
-ghost use Rattle.std.specs.List.Sorted.{IsPermutation};
+ghost use Rattle.std.specs.Prelude.{◌≡◌, ◌-◌, IsTrue, IfOk, IfErr, vec_len, vec_capacity};
 ghost use Rattle.std.proofs.lemmas.List.Sorted.{IsPermutation-refl};
 ghost use Rattle.clr_shelf.specs.Rows.{in_key_order};
+ghost use Rattle.clr_shelf.specs.Places.{IsPlaceOf, IsGapFor};
 
 use crate::row::Row;
 use crate::shelf::Shelf;
 use std::alloc::{AllocError, Global};
 
-/// Rows in a `Vec`, in key order.
+/// Rows in a `Vec`, in key order. A key is looked up by halves, and a group by a walk over all rows.
 #[derive(Drop)]
 pub struct ListShelf<R: Row> {
     list: Vec<R>,
     ghost in_order: { IsTrue (in_key_order R.key_cmp R.key_of list.items) },
+}
+
+impl<R: Row> ListShelf<R> {
+    // Where the row of a key stands, or where it would go.
+    fn place_of(&self, key: &R::Key) -> Result<usize, usize>
+        ensures found { IfOk result (IsPlaceOf R.key_cmp R.key_of key.now self.now.list.items) }
+        ensures absent { IfErr result (IsGapFor R.key_cmp R.key_of key.now self.now.list.items) }
+    {
+        self.list.binary_search_by(|row| row.compare_key(key))
+    }
+}
+
+impl<R: Row> Shelf<R> for ListShelf<R> {
+    ghost rows = { λ shelf. shelf.list.items };
+
+    ghost places = { λ shelf. shelf.list.items };
+
+    ghost room = { λ shelf. vec_capacity shelf.list - vec_len shelf.list };
+
+    fn empty(alloc: Global) -> Self {
+        ListShelf {
+            list: Vec::new(alloc),
+        }
+    }
+
+    fn len(&self) -> usize {
+        self.list.len()
+    }
+
+    fn get(&self, key: &R::Key) -> Option<&R> {
+        match self.place_of(key) {
+            Ok(place) => Some(&self.list[place]),
+            Err(_) => None,
+        }
+    }
+
+    fn at(&self, place: usize) -> &R {
+        &self.list[place]
+    }
+
+    fn group(&self, alloc: Global, group: &R::Group) -> Result<Vec<&R>, AllocError> {
+        self.list
+            .iter()
+            .filter(|row| row.belongs_to(group))
+            .collect(alloc)
+    }
+
+    fn reserve(&mut self, n: usize) -> Result<(), AllocError> {
+        self.list.reserve(n)
+    }
+
+    fn put(&mut self, row: R) {
+        match self.place_of(&row.key()) {
+            Ok(place) => self.list[place] = row,
+            Err(place) => {
+                let Ok(()) = self.list.insert(place, row) else {
+                    unreachable!()
+                };
+            }
+        }
+    }
+
+    fn take(&mut self, key: &R::Key) -> Option<R> {
+        match self.place_of(key) {
+            Ok(place) => Some(self.list.remove(place)),
+            Err(_) => None,
+        }
+    }
+
+    ghost in_order = { λ shelf. shelf.in_order };
+
+    ghost each_once = { λ shelf. IsPermutation-refl shelf.list.items };
 }

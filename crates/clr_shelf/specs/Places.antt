@@ -1,0 +1,16 @@
+-- Where a row of a key stands in a list of rows in key order, or would go.
+use Rattle.std.specs.Prelude.{◌≡◌, ℕ, ◌<◌, ◌≤◌, List, length, slice_index_or}
+use Rattle.std.specs.List.{AllWithin, HoldsAt}
+use Rattle.std.specs.declared.cmp.Ordering.{Ordering}
+use Rattle.std.specs.declared.cmp.Ordering.TheVariants.{Less, Equal, Greater}
+
+-- the row at the place has the key
+pub record IsPlaceOf {Key Row : Type 0} (compare : Key → Key → Ordering) (key_of : Row → Key) (key : Key) (rows : List Row) (place : ℕ) : Type 0 where
+  pub in_range : place < length rows
+  pub has_key : HoldsAt (λ row. compare (key_of row) key ≡ Equal) rows place
+
+-- a row of the key would go to the place: lower keys stand before it, and higher keys from it on
+pub record IsGapFor {Key Row : Type 0} (compare : Key → Key → Ordering) (key_of : Row → Key) (key : Key) (rows : List Row) (place : ℕ) : Type 0 where
+  pub in_range : place ≤ length rows
+  pub lower_before : AllWithin (λ row. compare (key_of row) key ≡ Less) rows 0 place
+  pub higher_after : AllWithin (λ row. compare (key_of row) key ≡ Greater) rows place (length rows)
