@@ -4,6 +4,8 @@
 mod list_shelf;
 mod row;
 mod shelf;
+#[cfg(test)]
+mod tests;
 
 pub use list_shelf::ListShelf;
 pub use row::Row;

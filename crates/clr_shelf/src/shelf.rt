@@ -1,5 +1,5 @@
 //! Shelves: finite maps from a key to its row.
-ghost use Rattle.std.specs.Prelude.{◌≡◌, ℕ, ◌+◌, ◌<◌, ◌≤◌, List, [], Option, Some, length, map, filter, slice_get, IsTrue, IsOk, OnOk, IfOk, OnSome, IfNone, option_copied};
+ghost use Rattle.std.specs.Prelude.{◌≡◌, ℕ, ◌+◌, ◌<◌, ◌≤◌, List, [], Option, Some, length, map, filter, slice_get, IsTrue, IsOk, OnOk, OnErr, IfOk, OnSome, IfNone, option_copied};
 ghost use Rattle.std.specs.List.Sorted.{IsPermutation};
 ghost use Rattle.clr_shelf.specs.Rows.{in_key_order, row_of, with_row, without_row};
 
@@ -7,7 +7,7 @@ use crate::row::Row;
 use std::alloc::{AllocError, Global};
 
 /// A finite map from a key to its row.
-pub trait Shelf<R: Row> {
+pub trait Shelf<R: Row>: Drop {
     // The rows in key order, one row a key.
     ghost rows: { Self → List R };
 
@@ -38,8 +38,9 @@ pub trait Shelf<R: Row> {
     fn reserve(&mut self, n: usize) -> Result<(), AllocError>
         ensures rows { rows self.new ≡ rows self.old }
         ensures places { places self.new ≡ places self.old }
-        ensures ok { OnOk result (n ≤ room self.new) }
-        ensures kept { room self.old ≤ room self.new };
+        ensures ok { OnOk result ((n ≤ room self.new) × (room self.old ≤ room self.new)) }
+        ensures err { OnErr result (room self.new ≡ room self.old) }
+        ensures succeeds { n ≤ room self.old → IsOk result };
 
     fn put(&mut self, row: R)
         requires { 0 < room self.old }
