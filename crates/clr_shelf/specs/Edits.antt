@@ -1,26 +1,14 @@
 -- Edits of a list of rows in key order that change nothing, that undo one another, or that may change places.
-use Rattle.std.proofs.Common.{◌≡◌, ℕ, ◌+◌, Bool, true, false, cond, ◌&&◌, not, List, [], ◌∷◌, ◌++◌, Option, Some, None, ◌⊎◌, inl, inr, ⊎_elim, refl, sym, ◌∙◌, ap, subst, arith, length}
-use Rattle.std.specs.List.{find, filter, list_all, Contains}
-use Rattle.std.specs.List.Sorted.{IsPermutation}
+use Rattle.std.proofs.Common.{◌≡◌, Bool, true, false, cond, ◌&&◌, not, List, Some, None, refl, sym, ◌∙◌, ap}
 use Rattle.std.specs.Cmp.{IsTotalOrder}
-use Rattle.std.specs.Option.{option_or}
-use Rattle.std.specs.Ordering.{is_lt, is_eq, is_gt, ordering_reverse}
+use Rattle.std.specs.Ordering.{is_eq}
 use Rattle.std.specs.declared.cmp.Ordering.{Ordering}
-use Rattle.std.specs.declared.cmp.Ordering.TheVariants.{Less, Equal, Greater}
 use mathlib.Core.Bool.{true≢false}
-use Rattle.std.proofs.lemmas.Grind.{common_steps}
-use Rattle.std.proofs.lemmas.Cmp.{tied_itself, tied_back, alike_right}
-use Rattle.std.proofs.lemmas.List.Folds.{find-append, list_all-append}
-use Rattle.std.proofs.lemmas.List.Elements.{filter-append}
-use Rattle.std.proofs.lemmas.List.Sorted.{Contains-permutation, IsPermutation-sym}
-use Rattle.std.proofs.lemmas.Option.{same_Some, none-some}
 use Rattle.clr_shelf.specs.Rows.{in_key_order, row_of, with_row, without_row}
-use Rattle.clr_shelf.specs.Lists.{find-filter_wider, find-filter_apart, filter-filter_comm, filter-filter_wider, list_all-filter, list_all-weaker, list_all-filtered, list_all-from_none, filter-same, filter-none, Contains-cases, Contains-here, Contains-later, list_all-contains}
-use Rattle.clr_shelf.specs.Keys.{equal, less, greater, apart_back, above_back, below_chain}
-use Rattle.clr_shelf.specs.Reading.{row_of-tied, row_of-with_row, row_of-with_other, row_of-with, row_of-without_row, row_of-without_other, row_of-without, without_row-missing}
-use Rattle.clr_shelf.specs.KeyOrder.{in_key_order-rest, in_key_order-first, in_key_order-filter, in_key_order-with_row, in_key_order-without_row}
-use Rattle.clr_shelf.specs.Members.{row_of-member, member-row_of, none_below}
-
+use Rattle.clr_shelf.specs.Lists.{filter-filter_comm}
+use Rattle.clr_shelf.specs.Keys.{equal, apart_back}
+use Rattle.clr_shelf.specs.Reading.{row_of-tied, row_of-with, row_of-without}
+use Rattle.clr_shelf.specs.KeyOrder.{in_key_order-with_row, in_key_order-without_row}
 use Rattle.clr_shelf.specs.SameRows.{same_from_reading}
 
 -- the second of two choices by one test is not reached
@@ -63,12 +51,12 @@ module _ {Key Row : Type 0} (compare : Key → Key → Ordering) (key_of : Row �
       let once = with_row compare key_of earlier rows in
       let once_ordered = in_key_order-with_row compare key_of order earlier rows ordered in
       same_from_reading compare key_of order (with_row compare key_of row once) (with_row compare key_of row rows)
-        (in_key_order-with_row compare key_of order row once once_ordered) (in_key_order-with_row compare key_of order row rows ordered)
-        (λ key.
-          let alike : is_eq (compare (key_of row) key) ≡ is_eq (compare (key_of earlier) key) =
-              ap is_eq (order.congr (key_of row) (key_of earlier) key (equal (compare (key_of row) (key_of earlier)) tied)) in
-          rw (row_of-with compare key_of order key row once, row_of-with compare key_of order key earlier rows, row_of-with compare key_of order key row rows, alike)
-            (first_stays (is_eq (compare (key_of earlier) key)) (Some row) (Some earlier) (row_of compare key_of key rows)))
+      (in_key_order-with_row compare key_of order row once once_ordered) (in_key_order-with_row compare key_of order row rows ordered)
+      (λ key.
+      let alike : is_eq (compare (key_of row) key) ≡ is_eq (compare (key_of earlier) key) =
+      ap is_eq (order.congr (key_of row) (key_of earlier) key (equal (compare (key_of row) (key_of earlier)) tied)) in
+      rw (row_of-with compare key_of order key row once, row_of-with compare key_of order key earlier rows, row_of-with compare key_of order key row rows, alike)
+      (first_stays (is_eq (compare (key_of earlier) key)) (Some row) (Some earlier) (row_of compare key_of key rows)))
 
   -- rows of different keys may be put in either order
   pub with_row-swap : (a b : Row) (rows : List Row) → in_key_order compare key_of rows ≡ true → is_eq (compare (key_of a) (key_of b)) ≡ false
@@ -79,10 +67,10 @@ module _ {Key Row : Type 0} (compare : Key → Key → Ordering) (key_of : Row �
       let a_ordered = in_key_order-with_row compare key_of order a rows ordered in
       let b_ordered = in_key_order-with_row compare key_of order b rows ordered in
       same_from_reading compare key_of order (with_row compare key_of a with_b) (with_row compare key_of b with_a)
-        (in_key_order-with_row compare key_of order a with_b b_ordered) (in_key_order-with_row compare key_of order b with_a a_ordered)
-        (λ key. rw (row_of-with compare key_of order key a with_b, row_of-with compare key_of order key b with_a, row_of-with compare key_of order key a rows, row_of-with compare key_of order key b rows)
-            (either_order (is_eq (compare (key_of a) key)) (is_eq (compare (key_of b) key)) (Some a) (Some b) (row_of compare key_of key rows)
-              (not_both (key_of a) (key_of b) key differ)))
+      (in_key_order-with_row compare key_of order a with_b b_ordered) (in_key_order-with_row compare key_of order b with_a a_ordered)
+      (λ key. rw (row_of-with compare key_of order key a with_b, row_of-with compare key_of order key b with_a, row_of-with compare key_of order key a rows, row_of-with compare key_of order key b rows)
+      (either_order (is_eq (compare (key_of a) key)) (is_eq (compare (key_of b) key)) (Some a) (Some b) (row_of compare key_of key rows)
+      (not_both (key_of a) (key_of b) key differ)))
 
   -- a row may be put before or after one of another key is taken
   pub with_row-without_row : (row : Row) (taken : Key) (rows : List Row) → in_key_order compare key_of rows ≡ true → is_eq (compare (key_of row) taken) ≡ false
@@ -93,10 +81,10 @@ module _ {Key Row : Type 0} (compare : Key → Key → Ordering) (key_of : Row �
       let put_ordered = in_key_order-with_row compare key_of order row rows ordered in
       let left_ordered = in_key_order-without_row compare key_of order taken rows ordered in
       same_from_reading compare key_of order (with_row compare key_of row left) (without_row compare key_of taken put)
-        (in_key_order-with_row compare key_of order row left left_ordered) (in_key_order-without_row compare key_of order taken put put_ordered)
-        (λ key. rw (row_of-with compare key_of order key row left, row_of-without compare key_of order key taken rows, row_of-without compare key_of order key taken put, row_of-with compare key_of order key row rows)
-            (either_order (is_eq (compare (key_of row) key)) (is_eq (compare taken key)) (Some row) None (row_of compare key_of key rows)
-              (not_both (key_of row) taken key differ)))
+      (in_key_order-with_row compare key_of order row left left_ordered) (in_key_order-without_row compare key_of order taken put put_ordered)
+      (λ key. rw (row_of-with compare key_of order key row left, row_of-without compare key_of order key taken rows, row_of-without compare key_of order key taken put, row_of-with compare key_of order key row rows)
+      (either_order (is_eq (compare (key_of row) key)) (is_eq (compare taken key)) (Some row) None (row_of compare key_of key rows)
+      (not_both (key_of row) taken key differ)))
 
   -- keys may be taken in either order
   pub without_row-swap : (a b : Key) (rows : List Row)
@@ -110,7 +98,7 @@ module _ {Key Row : Type 0} (compare : Key → Key → Ordering) (key_of : Row �
   without_row-with_row row rows ordered =
       let put = with_row compare key_of row rows in
       same_from_reading compare key_of order (without_row compare key_of (key_of row) put) (without_row compare key_of (key_of row) rows)
-        (in_key_order-without_row compare key_of order (key_of row) put (in_key_order-with_row compare key_of order row rows ordered))
-        (in_key_order-without_row compare key_of order (key_of row) rows ordered)
-        (λ key. rw (row_of-without compare key_of order key (key_of row) put, row_of-with compare key_of order key row rows, row_of-without compare key_of order key (key_of row) rows)
-            (first_stays (is_eq (compare (key_of row) key)) None (Some row) (row_of compare key_of key rows)))
+      (in_key_order-without_row compare key_of order (key_of row) put (in_key_order-with_row compare key_of order row rows ordered))
+      (in_key_order-without_row compare key_of order (key_of row) rows ordered)
+      (λ key. rw (row_of-without compare key_of order key (key_of row) put, row_of-with compare key_of order key row rows, row_of-without compare key_of order key (key_of row) rows)
+      (first_stays (is_eq (compare (key_of row) key)) None (Some row) (row_of compare key_of key rows)))

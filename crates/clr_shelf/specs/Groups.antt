@@ -1,26 +1,17 @@
 -- What a put and a take do to what holds of every row, and to the rows of a group.
-use Rattle.std.proofs.Common.{◌≡◌, ℕ, ◌+◌, Bool, true, false, cond, ◌&&◌, not, List, [], ◌∷◌, ◌++◌, Option, Some, None, ◌⊎◌, inl, inr, ⊎_elim, refl, sym, ◌∙◌, ap, subst, arith, length}
-use Rattle.std.specs.List.{find, filter, list_all, Contains, All}
-use Rattle.std.specs.List.Sorted.{IsPermutation}
+use Rattle.std.proofs.Common.{◌≡◌, Bool, true, false, not, List, [], ◌∷◌, ◌++◌, refl, sym, ◌∙◌, ap}
+use Rattle.std.specs.List.{filter, All}
 use Rattle.std.specs.Cmp.{IsTotalOrder}
-use Rattle.std.specs.Option.{option_or}
-use Rattle.std.specs.Ordering.{is_lt, is_eq, is_gt, ordering_reverse}
+use Rattle.std.specs.Ordering.{is_lt, is_eq, is_gt}
 use Rattle.std.specs.declared.cmp.Ordering.{Ordering}
 use Rattle.std.specs.declared.cmp.Ordering.TheVariants.{Less, Equal, Greater}
 use mathlib.Core.Bool.{true≢false}
-use Rattle.std.proofs.lemmas.Grind.{common_steps}
-use Rattle.std.proofs.lemmas.Cmp.{tied_itself, tied_back, alike_right}
-use Rattle.std.proofs.lemmas.List.Folds.{find-append, list_all-append}
+use Rattle.std.proofs.lemmas.Cmp.{tied_itself}
 use Rattle.std.proofs.lemmas.List.Elements.{filter-append, All-append, All-cons, All-filter}
-use Rattle.std.proofs.lemmas.List.Sorted.{Contains-permutation, IsPermutation-sym}
-use Rattle.std.proofs.lemmas.Option.{same_Some, none-some}
-use Rattle.clr_shelf.specs.Rows.{in_key_order, row_of, with_row, without_row}
-use Rattle.clr_shelf.specs.Lists.{find-filter_wider, find-filter_apart, filter-filter_comm, filter-filter_wider, list_all-filter, list_all-weaker, list_all-filtered, list_all-from_none, filter-same, filter-none, Contains-cases, Contains-here, Contains-later, list_all-contains}
-use Rattle.clr_shelf.specs.Keys.{equal, less, greater, apart_back, above_back, below_chain, below_not_above}
-use Rattle.clr_shelf.specs.Reading.{row_of-tied, row_of-with_row, row_of-with_other, row_of-with, row_of-without_row, row_of-without_other, row_of-without, without_row-missing}
-use Rattle.clr_shelf.specs.KeyOrder.{in_key_order-rest, in_key_order-first, in_key_order-filter, in_key_order-with_row, in_key_order-without_row}
-use Rattle.clr_shelf.specs.Members.{row_of-member, member-row_of, none_below}
-
+use Rattle.clr_shelf.specs.Rows.{in_key_order, with_row, without_row}
+use Rattle.clr_shelf.specs.Lists.{filter-filter_comm, filter-filter_wider, list_all-weaker, filter-none}
+use Rattle.clr_shelf.specs.Keys.{above_back, below_chain, below_not_above}
+use Rattle.clr_shelf.specs.KeyOrder.{in_key_order-rest, in_key_order-first, in_key_order-filter}
 
 -- what passes one test fails another that excludes it
 kept : (tied inside : Bool) → (tied ≡ true → inside ≡ false) → inside ≡ true → not tied ≡ true
@@ -36,7 +27,7 @@ module _ {Key Row : Type 0} (compare : Key → Key → Ordering) (key_of : Row �
       let below = λ (other : Row). is_lt (compare (key_of other) (key_of row)) in
       let above = λ (other : Row). is_gt (compare (key_of other) (key_of row)) in
       All-append P (filter below rows) (row ∷ filter above rows) (All-filter below P rows all)
-        (All-cons P row (filter above rows) here (All-filter above P rows all))
+      (All-cons P row (filter above rows) here (All-filter above P rows all))
 
   pub All-without_row : (P : Row → Type 0) (key : Key) (rows : List Row) → All P rows → All P (without_row compare key_of key rows)
   unfolding without_row
@@ -61,14 +52,14 @@ module _ {Key Row : Type 0} (compare : Key → Key → Ordering) (key_of : Row �
       let after = λ (other : Row). is_lt (compare (key_of first) (key_of other)) in
       let first_above : is_lt (compare key (key_of first)) ≡ true = above_back compare order (key_of first) key (ap is_gt above) in
       filter-none below below rest (list_all-weaker after (λ other. not (below other))
-        (λ other h. ap not (below_not_above compare order key (key_of other) (below_chain compare order key (key_of first) (key_of other) first_above h)))
-        rest (in_key_order-first compare key_of order first rest ordered))
+      (λ other h. ap not (below_not_above compare order key (key_of other) (below_chain compare order key (key_of first) (key_of other) first_above h)))
+      rest (in_key_order-first compare key_of order first rest ordered))
 
   parts_from : (key : Key) (first : Row) (rest : List Row) (o : Ordering) → compare (key_of first) key ≡ o → in_key_order compare key_of (first ∷ rest) ≡ true
       → filter (λ row. not (is_eq (compare (key_of row) key))) rest
-        ≡ filter (λ other. is_lt (compare (key_of other) key)) rest ++ filter (λ other. is_gt (compare (key_of other) key)) rest
+      ≡ filter (λ other. is_lt (compare (key_of other) key)) rest ++ filter (λ other. is_gt (compare (key_of other) key)) rest
       → filter (λ row. not (is_eq (compare (key_of row) key))) (first ∷ rest)
-        ≡ filter (λ other. is_lt (compare (key_of other) key)) (first ∷ rest) ++ filter (λ other. is_gt (compare (key_of other) key)) (first ∷ rest)
+      ≡ filter (λ other. is_lt (compare (key_of other) key)) (first ∷ rest) ++ filter (λ other. is_gt (compare (key_of other) key)) (first ∷ rest)
   parts_from key first rest Less is ordered parts = rw is (ap (λ (rows : List Row). first ∷ rows) parts)
   parts_from key first rest Equal is ordered parts = rw is parts
   parts_from key first rest Greater is ordered parts =
@@ -78,7 +69,7 @@ module _ {Key Row : Type 0} (compare : Key → Key → Ordering) (key_of : Row �
   -- the rows of other keys are those below and those above
   without_row-parts : (key : Key) (rows : List Row) → in_key_order compare key_of rows ≡ true
       → without_row compare key_of key rows
-        ≡ filter (λ other. is_lt (compare (key_of other) key)) rows ++ filter (λ other. is_gt (compare (key_of other) key)) rows
+      ≡ filter (λ other. is_lt (compare (key_of other) key)) rows ++ filter (λ other. is_gt (compare (key_of other) key)) rows
   unfolding without_row
   without_row-parts key [] ordered = refl
   without_row-parts key (first ∷ rest) ordered = parts_from key first rest (compare (key_of first) key) refl ordered
@@ -92,7 +83,7 @@ module _ {Key Row : Type 0} (compare : Key → Key → Ordering) (key_of : Row �
       let below = λ (other : Row). is_lt (compare (key_of other) (key_of row)) in
       let above = λ (other : Row). is_gt (compare (key_of other) (key_of row)) in
       rw (filter-append p (filter below rows) (row ∷ filter above rows), outside, filter-filter_comm p below rows, filter-filter_comm p above rows)
-        (sym (without_row-parts (key_of row) (filter p rows) (in_key_order-filter compare key_of order p rows ordered)))
+      (sym (without_row-parts (key_of row) (filter p rows) (in_key_order-filter compare key_of order p rows ordered)))
 
   -- taking a row takes it out of the group
   pub filter-without_row : (p : Row → Bool) (key : Key) (rows : List Row)

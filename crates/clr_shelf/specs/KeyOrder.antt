@@ -1,22 +1,14 @@
 -- Putting a row, taking one and a filter keep the order of keys.
-use Rattle.std.proofs.Common.{◌≡◌, ℕ, ◌+◌, Bool, true, false, cond, ◌&&◌, not, List, [], ◌∷◌, ◌++◌, Option, Some, None, ◌⊎◌, inl, inr, ⊎_elim, refl, sym, ◌∙◌, ap, subst, arith, length}
-use Rattle.std.specs.List.{find, filter, list_all, Contains}
-use Rattle.std.specs.List.Sorted.{IsPermutation}
+use Rattle.std.proofs.Common.{◌≡◌, Bool, true, not, List, [], ◌∷◌, ◌++◌, refl, arith}
+use Rattle.std.specs.List.{filter, list_all}
 use Rattle.std.specs.Cmp.{IsTotalOrder}
-use Rattle.std.specs.Option.{option_or}
-use Rattle.std.specs.Ordering.{is_lt, is_eq, is_gt, ordering_reverse}
+use Rattle.std.specs.Ordering.{is_lt, is_eq, is_gt}
 use Rattle.std.specs.declared.cmp.Ordering.{Ordering}
-use Rattle.std.specs.declared.cmp.Ordering.TheVariants.{Less, Equal, Greater}
-use mathlib.Core.Bool.{true≢false}
 use Rattle.std.proofs.lemmas.Grind.{common_steps}
-use Rattle.std.proofs.lemmas.Cmp.{tied_itself, tied_back, alike_right}
-use Rattle.std.proofs.lemmas.List.Folds.{find-append, list_all-append}
-use Rattle.std.proofs.lemmas.List.Elements.{filter-append}
-use Rattle.std.proofs.lemmas.List.Sorted.{Contains-permutation, IsPermutation-sym}
-use Rattle.std.proofs.lemmas.Option.{same_Some, none-some}
-use Rattle.clr_shelf.specs.Rows.{in_key_order, row_of, with_row, without_row}
-use Rattle.clr_shelf.specs.Lists.{find-filter_wider, find-filter_apart, filter-filter_comm, filter-filter_wider, list_all-filter, list_all-weaker, list_all-filtered, list_all-from_none, filter-same, filter-none, Contains-cases, Contains-here, Contains-later, list_all-contains}
-use Rattle.clr_shelf.specs.Keys.{equal, less, greater, apart_back, above_back, below_chain}
+use Rattle.std.proofs.lemmas.List.Folds.{list_all-append}
+use Rattle.clr_shelf.specs.Rows.{in_key_order, with_row, without_row}
+use Rattle.clr_shelf.specs.Lists.{list_all-filter, list_all-weaker, list_all-filtered}
+use Rattle.clr_shelf.specs.Keys.{above_back, below_chain}
 
 module _ {Key Row : Type 0} (compare : Key → Key → Ordering) (key_of : Row → Key) (order : IsTotalOrder compare) where
   -- the rows after the first are in order
@@ -45,9 +37,9 @@ module _ {Key Row : Type 0} (compare : Key → Key → Ordering) (key_of : Row �
       let after = λ (other : Row). is_lt (compare (key_of first) (key_of other)) in
       let first_below : after row ≡ true = grind (arith, common_steps) in
       let all_above : list_all after higher ≡ true = list_all-weaker (λ other. is_lt (compare (key_of row) (key_of other))) after
-          (λ other h. below_chain compare order (key_of first) (key_of row) (key_of other) first_below h) higher above in
+      (λ other h. below_chain compare order (key_of first) (key_of row) (key_of other) first_below h) higher above in
       let rest : in_key_order compare key_of (lower ++ row ∷ higher) ≡ true =
-          in_key_order-between row lower higher (in_key_order-rest first lower low) high (grind (arith, common_steps)) above in
+      in_key_order-between row lower higher (in_key_order-rest first lower low) high (grind (arith, common_steps)) above in
       let ahead : list_all after lower ≡ true = in_key_order-first first lower low in
       rw (list_all-append after lower (row ∷ higher), ahead, first_below, all_above, rest) refl
 
@@ -60,9 +52,9 @@ module _ {Key Row : Type 0} (compare : Key → Key → Ordering) (key_of : Row �
       let above = λ (other : Row). is_gt (compare (key_of other) (key_of row)) in
       let after = λ (other : Row). is_lt (compare (key_of row) (key_of other)) in
       in_key_order-between row (filter below rows) (filter above rows)
-        (in_key_order-filter below rows ordered) (in_key_order-filter above rows ordered)
-        (list_all-filtered below below (λ _ h. h) rows)
-        (list_all-filtered after above (λ other h. above_back compare order (key_of other) (key_of row) h) rows)
+      (in_key_order-filter below rows ordered) (in_key_order-filter above rows ordered)
+      (list_all-filtered below below (λ _ h. h) rows)
+      (list_all-filtered after above (λ other h. above_back compare order (key_of other) (key_of row) h) rows)
 
   -- taking a row keeps the order
   pub in_key_order-without_row : (key : Key) (rows : List Row) → in_key_order compare key_of rows ≡ true

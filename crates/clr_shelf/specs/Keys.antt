@@ -1,22 +1,12 @@
 -- Facts on keys in a total order.
-use Rattle.std.proofs.Common.{◌≡◌, ℕ, ◌+◌, Bool, true, false, cond, ◌&&◌, not, List, [], ◌∷◌, ◌++◌, Option, Some, None, ◌⊎◌, inl, inr, ⊎_elim, refl, sym, ◌∙◌, ap, subst, arith, length}
-use Rattle.std.specs.List.{find, filter, list_all, Contains}
-use Rattle.std.specs.List.Sorted.{IsPermutation}
+use Rattle.std.proofs.Common.{◌≡◌, ℕ, true, false, List, [], ◌∷◌, refl, sym, ◌∙◌, ap}
 use Rattle.std.specs.Cmp.{IsTotalOrder}
-use Rattle.std.specs.Option.{option_or}
 use Rattle.std.specs.Cmp.Lexicographic.{slice_cmp}
 use Rattle.std.specs.Ordering.{nat_cmp, ordering_then, is_lt, is_eq, is_gt, ordering_reverse}
 use Rattle.std.specs.declared.cmp.Ordering.{Ordering}
 use Rattle.std.specs.declared.cmp.Ordering.TheVariants.{Less, Equal, Greater}
 use mathlib.Core.Bool.{true≢false}
-use Rattle.std.proofs.lemmas.Grind.{common_steps}
-use Rattle.std.proofs.lemmas.Cmp.{ranked, tied_itself, tied_back, alike_right}
-use Rattle.std.proofs.lemmas.List.Folds.{find-append, list_all-append}
-use Rattle.std.proofs.lemmas.List.Elements.{filter-append}
-use Rattle.std.proofs.lemmas.List.Sorted.{Contains-permutation, IsPermutation-sym}
-use Rattle.std.proofs.lemmas.Option.{same_Some, none-some}
-use Rattle.clr_shelf.specs.Rows.{in_key_order, row_of, with_row, without_row}
-use Rattle.clr_shelf.specs.Lists.{find-filter_wider, find-filter_apart, filter-filter_comm, filter-filter_wider, list_all-filter, list_all-weaker, list_all-filtered, list_all-from_none, filter-same, filter-none, Contains-cases, Contains-here, Contains-later, list_all-contains}
+use Rattle.std.proofs.lemmas.Cmp.{ranked, tied_back}
 
 pub equal : (o : Ordering) → is_eq o ≡ true → o ≡ Equal
 equal Less h = cc
@@ -68,10 +58,10 @@ module _ {Key : Type 0} (compare : Key → Key → Ordering) (order : IsTotalOrd
   pub apart_back : (a b : Key) → is_eq (compare a b) ≡ false → is_eq (compare b a) ≡ false
   apart_back a b differs =
       let by_cases : (o : Ordering) → compare b a ≡ o → is_eq o ≡ false = λ o is. elim o as (λ v. compare b a ≡ v → is_eq v ≡ false) [
-          | Less ↦ λ _. refl
-          | Equal ↦ λ ties. absurd (true≢false (sym (ap is_eq (tied_back order b a ties)) ∙ differs))
-          | Greater ↦ λ _. refl
-        ] is in
+        | Less ↦ λ _. refl
+        | Equal ↦ λ ties. absurd (true≢false (sym (ap is_eq (tied_back order b a ties)) ∙ differs))
+        | Greater ↦ λ _. refl
+      ] is in
       by_cases (compare b a) refl
 
   -- a key above another from its side

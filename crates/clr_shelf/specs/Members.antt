@@ -1,24 +1,16 @@
 -- In key order the row at a key is the only row that has it.
-use Rattle.std.proofs.Common.{◌≡◌, ℕ, ◌+◌, Bool, true, false, cond, ◌&&◌, not, List, [], ◌∷◌, ◌++◌, Option, Some, None, ◌⊎◌, inl, inr, ⊎_elim, refl, sym, ◌∙◌, ap, subst, arith, length}
-use Rattle.std.specs.List.{find, filter, list_all, Contains}
-use Rattle.std.specs.List.Sorted.{IsPermutation}
+use Rattle.std.proofs.Common.{◌≡◌, Bool, true, false, cond, List, [], ◌∷◌, Some, None, ⊎_elim, refl, ap, subst, arith}
+use Rattle.std.specs.List.{list_all, Contains}
 use Rattle.std.specs.Cmp.{IsTotalOrder}
-use Rattle.std.specs.Option.{option_or}
-use Rattle.std.specs.Ordering.{is_lt, is_eq, is_gt, ordering_reverse}
+use Rattle.std.specs.Ordering.{is_lt, is_eq}
 use Rattle.std.specs.declared.cmp.Ordering.{Ordering}
-use Rattle.std.specs.declared.cmp.Ordering.TheVariants.{Less, Equal, Greater}
-use mathlib.Core.Bool.{true≢false}
 use Rattle.std.proofs.lemmas.Grind.{common_steps}
-use Rattle.std.proofs.lemmas.Cmp.{tied_itself, tied_back, alike_right}
-use Rattle.std.proofs.lemmas.List.Folds.{find-append, list_all-append}
-use Rattle.std.proofs.lemmas.List.Elements.{filter-append}
-use Rattle.std.proofs.lemmas.List.Sorted.{Contains-permutation, IsPermutation-sym}
-use Rattle.std.proofs.lemmas.Option.{same_Some, none-some}
-use Rattle.clr_shelf.specs.Rows.{in_key_order, row_of, with_row, without_row}
-use Rattle.clr_shelf.specs.Lists.{find-filter_wider, find-filter_apart, filter-filter_comm, filter-filter_wider, list_all-filter, list_all-weaker, list_all-filtered, list_all-from_none, filter-same, filter-none, Contains-cases, Contains-here, Contains-later, list_all-contains}
-use Rattle.clr_shelf.specs.Keys.{equal, less, greater, apart_back, above_back, below_chain}
-use Rattle.clr_shelf.specs.Reading.{row_of-tied, row_of-with_row, row_of-with_other, row_of-with, row_of-without_row, row_of-without_other, row_of-without, without_row-missing}
-use Rattle.clr_shelf.specs.KeyOrder.{in_key_order-rest, in_key_order-first, in_key_order-filter, in_key_order-with_row, in_key_order-without_row}
+use Rattle.std.proofs.lemmas.Cmp.{tied_itself}
+use Rattle.std.proofs.lemmas.Option.{same_Some}
+use Rattle.clr_shelf.specs.Rows.{in_key_order, row_of}
+use Rattle.clr_shelf.specs.Lists.{Contains-cases, Contains-here, Contains-later, list_all-contains}
+use Rattle.clr_shelf.specs.Keys.{less, apart_back}
+use Rattle.clr_shelf.specs.KeyOrder.{in_key_order-rest, in_key_order-first}
 
 module _ {Key Row : Type 0} (compare : Key → Key → Ordering) (key_of : Row → Key) (order : IsTotalOrder compare) where
   -- a row of the list is the one read at its key
@@ -28,24 +20,24 @@ module _ {Key Row : Type 0} (compare : Key → Key → Ordering) (key_of : Row �
   row_of-member row [] ordered member = absurd (grind arith)
   row_of-member row (first ∷ rest) ordered member =
       ⊎_elim
-        (λ here. rw (← here, tied_itself order (key_of first)) refl)
-        (λ later. let below : is_lt (compare (key_of first) (key_of row)) ≡ true =
-                      list_all-contains (λ next. is_lt (compare (key_of first) (key_of next))) rest row (in_key_order-first compare key_of order first rest ordered) later in
-                  rw (less (compare (key_of first) (key_of row)) below) (row_of-member row rest (in_key_order-rest compare key_of order first rest ordered) later))
-        (Contains-cases first row rest member)
+      (λ here. rw (← here, tied_itself order (key_of first)) refl)
+      (λ later. let below : is_lt (compare (key_of first) (key_of row)) ≡ true =
+      list_all-contains (λ next. is_lt (compare (key_of first) (key_of next))) rest row (in_key_order-first compare key_of order first rest ordered) later in
+      rw (less (compare (key_of first) (key_of row)) below) (row_of-member row rest (in_key_order-rest compare key_of order first rest ordered) later))
+      (Contains-cases first row rest member)
 
   -- and what is read at a key is a row of the list that has it
   pub member-row_of : (key : Key) (row : Row) (rows : List Row) → row_of compare key_of key rows ≡ Some row
       → Contains rows row × (is_eq (compare (key_of row) key) ≡ true)
   unfolding row_of
   member-row_of key row [] read = absurd (grind arith)
-  member-row_of key row (first ∷ rest) read = 
+  member-row_of key row (first ∷ rest) read =
       let by_test : (tied : Bool) → is_eq (compare (key_of first) key) ≡ tied → cond tied (Some first) (row_of compare key_of key rest) ≡ Some row
-            → Contains (first ∷ rest) row × (is_eq (compare (key_of row) key) ≡ true) = λ tied is. elim tied as (λ v. is_eq (compare (key_of first) key) ≡ v → cond v (Some first) (row_of compare key_of key rest) ≡ Some row
-            → Contains (first ∷ rest) row × (is_eq (compare (key_of row) key) ≡ true)) [
-          | true ↦ λ ties found. let same : first ≡ row = same_Some first row found in (subst (λ (x : Row). Contains (first ∷ rest) x) same (Contains-here first rest), rw (← same) ties)
-          | false ↦ λ _ found. let later = member-row_of key row rest found in (Contains-later first row rest later.0, later.1)
-        ] is in
+      → Contains (first ∷ rest) row × (is_eq (compare (key_of row) key) ≡ true) = λ tied is. elim tied as (λ v. is_eq (compare (key_of first) key) ≡ v → cond v (Some first) (row_of compare key_of key rest) ≡ Some row
+      → Contains (first ∷ rest) row × (is_eq (compare (key_of row) key) ≡ true)) [
+        | true ↦ λ ties found. let same : first ≡ row = same_Some first row found in (subst (λ (x : Row). Contains (first ∷ rest) x) same (Contains-here first rest), rw (← same) ties)
+        | false ↦ λ _ found. let later = member-row_of key row rest found in (Contains-later first row rest later.0, later.1)
+      ] is in
       by_test (is_eq (compare (key_of first) key)) refl read
 
   -- no row of the list is read at a key below all

@@ -1,22 +1,17 @@
 -- What is read at a key after a row is put or taken.
-use Rattle.std.proofs.Common.{◌≡◌, ℕ, ◌+◌, Bool, true, false, cond, ◌&&◌, not, List, [], ◌∷◌, ◌++◌, Option, Some, None, ◌⊎◌, inl, inr, ⊎_elim, refl, sym, ◌∙◌, ap, subst, arith, length}
-use Rattle.std.specs.List.{find, filter, list_all, Contains}
-use Rattle.std.specs.List.Sorted.{IsPermutation}
+use Rattle.std.proofs.Common.{◌≡◌, Bool, true, false, cond, not, List, [], ◌∷◌, Option, Some, None, refl, sym, ◌∙◌, ap}
+use Rattle.std.specs.List.{find, filter}
 use Rattle.std.specs.Cmp.{IsTotalOrder}
 use Rattle.std.specs.Option.{option_or}
-use Rattle.std.specs.Ordering.{is_lt, is_eq, is_gt, ordering_reverse}
+use Rattle.std.specs.Ordering.{is_lt, is_eq, is_gt}
 use Rattle.std.specs.declared.cmp.Ordering.{Ordering}
 use Rattle.std.specs.declared.cmp.Ordering.TheVariants.{Less, Equal, Greater}
 use mathlib.Core.Bool.{true≢false}
-use Rattle.std.proofs.lemmas.Grind.{common_steps}
 use Rattle.std.proofs.lemmas.Cmp.{tied_itself, tied_back, alike_right}
-use Rattle.std.proofs.lemmas.List.Folds.{find-append, list_all-append}
-use Rattle.std.proofs.lemmas.List.Elements.{filter-append}
-use Rattle.std.proofs.lemmas.List.Sorted.{Contains-permutation, IsPermutation-sym}
-use Rattle.std.proofs.lemmas.Option.{same_Some, none-some}
-use Rattle.clr_shelf.specs.Rows.{in_key_order, row_of, with_row, without_row}
-use Rattle.clr_shelf.specs.Lists.{find-filter_wider, find-filter_apart, filter-filter_comm, filter-filter_wider, list_all-filter, list_all-weaker, list_all-filtered, list_all-from_none, filter-same, filter-none, Contains-cases, Contains-here, Contains-later, list_all-contains}
-use Rattle.clr_shelf.specs.Keys.{equal, less, greater, apart_back, above_back, below_chain}
+use Rattle.std.proofs.lemmas.List.Folds.{find-append}
+use Rattle.clr_shelf.specs.Rows.{row_of, with_row, without_row}
+use Rattle.clr_shelf.specs.Lists.{find-filter_wider, find-filter_apart, list_all-from_none, filter-same}
+use Rattle.clr_shelf.specs.Keys.{equal, apart_back}
 
 or_none : {X : Type 0} (o : Option X) → option_or o None ≡ o
 or_none None = refl
@@ -94,7 +89,7 @@ module _ {Key Row : Type 0} (compare : Key → Key → Ordering) (key_of : Row �
   row_of-without_other key taken rows differs =
       let found = λ (row : Row). is_eq (compare (key_of row) key) in
       find-filter_wider found (λ row. not (is_eq (compare (key_of row) taken)))
-        (λ row tied. ap not (ap is_eq (order.congr (key_of row) key taken (equal (compare (key_of row) key) tied)) ∙ apart_back compare order taken key differs)) rows
+      (λ row tied. ap not (ap is_eq (order.congr (key_of row) key taken (equal (compare (key_of row) key) tied)) ∙ apart_back compare order taken key differs)) rows
 
   row_of-without_tested : (key taken : Key) (rows : List Row) (tied : Bool) → is_eq (compare taken key) ≡ tied
       → row_of compare key_of key (without_row compare key_of taken rows) ≡ cond tied None (row_of compare key_of key rows)

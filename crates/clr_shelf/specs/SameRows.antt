@@ -1,24 +1,19 @@
 -- When two lists of rows in key order are one list, and edits that may change places.
-use Rattle.std.proofs.Common.{◌≡◌, ℕ, ◌+◌, Bool, true, false, cond, ◌&&◌, not, List, [], ◌∷◌, ◌++◌, Option, Some, None, ◌⊎◌, inl, inr, ⊎_elim, refl, sym, ◌∙◌, ap, subst, arith, length}
-use Rattle.std.specs.List.{find, filter, list_all, Contains}
+use Rattle.std.proofs.Common.{◌≡◌, Bool, true, false, cond, List, [], ◌∷◌, Option, Some, None, refl, sym, ◌∙◌, ap}
+use Rattle.std.specs.List.{list_all}
 use Rattle.std.specs.List.Sorted.{IsPermutation}
 use Rattle.std.specs.Cmp.{IsTotalOrder}
-use Rattle.std.specs.Option.{option_or}
-use Rattle.std.specs.Ordering.{is_lt, is_eq, is_gt, ordering_reverse}
+use Rattle.std.specs.Ordering.{is_lt, is_eq, is_gt}
 use Rattle.std.specs.declared.cmp.Ordering.{Ordering}
 use Rattle.std.specs.declared.cmp.Ordering.TheVariants.{Less, Equal, Greater}
-use mathlib.Core.Bool.{true≢false}
-use Rattle.std.proofs.lemmas.Grind.{common_steps}
-use Rattle.std.proofs.lemmas.Cmp.{tied_itself, tied_back, alike_right}
-use Rattle.std.proofs.lemmas.List.Folds.{find-append, list_all-append}
-use Rattle.std.proofs.lemmas.List.Elements.{filter-append}
+use Rattle.std.proofs.lemmas.Cmp.{tied_itself}
 use Rattle.std.proofs.lemmas.List.Sorted.{Contains-permutation, IsPermutation-sym}
 use Rattle.std.proofs.lemmas.Option.{same_Some, none-some}
-use Rattle.clr_shelf.specs.Rows.{in_key_order, row_of, with_row, without_row}
-use Rattle.clr_shelf.specs.Lists.{find-filter_wider, find-filter_apart, filter-filter_comm, filter-filter_wider, list_all-filter, list_all-weaker, list_all-filtered, list_all-from_none, filter-same, filter-none, Contains-cases, Contains-here, Contains-later, list_all-contains}
-use Rattle.clr_shelf.specs.Keys.{equal, less, greater, apart_back, above_back, below_chain}
-use Rattle.clr_shelf.specs.Reading.{row_of-tied, row_of-with_row, row_of-with_other, row_of-with, row_of-without_row, row_of-without_other, row_of-without, without_row-missing}
-use Rattle.clr_shelf.specs.KeyOrder.{in_key_order-rest, in_key_order-first, in_key_order-filter, in_key_order-with_row, in_key_order-without_row}
+use Rattle.clr_shelf.specs.Rows.{in_key_order, row_of}
+use Rattle.clr_shelf.specs.Lists.{list_all-weaker}
+use Rattle.clr_shelf.specs.Keys.{above_back, below_chain}
+use Rattle.clr_shelf.specs.Reading.{row_of-tied}
+use Rattle.clr_shelf.specs.KeyOrder.{in_key_order-rest, in_key_order-first}
 use Rattle.clr_shelf.specs.Members.{row_of-member, member-row_of, none_below}
 
 module _ {Key Row : Type 0} (compare : Key → Key → Ordering) (key_of : Row → Key) (order : IsTotalOrder compare) where
@@ -36,8 +31,8 @@ module _ {Key Row : Type 0} (compare : Key → Key → Ordering) (key_of : Row �
       → row_of compare key_of key (first ∷ rest) ≡ None
   none_before key first rest ordered below =
       let after : list_all (λ next. is_lt (compare key (key_of next))) rest ≡ true =
-          list_all-weaker (λ next. is_lt (compare (key_of first) (key_of next))) (λ next. is_lt (compare key (key_of next)))
-            (λ next h. below_chain compare order key (key_of first) (key_of next) below h) rest (in_key_order-first compare key_of order first rest ordered) in
+      list_all-weaker (λ next. is_lt (compare (key_of first) (key_of next))) (λ next. is_lt (compare key (key_of next)))
+      (λ next h. below_chain compare order key (key_of first) (key_of next) below h) rest (in_key_order-first compare key_of order first rest ordered) in
       none_below compare key_of order key (first ∷ rest) (rw (below, after) refl)
 
   row_of-rest_tested : (key : Key) (first : Row) (rest : List Row) (tied : Bool) → is_eq (compare (key_of first) key) ≡ tied
@@ -73,9 +68,9 @@ module _ {Key Row : Type 0} (compare : Key → Key → Ordering) (key_of : Row �
   same_from_reading (x ∷ xs) (y ∷ ys) x_order y_order same =
       let head : x ≡ y = same_first x y xs ys (compare (key_of x) (key_of y)) refl x_order y_order same in
       let tail : xs ≡ ys = same_from_reading xs ys (in_key_order-rest compare key_of order x xs x_order) (in_key_order-rest compare key_of order y ys y_order) (λ key.
-          row_of-rest key x xs x_order ∙ ap (λ (found : Option Row). cond (is_eq (compare (key_of x) key)) None found) (same key)
-          ∙ ap (λ (first : Row). cond (is_eq (compare (key_of first) key)) None (row_of compare key_of key (y ∷ ys))) head
-          ∙ sym (row_of-rest key y ys y_order)) in
+      row_of-rest key x xs x_order ∙ ap (λ (found : Option Row). cond (is_eq (compare (key_of x) key)) None found) (same key)
+      ∙ ap (λ (first : Row). cond (is_eq (compare (key_of first) key)) None (row_of compare key_of key (y ∷ ys))) head
+      ∙ sym (row_of-rest key y ys y_order)) in
       λ i. head i ∷ tail i
 
   -- what a row of one list reads in another that has its rows
@@ -97,4 +92,3 @@ module _ {Key Row : Type 0} (compare : Key → Key → Ordering) (key_of : Row �
       → IsPermutation xs ys → xs ≡ ys
   same_from_permutation xs ys x_order y_order moved = same_from_reading xs ys x_order y_order
       (λ key. same_reading xs ys x_order y_order moved key (row_of compare key_of key xs) (row_of compare key_of key ys) refl refl)
-

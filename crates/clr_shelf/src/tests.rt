@@ -26,6 +26,7 @@ struct Berth {
 
 impl Row for Berth {
     type Key = BerthKey;
+
     type Group = u8;
 
     ghost key_of = { λ berth. berth.key };
@@ -49,7 +50,99 @@ impl Row for Berth {
     ghost key_order = { then_total (on_total (λ (k : BerthKey). k.pier) nat_list_cmp_total) (on_total (λ (k : BerthKey). k.number) nat_cmp_total) };
 
     ghost same_key = { λ a b ties i. record {
-        pier = same_text a.pier b.pier (first_ties (slice_cmp nat_cmp a.pier b.pier) (nat_cmp a.number b.number) ties) i;
-        number = same_number a.number b.number (second_ties (slice_cmp nat_cmp a.pier b.pier) (nat_cmp a.number b.number) ties) i
+      pier = same_text a.pier b.pier (first_ties (slice_cmp nat_cmp a.pier b.pier) (nat_cmp a.number b.number) ties) i;
+      number = same_number a.number b.number (second_ties (slice_cmp nat_cmp a.pier b.pier) (nat_cmp a.number b.number) ties) i;
     } };
+}
+
+fn berth_at(pier: [u8; 2], number: u16, owner: u8, depth: u16) -> Berth {
+    Berth {
+        key: BerthKey { pier, number },
+        owner,
+        depth,
+    }
+}
+
+// Puts the berths in turn, in room that is asked for each.
+fn shelf_of<S: Shelf<Berth>>(alloc: Global, berths: &[Berth]) -> Result<S, AllocError> {
+    let mut shelf = S::empty(alloc);
+    for berth in berths {
+        shelf.reserve(1)?;
+        shelf.put(*berth);
+    }
+    Ok(shelf)
+}
+
+// The rows in the order of their places.
+fn rows_of<S: Shelf<Berth>>(alloc: Global, shelf: &S) -> Result<Vec<Berth>, AllocError> {
+    let mut rows = Vec::new(alloc);
+    for place in 0..shelf.len() {
+        rows.push(*shelf.at(place))?;
+    }
+    Ok(rows)
+}
+
+#[test]
+fn a_row_replaces_the_row_of_its_key(rt: HostRuntime) -> Result<(), Fail> {
+    let first = berth_at(*b"NN", 7, 1, 30);
+    let deeper = berth_at(*b"NN", 7, 2, 45);
+    let other = berth_at(*b"EA", 900, 1, 12);
+    let mut shelf: ListShelf<Berth> = shelf_of(rt.alloc(), &[first, other, deeper])?;
+
+    assert_eq!(rt; shelf.len(), 2);
+    assert_eq!(rt; shelf.get(&first.key).copied(), Some(deeper));
+    assert_eq!(rt; shelf.get(&other.key).copied(), Some(other));
+    assert_eq!(rt; shelf.take(&first.key), Some(deeper));
+    assert_eq!(rt; shelf.take(&first.key), None);
+    assert_eq!(rt; rows_of(rt.alloc(), &shelf)?.as_slice(), [other].as_slice());
+    Ok(())
+}
+
+#[test]
+fn a_group_is_given_in_key_order(rt: HostRuntime) -> Result<(), Fail> {
+    let berths = [
+        berth_at(*b"NN", 8, 5, 30),
+        berth_at(*b"EA", 10, 5, 31),
+        berth_at(*b"NN", 2, 6, 32),
+        berth_at(*b"EA", 9, 5, 33),
+    ];
+    let shelf: ListShelf<Berth> = shelf_of(rt.alloc(), &berths)?;
+
+    let group = shelf.group(rt.alloc(), &5)?;
+    let mut depths = Vec::new(rt.alloc());
+    for berth in &group {
+        depths.push(berth.depth)?;
+    }
+    assert_eq!(rt; depths.as_slice(), [33, 31, 30].as_slice());
+    assert!(rt; shelf.group(rt.alloc(), &7)?.is_empty());
+    Ok(())
+}
+
+#[test]
+fn room_serves_as_many_rows_and_a_take_gives_one_back(rt: HostRuntime) -> Result<(), Fail> {
+    let mut shelf = ListShelf::empty(rt.alloc());
+    shelf.reserve(2)?;
+    let first = berth_at(*b"NN", 1, 1, 10);
+    shelf.put(first);
+    shelf.put(berth_at(*b"NN", 2, 1, 20));
+    if shelf.take(&first.key).is_some() {
+        shelf.put(berth_at(*b"NN", 3, 1, 30));
+    }
+    assert_eq!(rt; shelf.len(), 2);
+    Ok(())
+}
+
+// Run with each allocation refused in turn, it shows that a refusal leaves all rows.
+#[test]
+fn refused_room_leaves_the_rows(rt: HostRuntime) {
+    let kept = berth_at(*b"NN", 1, 1, 10);
+    if let Ok(mut shelf) = shelf_of::<ListShelf<Berth>>(rt.alloc(), &[kept]) {
+        let reserved = shelf.reserve(1000).is_ok();
+        assert_eq!(rt;
+            shelf.get(&kept.key).copied(),
+            Some(kept),
+            "reserved: {reserved}"
+        );
+        assert_eq!(rt; shelf.len(), 1, "reserved: {reserved}");
+    }
 }

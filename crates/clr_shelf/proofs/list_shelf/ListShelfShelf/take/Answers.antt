@@ -12,7 +12,7 @@ pub returns-in-Ok-clause-rows : goal.returns-in-Ok-clause-rows
 returns-in-Ok-clause-rows g c =
     let found = c.in-Ok.ensures.found in
     c.remove.ensures.items ∙ remove_at g.R.Row.key_cmp g.R.Row.key_of g.met.R.Row.key_order c.args.key.now c.args.self.now.list.items c.in-Ok.place
-      c.args.self.now.in_order found.in_range found.has_key
+    c.args.self.now.in_order found.in_range found.has_key
 
 pub invariant_of-self : goal.invariant_of-self
 invariant_of-self g c =
@@ -27,4 +27,4 @@ returns-in-Err-clause-given g c = sym (none_in_gap g.R.Row.key_cmp g.R.Row.key_o
 pub returns-in-Err-clause-rows : goal.returns-in-Err-clause-rows
 returns-in-Err-clause-rows g c =
     sym (without_row-missing g.R.Row.key_cmp g.R.Row.key_of g.met.R.Row.key_order c.args.key.now c.args.self.now.list.items
-      (none_in_gap g.R.Row.key_cmp g.R.Row.key_of g.met.R.Row.key_order c.args.key.now c.args.self.now.list.items c.in-Err.field-0 c.in-Err.ensures.absent))
+    (none_in_gap g.R.Row.key_cmp g.R.Row.key_of g.met.R.Row.key_order c.args.key.now c.args.self.now.list.items c.in-Err.field-0 c.in-Err.ensures.absent))
