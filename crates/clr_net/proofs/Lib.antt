@@ -1,2 +1,4 @@
 pub mod Names
 pub mod Places
+pub mod SearchSteps
+pub mod IndexSteps

@@ -1,3 +1,10 @@
 pub mod Name
 pub mod NameText
 pub mod Names
+pub mod Grid
+pub mod Network
+pub mod Walk
+pub mod Fence
+pub mod Index
+pub mod Search
+pub mod Ways

@@ -7,38 +7,29 @@ ghost use Rattle.clr_net.specs.Name.{is_name, is_name_byte, same_name, name_cmp}
 ghost use Rattle.clr_net.specs.NameText.{bad_byte, read_name};
 
 use std::cmp::Ordering;
-use std::error::Error;
 use std::fmt;
 use std::marker::Model;
+use thiserror::Error;
 
 /// The most bytes that a name has.
 pub const MAX_NAME_LEN: usize = 24;
 
 /// Why a text is no name.
-#[derive(Clone, Copy, Debug, PartialEq, Eq)]
+#[derive(Clone, Copy, Debug, PartialEq, Eq, Error)]
 pub enum NameFault {
     /// The text has no byte.
+    #[error("the name is empty")]
     Empty,
     /// The text has more than 24 bytes.
+    #[error("the name has more than 24 bytes")]
     TooLong,
     /// The byte at this place, counted from 0, is no capital letter, digit or hyphen.
+    #[error("no name has the byte at place {0}")]
     BadByte(usize),
     /// Memory ran out. A name is stored in place, so no call answers this today.
+    #[error("out of memory")]
     NoMemory,
 }
-
-impl fmt::Display for NameFault {
-    fn fmt<W: fmt::Write>(&self, f: &mut fmt::Formatter<W>) -> fmt::Result {
-        match self {
-            NameFault::Empty => f.write_str("the name is empty"),
-            NameFault::TooLong => f.write_str("the name has more than 24 bytes"),
-            NameFault::BadByte(place) => write!(f, "no name has the byte at place {place}"),
-            NameFault::NoMemory => f.write_str("out of memory"),
-        }
-    }
-}
-
-impl Error for NameFault {}
 
 /// The name of a section, a switching point, an employee or a crew: 1 to 24 bytes of `A` to `Z`,
 /// `0` to `9` and `-`. Names stand in the order of their bytes.

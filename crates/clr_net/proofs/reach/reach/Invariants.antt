@@ -1,0 +1,14 @@
+use Rattle.std.proofs.Common.{◌≡◌, length, vec_len}
+use Rattle.clr_net.specs.Search.{work_left}
+use Rattle.clr_net.specs.Ways.{around_of}
+use Rattle.clr_net.proofs.SearchSteps.{IsSearching}
+use Rattle.clr_net.proofs.reach.reach.Given as goal
+
+abbrev pub invariant-loop-place : goal.invariant-loop-place
+invariant-loop-place l = record {
+  search : IsSearching (around_of l.ways) l.uncut l.start l.marked.items l.waiting.items;
+  len : length l.marked.items ≡ vec_len l.ways.around;
+}
+
+abbrev pub decreases-loop-place : goal.decreases-loop-place
+decreases-loop-place l = work_left l.marked.items l.waiting.items

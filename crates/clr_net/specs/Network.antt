@@ -1,0 +1,42 @@
+-- The network: sections, which may be sources, and switching points, each of which joins two different sections.
+use Rattle.std.specs.Prelude.{◌≡◌, ◌⊎◌, ℕ, ◌+◌, not, nat_lt, ◌==◌, ◌||◌, if◌then◌else◌, List, length, position, Option, Some, None, Result, Ok, Err}
+use Rattle.std.specs.List.Sorted.{IsPermutation}
+use Rattle.clr_net.specs.Names.{repeat_place}
+use Rattle.clr_net.specs.declared.section.SectionRow.{SectionRow}
+use Rattle.clr_net.specs.declared.point.PointRow.{PointRow}
+use Rattle.clr_net.specs.declared.net_fault.NetFault.{NetFault}
+use Rattle.clr_net.specs.declared.net_fault.NetFault.TheVariants.{NoSections, TooLarge, SectionTwice, PointTwice, UnknownEnd, SameEnds, NoMemory}
+use Rattle.clr_net.specs.Grid.{Grid, IsNetwork, section_names, point_names, has_ends, has_one_section}
+
+-- the fault of a table that is too small or too large, else the rest
+abbrev pub size_fault : List SectionRow → List PointRow → Option NetFault → Option NetFault
+size_fault sections points rest =
+    if length sections == 0 then Some NoSections
+    else if nat_lt 5000 (length sections) || nat_lt 10000 (length points) then Some TooLarge
+    else rest
+
+-- a fault of the row at a place, which is named by its number from 1, else the rest
+abbrev pub row_fault : (ℕ → NetFault) → Option ℕ → Option NetFault → Option NetFault
+row_fault fault None rest = rest
+row_fault fault (Some place) rest = Some (fault (place + 1))
+
+-- the first fault of rows that are to be a network: no section, too many rows, a section that stands twice, a point that
+-- stands twice, an end that is no section, two ends that are one; of the rows that have it, the least
+abbrev pub first_fault : List SectionRow → List PointRow → Option NetFault
+first_fault sections points =
+    size_fault sections points
+    (row_fault SectionTwice (repeat_place (section_names sections))
+      (row_fault PointTwice (repeat_place (point_names points))
+        (row_fault UnknownEnd (position (λ p. not (has_ends (section_names sections) p)) points)
+          (row_fault SameEnds (position has_one_section points) None))))
+
+-- the network has these rows, in the order of their names
+pub record IsGridOf (sections : List SectionRow) (points : List PointRow) (g : Grid) : Type 0 where
+  pub all_sections : IsPermutation sections g.sections
+  pub all_points : IsPermutation points g.points
+  pub network : IsNetwork g
+
+-- what a build of rows answers: their network where they have no fault, else want of memory or their first fault
+abbrev pub Builds : List SectionRow → List PointRow → Result Grid NetFault → Type 0
+Builds sections points (Ok g) = (first_fault sections points ≡ None) × IsGridOf sections points g
+Builds sections points (Err fault) = (fault ≡ NoMemory) ⊎ (first_fault sections points ≡ Some fault)

@@ -1,0 +1,27 @@
+-- The search of a fence, by the places of sections: what is marked, and what waits to be looked at.
+use Rattle.std.specs.Prelude.{◌≡◌, ◌<◌, ◌≤◌, ◌+◌, ◌*◌, ◌⊎◌, ◌↔◌, ℕ, Bool, true, false, not, List, length, count_by, Contains}
+use Rattle.std.specs.List.{slice_index_or}
+use Rattle.clr_net.specs.Index.{PlaceWalk}
+use Rattle.clr_net.specs.declared.ways.Way.{Way}
+
+-- whether the section at a place is marked
+abbrev pub is_marked : List Bool → ℕ → Bool
+is_marked marked i = slice_index_or marked i false
+
+-- marked is exactly what a walk over points that are not cut leads to from the start
+abbrev pub Marks : List (List Way) → List Bool → ℕ → List Bool → Type 0
+Marks around uncut start marked = (i : ℕ) → i < length around → (is_marked marked i ≡ true) ↔ PlaceWalk around uncut start i
+
+-- the work that is left: what waits, and twice what is not marked yet
+abbrev pub work_left : List Bool → List ℕ → ℕ
+work_left marked waiting = 2 * count_by not marked + length waiting
+
+-- the ways over points that are not cut were followed: what they lead to is marked, and nothing else; what is newly marked waits
+pub record Follows (ways : List Way) (uncut : List Bool) (old_marked : List Bool) (old_waiting : List ℕ) (marked : List Bool) (waiting : List ℕ) : Type 0 where
+  pub kept : (i : ℕ) → is_marked old_marked i ≡ true → is_marked marked i ≡ true
+  pub led : (w : Way) → Contains ways w → is_marked uncut w.point ≡ true → is_marked marked w.to ≡ true
+  pub sound : (i : ℕ) → is_marked marked i ≡ true → (is_marked old_marked i ≡ true) ⊎ ((w : Way) × Contains ways w × (is_marked uncut w.point ≡ true) × (w.to ≡ i))
+  pub waits : (i : ℕ) → is_marked marked i ≡ true → (is_marked old_marked i ≡ true) ⊎ Contains waiting i
+  pub still : (i : ℕ) → Contains old_waiting i → Contains waiting i
+  pub waiting_marked : (i : ℕ) → Contains waiting i → Contains old_waiting i ⊎ (is_marked marked i ≡ true)
+  pub less : work_left marked waiting ≤ work_left old_marked old_waiting
