@@ -1,9 +1,9 @@
 -- What a search finds among rows in key order, and what a put or a take does there.
-use Rattle.std.proofs.Common.{◌≡◌, ℕ, zero, suc, ◌<◌, ◌≤◌, true, false, not, List, [], ◌∷◌, take, drop, set, length, get_or, Option, Some, None, Result, Ok, Err, IfOk, IfErr, add-one, refl, sym, ◌∙◌, ap, subst, arith}
-use Rattle.std.specs.List.{filter, list_all, insert, remove, Contains, AllWithin, HoldsAt}
+use Rattle.std.proofs.Common.{◌≡◌, ℕ, zero, suc, ◌<◌, ◌≤◌, true, false, List, [], ◌∷◌, take, drop, set, length, get_or, Option, Some, None, Result, Ok, Err, IfOk, IfErr, add-one, refl, sym, ◌∙◌, ap, subst, arith}
+use Rattle.std.specs.List.{filter, insert, remove, Contains, AllWithin, HoldsAt}
 use Rattle.std.specs.List.Sorted.{IsSortedBy, IsSearchInRange, IsBinarySearchResult}
 use Rattle.std.specs.Cmp.{IsTotalOrder}
-use Rattle.std.specs.Ordering.{is_lt, is_eq, is_gt, ordering_reverse}
+use Rattle.std.specs.Ordering.{is_lt, is_eq, is_gt}
 use Rattle.std.specs.declared.cmp.Ordering.{Ordering}
 use Rattle.std.specs.declared.cmp.Ordering.TheVariants.{Less, Equal, Greater}
 use Rattle.std.proofs.lemmas.Cmp.{alike_right}
@@ -11,21 +11,14 @@ use Rattle.std.proofs.lemmas.List.Elements.{Contains-get_or}
 use Rattle.std.proofs.lemmas.List.Sorted.{searchable_from_sorted}
 use Rattle.clr_shelf.specs.Rows.{in_key_order, row_of, with_row, without_row}
 use Rattle.clr_shelf.specs.Places.{IsPlaceOf, IsGapFor}
-use Rattle.clr_shelf.specs.Lists.{list_all-weaker, filter-same, filter-none, list_all-contains}
-use Rattle.clr_shelf.specs.Keys.{equal, less, greater, below_not_above}
+use Rattle.clr_shelf.specs.Lists.{list_all-contains}
+use Rattle.clr_shelf.specs.Keys.{equal, less, below_not_above}
+use Rattle.clr_shelf.specs.FirstRow.{with_row-after, with_row-over, without_row-after, without_row-here}
 use Rattle.clr_shelf.specs.Reading.{row_of-tied}
 use Rattle.clr_shelf.specs.KeyOrder.{in_key_order-rest, in_key_order-first}
 use Rattle.clr_shelf.specs.Members.{row_of-member, member-row_of}
 
 module _ {Key Row : Type 0} (compare : Key → Key → Ordering) (key_of : Row → Key) (order : IsTotalOrder compare) where
-  -- the rows after one that has the key are above it
-  tied_first : (key : Key) (first : Row) (rest : List Row) → in_key_order compare key_of (first ∷ rest) ≡ true → compare (key_of first) key ≡ Equal
-      → list_all (λ next. is_gt (compare (key_of next) key)) rest ≡ true
-  tied_first key first rest ordered tied =
-      list_all-weaker (λ next. is_lt (compare (key_of first) (key_of next))) (λ next. is_gt (compare (key_of next) key))
-      (λ next h. ap is_gt (order.antisymm (key_of next) key ∙ ap ordering_reverse (sym (order.congr (key_of first) key (key_of next) tied) ∙ less (compare (key_of first) (key_of next)) h)))
-      rest (in_key_order-first compare key_of order first rest ordered)
-
   -- the first row is below a key that a later one has
   first_below : (key : Key) (first : Row) (rest : List Row) (place : ℕ) → in_key_order compare key_of (first ∷ rest) ≡ true → place < length rest
       → HoldsAt (λ row. compare (key_of row) key ≡ Equal) rest place → compare (key_of first) key ≡ Less
@@ -38,35 +31,22 @@ module _ {Key Row : Type 0} (compare : Key → Key → Ordering) (key_of : Row �
   -- a row written over the row of its key is put
   pub set_at : (row : Row) (rows : List Row) (place : ℕ) → in_key_order compare key_of rows ≡ true → place < length rows
       → HoldsAt (λ other. compare (key_of other) (key_of row) ≡ Equal) rows place → set rows place row ≡ with_row compare key_of row rows
-  unfolding with_row
   set_at row [] place ordered in_range has_key = absurd (omega arith)
-  set_at row (first ∷ rest) zero ordered in_range has_key =
-      let below = λ (other : Row). is_lt (compare (key_of other) (key_of row)) in
-      let above = λ (other : Row). is_gt (compare (key_of other) (key_of row)) in
-      let rest_above = tied_first (key_of row) first rest ordered (has_key first) in
-      let none : filter below rest ≡ [] = filter-none below below rest (list_all-weaker above (λ other. not (below other))
-      (λ other h. rw (greater (compare (key_of other) (key_of row)) h) refl) rest rest_above) in
-      let kept : filter above rest ≡ rest = filter-same above above rest rest_above in
-      rw (has_key first, none, kept) refl
+  set_at row (first ∷ rest) zero ordered in_range has_key = sym (with_row-over compare key_of order row first rest ordered (has_key first))
   set_at row (first ∷ rest) (suc place) ordered in_range has_key =
       let within : place < length rest = omega arith in
-      rw (first_below (key_of row) first rest place ordered within has_key)
-      (ap (λ (rows : List Row). first ∷ rows) (set_at row rest place (in_key_order-rest compare key_of order first rest ordered) within has_key))
+      ap (λ (rows : List Row). first ∷ rows) (set_at row rest place (in_key_order-rest compare key_of order first rest ordered) within has_key)
+      ∙ sym (with_row-after compare key_of order row first rest (first_below (key_of row) first rest place ordered within has_key))
 
   -- the list without the row of a key
   pub remove_at : (key : Key) (rows : List Row) (place : ℕ) → in_key_order compare key_of rows ≡ true → place < length rows
       → HoldsAt (λ row. compare (key_of row) key ≡ Equal) rows place → remove rows place ≡ without_row compare key_of key rows
-  unfolding without_row
   remove_at key [] place ordered in_range has_key = absurd (omega arith)
-  remove_at key (first ∷ rest) zero ordered in_range has_key =
-      let differs = λ (row : Row). not (is_eq (compare (key_of row) key)) in
-      let kept : filter differs rest ≡ rest = filter-same differs differs rest (list_all-weaker (λ row. is_gt (compare (key_of row) key)) differs
-      (λ row h. rw (greater (compare (key_of row) key) h) refl) rest (tied_first key first rest ordered (has_key first))) in
-      rw (has_key first, kept) refl
+  remove_at key (first ∷ rest) zero ordered in_range has_key = sym (without_row-here compare key_of order key first rest ordered (has_key first))
   remove_at key (first ∷ rest) (suc place) ordered in_range has_key =
       let within : place < length rest = omega arith in
-      rw (first_below key first rest place ordered within has_key)
-      (ap (λ (rows : List Row). first ∷ rows) (remove_at key rest place (in_key_order-rest compare key_of order first rest ordered) within has_key))
+      ap (λ (rows : List Row). first ∷ rows) (remove_at key rest place (in_key_order-rest compare key_of order first rest ordered) within has_key)
+      ∙ sym (without_row-after compare key_of order key first rest (first_below key first rest place ordered within has_key))
 
   -- the rows before a gap are those of lower keys, and those from it on those of higher keys
   parted : (key : Key) (rows : List Row) (place : ℕ) → place ≤ length rows

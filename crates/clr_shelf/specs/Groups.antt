@@ -1,17 +1,19 @@
 -- What a put and a take do to what holds of every row, and to the rows of a group.
-use Rattle.std.proofs.Common.{◌≡◌, Bool, true, false, not, List, [], ◌∷◌, ◌++◌, refl, sym, ◌∙◌, ap}
+use Rattle.std.proofs.Common.{◌≡◌, Bool, true, false, not, List, [], ◌∷◌, None, refl, sym, ◌∙◌, ap}
 use Rattle.std.specs.List.{filter, All}
 use Rattle.std.specs.Cmp.{IsTotalOrder}
 use Rattle.std.specs.Ordering.{is_lt, is_eq, is_gt}
 use Rattle.std.specs.declared.cmp.Ordering.{Ordering}
-use Rattle.std.specs.declared.cmp.Ordering.TheVariants.{Less, Equal, Greater}
 use mathlib.Core.Bool.{true≢false}
 use Rattle.std.proofs.lemmas.Cmp.{tied_itself}
 use Rattle.std.proofs.lemmas.List.Elements.{filter-append, All-append, All-cons, All-filter}
-use Rattle.clr_shelf.specs.Rows.{in_key_order, with_row, without_row}
-use Rattle.clr_shelf.specs.Lists.{filter-filter_comm, filter-filter_wider, list_all-weaker, filter-none}
-use Rattle.clr_shelf.specs.Keys.{above_back, below_chain, below_not_above}
+use Rattle.std.proofs.lemmas.Map.Entries.{option_filter}
+use Rattle.clr_shelf.specs.Rows.{in_key_order, row_of, with_row, without_row}
+use Rattle.clr_shelf.specs.Lists.{find-filter_wider, find-filter_apart, filter-filter_comm, filter-filter_wider, list_all-filter}
+use Rattle.clr_shelf.specs.Reading.{row_of-tied}
 use Rattle.clr_shelf.specs.KeyOrder.{in_key_order-rest, in_key_order-first, in_key_order-filter}
+use Rattle.clr_shelf.specs.Members.{none_below}
+use Rattle.clr_shelf.specs.FirstRow.{without_row-parts}
 
 -- what passes one test fails another that excludes it
 kept : (tied inside : Bool) → (tied ≡ true → inside ≡ false) → inside ≡ true → not tied ≡ true
@@ -44,37 +46,6 @@ module _ {Key Row : Type 0} (compare : Key → Key → Ordering) (key_of : Row �
       let above = λ (other : Row). is_gt (compare (key_of other) (key_of row)) in
       rw (filter-append p (filter below rows) (row ∷ filter above rows), inside, filter-filter_comm p below rows, filter-filter_comm p above rows) refl
 
-  -- no row is below a key after one above it
-  none_lower : (key : Key) (first : Row) (rest : List Row) → in_key_order compare key_of (first ∷ rest) ≡ true → compare (key_of first) key ≡ Greater
-      → filter (λ other. is_lt (compare (key_of other) key)) rest ≡ []
-  none_lower key first rest ordered above =
-      let below = λ (other : Row). is_lt (compare (key_of other) key) in
-      let after = λ (other : Row). is_lt (compare (key_of first) (key_of other)) in
-      let first_above : is_lt (compare key (key_of first)) ≡ true = above_back compare order (key_of first) key (ap is_gt above) in
-      filter-none below below rest (list_all-weaker after (λ other. not (below other))
-      (λ other h. ap not (below_not_above compare order key (key_of other) (below_chain compare order key (key_of first) (key_of other) first_above h)))
-      rest (in_key_order-first compare key_of order first rest ordered))
-
-  parts_from : (key : Key) (first : Row) (rest : List Row) (o : Ordering) → compare (key_of first) key ≡ o → in_key_order compare key_of (first ∷ rest) ≡ true
-      → filter (λ row. not (is_eq (compare (key_of row) key))) rest
-      ≡ filter (λ other. is_lt (compare (key_of other) key)) rest ++ filter (λ other. is_gt (compare (key_of other) key)) rest
-      → filter (λ row. not (is_eq (compare (key_of row) key))) (first ∷ rest)
-      ≡ filter (λ other. is_lt (compare (key_of other) key)) (first ∷ rest) ++ filter (λ other. is_gt (compare (key_of other) key)) (first ∷ rest)
-  parts_from key first rest Less is ordered parts = rw is (ap (λ (rows : List Row). first ∷ rows) parts)
-  parts_from key first rest Equal is ordered parts = rw is parts
-  parts_from key first rest Greater is ordered parts =
-      let none = none_lower key first rest ordered is in
-      rw (is, none) (ap (λ (rows : List Row). first ∷ rows) (rw none at parts))
-
-  -- the rows of other keys are those below and those above
-  without_row-parts : (key : Key) (rows : List Row) → in_key_order compare key_of rows ≡ true
-      → without_row compare key_of key rows
-      ≡ filter (λ other. is_lt (compare (key_of other) key)) rows ++ filter (λ other. is_gt (compare (key_of other) key)) rows
-  unfolding without_row
-  without_row-parts key [] ordered = refl
-  without_row-parts key (first ∷ rest) ordered = parts_from key first rest (compare (key_of first) key) refl ordered
-      (without_row-parts key rest (in_key_order-rest compare key_of order first rest ordered))
-
   -- putting a row outside the group takes the row of its key out of the group
   pub filter-with_outside : (p : Row → Bool) (row : Row) (rows : List Row) → in_key_order compare key_of rows ≡ true → p row ≡ false
       → filter p (with_row compare key_of row rows) ≡ without_row compare key_of (key_of row) (filter p rows)
@@ -83,7 +54,7 @@ module _ {Key Row : Type 0} (compare : Key → Key → Ordering) (key_of : Row �
       let below = λ (other : Row). is_lt (compare (key_of other) (key_of row)) in
       let above = λ (other : Row). is_gt (compare (key_of other) (key_of row)) in
       rw (filter-append p (filter below rows) (row ∷ filter above rows), outside, filter-filter_comm p below rows, filter-filter_comm p above rows)
-      (sym (without_row-parts (key_of row) (filter p rows) (in_key_order-filter compare key_of order p rows ordered)))
+      (sym (without_row-parts compare key_of order (key_of row) (filter p rows) (in_key_order-filter compare key_of order p rows ordered)))
 
   -- taking a row takes it out of the group
   pub filter-without_row : (p : Row → Bool) (key : Key) (rows : List Row)
@@ -104,3 +75,46 @@ module _ {Key Row : Type 0} (compare : Key → Key → Ordering) (key_of : Row �
   filter-with_far p row rows ordered far =
       filter-with_outside p row rows ordered (far row (ap is_eq (tied_itself order (key_of row))))
       ∙ sym (filter-without_row p (key_of row) rows) ∙ filter-without_far p (key_of row) rows far
+
+  -- ---- reading among the rows of a group
+
+  -- where each row of the key is in the group, it is read there as in the whole list
+  pub row_of-filter_inside : (p : Row → Bool) (key : Key) (rows : List Row) → ((row : Row) → is_eq (compare (key_of row) key) ≡ true → p row ≡ true)
+      → row_of compare key_of key (filter p rows) ≡ row_of compare key_of key rows
+  unfolding row_of
+  row_of-filter_inside p key rows inside = find-filter_wider (λ row. is_eq (compare (key_of row) key)) p inside rows
+
+  -- and where none is, nothing is read there
+  pub row_of-filter_outside : (p : Row → Bool) (key : Key) (rows : List Row) → ((row : Row) → is_eq (compare (key_of row) key) ≡ true → p row ≡ false)
+      → row_of compare key_of key (filter p rows) ≡ None
+  unfolding row_of
+  row_of-filter_outside p key rows outside = find-filter_apart (λ row. is_eq (compare (key_of row) key)) p outside rows
+
+  -- after the row of a key none is read at the key
+  none_after : (key : Key) (first : Row) (rest : List Row) → in_key_order compare key_of (first ∷ rest) ≡ true → is_eq (compare (key_of first) key) ≡ true
+      → (p : Row → Bool) → row_of compare key_of key (filter p rest) ≡ None
+  none_after key first rest ordered tied p =
+      let above = λ (next : Row). is_lt (compare (key_of first) (key_of next)) in
+      sym (row_of-tied compare key_of order (key_of first) key (filter p rest) tied)
+      ∙ none_below compare key_of order (key_of first) (filter p rest) (list_all-filter above p rest (in_key_order-first compare key_of order first rest ordered))
+
+  filter_step : (p : Row → Bool) (key : Key) (first : Row) (rest : List Row) (tied inside : Bool)
+      → is_eq (compare (key_of first) key) ≡ tied → p first ≡ inside → in_key_order compare key_of (first ∷ rest) ≡ true
+      → row_of compare key_of key (filter p rest) ≡ option_filter p (row_of compare key_of key rest)
+      → row_of compare key_of key (filter p (first ∷ rest)) ≡ option_filter p (row_of compare key_of key (first ∷ rest))
+  unfolding row_of
+  filter_step p key first rest true true ties is_in ordered rest_read = rw (ties, is_in, ties) refl
+  filter_step p key first rest true false ties is_out ordered rest_read = rw (ties, is_out) (none_after key first rest ordered ties p)
+  filter_step p key first rest false true differs is_in ordered rest_read = rw (differs, is_in, differs) rest_read
+  filter_step p key first rest false false differs is_out ordered rest_read = rw (differs, is_out) rest_read
+
+  none_of_none : (p : Row → Bool) (key : Key) → row_of compare key_of key [] ≡ option_filter p (row_of compare key_of key [])
+  unfolding row_of
+  none_of_none p key = refl
+
+  -- in key order, what is read there is the row of the key if it is in the group
+  pub row_of-filter : (p : Row → Bool) (key : Key) (rows : List Row) → in_key_order compare key_of rows ≡ true
+      → row_of compare key_of key (filter p rows) ≡ option_filter p (row_of compare key_of key rows)
+  row_of-filter p key [] ordered = none_of_none p key
+  row_of-filter p key (first ∷ rest) ordered = filter_step p key first rest (is_eq (compare (key_of first) key)) (p first) refl refl ordered
+      (row_of-filter p key rest (in_key_order-rest compare key_of order first rest ordered))

@@ -8,11 +8,12 @@ use std::cmp::Ordering;
 
 /// A record of plain data with a key, which also stands in groups.
 ///
-/// A group need not follow from the key: a row that is put again may change its group.
+/// A group need not follow from the key: where another row of the key is put, it may be in other groups.
 pub trait Row: Drop {
     /// What tells rows apart, as a record of fields of the row. Keys are in a total order.
     type Key: Drop;
-    /// What gathers rows that are asked for together.
+
+    /// What gathers the rows that are asked for together.
     type Group;
 
     ghost key_of: { Self → Self.Key };
@@ -21,10 +22,11 @@ pub trait Row: Drop {
 
     ghost is_in: { Self.Group → Self → Bool };
 
+    /// The row's key, made of its fields.
     fn key(&self) -> Self::Key
         ensures { result ≡ key_of self.now };
 
-    /// Where this row's key stands beside the given one.
+    /// How the row's key stands to another.
     fn compare_key(&self, key: &Self::Key) -> Ordering
         ensures { result ≡ key_cmp (key_of self.now) key.now };
 
@@ -33,6 +35,6 @@ pub trait Row: Drop {
 
     ghost key_order: { IsTotalOrder key_cmp };
 
-    // Keys that compare as equal are one key.
+    // Keys that tie are one key.
     ghost same_key: { (a b : Self.Key) → key_cmp a b ≡ Equal → a ≡ b };
 }

@@ -7,14 +7,16 @@ use crate::row::Row;
 use std::alloc::{AllocError, Global};
 
 /// A finite map from a key to its row.
+///
+/// Only `reserve` and `group` ask for memory, and want of it is their only error.
 pub trait Shelf<R: Row>: Drop {
     // The rows in key order, one row a key.
     ghost rows: { Self → List R };
 
-    // The rows in the order in which `at` gives them.
+    // The same rows in the order of their places.
     ghost places: { Self → List R };
 
-    // How many rows may be put before memory is asked for.
+    // How many rows may be put before `reserve` is called again.
     ghost room: { Self → ℕ };
 
     fn empty(alloc: Global) -> Self
@@ -27,26 +29,31 @@ pub trait Shelf<R: Row>: Drop {
     fn get(&self, key: &R::Key) -> Option<&R>
         ensures { option_copied result ≡ row_of R.key_cmp R.key_of key.now (rows self.now) };
 
-    /// The row at a place. Each row stands at exactly one place below `len`, in no order that is promised.
+    /// The row at a place. Each row stands at one place below `len`, until the next put or take.
     fn at(&self, place: usize) -> &R
         requires { place < length (places self.now) }
         ensures { slice_get (places self.now) place ≡ Some result.now };
 
+    /// The rows of a group, in key order.
     fn group(&self, alloc: Global, group: &R::Group) -> Result<Vec<&R>, AllocError>
         ensures { IfOk result (λ found. map (λ row. row.now) found.items ≡ filter (R.is_in group.now) (rows self.now)) };
 
+    /// Makes room for `n` puts. It fails only where the room was less and memory is refused.
     fn reserve(&mut self, n: usize) -> Result<(), AllocError>
         ensures rows { rows self.new ≡ rows self.old }
         ensures places { places self.new ≡ places self.old }
+
         ensures ok { OnOk result ((n ≤ room self.new) × (room self.old ≤ room self.new)) }
         ensures err { OnErr result (room self.new ≡ room self.old) }
         ensures succeeds { n ≤ room self.old → IsOk result };
 
+    /// Puts a row in place of the row of its key, if there is one.
     fn put(&mut self, row: R)
         requires { 0 < room self.old }
         ensures rows { rows self.new ≡ with_row R.key_cmp R.key_of row (rows self.old) }
         ensures room { room self.old ≤ room self.new + 1 };
 
+    /// Takes the row of a key out, which leaves room for one more.
     fn take(&mut self, key: &R::Key) -> Option<R>
         ensures given { result ≡ row_of R.key_cmp R.key_of key.now (rows self.old) }
         ensures rows { rows self.new ≡ without_row R.key_cmp R.key_of key.now (rows self.old) }

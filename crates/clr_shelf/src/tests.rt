@@ -132,7 +132,7 @@ fn room_serves_as_many_rows_and_a_take_gives_one_back(rt: HostRuntime) -> Result
     Ok(())
 }
 
-// Run with each allocation refused in turn, it shows that a refusal leaves all rows.
+// With the second allocation refused it shows that a refusal leaves all rows.
 #[test]
 fn refused_room_leaves_the_rows(rt: HostRuntime) {
     let kept = berth_at(*b"NN", 1, 1, 10);

@@ -1,4 +1,4 @@
-use Rattle.std.proofs.Common.{◌<◌, ◌∙◌, arith, vec_len, vec_capacity}
+use Rattle.std.proofs.Common.{◌<◌, arith, vec_len, vec_capacity}
 use Rattle.clr_shelf.specs.KeyOrder.{in_key_order-with_row}
 use Rattle.clr_shelf.proofs.Places.{set_at, insert_in_gap}
 use Rattle.clr_shelf.proofs.list_shelf.ListShelfShelf.put.Goals as goal
@@ -23,8 +23,7 @@ returns-clause-rows g c =
     let room : vec_len c.args.self.now.list < vec_capacity c.args.self.now.list = omega (arith, c.requires) in
     let gap = rw c.key.ensures at c.in-Err.ensures.absent in
     let fits = c.insert.ensures.succeeds room in
-    let inserted = rw fits at c.insert.ensures.items in
-    inserted ∙ insert_in_gap g.R.Row.key_cmp g.R.Row.key_of g.met.R.Row.key_order c.args.row rows c.in-Err.place gap
+    rw (c.insert.ensures.items, fits) (insert_in_gap g.R.Row.key_cmp g.R.Row.key_of g.met.R.Row.key_order c.args.row rows c.in-Err.place gap)
 
 pub invariant_of-self-in-Err : goal.invariant_of-self-in-Err
 invariant_of-self-in-Err g c =
@@ -32,6 +31,5 @@ invariant_of-self-in-Err g c =
     let room : vec_len c.args.self.now.list < vec_capacity c.args.self.now.list = omega (arith, c.requires) in
     let gap = rw c.key.ensures at c.in-Err.ensures.absent in
     let fits = c.insert.ensures.succeeds room in
-    let inserted = rw fits at c.insert.ensures.items in
     let put = insert_in_gap g.R.Row.key_cmp g.R.Row.key_of g.met.R.Row.key_order c.args.row rows c.in-Err.place gap in
-    record { in_order = rw (inserted, put) (in_key_order-with_row g.R.Row.key_cmp g.R.Row.key_of g.met.R.Row.key_order c.args.row rows c.args.self.now.in_order) }
+    record { in_order = rw (c.insert.ensures.items, fits, put) (in_key_order-with_row g.R.Row.key_cmp g.R.Row.key_of g.met.R.Row.key_order c.args.row rows c.args.self.now.in_order) }

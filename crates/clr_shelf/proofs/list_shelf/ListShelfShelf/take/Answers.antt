@@ -1,4 +1,4 @@
-use Rattle.std.proofs.Common.{sym, ◌∙◌}
+use Rattle.std.proofs.Common.{sym}
 use Rattle.clr_shelf.specs.KeyOrder.{in_key_order-without_row}
 use Rattle.clr_shelf.specs.Reading.{without_row-missing}
 use Rattle.clr_shelf.proofs.Places.{row_at, none_in_gap, remove_at}
@@ -11,8 +11,8 @@ returns-in-Ok-clause-given g c = sym (row_at g.R.Row.key_cmp g.R.Row.key_of g.me
 pub returns-in-Ok-clause-rows : goal.returns-in-Ok-clause-rows
 returns-in-Ok-clause-rows g c =
     let found = c.in-Ok.ensures.found in
-    c.remove.ensures.items ∙ remove_at g.R.Row.key_cmp g.R.Row.key_of g.met.R.Row.key_order c.args.key.now c.args.self.now.list.items c.in-Ok.place
-    c.args.self.now.in_order found.in_range found.has_key
+    rw c.remove.ensures.items (remove_at g.R.Row.key_cmp g.R.Row.key_of g.met.R.Row.key_order c.args.key.now c.args.self.now.list.items c.in-Ok.place
+    c.args.self.now.in_order found.in_range found.has_key)
 
 pub invariant_of-self : goal.invariant_of-self
 invariant_of-self g c =
