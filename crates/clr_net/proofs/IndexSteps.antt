@@ -1,29 +1,18 @@
 -- The steps that build the index of a network.
-use Rattle.std.proofs.Common.{◌≡◌, ℕ, zero, suc, ◌+◌, ◌<◌, ◌⊎◌, inl, inr, Bool, true, false, Some, List, [], ◌∷◌, ◌++◌, length, replicate, position, refl, sym, arith}
-use Rattle.std.specs.Prelude.{Contains}
-use Rattle.std.specs.List.{list_any, position_or_len}
-use Rattle.std.proofs.lemmas.Bool.{cases_eq, lt-ltb}
+use Rattle.std.proofs.Common.{◌≡◌, ℕ, zero, suc, ◌+◌, ◌<◌, ◌⊎◌, inl, inr, List, [], ◌∷◌, ◌++◌, length, map, replicate, refl, sym, arith}
+use Rattle.std.specs.Prelude.{All, Contains, IsTrue}
+use Rattle.std.proofs.lemmas.Bool.{and_parts, cases_eq}
 use Rattle.std.proofs.lemmas.List.{get_or-set_same, get_or-set_other, length-set}
-use Rattle.std.proofs.lemmas.List.Elements.{Contains-append_left, Contains-push, Contains-push_cases}
-use Rattle.clr_net.specs.Name.{same_name}
-use Rattle.clr_net.specs.Names.{has_name}
-use Rattle.clr_net.specs.Index.{AddsWay, AreBelow, IsAround, ends_at, place_in, way, ways_at}
+use Rattle.std.proofs.lemmas.List.Elements.{All-map, All-weaker, Contains-append_left, Contains-push, Contains-push_cases}
+use Rattle.clr_net.specs.Index.{AddsWay, AreBelow, IsAround, ends_at, ends_in, way, ways_at}
 use Rattle.clr_net.specs.declared.ways.Way.{Way}
 use Rattle.clr_net.specs.declared.ways.Ends.{Ends}
 use Rattle.clr_net.proofs.SearchSteps.{nothing_in_nil}
-
--- the first place that passes, where one does
-pub place_inside : {X : Type 0} (p : X → Bool) (xs : List X) → list_any p xs ≡ true → position_or_len p xs < length xs
-place_inside p [] e = cc e
-place_inside p (x ∷ xs) e = at (p x) refl (place_inside p xs)
-  where
-    at : (b : Bool) → p x ≡ b → (list_any p xs ≡ true → position_or_len p xs < length xs) → position_or_len p (x ∷ xs) < length (x ∷ xs)
-    at true here more = rw here (omega arith)
-    at false here more = rw here (let rest = more (rw here at e) in omega arith)
-
--- a name that is there has a place
-pub place_of_name : (names : List (List ℕ)) (name : List ℕ) → has_name names name ≡ true → position (same_name name) names ≡ Some (place_in names name)
-place_of_name names name e = rw (lt-ltb _ _ (place_inside (same_name name) names e)) refl
+use Rattle.clr_net.proofs.Places.{place_inside}
+use Rattle.clr_net.specs.Grid.{has_ends}
+use Rattle.clr_net.specs.Names.{has_name}
+use Rattle.clr_net.specs.Name.{same_name}
+use Rattle.clr_net.specs.declared.point.PointRow.{PointRow}
 
 -- no way out of any section
 no_way_at : (n i : ℕ) → ways_at (replicate n []) i ≡ []
@@ -84,3 +73,14 @@ around_more ends k e old middle new a is below first second =
             (keeps (ends_at ends j).from (way j (ends_at ends j).to) one, keeps (ends_at ends j).to (way j (ends_at ends j).from) two)
       ];
     }
+
+-- the places of known ends are below the number of names
+pub ends_below : (names : List (List ℕ)) (points : List PointRow) → All (λ p. IsTrue (has_ends names p)) points → All (AreBelow (length names)) (map (ends_in names) points)
+ends_below names points known =
+    All-map (AreBelow (length names)) (ends_in names) points
+    (All-weaker (λ p. IsTrue (has_ends names p)) (λ p. AreBelow (length names) (ends_in names p)) below points known)
+  where
+    below : (p : PointRow) → IsTrue (has_ends names p) → AreBelow (length names) (ends_in names p)
+    below p both =
+      let (from, to) = and_parts (has_name names p.from_end) (has_name names p.to_end) both in
+      (place_inside (same_name p.from_end) names from, place_inside (same_name p.to_end) names to)

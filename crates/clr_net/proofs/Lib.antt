@@ -2,3 +2,5 @@ pub mod Names
 pub mod Places
 pub mod SearchSteps
 pub mod IndexSteps
+pub mod ListFacts
+pub mod BuildFacts

@@ -1,23 +1,29 @@
 -- Where names stand in a list: in the order of names, and where one stands twice.
-use Rattle.std.proofs.Common.{◌≡◌, ◌∙◌, ℕ, ◌+◌, ◌<◌, ◌≤◌, Bool, true, false, cond, not, ◌||◌, Some, None, List, [], ◌∷◌, ◌⊎◌, inl, inr, length, get_or, take, map, position, refl, sym, ap, arith, Result, Ok, Err}
+use Rattle.std.proofs.Common.{Bor, Option, ◌≡◌, ◌∙◌, ℕ, zero, suc, ◌+◌, ◌<◌, ◌≤◌, Bool, true, false, cond, not, ◌||◌, Some, None, List, [], ◌∷◌, ◌⊎◌, inl, inr, length, get_or, take, map, position, refl, sym, ap, arith, Result, Ok, Err}
 use Rattle.std.specs.Result.{result_ok}
+use Rattle.std.specs.Prelude.{All, is_some}
+use Rattle.std.specs.Option.{option_copied}
+use Rattle.std.specs.Slice.{IsItemAt}
+use Rattle.std.proofs.lemmas.Bool.{false≢true}
+use Rattle.std.proofs.lemmas.List.Quantifiers.{position-Some}
+use Rattle.clr_net.specs.Index.{place_in}
 use borrow.Author.Count.{below_more}
 use Rattle.std.proofs.Math.Bool.{or-true, or-false, not-not}
 use Rattle.std.specs.declared.cmp.Ordering.{Ordering}
 use Rattle.std.specs.declared.cmp.Ordering.TheVariants.{Less, Equal, Greater}
 use Rattle.std.specs.Ordering.{is_eq, is_lt, ordering_reverse}
-use Rattle.std.specs.List.{range_with_len}
-use Rattle.std.specs.List.Sorted.{IsStrictlySortedBy, IsSortedBy, IsBinarySearchResult, IsSearchInRange, IsPartitionPoint}
+use Rattle.std.specs.List.{IsDistinct, find, list_any, position_or_len, range_with_len}
+use Rattle.std.specs.List.Sorted.{IsStrictlySortedBy, IsSortedBy, IsSortedByKey, IsBinarySearchResult, IsSearchInRange, IsPartitionPoint}
 use Rattle.std.specs.Cmp.Lexicographic.{same_text, texts_ties}
 use Rattle.std.proofs.lemmas.Cmp.{nat_list_cmp_total, nat_list_eq_equiv}
-use Rattle.std.proofs.lemmas.Bool.{lt-ltb, le-ltb, cases_lt}
-use Rattle.std.proofs.lemmas.List.{get_or-map, length-map}
+use Rattle.std.proofs.lemmas.Bool.{both_ways, cases_lt, false_from_ne_true, le-ltb, lt-ltb, or_parts}
+use Rattle.std.proofs.lemmas.List.{get_or-map, get_or-take, get_or_default, length-map, length-take-le}
 use Rattle.std.proofs.lemmas.List.Sums.{position_or_len_is}
 use Rattle.std.proofs.lemmas.List.Sorted.{searchable_from_sorted}
 use Rattle.std.proofs.lemmas.List.FromFn.{get_or-range_with_len, length-range_with_len}
-use Rattle.std.proofs.lemmas.List.Folds.{list_any_more}
+use Rattle.std.proofs.lemmas.List.Folds.{list_any_at, list_any_more}
 use Rattle.std.specs.BTreeSet.{BTreeSet, Updates, contains}
-use Rattle.std.proofs.lemmas.Map.Keys.{Less-from_sorted}
+use Rattle.std.proofs.lemmas.Map.Keys.{IsDistinct-from_apart, Less-from_sorted, apart_from_distinct, sorted_from_all_adjacent}
 use Rattle.clr_net.specs.Name.{same_name, name_cmp}
 use Rattle.clr_net.specs.Names.{has_name, is_repeat, repeat_place}
 
@@ -32,6 +38,34 @@ pub position_none : {X : Type 0} (p : X → Bool) (xs : List X) (d : X) → ((k 
 position_none p xs d fails =
     let e = position_or_len_is p xs (length xs) d (omega arith) fails (λ h. absurd (omega arith)) in
     rw (e, le-ltb (length xs) (length xs) (omega arith)) refl
+
+-- the first place that passes, where one does
+pub place_inside : {X : Type 0} (p : X → Bool) (xs : List X) → list_any p xs ≡ true → position_or_len p xs < length xs
+place_inside p [] e = cc e
+place_inside p (x ∷ xs) e = at (p x) refl (place_inside p xs)
+  where
+    at : (b : Bool) → p x ≡ b → (list_any p xs ≡ true → position_or_len p xs < length xs) → position_or_len p (x ∷ xs) < length (x ∷ xs)
+    at true here more = rw here (omega arith)
+    at false here more = rw here (let rest = more (rw here at e) in omega arith)
+
+-- a name that is there has a place
+pub place_of_name : (names : List (List ℕ)) (name : List ℕ) → has_name names name ≡ true → position (same_name name) names ≡ Some (place_in names name)
+place_of_name names name e = rw (lt-ltb _ _ (place_inside (same_name name) names e)) refl
+
+-- past all places, where no element passes
+place_past : {X : Type 0} (p : X → Bool) (xs : List X) → list_any p xs ≡ false → position_or_len p xs ≡ length xs
+place_past p [] e = refl
+place_past p (x ∷ xs) e =
+    let (here, more) = or_parts (p x) (list_any p xs) e in
+    rw (here, place_past p xs more) (omega arith)
+
+-- there is a place exactly where an element passes
+pub is_some-position : {X : Type 0} (p : X → Bool) (xs : List X) → is_some (position p xs) ≡ list_any p xs
+is_some-position p xs = at (list_any p xs) refl
+  where
+    at : (b : Bool) → list_any p xs ≡ b → is_some (position p xs) ≡ list_any p xs
+    at true e = rw (e, lt-ltb _ _ (place_inside p xs e)) refl
+    at false e = rw (e, place_past p xs e, le-ltb (length xs) (length xs) (omega arith)) refl
 
 -- whether two names are the same, from how they compare
 pub same_from_cmp : (m n : List ℕ) (o : Ordering) → name_cmp m n ≡ o → same_name n m ≡ is_eq (ordering_reverse o)
@@ -125,3 +159,71 @@ repeat_seen names i name seen added is same e = rw (is, e, sym (same name)) (sym
 -- one more name that is no repeat
 pub unrepeated_more : (names : List (List ℕ)) (i : ℕ) → ((k : ℕ) → k < i → is_repeat names k ≡ false) → is_repeat names i ≡ false → (k : ℕ) → k < i + 1 → is_repeat names k ≡ false
 unrepeated_more names i before here = below_more (λ k. is_repeat names k ≡ false) i before here
+
+-- names no one of which stands twice
+pub distinct_from_unrepeated : (names : List (List ℕ)) → ((k : ℕ) → k < length names → is_repeat names k ≡ false) → IsDistinct same_name names
+distinct_from_unrepeated names once = IsDistinct-from_apart same_name names apart
+  where
+    apart : (i j : ℕ) (d : List ℕ) → i < j → j < length names → same_name (get_or names i d) (get_or names j d) ≡ false
+    apart i j d before inside = false_from_ne_true _ (λ same.
+      let size = length-take-le j names (omega arith) in
+      let back : same_name (get_or names j []) (get_or (take j names) i d) ≡ true =
+        rw (get_or-take j names i d before, get_or_default names j [] d inside) (nat_list_eq_equiv.symm (get_or names j d) (get_or names i d) ∙ same) in
+      both_ways _ (once j inside) (list_any_at (same_name (get_or names j [])) (take j names) i d (omega arith) back))
+
+-- rows in the order of names no one of which stands twice
+pub rising_from_sorted : {X : Type 0} (name_of : X → List ℕ) (rows : List X) → IsSortedByKey name_of name_cmp rows → IsDistinct same_name (map name_of rows) → IsStrictlySortedBy name_cmp (map name_of rows)
+rising_from_sorted name_of [] sorted once = sorted_from_all_adjacent nat_list_cmp_total [] [] (λ k inside. absurd (omega arith))
+rising_from_sorted {X} name_of (x ∷ rows) sorted once = sorted_from_all_adjacent nat_list_cmp_total (map name_of (x ∷ rows)) [] rises
+  where
+    by_order : (m n : List ℕ) (o : Ordering) → name_cmp n m ≡ o → is_lt o ≡ false → same_name m n ≡ false → name_cmp m n ≡ Less
+    by_order m n Less e not_less apart = cc not_less
+    by_order m n Equal e not_less apart = absurd (both_ways _ apart (same_from_cmp n m Equal e))
+    by_order m n Greater e not_less apart = nat_list_cmp_total.antisymm m n ∙ ap ordering_reverse e
+
+    rises : (k : ℕ) → k + 1 < length (map name_of (x ∷ rows)) → name_cmp (get_or (map name_of (x ∷ rows)) k []) (get_or (map name_of (x ∷ rows)) (k + 1) []) ≡ Less
+    rises k inside =
+      let size = length-map (x ∷ rows) name_of in
+      let here = get_or-map name_of (x ∷ rows) k x [] (omega arith) in
+      let next = get_or-map name_of (x ∷ rows) (k + 1) x [] (omega arith) in
+      by_order (get_or (map name_of (x ∷ rows)) k []) (get_or (map name_of (x ∷ rows)) (k + 1) []) (name_cmp (get_or (map name_of (x ∷ rows)) (k + 1) []) (get_or (map name_of (x ∷ rows)) k [])) refl
+        (rw (here, next) (sorted k x (omega arith) (omega arith)))
+        (apart_from_distinct same_name (map name_of (x ∷ rows)) k (k + 1) [] once (omega arith) inside)
+
+-- the first row that passes
+find_first : {X : Type 0} (p : X → Bool) (rows : List X) (i : ℕ) (x : X) → i < length rows → x ≡ get_or rows i x → p x ≡ true → ((k : ℕ) → k < i → p (get_or rows k x) ≡ false) → Some x ≡ find p rows
+find_first p [] i x inside is here before = absurd (omega arith)
+find_first p (r ∷ rows) zero x inside is here before = rw (← is, here) refl
+find_first p (r ∷ rows) (suc i) x inside is here before = rw (before 0 (omega arith)) (find_first p rows i x (omega arith) is here (λ k lower. before (suc k) (omega arith)))
+
+-- the row with a name
+pub find_at : {X : Type 0} (name_of : X → List ℕ) (rows : List X) (n : List ℕ) (i : ℕ) (x : X) → position (same_name n) (map name_of rows) ≡ Some i → x ≡ get_or rows i x → Some x ≡ find (λ row. same_name n (name_of row)) rows
+find_at name_of rows n i x at is =
+    let size = length-map rows name_of in
+    let (inside, here, before) = position-Some (same_name n) (map name_of rows) i [] at in
+    find_first (λ row. same_name n (name_of row)) rows i x (omega arith) is
+      (rw (get_or-map name_of rows i x [] (omega arith), ← is) at here)
+      (λ k lower. rw (get_or-map name_of rows k x [] (omega arith)) at (before k lower))
+
+pub find_none : {X : Type 0} (name_of : X → List ℕ) (rows : List X) (n : List ℕ) → position (same_name n) (map name_of rows) ≡ None → None ≡ find (λ row. same_name n (name_of row)) rows
+find_none {X} name_of rows n none = absent rows (sym (is_some-position (same_name n) (map name_of rows)) ∙ ap is_some none)
+  where
+    absent : (rows : List X) → list_any (same_name n) (map name_of rows) ≡ false → None ≡ find (λ row. same_name n (name_of row)) rows
+    absent [] e = refl
+    absent (r ∷ rest) e =
+      let (here, more) = or_parts (same_name n (name_of r)) (list_any (same_name n) (map name_of rest)) e in
+      rw here (absent rest more)
+
+-- the same, as a slice's `get` gives it
+pub find_got : {X : Type 0} (name_of : X → List ℕ) (rows : List X) (n : List ℕ) (i : ℕ) (r : Option (Bor X)) → position (same_name n) (map name_of rows) ≡ Some i → IsItemAt rows i r → option_copied r ≡ find (λ row. same_name n (name_of row)) rows
+find_got name_of rows n i (Some x) at got = find_at name_of rows n i x.now at got.1
+find_got name_of rows n i None at got =
+    let size = length-map rows name_of in
+    let inside = (position-Some (same_name n) (map name_of rows) i [] at).0 in
+    absurd (false≢true (got.0 ∙ lt-ltb i (length rows) (omega arith)))
+
+-- where no place is found, each element fails
+pub all_fail : {X : Type 0} (p : X → Bool) (xs : List X) → position p xs ≡ None → All (λ x. p x ≡ false) xs
+all_fail p xs none k d inside =
+    let fails : list_any p xs ≡ false = sym (is_some-position p xs) ∙ ap is_some none in
+    false_from_ne_true _ (λ e. both_ways _ fails (list_any_at p xs k d inside e))

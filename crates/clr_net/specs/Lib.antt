@@ -8,3 +8,4 @@ pub mod Fence
 pub mod Index
 pub mod Search
 pub mod Ways
+pub mod Kept

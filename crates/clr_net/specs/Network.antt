@@ -1,5 +1,5 @@
 -- The network: sections, which may be sources, and switching points, each of which joins two different sections.
-use Rattle.std.specs.Prelude.{◌≡◌, ◌⊎◌, ℕ, ◌+◌, not, nat_lt, ◌==◌, ◌||◌, if◌then◌else◌, List, length, position, Option, Some, None, Result, Ok, Err}
+use Rattle.std.specs.Prelude.{◌≡◌,  ◌⊎◌, ℕ, ◌+◌, not, nat_lt, ◌==◌, ◌||◌, if◌then◌else◌, List, length, position, Option, Some, None, Result, Ok, Err}
 use Rattle.std.specs.List.Sorted.{IsPermutation}
 use Rattle.clr_net.specs.Names.{repeat_place}
 use Rattle.clr_net.specs.declared.section.SectionRow.{SectionRow}
@@ -20,15 +20,24 @@ abbrev pub row_fault : (ℕ → NetFault) → Option ℕ → Option NetFault →
 row_fault fault None rest = rest
 row_fault fault (Some place) rest = Some (fault (place + 1))
 
--- the first fault of rows that are to be a network: no section, too many rows, a section that stands twice, a point that
--- stands twice, an end that is no section, two ends that are one; of the rows that have it, the least
+-- a section that stands twice, then a point that stands twice, else the rest
+abbrev pub twice_fault : List SectionRow → List PointRow → Option NetFault → Option NetFault
+twice_fault sections points rest =
+    row_fault SectionTwice (repeat_place (section_names sections)) (row_fault PointTwice (repeat_place (point_names points)) rest)
+
+-- a point with an end that is none of the sections, then one whose ends are one section, else the rest
+abbrev pub end_fault : List (List ℕ) → List PointRow → Option NetFault → Option NetFault
+end_fault sections points rest =
+    row_fault UnknownEnd (position (λ p. not (has_ends sections p)) points) (row_fault SameEnds (position has_one_section points) rest)
+
+-- the first fault of rows that are to be a network; of the rows that have it, the least
 abbrev pub first_fault : List SectionRow → List PointRow → Option NetFault
-first_fault sections points =
-    size_fault sections points
-    (row_fault SectionTwice (repeat_place (section_names sections))
-      (row_fault PointTwice (repeat_place (point_names points))
-        (row_fault UnknownEnd (position (λ p. not (has_ends (section_names sections) p)) points)
-          (row_fault SameEnds (position has_one_section points) None))))
+first_fault sections points = size_fault sections points (twice_fault sections points (end_fault (section_names sections) points None))
+
+-- what a check of one stage answers: nothing, where the first fault is that of the rest; else want of memory, or the first fault
+abbrev pub Passes : (Option NetFault → Option NetFault) → Result (Unit {0}) NetFault → Type 0
+Passes stage (Ok _) = (rest : Option NetFault) → stage rest ≡ rest
+Passes stage (Err fault) = (fault ≡ NoMemory) ⊎ ((rest : Option NetFault) → stage rest ≡ Some fault)
 
 -- the network has these rows, in the order of their names
 pub record IsGridOf (sections : List SectionRow) (points : List PointRow) (g : Grid) : Type 0 where

@@ -1,5 +1,7 @@
 //! Rows that go by a name: their order, the place of a name, and a name that stands twice.
-ghost use Rattle.std.specs.Prelude.{◌≡◌, ℕ, List, map, position, IfOk, vec_len};
+ghost use Rattle.std.specs.Prelude.{◌≡◌, ◌<◌, ℕ, List, find, length, map, position, IfOk, IfSome, IfNone};
+ghost use Rattle.std.specs.List.{IsDistinct};
+ghost use Rattle.std.specs.Option.{option_copied};
 ghost use Rattle.std.specs.List.Sorted.{IsPermutation, IsStrictlySortedBy, IsSortedByKey};
 ghost use Rattle.clr_net.specs.Name.{same_name, name_cmp};
 ghost use Rattle.clr_net.specs.Names.{has_name, repeat_place};
@@ -20,6 +22,7 @@ pub trait Named {
 pub fn sort_by_name<R: Named>(rows: &mut Vec<R>)
     ensures permutation { IsPermutation rows.old.items rows.new.items }
     ensures sorted { IsSortedByKey R.name_of name_cmp rows.new.items }
+    ensures rising { IsDistinct same_name (map R.name_of rows.old.items) → IsStrictlySortedBy name_cmp (map R.name_of rows.new.items) }
 {
     rows.sort_unstable_by_key(|row| row.name());
 }
@@ -32,9 +35,22 @@ pub fn place_of<R: Named>(rows: &[R], name: Name) -> Option<usize>
     rows.binary_search_by(|row| row.name().cmp(&name)).ok()
 }
 
+/// The row with this name, among rows in the order of their names.
+pub fn row_of<R: Named>(rows: &[R], name: Name) -> Option<&R>
+    requires { IsStrictlySortedBy name_cmp (map R.name_of rows.now) }
+    ensures { option_copied result ≡ find (λ row. same_name name (R.name_of row)) rows.now }
+{
+    match place_of(rows, name) {
+        Some(place) => rows.get(place),
+        None => None,
+    }
+}
+
 /// The first place of a row whose name an earlier row has too.
 pub fn repeat_place<R: Named>(alloc: Global, rows: &[R]) -> Result<Option<usize>, AllocError>
-    ensures { IfOk result (λ place. place ≡ repeat_place (map R.name_of rows.now)) }
+    ensures place { IfOk result (λ place. place ≡ repeat_place (map R.name_of rows.now)) }
+    ensures inside { IfOk result (λ place. IfSome place (λ i. i < length rows.now)) }
+    ensures once { IfOk result (λ place. IfNone place (IsDistinct same_name (map R.name_of rows.now))) }
 {
     let mut seen = BTreeSet::new(alloc);
     for (place, row) in rows.iter().enumerate() {
@@ -43,4 +59,12 @@ pub fn repeat_place<R: Named>(alloc: Global, rows: &[R]) -> Result<Option<usize>
         }
     }
     Ok(None)
+}
+
+impl<'a, R: Named> Named for &'a R {
+    ghost name_of = { λ row. R.name_of row.now };
+
+    fn name(&self) -> Name {
+        (**self).name()
+    }
 }

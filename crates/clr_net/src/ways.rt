@@ -3,6 +3,7 @@ ghost use Rattle.std.specs.Prelude.{◌≡◌, ◌<◌, ℕ, List, [], length, m
 ghost use Rattle.std.specs.List.Sorted.{IsStrictlySortedBy};
 ghost use Rattle.clr_net.specs.Name.{name_cmp};
 ghost use Rattle.clr_net.specs.Grid.{section_names, has_ends};
+ghost use Rattle.clr_net.specs.Ways.{IsIndexOf};
 ghost use Rattle.clr_net.specs.Index.{ends_in, AddsWay, AreBelow, IsAround};
 
 use crate::named::place_of;
@@ -25,7 +26,7 @@ pub struct Ends {
 }
 
 /// The places of each point's ends among sections in the order of their names.
-pub fn ends_of(alloc: Global, sections: &[SectionRow], points: &[PointRow]) -> Result<Vec<Ends>, AllocError>
+fn ends_of(alloc: Global, sections: &[SectionRow], points: &[PointRow]) -> Result<Vec<Ends>, AllocError>
     requires sorted { IsStrictlySortedBy name_cmp (section_names sections.now) }
     requires known { All (λ p. IsTrue (has_ends (section_names sections.now) p)) points.now }
     ensures { IfOk result (λ ends. ends.items ≡ map (ends_in (section_names sections.now)) points.now) }
@@ -40,7 +41,7 @@ pub fn ends_of(alloc: Global, sections: &[SectionRow], points: &[PointRow]) -> R
 }
 
 /// The ways out of each of `count` sections.
-pub fn ways_around(alloc: Global, count: usize, ends: &[Ends]) -> Result<Vec<Vec<Way>>, AllocError>
+fn ways_around(alloc: Global, count: usize, ends: &[Ends]) -> Result<Vec<Vec<Way>>, AllocError>
     requires { All (AreBelow count) ends.now }
     ensures len { IfOk result (λ around. vec_len around ≡ count) }
     ensures index { IfOk result (λ around. IsAround ends.now (length ends.now) (map (λ ways. ways.items) around.items)) }
@@ -83,4 +84,15 @@ pub struct Ways {
     pub ends: Vec<Ends>,
     /// The ways out of each section, by the section's place.
     pub around: Vec<Vec<Way>>,
+}
+
+/// The index of sections and points, each in the order of their names.
+pub fn index(alloc: Global, sections: &[SectionRow], points: &[PointRow]) -> Result<Ways, AllocError>
+    requires sorted { IsStrictlySortedBy name_cmp (section_names sections.now) }
+    requires known { All (λ p. IsTrue (has_ends (section_names sections.now) p)) points.now }
+    ensures { IfOk result (IsIndexOf (record { sections = sections.now; points = points.now })) }
+{
+    let ends = ends_of(alloc, sections, points)?;
+    let around = ways_around(alloc, sections.len(), &ends)?;
+    Ok(Ways { ends, around })
 }

@@ -2,7 +2,7 @@ use Rattle.std.proofs.Common.{refl}
 use Rattle.clr_net.specs.Grid.{section_names}
 use Rattle.clr_net.specs.Names.{has_name}
 use Rattle.std.proofs.lemmas.Bool.{and_parts}
-use Rattle.clr_net.proofs.IndexSteps.{place_of_name}
+use Rattle.clr_net.proofs.Places.{place_of_name}
 use Rattle.clr_net.proofs.ways.ends_of.Goals as goal
 
 pub unwrap-from-requires : goal.unwrap-from-requires

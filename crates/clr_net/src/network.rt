@@ -1,0 +1,167 @@
+ghost use Rattle.std.specs.Prelude.{◌≡◌, ◌<◌, ◌≤◌, ℕ, List, false, find, length, not, position, IfOk, OnOk, IsTrue, All};
+ghost use Rattle.std.specs.Option.{option_copied};
+ghost use Rattle.std.specs.List.{IsDistinct};
+ghost use Rattle.std.specs.List.Sorted.{IsPermutation, IsStrictlySortedBy};
+ghost use Rattle.clr_net.specs.Name.{name_cmp, same_name};
+ghost use Rattle.clr_net.specs.Grid.{Grid, IsNetwork, section_names, has_ends, has_one_section, point_names};
+ghost use Rattle.clr_net.specs.Network.{Builds, Passes, size_fault, twice_fault, end_fault};
+ghost use Rattle.clr_net.specs.Names.{has_name};
+ghost use Rattle.clr_net.specs.Fence.{fence_of};
+
+use crate::fence::Fence;
+use crate::name::Name;
+use crate::named::{place_of, repeat_place, row_of, sort_by_name};
+use crate::net_fault::NetFault;
+use crate::point::PointRow;
+use crate::section::SectionRow;
+use crate::ways::{Ways, index};
+use std::alloc::{AllocError, Global};
+use std::marker::Model;
+
+/// The most sections of a network.
+pub const MAX_SECTIONS: usize = 5000;
+
+/// The most switching points of a network.
+pub const MAX_POINTS: usize = 10000;
+
+/// An electric network: an undirected graph of sections, joined by switching points.
+#[derive(Debug, Drop)]
+pub struct Network {
+    sections: Vec<SectionRow>,
+    points: Vec<PointRow>,
+    ways: Ways,
+}
+
+impl Model for Network {
+    ghost use Rattle.clr_net.specs.Grid.{Grid, IsNetwork};
+    ghost use Rattle.clr_net.specs.Ways.{IsIndexOf};
+
+    ghost Value = { Grid };
+
+    ghost view = { λ n. record { sections = n.sections.items; points = n.points.items } };
+
+    ghost invariant = { λ n. IsNetwork (record { sections = n.sections.items; points = n.points.items }) × IsIndexOf (record { sections = n.sections.items; points = n.points.items }) n.ways };
+}
+
+impl Network {
+    /// The network of these rows, with the rows in the order of their names.
+    pub fn build(alloc: Global, mut sections: Vec<SectionRow>, mut points: Vec<PointRow>) -> Result<Network, NetFault>
+        ensures { Builds sections.items points.items result }
+    {
+        check_size(&sections, &points)?;
+        check_names(alloc, &sections, &points)?;
+        sort_by_name(&mut sections);
+        check_ends(&sections, &points)?;
+        sort_by_name(&mut points);
+        let ways = index(alloc, &sections, &points)?;
+        Ok(Network {
+            sections,
+            points,
+            ways,
+        })
+    }
+
+    /// The section of this name.
+    pub fn section(&self, name: &Name) -> Option<&SectionRow>
+        ensures { option_copied result ≡ find (λ row. same_name name.now row.name) self.now.sections }
+    {
+        row_of(&self.sections, *name)
+    }
+
+    /// The switching point of this name.
+    pub fn point(&self, name: &Name) -> Option<&PointRow>
+        ensures { option_copied result ≡ find (λ row. same_name name.now row.name) self.now.points }
+    {
+        row_of(&self.points, *name)
+    }
+
+    /// All sections, in the order of their names.
+    pub fn sections(&self) -> &[SectionRow]
+        ensures rows { result.now ≡ self.now.sections }
+        ensures network { IsNetwork self.now }
+    {
+        &self.sections
+    }
+
+    /// All switching points, in the order of their names, each with the position of its row.
+    pub fn points(&self) -> &[PointRow]
+        ensures rows { result.now ≡ self.now.points }
+        ensures network { IsNetwork self.now }
+    {
+        &self.points
+    }
+}
+
+/// The number of rows, as a stage of the checks.
+fn check_size(sections: &[SectionRow], points: &[PointRow]) -> Result<(), NetFault>
+    ensures passes { Passes (size_fault sections.now points.now) result }
+    ensures some { OnOk result (0 < length sections.now) }
+    ensures sections_fit { OnOk result (length sections.now ≤ 5000) }
+    ensures points_fit { OnOk result (length points.now ≤ 10000) }
+{
+    if sections.is_empty() {
+        return Err(NetFault::NoSections);
+    }
+    if sections.len() > MAX_SECTIONS || points.len() > MAX_POINTS {
+        return Err(NetFault::TooLarge);
+    }
+    Ok(())
+}
+
+/// The names that stand twice, as a stage of the checks.
+fn check_names(alloc: Global, sections: &[SectionRow], points: &[PointRow]) -> Result<(), NetFault>
+    ensures passes { Passes (twice_fault sections.now points.now) result }
+    ensures sections_once { OnOk result (IsDistinct same_name (section_names sections.now)) }
+    ensures points_once { OnOk result (IsDistinct same_name (point_names points.now)) }
+{
+    if let Some(place) = repeat_place(alloc, sections)? {
+        return Err(NetFault::SectionTwice(place + 1));
+    }
+    if let Some(place) = repeat_place(alloc, points)? {
+        return Err(NetFault::PointTwice(place + 1));
+    }
+    Ok(())
+}
+
+/// The ends of the points, as a stage of the checks; the sections stand in the order of their names.
+fn check_ends(sections: &[SectionRow], points: &[PointRow]) -> Result<(), NetFault>
+    requires { IsStrictlySortedBy name_cmp (section_names sections.now) }
+    ensures passes { Passes (end_fault (section_names sections.now) points.now) result }
+    ensures known { OnOk result (All (λ p. IsTrue (has_ends (section_names sections.now) p)) points.now) }
+    ensures differ { OnOk result (All (λ p. has_one_section p ≡ false) points.now) }
+{
+    if let Some(place) = unknown_end(sections, points) {
+        return Err(NetFault::UnknownEnd(place + 1));
+    }
+    if let Some(place) = same_ends(points) {
+        return Err(NetFault::SameEnds(place + 1));
+    }
+    Ok(())
+}
+
+/// The first place of a point with an end that is no section.
+fn unknown_end(sections: &[SectionRow], points: &[PointRow]) -> Option<usize>
+    requires { IsStrictlySortedBy name_cmp (section_names sections.now) }
+    ensures { result ≡ position (λ p. not (has_ends (section_names sections.now) p)) points.now }
+{
+    points
+        .iter()
+        .position(|point| !(has_section(sections, point.from_end) && has_section(sections, point.to_end)))
+}
+
+/// Whether there is a section of this name.
+fn has_section(sections: &[SectionRow], name: Name) -> bool
+    requires { IsStrictlySortedBy name_cmp (section_names sections.now) }
+    ensures { result ≡ has_name (section_names sections.now) name }
+{
+    place_of(sections, name).is_some()
+}
+
+/// The first place of a point whose ends are one section.
+fn same_ends(points: &[PointRow]) -> Option<usize>
+    ensures { result ≡ position has_one_section points.now }
+{
+    points
+        .iter()
+        .position(|point| point.from_end == point.to_end)
+}
