@@ -1,3 +1,5 @@
 pub mod Taken
 pub mod Records
 pub mod Readers
+pub mod RowLemmas
+pub mod FieldLemmas

@@ -1,6 +1,5 @@
 -- The records of a text: each read takes one, and they are all the records however many are asked for.
-use Rattle.std.proofs.Common.{◌≡◌, ◌≢◌, ℕ, zero, suc, ◌+◌, ◌<◌, ◌≤◌, ◌==◌, ◌&&◌, ◌||◌, Bool, true, false, if◌then◌else◌, List, [], ◌∷◌, ◌++◌, length, Option, Some, None, refl, sym, ap, ◌∙◌, subst, arith, add-suc}
-use Rattle.std.specs.Prelude.{IsUtf8}
+use Rattle.std.proofs.Common.{◌≡◌, ℕ, zero, suc, ◌+◌, ◌<◌, ◌≤◌, ◌==◌, ◌&&◌, ◌||◌, Bool, true, false, if◌then◌else◌, List, [], ◌∷◌, ◌++◌, length, Option, Some, None, refl, ap, subst, arith, add-suc}
 use Rattle.std.specs.Str.{is_utf8}
 use Rattle.std.proofs.lemmas.Str.{IsUtf8-from_is_utf8, is_utf8-from_IsUtf8}
 use Rattle.csv.specs.Machine.{Read, after_end, ends_at_end, field_after, fields_after, in_field, is_end, next_record, start_field, start_record, step}
@@ -64,7 +63,7 @@ next_record-leaves s fields field (c ∷ rest) p read =
   where
     by : (b : Bool) → is_end (step default_config s c).1 ≡ b
         → (if b then Some (fields_after (step default_config s c).1 fields field, (step default_config s c).0, rest)
-           else next_record default_config (step default_config s c).0 (fields_after (step default_config s c).1 fields field) (field_after (step default_config s c).1 c field) rest) ≡ Some p
+        else next_record default_config (step default_config s c).0 (fields_after (step default_config s c).1 fields field) (field_after (step default_config s c).1 c field) rest) ≡ Some p
         → (next_record default_config (step default_config s c).0 (fields_after (step default_config s c).1 fields field) (field_after (step default_config s c).1 c field) rest ≡ Some p → Leaves rest p)
         → Leaves (c ∷ rest) p
     by true ends e more = leaves-known (c ∷ rest) _ p e (record { between = step-between s c ends; shorter = omega arith })
@@ -79,7 +78,7 @@ next_record-shorter s (c ∷ rest) p between read = by (is_end (step default_con
   where
     by : (b : Bool)
         → (if b then Some (fields_after (step default_config s c).1 [] [], (step default_config s c).0, rest)
-           else next_record default_config (step default_config s c).0 (fields_after (step default_config s c).1 [] []) (field_after (step default_config s c).1 c []) rest) ≡ Some p
+        else next_record default_config (step default_config s c).0 (fields_after (step default_config s c).1 [] []) (field_after (step default_config s c).1 c []) rest) ≡ Some p
         → length p.2 < length (c ∷ rest)
     by true e = let same : rest ≡ p.2 = cc in omega (arith, ap length same)
     by false e = omega (arith, (next_record-leaves (step default_config s c).0 _ _ rest p e).shorter)
@@ -94,7 +93,7 @@ records_from-enough (suc n) (suc m) s xs between big bigger = by (next_record de
   where
     by : (o : Option Read) → next_record default_config s [] [] xs ≡ o
         → ((s2 : State) (ys : List ℕ) → ends_at_end s2 ≡ false → length ys < n → length ys < m
-            → records_from default_config n s2 ys ≡ records_from default_config m s2 ys)
+        → records_from default_config n s2 ys ≡ records_from default_config m s2 ys)
         → records_next (records_from default_config n) o ≡ records_next (records_from default_config m) o
     by None e more = refl
     by (Some p) e more =

@@ -1,5 +1,5 @@
 -- The known bytes of a reader, taken piece by piece.
-use Rattle.std.proofs.Common.{◌≡◌, ◌++◌, ℕ, List, Option, Some, None, append_assoc}
+use Rattle.std.proofs.Common.{◌++◌, ℕ, List, Option, Some, None, append_assoc}
 use Rattle.std.specs.Io.KnownBytes.{Consumes}
 
 -- what two calls took, one after the other

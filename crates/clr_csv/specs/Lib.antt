@@ -4,3 +4,7 @@ pub mod Answers
 pub mod Whole
 pub mod Rows
 pub mod Table
+pub mod Columns
+pub mod Sections
+pub mod Points
+pub mod Staff

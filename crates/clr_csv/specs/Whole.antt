@@ -1,5 +1,5 @@
 -- The bytes of a file, read whole.
-use Rattle.std.specs.Prelude.{◌≡◌, ℕ, ◌≤◌, nat_le, if◌then◌else◌, List, length, Option, Result, Ok, Err}
+use Rattle.std.specs.Prelude.{ℕ, ◌≤◌, nat_le, if◌then◌else◌, List, length, Option, Result, Ok, Err}
 use Rattle.std.specs.Io.KnownBytes.{Consumes}
 use Rattle.clr_csv.specs.declared.whole.TheConstants.{MAX_FILE_BYTES}
 use Rattle.clr_csv.specs.declared.fault.CsvFault.{CsvFault}

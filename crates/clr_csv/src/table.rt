@@ -40,7 +40,11 @@ impl<'a> Table<'a> {
     }
 
     /// Reads the next record, and whether there is one. One that is not UTF-8 is the fault `not_text`.
-    pub(crate) fn next(&mut self, fields: &mut StringRecord, not_text: CsvFault) -> Result<bool, CsvFault>
+    pub(crate) fn next(
+        &mut self,
+        fields: &mut StringRecord,
+        not_text: CsvFault,
+    ) -> Result<bool, CsvFault>
         ensures { TakesRecord self.old self.new not_text (fields_of fields.new) result }
     {
         match self.reader.read_record(fields) {

@@ -16,6 +16,8 @@ returns-in-Ok c =
 
 pub returns-in-Utf8 : goal.returns-in-Utf8
 returns-in-Utf8 c = λ want.
-    let e = c.in-Err.ensures in
-    (refl, begins-without_text c.self.inside.reader c.read_record.new.self c.args.self.now c.in-Utf8.pos c.in-Utf8.err
-    c.self.view_is c.self.invariant (λ failed. cc (e.failed failed)) (rw (sym c.kind.ensures ∙ c.in-Utf8.is) at e.why))
+    let e = c.in-Err.ensures in (
+      refl,
+      begins-without_text c.self.inside.reader c.read_record.new.self c.args.self.now c.in-Utf8.pos c.in-Utf8.err
+          c.self.view_is c.self.invariant (λ failed. cc (e.failed failed)) (rw (sym c.kind.ensures ∙ c.in-Utf8.is) at e.why),
+    )
