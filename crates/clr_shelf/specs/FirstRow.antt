@@ -35,18 +35,18 @@ module _ {Key Row : Type 0} (compare : Key → Key → Ordering) (key_of : Row �
       → filter (λ next. is_lt (compare (key_of next) key)) rows ≡ []
   none_lower key rows above =
       let below = λ (next : Row). is_lt (compare (key_of next) key) in
-      filter-none below below rows (list_all-weaker (λ next. is_gt (compare (key_of next) key)) (λ next. not (below next))
+      filter-none below rows (list_all-weaker (λ next. is_gt (compare (key_of next) key)) (λ next. not (below next))
       (λ next h. rw (greater (compare (key_of next) key) h) refl) rows above)
 
   all_higher : (key : Key) (rows : List Row) → list_all (λ next. is_gt (compare (key_of next) key)) rows ≡ true
       → filter (λ next. is_gt (compare (key_of next) key)) rows ≡ rows
-  all_higher key rows above = let higher = λ (next : Row). is_gt (compare (key_of next) key) in filter-same higher higher rows above
+  all_higher key rows above = let higher = λ (next : Row). is_gt (compare (key_of next) key) in filter-same higher rows above
 
   all_differ : (key : Key) (rows : List Row) → list_all (λ next. is_gt (compare (key_of next) key)) rows ≡ true
       → filter (λ next. not (is_eq (compare (key_of next) key))) rows ≡ rows
   all_differ key rows above =
       let differs = λ (next : Row). not (is_eq (compare (key_of next) key)) in
-      filter-same differs differs rows (list_all-weaker (λ next. is_gt (compare (key_of next) key)) differs
+      filter-same differs rows (list_all-weaker (λ next. is_gt (compare (key_of next) key)) differs
       (λ next h. rw (greater (compare (key_of next) key) h) refl) rows above)
 
   -- a row is put after one of a lower key, over the one of its key, and before one of a higher key

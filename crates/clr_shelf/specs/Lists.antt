@@ -23,23 +23,10 @@ module _ {X : Type 0} (p q : X → Bool) where
   list_all-filter [] h = refl
   list_all-filter (x ∷ xs) h = grind (arith, common_steps, list_all-filter xs)
 
-  -- a filter that keeps what a narrower one keeps, and drops nothing of it
+  -- a filter after a wider one
   pub filter-filter_wider : ((x : X) → p x ≡ true → q x ≡ true) → (xs : List X) → filter p (filter q xs) ≡ filter p xs
   filter-filter_wider wider [] = refl
   filter-filter_wider wider (x ∷ xs) = grind (arith, wider x, filter-filter_wider wider xs)
-
-  pub filter-filter_apart : ((x : X) → p x ≡ true → q x ≡ false) → (xs : List X) → filter p (filter q xs) ≡ []
-  filter-filter_apart apart [] = refl
-  filter-filter_apart apart (x ∷ xs) = grind (arith, apart x, filter-filter_apart apart xs)
-
-  -- tests that agree where the list has elements
-  pub filter-same : (xs : List X) → list_all p xs ≡ true → filter p xs ≡ xs
-  filter-same [] h = refl
-  filter-same (x ∷ xs) h = grind (arith, common_steps, filter-same xs)
-
-  pub filter-none : (xs : List X) → list_all (λ x. not (p x)) xs ≡ true → filter p xs ≡ []
-  filter-none [] h = refl
-  filter-none (x ∷ xs) h = grind (arith, common_steps, filter-none xs)
 
   pub list_all-weaker : ((x : X) → p x ≡ true → q x ≡ true) → (xs : List X) → list_all p xs ≡ true → list_all q xs ≡ true
   list_all-weaker weaker [] h = refl
@@ -50,15 +37,20 @@ module _ {X : Type 0} (p q : X → Bool) where
   list_all-filtered implied [] = refl
   list_all-filtered implied (x ∷ xs) = grind (arith, common_steps, implied x, list_all-filtered implied xs)
 
+module _ {X : Type 0} (p : X → Bool) where
+  -- a filter that each element passes, and one that none does
+  pub filter-same : (xs : List X) → list_all p xs ≡ true → filter p xs ≡ xs
+  filter-same [] h = refl
+  filter-same (x ∷ xs) h = grind (arith, common_steps, filter-same xs)
+
+  pub filter-none : (xs : List X) → list_all (λ x. not (p x)) xs ≡ true → filter p xs ≡ []
+  filter-none [] h = refl
+  filter-none (x ∷ xs) h = grind (arith, common_steps, filter-none xs)
+
   -- a search that finds nothing
   pub list_all-from_none : (xs : List X) → find p xs ≡ None → list_all (λ x. not (p x)) xs ≡ true
   list_all-from_none [] h = refl
   list_all-from_none (x ∷ xs) h = grind (arith, common_steps, list_all-from_none xs)
-
-  -- a search in what a filter that excludes nothing of it keeps
-  pub filter-apart : ((x : X) → p x ≡ true → q x ≡ false) → (xs : List X) → filter q (filter p xs) ≡ []
-  filter-apart apart [] = refl
-  filter-apart apart (x ∷ xs) = grind (arith, apart x, filter-apart apart xs)
 
 module _ {X : Type 0} where
   -- what an element of a longer list is

@@ -106,4 +106,4 @@ module _ {Key Row : Type 0} (compare : Key → Key → Ordering) (key_of : Row �
   unfolding row_of without_row
   without_row-missing key rows none =
       let found = λ (row : Row). is_eq (compare (key_of row) key) in
-      filter-same (λ row. not (found row)) (λ row. not (found row)) rows (list_all-from_none found found rows none)
+      filter-same (λ row. not (found row)) rows (list_all-from_none found rows none)
