@@ -30,7 +30,7 @@ start_field-between : (c : ℕ) → EndsBetween (start_field default_config c)
 start_field-between c = if-between (c == 34) _ _ (λ e. cc e) (in_field-between c)
 
 start_record-between : (c : ℕ) → EndsBetween (start_record default_config c)
-start_record-between c = if-between ((c == 13) || (c == 10)) _ _ (λ e. cc e) (start_field-between c)
+start_record-between c = if-between ((c == 13) || (c == 10)) _ _ (λ e. cc) (start_field-between c)
 
 step-between : (s : State) (c : ℕ) → EndsBetween (step default_config s c)
 step-between st.StartRecord c = start_record-between c
@@ -39,8 +39,8 @@ step-between st.InField c = in_field-between c
 step-between st.InQuoted c = if-between (c == 34) _ _ (λ e. cc e) (λ e. cc e)
 step-between st.InEscape c = λ e. cc e
 step-between st.AfterQuote c = if-between (c == 34) _ _ (λ e. cc e) (in_field-between c)
-step-between st.InComment c = if-between (c == 10) _ _ (λ e. cc e) (λ e. cc e)
-step-between st.AfterCr c = if-between (c == 10) _ _ (λ e. cc e) (start_record-between c)
+step-between st.InComment c = if-between (c == 10) _ _ (λ e. cc) (λ e. cc)
+step-between st.AfterCr c = if-between (c == 10) _ _ (λ e. cc) (start_record-between c)
 
 -- a record that was read leaves a state between two records, and no more bytes than there were
 pub record Leaves (xs : List ℕ) (p : Read) : Type 0 where
@@ -112,7 +112,7 @@ unfolding records_at records_from
 records_at-more s xs p e =
     let leaves = next_record-leaves s [] [] xs p e in
     let more = records_from-enough (length xs + 1) (length p.2 + 2) p.1 p.2 leaves.between (omega (arith, leaves.shorter)) (omega arith) in
-    rw (add-suc, e) (ap (λ (rows : List Fields). p.0 ∷ rows) more)
+    rw (add-suc (length xs) 1, e) (ap (λ (rows : List Fields). p.0 ∷ rows) more)
 
 -- none is left where the next read finds none
 pub records_at-none : (s : State) (xs : List ℕ) → next_record default_config s [] [] xs ≡ None → records_at s (Some xs) ≡ []
