@@ -19,7 +19,7 @@ abbrev pub fault_in : ℕ → ColumnFault → CsvFault
 fault_in row (column.BadName place) = BadName row place
 fault_in row (column.BadWord place) = BadWord row place
 
--- the text of a column. A row has as many columns as its header, so none is missing where this is asked
+-- the text of a column, counted from 1. A row has as many columns as its header, so none is missing where this is asked
 abbrev pub field_in : ℕ → List (List ℕ) → List ℕ
 field_in place fields = unwrap_or (field_at fields (place - 1)) []
 
