@@ -4,3 +4,7 @@ pub mod SearchSteps
 pub mod IndexSteps
 pub mod ListFacts
 pub mod BuildFacts
+pub mod Walks
+pub mod FencePlaces
+pub mod KeptFacts
+pub mod CutMarks

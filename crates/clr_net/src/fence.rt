@@ -38,6 +38,19 @@ impl<'a> Model for Fence<'a> {
 }
 
 impl<'a> Fence<'a> {
+    /// The fence of the rows that are marked, which stand in the order of their names.
+    pub(crate) fn of_marked(alloc: Global, sections: &'a [SectionRow], inside: &[bool], points: &'a [PointRow], touching: &[bool]) -> Result<Self, AllocError>
+        requires sections_rise { IsStrictlySortedBy name_cmp (section_names sections.now) }
+        requires points_rise { IsStrictlySortedBy name_cmp (point_names points.now) }
+        requires sections_marked { length inside.now ≡ length sections.now }
+        requires points_marked { length touching.now ≡ length points.now }
+        ensures { IfOk result (λ fence. fence ≡ record { sections = kept inside.now sections.now; touching = kept touching.now points.now }) }
+    {
+        let sections = kept_rows(alloc, sections, inside)?;
+        let touching = kept_rows(alloc, points, touching)?;
+        Ok(Fence { sections, touching })
+    }
+
     /// The sections inside, in the order of their names.
     pub fn sections(&self) -> &[&'a SectionRow]
         ensures rows { map (λ row. row.now) result.now ≡ self.now.sections }
@@ -67,4 +80,18 @@ impl<'a> Fence<'a> {
     {
         u8::from(self.has(&point.from_end)) + u8::from(self.has(&point.to_end))
     }
+}
+
+/// The rows that are marked.
+fn kept_rows<'a, R>(alloc: Global, rows: &'a [R], marks: &[bool]) -> Result<Vec<&'a R>, AllocError>
+    requires { length marks.now ≡ length rows.now }
+    ensures { IfOk result (λ found. map (λ row. row.now) found.items ≡ kept marks.now rows.now) }
+{
+    let mut found = Vec::new(alloc);
+    for (place, row) in rows.iter().enumerate() {
+        if marks[place] {
+            found.push(row)?;
+        }
+    }
+    Ok(found)
 }

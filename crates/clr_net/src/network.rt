@@ -13,6 +13,7 @@ use crate::name::Name;
 use crate::named::{place_of, repeat_place, row_of, sort_by_name};
 use crate::net_fault::NetFault;
 use crate::point::PointRow;
+use crate::reach::{mark_fence, mark_touching};
 use crate::section::SectionRow;
 use crate::ways::{Ways, index};
 use std::alloc::{AllocError, Global};
@@ -89,6 +90,18 @@ impl Network {
         ensures network { IsNetwork self.now }
     {
         &self.points
+    }
+
+    /// The fence of a section, cut at these points: what can be reached from it over the other points, whatever their
+    /// positions. A name that is no point cuts nothing; a section that the network does not have has an empty fence.
+    pub fn fence(&self, work: &Name, cut: &[Name]) -> Result<Fence<'_>, AllocError>
+        ensures { IfOk result (λ fence. fence ≡ fence_of self.now work.now cut.now) }
+    {
+        let alloc = *self.sections.allocator();
+        let inside = mark_fence(alloc, &self.sections, &self.points, &self.ways, *work, cut)?;
+        let touching = mark_touching(alloc, &self.ways.ends, &inside)?;
+        let fence = Fence::of_marked(alloc, &self.sections, &inside, &self.points, &touching)?;
+        Ok(fence)
     }
 }
 
