@@ -1,5 +1,5 @@
 -- The marks of the points that are not cut, one cut after the other.
-use Rattle.std.proofs.Common.{◌≡◌, ◌∙◌, ℕ, ◌+◌, ◌<◌, ◌⊎◌, inl, inr, ◌||◌, Bool, true, false, not, Some, None, List, [], length, get_or, set, take, position, refl, sym, ap, arith}
+use Rattle.std.proofs.Common.{◌≡◌, ◌∙◌, ℕ, ◌+◌, ◌<◌, inl, inr, ◌||◌, Bool, true, false, not, Some, None, List, [], length, get_or, set, take, position, refl, sym, ap, arith}
 use Rattle.std.specs.Prelude.{is_some}
 use Rattle.std.specs.List.Sorted.{IsStrictlySortedBy}
 use Rattle.std.proofs.Math.Bool.{or-false, or-true}
@@ -12,7 +12,7 @@ use Rattle.std.proofs.lemmas.Option.{same_Some}
 use Rattle.clr_net.specs.Name.{name_cmp, same_name}
 use Rattle.clr_net.specs.Names.{has_name}
 use Rattle.clr_net.specs.Index.{place_in}
-use Rattle.clr_net.specs.Search.{MarksUncut, is_marked}
+use Rattle.clr_net.specs.Search.{MarksUncut}
 use Rattle.clr_net.proofs.FencePlaces.{place_at}
 use Rattle.clr_net.proofs.Places.{all_fail, is_some-position, place_of_name}
 use Rattle.clr_net.proofs.Walks.{one_name}

@@ -1,7 +1,6 @@
 -- The search over places finds the fence of the names.
-use Rattle.std.proofs.Common.{◌≡◌, ◌∙◌, ℕ, zero, suc, ◌<◌, ◌⊎◌, inl, inr, ◌&&◌, ◌||◌, Bool, true, false, not, Some, Vec, Global, List, [], ◌∷◌, length, get_or, map, filter, position, refl, sym, ap, arith}
+use Rattle.std.proofs.Common.{◌≡◌, ◌∙◌, ℕ, zero, suc, ◌<◌, inl, inr, ◌&&◌, ◌||◌, Bool, true, false, not, Some, Vec, Global, List, [], ◌∷◌, length, get_or, map, filter, position, refl, sym, ap, arith}
 use Rattle.std.specs.Prelude.{All, Contains, IsTrue, is_some}
-use Rattle.std.specs.List.{position_or_len}
 use Rattle.std.specs.List.Sorted.{IsStrictlySortedBy}
 use Rattle.std.specs.declared.cmp.Ordering.TheVariants.{Less}
 use Rattle.std.proofs.lemmas.Bool.{and_from, and_left, and_parts, not-true, not_from_false, or_cases, or_left, or_right}
@@ -16,11 +15,11 @@ use Rattle.clr_net.specs.Names.{has_name}
 use Rattle.clr_net.specs.Grid.{Grid, IsNetwork, has_ends, point_names, section_names}
 use Rattle.clr_net.specs.Walk.{Walk, joins}
 use Rattle.clr_net.specs.Walk.Walk.{goes_on, stays}
-use Rattle.clr_net.specs.Fence.{FenceRows, fence_of, in_fence}
+use Rattle.clr_net.specs.Fence.{fence_of, in_fence}
 use Rattle.clr_net.specs.Kept.{kept}
 use Rattle.clr_net.proofs.IndexSteps.{ends_below}
 use Rattle.clr_net.proofs.KeptFacts.{kept_is_filter}
-use Rattle.clr_net.specs.Index.{AreBelow, PlaceWalk, WaysFit, ends_at, ends_in, place_in, way, ways_at}
+use Rattle.clr_net.specs.Index.{AreBelow, PlaceWalk, WaysFit, ends_at, ends_in, place_in, way}
 use Rattle.clr_net.specs.Index.PlaceWalk.{begins, follows}
 use Rattle.clr_net.specs.Search.{Marks, MarksFence, is_marked, touches}
 use Rattle.clr_net.specs.Ways.{IsIndexOf, around_of}

@@ -21,7 +21,7 @@ use Rattle.std.proofs.lemmas.List.{get_or-map, get_or-take, get_or_default, leng
 use Rattle.std.proofs.lemmas.List.Sums.{position_or_len_is}
 use Rattle.std.proofs.lemmas.List.Sorted.{searchable_from_sorted}
 use Rattle.std.proofs.lemmas.List.FromFn.{get_or-range_with_len, length-range_with_len}
-use Rattle.std.proofs.lemmas.List.Folds.{list_any_at, list_any_more}
+use Rattle.std.proofs.lemmas.List.Folds.{list_any_at, list_any_more, list_any_none}
 use Rattle.std.specs.BTreeSet.{BTreeSet, Updates, contains}
 use Rattle.std.proofs.lemmas.Map.Keys.{IsDistinct-from_apart, Less-from_sorted, apart_from_distinct, sorted_from_all_adjacent}
 use Rattle.clr_net.specs.Name.{same_name, name_cmp}
@@ -227,3 +227,27 @@ pub all_fail : {X : Type 0} (p : X → Bool) (xs : List X) → position p xs ≡
 all_fail p xs none k d inside =
     let fails : list_any p xs ≡ false = sym (is_some-position p xs) ∙ ap is_some none in
     false_from_ne_true _ (λ e. both_ways _ fails (list_any_at p xs k d inside e))
+
+-- among distinct names none is a repeat
+unrepeated_from_distinct : (names : List (List ℕ)) → IsDistinct same_name names → (k : ℕ) → k < length names → is_repeat names k ≡ false
+unrepeated_from_distinct names once k inside = list_any_none (same_name (get_or names k [])) (take k names) apart
+  where
+    apart : (i : ℕ) (d : List ℕ) → i < length (take k names) → same_name (get_or names k []) (get_or (take k names) i d) ≡ false
+    apart i d lower =
+      let size = length-take-le k names (omega arith) in
+      rw (get_or-take k names i d (omega arith), get_or_default names i d [] (omega arith))
+      (nat_list_eq_equiv.symm (get_or names k []) (get_or names i []) ∙ apart_from_distinct same_name names i k [] once (omega arith) inside)
+
+-- so no place is a repeat
+pub no_repeat : (names : List (List ℕ)) → IsDistinct same_name names → repeat_place names ≡ None
+no_repeat names once = sym (repeat_none names (unrepeated_from_distinct names once))
+
+-- names that rise are distinct
+pub distinct_from_rising : (names : List (List ℕ)) → IsStrictlySortedBy name_cmp names → IsDistinct same_name names
+distinct_from_rising names rises = IsDistinct-from_apart same_name names
+    (λ i j d before inside. texts_ties (get_or names i d) (get_or names j d) ∙ ap is_eq (Less-from_sorted name_cmp names i j d rises before inside))
+
+-- where each element fails, no place is found
+pub all_none : {X : Type 0} (p : X → Bool) (xs : List X) → All (λ x. p x ≡ false) xs → position p xs ≡ None
+all_none p [] fails = refl
+all_none p (x ∷ xs) fails = position_none p (x ∷ xs) x (λ k inside. fails k x inside)

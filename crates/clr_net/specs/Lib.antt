@@ -9,3 +9,4 @@ pub mod Index
 pub mod Search
 pub mod Ways
 pub mod Kept
+pub mod Laws

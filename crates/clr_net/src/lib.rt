@@ -2,6 +2,8 @@
 #![tactic(auto)]
 
 mod fence;
+
+mod laws;
 mod name;
 mod named;
 mod net_fault;

@@ -1,4 +1,4 @@
-use Rattle.std.proofs.Common.{◌≡◌, ◌∙◌, arith, sym, ap, false, rules}
+use Rattle.std.proofs.Common.{◌∙◌, arith, sym, ap, rules}
 use Rattle.std.proofs.lemmas.List.{length-map}
 use Rattle.clr_net.specs.Grid.{Grid, section_names}
 use Rattle.clr_net.specs.declared.point.PointRow.{PointRow}

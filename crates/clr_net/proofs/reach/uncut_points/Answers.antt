@@ -1,4 +1,4 @@
-use Rattle.std.proofs.Common.{◌≡◌, ◌∙◌, arith, false, sym, length}
+use Rattle.std.proofs.Common.{◌∙◌, arith, false, sym}
 use Rattle.std.proofs.lemmas.List.{length-map, length-set}
 use Rattle.clr_net.specs.Grid.{point_names}
 use Rattle.clr_net.specs.declared.point.PointRow.{PointRow}

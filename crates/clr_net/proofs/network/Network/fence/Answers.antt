@@ -1,7 +1,5 @@
 use Rattle.std.proofs.Common.{◌≡◌, ◌∙◌, arith, length}
-use Rattle.std.specs.Prelude.{All}
 use Rattle.clr_net.specs.Grid.{Grid}
-use Rattle.clr_net.specs.Index.{AreBelow}
 use Rattle.clr_net.proofs.FencePlaces.{ends_fit, kept_fence}
 use Rattle.clr_net.proofs.network.Network.fence.Goals as goal
 

@@ -1,0 +1,26 @@
+//! Laws of the definitions: the contract of each function is the law, and its body is empty.
+ghost use Rattle.clr_net.specs.Laws.{FenceIsClosed, FenceIsLeast, FenceIsWalks, NetworksHaveNoFault};
+
+/// A section is in the fence exactly where a walk from the work section leads to it over points that are not cut.
+pub fn fence_is_walks()
+    ensures { FenceIsWalks }
+{
+}
+
+/// The fence has the work section, and no point leaves it but those that are cut.
+pub fn fence_is_closed()
+    ensures { FenceIsClosed }
+{
+}
+
+/// The fence is the least set that has the work section and that no point leaves but those that are cut.
+pub fn fence_is_least()
+    ensures { FenceIsLeast }
+{
+}
+
+/// Rows of which there is a network have no fault, so that a build of them answers it.
+pub fn networks_have_no_fault()
+    ensures { NetworksHaveNoFault }
+{
+}
