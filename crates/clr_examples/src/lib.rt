@@ -1,0 +1,7 @@
+//! Worked examples across the libraries, each named after its title in docs/EXAMPLES.md. There are only tests here.
+#![tactic(auto)]
+
+#[cfg(test)]
+mod fences;
+#[cfg(test)]
+mod worked;

@@ -1,0 +1,116 @@
+//! The networks of the worked examples.
+use clr_net::{Name, NetFault, Network, PointRow, Position, SectionRow};
+use std::alloc::Global;
+use std::test::Fail;
+
+/// The network of the files in examples/.
+pub fn worked_network(alloc: Global) -> Result<Network, Fail> {
+    let mut sections = Vec::new(alloc);
+    for (name, source) in [
+        ("G", true),
+        ("L1", false),
+        ("L2", false),
+        ("L3", false),
+        ("H", true),
+    ] {
+        let name = Name::read(name)?;
+        sections.push(SectionRow { name, source })?;
+    }
+    let mut points = Vec::new(alloc);
+    for (name, from_end, to_end, lockable, remote, position) in [
+        ("S1", "G", "L1", true, false, Position::Closed),
+        ("S2", "L1", "L2", true, false, Position::Closed),
+        ("S3", "L2", "L3", true, false, Position::Closed),
+        ("S4", "L3", "H", true, true, Position::Closed),
+        ("T1", "L1", "L3", false, false, Position::Opened),
+    ] {
+        points.push(PointRow {
+            name: Name::read(name)?,
+            from_end: Name::read(from_end)?,
+            to_end: Name::read(to_end)?,
+            lockable,
+            remote,
+            position,
+        })?;
+    }
+    Ok(Network::build(alloc, sections, points)?)
+}
+
+/// The network of the one section A, without points.
+pub fn single_section(alloc: Global) -> Result<Network, Fail> {
+    let mut sections = Vec::new(alloc);
+    sections.push(SectionRow {
+        name: Name::read("A")?,
+        source: false,
+    })?;
+    Ok(Network::build(alloc, sections, Vec::new(alloc))?)
+}
+
+/// The chain of the sections C0001, C0002 and on, each joined to the next: C0001 and C0002 by P0001.
+pub fn chain(alloc: Global, count: u16) -> Result<Result<Network, NetFault>, Fail> {
+    let mut sections = Vec::new(alloc);
+    let mut points = Vec::new(alloc);
+    for number in 0..count {
+        let name = chain_name(alloc, 'C', number)?;
+        sections.push(SectionRow {
+            name,
+            source: false,
+        })?;
+        if 0 < number {
+            points.push(PointRow {
+                name: chain_name(alloc, 'P', number - 1)?,
+                from_end: chain_name(alloc, 'C', number - 1)?,
+                to_end: name,
+                lockable: true,
+                remote: false,
+                position: Position::Closed,
+            })?;
+        }
+    }
+    Ok(Network::build(alloc, sections, points))
+}
+
+/// The name of a section or point of a chain, whose places count from 0.
+fn chain_name(alloc: Global, letter: char, place: u16) -> Result<Name, Fail> {
+    let number = u32::from(place) + 1;
+    let text = format!(in alloc; "{letter}{number:04}")?;
+    Ok(Name::read(text.as_str())?)
+}
+
+/// Names, read from texts.
+pub fn names(alloc: Global, texts: &[&str]) -> Result<Vec<Name>, Fail> {
+    let mut names = Vec::new(alloc);
+    for text in texts {
+        names.push(Name::read(text)?)?;
+    }
+    Ok(names)
+}
+
+/// The names of the sections in a fence, with a blank before each.
+pub fn fence_names(
+    alloc: Global,
+    network: &Network,
+    work: &str,
+    cut: &[&str],
+) -> Result<String, Fail> {
+    let cut = names(alloc, cut)?;
+    let fence = network.fence(&Name::read(work)?, cut.as_slice())?;
+    let mut text = String::new(alloc);
+    for section in fence.sections() {
+        text.push_str(" ")?;
+        text.push_str(section.name.as_str())?;
+    }
+    Ok(text)
+}
+
+/// How many sections are in a fence.
+pub fn fence_len(
+    alloc: Global,
+    network: &Network,
+    work: &str,
+    cut: &[&str],
+) -> Result<usize, Fail> {
+    let cut = names(alloc, cut)?;
+    let fence = network.fence(&Name::read(work)?, cut.as_slice())?;
+    Ok(fence.sections().len())
+}

@@ -1,0 +1,3 @@
+pub mod FileFaults
+pub mod Found
+pub mod PointsNamed

@@ -1,0 +1,5 @@
+pub mod Fault
+pub mod Fence
+pub mod Lines
+pub mod Outcome
+pub mod Syntax

@@ -1,0 +1,24 @@
+-- The command line: its subcommands, and the arguments of each.
+use Rattle.std.specs.Prelude.{codes, true, Some, List, ℕ}
+use Rattle.clap.specs.Words.{App, Rule, new_app, new_rule, with_rule, with_subcommand}
+use Rattle.clap.specs.declared.builder.action.ArgAction.TheVariants.{Append}
+
+-- an argument that has to be given, by its place
+abbrev pub required_rule : List ℕ → Rule
+required_rule id = record (new_rule id) { required = true }
+
+-- an argument that may be given any number of times, by its place
+abbrev pub repeated_rule : List ℕ → Rule
+repeated_rule id = record (new_rule id) { action = Some Append }
+
+-- the arguments of the two files of a network
+abbrev pub with_files : App → App
+with_files app = with_rule (with_rule app (required_rule (codes "SECTIONS"))) (required_rule (codes "POINTS"))
+
+-- `fence SECTIONS POINTS WORK [CUT]...`
+abbrev pub fence : App
+fence = with_rule (with_rule (with_files (new_app (codes "fence"))) (required_rule (codes "WORK"))) (repeated_rule (codes "CUT"))
+
+-- the program with its subcommands
+abbrev pub gridclear : App
+gridclear = with_subcommand (new_app (codes "gridclear")) fence.top

@@ -1,0 +1,188 @@
+//! Whole command lines, over files of their own and writers in memory.
+use super::command_line;
+use std::env::Env;
+use std::io::Write;
+use std::rt::Files;
+use std::test::Fail;
+use std::{env, fs, io, process};
+
+const SECTIONS: &str = "section,source\nG,yes\nL1,no\nL2,no\nL3,no\nH,yes\n";
+
+const POINTS: &str = "point,from,to,lockable,remote,position\n\
+    S1,G,L1,yes,no,closed\n\
+    S2,L1,L2,yes,no,closed\n\
+    S3,L2,L3,yes,no,closed\n\
+    S4,L3,H,yes,yes,closed\n\
+    T1,L1,L3,no,no,open\n";
+
+/// The paths of a sections and a points file.
+#[derive(Drop)]
+struct Tables {
+    sections: String,
+    points: String,
+}
+
+/// What a command line gave.
+#[derive(Drop)]
+struct Run {
+    status: u8,
+    output: String,
+    errors: String,
+}
+
+/// Paths in the temporary folder that no other process uses.
+fn new_tables<R: Env + AllocGlobal>(rt: &R, id: u32) -> Result<Tables, Fail> {
+    let folder = env::temp_dir(rt)?;
+    let folder = folder.as_str();
+    Ok(Tables {
+        sections: format!(in rt.alloc(); "{folder}/gridclear-{id}-sections.csv")?,
+        points: format!(in rt.alloc(); "{folder}/gridclear-{id}-points.csv")?,
+    })
+}
+
+fn write_tables<R: Files + AllocGlobal>(
+    rt: &R,
+    tables: &Tables,
+    sections: &str,
+    points: &str,
+) -> io::Result<()> {
+    fs::write(rt, tables.sections.as_str(), sections)?;
+    fs::write(rt, tables.points.as_str(), points)
+}
+
+fn remove_tables<R: Files>(rt: &R, tables: &Tables) -> io::Result<()> {
+    fs::remove_file(rt, tables.sections.as_str())?;
+    fs::remove_file(rt, tables.points.as_str())
+}
+
+fn run_words<R: Files + AllocGlobal>(rt: &R, words: &[&str]) -> Result<Run, Fail> {
+    let mut output = Vec::new(rt.alloc());
+    let mut errors = Vec::new(rt.alloc());
+    let status = command_line(rt, words, &mut io::empty(), &mut output, &mut errors);
+    Ok(Run {
+        status,
+        output: String::from_utf8(output)?,
+        errors: String::from_utf8(errors)?,
+    })
+}
+
+/// Runs `fence` over these files with further words.
+fn run_fence<R: Files + AllocGlobal>(rt: &R, tables: &Tables, more: &[&str]) -> Result<Run, Fail> {
+    let mut words = Vec::new(rt.alloc());
+    words.push("gridclear")?;
+    words.push("fence")?;
+    words.push(tables.sections.as_str())?;
+    words.push(tables.points.as_str())?;
+    for word in more {
+        words.push(*word)?;
+    }
+    run_words(rt, words.as_slice())
+}
+
+#[test]
+fn fence_between_two_cuts_and_open_tie(rt: HostRuntime) -> Result<(), Fail> {
+    let tables = new_tables(&rt, process::id(rt.process()))?;
+    write_tables(&rt, &tables, SECTIONS, POINTS)?;
+    let between = run_fence(&rt, &tables, &["L2", "S2", "S3"])?;
+    assert_eq!(rt; between.status, 0);
+    assert_eq!(rt; between.output.as_str(), "L2\n");
+    assert_eq!(rt; between.errors.as_str(), "");
+    let tied = run_fence(&rt, &tables, &["L1", "S1", "S2"])?;
+    assert_eq!(rt; tied.status, 0);
+    assert_eq!(rt; tied.output.as_str(), "H\nL1\nL2\nL3\n");
+    remove_tables(&rt, &tables)?;
+    Ok(())
+}
+
+#[test]
+fn one_section_without_points(rt: HostRuntime) -> Result<(), Fail> {
+    let tables = new_tables(&rt, process::id(rt.process()))?;
+    let header = "point,from,to,lockable,remote,position\n";
+    write_tables(&rt, &tables, "section,source\nA,no\n", header)?;
+    let single = run_fence(&rt, &tables, &["A"])?;
+    assert_eq!(rt; single.status, 0);
+    assert_eq!(rt; single.output.as_str(), "A\n");
+    remove_tables(&rt, &tables)?;
+    Ok(())
+}
+
+#[test]
+fn faults_and_their_lines(rt: HostRuntime) -> Result<(), Fail> {
+    let tables = new_tables(&rt, process::id(rt.process()))?;
+    let missing = run_fence(&rt, &tables, &["L2"])?;
+    assert_eq!(rt; missing.status, 1);
+    assert_eq!(rt; missing.errors.as_str(), "fault: sections ReadFailed\n");
+    fs::write(&rt, tables.sections.as_str(), SECTIONS)?;
+    let missing = run_fence(&rt, &tables, &["L2"])?;
+    assert_eq!(rt; missing.errors.as_str(), "fault: points ReadFailed\n");
+    fs::write(&rt, tables.points.as_str(), POINTS)?;
+    for (word, line) in [
+        ("L9", "fault: network UnknownSection L9\n"),
+        ("l2", "fault: name BadByte place 0\n"),
+    ] {
+        let run = run_fence(&rt, &tables, &[word, "ZZ"])?;
+        assert_eq!(rt; run.status, 1, "of {word}");
+        assert_eq!(rt; run.errors.as_str(), line);
+        assert_eq!(rt; run.output.as_str(), "");
+    }
+    for (word, line) in [
+        ("ZZ", "fault: network UnknownPoint ZZ\n"),
+        ("", "fault: name Empty\n"),
+    ] {
+        let run = run_fence(&rt, &tables, &["L2", "S2", word, "L9"])?;
+        assert_eq!(rt; run.status, 1, "of {word}");
+        assert_eq!(rt; run.errors.as_str(), line);
+    }
+    remove_tables(&rt, &tables)?;
+    Ok(())
+}
+
+#[test]
+fn help_and_words_that_do_not_parse(rt: HostRuntime) -> Result<(), Fail> {
+    let help = run_words(&rt, &["gridclear", "--help"])?;
+    assert_eq!(rt; help.status, 0);
+    assert!(rt; help.output.as_str().contains("Usage: gridclear"));
+    assert_eq!(rt; help.errors.as_str(), "");
+    let bare = run_words(&rt, &["gridclear"])?;
+    assert_eq!(rt; bare.status, 2);
+    assert_eq!(rt; bare.output.as_str(), "");
+    assert!(rt; bare.errors.as_str().contains("Usage: gridclear"));
+    let short = run_words(&rt, &["gridclear", "fence", "sections.csv"])?;
+    assert_eq!(rt; short.status, 2);
+    assert_eq!(rt; short.output.as_str(), "");
+    assert!(rt; short.errors.as_str().contains("<POINTS>"));
+    Ok(())
+}
+
+/// A writer that takes nothing.
+#[derive(Drop)]
+struct Broken;
+
+impl Write for Broken {
+    fn write(&mut self, _buf: &[u8]) -> io::Result<usize> {
+        Err(io::Error::from(io::ErrorKind::BrokenPipe))
+    }
+
+    fn flush(&mut self) -> io::Result<()> {
+        Ok(())
+    }
+}
+
+#[test]
+fn answer_that_cannot_be_written(rt: HostRuntime) -> Result<(), Fail> {
+    let mut errors = Vec::new(rt.alloc());
+    let words = ["gridclear", "--help"];
+    let status = command_line(
+        &rt,
+        words.as_slice(),
+        &mut io::empty(),
+        &mut Broken,
+        &mut errors,
+    );
+    assert_eq!(rt; status, 1);
+    assert_eq!(rt;
+        errors.as_slice(),
+        b"fault: output WriteFailed\n".as_slice()
+    );
+    Ok(())
+}

@@ -1,0 +1,34 @@
+//! The switching order and clearance register of a system operator: the program.
+#![tactic(auto)]
+
+mod command_line;
+mod fault;
+mod fence;
+mod files;
+mod outcome;
+mod syntax;
+mod words;
+
+use std::process::ExitCode;
+use std::{env, io};
+
+fn main(rt: HostRuntime) -> ExitCode {
+    let mut errors = rt.stderr();
+    let status = match gather(&rt) {
+        Ok(words) => command_line::command_line(
+            &rt,
+            words.as_slice(),
+            &mut rt.stdin(),
+            &mut rt.stdout(),
+            &mut errors,
+        ),
+        Err(cause) => command_line::no_words(&cause, &mut errors),
+    };
+    ExitCode::from(status)
+}
+
+/// The words of the command line, of which the first is the program's name.
+fn gather(rt: &HostRuntime) -> io::Result<Vec<String>> {
+    let words = env::args(rt)?.collect(rt.alloc())?;
+    Ok(words)
+}
