@@ -1,0 +1,51 @@
+-- Lists of names and of steps.
+use Rattle.std.proofs.Common.{◌≡◌, ◌∙◌, Bor, ℕ, Bool, true, false, not, ◌||◌, IsTrue, Option, None, List, [], ◌∷◌, map, find, All, refl, sym, ap}
+use Rattle.std.specs.List.{IsDistinct, AllByRecursion, list_any}
+use Rattle.std.specs.Option.{option_map}
+use Rattle.std.proofs.lemmas.Bool.{not-false, not_from_true, or_parts, or_from}
+use Rattle.std.proofs.lemmas.List.Elements.{All-weaker}
+use Rattle.std.proofs.lemmas.Simd.{map-map}
+use Rattle.clr_net.specs.Grid.{point_names}
+use Rattle.clr_net.specs.Name.{same_name}
+use Rattle.clr_net.specs.Names.{has_name}
+use Rattle.clr_net.specs.declared.point.PointRow.{PointRow}
+use Rattle.clr_order.specs.Step.{Task, stray_point}
+use Rattle.clr_order.specs.Isolating.{has_repeat}
+use Rattle.clr_order.proofs.Finds.{all_fail, find-none, find-map, option_map-none}
+
+-- the names of the rows behind references
+pub names_behind : (rows : List (Bor PointRow)) → map (λ (row : Bor PointRow). row.now.name) rows ≡ point_names (map (λ (row : Bor PointRow). row.now) rows)
+names_behind rows = sym (map-map (λ (row : PointRow). row.name) (λ (row : Bor PointRow). row.now) rows)
+
+-- no step stands elsewhere exactly where each stands at one of the points
+pub no_stray : (points : List (List ℕ)) (tasks : List Task) → stray_point points tasks ≡ None → All (λ t. IsTrue (has_name points t.point)) tasks
+no_stray points tasks h =
+    let none = option_map-none (λ (t : Task). t.point) (find (λ t. not (has_name points t.point)) tasks) (sym (find-map (λ p. not (has_name points p)) (λ (t : Task). t.point) tasks) ∙ h) in
+    All-weaker (λ t. not (has_name points t.point) ≡ false) (λ t. IsTrue (has_name points t.point)) (λ t e. not-false (has_name points t.point) e) tasks (all_fail _ tasks none)
+
+pub stray_point-none : (points : List (List ℕ)) (tasks : List Task) → All (λ t. IsTrue (has_name points t.point)) tasks → stray_point points tasks ≡ None
+stray_point-none points tasks h =
+    find-map (λ p. not (has_name points p)) (λ (t : Task). t.point) tasks
+    ∙ ap (option_map (λ (t : Task). t.point)) (find-none (λ t. not (has_name points t.point)) tasks (All-weaker (λ t. IsTrue (has_name points t.point)) (λ t. not (has_name points t.point) ≡ false) (λ t e. not_from_true (has_name points t.point) e) tasks h))
+
+any_fails : (p : List ℕ → Bool) (points : List (List ℕ)) → list_any p points ≡ false → AllByRecursion (λ q. p q ≡ false) points
+any_fails p [] h = tt
+any_fails p (q ∷ points) h = let parts = or_parts (p q) (list_any p points) h in (parts.0, any_fails p points parts.1)
+
+any-fails : (p : List ℕ → Bool) (points : List (List ℕ)) → AllByRecursion (λ q. p q ≡ false) points → list_any p points ≡ false
+any-fails p [] h = refl
+any-fails p (q ∷ points) h = or_from (p q) (list_any p points) h.0 (any-fails p points h.1)
+
+-- no point stands twice
+pub once_from : (points : List (List ℕ)) → has_repeat points ≡ false → IsDistinct same_name points
+unfolding IsDistinct
+once_from [] h = tt
+once_from (p ∷ points) h =
+    let parts = or_parts (has_name points p) (has_repeat points) h in
+    (any_fails (same_name p) points parts.0, once_from points parts.1)
+
+pub has_repeat-once : (points : List (List ℕ)) → IsDistinct same_name points → has_repeat points ≡ false
+unfolding IsDistinct
+has_repeat-once [] h = refl
+has_repeat-once (p ∷ points) h =
+    or_from (has_name points p) (has_repeat points) (any-fails (same_name p) points h.0) (has_repeat-once points h.1)

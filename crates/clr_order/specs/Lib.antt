@@ -1,0 +1,9 @@
+pub mod Action
+pub mod Step
+pub mod Texts
+pub mod Needed
+pub mod HoldsLeft
+pub mod OrderFault
+pub mod Isolating
+pub mod Restoring
+pub mod Switching
