@@ -1,3 +1,4 @@
+pub mod Answered
 pub mod FileFaults
 pub mod Found
 pub mod PointsNamed

@@ -1,6 +1,9 @@
-ghost use Rattle.std.specs.Prelude.{◌≡◌, ◌≢◌, ◌⊎◌, IfOk};
-ghost use Rattle.clap.specs.Words.{kind_of};
-ghost use Rattle.gridclear.specs.Outcome.{IsAnswer, IsTold, IsUnread};
+ghost use Rattle.std.specs.Prelude.{◌≡◌, ◌≢◌, ◌⊎◌, IfOk, map};
+ghost use Rattle.std.specs.IoError.{error_kind};
+ghost use Rattle.std.specs.declared.io.ErrorKind.TheVariants as io_kind;
+ghost use Rattle.clap.specs.Words.{fault_of, kind_of};
+ghost use Rattle.gridclear.specs.Outcome.{IsAnswer, IsTold, IsUnread, MayAnswer};
+ghost use Rattle.gridclear.specs.Syntax.{gridclear};
 
 use crate::fault::Fault;
 use crate::fence::fence;
@@ -29,8 +32,9 @@ where
     I: Read,
     W: Write,
     E: Write,
-    ensures { IsTold result (W.contents output.old) (W.contents output.new)
+    ensures told { IsTold result (W.contents output.old) (W.contents output.new)
         (E.contents errors.old) (E.contents errors.new) }
+    ensures words { result ≡ 0 → MayAnswer (fault_of gridclear (map S.text words.now)) }
 {
     let outcome = match answer(rt, words) {
         Ok(outcome) => outcome,
@@ -41,7 +45,8 @@ where
 
 /// Tells why the arguments of the program could not be had: one is no text, or memory ran out.
 pub fn no_words<E: Write>(cause: &io::Error, errors: &mut E) -> u8
-    ensures { (result ≡ 1) ⊎ (result ≡ 2) }
+    ensures memory { error_kind cause.now ≡ io_kind.OutOfMemory → result ≡ 1 }
+    ensures no_text { error_kind cause.now ≢ io_kind.OutOfMemory → result ≡ 2 }
 {
     match cause.kind() {
         io::ErrorKind::OutOfMemory => tell(Outcome::Fault(Fault::Memory), &mut io::sink(), errors),
@@ -57,6 +62,8 @@ fn answer<R, S>(rt: &R, words: &[S]) -> Result<Outcome, Fault>
 where
     R: Files + AllocGlobal,
     S: AsStr,
+    ensures { IfOk result (λ outcome. IsAnswer outcome
+        → MayAnswer (fault_of gridclear (map S.text words.now))) }
 {
     let mut command = syntax::command(rt.alloc())?;
     let matches = match command.try_get_matches_from_mut(words) {

@@ -8,6 +8,8 @@ use std::{env, fs, io, process};
 
 const SECTIONS: &str = "section,source\nG,yes\nL1,no\nL2,no\nL3,no\nH,yes\n";
 
+const POINT_HEADER: &str = "point,from,to,lockable,remote,position\n";
+
 const POINTS: &str = "point,from,to,lockable,remote,position\n\
     S1,G,L1,yes,no,closed\n\
     S2,L1,L2,yes,no,closed\n\
@@ -97,8 +99,7 @@ fn fence_between_two_cuts_and_open_tie(rt: HostRuntime) -> Result<(), Fail> {
 #[test]
 fn one_section_without_points(rt: HostRuntime) -> Result<(), Fail> {
     let tables = new_tables(&rt, process::id(rt.process()))?;
-    let header = "point,from,to,lockable,remote,position\n";
-    write_tables(&rt, &tables, "section,source\nA,no\n", header)?;
+    write_tables(&rt, &tables, "section,source\nA,no\n", POINT_HEADER)?;
     let single = run_fence(&rt, &tables, &["A"])?;
     assert_eq!(rt; single.status, 0);
     assert_eq!(rt; single.output.as_str(), "A\n");
@@ -133,6 +134,106 @@ fn faults_and_their_lines(rt: HostRuntime) -> Result<(), Fail> {
         assert_eq!(rt; run.status, 1, "of {word}");
         assert_eq!(rt; run.errors.as_str(), line);
     }
+    remove_tables(&rt, &tables)?;
+    Ok(())
+}
+
+#[test]
+fn faults_of_the_sections_file(rt: HostRuntime) -> Result<(), Fail> {
+    let tables = new_tables(&rt, process::id(rt.process()))?;
+    for (rows, line) in [
+        ("", "fault: network NoSections\n"),
+        (
+            "ABCDEFGHIJKLMNOPQRSTUVWXY,no\n",
+            "fault: sections BadName row 1 column 1\n",
+        ),
+        ("G,yes\n\nL1\n", "fault: sections FieldCount row 2\n"),
+        (
+            "G,yes\n\"L,1\",no\n",
+            "fault: sections BadName row 2 column 1\n",
+        ),
+        (
+            "G,yes\nL1,no\nl2,no\n",
+            "fault: sections BadName row 3 column 1\n",
+        ),
+        ("G,Yes\n", "fault: sections BadWord row 1 column 2\n"),
+        (
+            "G,yes\nL1,no\nG,no\n",
+            "fault: network SectionTwice row 3\n",
+        ),
+    ] {
+        let sections = format!(in rt.alloc(); "section,source\n{rows}")?;
+        write_tables(&rt, &tables, sections.as_str(), POINT_HEADER)?;
+        let run = run_fence(&rt, &tables, &["G"])?;
+        assert_eq!(rt; run.errors.as_str(), line);
+        assert_eq!(rt; run.status, 1, "of {rows}");
+    }
+    fs::write(
+        &rt,
+        tables.sections.as_str(),
+        b"section,source\nG,yes\nL1,no\nL\xFF,no\n",
+    )?;
+    let run = run_fence(&rt, &tables, &["G"])?;
+    assert_eq!(rt; run.errors.as_str(), "fault: sections NotText row 3\n");
+    remove_tables(&rt, &tables)?;
+    Ok(())
+}
+
+#[test]
+fn faults_of_the_points_file(rt: HostRuntime) -> Result<(), Fail> {
+    let tables = new_tables(&rt, process::id(rt.process()))?;
+    let good = "S1,G,L1,yes,no,closed\nS2,L1,L2,yes,no,closed\nS3,L2,L3,yes,no,closed\n";
+    for (rows, line) in [
+        ("S4,L3,H,yes,yes\n", "fault: points FieldCount row 4\n"),
+        (
+            "S4,L3,H,yes,yes,closed,\n",
+            "fault: points FieldCount row 4\n",
+        ),
+        (
+            "S4,L3,H,yes,yes,closed\nT1,L1,L3,no,no,shut\n",
+            "fault: points BadWord row 5 column 6\n",
+        ),
+        (
+            "S4,L9,H,yes,yes,closed\n",
+            "fault: network UnknownEnd row 4\n",
+        ),
+        (
+            "S4,L3,L3,yes,yes,closed\nT1,L1,L9,no,no,open\n",
+            "fault: network UnknownEnd row 5\n",
+        ),
+        (
+            "S4,L3,L3,yes,yes,closed\n",
+            "fault: network SameEnds row 4\n",
+        ),
+        (
+            "S4,L3,H,yes,yes,closed\nS1,L1,L3,no,no,open\n",
+            "fault: network PointTwice row 5\n",
+        ),
+    ] {
+        let points = format!(in rt.alloc(); "{POINT_HEADER}{good}{rows}")?;
+        write_tables(&rt, &tables, SECTIONS, points.as_str())?;
+        let run = run_fence(&rt, &tables, &["G"])?;
+        assert_eq!(rt; run.errors.as_str(), line);
+        assert_eq!(rt; run.status, 1, "of {rows}");
+    }
+    write_tables(&rt, &tables, SECTIONS, "")?;
+    let run = run_fence(&rt, &tables, &["G"])?;
+    assert_eq!(rt; run.errors.as_str(), "fault: points Header\n");
+    remove_tables(&rt, &tables)?;
+    Ok(())
+}
+
+#[test]
+fn one_section_too_many(rt: HostRuntime) -> Result<(), Fail> {
+    let tables = new_tables(&rt, process::id(rt.process()))?;
+    let mut sections = String::from_str(rt.alloc(), "section,source\n")?;
+    for number in 1..5002 {
+        writeln!(sections, "C{number:04},no")?;
+    }
+    write_tables(&rt, &tables, sections.as_str(), POINT_HEADER)?;
+    let run = run_fence(&rt, &tables, &["C0001"])?;
+    assert_eq!(rt; run.errors.as_str(), "fault: network TooLarge\n");
+    assert_eq!(rt; run.status, 1);
     remove_tables(&rt, &tables)?;
     Ok(())
 }

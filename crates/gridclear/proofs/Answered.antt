@@ -1,0 +1,48 @@
+-- Which words may have an answer.
+use Rattle.std.proofs.Common.{◌≡◌, ◌≢◌, ◌⊎◌, inl, inr, refl, subst, true}
+use Rattle.clap.specs.Words.{HasKind, IsAmong, Kinds, is_simple_and_free, kind_of}
+use Rattle.clap.specs.declared.error.Error.{Error}
+use Rattle.clap.specs.declared.error.kind.ErrorKind.{ErrorKind}
+use Rattle.clap.specs.declared.error.kind.ErrorKind.TheVariants as kind
+use Rattle.clap.proofs.OnLiterals.{clap_on_literals}
+use Rattle.gridclear.specs.declared.fault.Fault.TheVariants.{Memory}
+use Rattle.gridclear.specs.declared.outcome.Outcome.{Outcome}
+use Rattle.gridclear.specs.declared.outcome.Outcome.TheVariants.{Answer, Unread, Fault}
+use Rattle.gridclear.specs.Outcome.{IsAnswer, IsUnread, MayAnswer}
+use Rattle.gridclear.specs.Syntax.{gridclear}
+
+-- the kinds of error are known of the program's command line
+pub is_plain_gridclear : is_simple_and_free gridclear ≡ true
+unfolding clap_on_literals
+is_plain_gridclear = refl
+
+fault_is_no_answer : (outcome : Outcome) → outcome ≡ Fault Memory → IsAnswer outcome → ⊥
+fault_is_no_answer outcome e answers = subst IsAnswer e answers
+
+unread_is_no_answer : (outcome : Outcome) → IsUnread outcome → IsAnswer outcome → ⊥
+unread_is_no_answer (Answer text) unread answers = unread
+unread_is_no_answer (Unread text) unread answers = answers
+unread_is_no_answer (Fault fault) unread answers = answers
+
+-- only help and the version are answers
+help_from_answer : (k : ErrorKind) (outcome : Outcome) → (k ≡ kind.OutOfMemory → outcome ≡ Fault Memory)
+    → (k ≢ kind.OutOfMemory → k ≢ kind.DisplayHelp → k ≢ kind.DisplayVersion → IsUnread outcome)
+    → IsAnswer outcome → (k ≡ kind.DisplayHelp) ⊎ (k ≡ kind.DisplayVersion)
+help_from_answer kind.DisplayHelp outcome memory mistake answers = inl refl
+help_from_answer kind.DisplayVersion outcome memory mistake answers = inr refl
+help_from_answer kind.OutOfMemory outcome memory mistake answers = absurd (fault_is_no_answer outcome (memory refl) answers)
+help_from_answer _ outcome memory mistake answers =
+    absurd (unread_is_no_answer outcome (mistake (λ e. cc) (λ e. cc) (λ e. cc)) answers)
+
+-- what clap tells is an answer only where it may be
+pub MayAnswer-from_help : (kinds : Kinds) (error : Error) (outcome : Outcome) → HasKind kinds error
+    → (kind_of error ≡ kind.OutOfMemory → outcome ≡ Fault Memory)
+    → (kind_of error ≢ kind.OutOfMemory → kind_of error ≢ kind.DisplayHelp → kind_of error ≢ kind.DisplayVersion → IsUnread outcome)
+    → IsAnswer outcome → MayAnswer kinds
+MayAnswer-from_help kinds error outcome has memory mistake answers = elim has [
+  | inl ran_out ↦ absurd (fault_is_no_answer outcome (memory ran_out) answers)
+  | inr among ↦ elim (help_from_answer (kind_of error) outcome memory mistake answers) [
+    | inl help ↦ inr (inl (let P : ErrorKind → Type 0 = λ k. IsAmong k kinds in subst P help among))
+    | inr version ↦ inr (inr (let P : ErrorKind → Type 0 = λ k. IsAmong k kinds in subst P version among))
+  ]
+]
