@@ -38,44 +38,55 @@ fn read_file(path: &str) -> Result<Vec<u8>, &'static str> {
     Ok(bytes)
 }
 
-/// The records of a CSV text: fields in quotes may hold commas, line ends and doubled quotes; empty lines are
-/// no records.
-fn records(bytes: &[u8]) -> Vec<Vec<Vec<u8>>> {
-    let bytes = bytes.strip_prefix(b"\xEF\xBB\xBF").unwrap_or(bytes);
-    let mut records = Vec::new();
-    let mut record: Vec<Vec<u8>> = Vec::new();
-    let mut field = Vec::new();
-    let (mut begun, mut quoted, mut place) = (false, false, 0);
-    while place < bytes.len() {
-        let byte = bytes[place];
-        place += 1;
-        match byte {
-            b'"' if quoted && bytes.get(place) == Some(&b'"') => {
-                field.push(b'"');
-                place += 1;
-            }
-            b'"' if quoted => quoted = false,
-            _ if quoted => field.push(byte),
-            b'"' if field.is_empty() => (begun, quoted) = (true, true),
-            b',' => {
-                record.push(std::mem::take(&mut field));
-                begun = true;
-            }
-            b'\r' | b'\n' => {
-                if begun || !field.is_empty() {
-                    record.push(std::mem::take(&mut field));
-                    records.push(std::mem::take(&mut record));
+/// Reads the records of a CSV text one by one: fields in quotes may hold commas, line ends and doubled quotes;
+/// empty lines are no records.
+struct Records<'a> {
+    bytes: &'a [u8],
+    place: usize,
+}
+
+impl<'a> Records<'a> {
+    fn new(bytes: &'a [u8]) -> Records<'a> {
+        let bytes = bytes.strip_prefix(b"\xEF\xBB\xBF").unwrap_or(bytes);
+        Records { bytes, place: 0 }
+    }
+}
+
+impl Iterator for Records<'_> {
+    type Item = Vec<Vec<u8>>;
+
+    fn next(&mut self) -> Option<Vec<Vec<u8>>> {
+        let mut record = Vec::new();
+        let mut field = Vec::new();
+        let (mut begun, mut quoted) = (false, false);
+        while let Some(&byte) = self.bytes.get(self.place) {
+            self.place += 1;
+            match byte {
+                b'"' if quoted && self.bytes.get(self.place) == Some(&b'"') => {
+                    field.push(b'"');
+                    self.place += 1;
                 }
-                begun = false;
+                b'"' if quoted => quoted = false,
+                _ if quoted => field.push(byte),
+                b'"' if field.is_empty() => (begun, quoted) = (true, true),
+                b',' => {
+                    record.push(std::mem::take(&mut field));
+                    begun = true;
+                }
+                b'\r' | b'\n' if begun || !field.is_empty() => {
+                    record.push(field);
+                    return Some(record);
+                }
+                b'\r' | b'\n' => {}
+                _ => field.push(byte),
             }
-            _ => field.push(byte),
         }
-    }
-    if begun || !field.is_empty() {
+        if !begun && field.is_empty() {
+            return None;
+        }
         record.push(field);
-        records.push(record);
+        Some(record)
     }
-    records
 }
 
 fn check_name(text: &str) -> Result<(), String> {
@@ -88,20 +99,21 @@ fn check_name(text: &str) -> Result<(), String> {
 }
 
 /// The fields of one row, read from the left.
-struct Fields<'a> {
+struct Fields {
     row: usize,
     column: usize,
-    texts: std::vec::IntoIter<&'a str>,
+    texts: std::vec::IntoIter<Vec<u8>>,
 }
 
-impl Fields<'_> {
-    fn text(&mut self) -> &str {
+impl Fields {
+    fn text(&mut self) -> String {
         self.column += 1;
-        self.texts.next().expect("the fields were counted")
+        let text = self.texts.next().expect("the fields were counted");
+        String::from_utf8(text).expect("the row is text")
     }
 
     fn name(&mut self) -> Result<String, String> {
-        let name = self.text().to_string();
+        let name = self.text();
         match check_name(&name) {
             Ok(()) => Ok(name),
             Err(_) => Err(format!("BadName row {} column {}", self.row, self.column)),
@@ -123,20 +135,20 @@ fn read_rows<T>(
     read_row: fn(&mut Fields) -> Result<T, String>,
 ) -> Result<Vec<T>, String> {
     let bytes = read_file(path)?;
-    let records = records(&bytes);
-    let mut records = records.iter();
+    let mut records = Records::new(&bytes);
     if !records.next().is_some_and(|first| first.iter().eq(header.iter().map(|t| t.as_bytes()))) {
         return Err("Header".into());
     }
     let mut rows = Vec::new();
     for (place, record) in records.enumerate() {
         let row = place + 1;
-        let texts: Result<Vec<&str>, _> = record.iter().map(|f| std::str::from_utf8(f)).collect();
-        let texts = texts.map_err(|_| format!("NotText row {row}"))?;
-        if texts.len() != header.len() {
+        if record.iter().any(|field| std::str::from_utf8(field).is_err()) {
+            return Err(format!("NotText row {row}"));
+        }
+        if record.len() != header.len() {
             return Err(format!("FieldCount row {row}"));
         }
-        let mut fields = Fields { row, column: 0, texts: texts.into_iter() };
+        let mut fields = Fields { row, column: 0, texts: record.into_iter() };
         rows.push(read_row(&mut fields)?);
     }
     Ok(rows)
