@@ -78,9 +78,9 @@ network_has_no_fault sections points g is =
     let points_once = no_repeat (point_names points) (IsDistinct-IsPermutation same_name nat_list_eq_equiv.symm (point_names g.points) (point_names points) (IsPermutation-sym (point_names points) (point_names g.points) points_moved) (distinct_from_rising (point_names g.points) net.points_rise)) in
     let back = IsPermutation-sym points g.points is.all_points in
     let known : All (λ p. not (has_ends (section_names sections) p) ≡ false) points =
-      All-permutation (λ p. not (has_ends (section_names sections) p) ≡ false) g.points points back
-      (All-weaker (λ p. IsTrue (has_ends (section_names g.sections) p)) (λ p. not (has_ends (section_names sections) p) ≡ false)
-        (λ p e. not_from_true _ (sym (has_ends-IsPermutation (section_names sections) (section_names g.sections) moved p) ∙ e)) g.points net.ends_known) in
+    All-permutation (λ p. not (has_ends (section_names sections) p) ≡ false) g.points points back
+    (All-weaker (λ p. IsTrue (has_ends (section_names g.sections) p)) (λ p. not (has_ends (section_names sections) p) ≡ false)
+    (λ p e. not_from_true _ (sym (has_ends-IsPermutation (section_names sections) (section_names g.sections) moved p) ∙ e)) g.points net.ends_known) in
     first_fault_is sections points None
     (λ rest. no_size_fault sections points rest (omega arith) (omega arith) (omega arith))
     (λ rest. rw (sections_once, points_once) refl)

@@ -71,7 +71,7 @@ module _ (g : Grid) (net : IsNetwork g) (ways : Ways) (index : IsIndexOf g ways)
   -- whether the point at a place is cut
   flag_of : (k : ℕ) (p : PointRow) → k < length g.points → get_or g.points k p ≡ p → is_marked uncut k ≡ not (has_name cut p.name)
   flag_of k p inside is =
-    flags k inside ∙ ap (λ n. not (has_name cut n)) (get_or-map (λ (row : PointRow). row.name) g.points k p [] inside ∙ ap (λ (row : PointRow). row.name) is)
+      flags k inside ∙ ap (λ n. not (has_name cut n)) (get_or-map (λ (row : PointRow). row.name) g.points k p [] inside ∙ ap (λ (row : PointRow). row.name) is)
 
   known_ends : (p : PointRow) → Contains g.points p → (has_name (section_names g.sections) p.from_end ≡ true) × (has_name (section_names g.sections) p.to_end ≡ true)
   known_ends p there = and_parts _ _ (All-contains (λ p. IsTrue (has_ends (section_names g.sections) p)) g.points p net.ends_known there)
@@ -80,16 +80,16 @@ module _ (g : Grid) (net : IsNetwork g) (ways : Ways) (index : IsIndexOf g ways)
     -- a walk over places is a walk over names
     walk_of_places : (i : ℕ) → PlaceWalk (around_of ways) uncut start i → Walk g.points cut work (get_or (section_names g.sections) i [])
     walk_of_places i (begins i' same) =
-      let here = (position-Some (same_name work) (section_names g.sections) start [] started).1 in
-      stays _ (rw (← same) (one_name work _ here))
+        let here = (position-Some (same_name work) (section_names g.sections) start [] started).1 in
+        stays _ (rw (← same) (one_name work _ here))
     walk_of_places i (follows j w walk there passes) =
-      let (below, joined) = index.around.real j w there in
-      let (p, is) = element_at g.points w.point below in
-      let at_point = point_ends g ways index w.point p below is in
-      let in_points : Contains g.points p = (w.point, below, is) in
-      let (from, to) = known_ends p in_points in
-      let free = not-true (has_name cut p.name) (sym (flag_of w.point p below is) ∙ passes) in
-      goes_on p (get_or (section_names g.sections) j []) (get_or (section_names g.sections) w.to []) (walk_of_places j walk) in_points free
+        let (below, joined) = index.around.real j w there in
+        let (p, is) = element_at g.points w.point below in
+        let at_point = point_ends g ways index w.point p below is in
+        let in_points : Contains g.points p = (w.point, below, is) in
+        let (from, to) = known_ends p in_points in
+        let free = not-true (has_name cut p.name) (sym (flag_of w.point p below is) ∙ passes) in
+        goes_on p (get_or (section_names g.sections) j []) (get_or (section_names g.sections) w.to []) (walk_of_places j walk) in_points free
         (elim joined [
           | inl forth ↦ joins_forth (section_names g.sections) p j w.to from to (sym at_point ∙ forth)
           | inr back ↦ joins_back (section_names g.sections) p j w.to from to (sym at_point ∙ back)
@@ -98,34 +98,34 @@ module _ (g : Grid) (net : IsNetwork g) (ways : Ways) (index : IsIndexOf g ways)
     -- a walk over names is a walk over places
     places_of_walk : (s : List ℕ) → Walk g.points cut work s → PlaceWalk (around_of ways) uncut start (place_in (section_names g.sections) s)
     places_of_walk s (stays s' same) =
-      let known = sym (is_some-position (same_name work) (section_names g.sections)) ∙ ap is_some started in
-      begins _ (rw (← same) (same_Some _ _ (sym started ∙ place_of_name (section_names g.sections) work known)))
+        let known = sym (is_some-position (same_name work) (section_names g.sections)) ∙ ap is_some started in
+        begins _ (rw (← same) (same_Some _ _ (sym started ∙ place_of_name (section_names g.sections) work known)))
     places_of_walk s (goes_on p a b walk there free joined) =
-      let (k, inside, is) = there in
-      let passes : is_marked uncut k ≡ true = flag_of k p inside is ∙ not_from_false _ free in
-      let (from_way, to_way) = rw (point_ends g ways index k p inside is) at (index.around.whole k inside) in
-      let at_a = places_of_walk a walk in
-      elim (or_cases (same_name p.from_end a && same_name p.to_end s) (same_name p.to_end a && same_name p.from_end s) joined) [
-        | inl forth ↦
-            let (from, to) = and_parts (same_name p.from_end a) (same_name p.to_end s) forth in
-            follows (place_in (section_names g.sections) a) (way k (place_in (section_names g.sections) s)) at_a (rw (← one_name p.from_end a from, ← one_name p.to_end s to) from_way) passes
-        | inr back ↦
-            let (to, from) = and_parts (same_name p.to_end a) (same_name p.from_end s) back in
-            follows (place_in (section_names g.sections) a) (way k (place_in (section_names g.sections) s)) at_a (rw (← one_name p.to_end a to, ← one_name p.from_end s from) to_way) passes
-      ]
+        let (k, inside, is) = there in
+        let passes : is_marked uncut k ≡ true = flag_of k p inside is ∙ not_from_false _ free in
+        let (from_way, to_way) = rw (point_ends g ways index k p inside is) at (index.around.whole k inside) in
+        let at_a = places_of_walk a walk in
+        elim (or_cases (same_name p.from_end a && same_name p.to_end s) (same_name p.to_end a && same_name p.from_end s) joined) [
+          | inl forth ↦
+              let (from, to) = and_parts (same_name p.from_end a) (same_name p.to_end s) forth in
+              follows (place_in (section_names g.sections) a) (way k (place_in (section_names g.sections) s)) at_a (rw (← one_name p.from_end a from, ← one_name p.to_end s to) from_way) passes
+          | inr back ↦
+              let (to, from) = and_parts (same_name p.to_end a) (same_name p.from_end s) back in
+              follows (place_in (section_names g.sections) a) (way k (place_in (section_names g.sections) s)) at_a (rw (← one_name p.to_end a to, ← one_name p.from_end s from) to_way) passes
+        ]
 
   -- the marks of the search are the fence
   pub marks_fence : (marked : List Bool) → position (same_name work) (section_names g.sections) ≡ Some start → Marks (around_of ways) uncut start marked → MarksFence g work cut marked
   marks_fence marked started marks i inside =
-    let known = sym (is_some-position (same_name work) (section_names g.sections)) ∙ ap is_some started in
-    let s = get_or (section_names g.sections) i [] in
-    let size = length-map g.sections (λ (row : SectionRow). row.name) in
-    let around_size = length-map ways.around.items (λ (out : Vec Way Global). out.items) in
-    let count = index.count in
-    let (on, back) = marks i (omega arith) in
-    same_tests (is_marked marked i) (in_fence g work cut s)
-    (λ e. (fence_is_walks g net work cut s).1 (known, walk_of_places started i (on e)))
-    (λ e. back (rw (place_at (section_names g.sections) i net.sections_rise (omega arith)) at (places_of_walk started s ((fence_is_walks g net work cut s).0 e).1)))
+      let known = sym (is_some-position (same_name work) (section_names g.sections)) ∙ ap is_some started in
+      let s = get_or (section_names g.sections) i [] in
+      let size = length-map g.sections (λ (row : SectionRow). row.name) in
+      let around_size = length-map ways.around.items (λ (out : Vec Way Global). out.items) in
+      let count = index.count in
+      let (on, back) = marks i (omega arith) in
+      same_tests (is_marked marked i) (in_fence g work cut s)
+      (λ e. (fence_is_walks g net work cut s).1 (known, walk_of_places started i (on e)))
+      (λ e. back (rw (place_at (section_names g.sections) i net.sections_rise (omega arith)) at (places_of_walk started s ((fence_is_walks g net work cut s).0 e).1)))
 
 -- a section that is not known has no fence
 pub no_fence : (g : Grid) (work : List ℕ) (cut : List (List ℕ)) (s : List ℕ) → has_name (section_names g.sections) work ≡ false → in_fence g work cut s ≡ false
@@ -136,20 +136,22 @@ module _ (g : Grid) (net : IsNetwork g) (ways : Ways) (index : IsIndexOf g ways)
   -- the ends of each point are places of sections
   pub ends_fit : All (AreBelow (length g.sections)) ways.ends.items
   ends_fit =
-    let size : length (section_names g.sections) ≡ length g.sections = length-map g.sections (λ (row : SectionRow). row.name) in
-    rw (index.ends, ← size) (ends_below (section_names g.sections) g.points net.ends_known)
+      let size : length (section_names g.sections) ≡ length g.sections = length-map g.sections (λ (row : SectionRow). row.name) in
+      rw (index.ends, ← size) (ends_below (section_names g.sections) g.points net.ends_known)
 
   -- so the ways fit the marks
   pub index_fits : WaysFit (around_of ways) (length ways.around.items) (length g.points)
   index_fits i w there =
-    let (below, joined) = index.around.real i w there in
-    let ends_size : length ways.ends.items ≡ length g.points = rw index.ends (length-map g.points (ends_in (section_names g.sections))) in
-    let fits = ends_fit w.point (record { from = 0; to = 0 }) (omega arith) in
-    let count = index.count in
-    (below, elim joined [
-      | inl forth ↦ let to = ap (λ (e : Ends). e.to) forth in omega (arith, fits.1)
-      | inr back ↦ let from = ap (λ (e : Ends). e.from) back in omega (arith, fits.0)
-    ])
+      let (below, joined) = index.around.real i w there in
+      let ends_size : length ways.ends.items ≡ length g.points = rw index.ends (length-map g.points (ends_in (section_names g.sections))) in
+      let fits = ends_fit w.point (record { from = 0; to = 0 }) (omega arith) in
+      let count = index.count in (
+        below,
+        elim joined [
+          | inl forth ↦ let to = ap (λ (e : Ends). e.to) forth in omega (arith, fits.1)
+          | inr back ↦ let from = ap (λ (e : Ends). e.from) back in omega (arith, fits.0)
+        ],
+      )
 
   -- the rows that are marked are the fence
   pub kept_fence : (work : List ℕ) (cut : List (List ℕ)) (inside touching : List Bool) → length inside ≡ length g.sections → MarksFence g work cut inside → touching ≡ map (touches inside) ways.ends.items
@@ -158,20 +160,20 @@ module _ (g : Grid) (net : IsNetwork g) (ways : Ways) (index : IsIndexOf g ways)
     where
       sections_kept : kept inside g.sections ≡ filter (λ row. in_fence g work cut row.name) g.sections
       sections_kept = kept_is_filter (λ row. in_fence g work cut row.name) inside g.sections size
-        (λ i x below is. marks i below ∙ ap (in_fence g work cut) (get_or-map (λ (row : SectionRow). row.name) g.sections i x [] below ∙ ap (λ (row : SectionRow). row.name) is))
+          (λ i x below is. marks i below ∙ ap (in_fence g work cut) (get_or-map (λ (row : SectionRow). row.name) g.sections i x [] below ∙ ap (λ (row : SectionRow). row.name) is))
 
       at_end : (n : List ℕ) → has_name (section_names g.sections) n ≡ true → is_marked inside (place_in (section_names g.sections) n) ≡ in_fence g work cut n
       at_end n known =
-        let names_size = length-map g.sections (λ (row : SectionRow). row.name) in
-        let below = place_inside (same_name n) (section_names g.sections) known in
-        marks (place_in (section_names g.sections) n) (omega arith) ∙ ap (in_fence g work cut) (name_at_place (section_names g.sections) n known)
+          let names_size = length-map g.sections (λ (row : SectionRow). row.name) in
+          let below = place_inside (same_name n) (section_names g.sections) known in
+          marks (place_in (section_names g.sections) n) (omega arith) ∙ ap (in_fence g work cut) (name_at_place (section_names g.sections) n known)
 
       points_kept : kept touching g.points ≡ filter (λ p. in_fence g work cut p.from_end || in_fence g work cut p.to_end) g.points
       points_kept =
-        let ends_size : length ways.ends.items ≡ length g.points = rw index.ends (length-map g.points (ends_in (section_names g.sections))) in
-        let marks_size : length touching ≡ length g.points = rw touched (length-map ways.ends.items (touches inside) ∙ ends_size) in
-        kept_is_filter (λ p. in_fence g work cut p.from_end || in_fence g work cut p.to_end) touching g.points marks_size
-        (λ k p below is.
+          let ends_size : length ways.ends.items ≡ length g.points = rw index.ends (length-map g.points (ends_in (section_names g.sections))) in
+          let marks_size : length touching ≡ length g.points = rw touched (length-map ways.ends.items (touches inside) ∙ ends_size) in
+          kept_is_filter (λ p. in_fence g work cut p.from_end || in_fence g work cut p.to_end) touching g.points marks_size
+          (λ k p below is.
           let (from, to) = and_parts (has_name (section_names g.sections) p.from_end) (has_name (section_names g.sections) p.to_end) (All-contains (λ p. IsTrue (has_ends (section_names g.sections) p)) g.points p net.ends_known (k, below, is)) in
           rw touched (get_or-map (touches inside) ways.ends.items k (record { from = 0; to = 0 }) false (omega arith)
-            ∙ rw (point_ends g ways index k p below is, at_end p.from_end from, at_end p.to_end to) refl))
+          ∙ rw (point_ends g ways index k p below is, at_end p.from_end from, at_end p.to_end to) refl))

@@ -42,10 +42,10 @@ ways_added old new place w inside adds i v there = at (cases_eq i place)
   where
     at : (i ≡ place) ⊎ (i ≡ place → ⊥) → Contains (ways_at old i) v ⊎ ((place ≡ i) × (w ≡ v))
     at (inl same) =
-      elim (Contains-push_cases (ways_at old place) w v (rw (adds, same, get_or-set_same old place (ways_at old place ++ w ∷ []) [] inside) at there)) [
-        | inl before ↦ inl (rw same before)
-        | inr here ↦ inr (sym same, here)
-      ]
+        elim (Contains-push_cases (ways_at old place) w v (rw (adds, same, get_or-set_same old place (ways_at old place ++ w ∷ []) [] inside) at there)) [
+          | inl before ↦ inl (rw same before)
+          | inr here ↦ inr (sym same, here)
+        ]
     at (inr other) = inl (rw (adds, get_or-set_other old place i (ways_at old place ++ w ∷ []) [] other) at there)
 
 -- one point more, which is a way at both its ends
@@ -64,9 +64,9 @@ around_more ends k e old middle new a is below first second =
       ];
       whole = λ j lower. elim (cases_eq j k) [
         | inl same ↦ rw (same, is) (
-            ways_kept middle new e.to (way k e.from) to_inside second e.from (way k e.to) (ways_there old middle e.from (way k e.to) below.0 first),
-            ways_there middle new e.to (way k e.from) to_inside second,
-          )
+          ways_kept middle new e.to (way k e.from) to_inside second e.from (way k e.to) (ways_there old middle e.from (way k e.to) below.0 first),
+          ways_there middle new e.to (way k e.from) to_inside second,
+        )
         | inr other ↦
             let (one, two) = a.whole j (omega arith) in
             let keeps = λ (i : ℕ) (w : Way) (there : Contains (ways_at old i) w). ways_kept middle new e.to (way k e.from) to_inside second i w (ways_kept old middle e.from (way k e.to) below.0 first i w there) in
@@ -82,5 +82,5 @@ ends_below names points known =
   where
     below : (p : PointRow) → IsTrue (has_ends names p) → AreBelow (length names) (ends_in names p)
     below p both =
-      let (from, to) = and_parts (has_name names p.from_end) (has_name names p.to_end) both in
-      (place_inside (same_name p.from_end) names from, place_inside (same_name p.to_end) names to)
+        let (from, to) = and_parts (has_name names p.from_end) (has_name names p.to_end) both in
+        (place_inside (same_name p.from_end) names from, place_inside (same_name p.to_end) names to)

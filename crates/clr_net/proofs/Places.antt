@@ -80,8 +80,8 @@ pub rows_in_order : {X : Type 0} (name_of : X → List ℕ) (rows : List X) → 
 rows_in_order name_of rows rises k d low high =
     let size = length-map rows name_of in
     let here : name_cmp (name_of (get_or rows k d)) (name_of (get_or rows (k + 1) d)) ≡ Less =
-      rw (sym (get_or-map name_of rows k d [] (omega arith)), sym (get_or-map name_of rows (k + 1) d [] (omega arith)))
-      (Less-from_sorted name_cmp (map name_of rows) k (k + 1) [] rises (omega arith) (omega arith)) in
+    rw (sym (get_or-map name_of rows k d [] (omega arith)), sym (get_or-map name_of rows (k + 1) d [] (omega arith)))
+    (Less-from_sorted name_cmp (map name_of rows) k (k + 1) [] rises (omega arith) (omega arith)) in
     ap is_lt (nat_list_cmp_total.antisymm (name_of (get_or rows (k + 1) d)) (name_of (get_or rows k d)) ∙ ap ordering_reverse here)
 
 -- the place of a name that compares as equal
@@ -91,8 +91,8 @@ found_at names n i rises inside here =
   where
     before : (k : ℕ) → k < i → same_name n (get_or names k []) ≡ false
     before k lower =
-      let less : name_cmp (get_or names k []) n ≡ Less = rw (one_from_cmp (get_or names i []) n here) (Less-from_sorted name_cmp names k i [] rises lower inside) in
-      same_from_cmp (get_or names k []) n Less less
+        let less : name_cmp (get_or names k []) n ≡ Less = rw (one_from_cmp (get_or names i []) n here) (Less-from_sorted name_cmp names k i [] rises lower inside) in
+        same_from_cmp (get_or names k []) n Less less
 
 -- what a search by name finds is the place of the name
 pub place_from_search : {X : Type 0} (name_of : X → List ℕ) (rows : List X) (n : List ℕ) (r : Result ℕ ℕ) → IsStrictlySortedBy name_cmp (map name_of rows)
@@ -110,11 +110,11 @@ place_from_search {X} name_of (x ∷ rows) n (Err i) rises inside found =
 
     apart : (k : ℕ) → k < length (map name_of (x ∷ rows)) → (k < i) ⊎ (i ≤ k) → same_name n (get_or (map name_of (x ∷ rows)) k []) ≡ false
     apart k lower (inl before) =
-      let size = length-map (x ∷ rows) name_of in
-      same_from_cmp (get_or (map name_of (x ∷ rows)) k []) n Less (rw (get_or-map name_of (x ∷ rows) k x [] (omega arith)) (parts.0 k x (omega arith) before))
+        let size = length-map (x ∷ rows) name_of in
+        same_from_cmp (get_or (map name_of (x ∷ rows)) k []) n Less (rw (get_or-map name_of (x ∷ rows) k x [] (omega arith)) (parts.0 k x (omega arith) before))
     apart k lower (inr after) =
-      let size = length-map (x ∷ rows) name_of in
-      same_from_cmp (get_or (map name_of (x ∷ rows)) k []) n Greater (rw (get_or-map name_of (x ∷ rows) k x [] (omega arith)) (parts.1 k x after (omega arith)))
+        let size = length-map (x ∷ rows) name_of in
+        same_from_cmp (get_or (map name_of (x ∷ rows)) k []) n Greater (rw (get_or-map name_of (x ∷ rows) k x [] (omega arith)) (parts.1 k x after (omega arith)))
 
 -- the place at a place of a range from 0
 at_range : (n k : ℕ) → k < n → get_or (range_with_len 0 n) k 0 ≡ k
@@ -125,8 +125,8 @@ pub repeat_found : (names : List (List ℕ)) (i : ℕ) → i < length names → 
 repeat_found names i inside before here =
     let size = length-range_with_len 0 (length names) in
     sym (position_found (is_repeat names) (range_with_len 0 (length names)) i 0 (omega arith)
-      (λ k lower. rw (at_range (length names) k (omega arith)) (before k lower))
-      (rw (at_range (length names) i inside) here))
+    (λ k lower. rw (at_range (length names) k (omega arith)) (before k lower))
+    (rw (at_range (length names) i inside) here))
 
 -- no repeat
 pub repeat_none : (names : List (List ℕ)) → ((k : ℕ) → k < length names → is_repeat names k ≡ false) → None ≡ repeat_place names
@@ -166,10 +166,10 @@ distinct_from_unrepeated names once = IsDistinct-from_apart same_name names apar
   where
     apart : (i j : ℕ) (d : List ℕ) → i < j → j < length names → same_name (get_or names i d) (get_or names j d) ≡ false
     apart i j d before inside = false_from_ne_true _ (λ same.
-      let size = length-take-le j names (omega arith) in
-      let back : same_name (get_or names j []) (get_or (take j names) i d) ≡ true =
+        let size = length-take-le j names (omega arith) in
+        let back : same_name (get_or names j []) (get_or (take j names) i d) ≡ true =
         rw (get_or-take j names i d before, get_or_default names j [] d inside) (nat_list_eq_equiv.symm (get_or names j d) (get_or names i d) ∙ same) in
-      both_ways _ (once j inside) (list_any_at (same_name (get_or names j [])) (take j names) i d (omega arith) back))
+        both_ways _ (once j inside) (list_any_at (same_name (get_or names j [])) (take j names) i d (omega arith) back))
 
 -- rows in the order of names no one of which stands twice
 pub rising_from_sorted : {X : Type 0} (name_of : X → List ℕ) (rows : List X) → IsSortedByKey name_of name_cmp rows → IsDistinct same_name (map name_of rows) → IsStrictlySortedBy name_cmp (map name_of rows)
@@ -183,10 +183,10 @@ rising_from_sorted {X} name_of (x ∷ rows) sorted once = sorted_from_all_adjace
 
     rises : (k : ℕ) → k + 1 < length (map name_of (x ∷ rows)) → name_cmp (get_or (map name_of (x ∷ rows)) k []) (get_or (map name_of (x ∷ rows)) (k + 1) []) ≡ Less
     rises k inside =
-      let size = length-map (x ∷ rows) name_of in
-      let here = get_or-map name_of (x ∷ rows) k x [] (omega arith) in
-      let next = get_or-map name_of (x ∷ rows) (k + 1) x [] (omega arith) in
-      by_order (get_or (map name_of (x ∷ rows)) k []) (get_or (map name_of (x ∷ rows)) (k + 1) []) (name_cmp (get_or (map name_of (x ∷ rows)) (k + 1) []) (get_or (map name_of (x ∷ rows)) k [])) refl
+        let size = length-map (x ∷ rows) name_of in
+        let here = get_or-map name_of (x ∷ rows) k x [] (omega arith) in
+        let next = get_or-map name_of (x ∷ rows) (k + 1) x [] (omega arith) in
+        by_order (get_or (map name_of (x ∷ rows)) k []) (get_or (map name_of (x ∷ rows)) (k + 1) []) (name_cmp (get_or (map name_of (x ∷ rows)) (k + 1) []) (get_or (map name_of (x ∷ rows)) k [])) refl
         (rw (here, next) (sorted k x (omega arith) (omega arith)))
         (apart_from_distinct same_name (map name_of (x ∷ rows)) k (k + 1) [] once (omega arith) inside)
 
@@ -202,8 +202,8 @@ find_at name_of rows n i x at is =
     let size = length-map rows name_of in
     let (inside, here, before) = position-Some (same_name n) (map name_of rows) i [] at in
     find_first (λ row. same_name n (name_of row)) rows i x (omega arith) is
-      (rw (get_or-map name_of rows i x [] (omega arith), ← is) at here)
-      (λ k lower. rw (get_or-map name_of rows k x [] (omega arith)) at (before k lower))
+    (rw (get_or-map name_of rows i x [] (omega arith), ← is) at here)
+    (λ k lower. rw (get_or-map name_of rows k x [] (omega arith)) at (before k lower))
 
 pub find_none : {X : Type 0} (name_of : X → List ℕ) (rows : List X) (n : List ℕ) → position (same_name n) (map name_of rows) ≡ None → None ≡ find (λ row. same_name n (name_of row)) rows
 find_none {X} name_of rows n none = absent rows (sym (is_some-position (same_name n) (map name_of rows)) ∙ ap is_some none)
@@ -211,8 +211,8 @@ find_none {X} name_of rows n none = absent rows (sym (is_some-position (same_nam
     absent : (rows : List X) → list_any (same_name n) (map name_of rows) ≡ false → None ≡ find (λ row. same_name n (name_of row)) rows
     absent [] e = refl
     absent (r ∷ rest) e =
-      let (here, more) = or_parts (same_name n (name_of r)) (list_any (same_name n) (map name_of rest)) e in
-      rw here (absent rest more)
+        let (here, more) = or_parts (same_name n (name_of r)) (list_any (same_name n) (map name_of rest)) e in
+        rw here (absent rest more)
 
 -- the same, as a slice's `get` gives it
 pub find_got : {X : Type 0} (name_of : X → List ℕ) (rows : List X) (n : List ℕ) (i : ℕ) (r : Option (Bor X)) → position (same_name n) (map name_of rows) ≡ Some i → IsItemAt rows i r → option_copied r ≡ find (λ row. same_name n (name_of row)) rows
@@ -234,9 +234,9 @@ unrepeated_from_distinct names once k inside = list_any_none (same_name (get_or 
   where
     apart : (i : ℕ) (d : List ℕ) → i < length (take k names) → same_name (get_or names k []) (get_or (take k names) i d) ≡ false
     apart i d lower =
-      let size = length-take-le k names (omega arith) in
-      rw (get_or-take k names i d (omega arith), get_or_default names i d [] (omega arith))
-      (nat_list_eq_equiv.symm (get_or names k []) (get_or names i []) ∙ apart_from_distinct same_name names i k [] once (omega arith) inside)
+        let size = length-take-le k names (omega arith) in
+        rw (get_or-take k names i d (omega arith), get_or_default names i d [] (omega arith))
+        (nat_list_eq_equiv.symm (get_or names k []) (get_or names i []) ∙ apart_from_distinct same_name names i k [] once (omega arith) inside)
 
 -- so no place is a repeat
 pub no_repeat : (names : List (List ℕ)) → IsDistinct same_name names → repeat_place names ≡ None

@@ -110,7 +110,7 @@ search_over around uncut start marked s i inside = (s.sound i, reached i)
     reached : (k : ℕ) → PlaceWalk around uncut start k → is_marked marked k ≡ true
     reached k (begins k' same) = rw (← same) s.begun
     reached k (follows j w walk there passes) =
-      elim (s.done j (reached j walk)) [ inl waits ↦ absurd (nothing_in_nil j waits) | inr on ↦ on w there passes ]
+        elim (s.done j (reached j walk)) [ inl waits ↦ absurd (nothing_in_nil j waits) | inr on ↦ on w there passes ]
 
 -- the start
 pub search_start : (around : List (List Way)) (uncut : List Bool) (start : ℕ) (marked : List Bool) → ((i : ℕ) → is_marked marked i ≡ false) → start < length marked

@@ -156,9 +156,9 @@ module _ (points : List PointRow) (cut : List (List ℕ)) (work : List ℕ) wher
     unfolding Agrees reaches
     agrees_more n same s there =
         let led = any_same (leads (reaches points cut work (suc n)) cut s) (leads (reaches points cut work n) cut s) points
-          (λ p in_points.
-            let (from, to) = ends_of_point p in_points in
-            rw (same p.from_end from, same p.to_end to) refl) in
+        (λ p in_points.
+        let (from, to) = ends_of_point p in_points in
+        rw (same p.from_end from, same p.to_end to) refl) in
         rw led (again (reaches points cut work n s) (list_any (leads (reaches points cut work n) cut s) points))
       where
         again : (b c : Bool) → (b || c || c) ≡ (b || c)
@@ -201,20 +201,20 @@ module _ (points : List PointRow) (cut : List (List ℕ)) (work : List ℕ) wher
       -- the end of a point's walk is a name
       known_end : (p : PointRow) (a b : List ℕ) → Contains points p → IsTrue (joins p a b) → has_name names b ≡ true
       known_end p a b there joined =
-        let (from, to) = ends_of_point p there in
-        elim (or_cases (same_name p.from_end a && same_name p.to_end b) (same_name p.to_end a && same_name p.from_end b) joined) [
-          | inl along ↦ let (at_a, at_b) = and_parts (same_name p.from_end a) (same_name p.to_end b) along in rw (← one_name p.to_end b at_b) to
-          | inr against ↦ let (at_a, at_b) = and_parts (same_name p.to_end a) (same_name p.from_end b) against in rw (← one_name p.from_end b at_b) from
-        ]
+          let (from, to) = ends_of_point p there in
+          elim (or_cases (same_name p.from_end a && same_name p.to_end b) (same_name p.to_end a && same_name p.from_end b) joined) [
+            | inl along ↦ let (at_a, at_b) = and_parts (same_name p.from_end a) (same_name p.to_end b) along in rw (← one_name p.to_end b at_b) to
+            | inr against ↦ let (at_a, at_b) = and_parts (same_name p.to_end a) (same_name p.from_end b) against in rw (← one_name p.from_end b at_b) from
+          ]
 
       -- what a walk leads to is reached
       pub reaches_from_walk : (s : List ℕ) → Walk points cut work s → (has_name names s ≡ true) × (reaches points cut work (length names) s ≡ true)
       unfolding Agrees
       reaches_from_walk s (stays s' e) = (rw (← e) start, rw (← e) (reaches_start (length names)))
       reaches_from_walk s (goes_on p a b walk there uncut joined) =
-        let (in_names, at_a) = reaches_from_walk a walk in
-        let known_b = known_end p a s there joined in
-        (known_b, sym (agrees_at_length s known_b) ∙ reaches_step (length names) p a s at_a there uncut joined)
+          let (in_names, at_a) = reaches_from_walk a walk in
+          let known_b = known_end p a s there joined in
+          (known_b, sym (agrees_at_length s known_b) ∙ reaches_step (length names) p a s at_a there uncut joined)
 
 -- a section is in the fence exactly where a walk from the work section leads to it
 pub fence_is_walks : (g : Grid) → IsNetwork g → (work : List ℕ) (cut : List (List ℕ)) (s : List ℕ)
@@ -242,8 +242,8 @@ fence_is_closed g net work cut = (
   where
     on : (p : PointRow) → Contains g.points p → has_name cut p.name ≡ false → (a b : List ℕ) → IsTrue (joins p a b) → in_fence g work cut a ≡ true → in_fence g work cut b ≡ true
     on p there uncut a b joined inside =
-      let (known, walk) = (fence_is_walks g net work cut a).0 inside in
-      (fence_is_walks g net work cut b).1 (known, goes_on p a b walk there uncut joined)
+        let (known, walk) = (fence_is_walks g net work cut a).0 inside in
+        (fence_is_walks g net work cut b).1 (known, goes_on p a b walk there uncut joined)
 
 -- and it is the least such set
 pub fence_is_least : (g : Grid) → IsNetwork g → (work : List ℕ) (cut : List (List ℕ)) (inside : List ℕ → Bool) → IsTrue (inside work) → IsClosed g.points cut inside
@@ -253,13 +253,13 @@ fence_is_least g net work cut inside start closed s e = along s ((fence_is_walks
     along : (s : List ℕ) → Walk g.points cut work s → inside s ≡ true
     along s (stays s' same) = rw (← same) start
     along s (goes_on p a b walk there uncut joined) =
-      let at_a = along a walk in
-      let ends = closed p there uncut in
-      elim (or_cases (same_name p.from_end a && same_name p.to_end s) (same_name p.to_end a && same_name p.from_end s) joined) [
-        | inl forth ↦
-            let (from, to) = and_parts (same_name p.from_end a) (same_name p.to_end s) forth in
-            rw (← one_name p.to_end s to) (sym ends ∙ rw (one_name p.from_end a from) at_a)
-        | inr against ↦
-            let (to, from) = and_parts (same_name p.to_end a) (same_name p.from_end s) against in
-            rw (← one_name p.from_end s from) (ends ∙ rw (one_name p.to_end a to) at_a)
-      ]
+        let at_a = along a walk in
+        let ends = closed p there uncut in
+        elim (or_cases (same_name p.from_end a && same_name p.to_end s) (same_name p.to_end a && same_name p.from_end s) joined) [
+          | inl forth ↦
+              let (from, to) = and_parts (same_name p.from_end a) (same_name p.to_end s) forth in
+              rw (← one_name p.to_end s to) (sym ends ∙ rw (one_name p.from_end a from) at_a)
+          | inr against ↦
+              let (to, from) = and_parts (same_name p.to_end a) (same_name p.from_end s) against in
+              rw (← one_name p.from_end s from) (ends ∙ rw (one_name p.to_end a to) at_a)
+        ]

@@ -1,5 +1,5 @@
 -- The network: sections, which may be sources, and switching points, each of which joins two different sections.
-use Rattle.std.specs.Prelude.{◌≡◌,  ◌⊎◌, ℕ, ◌+◌, not, nat_lt, ◌==◌, ◌||◌, if◌then◌else◌, List, length, position, Option, Some, None, Result, Ok, Err}
+use Rattle.std.specs.Prelude.{◌≡◌, ◌⊎◌, ℕ, ◌+◌, not, nat_lt, ◌==◌, ◌||◌, if◌then◌else◌, List, length, position, Option, Some, None, Result, Ok, Err}
 use Rattle.std.specs.List.Sorted.{IsPermutation}
 use Rattle.clr_net.specs.Names.{repeat_place}
 use Rattle.clr_net.specs.declared.section.SectionRow.{SectionRow}

@@ -39,7 +39,13 @@ impl<'a> Model for Fence<'a> {
 
 impl<'a> Fence<'a> {
     /// The fence of the rows that are marked, which stand in the order of their names.
-    pub(crate) fn of_marked(alloc: Global, sections: &'a [SectionRow], inside: &[bool], points: &'a [PointRow], touching: &[bool]) -> Result<Self, AllocError>
+    pub(crate) fn of_marked(
+        alloc: Global,
+        sections: &'a [SectionRow],
+        inside: &[bool],
+        points: &'a [PointRow],
+        touching: &[bool],
+    ) -> Result<Self, AllocError>
         requires sections_rise { IsStrictlySortedBy name_cmp (section_names sections.now) }
         requires points_rise { IsStrictlySortedBy name_cmp (point_names points.now) }
         requires sections_marked { length inside.now ≡ length sections.now }

@@ -4,23 +4,19 @@ ghost use Rattle.clr_net.specs.Laws.{FenceIsClosed, FenceIsLeast, FenceIsWalks, 
 /// A section is in the fence exactly where a walk from the work section leads to it over points that are not cut.
 pub fn fence_is_walks()
     ensures { FenceIsWalks }
-{
-}
+{}
 
 /// The fence has the work section, and no point leaves it but those that are cut.
 pub fn fence_is_closed()
     ensures { FenceIsClosed }
-{
-}
+{}
 
 /// The fence is the least set that has the work section and that no point leaves but those that are cut.
 pub fn fence_is_least()
     ensures { FenceIsLeast }
-{
-}
+{}
 
 /// Rows of which there is a network have no fault, so that a build of them answers it.
 pub fn networks_have_no_fault()
     ensures { NetworksHaveNoFault }
-{
-}
+{}

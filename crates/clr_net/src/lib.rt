@@ -2,8 +2,7 @@
 #![tactic(auto)]
 
 mod fence;
-
-mod laws;
+pub mod laws;
 mod name;
 mod named;
 mod net_fault;

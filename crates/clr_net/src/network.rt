@@ -46,7 +46,11 @@ impl Model for Network {
 
 impl Network {
     /// The network of these rows, with the rows in the order of their names.
-    pub fn build(alloc: Global, mut sections: Vec<SectionRow>, mut points: Vec<PointRow>) -> Result<Network, NetFault>
+    pub fn build(
+        alloc: Global,
+        mut sections: Vec<SectionRow>,
+        mut points: Vec<PointRow>,
+    ) -> Result<Network, NetFault>
         ensures { Builds sections.items points.items result }
     {
         check_size(&sections, &points)?;
@@ -157,9 +161,15 @@ fn unknown_end(sections: &[SectionRow], points: &[PointRow]) -> Option<usize>
     requires { IsStrictlySortedBy name_cmp (section_names sections.now) }
     ensures { result ≡ position (λ p. not (has_ends (section_names sections.now) p)) points.now }
 {
-    points
-        .iter()
-        .position(|point| !(has_section(sections, point.from_end) && has_section(sections, point.to_end)))
+    points.iter().position(|point| !has_ends(sections, point))
+}
+
+/// Whether both ends of a point are sections.
+fn has_ends(sections: &[SectionRow], point: &PointRow) -> bool
+    requires { IsStrictlySortedBy name_cmp (section_names sections.now) }
+    ensures { result ≡ has_ends (section_names sections.now) point.now }
+{
+    has_section(sections, point.from_end) && has_section(sections, point.to_end)
 }
 
 /// Whether there is a section of this name.

@@ -15,7 +15,14 @@ use crate::ways::{Ends, Way, Ways};
 use std::alloc::{AllocError, Global};
 
 /// Marks each section of the fence of the work section, cut at these points.
-pub fn mark_fence(alloc: Global, sections: &[SectionRow], points: &[PointRow], ways: &Ways, work: Name, cut: &[Name]) -> Result<Vec<bool>, AllocError>
+pub fn mark_fence(
+    alloc: Global,
+    sections: &[SectionRow],
+    points: &[PointRow],
+    ways: &Ways,
+    work: Name,
+    cut: &[Name],
+) -> Result<Vec<bool>, AllocError>
     requires network { IsNetwork (record { sections = sections.now; points = points.now }) }
     requires index { IsIndexOf (record { sections = sections.now; points = points.now }) ways.now }
     ensures len { IfOk result (λ marked. length marked.items ≡ length sections.now) }
@@ -62,7 +69,12 @@ pub fn mark_touching(alloc: Global, ends: &[Ends], marked: &[bool]) -> Result<Ve
 }
 
 /// Marks each section that a walk over points that are not cut leads to from the section at `start`.
-pub fn reach(alloc: Global, ways: &Ways, uncut: &[bool], start: usize) -> Result<Vec<bool>, AllocError>
+pub fn reach(
+    alloc: Global,
+    ways: &Ways,
+    uncut: &[bool],
+    start: usize,
+) -> Result<Vec<bool>, AllocError>
     requires start { start < vec_len ways.now.around }
     requires fit { WaysFit (around_of ways.now) (vec_len ways.now.around) (length uncut.now) }
     ensures len { IfOk result (λ marked. vec_len marked ≡ vec_len ways.now.around) }
@@ -79,7 +91,12 @@ pub fn reach(alloc: Global, ways: &Ways, uncut: &[bool], start: usize) -> Result
 }
 
 /// Marks the sections that open ways lead to, and lets those wait that were not marked before.
-fn follow(ways: &[Way], uncut: &[bool], marked: &mut [bool], waiting: &mut Vec<usize>) -> Result<(), AllocError>
+fn follow(
+    ways: &[Way],
+    uncut: &[bool],
+    marked: &mut [bool],
+    waiting: &mut Vec<usize>,
+) -> Result<(), AllocError>
     requires { All (λ w. (w.point < length uncut.now) × (w.to < length marked.old)) ways.now }
     ensures { OnOk result (Follows ways.now uncut.now marked.old waiting.old.items marked.new waiting.new.items) }
 {

@@ -26,7 +26,11 @@ pub struct Ends {
 }
 
 /// The places of each point's ends among sections in the order of their names.
-fn ends_of(alloc: Global, sections: &[SectionRow], points: &[PointRow]) -> Result<Vec<Ends>, AllocError>
+fn ends_of(
+    alloc: Global,
+    sections: &[SectionRow],
+    points: &[PointRow],
+) -> Result<Vec<Ends>, AllocError>
     requires sorted { IsStrictlySortedBy name_cmp (section_names sections.now) }
     requires known { All (λ p. IsTrue (has_ends (section_names sections.now) p)) points.now }
     ensures { IfOk result (λ ends. ends.items ≡ map (ends_in (section_names sections.now)) points.now) }
@@ -48,8 +52,13 @@ fn ways_around(alloc: Global, count: usize, ends: &[Ends]) -> Result<Vec<Vec<Way
 {
     let mut around = no_ways(alloc, count)?;
     for (point, end) in ends.iter().enumerate() {
-        add_way(&mut around, end.from, Way { point, to: end.to })?;
-        add_way(&mut around, end.to, Way { point, to: end.from })?;
+        let forth = Way { point, to: end.to };
+        let back = Way {
+            point,
+            to: end.from,
+        };
+        add_way(&mut around, end.from, forth)?;
+        add_way(&mut around, end.to, back)?;
     }
     Ok(around)
 }
@@ -87,7 +96,11 @@ pub struct Ways {
 }
 
 /// The index of sections and points, each in the order of their names.
-pub fn index(alloc: Global, sections: &[SectionRow], points: &[PointRow]) -> Result<Ways, AllocError>
+pub fn index(
+    alloc: Global,
+    sections: &[SectionRow],
+    points: &[PointRow],
+) -> Result<Ways, AllocError>
     requires sorted { IsStrictlySortedBy name_cmp (section_names sections.now) }
     requires known { All (λ p. IsTrue (has_ends (section_names sections.now) p)) points.now }
     ensures { IfOk result (IsIndexOf (record { sections = sections.now; points = points.now })) }

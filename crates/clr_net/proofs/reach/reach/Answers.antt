@@ -23,8 +23,8 @@ follow-requires c =
     let ways = ways_read c.args.ways.now c.in-Some.place c.index.result.now (omega (arith, c.loop-place.invariant.len, c.args.ways.now.around.ok)) c.index.ensures in
     ways_fit c.deref.result.now (length c.deref_mut.result.now) (length c.args.uncut.now)
     (λ w there.
-      let fits = c.requires.fit c.in-Some.place w (rw (ways, sym c.deref.ensures.value) there) in
-      (fits.0, omega (arith, c.deref_mut.ensures.len, c.loop-place.invariant.len)))
+    let fits = c.requires.fit c.in-Some.place w (rw (ways, sym c.deref.ensures.value) there) in
+    (fits.0, omega (arith, c.deref_mut.ensures.len, c.loop-place.invariant.len)))
 
 pub loop-place-preserved : goal.loop-place-preserved
 loop-place-preserved c =
@@ -33,7 +33,7 @@ loop-place-preserved c =
     let ways = ways_read c.args.ways.now c.in-Some.place c.index.result.now (omega (arith, c.loop-place.invariant.len, c.args.ways.now.around.ok)) c.index.ensures in
     record {
       search = rw whole (search_step _ _ _ c.loop-place.marked.items c.pop.new.self.items c.in-Some.place _ _ (rw c.in-Some.ensures.items at c.loop-place.invariant.search)
-        (rw (ways, sym c.deref.ensures.value, sym c.deref_mut.ensures.value) c.in_ok-follow.ensures));
+          (rw (ways, sym c.deref.ensures.value, sym c.deref_mut.ensures.value) c.in_ok-follow.ensures));
       len = rw whole (omega arith);
     }
 

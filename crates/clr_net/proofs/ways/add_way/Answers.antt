@@ -9,5 +9,5 @@ returns-clause-adds c =
     let f = λ (v : Vec Way Global). v.items in
     let old = c.args.around.now.items in
     let there : ways_at (map f old) c.args.place ≡ c.index_mut-ways.result.now.items =
-      get_or-map f old c.args.place c.index_mut-ways.result.now [] (omega (arith, c.args.around.now.ok)) ∙ ap f (sym c.index_mut-ways.ensures.value) in
+    get_or-map f old c.args.place c.index_mut-ways.result.now [] (omega (arith, c.args.around.now.ok)) ∙ ap f (sym c.index_mut-ways.ensures.value) in
     map-set f old c.args.place c.push.new.self ∙ rw (there, c.in_ok-push.ensures.items) refl

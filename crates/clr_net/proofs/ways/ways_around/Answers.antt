@@ -19,8 +19,8 @@ loop-point-preserved c =
     record {
       len = omega (arith, c.in_ok-add_way.ensures.len, c.in_ok-add_way-2.ensures.len, c.loop-point.invariant.len);
       index = around_more c.args.ends.now c.loop-point.point e _ _ _ c.loop-point.invariant.index refl
-        (omega (arith, below.0, c.loop-point.around.ok, c.loop-point.invariant.len), omega (arith, below.1, c.loop-point.around.ok, c.loop-point.invariant.len))
-        c.in_ok-add_way.ensures.adds c.in_ok-add_way-2.ensures.adds;
+          (omega (arith, below.0, c.loop-point.around.ok, c.loop-point.invariant.len), omega (arith, below.1, c.loop-point.around.ok, c.loop-point.invariant.len))
+          c.in_ok-add_way.ensures.adds c.in_ok-add_way-2.ensures.adds;
     }
 
 pub returns-clause-index : goal.returns-clause-index

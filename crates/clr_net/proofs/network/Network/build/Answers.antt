@@ -24,7 +24,7 @@ index-requires-clause-known c =
     let names = section_names c.sort_by_name.new.rows.items in
     rw (c.deref-7.ensures.value, c.deref-8.ensures.value)
     (All-permutation (λ (p : PointRow). IsTrue (has_ends names p)) c.args.points.items c.sort_by_name-2.new.rows.items c.sort_by_name-2.ensures.permutation
-      (rw (c.deref-5.ensures.value, c.deref-6.ensures.value) at c.in_ok-check_ends.ensures.known))
+    (rw (c.deref-5.ensures.value, c.deref-6.ensures.value) at c.in_ok-check_ends.ensures.known))
 
 network_is : (c : goal.In_ok-ways) → IsNetwork (record { sections = c.sort_by_name.new.rows.items; points = c.sort_by_name-2.new.rows.items })
 network_is c = network_from c.args.sections.items c.sort_by_name.new.rows.items c.args.points.items c.sort_by_name-2.new.rows.items
@@ -44,8 +44,8 @@ pub returns : goal.returns
 returns c =
     let moved = names_permuted c.args.sections.items c.sort_by_name.new.rows.items c.sort_by_name.ensures.permutation in (
       first_fault_is c.args.sections.items c.args.points.items None
-        (rw (c.deref.ensures.value, c.deref-2.ensures.value) at c.in_ok-check_size.ensures.passes)
-        (rw (c.deref-3.ensures.value, c.deref-4.ensures.value) at c.in_ok-check_names.ensures.passes)
-        (sym (end_fault-IsPermutation _ _ moved c.args.points.items None) ∙ rw (c.deref-5.ensures.value, c.deref-6.ensures.value) at (c.in_ok-check_ends.ensures.passes None)),
+          (rw (c.deref.ensures.value, c.deref-2.ensures.value) at c.in_ok-check_size.ensures.passes)
+          (rw (c.deref-3.ensures.value, c.deref-4.ensures.value) at c.in_ok-check_names.ensures.passes)
+          (sym (end_fault-IsPermutation _ _ moved c.args.points.items None) ∙ rw (c.deref-5.ensures.value, c.deref-6.ensures.value) at (c.in_ok-check_ends.ensures.passes None)),
       record { all_sections = c.sort_by_name.ensures.permutation; all_points = c.sort_by_name-2.ensures.permutation; network = network_is c },
     )
