@@ -3,3 +3,4 @@ pub mod Records
 pub mod Readers
 pub mod RowLemmas
 pub mod FieldLemmas
+pub mod StaffFacts

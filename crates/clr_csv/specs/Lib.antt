@@ -7,4 +7,6 @@ pub mod Table
 pub mod Columns
 pub mod Sections
 pub mod Points
+pub mod StaffRows
 pub mod Staff
+pub mod Laws

@@ -1,21 +1,26 @@
-//! The three files of a network, read into rows, and readers that count their failures.
+//! The three files of a network, read into rows, the staff, and readers that count their failures.
 #![tactic(auto)]
 
 mod columns;
 mod counted;
+mod employee;
 mod fault;
+mod laws;
 mod points;
 mod rows;
 mod sections;
 mod staff;
+mod staff_fault;
 mod staff_rows;
 mod table;
 mod whole;
 
 pub use counted::{Counted, CountedRead};
+pub use employee::{Role, StaffRow};
 pub use fault::CsvFault;
 pub use points::read_points;
 pub use sections::read_sections;
-pub use staff::{Role, StaffRow};
+pub use staff::{MAX_STAFF, Staff};
+pub use staff_fault::StaffFault;
 pub use staff_rows::read_staff;
 pub use whole::MAX_FILE_BYTES;

@@ -1,14 +1,14 @@
 ghost use Rattle.std.specs.Prelude.{◌≡◌, ◌≢◌, ◌+◌, Err, IfSome, IsErrOf};
 ghost use Rattle.clr_csv.specs.Answers.{GivesUnlessFailed};
 ghost use Rattle.clr_csv.specs.Failures.{Rose};
-ghost use Rattle.clr_csv.specs.Staff.{staff_header, staff_row_in, staff_of};
+ghost use Rattle.clr_csv.specs.StaffRows.{staff_header, staff_row_in, staff_of};
 ghost use Rattle.clr_csv.specs.Whole.{TakesAtMost};
 
 use crate::columns::{ColumnFault, name_in, name_or_none_in, role_in};
 use crate::counted::CountedRead;
+use crate::employee::StaffRow;
 use crate::fault::CsvFault;
 use crate::rows::{FileRow, read_rows};
-use crate::staff::StaffRow;
 use crate::whole::MAX_FILE_BYTES;
 use csv::StringRecord;
 use std::alloc::Global;
