@@ -2,6 +2,10 @@
 #![tactic(auto)]
 
 #[cfg(test)]
+mod csv;
+#[cfg(test)]
 mod fences;
+#[cfg(test)]
+mod staff;
 #[cfg(test)]
 mod worked;

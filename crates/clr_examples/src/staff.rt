@@ -1,0 +1,112 @@
+//! The staff of the rows of a file, or its first fault.
+use clr_csv::{Counted, Role, Staff, StaffFault, StaffRow, read_staff};
+use clr_net::Name;
+use std::alloc::Global;
+use std::test::Fail;
+
+/// What rows give, written as in the file.
+fn staff_in(alloc: Global, rows: &str) -> Result<Result<Staff, StaffFault>, Fail> {
+    let file = format!(in alloc; "employee,role,supervisor\n{rows}")?;
+    let rows = read_staff(alloc, &mut Counted::new(file.as_bytes()))?;
+    Ok(Staff::build(alloc, rows))
+}
+
+/// The employees E0001, E0002 and on, each but the first with the one before as supervisor.
+fn chain_of_command(alloc: Global, count: u16) -> Result<Vec<StaffRow>, Fail> {
+    let mut rows = Vec::new(alloc);
+    let mut supervisor = None;
+    for number in 1..=count {
+        let text = format!(in alloc; "E{number:04}")?;
+        let name = Name::read(text.as_str())?;
+        rows.push(StaffRow {
+            name,
+            role: Role::Charge,
+            supervisor,
+        })?;
+        supervisor = Some(name);
+    }
+    Ok(rows)
+}
+
+#[test]
+fn employees_by_name(rt: HostRuntime) -> Result<(), Fail> {
+    let rows =
+        "OPS,operator,\nREED,field,\nDALE,field,\nJONES,charge,BOSS\nKIM,charge,\nBOSS,charge,\n";
+    let staff = staff_in(rt.alloc(), rows)??;
+    let mut names = String::new(rt.alloc());
+    for row in staff.rows() {
+        names.push_str(" ")?;
+        names.push_str(row.name.as_str())?;
+    }
+    assert_eq!(rt; names.as_str(), " BOSS DALE JONES KIM OPS REED");
+    let jones = StaffRow {
+        name: Name::read("JONES")?,
+        role: Role::Charge,
+        supervisor: Some(Name::read("BOSS")?),
+    };
+    assert_eq!(rt; staff.find(&jones.name), Some(&jones));
+    assert_eq!(rt; staff.find(&Name::read("JONE")?), None);
+    Ok(())
+}
+
+#[test]
+fn first_fault_of_a_staff(rt: HostRuntime) -> Result<(), Fail> {
+    let cases = [
+        ("JONES,charge,JONES\n", StaffFault::OwnSupervisor(1)),
+        (
+            "OPS,operator,\nJONES,charge,BOSS\n",
+            StaffFault::UnknownSupervisor(2),
+        ),
+        (
+            "OPS,operator,\nKIM,charge,\nOPS,field,\nOPS,field,\n",
+            StaffFault::Twice(3),
+        ),
+        (
+            "JONES,charge,JONES\nKIM,charge,BOSS\n",
+            StaffFault::UnknownSupervisor(2),
+        ),
+        (
+            "JONES,charge,BOSS\nKIM,charge,\nKIM,charge,\n",
+            StaffFault::Twice(3),
+        ),
+        (
+            "REED,field,REED\nDALE,field,DALE\n",
+            StaffFault::OwnSupervisor(1),
+        ),
+    ];
+    for (rows, fault) in cases {
+        let told = staff_in(rt.alloc(), rows)?;
+        assert_eq!(rt; told.err(), Some(fault), "of {rows}");
+    }
+    Ok(())
+}
+
+#[test]
+fn two_thousand_employees(rt: HostRuntime) -> Result<(), Fail> {
+    let rows = chain_of_command(rt.alloc(), 2000)?;
+    let staff = Staff::build(rt.alloc(), rows)?;
+    assert_eq!(rt; staff.rows().len(), 2000);
+    let last = staff.find(&Name::read("E2000")?);
+    assert_eq!(rt;
+        last.map(|row| row.supervisor),
+        Some(Some(Name::read("E1999")?))
+    );
+    Ok(())
+}
+
+#[test]
+fn one_employee_too_many(rt: HostRuntime) -> Result<(), Fail> {
+    let rows = chain_of_command(rt.alloc(), 2001)?;
+    let told = Staff::build(rt.alloc(), rows);
+    assert_eq!(rt; told.err(), Some(StaffFault::TooMany));
+
+    let mut rows = chain_of_command(rt.alloc(), 2000)?;
+    rows.push(StaffRow {
+        name: Name::read("JONES")?,
+        role: Role::Charge,
+        supervisor: Some(Name::read("BOSS")?),
+    })?;
+    let told = Staff::build(rt.alloc(), rows);
+    assert_eq!(rt; told.err(), Some(StaffFault::UnknownSupervisor(2001)));
+    Ok(())
+}
