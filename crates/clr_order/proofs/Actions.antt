@@ -1,6 +1,5 @@
 -- Actions and their words.
-use Rattle.std.proofs.Common.{◌≡◌, ◌∙◌, ℕ, Bool, true, Decides, Option, Some, List, refl, ap, sym}
-use Rattle.std.specs.Str.{bytes_eq}
+use Rattle.std.proofs.Common.{◌≡◌, ◌∙◌, Decides, Some, List, refl, ap, sym}
 use Rattle.std.proofs.lemmas.Slice.Eq.{bytes_eq-Decides, slice_eq-Decides}
 use Rattle.clr_order.specs.Action.{same_action, action_word, action_named}
 use Rattle.clr_order.specs.Step.{same_actions}

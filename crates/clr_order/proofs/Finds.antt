@@ -41,3 +41,12 @@ find-none p (x ∷ xs) h =
 pub option_map-none : {X Y : Type 0} (f : X → Y) (o : Option X) → option_map f o ≡ None → o ≡ None
 option_map-none f None h = refl
 option_map-none f (Some x) h = absurd (cc)
+
+-- what is found passes
+pub found_passes : {X : Type 0} (p : X → Bool) (xs : List X) (y : X) → find p xs ≡ Some y → p y ≡ true
+found_passes p [] y h = absurd (cc)
+found_passes p (x ∷ xs) y h = at (p x) refl (found_passes p xs y)
+  where
+    at : (b : Bool) → p x ≡ b → (find p xs ≡ Some y → p y ≡ true) → p y ≡ true
+    at true e more = let k = rw e at h in let same : x ≡ y = cc in rw (← same) e
+    at false e more = more (rw e at h)

@@ -1,7 +1,9 @@
 pub mod Actions
 pub mod Faults
 pub mod Finds
+pub mod Isolation
 pub mod OtherOrders
 pub mod SoundOrders
+pub mod StepTexts
 pub mod Steps
 pub mod Undoing

@@ -1,13 +1,13 @@
 -- No refusal of a restoring or a switching order applies exactly where the order is what it has to be.
-use Rattle.std.proofs.Common.{◌≡◌, ◌∙◌, ℕ, ◌<◌, ◌≤◌, Bool, true, false, not, ◌==◌, nat_lt, IsTrue, None, List, length, find, All, refl, sym, ap, arith}
+use Rattle.std.proofs.Common.{◌≡◌, ℕ, ◌<◌, false, not, ◌==◌, IsTrue, None, List, length, refl, ap, arith}
 use Rattle.std.specs.Option.{option_map}
 use Rattle.std.proofs.lemmas.Bool.{not-false, not_from_true, eqb-false, ltb-false, le-ltb, ne_eqb}
 use Rattle.std.proofs.lemmas.List.Elements.{All-weaker}
 use Rattle.clr_order.specs.Action.{is_switching}
 use Rattle.clr_order.specs.Needed.{Undoes}
-use Rattle.clr_order.specs.Restoring.{IsRestoring, restoring_fault, is_undone, wrong_held, held_points}
+use Rattle.clr_order.specs.Restoring.{IsRestoring, restoring_fault, is_undone, held_points}
 use Rattle.clr_order.specs.Step.{Task, actions_at}
-use Rattle.clr_order.specs.Switching.{IsSwitching, switching_fault, unswitching_point}
+use Rattle.clr_order.specs.Switching.{IsSwitching, switching_fault}
 use Rattle.clr_order.specs.declared.held.Held.{Held}
 use Rattle.clr_order.proofs.Faults.{fault_if-none, name_fault-none, none-fault_if, none-name_fault}
 use Rattle.clr_order.proofs.Finds.{all_fail, find-none, option_map-none}

@@ -1,13 +1,12 @@
 -- No refusal of an isolating order applies exactly where the order is sound.
-use Rattle.std.proofs.Common.{◌≡◌, ◌∙◌, ◌↔◌, ℕ, ◌<◌, ◌≤◌, Bool, true, false, not, ◌||◌, ◌==◌, nat_lt, IsTrue, None, List, length, find, All, refl, sym, ap, arith}
+use Rattle.std.proofs.Common.{◌≡◌, ℕ, false, not, nat_lt, IsTrue, None, List, length, refl, ap, arith}
 use Rattle.std.specs.Option.{option_map}
 use Rattle.std.proofs.lemmas.Bool.{not-false, not_from_true, or_parts, or_from, eqb-false, ltb-false, le-ltb, ne_eqb}
 use Rattle.std.proofs.lemmas.List.Elements.{All-weaker}
 use Rattle.clr_net.specs.Fence.{FenceRows}
 use Rattle.clr_net.specs.declared.section.SectionRow.{SectionRow}
-use Rattle.clr_order.specs.Step.{Task, same_actions, stray_point, actions_at}
-use Rattle.clr_order.specs.Isolating.{IsSoundWithin, has_repeat, isolating_fault, is_border_point, needed_at, source_inside, off_border, wrong_point}
-use Rattle.clr_order.specs.OrderFault.{fault_if, name_fault}
+use Rattle.clr_order.specs.Step.{Task, same_actions, actions_at}
+use Rattle.clr_order.specs.Isolating.{IsSoundWithin, isolating_fault, is_border_point, needed_at}
 use Rattle.clr_order.proofs.Actions.{same_actions-Decides}
 use Rattle.clr_order.proofs.Faults.{fault_if-none, name_fault-none, none-fault_if, none-name_fault}
 use Rattle.clr_order.proofs.Finds.{all_fail, find-none, option_map-none}

@@ -1,5 +1,5 @@
 -- Lists of names and of steps.
-use Rattle.std.proofs.Common.{◌≡◌, ◌∙◌, Bor, ℕ, Bool, true, false, not, ◌||◌, IsTrue, Option, None, List, [], ◌∷◌, map, find, All, refl, sym, ap}
+use Rattle.std.proofs.Common.{◌≡◌, ◌∙◌, Bor, ℕ, Bool, false, not, IsTrue, None, List, [], ◌∷◌, map, find, All, refl, sym, ap}
 use Rattle.std.specs.List.{IsDistinct, AllByRecursion, list_any}
 use Rattle.std.specs.Option.{option_map}
 use Rattle.std.proofs.lemmas.Bool.{not-false, not_from_true, or_parts, or_from}

@@ -1,7 +1,7 @@
 -- The test of the undoing steps is the rule.
-use Rattle.std.proofs.Common.{◌≡◌, ◌↔◌, ◌⊎◌, Bool, true, false, List, [], ◌∷◌, refl, ap, sym, inl, inr}
+use Rattle.std.proofs.Common.{◌≡◌, ◌⊎◌, Bool, true, false, List, [], ◌∷◌, refl, ap, inl, inr}
 use Rattle.std.proofs.lemmas.Bool.{false≢true}
-use Rattle.clr_order.specs.Needed.{Undoes, undoes, undoing, step_if}
+use Rattle.clr_order.specs.Needed.{Undoes, undoes, step_if}
 use Rattle.clr_order.specs.declared.action.Action.{Action}
 use Rattle.clr_order.specs.declared.action.Action.TheVariants.{Open, Block, Control, Tag, Untag, Uncontrol, Unblock, Close, Leave}
 use Rattle.clr_order.specs.declared.held.Held.{Held}
@@ -14,7 +14,8 @@ add : (a : Action) (front : Action → List Action) (actions : List Action) → 
 add a front actions (inl e) = inl (ap (λ rest. a ∷ rest) e)
 add a front actions (inr e) = inr (ap (λ rest. a ∷ rest) e)
 
-nothing_left : (actions : List Action) → undoes false false false false actions ≡ true → actions ≡ []
+-- where no hold is left, no action is
+pub nothing_left : (actions : List Action) → undoes false false false false actions ≡ true → actions ≡ []
 nothing_left [] h = refl
 nothing_left (Open ∷ actions) h = absurd (false≢true h)
 nothing_left (Block ∷ actions) h = absurd (false≢true h)

@@ -1,6 +1,6 @@
 -- An isolating order is sound: all means through which known sources may supply the section are opened, made inoperable
 -- where their design permits it, and tagged.
-use Rattle.std.specs.Prelude.{◌≡◌, ◌<◌, ◌≤◌, ℕ, Bool, true, false, not, ◌||◌, ◌==◌, nat_lt, IsTrue, List, [], ◌∷◌, length, find, All, Option, Some, None}
+use Rattle.std.specs.Prelude.{◌≡◌, ◌<◌, ◌≤◌, ℕ, Bool, false, not, ◌||◌, ◌==◌, nat_lt, IsTrue, List, [], ◌∷◌, length, find, All, Option, Some, None}
 use Rattle.std.specs.List.{IsDistinct}
 use Rattle.std.specs.Option.{option_map}
 use Rattle.clr_net.specs.Name.{same_name}

@@ -5,5 +5,6 @@ pub mod Needed
 pub mod HoldsLeft
 pub mod OrderFault
 pub mod Isolating
+pub mod Laws
 pub mod Restoring
 pub mod Switching

@@ -1,5 +1,5 @@
 -- A restoring order undoes what stands at each point that the clearance holds open.
-use Rattle.std.specs.Prelude.{◌≡◌, ◌<◌, ◌≤◌, ℕ, Bool, true, not, ◌==◌, nat_lt, IsTrue, List, length, map, find, All, Option, None}
+use Rattle.std.specs.Prelude.{◌<◌, ◌≤◌, ℕ, Bool, true, not, ◌==◌, nat_lt, IsTrue, List, length, map, find, All, Option, None}
 use Rattle.std.specs.Option.{option_map}
 use Rattle.clr_net.specs.Names.{has_name}
 use Rattle.clr_order.specs.Needed.{Undoes, undoes}

@@ -4,6 +4,7 @@
 mod action;
 mod held;
 mod isolating;
+pub mod laws;
 mod needed;
 mod order_fault;
 mod places;

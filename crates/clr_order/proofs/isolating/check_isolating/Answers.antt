@@ -1,7 +1,5 @@
-use Rattle.std.proofs.Common.{◌≡◌, ◌∙◌, Some, sym, refl}
+use Rattle.std.proofs.Common.{sym, refl}
 use Rattle.std.proofs.lemmas.Bool.{false≢true}
-use Rattle.clr_order.specs.Isolating.{isolating_fault}
-use Rattle.clr_order.specs.Step.{task}
 use Rattle.clr_order.proofs.SoundOrders.{sound_from_no_fault, no_fault_from_sound}
 use Rattle.clr_order.proofs.isolating.check_isolating.Goals as goal
 
