@@ -1,0 +1,6 @@
+pub mod Id
+pub mod IdText
+pub mod Moment
+pub mod HoldKind
+pub mod Hold
+pub mod StepKey

@@ -1,0 +1,48 @@
+ghost use Rattle.std.proofs.lemmas.Cmp.{nat_list_cmp_total};
+ghost use Rattle.clr_net.specs.Name.{name_cmp, same_name};
+ghost use Rattle.clr_shelf.specs.Keys.{same_text};
+
+use crate::clearance_id::ClearanceId;
+use clr_net::{Name, Position};
+use clr_shelf::Row;
+use std::cmp::Ordering;
+
+/// How a switching point stands, as it was last reported.
+///
+/// Its key and its group are the point.
+#[derive(Clone, Copy, Debug, PartialEq, Eq)]
+pub struct PointState {
+    pub point: Name,
+    pub position: Position,
+    /// The clearance of which a step at this point is instructed or repeated and not yet reported. While it has the
+    /// point in hand no other is instructed there: the project's own.
+    pub hand: Option<ClearanceId>,
+}
+
+impl Row for PointState {
+    type Key = Name;
+
+    type Group = Name;
+
+    ghost key_of = { λ row. row.point };
+
+    ghost key_cmp = { name_cmp };
+
+    ghost is_in = { λ point row. same_name point row.point };
+
+    fn key(&self) -> Name {
+        self.point
+    }
+
+    fn compare_key(&self, point: &Name) -> Ordering {
+        self.point.cmp(point)
+    }
+
+    fn belongs_to(&self, point: &Name) -> bool {
+        *point == self.point
+    }
+
+    ghost key_order = { nat_list_cmp_total };
+
+    ghost same_key = { same_text };
+}
