@@ -1,6 +1,6 @@
 -- Which words may have an answer.
-use Rattle.std.proofs.Common.{◌≡◌, ◌≢◌, ◌⊎◌, inl, inr, refl, subst, true}
-use Rattle.clap.specs.Words.{HasKind, IsAmong, Kinds, is_simple_and_free, kind_of}
+use Rattle.std.proofs.Common.{◌≡◌, ◌≢◌, ◌∙◌, ◌⊎◌, ap, inl, inr, refl, subst, sym, true, List, []}
+use Rattle.clap.specs.Words.{App, HasKind, IsAmong, Kinds, Text, fault_of, is_simple_and_free, kind_of}
 use Rattle.clap.specs.declared.error.Error.{Error}
 use Rattle.clap.specs.declared.error.kind.ErrorKind.{ErrorKind}
 use Rattle.clap.specs.declared.error.kind.ErrorKind.TheVariants as kind
@@ -12,7 +12,7 @@ use Rattle.gridclear.specs.Outcome.{IsAnswer, IsUnread, MayAnswer}
 use Rattle.gridclear.specs.Syntax.{gridclear}
 
 -- the kinds of error are known of the program's command line
-pub is_plain_gridclear : is_simple_and_free gridclear ≡ true
+is_plain_gridclear : is_simple_and_free gridclear ≡ true
 unfolding clap_on_literals
 is_plain_gridclear = refl
 
@@ -46,3 +46,19 @@ MayAnswer-from_help kinds error outcome has memory mistake answers = elim has [
     | inr version ↦ inr (inr (let P : ErrorKind → Type 0 = λ k. IsAmong k kinds in subst P version among))
   ]
 ]
+
+-- the program's command line, however it was made
+plain_command : (app : App) → app ≡ gridclear → is_simple_and_free app ≡ true
+plain_command app shape = ap is_simple_and_free shape ∙ is_plain_gridclear
+
+-- words that parse may have an answer
+pub MayAnswer-parsed : (app : App) (words : List Text) → app ≡ gridclear → (is_simple_and_free app ≡ true → fault_of app words ≡ [])
+    → MayAnswer (fault_of gridclear words)
+MayAnswer-parsed app words shape kinds =
+    inl (ap (λ (a : App). fault_of a words) (sym shape) ∙ kinds (plain_command app shape))
+
+-- the kinds of an error that words gave
+pub HasKind-words : (app : App) (words : List Text) (error : Error) → app ≡ gridclear → (is_simple_and_free app ≡ true → HasKind (fault_of app words) error)
+    → HasKind (fault_of gridclear words) error
+HasKind-words app words error shape kinds =
+    let P : App → Type 0 = λ a. HasKind (fault_of a words) error in subst P shape (kinds (plain_command app shape))

@@ -4,7 +4,8 @@ use Rattle.std.specs.Prelude.{IsErrAnd}
 use Rattle.std.proofs.lemmas.List.{append-nil}
 use Rattle.clr_net.specs.Grid.{Grid}
 use Rattle.gridclear.specs.declared.fault.Fault.{Fault}
-use Rattle.gridclear.specs.Fence.{◌>>=◌, Gives, point_named, points_named}
+use Rattle.gridclear.specs.Answers.{◌>>=◌, Gives}
+use Rattle.gridclear.specs.Fence.{point_named, points_named}
 
 -- these names, and then those of the other words
 abbrev pub names_after : List (List ℕ) → Result (List (List ℕ)) Fault → Result (List (List ℕ)) Fault

@@ -7,8 +7,10 @@ use Rattle.clr_net.specs.declared.net_fault.NetFault.{NetFault}
 use Rattle.clr_net.specs.declared.net_fault.NetFault.TheVariants as net
 use Rattle.clr_csv.specs.declared.fault.CsvFault.{CsvFault}
 use Rattle.clr_csv.specs.declared.fault.CsvFault.TheVariants as csv
+use Rattle.clr_csv.specs.declared.staff_fault.StaffFault.{StaffFault}
+use Rattle.clr_csv.specs.declared.staff_fault.StaffFault.TheVariants as staff
 use Rattle.gridclear.specs.declared.fault.ImportFile.{ImportFile}
-use Rattle.gridclear.specs.declared.fault.ImportFile.TheVariants.{Sections, Points}
+use Rattle.gridclear.specs.declared.fault.ImportFile.TheVariants.{Sections, Points, Staff}
 use Rattle.gridclear.specs.declared.fault.Fault.{Fault}
 use Rattle.gridclear.specs.declared.fault.Fault.TheVariants as fault
 
@@ -27,6 +29,7 @@ memory_words = codes "memory NoMemory"
 abbrev pub file_text : ImportFile → List ℕ
 file_text Sections = codes "sections"
 file_text Points = codes "points"
+file_text Staff = codes "staff"
 
 abbrev pub file_words : ImportFile → CsvFault → List ℕ
 file_words file csv.ReadFailed = file_text file ++ codes " ReadFailed"
@@ -47,6 +50,13 @@ network_words (net.UnknownEnd row) = in_row (codes "network UnknownEnd") row
 network_words (net.SameEnds row) = in_row (codes "network SameEnds") row
 network_words net.NoMemory = memory_words
 
+abbrev pub staff_words : StaffFault → List ℕ
+staff_words (staff.Twice row) = in_row (codes "staff Twice") row
+staff_words (staff.UnknownSupervisor row) = in_row (codes "staff UnknownSupervisor") row
+staff_words (staff.OwnSupervisor row) = in_row (codes "staff OwnSupervisor") row
+staff_words staff.TooMany = codes "staff TooMany"
+staff_words staff.NoMemory = memory_words
+
 abbrev pub name_words : NameFault → List ℕ
 name_words name.Empty = codes "name Empty"
 name_words name.TooLong = codes "name TooLong"
@@ -57,6 +67,7 @@ abbrev pub fault_words : Fault → List ℕ
 fault_words fault.Memory = memory_words
 fault_words (fault.File file cause) = file_words file cause
 fault_words (fault.Network cause) = network_words cause
+fault_words (fault.Staff cause) = staff_words cause
 fault_words (fault.Name cause) = name_words cause
 fault_words (fault.UnknownSection section) = codes "network UnknownSection " ++ section
 fault_words (fault.UnknownPoint point) = codes "network UnknownPoint " ++ point
@@ -73,6 +84,10 @@ of_file file cause = fault.File file cause
 abbrev pub of_network : NetFault → Fault
 of_network net.NoMemory = fault.Memory
 of_network cause = fault.Network cause
+
+abbrev pub of_staff : StaffFault → Fault
+of_staff staff.NoMemory = fault.Memory
+of_staff cause = fault.Staff cause
 
 abbrev pub of_name : NameFault → Fault
 of_name name.NoMemory = fault.Memory

@@ -9,21 +9,11 @@ use Rattle.clr_net.specs.declared.section.SectionRow.{SectionRow}
 use Rattle.clr_net.specs.declared.point.PointRow.{PointRow}
 use Rattle.clr_net.specs.declared.net_fault.NetFault.{NetFault}
 use Rattle.clr_net.specs.declared.name.NameFault.{NameFault}
+use Rattle.gridclear.specs.Answers.{◌>>=◌}
 use Rattle.gridclear.specs.Fault.{of_name, of_network}
 use Rattle.gridclear.specs.Lines.{lines_of}
 use Rattle.gridclear.specs.declared.fault.Fault.{Fault}
 use Rattle.gridclear.specs.declared.fault.Fault.TheVariants.{Memory, UnknownSection, UnknownPoint}
-
--- the next step of an answer; a fault ends it
-infixl 10 ◌>>=◌
-abbrev pub ◌>>=◌ : {A B : Type 0} → Result A Fault → (A → Result B Fault) → Result B Fault
-Ok value >>= next = next value
-Err fault >>= next = Err fault
-
--- the answer that is told, as `view` shows it; only want of memory may come in its place
-abbrev pub Gives : {A T : Type 0} → (T → A) → Result A Fault → Result T Fault → Type 0
-Gives view told (Ok value) = told ≡ Ok (view value)
-Gives view told (Err fault) = fault ≢ Memory → told ≡ Err fault
 
 -- the name that an argument reads as
 abbrev pub argument : Result (List ℕ) NameFault → Result (List ℕ) Fault

@@ -19,6 +19,10 @@ with_files app = with_rule (with_rule app (required_rule (codes "SECTIONS"))) (r
 abbrev pub fence : App
 fence = with_rule (with_rule (with_files (new_app (codes "fence"))) (required_rule (codes "WORK"))) (repeated_rule (codes "CUT"))
 
+-- `init SECTIONS POINTS STAFF`
+abbrev pub init : App
+init = with_rule (with_files (new_app (codes "init"))) (required_rule (codes "STAFF"))
+
 -- the program with its subcommands
 abbrev pub gridclear : App
-gridclear = with_subcommand (new_app (codes "gridclear")) fence.top
+gridclear = with_subcommand (with_subcommand (new_app (codes "gridclear")) fence.top) init.top

@@ -7,6 +7,7 @@ ghost use Rattle.gridclear.specs.Syntax.{gridclear};
 
 use crate::fault::Fault;
 use crate::fence::fence;
+use crate::init::init;
 use crate::outcome::{Outcome, tell};
 use crate::syntax;
 use clap::error::ErrorKind;
@@ -76,6 +77,10 @@ where
     match matches.subcommand() {
         Some(("fence", matches)) => {
             let text = fence(rt, matches)?;
+            Ok(Outcome::Answer(text))
+        }
+        Some(("init", matches)) => {
+            let text = init(rt, matches)?;
             Ok(Outcome::Answer(text))
         }
         _ => {

@@ -1,19 +1,21 @@
 ghost use Rattle.std.specs.Prelude.{◌≡◌, Some};
 ghost use Rattle.std.specs.Fmt.{DisplaysOnOk};
-ghost use Rattle.gridclear.specs.Fault.{fault_line, file_text, file_words, name_words, network_words};
+ghost use Rattle.gridclear.specs.Fault.{fault_line, file_text, file_words, name_words, network_words, staff_words};
 
-use clr_csv::CsvFault;
+use clr_csv::{CsvFault, StaffFault};
 use clr_net::{Name, NameFault, NetFault};
 use std::alloc::{AllocError, AllocFailed};
 use std::fmt;
 
-/// One of the files that a network is read from.
+/// One of the files that a network and its staff are read from.
 #[derive(Clone, Copy, Debug, PartialEq, Eq)]
 pub enum ImportFile {
     /// The file of sections.
     Sections,
     /// The file of switching points.
     Points,
+    /// The file of the staff.
+    Staff,
 }
 
 impl ImportFile {
@@ -24,6 +26,7 @@ impl ImportFile {
         match self {
             ImportFile::Sections => "sections",
             ImportFile::Points => "points",
+            ImportFile::Staff => "staff",
         }
     }
 }
@@ -38,6 +41,8 @@ pub enum Fault {
     File(ImportFile, CsvFault),
     /// The rows of the files are no network.
     Network(NetFault),
+    /// The rows of the staff's file are no staff.
+    Staff(StaffFault),
     /// An argument is no name.
     Name(NameFault),
     /// The network has no section of this name.
@@ -81,6 +86,19 @@ impl From<NetFault> for Fault {
     }
 }
 
+impl From<StaffFault> for Fault {
+    ghost use Rattle.gridclear.specs.Fault.{of_staff};
+
+    ghost from_gives = { λ cause fault. fault ≡ of_staff cause };
+
+    fn from(cause: StaffFault) -> Fault {
+        match cause {
+            StaffFault::NoMemory => Fault::Memory,
+            _ => Fault::Staff(cause),
+        }
+    }
+}
+
 impl From<NameFault> for Fault {
     ghost use Rattle.gridclear.specs.Fault.{of_name};
 
@@ -117,6 +135,7 @@ impl fmt::Display for Fault {
             Fault::Memory => f.write_str("memory NoMemory"),
             Fault::File(file, fault) => write_file_words(f, file, fault),
             Fault::Network(fault) => write_network_words(f, fault),
+            Fault::Staff(fault) => write_staff_words(f, fault),
             Fault::Name(fault) => write_name_words(f, fault),
             Fault::UnknownSection(name) => write!(f, "network UnknownSection {name}"),
             Fault::UnknownPoint(name) => write!(f, "network UnknownPoint {name}"),
@@ -156,6 +175,18 @@ fn write_network_words<W: fmt::Write>(f: &mut fmt::Formatter<W>, fault: NetFault
         NetFault::UnknownEnd(row) => write!(f, "network UnknownEnd row {row}"),
         NetFault::SameEnds(row) => write!(f, "network SameEnds row {row}"),
         NetFault::NoMemory => f.write_str("memory NoMemory"),
+    }
+}
+
+fn write_staff_words<W: fmt::Write>(f: &mut fmt::Formatter<W>, fault: StaffFault) -> fmt::Result
+    ensures { DisplaysOnOk W.write_str_gives f.old result (Some (staff_words fault)) f.new }
+{
+    match fault {
+        StaffFault::Twice(row) => write!(f, "staff Twice row {row}"),
+        StaffFault::UnknownSupervisor(row) => write!(f, "staff UnknownSupervisor row {row}"),
+        StaffFault::OwnSupervisor(row) => write!(f, "staff OwnSupervisor row {row}"),
+        StaffFault::TooMany => f.write_str("staff TooMany"),
+        StaffFault::NoMemory => f.write_str("memory NoMemory"),
     }
 }
 

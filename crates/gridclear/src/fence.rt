@@ -1,6 +1,7 @@
 //! The subcommand `fence`: the sections that can be reached from one without passing a cut.
 ghost use Rattle.std.specs.Prelude.{◌≡◌, ◌++◌, IfOk, OnOk, map, string_bytes};
-ghost use Rattle.gridclear.specs.Fence.{FencesRows, Gives, fence_lines, point_named, points_named, section_named};
+ghost use Rattle.gridclear.specs.Answers.{Gives};
+ghost use Rattle.gridclear.specs.Fence.{FencesRows, fence_lines, point_named, points_named, section_named};
 ghost use Rattle.gridclear.specs.Lines.{line_of, lines_of};
 
 use crate::fault::Fault;

@@ -1,10 +1,10 @@
-//! The rows of the files that a network is read from.
+//! The rows of the files that a network and its staff are read from.
 ghost use Rattle.std.specs.Prelude.{◌≡◌, ◌⊎◌, IfOk, IfErr};
 ghost use Rattle.clr_csv.specs.Counted.{counted_failures};
 ghost use Rattle.gridclear.specs.Fault.{IsOfFile, of_file};
 
 use crate::fault::{Fault, ImportFile};
-use clr_csv::{Counted, CsvFault, read_points, read_sections};
+use clr_csv::{Counted, CsvFault, StaffRow, read_points, read_sections, read_staff};
 use clr_net::{PointRow, SectionRow};
 use std::rt::Files;
 use std::{fs, io};
@@ -28,6 +28,17 @@ pub fn points_at<R: Files + AllocGlobal>(rt: &R, path: &str) -> Result<Vec<Point
     match read_points(rt.alloc(), &mut file) {
         Ok(rows) => Ok(rows),
         Err(cause) => Err(Fault::of_file(ImportFile::Points, cause)),
+    }
+}
+
+/// The rows of the file of the staff at a path.
+pub fn staff_at<R: Files + AllocGlobal>(rt: &R, path: &str) -> Result<Vec<StaffRow>, Fault>
+    ensures { IfErr result (IsOfFile ImportFile.Staff) }
+{
+    let mut file = open(rt, ImportFile::Staff, path)?;
+    match read_staff(rt.alloc(), &mut file) {
+        Ok(rows) => Ok(rows),
+        Err(cause) => Err(Fault::of_file(ImportFile::Staff, cause)),
     }
 }
 

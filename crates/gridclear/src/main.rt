@@ -5,6 +5,7 @@ mod command_line;
 mod fault;
 mod fence;
 mod files;
+mod init;
 mod outcome;
 mod syntax;
 mod words;

@@ -5,6 +5,7 @@ ghost use Rattle.gridclear.specs.Syntax.{gridclear};
 
 mod arguments;
 mod fence;
+mod init;
 
 use clap::Command;
 use std::alloc::{AllocError, Global};
@@ -14,6 +15,9 @@ pub fn command<'a>(alloc: Global) -> Result<Command<'a>, AllocError>
     ensures { IfOk result (λ c. app_of c ≡ gridclear) }
 {
     let fence = fence::command(alloc)?;
-    let command = Command::new(alloc, "gridclear").subcommand(fence)?;
+    let init = init::command(alloc)?;
+    let command = Command::new(alloc, "gridclear")
+        .subcommand(fence)?
+        .subcommand(init)?;
     Ok(command)
 }

@@ -17,11 +17,20 @@ const POINTS: &str = "point,from,to,lockable,remote,position\n\
     S4,L3,H,yes,yes,closed\n\
     T1,L1,L3,no,no,open\n";
 
-/// The paths of a sections and a points file.
+const STAFF: &str = "employee,role,supervisor\n\
+    OPS,operator,\n\
+    REED,field,\n\
+    DALE,field,\n\
+    JONES,charge,BOSS\n\
+    KIM,charge,\n\
+    BOSS,charge,\n";
+
+/// The paths of the three files.
 #[derive(Drop)]
 struct Tables {
     sections: String,
     points: String,
+    staff: String,
 }
 
 /// What a command line gave.
@@ -39,6 +48,7 @@ fn new_tables<R: Env + AllocGlobal>(rt: &R, id: u32) -> Result<Tables, Fail> {
     Ok(Tables {
         sections: format!(in rt.alloc(); "{folder}/gridclear-{id}-sections.csv")?,
         points: format!(in rt.alloc(); "{folder}/gridclear-{id}-points.csv")?,
+        staff: format!(in rt.alloc(); "{folder}/gridclear-{id}-staff.csv")?,
     })
 }
 
@@ -235,6 +245,81 @@ fn one_section_too_many(rt: HostRuntime) -> Result<(), Fail> {
     assert_eq!(rt; run.errors.as_str(), "fault: network TooLarge\n");
     assert_eq!(rt; run.status, 1);
     remove_tables(&rt, &tables)?;
+    Ok(())
+}
+
+/// Runs `init` over the worked network and a staff file of this text, with further words.
+fn run_init<R: Files + AllocGlobal>(
+    rt: &R,
+    tables: &Tables,
+    staff: &str,
+    more: &[&str],
+) -> Result<Run, Fail> {
+    write_tables(rt, tables, SECTIONS, POINTS)?;
+    fs::write(rt, tables.staff.as_str(), staff)?;
+    let mut words = Vec::new(rt.alloc());
+    words.push("gridclear")?;
+    words.push("init")?;
+    words.push(tables.sections.as_str())?;
+    words.push(tables.points.as_str())?;
+    words.push(tables.staff.as_str())?;
+    for word in more {
+        words.push(*word)?;
+    }
+    let run = run_words(rt, words.as_slice())?;
+    remove_tables(rt, tables)?;
+    fs::remove_file(rt, tables.staff.as_str())?;
+    Ok(run)
+}
+
+#[test]
+fn import_of_the_worked_files(rt: HostRuntime) -> Result<(), Fail> {
+    let tables = new_tables(&rt, process::id(rt.process()))?;
+    let import = run_init(&rt, &tables, STAFF, &[])?;
+    assert_eq!(rt; import.errors.as_str(), "");
+    assert_eq!(rt; import.output.as_str(), "sections 5 points 5 staff 6\n");
+    assert_eq!(rt; import.status, 0);
+    let stored = run_init(&rt, &tables, STAFF, &["--db", "register"])?;
+    assert_eq!(rt; stored.output.as_str(), "");
+    assert_eq!(rt; stored.status, 2);
+    Ok(())
+}
+
+#[test]
+fn faults_of_the_staff_file(rt: HostRuntime) -> Result<(), Fail> {
+    let tables = new_tables(&rt, process::id(rt.process()))?;
+    for (rows, line) in [
+        ("JONES,charge,JONES\n", "fault: staff OwnSupervisor row 1\n"),
+        (
+            "JONES,charge,JONES\nKIM,charge,BOSS\n",
+            "fault: staff UnknownSupervisor row 2\n",
+        ),
+        (
+            "OPS,operator,\nKIM,charge,BOSS\nOPS,field,\n",
+            "fault: staff Twice row 3\n",
+        ),
+        ("OPS,boss,\n", "fault: staff BadWord row 1 column 2\n"),
+        ("OPS,operator\n", "fault: staff FieldCount row 1\n"),
+    ] {
+        let staff = format!(in rt.alloc(); "employee,role,supervisor\n{rows}")?;
+        let run = run_init(&rt, &tables, staff.as_str(), &[])?;
+        assert_eq!(rt; run.errors.as_str(), line);
+        assert_eq!(rt; run.output.as_str(), "");
+        assert_eq!(rt; run.status, 1, "of {rows}");
+    }
+    Ok(())
+}
+
+#[test]
+fn one_employee_too_many(rt: HostRuntime) -> Result<(), Fail> {
+    let tables = new_tables(&rt, process::id(rt.process()))?;
+    let mut staff = String::from_str(rt.alloc(), "employee,role,supervisor\n")?;
+    for number in 1..2002 {
+        writeln!(staff, "E{number:04},field,")?;
+    }
+    let run = run_init(&rt, &tables, staff.as_str(), &[])?;
+    assert_eq!(rt; run.errors.as_str(), "fault: staff TooMany\n");
+    assert_eq!(rt; run.status, 1);
     Ok(())
 }
 

@@ -1,12 +1,15 @@
 use Rattle.std.proofs.Common.{◌≡◌, ◌∙◌, ap, ap₂}
-use Rattle.clap.specs.Words.{App, Shape, with_subcommand, shape_of}
+use Rattle.clap.specs.Words.{App, Shape, shape_of, with_subcommand}
 use Rattle.clap.proofs.SimpleLemmas.{plain_fields}
-use Rattle.gridclear.specs.Syntax.{fence}
+use Rattle.gridclear.specs.Syntax.{fence, init}
 use Rattle.gridclear.proofs.syntax.command.Goals as goal
 
--- the subcommand is a plain one, so it has no global argument
+-- each subcommand is a plain one, so it has no global argument
 pub returns : goal.returns
 returns c =
-    let shape : shape_of c.in_ok-fence.fence ≡ fence.top = ap (λ (a : App). a.top) c.in_ok-fence.ensures in
-    let plain = plain_fields c.in_ok-fence.fence (ap (λ (s : Shape). s.is_plain) shape) in
-    c.in_ok-command.ensures.shape plain.globals ∙ ap₂ with_subcommand c.new.ensures.app shape
+    let fence_is : shape_of c.in_ok-fence.fence ≡ fence.top = ap (λ (a : App). a.top) c.in_ok-fence.ensures in
+    let fence_plain = plain_fields c.in_ok-fence.fence (ap (λ (s : Shape). s.is_plain) fence_is) in
+    let init_is : shape_of c.in_ok-init.init ≡ init.top = ap (λ (a : App). a.top) c.in_ok-init.ensures in
+    let init_plain = plain_fields c.in_ok-init.init (ap (λ (s : Shape). s.is_plain) init_is) in
+    let with_fence = c.in_ok-subcommand.ensures.shape fence_plain.globals ∙ ap₂ with_subcommand c.new.ensures.app fence_is in
+    c.in_ok-command.ensures.shape init_plain.globals ∙ ap₂ with_subcommand with_fence init_is
