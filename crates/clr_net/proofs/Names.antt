@@ -47,6 +47,21 @@ no_bad_byte text h = all_from_prefix text (at (nat_lt (position_or_len (λ b. no
     at true e = cc (rw e at h)
     at false e = ltb-false _ _ e
 
+prefix_from_all : (text : List ℕ) → list_all is_name_byte text ≡ true → length text ≤ prefix_len (λ b. not (not (is_name_byte b))) text
+prefix_from_all [] h = omega arith
+prefix_from_all (b ∷ bs) h =
+    let parts = and_parts (is_name_byte b) (list_all is_name_byte bs) h in
+    let more = prefix_from_all bs parts.1 in
+    rw parts.0 (omega arith)
+
+-- a name has no bad byte
+pub name_has_none : (text : List ℕ) → IsTrue (is_name text) → bad_byte text ≡ None
+name_has_none text h = at (nat_lt (position_or_len (λ b. not (is_name_byte b)) text) (length text)) refl
+  where
+    at : (x : Bool) → nat_lt (position_or_len (λ b. not (is_name_byte b)) text) (length text) ≡ x → bad_byte text ≡ None
+    at true e = let all = prefix_from_all text (name_parts text h).2 in let low = ltb-true _ _ e in absurd (omega arith)
+    at false e = rw e refl
+
 -- a text within the limits and with no bad byte is a name
 pub is_name_from : (text : List ℕ) → 0 < length text → length text ≤ 24 → bad_byte text ≡ None → IsTrue (is_name text)
 is_name_from text some few good =

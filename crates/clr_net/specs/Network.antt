@@ -1,4 +1,4 @@
--- The network: sections, which may be sources, and switching points, each of which joins two different sections.
+-- The faults of rows that are to be a network, and what a build of them answers.
 use Rattle.std.specs.Prelude.{◌≡◌, ◌⊎◌, ℕ, ◌+◌, not, nat_lt, ◌==◌, ◌||◌, if◌then◌else◌, List, length, position, Option, Some, None, Result, Ok, Err}
 use Rattle.std.specs.List.Sorted.{IsPermutation}
 use Rattle.clr_net.specs.Names.{repeat_place}

@@ -1,4 +1,4 @@
-ghost use Rattle.std.specs.Prelude.{◌≡◌, ◌==◌, ℕ, List, IsTrue, length, Some, take, drop, refl};
+ghost use Rattle.std.specs.Prelude.{◌≡◌, ◌↔◌, ◌==◌, IsOk, ℕ, List, IsTrue, length, Some, take, drop, refl};
 ghost use Rattle.std.specs.Cmp.{partial_equiv_from_equiv};
 ghost use Rattle.std.proofs.lemmas.Cmp.{nat_list_eq_equiv, nat_list_cmp_total};
 ghost use Rattle.std.specs.Cmp.Lexicographic.{texts_po, texts_ties};
@@ -76,7 +76,8 @@ impl Name {
     ///
     /// The faults come in the order `Empty`, `TooLong`, `BadByte`; the last names the first such byte.
     pub fn read(text: &str) -> Result<Name, NameFault>
-        ensures { result ≡ read_name text.now }
+        ensures reads { result ≡ read_name text.now }
+        ensures names { IsOk result ↔ IsTrue (is_name text.now) }
     {
         let bytes = text.as_bytes();
         if bytes.is_empty() {

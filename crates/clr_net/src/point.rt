@@ -8,7 +8,7 @@ pub enum Position {
     Closed,
 }
 
-/// A switching point: it joins two different sections.
+/// A switching point: in a network it joins two different sections.
 ///
 /// Its origin is 29 CFR 1910.269(m)(3)(ii) and (iii): the means through which a source may supply a section.
 #[derive(Clone, Copy, Debug, PartialEq, Eq)]

@@ -15,7 +15,7 @@ use crate::ways::{Ends, Way, Ways};
 use std::alloc::{AllocError, Global};
 
 /// Marks each section of the fence of the work section, cut at these points.
-pub fn mark_fence(
+pub(crate) fn mark_fence(
     alloc: Global,
     sections: &[SectionRow],
     points: &[PointRow],
@@ -57,7 +57,11 @@ fn uncut_points(alloc: Global, points: &[PointRow], cut: &[Name]) -> Result<Vec<
 }
 
 /// Marks each point with a marked section at an end.
-pub fn mark_touching(alloc: Global, ends: &[Ends], marked: &[bool]) -> Result<Vec<bool>, AllocError>
+pub(crate) fn mark_touching(
+    alloc: Global,
+    ends: &[Ends],
+    marked: &[bool],
+) -> Result<Vec<bool>, AllocError>
     requires { All (AreBelow (length marked.now)) ends.now }
     ensures { IfOk result (λ touching. touching.items ≡ map (touches marked.now) ends.now) }
 {
@@ -69,12 +73,7 @@ pub fn mark_touching(alloc: Global, ends: &[Ends], marked: &[bool]) -> Result<Ve
 }
 
 /// Marks each section that a walk over points that are not cut leads to from the section at `start`.
-pub fn reach(
-    alloc: Global,
-    ways: &Ways,
-    uncut: &[bool],
-    start: usize,
-) -> Result<Vec<bool>, AllocError>
+fn reach(alloc: Global, ways: &Ways, uncut: &[bool], start: usize) -> Result<Vec<bool>, AllocError>
     requires start { start < vec_len ways.now.around }
     requires fit { WaysFit (around_of ways.now) (vec_len ways.now.around) (length uncut.now) }
     ensures len { IfOk result (λ marked. vec_len marked ≡ vec_len ways.now.around) }

@@ -96,7 +96,7 @@ pub struct Ways {
 }
 
 /// The index of sections and points, each in the order of their names.
-pub fn index(
+pub(crate) fn index(
     alloc: Global,
     sections: &[SectionRow],
     points: &[PointRow],
