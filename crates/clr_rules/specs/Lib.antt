@@ -4,3 +4,5 @@ pub mod Moment
 pub mod HoldKind
 pub mod Hold
 pub mod StepKey
+pub mod Command
+pub mod Refusal

@@ -1,0 +1,26 @@
+-- Commands. A variant of Kind takes its fields in the order in which they are declared.
+use Rattle.std.specs.Prelude.{Option, Some, None}
+use Rattle.clr_rules.specs.Id.{Id}
+use Rattle.clr_rules.specs.declared.command.Kind.{Kind}
+use Rattle.clr_rules.specs.declared.command.Kind.TheVariants.{Request, Order, Instruct, Repeat, Report, Grant, Test, Ground, Unground, SignOn, SignOff, Transfer, Release, Cancel, Restore, Amend, Switch, Show}
+
+-- the clearance that a command names: a request and a switch order make a new one, and name none
+abbrev pub named_clearance : Kind → Option Id
+named_clearance (Request section) = None
+named_clearance (Order clearance points steps) = Some clearance
+named_clearance (Instruct clearance step) = Some clearance
+named_clearance (Repeat clearance step text) = Some clearance
+named_clearance (Report clearance done step) = Some clearance
+named_clearance (Grant clearance) = Some clearance
+named_clearance (Test clearance dead section) = Some clearance
+named_clearance (Ground clearance section) = Some clearance
+named_clearance (Unground clearance section) = Some clearance
+named_clearance (SignOn clearance crew) = Some clearance
+named_clearance (SignOff clearance crew) = Some clearance
+named_clearance (Transfer clearance emergency to) = Some clearance
+named_clearance (Release clearance clear notified) = Some clearance
+named_clearance (Cancel clearance) = Some clearance
+named_clearance (Restore clearance steps) = Some clearance
+named_clearance (Amend clearance step) = Some clearance
+named_clearance (Switch steps) = None
+named_clearance (Show clearance) = Some clearance

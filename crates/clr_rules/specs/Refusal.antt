@@ -1,0 +1,37 @@
+-- Refusals and their numbers.
+use Rattle.std.specs.Prelude.{ℕ}
+use Rattle.clr_rules.specs.declared.refusal.Refusal.{Refusal}
+use Rattle.clr_rules.specs.declared.refusal.Refusal.TheVariants.{UnknownCaller, WrongRole, UnknownSection, TooManyClearances, UnknownClearance, NotHolder, Earlier, WrongPhase, EmptyOrder, LongOrder, PointTwice, SourceInside, NotOnFence, StepsWrong, UnknownPoint, NoStep, OutOfTurn, StepState, InHand, Held, RepeatDiffers, WrongReporter, StepsLeft, OutsideFence, NotTested, Grounded, NotGrounded, CrewsOn, CrewState, BadTransfer, NotAttested}
+
+abbrev pub number_of : Refusal → ℕ
+number_of UnknownCaller = 1
+number_of WrongRole = 2
+number_of UnknownSection = 3
+number_of TooManyClearances = 4
+number_of UnknownClearance = 5
+number_of NotHolder = 6
+number_of Earlier = 7
+number_of WrongPhase = 8
+number_of EmptyOrder = 9
+number_of LongOrder = 10
+number_of PointTwice = 11
+number_of (SourceInside section) = 12
+number_of (NotOnFence point) = 13
+number_of (StepsWrong point) = 14
+number_of (UnknownPoint point) = 15
+number_of NoStep = 16
+number_of OutOfTurn = 17
+number_of StepState = 18
+number_of (InHand by) = 19
+number_of (Held by kind) = 20
+number_of RepeatDiffers = 21
+number_of WrongReporter = 22
+number_of StepsLeft = 23
+number_of OutsideFence = 24
+number_of NotTested = 25
+number_of Grounded = 26
+number_of NotGrounded = 27
+number_of CrewsOn = 28
+number_of CrewState = 29
+number_of BadTransfer = 30
+number_of NotAttested = 31

@@ -1,0 +1,38 @@
+//! Changes: what an accepted command does to the rows of the register.
+use crate::clearance_id::ClearanceId;
+use crate::hold::Hold;
+use crate::items::Items;
+use crate::record::Record;
+use crate::step_row::StepRow;
+use clr_net::{Name, Position};
+
+/// One edit of the register's rows. To put a row is to replace the row of its key; all other rows stay.
+///
+/// The kinds of edits stand in this order in a change, and those of a kind in the order of their keys; putting and
+/// taking a hold are one kind.
+#[derive(Clone, Copy, Debug, PartialEq, Eq)]
+pub enum Edit {
+    SetPosition {
+        point: Name,
+        position: Position,
+    },
+    /// Puts a point into a clearance's hand, or with `None` out of any.
+    SetHand {
+        point: Name,
+        hand: Option<ClearanceId>,
+    },
+    PutHold(Hold),
+    /// Takes a hold away, whether it is there or not.
+    TakeHold(Hold),
+    PutRecord(Record),
+    PutStep(StepRow),
+}
+
+/// A list of edits.
+pub type Edits = Items<Edit>;
+
+/// What an accepted command changes. That of a refused command or of `show` has no edit.
+#[derive(Drop)]
+pub struct Change {
+    pub edits: Edits,
+}

@@ -1,0 +1,119 @@
+ghost use Rattle.std.specs.Prelude.{◌≡◌};
+ghost use Rattle.clr_rules.specs.Refusal.{number_of};
+
+use crate::clearance_id::ClearanceId;
+use crate::hold_kind::HoldKind;
+use clr_net::Name;
+
+/// Why a command is refused. A refusal changes nothing.
+///
+/// Their numbers count from 1. Which of them a command asks about, and in which order, is said with the command.
+#[derive(Clone, Copy, Debug, PartialEq, Eq)]
+pub enum Refusal {
+    /// The caller is not in the staff.
+    UnknownCaller,
+    /// The caller's role is not the one that the command asks for.
+    WrongRole,
+    /// The network has no such section.
+    UnknownSection,
+    /// The caller has made a clearance of the greatest number, 9,999.
+    TooManyClearances,
+    /// The register has no record of this clearance.
+    UnknownClearance,
+    /// The caller is not the holder: 29 CFR 1910.269(m)(3)(ix), (x). A transfer that is named an emergency is open to
+    /// the holder's supervisor too.
+    NotHolder,
+    /// The command's moment is before the record's last.
+    Earlier,
+    /// The clearance's phase is not one in which the command may be given.
+    WrongPhase,
+    /// An isolating order has no points, or a restoring or switching one no steps.
+    EmptyOrder,
+    /// The order has more than 64 points or more than 256 steps.
+    LongOrder,
+    /// A point stands twice among the points.
+    PointTwice,
+    /// A source lies inside the fence, of which this is the least in the order of names: (m)(3)(ii).
+    SourceInside(Name),
+    /// The first of the points that is not on the border of the fence: it is unknown, elsewhere or inside.
+    NotOnFence(Name),
+    /// The first point whose steps are not those that it has to have, else the point of the first step elsewhere; of a
+    /// switch order the point of the first step that neither opens nor closes: (m)(3)(ii), (iii), (xii), (xiii).
+    StepsWrong(Name),
+    /// The point of the first step whose point the network lacks, in a switch order alone.
+    UnknownPoint(Name),
+    /// The present round has no step of this number.
+    NoStep,
+    /// An earlier step of the round is not done: (m)(2)(i).
+    OutOfTurn,
+    /// The step is not in the state that the command asks for, or a cancel finds one given out and not yet reported.
+    StepState,
+    /// Another clearance has the point in hand: this one.
+    InHand(ClearanceId),
+    /// The point is to be closed, and bears a hold that forbids it: (m)(3)(v), (xiii). The least clearance, then the
+    /// first kind in the kinds' own order.
+    Held(ClearanceId, HoldKind),
+    /// The text is not the step's.
+    RepeatDiffers,
+    /// The caller is not the one who repeated the step last.
+    WrongReporter,
+    /// An isolating step is not done: (m)(3)(vi).
+    StepsLeft,
+    /// The section is not in the clearance's fence, or unknown.
+    OutsideFence,
+    /// The clearance has not tested the section and found it dead: (m)(3)(vii).
+    NotTested,
+    /// The clearance's ground stands: there, or anywhere where it is released, (m)(3)(xi).
+    Grounded,
+    /// The clearance's ground does not stand there: (m)(3)(viii), (n)(5).
+    NotGrounded,
+    /// A crew is signed on: (m)(3)(xi).
+    CrewsOn,
+    /// The crew is on already, or is not on.
+    CrewState,
+    /// The new holder is unknown, may not be in charge, or is the holder already.
+    BadTransfer,
+    /// It is not attested that all employees are notified and clear: (m)(3)(xi).
+    NotAttested,
+}
+
+impl Refusal {
+    /// The refusal's number, from 1 to 31.
+    pub fn number(self) -> u8
+        ensures { result ≡ number_of self }
+    {
+        match self {
+            Refusal::UnknownCaller => 1,
+            Refusal::WrongRole => 2,
+            Refusal::UnknownSection => 3,
+            Refusal::TooManyClearances => 4,
+            Refusal::UnknownClearance => 5,
+            Refusal::NotHolder => 6,
+            Refusal::Earlier => 7,
+            Refusal::WrongPhase => 8,
+            Refusal::EmptyOrder => 9,
+            Refusal::LongOrder => 10,
+            Refusal::PointTwice => 11,
+            Refusal::SourceInside(_) => 12,
+            Refusal::NotOnFence(_) => 13,
+            Refusal::StepsWrong(_) => 14,
+            Refusal::UnknownPoint(_) => 15,
+            Refusal::NoStep => 16,
+            Refusal::OutOfTurn => 17,
+            Refusal::StepState => 18,
+            Refusal::InHand(_) => 19,
+            Refusal::Held(_, _) => 20,
+            Refusal::RepeatDiffers => 21,
+            Refusal::WrongReporter => 22,
+            Refusal::StepsLeft => 23,
+            Refusal::OutsideFence => 24,
+            Refusal::NotTested => 25,
+            Refusal::Grounded => 26,
+            Refusal::NotGrounded => 27,
+            Refusal::CrewsOn => 28,
+            Refusal::CrewState => 29,
+            Refusal::BadTransfer => 30,
+            Refusal::NotAttested => 31,
+        }
+    }
+}
