@@ -6,6 +6,8 @@ mod csv;
 #[cfg(test)]
 mod fences;
 #[cfg(test)]
+mod orders;
+#[cfg(test)]
 mod staff;
 #[cfg(test)]
 mod worked;
