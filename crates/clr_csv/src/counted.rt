@@ -9,10 +9,10 @@ use std::io::Read;
 /// A reader that counts its failures, so that a caller can tell a failure of the device from any
 /// other error.
 pub trait CountedRead: Read {
-    /// How many of the calls of `read_counted` have failed. The count stays at 2^64 - 1.
+    /// How many reads have failed. The count stays at 2^64 - 1.
     ghost failure_count: { Self → ℕ };
 
-    /// How many reads have failed.
+    /// How many reads have failed, by either way to read; it stays at 2^64 - 1.
     fn failures(&self) -> u64
         ensures { result ≡ failure_count self.now };
 

@@ -1,11 +1,11 @@
-//! The three files of a network, read into rows, the staff, and readers that count their failures.
+//! The three files that a register begins with, read into rows; the staff; and readers that count their failures.
 #![tactic(auto)]
 
 mod columns;
 mod counted;
 mod employee;
 mod fault;
-mod laws;
+pub mod laws;
 mod points;
 mod rows;
 mod sections;

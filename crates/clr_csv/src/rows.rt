@@ -14,7 +14,7 @@ use crate::whole::{MAX_FILE_BYTES, read_whole};
 use csv::StringRecord;
 use std::alloc::Global;
 
-/// A kind of row, of which a file holds one to each line under its header.
+/// A kind of row, of which a file holds one to each record under its header.
 pub(crate) trait FileRow: Sized + Drop {
     ghost use Rattle.clr_csv.specs.declared.columns.ColumnFault.{ColumnFault};
 
