@@ -9,10 +9,10 @@ pub returns-in-Some : goal.returns-in-Some
 returns-in-Some c =
     let is_known : has_name (section_names c.args.network.now.sections) c.in_ok-name.name ≡ true =
     sym (is_some-find (λ row. row.name) c.in_ok-name.name c.args.network.now.sections) ∙ ap is_some (sym c.in-Some.ensures) in
-    rw (← c.in_ok-name.ensures, is_known) refl
+    rw (← c.in_ok-name.ensures.reads, is_known) refl
 
 pub returns-in-None : goal.returns-in-None
 returns-in-None c =
     let is_unknown : has_name (section_names c.args.network.now.sections) c.in_ok-name.name ≡ false =
     sym (is_some-find (λ row. row.name) c.in_ok-name.name c.args.network.now.sections) ∙ ap is_some (sym c.in-None.ensures) in
-    rw (← c.in_ok-name.ensures, is_unknown) refl
+    rw (← c.in_ok-name.ensures.reads, is_unknown) refl
