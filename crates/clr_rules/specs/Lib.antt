@@ -1,6 +1,7 @@
 pub mod Id
 pub mod IdText
 pub mod Moment
+pub mod Phase
 pub mod HoldKind
 pub mod Hold
 pub mod StepKey

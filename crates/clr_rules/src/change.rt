@@ -32,7 +32,7 @@ pub enum Edit {
 pub type Edits = Items<Edit>;
 
 /// What an accepted command changes. That of a refused command or of `show` has no edit.
-#[derive(Drop)]
+#[derive(Debug, PartialEq, Drop)]
 pub struct Change {
     pub edits: Edits,
 }

@@ -189,7 +189,6 @@ impl fmt::Display for ClearanceId {
 
 impl fmt::Debug for ClearanceId {
     fn fmt<W: fmt::Write>(&self, f: &mut fmt::Formatter<W>) -> fmt::Result {
-        let (requester, number) = (self.requester, self.number);
-        write!(f, "{requester}/{number}")
+        fmt::Display::fmt(self, f)
     }
 }

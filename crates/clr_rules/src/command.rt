@@ -10,7 +10,7 @@ use crate::text::Text;
 use clr_net::Name;
 
 /// A command: who gives it, when, and what it asks for. The caller is believed.
-#[derive(Drop)]
+#[derive(Debug, Drop)]
 pub struct Command {
     pub caller: Name,
     /// When it is given. `show` does not look at it.
@@ -21,7 +21,7 @@ pub struct Command {
 /// What a command asks for: the eighteen kinds.
 ///
 /// A step is named by its number in the clearance's present round, counted from 1.
-#[derive(Drop)]
+#[derive(Debug, Drop)]
 pub enum Kind {
     /// One who may be in charge asks for a clearance on a section: 29 CFR 1910.269(m)(3)(i).
     Request {

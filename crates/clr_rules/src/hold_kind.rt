@@ -1,5 +1,5 @@
 ghost use Rattle.std.specs.Prelude.{◌≡◌, Some};
-ghost use Rattle.clr_rules.specs.HoldKind.{hold_kind_text, is_crew, is_point_kind, is_section_kind, kind_cmp, kind_place, kind_text_cmp};
+ghost use Rattle.clr_rules.specs.HoldKind.{hold_kind_named, hold_kind_text, is_crew, is_point_kind, is_section_kind, kind_cmp, kind_place, kind_text_cmp};
 
 use std::cmp::Ordering;
 use std::fmt;
@@ -27,6 +27,27 @@ pub enum HoldKind {
 }
 
 impl HoldKind {
+    /// All kinds, in their own order.
+    const ALL: [HoldKind; 7] = [
+        HoldKind::HeldOpen,
+        HoldKind::Block,
+        HoldKind::Control,
+        HoldKind::Tag,
+        HoldKind::Tested,
+        HoldKind::Ground,
+        HoldKind::Crew,
+    ];
+
+    /// The kind that a text names.
+    pub fn named(text: &str) -> Option<HoldKind>
+        ensures { result ≡ hold_kind_named text.now }
+    {
+        HoldKind::ALL
+            .iter()
+            .copied()
+            .find(|kind| kind.text() == text)
+    }
+
     /// The kind as a text.
     pub fn text(self) -> &'static str
         ensures { result.now ≡ hold_kind_text self }

@@ -1,5 +1,6 @@
 //! Lists that a contract sees as lists, so that two with the same items are the same.
 ghost use Rattle.std.specs.Prelude.{◌≡◌};
+ghost use Rattle.std.specs.Cmp.Lexicographic.{lists_per, pointwise};
 
 use crate::hold::Hold;
 use crate::point_state::PointState;
@@ -8,7 +9,7 @@ use clr_order::Step;
 use std::marker::Model;
 
 /// A list. What a contract says of it speaks of the items alone, and not of where they are stored.
-#[derive(Drop)]
+#[derive(Debug, Drop)]
 pub struct Items<T> {
     items: Vec<T>,
 }
@@ -44,5 +45,15 @@ impl<T> Items<T> {
         ensures { result.now ≡ self.now }
     {
         self.items.as_slice()
+    }
+}
+
+impl<T: PartialEq> PartialEq for Items<T> {
+    ghost eq = { pointwise T.eq };
+
+    ghost laws = { lists_per T.laws };
+
+    fn eq(&self, other: &Items<T>) -> bool {
+        self.as_slice() == other.as_slice()
     }
 }

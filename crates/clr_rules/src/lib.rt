@@ -15,6 +15,8 @@ mod refusal;
 mod reply;
 mod step_row;
 mod tasks;
+#[cfg(test)]
+mod tests;
 mod text;
 
 pub use change::{Change, Edit, Edits};

@@ -1,3 +1,8 @@
+ghost use Rattle.std.specs.Prelude.{◌≡◌, Some};
+ghost use Rattle.clr_rules.specs.Phase.{phase_named, phase_text};
+
+use std::fmt;
+
 /// Where a clearance stands in its life.
 ///
 /// A clearance on a work section goes from `Requested` to `Ordered`, `Granted`, `Released`, `Restoring` and `Closed`,
@@ -19,4 +24,50 @@ pub enum Phase {
     Switching,
     /// Nothing is left to do, and nothing is held.
     Closed,
+}
+
+impl Phase {
+    /// All phases, in the order in which they are declared.
+    const ALL: [Phase; 7] = [
+        Phase::Requested,
+        Phase::Ordered,
+        Phase::Granted,
+        Phase::Released,
+        Phase::Restoring,
+        Phase::Switching,
+        Phase::Closed,
+    ];
+
+    /// The phase as a text.
+    pub fn text(self) -> &'static str
+        ensures { result.now ≡ phase_text self }
+    {
+        match self {
+            Phase::Requested => "Requested",
+            Phase::Ordered => "Ordered",
+            Phase::Granted => "Granted",
+            Phase::Released => "Released",
+            Phase::Restoring => "Restoring",
+            Phase::Switching => "Switching",
+            Phase::Closed => "Closed",
+        }
+    }
+
+    /// The phase that a text names.
+    pub fn named(text: &str) -> Option<Phase>
+        ensures { result ≡ phase_named text.now }
+    {
+        Phase::ALL
+            .iter()
+            .copied()
+            .find(|phase| phase.text() == text)
+    }
+}
+
+impl fmt::Display for Phase {
+    ghost output = { λ phase. Some (phase_text phase) };
+
+    fn fmt<W: fmt::Write>(&self, f: &mut fmt::Formatter<W>) -> fmt::Result {
+        f.pad(self.text())
+    }
 }

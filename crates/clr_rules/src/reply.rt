@@ -6,7 +6,7 @@ use crate::refusal::Refusal;
 use clr_net::Name;
 
 /// The answer to a command.
-#[derive(Drop)]
+#[derive(Debug, PartialEq, Drop)]
 pub enum Reply {
     /// The command was carried out. The card is as it is after it.
     Accepted(Card),
@@ -31,7 +31,7 @@ pub struct Card {
 }
 
 /// How a clearance stands, and all that stands at its fence.
-#[derive(Drop)]
+#[derive(Debug, PartialEq, Drop)]
 pub struct View {
     pub card: Card,
     /// The crews that are signed on, by name.

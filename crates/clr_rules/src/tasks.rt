@@ -6,7 +6,7 @@ use std::marker::Model;
 
 /// The steps of an order as a command states them: what each does, and where. How far they have come, and who read
 /// them, is no part of it.
-#[derive(Drop)]
+#[derive(Debug, Drop)]
 pub struct Tasks {
     steps: Vec<Step>,
 }
