@@ -13,6 +13,11 @@ use Rattle.clr_order.specs.Step.{Task, stray_point}
 use Rattle.clr_order.specs.Isolating.{has_repeat}
 use Rattle.clr_order.proofs.Finds.{all_fail, find-none, find-map, option_map-none}
 
+-- the points of names are the names
+pub names_themselves : (names : List (List ℕ)) → map (λ name. name) names ≡ names
+names_themselves [] = refl
+names_themselves (name ∷ names) = ap (λ rest. name ∷ rest) (names_themselves names)
+
 -- the names of the rows behind references
 pub names_behind : (rows : List (Bor PointRow)) → map (λ (row : Bor PointRow). row.now.name) rows ≡ point_names (map (λ (row : Bor PointRow). row.now) rows)
 names_behind rows = sym (map-map (λ (row : PointRow). row.name) (λ (row : Bor PointRow). row.now) rows)
@@ -28,13 +33,13 @@ stray_point-none points tasks h =
     find-map (λ p. not (has_name points p)) (λ (t : Task). t.point) tasks
     ∙ ap (option_map (λ (t : Task). t.point)) (find-none (λ t. not (has_name points t.point)) tasks (All-weaker (λ t. IsTrue (has_name points t.point)) (λ t. not (has_name points t.point) ≡ false) (λ t e. not_from_true (has_name points t.point) e) tasks h))
 
-any_fails : (p : List ℕ → Bool) (points : List (List ℕ)) → list_any p points ≡ false → AllByRecursion (λ q. p q ≡ false) points
-any_fails p [] h = tt
-any_fails p (q ∷ points) h = let parts = or_parts (p q) (list_any p points) h in (parts.0, any_fails p points parts.1)
+none_passes : (p : List ℕ → Bool) (points : List (List ℕ)) → list_any p points ≡ false → AllByRecursion (λ q. p q ≡ false) points
+none_passes p [] h = tt
+none_passes p (q ∷ points) h = let parts = or_parts (p q) (list_any p points) h in (parts.0, none_passes p points parts.1)
 
-any-fails : (p : List ℕ → Bool) (points : List (List ℕ)) → AllByRecursion (λ q. p q ≡ false) points → list_any p points ≡ false
-any-fails p [] h = refl
-any-fails p (q ∷ points) h = or_from (p q) (list_any p points) h.0 (any-fails p points h.1)
+list_any-none : (p : List ℕ → Bool) (points : List (List ℕ)) → AllByRecursion (λ q. p q ≡ false) points → list_any p points ≡ false
+list_any-none p [] h = refl
+list_any-none p (q ∷ points) h = or_from (p q) (list_any p points) h.0 (list_any-none p points h.1)
 
 -- no point stands twice
 pub once_from : (points : List (List ℕ)) → has_repeat points ≡ false → IsDistinct same_name points
@@ -42,10 +47,10 @@ unfolding IsDistinct
 once_from [] h = tt
 once_from (p ∷ points) h =
     let parts = or_parts (has_name points p) (has_repeat points) h in
-    (any_fails (same_name p) points parts.0, once_from points parts.1)
+    (none_passes (same_name p) points parts.0, once_from points parts.1)
 
 pub has_repeat-once : (points : List (List ℕ)) → IsDistinct same_name points → has_repeat points ≡ false
 unfolding IsDistinct
 has_repeat-once [] h = refl
 has_repeat-once (p ∷ points) h =
-    or_from (has_name points p) (has_repeat points) (any-fails (same_name p) points h.0) (has_repeat-once points h.1)
+    or_from (has_name points p) (has_repeat points) (list_any-none (same_name p) points h.0) (has_repeat-once points h.1)

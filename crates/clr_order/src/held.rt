@@ -1,4 +1,4 @@
-use clr_net::{Name, Named};
+use clr_net::Name;
 
 /// One point that a clearance holds open, and which other holds it has there.
 #[derive(Clone, Copy, Debug, PartialEq, Eq)]
@@ -7,12 +7,4 @@ pub struct Held {
     pub block: bool,
     pub control: bool,
     pub tag: bool,
-}
-
-impl Named for Held {
-    ghost name_of = { λ held. held.point };
-
-    fn name(&self) -> Name {
-        self.point
-    }
 }

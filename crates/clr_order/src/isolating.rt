@@ -9,7 +9,8 @@ ghost use Rattle.std.specs.Option.{option_copied};
 
 use crate::needed::needed;
 use crate::order_fault::OrderFault;
-use crate::step::{MAX_STEPS, Step, does_at, has_name, stray_point};
+use crate::places;
+use crate::step::{MAX_STEPS, Step, does_at};
 use clr_net::{Fence, Name, PointRow, row_of};
 
 /// The most points of an isolating order.
@@ -126,4 +127,18 @@ fn wrong_point(fence: &Fence, points: &[Name], steps: &[Step]) -> Option<Name>
         .iter()
         .copied()
         .find(|point| !is_isolated(fence, *point, steps))
+}
+
+/// Whether a point is among these.
+fn has_name(points: &[Name], point: Name) -> bool
+    ensures { result ≡ has_name points.now point }
+{
+    places::has_point(points, point)
+}
+
+/// The point of the first step that stands at none of the points.
+fn stray_point(points: &[Name], steps: &[Step]) -> Option<Name>
+    ensures { result ≡ stray_point points.now (map task steps.now) }
+{
+    places::stray_point(points, steps)
 }

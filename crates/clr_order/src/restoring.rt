@@ -9,7 +9,7 @@ ghost use Rattle.clr_order.specs.declared.action.Action.{Action};
 use crate::action::Action;
 use crate::held::Held;
 use crate::order_fault::OrderFault;
-use crate::places::stray_from;
+use crate::places::stray_point;
 use crate::step::{MAX_STEPS, Step};
 use clr_net::Name;
 use std::mem;
@@ -38,7 +38,7 @@ fn restoring_fault(held: &[Held], steps: &[Step]) -> Option<OrderFault>
     if let Some(point) = wrong_held(held, steps) {
         return Some(OrderFault::StepsWrong(point));
     }
-    if let Some(point) = stray_from(held, steps) {
+    if let Some(point) = stray_point(held, steps) {
         return Some(OrderFault::StepsWrong(point));
     }
     None

@@ -1,6 +1,5 @@
 ghost use Rattle.std.specs.Prelude.{◌≡◌, map};
-ghost use Rattle.clr_net.specs.Names.{has_name};
-ghost use Rattle.clr_order.specs.Step.{actions_at, same_actions, stray_point, task};
+ghost use Rattle.clr_order.specs.Step.{actions_at, same_actions, task};
 
 use crate::action::Action;
 use clr_net::Name;
@@ -29,25 +28,6 @@ pub struct Step {
     pub state: StepState,
     /// Who repeated the step's text back last.
     pub reader: Option<Name>,
-}
-
-/// Whether a name is among these.
-pub(crate) fn has_name(names: &[Name], name: Name) -> bool
-    ensures { result ≡ has_name names.now name }
-{
-    names.iter().any(|other| name == *other)
-}
-
-/// The point of the first step that stands at none of these points.
-pub(crate) fn stray_point(points: &[Name], steps: &[Step]) -> Option<Name>
-    ensures { result ≡ stray_point points.now (map task steps.now) }
-{
-    for step in steps {
-        if !has_name(points, step.point) {
-            return Some(step.point);
-        }
-    }
-    None
 }
 
 /// Whether the steps at a point do exactly these actions, in this order.

@@ -8,7 +8,7 @@ ghost use Rattle.clr_order.specs.Switching.{IsSwitching, switching_fault, unswit
 
 use crate::action::Action;
 use crate::order_fault::OrderFault;
-use crate::places::stray_from;
+use crate::places;
 use crate::step::{MAX_STEPS, Step};
 use clr_net::{Name, PointRow};
 
@@ -47,7 +47,7 @@ fn switching_fault(found: &[&PointRow], steps: &[Step]) -> Option<OrderFault>
 fn unknown_point(found: &[&PointRow], steps: &[Step]) -> Option<Name>
     ensures { result ≡ stray_point (point_names (map (λ row. row.now) found.now)) (map task steps.now) }
 {
-    stray_from(found, steps)
+    places::stray_point(found, steps)
 }
 
 /// The point of the first step that neither opens nor closes.

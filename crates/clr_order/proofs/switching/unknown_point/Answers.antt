@@ -4,4 +4,4 @@ use Rattle.clr_order.proofs.Steps.{names_behind}
 use Rattle.clr_order.proofs.switching.unknown_point.Goals as goal
 
 pub returns : goal.returns
-returns c = c.stray_from.ensures ∙ ap (λ names. stray_point names (map task c.args.steps.now)) (names_behind c.args.found.now)
+returns c = c.stray_point.ensures ∙ ap (λ names. stray_point names (map task c.args.steps.now)) (names_behind c.args.found.now)
