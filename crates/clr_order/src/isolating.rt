@@ -1,7 +1,6 @@
 //! The check of an isolating order.
-ghost use Rattle.std.specs.Prelude.{◌≡◌, ◌↔◌, IsOk, not, find, map};
+ghost use Rattle.std.specs.Prelude.{◌≡◌, ◌↔◌, IsOk, map};
 ghost use Rattle.clr_net.specs.Names.{has_name};
-ghost use Rattle.clr_net.specs.declared.point.PointRow.{PointRow};
 ghost use Rattle.clr_order.specs.Isolating.{IsSoundWithin, has_repeat, isolating_fault, is_border_point, needed_at, off_border, source_inside, touching_row, wrong_point};
 ghost use Rattle.clr_order.specs.OrderFault.{answer_of};
 ghost use Rattle.clr_order.specs.Step.{actions_at, same_actions, stray_point, task};
