@@ -10,16 +10,14 @@ use Rattle.std.specs.Str.Parse.{digits_value, ParsesUnsigned}
 use Rattle.std.proofs.lemmas.Bool.{and_parts, and_from, eqb-true, leb-true, le-leb, le-ltb, ltb-false}
 use Rattle.std.proofs.lemmas.Bool.Decides.{nat_tests}
 use Rattle.std.proofs.lemmas.Fmt.{decimal-digits_value, decimal_nonempty, digits_decimal, digits_value-decimal, first_decimal, length-decimal-le}
-use Rattle.std.proofs.lemmas.List.Elements.{All-weaker}
-use Rattle.std.proofs.lemmas.List.Sums.{AllPass-from_list_all, split_at_first, passes_at_first}
+use Rattle.std.proofs.lemmas.List.Sums.{split_at_first, passes_at_first}
 use Rattle.std.proofs.Math.Seq.{take-append_seam, drop-append-add}
 use Rattle.std.proofs.lemmas.Str.Parse.{IsNumeralModel, numerals_by_value, digits_value_short, parse_gives}
 use Rattle.clr_net.specs.Name.{is_name, is_name_byte}
 use Rattle.clr_net.specs.NameText.{bad_byte, read_name, unless_bad_byte}
 use Rattle.clr_net.specs.declared.name.NameFault.{NameFault}
 use Rattle.clr_net.specs.declared.name.NameFault.TheVariants.{TooLong}
-use Rattle.clr_net.proofs.Names.{is_name_from, name_parts}
-use Rattle.clr_net.proofs.Places.{all_none}
+use Rattle.clr_net.proofs.Names.{is_name_from, name_has_none, name_parts}
 use Rattle.clr_rules.specs.Id.{Id, id_text, is_clearance_number, is_id, new_id}
 use Rattle.clr_rules.specs.IdText.{id_of, is_numeral, is_slash, read_id, read_number}
 use Rattle.clr_rules.specs.declared.clearance_id.IdFault.{IdFault}
@@ -106,8 +104,7 @@ name_read name h =
     let parts = name_parts name h in
     let none : (length name == 0) ≡ false = grind (arith, nat_tests) in
     let short : nat_lt 24 (length name) ≡ false = le-ltb 24 (length name) parts.1 in
-    let good : bad_byte name ≡ None =
-    all_none (λ b. not (is_name_byte b)) name (All-weaker (λ b. is_name_byte b ≡ true) (λ b. not (is_name_byte b) ≡ false) (λ b e. ap not e) name (AllPass-from_list_all is_name_byte name parts.2)) in
+    let good = name_has_none name h in
     rw (none, short, good) refl
 
 not_slash : (b : ℕ) → is_name_byte b ≡ true → (b == 47) ≡ false

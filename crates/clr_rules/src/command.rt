@@ -48,8 +48,8 @@ pub enum Kind {
     /// The reader of a step reports that it was done, or that it was not.
     Report {
         clearance: ClearanceId,
-        done: bool,
         step: u16,
+        done: bool,
     },
     /// An operator gives the clearance: (m)(3)(vi).
     Grant {
@@ -58,8 +58,8 @@ pub enum Kind {
     /// The holder has tested a section, and it was dead or it was not: (m)(3)(vii).
     Test {
         clearance: ClearanceId,
-        dead: bool,
         section: Name,
+        dead: bool,
     },
     /// The holder grounds a section: (m)(3)(viii), (n)(5).
     Ground {
@@ -84,16 +84,16 @@ pub enum Kind {
     /// The clearance goes to another holder; in an emergency the holder's supervisor may say so: (m)(3)(ix).
     Transfer {
         clearance: ClearanceId,
-        emergency: bool,
         to: Name,
+        emergency: bool,
     },
     /// The holder gives the clearance back: (m)(3)(x), (xi).
     Release {
         clearance: ClearanceId,
-        /// Whether all employees are clear.
-        clear: bool,
         /// Whether all employees are notified.
         notified: bool,
+        /// Whether all employees are clear.
+        clear: bool,
     },
     /// The holder gives up an order that is not granted.
     Cancel {
