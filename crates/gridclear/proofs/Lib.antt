@@ -1,4 +1,3 @@
 pub mod Answered
-pub mod FileFaults
 pub mod Found
 pub mod PointsNamed

@@ -5,13 +5,17 @@ use Rattle.clr_net.specs.NameText.{read_name}
 use Rattle.clr_net.specs.Grid.{Grid, section_names, point_names}
 use Rattle.clr_net.specs.Fence.{fence_of}
 use Rattle.clr_net.specs.Network.{IsGridOf, first_fault}
+use Rattle.clr_csv.specs.Points.{points_of}
+use Rattle.clr_csv.specs.Sections.{sections_of}
 use Rattle.clr_net.specs.declared.section.SectionRow.{SectionRow}
 use Rattle.clr_net.specs.declared.point.PointRow.{PointRow}
 use Rattle.clr_net.specs.declared.net_fault.NetFault.{NetFault}
 use Rattle.clr_net.specs.declared.name.NameFault.{NameFault}
 use Rattle.gridclear.specs.Answers.{◌>>=◌}
 use Rattle.gridclear.specs.Fault.{of_name, of_network}
+use Rattle.gridclear.specs.Files.{IsUnread, told_of}
 use Rattle.gridclear.specs.Lines.{lines_of}
+use Rattle.gridclear.specs.declared.fault.ImportFile.TheVariants.{Sections, Points}
 use Rattle.gridclear.specs.declared.fault.Fault.{Fault}
 use Rattle.gridclear.specs.declared.fault.Fault.TheVariants.{Memory, UnknownSection, UnknownPoint}
 
@@ -61,3 +65,20 @@ IsFenceOf None sections points work cut told = (g : Grid) × IsGridOf sections p
 abbrev pub FencesRows : {T : Type 0} → (T → List ℕ) → List SectionRow → List PointRow → List ℕ → List (List ℕ) → Result T Fault → Type 0
 FencesRows view sections points work cut (Ok value) = IsFenceOf (first_fault sections points) sections points work cut (Ok (view value))
 FencesRows view sections points work cut (Err fault) = fault ≢ Memory → IsFenceOf (first_fault sections points) sections points work cut (Err fault)
+
+-- What `fence` answers of the bytes of its two files: the first fault of the sections, then that of the points, else what it
+-- answers of their rows.
+abbrev pub After : {A : Type 0} → Result A Fault → (A → Result (List ℕ) Fault → Type 0) → Result (List ℕ) Fault → Type 0
+After (Ok value) next told = next value told
+After (Err fault) next told = told ≡ Err fault
+
+abbrev pub IsFenceOfFiles : List ℕ → List ℕ → List ℕ → List (List ℕ) → Result (List ℕ) Fault → Type 0
+IsFenceOfFiles section_file point_file work cut =
+    After (told_of Sections (sections_of section_file)) (λ sections.
+    After (told_of Points (points_of point_file)) (λ points.
+    IsFenceOf (first_fault sections points) sections points work cut))
+
+-- the same of bytes, as a call answers it; only want of memory, or a file that goes unread, may come in place of the answer
+abbrev pub FencesFiles : {T : Type 0} → (T → List ℕ) → List ℕ → List ℕ → List ℕ → List (List ℕ) → Result T Fault → Type 0
+FencesFiles view section_file point_file work cut (Ok value) = IsFenceOfFiles section_file point_file work cut (Ok (view value))
+FencesFiles view section_file point_file work cut (Err fault) = (IsUnread Sections fault → ⊥) → (IsUnread Points fault → ⊥) → IsFenceOfFiles section_file point_file work cut (Err fault)

@@ -1,26 +1,45 @@
 //! The subcommand `fence`: the sections that can be reached from one without passing a cut.
-ghost use Rattle.std.specs.Prelude.{◌≡◌, ◌++◌, IfOk, OnOk, map, string_bytes};
+ghost use Rattle.std.specs.Prelude.{◌≡◌, ◌++◌, IfOk, IfSome, OnOk, map, string_bytes};
 ghost use Rattle.gridclear.specs.Answers.{Gives};
-ghost use Rattle.gridclear.specs.Fence.{FencesRows, fence_lines, point_named, points_named, section_named};
+ghost use Rattle.gridclear.specs.Fence.{FencesFiles, FencesRows, fence_lines, point_named, points_named, section_named};
 ghost use Rattle.gridclear.specs.Lines.{line_of, lines_of};
 
 use crate::fault::Fault;
-use crate::files::{points_at, sections_at};
+use crate::files::{AtPath, Source, points_from, sections_from};
 use crate::words::word_of;
 use clap::ArgMatches;
 use clr_net::{Fence, Name, Network, PointRow, SectionRow};
 use std::alloc::{AllocError, Global};
 use std::rt::Files;
 
-/// What `fence SECTIONS POINTS WORK [CUT]...` prints. SECTIONS is read before POINTS is opened.
+/// What `fence SECTIONS POINTS WORK [CUT]...` prints.
 pub fn fence<R: Files + AllocGlobal>(rt: &R, matches: &ArgMatches<'_>) -> Result<String, Fault> {
-    let sections = sections_at(rt, word_of(matches, "SECTIONS"))?;
-    let points = points_at(rt, word_of(matches, "POINTS"))?;
+    let sections = AtPath::new(rt, word_of(matches, "SECTIONS"));
+    let points = AtPath::new(rt, word_of(matches, "POINTS"));
     let work = word_of(matches, "WORK");
     let text = match matches.get_strs("CUT") {
-        Some(cut) => fence_of_rows(rt.alloc(), sections, points, work, cut)?,
-        None => fence_of_rows(rt.alloc(), sections, points, work, &[])?,
+        Some(cut) => fence_of_files(rt.alloc(), &sections, &points, work, cut)?,
+        None => fence_of_files(rt.alloc(), &sections, &points, work, &[])?,
     };
+    Ok(text)
+}
+
+/// The printed fence, in the network of two files, of the section that `work` names, cut at the
+/// points that `cut` names. The sections are read before the points are opened.
+pub fn fence_of_files<S: Source, P: Source>(
+    alloc: Global,
+    sections: &S,
+    points: &P,
+    work: &str,
+    cut: &[&str],
+) -> Result<String, Fault>
+    ensures { IfSome (S.bytes sections.now) (λ section_file. IfSome (P.bytes points.now) (λ point_file.
+        FencesFiles (λ text. string_bytes text) section_file point_file
+        work.now (map (λ word. word.now) cut.now) result)) }
+{
+    let sections = sections_from(alloc, sections)?;
+    let points = points_from(alloc, points)?;
+    let text = fence_of_rows(alloc, sections, points, work, cut)?;
     Ok(text)
 }
 

@@ -1,10 +1,10 @@
 //! The subcommand `init`: the check of the files of a network and its staff.
-ghost use Rattle.std.specs.Prelude.{◌≡◌, IfOk, string_bytes};
+ghost use Rattle.std.specs.Prelude.{◌≡◌, IfOk, IfSome, string_bytes};
 ghost use Rattle.gridclear.specs.Answers.{Gives};
-ghost use Rattle.gridclear.specs.Init.{counts_line, counts_of};
+ghost use Rattle.gridclear.specs.Init.{CountsFiles, counts_line, counts_of};
 
 use crate::fault::Fault;
-use crate::files::{points_at, sections_at, staff_at};
+use crate::files::{AtPath, Source, points_from, sections_from, staff_from};
 use crate::words::word_of;
 use clap::ArgMatches;
 use clr_csv::{Staff, StaffRow};
@@ -12,13 +12,31 @@ use clr_net::{Network, PointRow, SectionRow};
 use std::alloc::{AllocError, Global};
 use std::rt::Files;
 
-/// What `init SECTIONS POINTS STAFF` prints. The files are read in this order, each before the next
-/// is opened.
+/// What `init SECTIONS POINTS STAFF` prints.
 pub fn init<R: Files + AllocGlobal>(rt: &R, matches: &ArgMatches<'_>) -> Result<String, Fault> {
-    let sections = sections_at(rt, word_of(matches, "SECTIONS"))?;
-    let points = points_at(rt, word_of(matches, "POINTS"))?;
-    let staff = staff_at(rt, word_of(matches, "STAFF"))?;
-    let text = counts_of_rows(rt.alloc(), sections, points, staff)?;
+    let sections = AtPath::new(rt, word_of(matches, "SECTIONS"));
+    let points = AtPath::new(rt, word_of(matches, "POINTS"));
+    let staff = AtPath::new(rt, word_of(matches, "STAFF"));
+    let text = counts_of_files(rt.alloc(), &sections, &points, &staff)?;
+    Ok(text)
+}
+
+/// The line that says how many rows of each kind three files have, if they hold a network and a
+/// staff. The files are read in this order, each before the next is opened.
+pub fn counts_of_files<S: Source, P: Source, E: Source>(
+    alloc: Global,
+    sections: &S,
+    points: &P,
+    staff: &E,
+) -> Result<String, Fault>
+    ensures { IfSome (S.bytes sections.now) (λ section_file. IfSome (P.bytes points.now) (λ point_file.
+        IfSome (E.bytes staff.now) (λ staff_file.
+        CountsFiles (λ text. string_bytes text) section_file point_file staff_file result))) }
+{
+    let sections = sections_from(alloc, sections)?;
+    let points = points_from(alloc, points)?;
+    let staff = staff_from(alloc, staff)?;
+    let text = counts_of_rows(alloc, sections, points, staff)?;
     Ok(text)
 }
 
