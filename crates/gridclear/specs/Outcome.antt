@@ -1,18 +1,19 @@
 -- How an outcome is told: the status, and what is written where.
-use Rattle.std.specs.Prelude.{ℕ, ◌≡◌, ◌≤◌, ◌⊎◌, List, [], Option, string_bytes}
+use Rattle.std.specs.Prelude.{ℕ, ◌≡◌, ◌≤◌, ◌⊎◌, List, [], Option, Result, Ok, Err, string_bytes}
 use Rattle.clap.specs.Words.{IsAmong, Kinds}
 use Rattle.clap.specs.declared.error.kind.ErrorKind.TheVariants.{DisplayHelp, DisplayVersion}
 use Rattle.std.specs.Io.KnownBytes.{Appends, Keeps}
 use Rattle.gridclear.specs.declared.outcome.Outcome.{Outcome}
-use Rattle.gridclear.specs.declared.outcome.Outcome.TheVariants.{Answer, Unread, Fault}
+use Rattle.gridclear.specs.declared.outcome.Outcome.TheVariants.{Answer, Unread}
+use Rattle.gridclear.specs.declared.fault.Fault.{Fault}
 
 -- The status, and what the two writers hold before and after, where that is known. An answer goes out whole and
 -- alone, or its writing is a fault; after any other outcome nothing went to the output.
-abbrev pub Tells : Outcome → ℕ → Option (List ℕ) → Option (List ℕ) → Option (List ℕ) → Option (List ℕ) → Type 0
-Tells (Answer text) status output output' errors errors' =
+abbrev pub Tells : Result Outcome Fault → ℕ → Option (List ℕ) → Option (List ℕ) → Option (List ℕ) → Option (List ℕ) → Type 0
+Tells (Ok (Answer text)) status output output' errors errors' =
     ((status ≡ 0) × Appends output output' (string_bytes text) × Keeps errors errors') ⊎ (status ≡ 1)
-Tells (Unread text) status output output' errors errors' = (status ≡ 2) × Keeps output output'
-Tells (Fault fault) status output output' errors errors' = (status ≡ 1) × Keeps output output'
+Tells (Ok (Unread text)) status output output' errors errors' = (status ≡ 2) × Keeps output output'
+Tells (Err fault) status output output' errors errors' = (status ≡ 1) × Keeps output output'
 
 -- what every outcome keeps to: the status is 0, 1 or 2; at 0 nothing went to the errors, and at 2 nothing to the output
 pub record IsTold (status : ℕ) (output output' errors errors' : Option (List ℕ)) : Type 0 where
@@ -20,16 +21,15 @@ pub record IsTold (status : ℕ) (output output' errors errors' : Option (List �
   pub answered : status ≡ 0 → Keeps errors errors'
   pub unread : status ≡ 2 → Keeps output output'
 
--- what clap tells is printed as an answer, as a mistake, or as a fault
+-- an answer, or help that was asked for
 abbrev pub IsAnswer : Outcome → Type 0
 IsAnswer (Answer text) = Unit {0}
 IsAnswer (Unread text) = ⊥
-IsAnswer (Fault fault) = ⊥
 
+-- why words do not parse
 abbrev pub IsUnread : Outcome → Type 0
 IsUnread (Answer text) = ⊥
 IsUnread (Unread text) = Unit {0}
-IsUnread (Fault fault) = ⊥
 
 -- The words may have an answer: clap finds nothing wrong with them, or they ask for help. The kinds are those of the
 -- errors that it may find.

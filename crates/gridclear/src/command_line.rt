@@ -1,4 +1,4 @@
-ghost use Rattle.std.specs.Prelude.{◌≡◌, ◌≢◌, ◌⊎◌, IfOk, map};
+ghost use Rattle.std.specs.Prelude.{◌≡◌, ◌≢◌, ◌⊎◌, [], Err, IfErr, IfOk, map};
 ghost use Rattle.std.specs.IoError.{error_kind};
 ghost use Rattle.std.specs.declared.io.ErrorKind.TheVariants as io_kind;
 ghost use Rattle.clap.specs.Words.{fault_of, kind_of};
@@ -11,7 +11,7 @@ use crate::init::init;
 use crate::outcome::{Outcome, tell};
 use crate::syntax;
 use clap::error::ErrorKind;
-use std::alloc::{AllocError, Global};
+use std::alloc::Global;
 use std::convert::AsStr;
 use std::io;
 use std::io::{Read, Write};
@@ -37,11 +37,7 @@ where
         (E.contents errors.old) (E.contents errors.new) }
     ensures words { result ≡ 0 → MayAnswer (fault_of gridclear (map S.text words.now)) }
 {
-    let outcome = match answer(rt, words) {
-        Ok(outcome) => outcome,
-        Err(fault) => Outcome::Fault(fault),
-    };
-    tell(outcome, output, errors)
+    tell(answer(rt, words), output, errors)
 }
 
 /// Tells why the arguments of the program could not be had: one is no text, or memory ran out.
@@ -50,7 +46,7 @@ pub fn no_words<E: Write>(cause: &io::Error, errors: &mut E) -> u8
     ensures no_text { error_kind cause.now ≢ io_kind.OutOfMemory → result ≡ 2 }
 {
     match cause.kind() {
-        io::ErrorKind::OutOfMemory => tell(Outcome::Fault(Fault::Memory), &mut io::sink(), errors),
+        io::ErrorKind::OutOfMemory => tell(Err(Fault::Memory), &mut io::sink(), errors),
         _ => {
             let _ = errors.write_all(b"error: an argument is not UTF-8 text\n");
             2
@@ -63,8 +59,10 @@ fn answer<R, S>(rt: &R, words: &[S]) -> Result<Outcome, Fault>
 where
     R: Files + AllocGlobal,
     S: AsStr,
-    ensures { IfOk result (λ outcome. IsAnswer outcome
+    ensures answers { IfOk result (λ outcome. IsAnswer outcome
         → MayAnswer (fault_of gridclear (map S.text words.now))) }
+    ensures faults { IfErr result (λ fault. (fault ≡ Fault.Memory)
+        ⊎ (fault_of gridclear (map S.text words.now) ≡ [])) }
 {
     let mut command = syntax::command(rt.alloc())?;
     let matches = match command.try_get_matches_from_mut(words) {
@@ -91,9 +89,9 @@ where
 }
 
 /// What words come to that give no matches.
-fn unparsed(alloc: Global, error: &clap::Error) -> Result<Outcome, AllocError>
-    ensures memory { kind_of error.now ≡ ErrorKind.OutOfMemory
-        → IfOk result (λ outcome. outcome ≡ Outcome.Fault Fault.Memory) }
+fn unparsed(alloc: Global, error: &clap::Error) -> Result<Outcome, Fault>
+    ensures memory { kind_of error.now ≡ ErrorKind.OutOfMemory → result ≡ Err Fault.Memory }
+    ensures faults { IfErr result (λ fault. fault ≡ Fault.Memory) }
     ensures help { (kind_of error.now ≡ ErrorKind.DisplayHelp)
         ⊎ (kind_of error.now ≡ ErrorKind.DisplayVersion) → IfOk result IsAnswer }
     ensures mistake { kind_of error.now ≢ ErrorKind.OutOfMemory
@@ -101,7 +99,7 @@ fn unparsed(alloc: Global, error: &clap::Error) -> Result<Outcome, AllocError>
         → kind_of error.now ≢ ErrorKind.DisplayVersion → IfOk result IsUnread }
 {
     if error.kind() == ErrorKind::OutOfMemory {
-        return Ok(Outcome::Fault(Fault::Memory));
+        return Err(Fault::Memory);
     }
     let text = format!(in alloc; "{error}")?;
     if error.use_stderr() {

@@ -8,34 +8,32 @@ use crate::fault::Fault;
 use std::io;
 use std::io::Write;
 
-/// What a command line comes to.
+/// What words come to that meet no fault.
 #[derive(Debug, Drop)]
 pub enum Outcome {
     /// The answer, or the help that was asked for.
     Answer(String),
     /// Why the words do not parse.
     Unread(String),
-    /// The command met a fault.
-    Fault(Fault),
 }
 
-/// Writes an outcome to where it belongs, and returns the exit status: an answer to `output`, 0; a
-/// fault to `errors`, 1; why words do not parse to `errors`, 2. An answer that cannot be written is
-/// a fault. What cannot be written to `errors` is lost.
-pub fn tell<W: Write, E: Write>(outcome: Outcome, output: &mut W, errors: &mut E) -> u8
-    ensures { Tells outcome result (W.contents output.old) (W.contents output.new)
+/// Writes what words came to where it belongs, and returns the exit status: an answer to `output`,
+/// 0; a fault to `errors`, 1; why words do not parse to `errors`, 2. An answer that cannot be
+/// written is a fault. What cannot be written to `errors` is lost.
+pub fn tell<W: Write, E: Write>(told: Result<Outcome, Fault>, output: &mut W, errors: &mut E) -> u8
+    ensures { Tells told result (W.contents output.old) (W.contents output.new)
         (E.contents errors.old) (E.contents errors.new) }
 {
-    match outcome {
-        Outcome::Answer(text) => match print(text.as_str(), output) {
+    match told {
+        Ok(Outcome::Answer(text)) => match print(text.as_str(), output) {
             Ok(()) => 0,
             Err(_) => tell_fault(Fault::Output, errors),
         },
-        Outcome::Unread(text) => {
+        Ok(Outcome::Unread(text)) => {
             let _ = errors.write_all(text.as_str().as_bytes());
             2
         }
-        Outcome::Fault(fault) => tell_fault(fault, errors),
+        Err(fault) => tell_fault(fault, errors),
     }
 }
 

@@ -1,13 +1,20 @@
-use Rattle.gridclear.proofs.Answered.{HasKind-words, MayAnswer-from_help, MayAnswer-parsed}
+use Rattle.gridclear.proofs.Answered.{HasKind-words, IfErr-parsed, MayAnswer-from_help, MayAnswer-parsed}
 use Rattle.gridclear.proofs.command_line.answer.Goals as goal
 
-pub returns-in-Err : goal.returns-in-Err
-returns-in-Err g c =
+pub returns-in-Err-clause-answers : goal.returns-in-Err-clause-answers
+returns-in-Err-clause-answers g c =
     let has = HasKind-words _ _ c.in-Err.error c.in_ok-command.ensures c.in-Err.ensures.kinds in
-    MayAnswer-from_help _ c.in-Err.error _ has c.in_ok-outcome-in-Err.ensures.memory c.in_ok-outcome-in-Err.ensures.mistake
+    let told = c.in_ok-outcome-in-Err.ensures in
+    MayAnswer-from_help _ c.in-Err.error c.in_ok-outcome-in-Err.outcome has (λ memory. cc (told.memory memory)) told.mistake
 
-pub returns-in-Some-fence-default : goal.returns-in-Some-fence-default
-returns-in-Some-fence-default g c = λ _. MayAnswer-parsed _ _ c.in_ok-command.ensures c.in-Ok.ensures.kinds
+pub returns-in-Some-fence-default-clause-answers : goal.returns-in-Some-fence-default-clause-answers
+returns-in-Some-fence-default-clause-answers g c = λ _. MayAnswer-parsed _ _ c.in_ok-command.ensures c.in-Ok.ensures.kinds
 
-pub returns-in-Some-init-default : goal.returns-in-Some-init-default
-returns-in-Some-init-default g c = λ _. MayAnswer-parsed _ _ c.in_ok-command.ensures c.in-Ok.ensures.kinds
+pub returns-in-Some-init-default-clause-answers : goal.returns-in-Some-init-default-clause-answers
+returns-in-Some-init-default-clause-answers g c = λ _. MayAnswer-parsed _ _ c.in_ok-command.ensures c.in-Ok.ensures.kinds
+
+pub returns-in_err-text-in-Some-fence-default-clause-faults : goal.returns-in_err-text-in-Some-fence-default-clause-faults
+returns-in_err-text-in-Some-fence-default-clause-faults g c = IfErr-parsed c.from_residual-in_err-text-in-Some-fence-default.result _ _ c.in_ok-command.ensures c.in-Ok.ensures.kinds
+
+pub returns-in_err-text-in-Some-init-default-clause-faults : goal.returns-in_err-text-in-Some-init-default-clause-faults
+returns-in_err-text-in-Some-init-default-clause-faults g c = IfErr-parsed c.from_residual-in_err-text-in-Some-init-default.result _ _ c.in_ok-command.ensures c.in-Ok.ensures.kinds
