@@ -6,6 +6,8 @@ mod csv;
 #[cfg(test)]
 mod fences;
 #[cfg(test)]
+mod networks;
+#[cfg(test)]
 mod orders;
 #[cfg(test)]
 mod staff;
