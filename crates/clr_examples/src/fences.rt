@@ -1,5 +1,5 @@
 //! Which sections a fence has.
-use crate::worked::{chain, fence_len, fence_names, single_section, worked_network};
+use crate::worked::{chain, fence_len, fence_names, net_fault, single_section, worked_network};
 use clr_net::NetFault;
 use std::test::Fail;
 
@@ -42,6 +42,6 @@ fn chain_of_five_thousand_sections(rt: HostRuntime) -> Result<(), Fail> {
 #[test]
 fn one_section_too_many(rt: HostRuntime) -> Result<(), Fail> {
     let told = chain(rt.alloc(), 5001)?;
-    assert_eq!(rt; told.err(), Some(NetFault::TooLarge));
+    assert_eq!(rt; net_fault(told)?, Some(NetFault::TooLarge));
     Ok(())
 }

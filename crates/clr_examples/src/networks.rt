@@ -1,4 +1,5 @@
 //! Texts that are no names, and the first fault of rows that are to be a network.
+use crate::worked::net_fault;
 use clr_csv::{Counted, read_points, read_sections};
 use clr_net::{Name, NameFault, NetFault, Network, PointRow, Position};
 use std::alloc::Global;
@@ -52,7 +53,7 @@ fn first_fault_of_a_network(rt: HostRuntime) -> Result<(), Fail> {
     ];
     for (sections, points, fault) in cases {
         let told = network_in(rt.alloc(), sections, points)?;
-        assert_eq!(rt; told.err(), Some(fault));
+        assert_eq!(rt; net_fault(told)?, Some(fault));
     }
     let worked = network_in(rt.alloc(), SECTIONS, POINTS)??;
     assert_eq!(rt; worked.points().len(), 5);
@@ -76,6 +77,6 @@ fn one_point_too_many(rt: HostRuntime) -> Result<(), Fail> {
         })?;
     }
     let told = Network::build(rt.alloc(), sections, points);
-    assert_eq!(rt; told.err(), Some(NetFault::TooLarge));
+    assert_eq!(rt; net_fault(told)?, Some(NetFault::TooLarge));
     Ok(())
 }

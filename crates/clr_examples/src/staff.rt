@@ -11,6 +11,14 @@ fn staff_in(alloc: Global, rows: &str) -> Result<Result<Staff, StaffFault>, Fail
     Ok(Staff::build(alloc, rows))
 }
 
+/// The fault of rows that are no staff, if they have one. Want of memory is never what a test asks for: it ends the test.
+fn staff_fault(told: Result<Staff, StaffFault>) -> Result<Option<StaffFault>, Fail> {
+    match told {
+        Err(StaffFault::NoMemory) => Err(StaffFault::NoMemory.into()),
+        told => Ok(told.err()),
+    }
+}
+
 /// The employees E0001, E0002 and on, each but the first with the one before as supervisor.
 fn chain_of_command(alloc: Global, count: u16) -> Result<Vec<StaffRow>, Fail> {
     let mut rows = Vec::new(alloc);
@@ -76,7 +84,7 @@ fn first_fault_of_a_staff(rt: HostRuntime) -> Result<(), Fail> {
     ];
     for (rows, fault) in cases {
         let told = staff_in(rt.alloc(), rows)?;
-        assert_eq!(rt; told.err(), Some(fault), "of {rows}");
+        assert_eq!(rt; staff_fault(told)?, Some(fault), "of {rows}");
     }
     Ok(())
 }
@@ -98,7 +106,7 @@ fn two_thousand_employees(rt: HostRuntime) -> Result<(), Fail> {
 fn one_employee_too_many(rt: HostRuntime) -> Result<(), Fail> {
     let rows = chain_of_command(rt.alloc(), 2001)?;
     let told = Staff::build(rt.alloc(), rows);
-    assert_eq!(rt; told.err(), Some(StaffFault::TooMany));
+    assert_eq!(rt; staff_fault(told)?, Some(StaffFault::TooMany));
 
     let mut rows = chain_of_command(rt.alloc(), 2000)?;
     rows.push(StaffRow {
@@ -107,6 +115,9 @@ fn one_employee_too_many(rt: HostRuntime) -> Result<(), Fail> {
         supervisor: Some(Name::read("BOSS")?),
     })?;
     let told = Staff::build(rt.alloc(), rows);
-    assert_eq!(rt; told.err(), Some(StaffFault::UnknownSupervisor(2001)));
+    assert_eq!(rt;
+        staff_fault(told)?,
+        Some(StaffFault::UnknownSupervisor(2001))
+    );
     Ok(())
 }

@@ -70,6 +70,14 @@ pub fn chain(alloc: Global, count: u16) -> Result<Result<Network, NetFault>, Fai
     Ok(Network::build(alloc, sections, points))
 }
 
+/// The fault of rows that are no network, if they have one. Want of memory is never what a test asks for: it ends the test.
+pub fn net_fault(told: Result<Network, NetFault>) -> Result<Option<NetFault>, Fail> {
+    match told {
+        Err(NetFault::NoMemory) => Err(NetFault::NoMemory.into()),
+        told => Ok(told.err()),
+    }
+}
+
 /// The name of a section or point of a chain, whose places count from 0.
 fn chain_name(alloc: Global, letter: char, place: u16) -> Result<Name, Fail> {
     let number = u32::from(place) + 1;
