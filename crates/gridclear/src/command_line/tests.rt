@@ -67,14 +67,30 @@ fn remove_tables<R: Files>(rt: &R, tables: &Tables) -> io::Result<()> {
     fs::remove_file(rt, tables.points.as_str())
 }
 
+/// What a command line wrote to the errors. Want of memory ends the test: its line says so, or memory
+/// was wanted for the line itself.
+fn errors_told(status: u8, errors: Vec<u8>) -> Result<String, Fail> {
+    let errors = String::from_utf8(errors)?;
+    let cut = status != 0 && !errors.as_str().ends_with("\n");
+    if cut || errors.as_str() == "fault: memory NoMemory\n" {
+        return Err(Fail::new("memory ran out"));
+    }
+    Ok(errors)
+}
+
 fn run_words<R: Files + AllocGlobal>(rt: &R, words: &[&str]) -> Result<Run, Fail> {
     let mut output = Vec::new(rt.alloc());
     let mut errors = Vec::new(rt.alloc());
     let status = command_line(rt, words, &mut io::empty(), &mut output, &mut errors);
+    let errors = errors_told(status, errors)?;
+    // The output is memory, and fails for want of memory alone.
+    if errors.as_str() == "fault: output WriteFailed\n" {
+        return Err(Fail::new("memory ran out"));
+    }
     Ok(Run {
         status,
         output: String::from_utf8(output)?,
-        errors: String::from_utf8(errors)?,
+        errors,
     })
 }
 
@@ -333,6 +349,16 @@ fn help_and_words_that_do_not_parse(rt: HostRuntime) -> Result<(), Fail> {
     assert_eq!(rt; bare.status, 2);
     assert_eq!(rt; bare.output.as_str(), "");
     assert!(rt; bare.errors.as_str().contains("Usage: gridclear"));
+    let help = run_words(&rt, &["gridclear", "fence", "--help"])?;
+    assert_eq!(rt; help.status, 0);
+    assert!(rt; help.output.as_str().contains("Usage: gridclear fence"));
+    assert_eq!(rt; help.errors.as_str(), "");
+    for word in ["fence", "bogus"] {
+        let told = run_words(&rt, &["gridclear", word])?;
+        assert_eq!(rt; told.status, 2, "of {word}");
+        assert_eq!(rt; told.output.as_str(), "");
+        assert_ne!(rt; told.errors.as_str(), "");
+    }
     let short = run_words(&rt, &["gridclear", "fence", "sections.csv"])?;
     assert_eq!(rt; short.status, 2);
     assert_eq!(rt; short.output.as_str(), "");
@@ -365,10 +391,8 @@ fn answer_that_cannot_be_written(rt: HostRuntime) -> Result<(), Fail> {
         &mut Broken,
         &mut errors,
     );
+    let errors = errors_told(status, errors)?;
     assert_eq!(rt; status, 1);
-    assert_eq!(rt;
-        errors.as_slice(),
-        b"fault: output WriteFailed\n".as_slice()
-    );
+    assert_eq!(rt; errors.as_str(), "fault: output WriteFailed\n");
     Ok(())
 }
