@@ -1,0 +1,126 @@
+-- WHAT AN ACCEPTED COMMAND CHANGES: its edits, in the order of their kinds, those of a kind in the order of their keys. An edit
+-- stands also where it changes nothing.
+use Rattle.std.specs.Prelude.{ℕ, ◌+◌, Bool, ◌&&◌, if◌then◌else◌, List, [], ◌∷◌, ◌++◌, map, Option, None, Some}
+use Rattle.clr_net.specs.declared.point.Position.TheVariants.{Opened, Closed as Shut}
+use Rattle.clr_order.specs.Step.{Task}
+use Rattle.clr_order.specs.declared.action.Action.{Action}
+use Rattle.clr_order.specs.declared.action.Action.TheVariants as actions
+use Rattle.clr_order.specs.declared.step.StepState.{StepState}
+use Rattle.clr_order.specs.declared.step.StepState.TheVariants.{Waiting, Instructed, Repeated, Done}
+use Rattle.clr_shelf.specs.Rows.{with_row}
+use Rattle.clr_rules.specs.Holds.{has_any_hold, hold_of, places_of}
+use Rattle.clr_rules.specs.Id.{Id}
+use Rattle.clr_rules.specs.Records.{ends_with_steps, is_ordered, is_switch_order, record_of}
+use Rattle.clr_rules.specs.Register.{Register}
+use Rattle.clr_rules.specs.StepKey.{step_key, step_key_cmp}
+use Rattle.clr_rules.specs.Steps.{all_done, present, step_at}
+use Rattle.clr_rules.specs.declared.change.Edit.{Edit}
+use Rattle.clr_rules.specs.declared.change.Edit.TheVariants.{SetPosition, SetHand, PutHold, TakeHold, PutRecord, PutStep}
+use Rattle.clr_rules.specs.declared.command.Kind.{Kind}
+use Rattle.clr_rules.specs.declared.command.Kind.TheVariants as kinds
+use Rattle.clr_rules.specs.declared.hold_kind.HoldKind.TheVariants.{HeldOpen, Block, Control, Tag, Tested, Ground, Crew}
+use Rattle.clr_rules.specs.declared.phase.Phase.{Phase}
+use Rattle.clr_rules.specs.declared.phase.Phase.TheVariants.{Requested, Ordered, Granted, Released, Restoring, Switching, Closed}
+use Rattle.clr_rules.specs.declared.record.Record.{Record}
+use Rattle.clr_rules.specs.declared.step_row.StepRow.{StepRow}
+
+-- the steps of a round, numbered from n, each Waiting and without a reader
+pub new_steps : Id → ℕ → ℕ → List Task → List StepRow
+new_steps c round n [] = []
+new_steps c round n (t ∷ tasks) =
+    record { id = c; round = round; ordinal = n; step = record { action = t.action; point = t.point; state = Waiting; reader = None } }
+    ∷ new_steps c round (n + 1) tasks
+
+abbrev pub put_steps : List StepRow → List Edit
+put_steps rows = map PutStep rows
+
+-- a step come to another state, with its reader
+abbrev pub moved : StepState → Option (List ℕ) → StepRow → StepRow
+moved state reader row = record row { step = record (StepRow.step row) { state = state; reader = reader } }
+
+-- the position that an action puts a point in
+abbrev pub position_edits : Action → List ℕ → List Edit
+position_edits actions.Open p = SetPosition p Opened ∷ []
+position_edits actions.Close p = SetPosition p Shut ∷ []
+position_edits _ p = []
+
+-- the hold that an action puts or takes; a switch order holds nothing open
+abbrev pub hold_edits : Bool → Id → Action → List ℕ → List Edit
+hold_edits switching c actions.Open p = if switching then [] else PutHold (hold_of c HeldOpen p) ∷ []
+hold_edits switching c actions.Block p = PutHold (hold_of c Block p) ∷ []
+hold_edits switching c actions.Control p = PutHold (hold_of c Control p) ∷ []
+hold_edits switching c actions.Tag p = PutHold (hold_of c Tag p) ∷ []
+hold_edits switching c actions.Untag p = TakeHold (hold_of c Tag p) ∷ []
+hold_edits switching c actions.Uncontrol p = TakeHold (hold_of c Control p) ∷ []
+hold_edits switching c actions.Unblock p = TakeHold (hold_of c Block p) ∷ []
+hold_edits switching c actions.Close p = TakeHold (hold_of c HeldOpen p) ∷ []
+hold_edits switching c actions.Leave p = TakeHold (hold_of c HeldOpen p) ∷ []
+
+-- the phase after a step is Done: a restoring or switching order ends with its last step
+abbrev pub phase_after : List StepRow → Record → StepRow → Phase
+phase_after steps r row =
+    if ends_with_steps r.phase && all_done (present (with_row step_key_cmp step_key row steps) r.id) then Closed else r.phase
+
+-- the edits of a step that is reported done
+abbrev pub done_edits : Register → ℕ → Record → StepRow → List Edit
+done_edits R at r row =
+    let p = row.step.point in
+    let done = moved Done row.step.reader row in
+    position_edits row.step.action p ++ SetHand p None ∷ hold_edits (is_switch_order r) r.id row.step.action p
+    ++ PutRecord (record r { phase = phase_after R.steps r done; last = at }) ∷ PutStep done ∷ []
+
+-- the edits of a step that is reported not done
+abbrev pub undone_edits : ℕ → Record → StepRow → List Edit
+undone_edits at r row = SetHand row.step.point None ∷ PutRecord (record r { last = at }) ∷ PutStep (moved Waiting None row) ∷ []
+
+-- a clearance that was ordered and holds something is released, so that a restoring order can undo it; any other is closed
+abbrev pub cancelled_phase : Register → Record → Phase
+cancelled_phase R r = if is_ordered r.phase && has_any_hold R.holds r.id then Released else Closed
+
+-- a new record of the caller's, with the number after the greatest
+abbrev pub new_record : ℕ → List ℕ → ℕ → Option (List ℕ) → Phase → Record
+new_record greatest by at work phase =
+    record { id = record { requester = by; number = greatest + 1 }; holder = by; work = work; phase = phase; last = at }
+
+-- edits by what was found; where nothing was found the command was refused
+abbrev pub edits_by : {X : Type 0} → Option X → (X → List Edit) → List Edit
+edits_by None edits = []
+edits_by (Some x) edits = edits x
+
+abbrev pub with_record : Register → Id → (Record → List Edit) → List Edit
+with_record R c edits = edits_by (record_of R.records c) edits
+
+abbrev pub with_step : Register → Id → ℕ → (Record → StepRow → List Edit) → List Edit
+with_step R c n edits = with_record R c (λ r. edits_by (step_at (present R.steps c) n) (edits r))
+
+abbrev pub edits_of : ℕ → Register → List ℕ → ℕ → Kind → List Edit
+edits_of greatest R by at (kinds.Request section) = PutRecord (new_record greatest by at (Some section) Requested) ∷ []
+edits_of greatest R by at (kinds.Order c points tasks) =
+    with_record R c (λ r. PutRecord (record r { phase = Ordered; last = at }) ∷ put_steps (new_steps c 1 1 tasks))
+edits_of greatest R by at (kinds.Instruct c n) = with_step R c n (λ r row.
+    SetHand row.step.point (Some c) ∷ PutRecord (record r { last = at }) ∷ PutStep (moved Instructed row.step.reader row) ∷ [])
+edits_of greatest R by at (kinds.Repeat c n text) = with_step R c n (λ r row.
+    PutRecord (record r { last = at }) ∷ PutStep (moved Repeated (Some by) row) ∷ [])
+edits_of greatest R by at (kinds.Report c n done) = with_step R c n (λ r row. if done then done_edits R at r row else undone_edits at r row)
+edits_of greatest R by at (kinds.Grant c) = with_record R c (λ r. PutRecord (record r { phase = Granted; last = at }) ∷ [])
+edits_of greatest R by at (kinds.Test c section dead) = with_record R c (λ r.
+    (if dead then PutHold (hold_of c Tested section) else TakeHold (hold_of c Tested section)) ∷ PutRecord (record r { last = at }) ∷ [])
+edits_of greatest R by at (kinds.Ground c section) =
+    with_record R c (λ r. PutHold (hold_of c Ground section) ∷ PutRecord (record r { last = at }) ∷ [])
+edits_of greatest R by at (kinds.Unground c section) = with_record R c (λ r.
+    TakeHold (hold_of c Ground section) ∷ TakeHold (hold_of c Tested section) ∷ PutRecord (record r { last = at }) ∷ [])
+edits_of greatest R by at (kinds.SignOn c crew) =
+    with_record R c (λ r. PutHold (hold_of c Crew crew) ∷ PutRecord (record r { last = at }) ∷ [])
+edits_of greatest R by at (kinds.SignOff c crew) =
+    with_record R c (λ r. TakeHold (hold_of c Crew crew) ∷ PutRecord (record r { last = at }) ∷ [])
+edits_of greatest R by at (kinds.Transfer c to emergency) = with_record R c (λ r. PutRecord (record r { holder = to; last = at }) ∷ [])
+edits_of greatest R by at (kinds.Release c notified clear) = with_record R c (λ r.
+    map (λ place. TakeHold (hold_of c Tested place)) (places_of R.holds c Tested) ++ PutRecord (record r { phase = Released; last = at }) ∷ [])
+edits_of greatest R by at (kinds.Cancel c) = with_record R c (λ r. PutRecord (record r { phase = cancelled_phase R r; last = at }) ∷ [])
+edits_of greatest R by at (kinds.Restore c tasks) =
+    with_record R c (λ r. PutRecord (record r { phase = Restoring; last = at }) ∷ put_steps (new_steps c 2 1 tasks))
+edits_of greatest R by at (kinds.Amend c n) = with_step R c n (λ r row.
+    PutRecord (record r { last = at }) ∷ PutStep (record row { step = record (StepRow.step row) { action = actions.Leave } }) ∷ [])
+edits_of greatest R by at (kinds.Switch tasks) =
+    PutRecord (new_record greatest by at None Switching) ∷ put_steps (new_steps (record { requester = by; number = greatest + 1 }) 1 1 tasks)
+edits_of greatest R by at (kinds.Show c) = []

@@ -1,0 +1,52 @@
+-- The fences of clearances, and what lies in a fence or touches it.
+use Rattle.std.specs.Prelude.{ℕ, Bool, ◌||◌, if◌then◌else◌, List, [], filter, Option, None, Some}
+use Rattle.clr_net.specs.Fence.{FenceRows, fence_of}
+use Rattle.clr_net.specs.Grid.{Grid, point_names, section_names}
+use Rattle.clr_net.specs.Names.{has_name}
+use Rattle.clr_net.specs.declared.point.PointRow.{PointRow}
+use Rattle.clr_rules.specs.Id.{Id}
+use Rattle.clr_rules.specs.Records.{is_fenced, record_of}
+use Rattle.clr_rules.specs.Register.{Register}
+use Rattle.clr_rules.specs.Steps.{points_of, steps_in}
+use Rattle.clr_rules.specs.declared.record.Record.{Record}
+use Rattle.clr_rules.specs.declared.step_row.StepRow.{StepRow}
+
+-- the sections of the fence of a work section that is cut at these points; a switch order has no work section, and no fence
+abbrev pub work_fence : Grid → Option (List ℕ) → List (List ℕ) → List (List ℕ)
+work_fence g None cut = []
+work_fence g (Some work) cut = section_names (FenceRows.sections (fence_of g work cut))
+
+-- the sections of a record's fence: it is cut at the points of the first round. A record that is Requested or Closed has none
+abbrev pub record_fence : Grid → List StepRow → Record → List (List ℕ)
+record_fence g steps r = if is_fenced r.phase then work_fence g r.work (points_of (steps_in steps r.id 1)) else []
+
+abbrev pub found_fence : Grid → List StepRow → Option Record → List (List ℕ)
+found_fence g steps None = []
+found_fence g steps (Some r) = record_fence g steps r
+
+-- THE FENCE OF A CLEARANCE
+abbrev pub clearance_fence : Register → Id → List (List ℕ)
+clearance_fence R c = found_fence R.net R.steps (record_of R.records c)
+
+abbrev pub found_order_fence : Grid → List (List ℕ) → Option Record → List (List ℕ)
+found_order_fence g points None = []
+found_order_fence g points (Some r) = work_fence g r.work points
+
+-- the fence that an order would make, which cuts at these points
+abbrev pub order_fence : Register → Id → List (List ℕ) → List (List ℕ)
+order_fence R c points = found_order_fence R.net points (record_of R.records c)
+
+-- whether a point has an end among these sections
+abbrev pub touches : (List ℕ → Bool) → PointRow → Bool
+touches inside p = inside p.from_end || inside p.to_end
+
+-- the points with an end among these sections
+unfoldable pub touching_names : Grid → (List ℕ → Bool) → List (List ℕ)
+touching_names g inside = point_names (filter (touches inside) g.points)
+
+-- the rows of the sections of these names, and of the points that touch them
+abbrev pub rows_of_fence : Grid → List (List ℕ) → FenceRows
+rows_of_fence g fence = record {
+  sections = filter (λ row. has_name fence row.name) g.sections;
+  touching = filter (touches (has_name fence)) g.points;
+}

@@ -1,0 +1,96 @@
+-- WHAT A RUN SHOWS A CLEARANCE: its own commands, and the marks that others leave in its fence.
+use Rattle.std.specs.Prelude.{ℕ, Bool, false, ◌&&◌, if◌then◌else◌, List, [], ◌∷◌, filter, find, Option, None, Some}
+use Rattle.std.specs.List.{list_all}
+use Rattle.clr_net.specs.Grid.{Grid}
+use Rattle.clr_net.specs.Name.{same_name}
+use Rattle.clr_net.specs.Names.{has_name}
+use Rattle.clr_net.specs.declared.section.SectionRow.{SectionRow}
+use Rattle.clr_rules.specs.Answer.{Answer, answer}
+use Rattle.clr_rules.specs.Command.{named_clearance}
+use Rattle.clr_rules.specs.Fences.{clearance_fence, order_fence, touching_names}
+use Rattle.clr_rules.specs.Holds.{is_near_hold}
+use Rattle.clr_rules.specs.Id.{Id, same_id}
+use Rattle.clr_rules.specs.Records.{is_requested, record_of}
+use Rattle.clr_rules.specs.Register.{Register}
+use Rattle.clr_rules.specs.Run.{after}
+use Rattle.clr_rules.specs.declared.change.Edit.{Edit}
+use Rattle.clr_rules.specs.declared.change.Edit.TheVariants.{SetPosition, SetHand, PutHold, TakeHold, PutRecord, PutStep}
+use Rattle.clr_rules.specs.declared.command.Command.{Command}
+use Rattle.clr_rules.specs.declared.command.Kind.{Kind}
+use Rattle.clr_rules.specs.declared.command.Kind.TheVariants.{Request, Order}
+use Rattle.clr_rules.specs.declared.record.Record.{Record}
+
+-- whether a command that names no clearance is a request of this requester
+abbrev pub is_request_of : List ℕ → List ℕ → Kind → Bool
+is_request_of requester caller (Request section) = same_name requester caller
+is_request_of requester caller kind = false
+
+abbrev pub is_own_kind : Id → List ℕ → Kind → Option Id → Bool
+is_own_kind c caller kind (Some d) = same_id c d
+is_own_kind c caller kind None = is_request_of c.requester caller kind
+
+-- the own commands of a clearance: those that name it, and each request of its requester
+abbrev pub is_own_command : Id → Command → Bool
+is_own_command c q = is_own_kind c q.caller q.kind (named_clearance q.kind)
+
+-- an edit is a mark where it concerns a section inside, or a point with an end inside. A record, a step and a crew are none
+abbrev pub is_mark : Grid → (List ℕ → Bool) → Edit → Bool
+is_mark g inside (SetPosition point position) = has_name (touching_names g inside) point
+is_mark g inside (SetHand point hand) = has_name (touching_names g inside) point
+is_mark g inside (PutHold h) = is_near_hold inside (has_name (touching_names g inside)) None h
+is_mark g inside (TakeHold h) = is_near_hold inside (has_name (touching_names g inside)) None h
+is_mark g inside (PutRecord r) = false
+is_mark g inside (PutStep row) = false
+
+abbrev pub marks_of : Grid → (List ℕ → Bool) → List Edit → List Edit
+marks_of g inside edits = filter (is_mark g inside) edits
+
+-- the row of the section that a request asks for, if there is one
+abbrev pub asked_row : Register → Kind → Option SectionRow
+asked_row R (Request section) = find (λ row. same_name section row.name) (Grid.sections R.net)
+asked_row R kind = None
+
+-- what is shown: an own command, with the row that it asks for; or the marks of another command, at least one
+pub data Item : Type 0 where
+  own : Command → Option SectionRow → Item
+  marks : Edit → List Edit → Item
+
+-- marks come into the list where there are any
+abbrev pub heard : List Edit → List Item → List Item
+heard [] items = items
+heard (edit ∷ edits) items = marks edit edits ∷ items
+
+abbrev pub shown_first : Id → (List ℕ → Bool) → Register → Command → List Item → List Item
+shown_first c inside R q items =
+    if is_own_command c q then own q (asked_row R q.kind) ∷ items
+    else heard (marks_of R.net inside (Answer.edits (answer R q))) items
+
+-- WHAT A RUN SHOWS
+unfoldable pub shown : Id → (List ℕ → Bool) → Register → List Command → List Item
+shown c inside R [] = []
+shown c inside R (q ∷ commands) = shown_first c inside R q (shown c inside (after R q) commands)
+
+-- the answers to its own commands
+unfoldable pub own_answers : Id → Register → List Command → List Answer
+own_answers c R [] = []
+own_answers c R (q ∷ commands) =
+    if is_own_command c q then answer R q ∷ own_answers c (after R q) commands else own_answers c (after R q) commands
+
+abbrev pub found_phase_requested : Option Record → Bool
+found_phase_requested None = false
+found_phase_requested (Some r) = is_requested r.phase
+
+-- the fence that a command would make for a clearance: that of an order of it while it is Requested
+abbrev pub fence_to_come : Id → Register → Kind → List (List ℕ)
+fence_to_come c R (Order d points tasks) =
+    if same_id c d && found_phase_requested (record_of R.records c) then order_fence R c points else []
+fence_to_come c R kind = []
+
+abbrev pub includes : (List ℕ → Bool) → List (List ℕ) → Bool
+includes inside names = list_all inside names
+
+-- A SET COVERS A RUN: at each place it includes the clearance's fence, and the fence that an order of it would make
+unfoldable pub covers : Id → (List ℕ → Bool) → Register → List Command → Bool
+covers c inside R [] = includes inside (clearance_fence R c)
+covers c inside R (q ∷ commands) =
+    (includes inside (clearance_fence R c) && includes inside (fence_to_come c R q.kind)) && covers c inside (after R q) commands
