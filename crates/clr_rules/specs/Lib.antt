@@ -24,3 +24,5 @@ pub mod Near
 pub mod Agreement
 pub mod Shown
 pub mod Good
+pub mod Footprint
+pub mod Isolation
