@@ -82,7 +82,7 @@ too_many_clearances greatest = refuse (greatest == 9999) TooManyClearances
 abbrev pub unknown_clearance : Register → Id → Option Refusal
 unknown_clearance R c = refuse (not (is_some (record_of R.records c))) UnknownClearance
 
--- only the present employee in charge may use a clearance or release it. 1910.269(m)(3)(x)
+-- only the present employee in charge may use a clearance or release it. 1910.269(m)(3)(x), (xi)
 abbrev pub not_holder : Register → Id → List ℕ → Option Refusal
 not_holder R c by = where_some (record_of R.records c) (λ r. refuse (not (same_name by r.holder)) NotHolder)
 
@@ -171,14 +171,14 @@ not_a_waiting_close R c n = at_step R c n (λ row. refuse (not (is_waiting row.s
 abbrev pub outside_fence : List (List ℕ) → List ℕ → Option Refusal
 outside_fence fence section = refuse (not (has_name fence section)) OutsideFence
 
--- the lines are tested, then grounded. 1910.269(m)(3)(vii), (n)(5); that it is the clearance's own test is the project's own rule
+-- the lines are tested, then grounded. 1910.269(m)(3)(vi), (vii), (n)(5); that it is the clearance's own test is the project's own rule
 abbrev pub not_tested : Register → Id → List ℕ → Option Refusal
 not_tested R c section = refuse (not (has_hold R.holds c Tested section)) NotTested
 
 abbrev pub grounded_there : Register → Id → List ℕ → Option Refusal
 grounded_there R c section = refuse (has_hold R.holds c Ground section) Grounded
 
--- the clearance's grounds are off before it is released. 1910.269(m)(3)(xi)
+-- the clearance's grounds are off before it is released. 1910.269(m)(3)(x), (xi)
 abbrev pub grounded : Register → Id → Option Refusal
 grounded R c = refuse (has_some_hold R.holds c Ground) Grounded
 
@@ -189,7 +189,7 @@ not_grounded R c section = refuse (not (has_hold R.holds c Ground section)) NotG
 abbrev pub at_work : Register → Id → (List ℕ → Option Refusal) → Option Refusal
 at_work R c check = where_some (record_of R.records c) (λ r. where_some r.work check)
 
--- all crews are off before the clearance is released. 1910.269(m)(3)(xi)
+-- all crews are off before the clearance is released. 1910.269(m)(3)(x), (xi)
 abbrev pub crews_on : Register → Id → Option Refusal
 crews_on R c = refuse (has_some_hold R.holds c Crew) CrewsOn
 
@@ -211,6 +211,6 @@ abbrev pub bad_transfer : Register → Id → List ℕ → Option Refusal
 bad_transfer R c to = where_some (record_of R.records c)
     (λ r. refuse (not (is_in_charge (employee R.staff to)) || same_name to r.holder) BadTransfer)
 
--- all employees are told, and are clear. 1910.269(m)(3)(xi)
+-- all employees are told, and are clear. 1910.269(m)(3)(x), (xi)
 abbrev pub not_attested : Bool → Bool → Option Refusal
 not_attested notified clear = refuse (not (notified && clear)) NotAttested

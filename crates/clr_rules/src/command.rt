@@ -55,13 +55,13 @@ pub enum Kind {
     Grant {
         clearance: ClearanceId,
     },
-    /// The holder has tested a section, and it was dead or it was not: (m)(3)(vii).
+    /// The holder has tested a section, and it was dead or it was not: (m)(3)(vi).
     Test {
         clearance: ClearanceId,
         section: Name,
         dead: bool,
     },
-    /// The holder grounds a section: (m)(3)(viii), (n)(5).
+    /// The holder grounds a section: (m)(3)(vii), (n)(5).
     Ground {
         clearance: ClearanceId,
         section: Name,

@@ -18,9 +18,9 @@ pub enum HoldKind {
     Control,
     /// A switching point is tagged: (m)(3)(ii), (v).
     Tag,
-    /// A section was tested and is dead: (m)(3)(vii).
+    /// A section was tested and is dead: (m)(3)(vi).
     Tested,
-    /// A section bears a protective ground: (m)(3)(viii), (n)(5).
+    /// A section bears a protective ground: (m)(3)(vii), (n)(5).
     Ground,
     /// A crew is signed on to the clearance: (m)(2)(iv).
     Crew,

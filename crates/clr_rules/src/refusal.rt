@@ -20,7 +20,7 @@ pub enum Refusal {
     TooManyClearances,
     /// The register has no record of this clearance.
     UnknownClearance,
-    /// The caller is not the holder: 29 CFR 1910.269(m)(3)(ix), (x). A transfer that is named an emergency is open to
+    /// The caller is not the holder: 29 CFR 1910.269(m)(3)(ix) to (xi). A transfer that is named an emergency is open to
     /// the holder's supervisor too.
     NotHolder,
     /// The command's moment is before the record's last.
@@ -61,19 +61,19 @@ pub enum Refusal {
     StepsLeft,
     /// The section is not in the clearance's fence, or unknown.
     OutsideFence,
-    /// The clearance has not tested the section and found it dead: (m)(3)(vii).
+    /// The clearance has not tested the section and found it dead: (m)(3)(vi), (n)(5).
     NotTested,
-    /// The clearance's ground stands: there, or anywhere where it is released, (m)(3)(xi).
+    /// The clearance's ground stands: there, or anywhere where it is released, (m)(3)(x), (xi).
     Grounded,
-    /// The clearance's ground does not stand there: (m)(3)(viii), (n)(5).
+    /// The clearance's ground does not stand there: (m)(3)(vii), (viii).
     NotGrounded,
-    /// A crew is signed on: (m)(3)(xi).
+    /// A crew is signed on: (m)(3)(x), (xi).
     CrewsOn,
     /// The crew is on already, or is not on.
     CrewState,
     /// The new holder is unknown, may not be in charge, or is the holder already.
     BadTransfer,
-    /// It is not attested that all employees are notified and clear: (m)(3)(xi).
+    /// It is not attested that all employees are notified and clear: (m)(3)(x), (xi).
     NotAttested,
 }
 
