@@ -26,3 +26,4 @@ pub mod Shown
 pub mod Good
 pub mod Footprint
 pub mod Isolation
+pub mod GoodByPhase
