@@ -1,1 +1,4 @@
 pub mod IdTexts
+pub mod NamedRows
+pub mod LiveSections
+pub mod DeadFences

@@ -27,3 +27,4 @@ pub mod Good
 pub mod Footprint
 pub mod Isolation
 pub mod GoodByPhase
+pub mod LiveLaws

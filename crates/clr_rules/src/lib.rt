@@ -7,6 +7,7 @@ mod command;
 mod hold;
 mod hold_kind;
 mod items;
+pub mod laws;
 mod moment;
 mod phase;
 mod point_state;

@@ -1,0 +1,2 @@
+//! Laws of the definitions: the contract of each function is the law, and its body is empty.
+pub mod live;
