@@ -1,5 +1,5 @@
 -- While the points of a sound order are open, no section of its fence is live.
-use Rattle.std.proofs.Common.{◌≡◌, ℕ, true, false, not, List, All, Contains, ap}
+use Rattle.std.proofs.Common.{◌≡◌, ◌∙◌, ℕ, true, false, not, List, All, Contains, Some, sym, ap}
 use Rattle.std.proofs.lemmas.Bool.{both_ways, false_from_ne_true, not-true, not_from_false}
 use Rattle.std.proofs.lemmas.List.Elements.{All-contains}
 use Rattle.clr_net.specs.Fence.{fence_of, in_fence}
@@ -10,9 +10,12 @@ use Rattle.clr_net.specs.declared.section.SectionRow.{SectionRow}
 use Rattle.clr_net.proofs.Walks.{fence_is_closed, one_name, some_from}
 use Rattle.clr_order.specs.Isolating.{IsSoundOrder}
 use Rattle.clr_order.specs.Step.{Task}
+use Rattle.clr_rules.specs.Fences.{work_fence}
+use Rattle.clr_rules.specs.Holds.{once}
 use Rattle.clr_rules.specs.Live.{is_closed_point, is_live}
 use Rattle.clr_rules.specs.LiveLaws.{CarriesOn}
 use Rattle.clr_rules.specs.declared.point_state.PointState.{PointState}
+use Rattle.clr_rules.proofs.FenceCuts.{has_name-once, in_fence_alike, in_fence_from_named}
 use Rattle.clr_rules.proofs.LiveSections.{live_is_least}
 use Rattle.clr_rules.proofs.NamedRows.{Contains-filter}
 
@@ -40,3 +43,11 @@ module _ (g : Grid) (net : IsNetwork g) (states : List PointState) (work : List 
   dead_fence opened = dead_within (λ p cut.
       let (q, there, same) = some_from (same_name p) points cut in
       rw (one_name p q same) (All-contains (λ (p : List ℕ). is_closed_point states p ≡ false) points q opened there))
+
+-- the same of the points of an order that stand more than once, and of the names of the sections
+pub dead_work_fence : (g : Grid) → IsNetwork g → (states : List PointState) (work : List ℕ) (points : List (List ℕ)) (tasks : List Task) → IsSoundOrder g work (once points) tasks
+    → ((p : List ℕ) → has_name points p ≡ true → is_closed_point states p ≡ false)
+    → (s : List ℕ) → has_name (work_fence g (Some work) points) s ≡ true → is_live g states s ≡ false
+dead_work_fence g net states work points tasks sound opened s named =
+    dead_within g net states work (once points) tasks sound (λ p cut. opened p (sym (has_name-once points p) ∙ cut)) s
+    (in_fence_alike g work (once points) points (has_name-once points) s ∙ in_fence_from_named g work points s named)

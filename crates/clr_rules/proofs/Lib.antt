@@ -1,4 +1,5 @@
 pub mod IdTexts
 pub mod NamedRows
 pub mod LiveSections
+pub mod FenceCuts
 pub mod DeadFences

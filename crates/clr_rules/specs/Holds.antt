@@ -68,7 +68,7 @@ unfoldable pub hindering_hold : List Hold → Id → List ℕ → Option Hold
 hindering_hold holds c p = first_hold (filter (hinders c p) holds)
 
 -- the names of a list, each once, where it stands first
-pub once : List (List ℕ) → List (List ℕ)
+unfoldable pub once : List (List ℕ) → List (List ℕ)
 once [] = []
 once (p ∷ ps) = p ∷ filter (λ q. not (same_name p q)) (once ps)
 
