@@ -3,3 +3,7 @@ pub mod NamedRows
 pub mod LiveSections
 pub mod FenceCuts
 pub mod DeadFences
+pub mod EditReading
+pub mod EditedLists
+pub mod Passing
+pub mod Refusing

@@ -28,3 +28,4 @@ pub mod Footprint
 pub mod Isolation
 pub mod GoodByPhase
 pub mod LiveLaws
+pub mod EditLaws

@@ -1,2 +1,3 @@
 //! Laws of the definitions: the contract of each function is the law, and its body is empty.
+pub mod edits;
 pub mod live;

@@ -1,0 +1,64 @@
+-- What follows where no check of a command applies.
+use Rattle.std.proofs.Common.{◌≡◌, ℕ, Bool, true, false, not, List, [], ◌∷◌, Option, Some, None, refl, subst}
+use Rattle.std.proofs.lemmas.Bool.{not-false}
+use Rattle.clr_rules.specs.Answer.{Known, checks, first_refusal}
+use Rattle.clr_rules.specs.Checks.{refuse, unknown_clearance}
+use Rattle.clr_rules.specs.Command.{named_clearance}
+use Rattle.clr_rules.specs.Good.{has_record}
+use Rattle.clr_rules.specs.Id.{Id}
+use Rattle.clr_rules.specs.Register.{Register}
+use Rattle.clr_rules.specs.declared.command.Kind.{Kind}
+use Rattle.clr_rules.specs.declared.command.Kind.TheVariants.{Request, Order, Instruct, Repeat, Report, Grant, Test, Ground, Unground, SignOn, SignOff, Transfer, Release, Cancel, Restore, Amend, Switch, Show}
+use Rattle.clr_rules.specs.declared.refusal.Refusal.{Refusal}
+use Rattle.clr_rules.specs.declared.refusal.Refusal.TheVariants.{UnknownClearance}
+
+-- each of these checks says nothing
+abbrev pub Pass : List (Option Refusal) → Type 0
+Pass [] = Unit {0}
+Pass (check ∷ rest) = (check ≡ None) × Pass rest
+
+pub all_pass : (list : List (Option Refusal)) → first_refusal list ≡ None → Pass list
+all_pass [] h = tt
+all_pass (None ∷ rest) h = (refl, all_pass rest h)
+all_pass (Some refusal ∷ rest) h = cc
+
+pub not_refused : (b : Bool) (refusal : Refusal) → refuse b refusal ≡ None → b ≡ false
+not_refused true refusal h = cc
+not_refused false refusal h = refl
+
+pub not_refused_true : (b : Bool) (refusal : Refusal) → refuse (not b) refusal ≡ None → b ≡ true
+not_refused_true b refusal h = not-false b (not_refused (not b) refusal h)
+
+is_recorded : (R : Register) (c : Id) → unknown_clearance R c ≡ None → has_record R.records c ≡ true
+is_recorded R c h = not_refused_true (has_record R.records c) UnknownClearance h
+
+-- the clearance that is meant, if one is, has a record
+abbrev pub IsRecorded : Register → Option Id → Type 0
+IsRecorded R None = Unit {0}
+IsRecorded R (Some c) = has_record R.records c ≡ true
+
+pub named_is_recorded : (k : Known) (R : Register) (by : List ℕ) (at : ℕ) (kind : Kind)
+    → first_refusal (checks k R by at kind) ≡ None → IsRecorded R (named_clearance kind)
+named_is_recorded k R by at (Request section) h = tt
+named_is_recorded k R by at (Order c points tasks) h = is_recorded R c (all_pass (checks k R by at (Order c points tasks)) h).1.1.0
+named_is_recorded k R by at (Instruct c n) h = is_recorded R c (all_pass (checks k R by at (Instruct c n)) h).1.1.0
+named_is_recorded k R by at (Repeat c n text) h = is_recorded R c (all_pass (checks k R by at (Repeat c n text)) h).1.1.0
+named_is_recorded k R by at (Report c n done) h = is_recorded R c (all_pass (checks k R by at (Report c n done)) h).1.1.0
+named_is_recorded k R by at (Grant c) h = is_recorded R c (all_pass (checks k R by at (Grant c)) h).1.1.0
+named_is_recorded k R by at (Test c section dead) h = is_recorded R c (all_pass (checks k R by at (Test c section dead)) h).1.1.0
+named_is_recorded k R by at (Ground c section) h = is_recorded R c (all_pass (checks k R by at (Ground c section)) h).1.1.0
+named_is_recorded k R by at (Unground c section) h = is_recorded R c (all_pass (checks k R by at (Unground c section)) h).1.1.0
+named_is_recorded k R by at (SignOn c crew) h = is_recorded R c (all_pass (checks k R by at (SignOn c crew)) h).1.1.0
+named_is_recorded k R by at (SignOff c crew) h = is_recorded R c (all_pass (checks k R by at (SignOff c crew)) h).1.1.0
+named_is_recorded k R by at (Transfer c to emergency) h = is_recorded R c (all_pass (checks k R by at (Transfer c to emergency)) h).1.0
+named_is_recorded k R by at (Release c notified clear) h = is_recorded R c (all_pass (checks k R by at (Release c notified clear)) h).1.1.0
+named_is_recorded k R by at (Cancel c) h = is_recorded R c (all_pass (checks k R by at (Cancel c)) h).1.1.0
+named_is_recorded k R by at (Restore c tasks) h = is_recorded R c (all_pass (checks k R by at (Restore c tasks)) h).1.1.0
+named_is_recorded k R by at (Amend c n) h = is_recorded R c (all_pass (checks k R by at (Amend c n)) h).1.1.0
+named_is_recorded k R by at (Switch tasks) h = tt
+named_is_recorded k R by at (Show c) h = is_recorded R c (all_pass (checks k R by at (Show c)) h).1.0
+
+-- the clearance that a command names, if it names one, has a record
+pub named_recorded : (k : Known) (R : Register) (by : List ℕ) (at : ℕ) (kind : Kind) (c : Id)
+    → first_refusal (checks k R by at kind) ≡ None → named_clearance kind ≡ Some c → has_record R.records c ≡ true
+named_recorded k R by at kind c passed names = subst (IsRecorded R) names (named_is_recorded k R by at kind passed)

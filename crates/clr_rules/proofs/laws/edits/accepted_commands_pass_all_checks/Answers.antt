@@ -1,0 +1,8 @@
+use Rattle.clr_rules.proofs.Refusing.{accepted_passes_checks, shown_changes_nothing}
+use Rattle.clr_rules.proofs.laws.edits.accepted_commands_pass_all_checks.Goals as goal
+
+pub returns-clause-shown : goal.returns-clause-shown
+returns-clause-shown c = shown_changes_nothing
+
+pub returns-clause-accepted : goal.returns-clause-accepted
+returns-clause-accepted c = accepted_passes_checks

@@ -1,0 +1,160 @@
+-- What edits do to a register, and which answers have none, as laws.
+use Rattle.std.specs.Prelude.{◌≡◌, ◌↔◌, ℕ, Bool, true, false, not, ◌&&◌, ◌||◌, if◌then◌else◌, List, [], map, Contains, Option, None, Some}
+use Rattle.std.specs.Option.{option_map}
+use Rattle.std.specs.Ordering.{is_eq}
+use Rattle.std.specs.declared.cmp.Ordering.{Ordering}
+use Rattle.std.proofs.Common.{◌⊎◌}
+use Rattle.clr_net.specs.Name.{same_name}
+use Rattle.clr_net.specs.declared.point.Position.{Position}
+use Rattle.clr_shelf.specs.Rows.{row_of}
+use Rattle.clr_rules.specs.Answer.{Answer, answer, checks, first_refusal, known_of}
+use Rattle.clr_rules.specs.Edits.{edited, edited_all}
+use Rattle.clr_rules.specs.Good.{ListsAreInOrder}
+use Rattle.clr_rules.specs.Hold.{hold_cmp}
+use Rattle.clr_rules.specs.Holds.{has_hold, hold_key, hold_of}
+use Rattle.clr_rules.specs.Id.{Id, id_cmp, same_id}
+use Rattle.clr_rules.specs.Records.{record_key, record_of}
+use Rattle.clr_rules.specs.Register.{Register}
+use Rattle.clr_rules.specs.Run.{after}
+use Rattle.clr_rules.specs.States.{state_key, state_of}
+use Rattle.clr_rules.specs.StepKey.{step_key, step_key_cmp}
+use Rattle.clr_rules.specs.declared.change.Edit.{Edit}
+use Rattle.clr_rules.specs.declared.change.Edit.TheVariants.{SetPosition, SetHand, PutHold, TakeHold, PutRecord, PutStep}
+use Rattle.clr_rules.specs.declared.command.Command.{Command}
+use Rattle.clr_rules.specs.declared.hold.Hold.{Hold}
+use Rattle.clr_rules.specs.declared.hold_kind.HoldKind.{HoldKind}
+use Rattle.clr_rules.specs.declared.point_state.PointState.{PointState}
+use Rattle.clr_rules.specs.declared.record.Record.{Record}
+use Rattle.clr_rules.specs.declared.refusal.Refusal.{Refusal}
+use Rattle.clr_rules.specs.declared.reply.Card.{Card}
+use Rattle.clr_rules.specs.declared.reply.Reply.TheVariants.{Accepted, Shown, Refused}
+use Rattle.clr_rules.specs.declared.reply.View.{View}
+use Rattle.clr_rules.specs.declared.step_row.StepKey.{StepKey}
+use Rattle.clr_rules.specs.declared.step_row.StepRow.{StepRow}
+
+-- A RECORD THAT IS PUT is read for its clearance, and for every other clearance what was read before
+abbrev pub PutRecordReplaces : Type 0
+PutRecordReplaces = (R : Register) (r : Record) (c : Id)
+    → record_of (Register.records (edited (PutRecord r) R)) c ≡ (if same_id r.id c then Some r else record_of R.records c)
+
+-- A STEP THAT IS PUT is read for its key, and for every other key what was read before
+abbrev pub PutStepReplaces : Type 0
+PutStepReplaces = (R : Register) (row : StepRow) (key : StepKey)
+    → row_of step_key_cmp step_key key (Register.steps (edited (PutStep row) R))
+    ≡ (if is_eq (step_key_cmp (step_key row) key) then Some row else row_of step_key_cmp step_key key R.steps)
+
+-- whether a hold is that of a clearance of a kind at a place
+abbrev pub is_hold : Hold → Id → HoldKind → List ℕ → Bool
+is_hold h c kind place = is_eq (hold_cmp h (hold_of c kind place))
+
+-- A HOLD THAT IS PUT is there, and all others are there where they were
+abbrev pub PutHoldAdds : Type 0
+PutHoldAdds = (R : Register) (h : Hold) (c : Id) (kind : HoldKind) (place : List ℕ)
+    → has_hold (Register.holds (edited (PutHold h) R)) c kind place ≡ (is_hold h c kind place || has_hold R.holds c kind place)
+
+-- A HOLD THAT IS TAKEN is gone, and all others are there where they were
+abbrev pub TakeHoldTakes : Type 0
+TakeHoldTakes = (R : Register) (h : Hold) (c : Id) (kind : HoldKind) (place : List ℕ)
+    → has_hold (Register.holds (edited (TakeHold h) R)) c kind place ≡ (not (is_hold h c kind place) && has_hold R.holds c kind place)
+
+-- what is found, changed where a test says so
+abbrev pub changed_where : Bool → (PointState → PointState) → Option PointState → Option PointState
+changed_where here change found = if here then option_map change found else found
+
+-- A POSITION THAT IS SET is that of the point, whose hand stays, and all other points stay as they are
+abbrev pub SetPositionSets : Type 0
+SetPositionSets = (R : Register) (p : List ℕ) (position : Position) (q : List ℕ)
+    → state_of (Register.states (edited (SetPosition p position) R)) q
+    ≡ changed_where (same_name p q) (λ state. record state { position = position }) (state_of R.states q)
+
+-- A HAND THAT IS SET is that of the point, whose position stays, and all other points stay as they are
+abbrev pub SetHandSets : Type 0
+SetHandSets = (R : Register) (p : List ℕ) (hand : Option Id) (q : List ℕ)
+    → state_of (Register.states (edited (SetHand p hand) R)) q
+    ≡ changed_where (same_name p q) (λ state. record state { hand = hand }) (state_of R.states q)
+
+-- after a put a list has the row that was put and the rows of other keys, and no other row
+abbrev pub HasRowPut : {Key Row : Type 0} → (Key → Key → Ordering) → (Row → Key) → Row → List Row → List Row → Type 0
+HasRowPut {Key} {Row} compare key_of row before after = (other : Row)
+    → Contains after other ↔ ((row ≡ other) ⊎ (Contains before other × (is_eq (compare (key_of row) (key_of other)) ≡ false)))
+
+-- after a take a list has the rows of other keys, and no other row
+abbrev pub HasRowTaken : {Key Row : Type 0} → (Key → Key → Ordering) → (Row → Key) → Key → List Row → List Row → Type 0
+HasRowTaken {Key} {Row} compare key_of key before after = (other : Row)
+    → Contains after other ↔ (Contains before other × (is_eq (compare key (key_of other)) ≡ false))
+
+-- EVERY OTHER ROW STAYS, and no other row comes
+pub record OtherRowsStay (R : Register) : Type 0 where
+  pub record_put : (r : Record) → HasRowPut id_cmp record_key r R.records (Register.records (edited (PutRecord r) R))
+  pub step_put : (row : StepRow) → HasRowPut step_key_cmp step_key row R.steps (Register.steps (edited (PutStep row) R))
+  pub hold_put : (h : Hold) → HasRowPut hold_cmp hold_key h R.holds (Register.holds (edited (PutHold h) R))
+  pub hold_taken : (h : Hold) → HasRowTaken hold_cmp hold_key h R.holds (Register.holds (edited (TakeHold h) R))
+
+abbrev pub PutsKeepOtherRows : Type 0
+PutsKeepOtherRows = (R : Register) → ListsAreInOrder R → OtherRowsStay R
+
+-- whether an edit is one of point states, of records, of steps, of holds
+abbrev pub edits_states : Edit → Bool
+edits_states (SetPosition p position) = true
+edits_states (SetHand p hand) = true
+edits_states _ = false
+
+abbrev pub edits_records : Edit → Bool
+edits_records (PutRecord r) = true
+edits_records _ = false
+
+abbrev pub edits_steps : Edit → Bool
+edits_steps (PutStep row) = true
+edits_steps _ = false
+
+abbrev pub edits_holds : Edit → Bool
+edits_holds (PutHold h) = true
+edits_holds (TakeHold h) = true
+edits_holds _ = false
+
+-- AN EDIT LEAVES THE REST: the network, the staff, and each list that it is not of
+pub record LeavesTheRest (edit : Edit) (R : Register) : Type 0 where
+  pub same_net : Register.net (edited edit R) ≡ R.net
+  pub same_staff : Register.staff (edited edit R) ≡ R.staff
+  pub same_states : edits_states edit ≡ false → Register.states (edited edit R) ≡ R.states
+  pub same_records : edits_records edit ≡ false → Register.records (edited edit R) ≡ R.records
+  pub same_steps : edits_steps edit ≡ false → Register.steps (edited edit R) ≡ R.steps
+  pub same_holds : edits_holds edit ≡ false → Register.holds (edited edit R) ≡ R.holds
+
+abbrev pub EditsLeaveTheRest : Type 0
+EditsLeaveTheRest = (edit : Edit) (R : Register) → LeavesTheRest edit R
+
+-- EDITS KEEP THE ORDER of every list
+abbrev pub EditsKeepOrder : Type 0
+EditsKeepOrder = (R : Register) (edits : List Edit) → ListsAreInOrder R → ListsAreInOrder (edited_all edits R)
+
+-- EDITS KEEP THE NETWORK, the staff, and the points that have states
+pub record KeepsNetwork (R S : Register) : Type 0 where
+  pub same_net : S.net ≡ R.net
+  pub same_staff : S.staff ≡ R.staff
+  pub same_points : map state_key S.states ≡ map state_key R.states
+
+abbrev pub EditsKeepNetwork : Type 0
+EditsKeepNetwork = (R : Register) (edits : List Edit) → ListsAreInOrder R → KeepsNetwork R (edited_all edits R)
+
+-- the refusal of a command: that of the first check that applies
+abbrev pub refusal_of : Register → Command → Option Refusal
+refusal_of R q = first_refusal (checks (known_of R q) R q.caller q.moment q.kind)
+
+-- A COMMAND IS REFUSED exactly where a check applies, and then changes nothing
+abbrev pub RefusedByFirstCheck : Type 0
+RefusedByFirstCheck = (R : Register) (q : Command) (refusal : Refusal)
+    → (Answer.reply (answer R q) ≡ Refused refusal) ↔ (refusal_of R q ≡ Some refusal)
+
+abbrev pub RefusedChangesNothing : Type 0
+RefusedChangesNothing = (R : Register) (q : Command) (refusal : Refusal) → Answer.reply (answer R q) ≡ Refused refusal
+    → (Answer.edits (answer R q) ≡ []) × (after R q ≡ R)
+
+-- A SHOWN COMMAND changes nothing, and no check applies to it
+abbrev pub ShownChangesNothing : Type 0
+ShownChangesNothing = (R : Register) (q : Command) (view : View) → Answer.reply (answer R q) ≡ Shown view
+    → (refusal_of R q ≡ None) × (Answer.edits (answer R q) ≡ []) × (after R q ≡ R)
+
+-- A COMMAND IS ACCEPTED only where no check applies
+abbrev pub AcceptedPassesChecks : Type 0
+AcceptedPassesChecks = (R : Register) (q : Command) (card : Card) → Answer.reply (answer R q) ≡ Accepted card → refusal_of R q ≡ None
