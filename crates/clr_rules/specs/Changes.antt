@@ -25,7 +25,7 @@ use Rattle.clr_rules.specs.declared.record.Record.{Record}
 use Rattle.clr_rules.specs.declared.step_row.StepRow.{StepRow}
 
 -- the steps of a round, numbered from n, each Waiting and without a reader
-pub new_steps : Id → ℕ → ℕ → List Task → List StepRow
+unfoldable pub new_steps : Id → ℕ → ℕ → List Task → List StepRow
 new_steps c round n [] = []
 new_steps c round n (t ∷ tasks) =
     record { id = c; round = round; ordinal = n; step = record { action = t.action; point = t.point; state = Waiting; reader = None } }

@@ -19,6 +19,8 @@ pub mod Edits
 pub mod Changes
 pub mod Answer
 pub mod Run
+pub mod Worked
+pub mod ExamplesOfRefusals
 pub mod Live
 pub mod Near
 pub mod Agreement

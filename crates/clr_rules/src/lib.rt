@@ -4,6 +4,7 @@
 mod change;
 mod clearance_id;
 mod command;
+pub mod examples;
 mod hold;
 mod hold_kind;
 mod items;
