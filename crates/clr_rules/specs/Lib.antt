@@ -31,3 +31,5 @@ pub mod Isolation
 pub mod GoodByPhase
 pub mod LiveLaws
 pub mod EditLaws
+pub mod RowKeys
+pub mod StateFacts
