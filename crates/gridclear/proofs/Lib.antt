@@ -1,3 +1,5 @@
 pub mod Answered
 pub mod Found
+pub mod Line
 pub mod PointsNamed
+pub mod Told

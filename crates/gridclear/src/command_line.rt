@@ -2,7 +2,7 @@ ghost use Rattle.std.specs.Prelude.{◌≡◌, ◌≢◌, ◌⊎◌, [], Err, If
 ghost use Rattle.std.specs.IoError.{error_kind};
 ghost use Rattle.std.specs.declared.io.ErrorKind.TheVariants as io_kind;
 ghost use Rattle.clap.specs.Words.{fault_of, kind_of};
-ghost use Rattle.gridclear.specs.Outcome.{IsAnswer, IsTold, IsUnread, MayAnswer};
+ghost use Rattle.gridclear.specs.Outcome.{AppendsFront, IsAnswer, IsTold, IsUnread, MayAnswer, told_line};
 ghost use Rattle.gridclear.specs.Syntax.{gridclear};
 
 use crate::fault::Fault;
@@ -43,6 +43,8 @@ where
 /// Tells why the arguments of the program could not be had: one is no text, or memory ran out.
 pub fn no_words<E: Write>(cause: &io::Error, errors: &mut E) -> u8
     ensures memory { error_kind cause.now ≡ io_kind.OutOfMemory → result ≡ 1 }
+    ensures line { error_kind cause.now ≡ io_kind.OutOfMemory
+        → AppendsFront (E.contents errors.old) (E.contents errors.new) (told_line Fault.Memory) }
     ensures no_text { error_kind cause.now ≢ io_kind.OutOfMemory → result ≡ 2 }
 {
     match cause.kind() {

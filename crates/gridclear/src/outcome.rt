@@ -1,12 +1,15 @@
 //! What a command line comes to, and how it is told.
-ghost use Rattle.std.specs.Prelude.{◌≡◌, ◌++◌, [], ◌∷◌, OnOk};
+ghost use Rattle.std.specs.Prelude.{◌≡◌, OnOk};
 ghost use Rattle.std.specs.Io.KnownBytes.{Appends};
-ghost use Rattle.gridclear.specs.Fault.{fault_line};
-ghost use Rattle.gridclear.specs.Outcome.{Tells};
+ghost use Rattle.gridclear.specs.Outcome.{AppendsFront, Tells, told_line};
 
 use crate::fault::Fault;
-use std::io;
+use std::fmt::InlineText;
 use std::io::Write;
+use std::{fmt, io};
+
+/// Room for the line of each fault.
+const LINE_BYTES: usize = 128;
 
 /// What words come to that meet no fault.
 #[derive(Debug, Drop)]
@@ -30,7 +33,7 @@ pub fn tell<W: Write, E: Write>(told: Result<Outcome, Fault>, output: &mut W, er
             Err(_) => tell_fault(Fault::Output, errors),
         },
         Ok(Outcome::Unread(text)) => {
-            let _ = errors.write_all(text.as_str().as_bytes());
+            write_front(text.as_str(), errors);
             2
         }
         Err(fault) => tell_fault(fault, errors),
@@ -46,19 +49,36 @@ fn print<W: Write>(text: &str, output: &mut W) -> io::Result<()>
     Ok(())
 }
 
-/// The status after a fault, whose line is written.
+/// Writes the line of a fault, and returns the status after it. It takes no memory.
 fn tell_fault<E: Write>(fault: Fault, errors: &mut E) -> u8
-    ensures { result ≡ 1 }
+    ensures status { result ≡ 1 }
+    ensures line { AppendsFront (E.contents errors.old) (E.contents errors.new) (told_line fault) }
 {
-    let _ = write_fault(fault, errors);
+    let mut line = InlineText::<LINE_BYTES>::new();
+    let written = fmt::Write::write_fmt(&mut line, format_args!("{fault}\n"));
+    if written.is_ok() {
+        write_front(line.as_str(), errors);
+    }
     1
 }
 
-/// Writes the line of a fault.
-fn write_fault<E: Write>(fault: Fault, errors: &mut E) -> io::Result<()>
-    ensures { OnOk result (Appends (E.contents errors.old) (E.contents errors.new)
-        (fault_line fault ++ 10 ∷ [])) }
+/// Writes a text as far as it can be written.
+fn write_front<E: Write>(text: &str, errors: &mut E)
+    ensures { AppendsFront (E.contents errors.old) (E.contents errors.new) text.now }
 {
-    writeln!(errors, "{fault}")?;
-    Ok(())
+    let mut rest = text.as_bytes();
+    for _ in 0..u64::MAX {
+        if rest.is_empty() {
+            return;
+        }
+        match errors.write(rest) {
+            Ok(0) => return,
+            Ok(count) => rest = &rest[count..],
+            Err(error) => {
+                if error.kind() != io::ErrorKind::Interrupted {
+                    return;
+                }
+            }
+        }
+    }
 }

@@ -380,9 +380,33 @@ impl Write for Broken {
     }
 }
 
+/// A writer that takes one byte a call, and is interrupted before each.
+#[derive(Drop)]
+struct Slow {
+    bytes: Vec<u8>,
+    was_interrupted: bool,
+}
+
+impl Write for Slow {
+    fn write(&mut self, buf: &[u8]) -> io::Result<usize> {
+        self.was_interrupted = !self.was_interrupted;
+        if self.was_interrupted {
+            return Err(io::Error::from(io::ErrorKind::Interrupted));
+        }
+        self.bytes.write(&buf[..buf.len().min(1)])
+    }
+
+    fn flush(&mut self) -> io::Result<()> {
+        Ok(())
+    }
+}
+
 #[test]
 fn answer_that_cannot_be_written(rt: HostRuntime) -> Result<(), Fail> {
-    let mut errors = Vec::new(rt.alloc());
+    let mut errors = Slow {
+        bytes: Vec::new(rt.alloc()),
+        was_interrupted: false,
+    };
     let words = ["gridclear", "--help"];
     let status = command_line(
         &rt,
@@ -391,7 +415,7 @@ fn answer_that_cannot_be_written(rt: HostRuntime) -> Result<(), Fail> {
         &mut Broken,
         &mut errors,
     );
-    let errors = errors_told(status, errors)?;
+    let errors = errors_told(status, errors.bytes)?;
     assert_eq!(rt; status, 1);
     assert_eq!(rt; errors.as_str(), "fault: output WriteFailed\n");
     Ok(())
