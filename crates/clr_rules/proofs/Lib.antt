@@ -7,3 +7,4 @@ pub mod EditReading
 pub mod EditedLists
 pub mod Passing
 pub mod Refusing
+pub mod Sparing

@@ -1,12 +1,18 @@
 -- What leaves a clearance alone.
-use Rattle.std.specs.Prelude.{◌≡◌, ℕ, true, List, Some}
-use Rattle.clr_net.specs.declared.point.Position.TheVariants.{Opened}
+use Rattle.std.specs.Prelude.{◌≡◌, ℕ, Bool, true, false, not, ◌&&◌, ◌||◌, List, Some}
+use Rattle.std.specs.List.{list_all}
+use Rattle.clr_net.specs.declared.point.Position.{Position}
+use Rattle.clr_net.specs.declared.point.Position.TheVariants.{Opened, Closed as Shut}
+use Rattle.clr_rules.specs.Edits.{edited_all}
+use Rattle.clr_rules.specs.Good.{ListsAreInOrder}
 use Rattle.clr_rules.specs.Holds.{has_hold, holds_of}
-use Rattle.clr_rules.specs.Id.{Id}
+use Rattle.clr_rules.specs.Id.{Id, same_id}
 use Rattle.clr_rules.specs.Records.{record_of}
 use Rattle.clr_rules.specs.Register.{Register}
-use Rattle.clr_rules.specs.States.{has_in_hand, position_of}
+use Rattle.clr_rules.specs.States.{has_in_hand, is_hand, position_of}
 use Rattle.clr_rules.specs.Steps.{steps_of}
+use Rattle.clr_rules.specs.declared.change.Edit.{Edit}
+use Rattle.clr_rules.specs.declared.change.Edit.TheVariants.{SetPosition, SetHand, PutHold, TakeHold, PutRecord, PutStep}
 use Rattle.clr_rules.specs.declared.hold_kind.HoldKind.TheVariants.{HeldOpen}
 
 -- FRAME: the record, the steps and the holds of a clearance are the same in both registers; what it has in hand in the first it has in hand
@@ -17,3 +23,24 @@ pub record Frame (c : Id) (R S : Register) : Type 0 where
   pub same_holds : holds_of S.holds c ≡ holds_of R.holds c
   pub hands_stay : (p : List ℕ) → has_in_hand R.states c p ≡ true → has_in_hand S.states c p ≡ true
   pub closes_nothing : (p : List ℕ) → has_hold R.holds c HeldOpen p ≡ true → position_of R.states p ≡ Some Opened → position_of S.states p ≡ Some Opened
+
+abbrev pub is_shut : Position → Bool
+is_shut Shut = true
+is_shut Opened = false
+
+-- WHETHER AN EDIT SPARES A CLEARANCE in a register: it is of another's record, step or hold, takes no point out of the clearance's hand, and
+-- closes no point that it holds open
+abbrev pub spares : Id → Register → Edit → Bool
+spares c R (SetPosition p position) = not (is_shut position && has_hold R.holds c HeldOpen p)
+spares c R (SetHand p hand) = not (has_in_hand R.states c p) || is_hand c hand
+spares c R (PutHold h) = not (same_id c h.id)
+spares c R (TakeHold h) = not (same_id c h.id)
+spares c R (PutRecord r) = not (same_id c r.id)
+spares c R (PutStep row) = not (same_id c row.id)
+
+abbrev pub all_spare : Id → Register → List Edit → Bool
+all_spare c R edits = list_all (spares c R) edits
+
+-- EDITS THAT SPARE A CLEARANCE leave it alone: each is judged by the register before the first
+abbrev pub SparingEditsLeaveAlone : Type 0
+SparingEditsLeaveAlone = (c : Id) (R : Register) (edits : List Edit) → ListsAreInOrder R → all_spare c R edits ≡ true → Frame c R (edited_all edits R)
