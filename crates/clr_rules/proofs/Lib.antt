@@ -8,3 +8,7 @@ pub mod EditedLists
 pub mod Passing
 pub mod Refusing
 pub mod Sparing
+pub mod RoundSteps
+pub mod HoldMembers
+pub mod GoodToPhases
+pub mod StepsInTurn

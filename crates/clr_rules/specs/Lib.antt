@@ -33,3 +33,4 @@ pub mod LiveLaws
 pub mod EditLaws
 pub mod RowKeys
 pub mod StateFacts
+pub mod GoodLaws
