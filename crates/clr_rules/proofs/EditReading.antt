@@ -1,18 +1,14 @@
 -- What is read of the lists of a register after an edit.
-use Rattle.std.proofs.Common.{◌≡◌, ℕ, Bool, true, false, cond, ◌&&◌, ◌||◌, not, List, map, Option, Some, None, is_some, refl, sym, ◌∙◌, ap, ◌⊎◌, inl, inr, ⊎_elim, subst}
+use Rattle.std.proofs.Common.{◌≡◌, ℕ, Bool, true, false, cond, ◌&&◌, ◌||◌, not, List, Option, Some, None, is_some, refl, sym, ◌∙◌, ap, ◌⊎◌, inl, inr, ⊎_elim, subst}
 use Rattle.std.specs.Prelude.{if◌then◌else◌, Contains}
 use Rattle.std.specs.Cmp.{IsTotalOrder}
-use Rattle.std.specs.Cmp.Lexicographic.{texts_ties}
+use Rattle.std.specs.Option.{option_map}
 use Rattle.std.specs.Ordering.{is_eq}
 use Rattle.std.specs.declared.cmp.Ordering.{Ordering}
-use Rattle.std.proofs.lemmas.Cmp.{nat_list_cmp_total}
 use Rattle.std.proofs.lemmas.Option.{none-some, same_Some}
-use Rattle.clr_net.proofs.Walks.{one_name}
-use Rattle.clr_net.specs.Name.{name_cmp, same_name}
-use Rattle.clr_shelf.specs.Keys.{equal, same_text}
+use Rattle.clr_net.specs.Name.{same_name}
 use Rattle.clr_shelf.specs.KeyOrder.{in_key_order-with_row, in_key_order-without_row}
-use Rattle.clr_shelf.specs.FirstRow.{keys-with_row}
-use Rattle.clr_shelf.specs.Members.{Contains-with_other, Contains-with_row, Contains-without_other, member-row_of, member-with_row, member-without_row, row_of-member}
+use Rattle.clr_shelf.specs.Members.{Contains-with_other, Contains-with_row, Contains-without_other, member-with_row, member-without_row, row_of-member}
 use Rattle.clr_shelf.specs.Reading.{row_of-tied, row_of-with, row_of-with_row, row_of-without, row_of-without_row}
 use Rattle.clr_shelf.specs.Rows.{in_key_order, row_of, with_row, without_row}
 use Rattle.clr_rules.specs.EditLaws.{HasRowPut, HasRowTaken, changed_where, is_hold}
@@ -20,7 +16,8 @@ use Rattle.clr_rules.specs.Hold.{hold_cmp, hold_cmp_total}
 use Rattle.clr_rules.specs.Holds.{has_hold, hold_key, hold_of}
 use Rattle.clr_rules.specs.Id.{Id, id_cmp, id_cmp_total, same_id, same_id_ties}
 use Rattle.clr_rules.specs.Records.{record_key, record_of}
-use Rattle.clr_rules.specs.States.{change_state, changed_state, state_key, state_of}
+use Rattle.clr_rules.specs.StateFacts.{state_of-change, state_of-same}
+use Rattle.clr_rules.specs.States.{change_state, state_key, state_of}
 use Rattle.clr_rules.specs.declared.hold.Hold.{Hold}
 use Rattle.clr_rules.specs.declared.hold_kind.HoldKind.{HoldKind}
 use Rattle.clr_rules.specs.declared.point_state.PointState.{PointState}
@@ -98,51 +95,11 @@ module _ {Key Row : Type 0} (compare : Key → Key → Ordering) (key_of : Row �
 -- ---- the states of points
 
 module _ (change : PointState → PointState) (same_point : (state : PointState) → state_key (change state) ≡ state_key state) where
-  read_tested : (p q : List ℕ) (states : List PointState) (state : PointState) → state_of states p ≡ Some state
-      → (b : Bool) → same_name p q ≡ b → cond b (Some (change state)) (state_of states q) ≡ changed_where b change (state_of states q)
-  read_tested p q states state found true same = rw (← one_name p q same, found) refl
-  read_tested p q states state found false differs = refl
-
-  read_changed : (p q : List ℕ) (states : List PointState) (found : Option PointState) → state_of states p ≡ found
-      → state_of (changed_state found change states) q ≡ changed_where (same_name p q) change (state_of states q)
-  read_changed p q states None found = none (same_name p q) refl
-    where
-      none : (b : Bool) → same_name p q ≡ b → state_of states q ≡ changed_where b change (state_of states q)
-      none true same = rw (← one_name p q same, found) refl
-      none false differs = refl
-  read_changed p q states (Some state) found =
-      let at_point : state.point ≡ p = same_text state.point p (equal (name_cmp state.point p) (member-row_of name_cmp state_key nat_list_cmp_total p state states found).1) in
-      let key : state_key (change state) ≡ p = same_point state ∙ at_point in
-      row_of-with name_cmp state_key nat_list_cmp_total q (change state) states
-      ∙ ap (λ key. cond (is_eq (name_cmp key q)) (Some (change state)) (state_of states q)) key
-      ∙ ap (λ b. cond b (Some (change state)) (state_of states q)) (sym (texts_ties p q))
-      ∙ read_tested p q states state found (same_name p q) refl
-
   -- the state of a point after that of one is changed
   pub state_of-changed : (p q : List ℕ) (states : List PointState)
       → state_of (change_state states p change) q ≡ changed_where (same_name p q) change (state_of states q)
-  state_of-changed p q states = read_changed p q states (state_of states p) refl
-
-  keeps_order : (found : Option PointState) (states : List PointState) → in_key_order name_cmp state_key states ≡ true
-      → in_key_order name_cmp state_key (changed_state found change states) ≡ true
-  keeps_order None states ordered = ordered
-  keeps_order (Some state) states ordered = in_key_order-with_row name_cmp state_key nat_list_cmp_total (change state) states ordered
-
-  -- the states stay in order
-  pub in_key_order-changed : (p : List ℕ) (states : List PointState) → in_key_order name_cmp state_key states ≡ true
-      → in_key_order name_cmp state_key (change_state states p change) ≡ true
-  in_key_order-changed p states ordered = keeps_order (state_of states p) states ordered
-
-  keeps_points : (p : List ℕ) (states : List PointState) (found : Option PointState) → state_of states p ≡ found → in_key_order name_cmp state_key states ≡ true
-      → map state_key (changed_state found change states) ≡ map state_key states
-  keeps_points p states None found ordered = refl
-  keeps_points p states (Some state) found ordered =
-      let at_point : state.point ≡ p = same_text state.point p (equal (name_cmp state.point p) (member-row_of name_cmp state_key nat_list_cmp_total p state states found).1) in
-      let there : is_some (state_of states (state_key (change state))) ≡ true =
-      ap (λ key. is_some (state_of states key)) (same_point state ∙ at_point) ∙ ap is_some found in
-      keys-with_row name_cmp state_key nat_list_cmp_total same_text (change state) states ordered there
-
-  -- and are of the same points
-  pub points-changed : (p : List ℕ) (states : List PointState) → in_key_order name_cmp state_key states ≡ true
-      → map state_key (change_state states p change) ≡ map state_key states
-  points-changed p states ordered = keeps_points p states (state_of states p) refl ordered
+  state_of-changed p q states = state_of-change change same_point states p q ∙ at (same_name p q) refl
+    where
+      at : (b : Bool) → same_name p q ≡ b → cond b (option_map change (state_of states p)) (state_of states q) ≡ changed_where b change (state_of states q)
+      at true same = ap (option_map change) (state_of-same states p q same)
+      at false differs = refl

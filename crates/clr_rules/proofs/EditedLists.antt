@@ -1,7 +1,6 @@
 -- What a list of edits keeps: the order of the lists, the network, the staff, and the points that have states.
 use Rattle.std.proofs.Common.{List, [], ◌∷◌, refl, ◌∙◌}
 use Rattle.clr_shelf.specs.KeyOrder.{in_key_order-with_row, in_key_order-without_row}
-use Rattle.clr_rules.proofs.EditReading.{in_key_order-changed, points-changed}
 use Rattle.clr_rules.specs.EditLaws.{KeepsNetwork}
 use Rattle.clr_rules.specs.Edits.{edited, edited_all}
 use Rattle.clr_rules.specs.Good.{ListsAreInOrder}
@@ -10,6 +9,7 @@ use Rattle.clr_rules.specs.Holds.{hold_key}
 use Rattle.clr_rules.specs.Id.{id_cmp, id_cmp_total}
 use Rattle.clr_rules.specs.Records.{record_key}
 use Rattle.clr_rules.specs.Register.{Register}
+use Rattle.clr_rules.specs.StateFacts.{in_key_order-change, state_keys-change}
 use Rattle.clr_rules.specs.StepKey.{step_key, step_key_cmp, step_key_cmp_total}
 use Rattle.clr_rules.specs.declared.change.Edit.{Edit}
 use Rattle.clr_rules.specs.declared.change.Edit.TheVariants.{SetPosition, SetHand, PutHold, TakeHold, PutRecord, PutStep}
@@ -17,13 +17,13 @@ use Rattle.clr_rules.specs.declared.change.Edit.TheVariants.{SetPosition, SetHan
 -- an edit keeps the lists in order
 pub edited-in_order : (edit : Edit) (R : Register) → ListsAreInOrder R → ListsAreInOrder (edited edit R)
 edited-in_order (SetPosition p position) R h = record {
-  states = in_key_order-changed (λ state. record state { position = position }) (λ _. refl) p R.states h.states;
+  states = in_key_order-change (λ state. record state { position = position }) R.states p h.states;
   records = h.records;
   steps = h.steps;
   holds = h.holds;
 }
 edited-in_order (SetHand p hand) R h = record {
-  states = in_key_order-changed (λ state. record state { hand = hand }) (λ _. refl) p R.states h.states;
+  states = in_key_order-change (λ state. record state { hand = hand }) R.states p h.states;
   records = h.records;
   steps = h.steps;
   holds = h.holds;
@@ -63,12 +63,12 @@ edited-network : (edit : Edit) (R : Register) → ListsAreInOrder R → KeepsNet
 edited-network (SetPosition p position) R h = record {
   same_net = refl;
   same_staff = refl;
-  same_points = points-changed (λ state. record state { position = position }) (λ _. refl) p R.states h.states;
+  same_points = state_keys-change (λ state. record state { position = position }) (λ _. refl) R.states p h.states;
 }
 edited-network (SetHand p hand) R h = record {
   same_net = refl;
   same_staff = refl;
-  same_points = points-changed (λ state. record state { hand = hand }) (λ _. refl) p R.states h.states;
+  same_points = state_keys-change (λ state. record state { hand = hand }) (λ _. refl) R.states p h.states;
 }
 edited-network (PutHold hold) R h = record { same_net = refl; same_staff = refl; same_points = refl }
 edited-network (TakeHold hold) R h = record { same_net = refl; same_staff = refl; same_points = refl }

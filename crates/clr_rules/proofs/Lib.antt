@@ -12,3 +12,4 @@ pub mod RoundSteps
 pub mod HoldMembers
 pub mod GoodToPhases
 pub mod StepsInTurn
+pub mod Opening

@@ -31,6 +31,6 @@ pub mod Isolation
 pub mod GoodByPhase
 pub mod LiveLaws
 pub mod EditLaws
-pub mod RowKeys
 pub mod StateFacts
 pub mod GoodLaws
+pub mod OpeningLaws

@@ -7,13 +7,13 @@ use Rattle.std.proofs.lemmas.Cmp.{nat_list_cmp_total, nat_list_eq_equiv}
 use Rattle.clr_net.specs.Name.{name_cmp, same_name}
 use Rattle.clr_net.specs.Names.{has_name}
 use Rattle.clr_net.specs.declared.point.Position.{Position}
+use Rattle.clr_shelf.specs.FirstRow.{keys-with_row}
 use Rattle.clr_shelf.specs.KeyOrder.{in_key_order-with_row}
 use Rattle.clr_shelf.specs.Keys.{equal, same_text}
 use Rattle.clr_shelf.specs.Members.{member-row_of}
 use Rattle.clr_shelf.specs.Reading.{row_of-with}
 use Rattle.clr_shelf.specs.Rows.{in_key_order, row_of}
 use Rattle.clr_rules.specs.Id.{Id}
-use Rattle.clr_rules.specs.RowKeys.{keys-with_row}
 use Rattle.clr_rules.specs.States.{change_state, changed_state, hand_in, hand_of, position_of, state_key, state_of}
 use Rattle.clr_rules.specs.declared.point_state.PointState.{PointState}
 
@@ -72,7 +72,7 @@ module _ (change : PointState → PointState) (stays : StaysAtPoint change) (sta
   keys_from None is ordered = refl
   keys_from (Some state) is ordered =
       let there : PointState.point (change state) ≡ p = stays state ∙ state_of-point states p state is in
-      keys-with_row name_cmp state_key nat_list_cmp_total same_text (change state) state states ordered (ap (state_of states) there ∙ is)
+      keys-with_row name_cmp state_key nat_list_cmp_total same_text (change state) states ordered (ap is_some (ap (state_of states) there ∙ is))
 
   pub state_keys-change : in_key_order name_cmp state_key states ≡ true → map state_key (change_state states p change) ≡ map state_key states
   state_keys-change ordered = keys_from (state_of states p) refl ordered
@@ -87,11 +87,11 @@ in_key_order-change change states p ordered = at (state_of states p)
     at (Some state) = in_key_order-with_row name_cmp state_key nat_list_cmp_total (change state) states ordered
 
 -- the first state is read at its point
-state_of-none : (p : List ℕ) → state_of [] p ≡ None
+pub state_of-none : (p : List ℕ) → state_of [] p ≡ None
 unfolding row_of
 state_of-none p = refl
 
-state_of-first : (state : PointState) (states : List PointState) (p : List ℕ)
+pub state_of-first : (state : PointState) (states : List PointState) (p : List ℕ)
     → state_of (state ∷ states) p ≡ cond (is_eq (name_cmp state.point p)) (Some state) (state_of states p)
 unfolding row_of
 state_of-first state states p = refl

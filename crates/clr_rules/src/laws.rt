@@ -3,3 +3,4 @@ pub mod edits;
 pub mod footprint;
 pub mod good;
 pub mod live;
+pub mod opening;

@@ -1,0 +1,6 @@
+ghost use Rattle.clr_rules.specs.OpeningLaws.{OpeningRegistersAreGood};
+
+/// The opening register of a network and a staff is good.
+pub fn opening_registers_are_good()
+    ensures { OpeningRegistersAreGood }
+{}
