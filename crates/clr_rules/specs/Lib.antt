@@ -21,6 +21,7 @@ pub mod Answer
 pub mod Run
 pub mod Worked
 pub mod ExamplesOfRefusals
+pub mod ExamplesOfChanges
 pub mod Live
 pub mod Near
 pub mod Agreement
