@@ -13,3 +13,4 @@ pub mod HoldMembers
 pub mod GoodToPhases
 pub mod StepsInTurn
 pub mod Opening
+pub mod DeadWork

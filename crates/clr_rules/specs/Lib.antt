@@ -35,3 +35,4 @@ pub mod EditLaws
 pub mod StateFacts
 pub mod GoodLaws
 pub mod OpeningLaws
+pub mod WorkLaws

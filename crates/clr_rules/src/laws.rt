@@ -4,3 +4,4 @@ pub mod footprint;
 pub mod good;
 pub mod live;
 pub mod opening;
+pub mod work;

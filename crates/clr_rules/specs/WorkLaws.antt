@@ -1,0 +1,58 @@
+-- What work on a line rests on, as laws of good registers: it is dead, it is grounded, and the points around it are held.
+use Rattle.std.specs.Prelude.{◌≡◌, ℕ, true, false, List, Contains, Some}
+use Rattle.clr_net.specs.Grid.{Grid}
+use Rattle.clr_net.specs.Names.{has_name}
+use Rattle.clr_net.specs.declared.point.PointRow.{PointRow}
+use Rattle.clr_net.specs.declared.point.Position.TheVariants.{Opened}
+use Rattle.clr_net.specs.declared.section.SectionRow.{SectionRow}
+use Rattle.clr_rules.specs.Fences.{clearance_fence}
+use Rattle.clr_rules.specs.Good.{IsFullyHeld, IsGood}
+use Rattle.clr_rules.specs.Holds.{has_hold}
+use Rattle.clr_rules.specs.Id.{Id}
+use Rattle.clr_rules.specs.Live.{is_live}
+use Rattle.clr_rules.specs.LiveLaws.{ClosedWalk}
+use Rattle.clr_rules.specs.Records.{is_granted, record_of}
+use Rattle.clr_rules.specs.Register.{Register}
+use Rattle.clr_rules.specs.States.{position_of}
+use Rattle.clr_rules.specs.Steps.{points_of, steps_in}
+use Rattle.clr_rules.specs.declared.hold_kind.HoldKind.TheVariants.{Ground, Crew}
+use Rattle.clr_rules.specs.declared.record.Record.{Record}
+
+-- while a clearance is granted, no section of its fence is live
+abbrev pub GrantedFencesStayDead : Type 0
+GrantedFencesStayDead = (R : Register) → IsGood R → (c : Id) (r : Record) → record_of R.records c ≡ Some r → is_granted r.phase ≡ true
+    → (s : List ℕ) → has_name (clearance_fence R c) s ≡ true → is_live R.net R.states s ≡ false
+
+-- and its work section is one of these
+abbrev pub GrantedWorkIsDead : Type 0
+GrantedWorkIsDead = (R : Register) → IsGood R → (c : Id) (r : Record) → record_of R.records c ≡ Some r → is_granted r.phase ≡ true
+    → (work : List ℕ) → r.work ≡ Some work → (has_name (clearance_fence R c) work ≡ true) × (is_live R.net R.states work ≡ false)
+
+-- no section that bears a ground is live
+abbrev pub GroundedSectionsAreDead : Type 0
+GroundedSectionsAreDead = (R : Register) → IsGood R → (c : Id) (s : List ℕ) → has_hold R.holds c Ground s ≡ true → is_live R.net R.states s ≡ false
+
+-- in other words: closed points lead from no source to a ground
+abbrev pub NoSourceFeedsGrounds : Type 0
+NoSourceFeedsGrounds = (R : Register) → IsGood R → (c : Id) (s : List ℕ) → has_hold R.holds c Ground s ≡ true
+    → (source : SectionRow) → Contains (Grid.sections R.net) source → source.source ≡ true → ClosedWalk (Grid.points R.net) R.states source.name s → ⊥
+
+-- a point that was opened for a granted clearance is open, held open and tagged, blocked where it can be locked, and controlled where it
+-- is controlled from afar
+abbrev pub GrantedPointsBearAllHolds : Type 0
+GrantedPointsBearAllHolds = (R : Register) → IsGood R → (c : Id) (r : Record) → record_of R.records c ≡ Some r → is_granted r.phase ≡ true
+    → (point : PointRow) → Contains (Grid.points R.net) point → has_name (points_of (steps_in R.steps c 1)) point.name ≡ true
+    → (position_of R.states point.name ≡ Some Opened) × IsFullyHeld R.holds c point
+
+-- where a crew is on, the clearance is granted, and its work section is grounded for it and dead
+pub record IsSafeWork (R : Register) (c : Id) : Type 0 where
+  pub clearance : Record
+  pub work : List ℕ
+  pub recorded : record_of R.records c ≡ Some clearance
+  pub granted : is_granted clearance.phase ≡ true
+  pub worked_on : clearance.work ≡ Some work
+  pub grounded : has_hold R.holds c Ground work ≡ true
+  pub dead : is_live R.net R.states work ≡ false
+
+abbrev pub CrewsWorkSafely : Type 0
+CrewsWorkSafely = (R : Register) → IsGood R → (c : Id) (crew : List ℕ) → has_hold R.holds c Crew crew ≡ true → IsSafeWork R c
