@@ -63,6 +63,11 @@ is_charge Field = false
 abbrev pub is_charge_or_operator : Role → Bool
 is_charge_or_operator role = is_charge role || is_operator role
 
+-- whether an employee was found, whose role fits
+abbrev pub has_role : (Role → Bool) → Option StaffRow → Bool
+has_role fits None = false
+has_role fits (Some row) = fits row.role
+
 abbrev pub unknown_caller : Register → List ℕ → Option Refusal
 unknown_caller R by = refuse (not (is_some (employee R.staff by))) UnknownCaller
 
@@ -108,7 +113,8 @@ wrong_phase R c fits = where_some (record_of R.records c) (λ r. refuse (not (fi
 abbrev pub unsound_order : Register → List (List ℕ) → List (List ℕ) → List Task → Option Refusal
 unsound_order R fence points tasks = order_refusal (isolating_fault (rows_of_fence R.net fence) points tasks)
 
--- the points that a clearance holds open, in the order of their first appearance in its first round, are undone one by one.
+-- the steps at each point that a clearance holds open undo its holds there, and no step stands elsewhere; the first wrong point is named, in the
+-- order of their first appearance in its first round.
 -- 1910.269(m)(3)(xii), (xiii)
 abbrev pub wrong_restoring : Register → Id → List Task → Option Refusal
 wrong_restoring R c tasks = order_refusal (restoring_fault (held_among R.holds c (points_of (steps_in R.steps c 1))) tasks)
@@ -185,7 +191,7 @@ grounded R c = refuse (has_some_hold R.holds c Ground) Grounded
 abbrev pub not_grounded : Register → Id → List ℕ → Option Refusal
 not_grounded R c section = refuse (not (has_hold R.holds c Ground section)) NotGrounded
 
--- a check of the work section; a switch order has none
+-- a check of the work section; a granted record has one
 abbrev pub at_work : Register → Id → (List ℕ → Option Refusal) → Option Refusal
 at_work R c check = where_some (record_of R.records c) (λ r. where_some r.work check)
 
@@ -204,8 +210,7 @@ abbrev pub crew_is_off : Register → Id → List ℕ → Option Refusal
 crew_is_off R c crew = refuse (not (has_hold R.holds c Crew crew)) CrewState
 
 abbrev pub is_in_charge : Option StaffRow → Bool
-is_in_charge None = false
-is_in_charge (Some row) = is_charge row.role
+is_in_charge found = has_role is_charge found
 
 abbrev pub bad_transfer : Register → Id → List ℕ → Option Refusal
 bad_transfer R c to = where_some (record_of R.records c)

@@ -16,7 +16,7 @@ use Rattle.clr_order.specs.Step.{actions_at}
 use Rattle.clr_order.specs.declared.action.Action.{Action}
 use Rattle.clr_order.specs.declared.action.Action.TheVariants as actions
 use Rattle.clr_shelf.specs.Rows.{in_key_order}
-use Rattle.clr_rules.specs.Checks.{is_operator}
+use Rattle.clr_rules.specs.Checks.{employee, has_role, is_operator}
 use Rattle.clr_rules.specs.Fences.{clearance_fence}
 use Rattle.clr_rules.specs.Hold.{hold_cmp}
 use Rattle.clr_rules.specs.HoldKind.{is_point_kind}
@@ -57,12 +57,12 @@ pub record HandMatchesStep (R : Register) : Type 0 where
   pub closing : (c : Id) (p : List ℕ) → is_closing_at R.steps c p ≡ true
       → (d : Id) (kind : HoldKind) → is_point_kind kind ≡ true → has_hold R.holds d kind p ≡ true → (d ≡ c) × (kind ≡ HeldOpen)
 
--- the order isolates the work section, if there is one
+-- there is a work section, and the order isolates it
 abbrev pub IsSoundFor : Grid → Option (List ℕ) → List StepRow → Type 0
 IsSoundFor g None rows = ⊥
 IsSoundFor g (Some work) rows = IsSoundOrder g work (once (points_of rows)) (tasks_of rows)
 
--- STANDING ORDERS ARE SOUND: from its acceptance on until all is restored, the first round of an order isolates its work section
+-- STANDING ORDERS ARE SOUND: from its acceptance on until all is restored, the first round of an order isolates its work section.
 -- 1910.269(m)(3)(ii), (iii)
 abbrev pub StandingOrdersAreSound : Register → Type 0
 StandingOrdersAreSound R = (c : Id) (r : Record) → record_of R.records c ≡ Some r → is_standing r.phase ≡ true
@@ -172,7 +172,7 @@ RestoringHaveSecondRound R = (c : Id) (r : Record) → record_of R.records c ≡
 
 -- whether a name is that of an operator
 abbrev pub is_operators : Register → List ℕ → Bool
-is_operators R name = list_any (λ row. same_name name row.name && is_operator row.role) R.staff
+is_operators R name = has_role is_operator (employee R.staff name)
 
 -- SWITCH ORDERS ARE OPERATORS': a record has no work section exactly where its requester is an operator; such a record is Switching or
 -- Closed, and only such a one is Switching

@@ -11,7 +11,8 @@ use Rattle.clr_rules.specs.declared.record.Record.{Record}
 use Rattle.clr_rules.specs.declared.step_row.StepRow.{StepRow}
 
 pub record Register : Type 0 where
-  -- a point's position is no part of the network: it stands in its state, and here each point is Opened
+  -- a point's position is no part of the network: it stands in its state, and here each point is Opened, in an opening register and so in
+  -- each that is reached
   pub net : Grid
   pub staff : List StaffRow
   pub states : List PointState

@@ -95,7 +95,7 @@ pub enum Kind {
         /// Whether all employees are clear.
         clear: bool,
     },
-    /// The holder gives up an order that is not granted.
+    /// The holder gives up a request, an order that is not granted, or a switch order.
     Cancel {
         clearance: ClearanceId,
     },

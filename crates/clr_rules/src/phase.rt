@@ -7,7 +7,7 @@ use std::fmt;
 ///
 /// A clearance on a work section goes from `Requested` to `Ordered`, `Granted`, `Released`, `Restoring` and `Closed`,
 /// the steps of 29 CFR 1910.269(m)(3) in their order; one that is cancelled goes from `Ordered` to `Released`, or at
-/// once to `Closed` where it holds nothing. A switch order is `Switching` until it is `Closed`.
+/// once to `Closed` where it holds nothing, as one that is cancelled while it is `Requested` does. A switch order is `Switching` until it is `Closed`.
 #[derive(Clone, Copy, Debug, PartialEq, Eq)]
 pub enum Phase {
     /// The employee in charge has asked for the section: (m)(3)(i).

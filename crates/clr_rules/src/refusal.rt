@@ -46,7 +46,8 @@ pub enum Refusal {
     NoStep,
     /// An earlier step of the round is not done: (m)(2)(i).
     OutOfTurn,
-    /// The step is not in the state that the command asks for, or a cancel finds one given out and not yet reported.
+    /// The step is not in the state that the command asks for, a cancel finds one given out and not yet
+    /// reported, or the step to amend is no Close.
     StepState,
     /// Another clearance has the point in hand: this one.
     InHand(ClearanceId),
@@ -67,7 +68,7 @@ pub enum Refusal {
     Grounded,
     /// The clearance's ground does not stand there: (m)(3)(vii), (viii).
     NotGrounded,
-    /// A crew is signed on: (m)(3)(x), (xi).
+    /// A crew is signed on: (m)(3)(x), (xi). A ground may be taken all the same, but not that of the work section.
     CrewsOn,
     /// The crew is on already, or is not on.
     CrewState,

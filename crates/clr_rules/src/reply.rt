@@ -25,9 +25,9 @@ pub struct Card {
     /// The present round: 0 without steps, 2 where there are restoring steps, else 1.
     pub round: u8,
     /// How many steps of the present round are done.
-    pub done: u16,
+    pub done: usize,
     /// How many steps the present round has.
-    pub steps: u16,
+    pub steps: usize,
 }
 
 /// How a clearance stands, and all that stands at its fence.
