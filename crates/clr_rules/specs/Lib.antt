@@ -22,6 +22,8 @@ pub mod Run
 pub mod Worked
 pub mod ExamplesOfRefusals
 pub mod ExamplesOfChanges
+pub mod ExamplesOfFirstChecks
+pub mod ExamplesOfNearParts
 pub mod Live
 pub mod Near
 pub mod Agreement

@@ -1,0 +1,14 @@
+//! What a command looks at, and no row more.
+ghost use Rattle.clr_rules.specs.ExamplesOfNearParts.{NearARequest, NearASwitchOrder, NearAnOrder, NearJones};
+
+/// The near part of JONES/1, beside which KIM/1 stands.
+pub fn show()
+    ensures { NearJones }
+{}
+
+/// The near parts of commands that make something new: a request, an order, a switch order.
+pub fn making()
+    ensures request { NearARequest }
+    ensures order { NearAnOrder }
+    ensures switch { NearASwitchOrder }
+{}
