@@ -14,3 +14,8 @@ pub mod GoodToPhases
 pub mod StepsInTurn
 pub mod Opening
 pub mod DeadWork
+pub mod Kept
+pub mod NearWords
+pub mod PartEdits
+pub mod Greatest
+pub mod Agreeing

@@ -38,3 +38,5 @@ pub mod StateFacts
 pub mod GoodLaws
 pub mod OpeningLaws
 pub mod WorkLaws
+pub mod AgreementLaws
+pub mod MarkLaws

@@ -1,7 +1,9 @@
 //! Laws of the definitions: the contract of each function is the law, and its body is empty.
+pub mod agreement;
 pub mod edits;
 pub mod footprint;
 pub mod good;
 pub mod live;
+pub mod marks;
 pub mod opening;
 pub mod work;

@@ -1,0 +1,5 @@
+use Rattle.clr_rules.proofs.Agreeing.{same_marks_agree}
+use Rattle.clr_rules.proofs.laws.agreement.same_marks_keep_agreement.Goals as goal
+
+pub returns : goal.returns
+returns c = same_marks_agree
