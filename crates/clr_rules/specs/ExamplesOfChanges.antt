@@ -1,49 +1,19 @@
 -- EXAMPLES OF CHANGES: each of the eighteen kinds of command accepted in the worked network, with its reply and all its edits.
-use Rattle.std.specs.Prelude.{◌≡◌, ℕ, true, false, List, [], ◌∷◌, ◌++◌, codes, Option, Some, None}
+use Rattle.std.specs.Prelude.{◌≡◌, ℕ, true, false, List, [], ◌∷◌, ◌++◌, codes, Some, None}
 use Rattle.clr_net.specs.declared.point.Position.TheVariants.{Opened, Closed as Shut}
-use Rattle.clr_order.specs.Step.{Task}
 use Rattle.clr_order.specs.declared.action.Action.TheVariants as actions
-use Rattle.clr_order.specs.declared.step.Step.{Step}
-use Rattle.clr_order.specs.declared.step.StepState.{StepState}
 use Rattle.clr_order.specs.declared.step.StepState.TheVariants.{Waiting, Instructed, Repeated, Done}
 use Rattle.clr_rules.specs.Answer.{Answer}
 use Rattle.clr_rules.specs.Holds.{hold_of}
-use Rattle.clr_rules.specs.Id.{Id}
-use Rattle.clr_rules.specs.Worked.{BOSS, C1, DALE, JONES, KIM, L2, L3, OPS, REED, S2, S3, S4, Saying, T1, accepted, answer_after, c1_is_off, c1_is_on, does, isolating_l2, isolating_l3, jones_1, kim_1, kim_asks, kim_is_granted, l2_asked, l2_blocked, l2_granted, l2_grounded, l2_isolated, l2_ordered, l2_released, l2_restoring, l2_tested, ops_1, restoring_l2, s2_opened, s3_left, s3_opened, s3_unblocked, s4_blocked, says, step_is_repeated, step_runs}
+use Rattle.clr_rules.specs.Worked.{BOSS, C1, DALE, JONES, KIM, L2, L3, OPS, REED, S2, S3, S4, Saying, T1, accepted, answer_after, c1_is_off, c1_is_on, does, isolating_l2, isolating_l2_and_l3, isolating_l3, jones_1, kim_1, kim_asks, kim_is_granted, l2_asked, l2_blocked, l2_granted, l2_grounded, l2_isolated, l2_ordered, l2_released, l2_restoring, l2_tested, ops_1, restoring_l2, s2_opened, s3_left, s3_opened, s3_unblocked, s4_blocked, says, step_is_repeated, step_runs}
+use Rattle.clr_rules.specs.WorkedRows.{jones_card, jones_record, kim_card, kim_record, ops_card, ops_record, seen, step_row}
 use Rattle.clr_rules.specs.declared.change.Edit.TheVariants.{SetPosition, SetHand, PutHold, TakeHold, PutRecord, PutStep}
 use Rattle.clr_rules.specs.declared.command.Kind.TheVariants.{Request, Order, Instruct, Repeat, Report, Grant, Test, Ground as LayGround, Unground, SignOn, SignOff, Transfer, Release, Cancel, Restore, Amend, Switch, Show}
 use Rattle.clr_rules.specs.declared.hold_kind.HoldKind.TheVariants.{HeldOpen, Block, Control, Tag, Tested, Ground, Crew}
-use Rattle.clr_rules.specs.declared.phase.Phase.{Phase}
 use Rattle.clr_rules.specs.declared.phase.Phase.TheVariants.{Requested, Ordered, Granted, Released, Restoring, Switching, Closed}
 use Rattle.clr_rules.specs.declared.record.Record.{Record}
 use Rattle.clr_rules.specs.declared.reply.Card.{Card}
 use Rattle.clr_rules.specs.declared.reply.Reply.TheVariants.{Accepted, Shown}
-use Rattle.clr_rules.specs.declared.step_row.StepRow.{StepRow}
-
--- the record of JONES/1 in a phase, with the moment of its last command; and that of KIM/1, and of OPS/1, which has no work section
-abbrev pub jones_record : Phase → ℕ → Record
-jones_record phase last = record { id = jones_1; holder = JONES; work = Some L2; phase = phase; last = last }
-
-abbrev pub kim_record : Phase → ℕ → Record
-kim_record phase last = record { id = kim_1; holder = KIM; work = Some L3; phase = phase; last = last }
-
-abbrev pub ops_record : Phase → ℕ → Record
-ops_record phase last = record { id = ops_1; holder = OPS; work = None; phase = phase; last = last }
-
--- the cards: the phase, the round, how many of its steps are done, and how many there are
-abbrev pub jones_card : Phase → ℕ → ℕ → ℕ → Card
-jones_card phase round done steps = record { clearance = jones_1; phase = phase; holder = JONES; round = round; done = done; steps = steps }
-
-abbrev pub kim_card : Phase → ℕ → ℕ → ℕ → Card
-kim_card phase round done steps = record { clearance = kim_1; phase = phase; holder = KIM; round = round; done = done; steps = steps }
-
-abbrev pub ops_card : Phase → ℕ → ℕ → ℕ → Card
-ops_card phase round done steps = record { clearance = ops_1; phase = phase; holder = OPS; round = round; done = done; steps = steps }
-
--- a step of a clearance: its round, its number, what it does, its state and its reader
-abbrev pub step_row : Id → ℕ → ℕ → Task → StepState → Option (List ℕ) → StepRow
-step_row c round ordinal task state reader =
-    record { id = c; round = round; ordinal = ordinal; step = record { action = task.action; point = task.point; state = state; reader = reader } }
 
 -- REQUEST
 
@@ -248,12 +218,8 @@ ReleasesTakeTests = answer_after l2_tested (says JONES (Release jones_1 true tru
     (TakeHold (hold_of jones_1 Tested L2) ∷ PutRecord (jones_record Released 122) ∷ [])
 
 -- KIM has both sections of a fence tested, L3 first: the tests are taken in the order of their names
-abbrev pub wide_order : List Task
-wide_order = does actions.Open S2 ∷ does actions.Block S2 ∷ does actions.Tag S2 ∷ does actions.Open S4 ∷ does actions.Block S4 ∷ does actions.Control S4
-    ∷ does actions.Tag S4 ∷ does actions.Open T1 ∷ does actions.Tag T1 ∷ []
-
 abbrev pub both_tested : List Saying
-both_tested = kim_asks ++ says OPS (Order kim_1 (S2 ∷ S4 ∷ T1 ∷ []) wide_order) ∷ step_runs kim_1 1 (codes "OPEN S2") ++ step_runs kim_1 2 (codes "BLOCK S2")
+both_tested = kim_asks ++ says OPS (Order kim_1 (S2 ∷ S4 ∷ T1 ∷ []) isolating_l2_and_l3) ∷ step_runs kim_1 1 (codes "OPEN S2") ++ step_runs kim_1 2 (codes "BLOCK S2")
     ++ step_runs kim_1 3 (codes "TAG S2") ++ step_runs kim_1 4 (codes "OPEN S4") ++ step_runs kim_1 5 (codes "BLOCK S4")
     ++ step_runs kim_1 6 (codes "CONTROL S4") ++ step_runs kim_1 7 (codes "TAG S4") ++ step_runs kim_1 8 (codes "OPEN T1")
     ++ step_runs kim_1 9 (codes "TAG T1") ++ says OPS (Grant kim_1) ∷ says KIM (Test kim_1 L3 true) ∷ says KIM (Test kim_1 L2 true) ∷ []
@@ -303,10 +269,6 @@ SwitchOrdersHaveNoWork = answer_after l2_granted (says OPS (Switch (does actions
     (PutRecord (ops_record Switching 121) ∷ PutStep (step_row ops_1 1 1 (does actions.Open S4) Waiting None) ∷ [])
 
 -- SHOW
-
--- a step as it is shown
-abbrev pub seen : Task → StepState → Option (List ℕ) → Step
-seen task state reader = record { action = task.action; point = task.point; state = state; reader = reader }
 
 -- the first step of JONES's order is done: S2 is open and held
 abbrev pub ViewsHaveTheFence : Type 0

@@ -1,27 +1,21 @@
 -- EXAMPLES OF NEAR PARTS: what a command looks at, and all that it does not. JONES works on L2, with the crew C1; KIM works on L3 beside it,
 -- with the crew C2, and holds S3 as well.
-use Rattle.std.specs.Prelude.{◌≡◌, ℕ, true, false, List, [], ◌∷◌, ◌++◌, codes, Some, None}
+use Rattle.std.specs.Prelude.{◌≡◌, ℕ, true, false, List, [], ◌∷◌, ◌++◌, codes, None}
 use Rattle.clr_net.specs.declared.point.Position.TheVariants.{Opened, Closed as Shut}
 use Rattle.clr_order.specs.declared.action.Action.TheVariants as actions
-use Rattle.clr_order.specs.declared.step.StepState.TheVariants.{Done}
-use Rattle.clr_order.specs.Step.{Task}
-use Rattle.clr_rules.specs.ExamplesOfChanges.{jones_record, kim_record, step_row}
 use Rattle.clr_rules.specs.Holds.{hold_of}
 use Rattle.clr_rules.specs.Near.{near_of}
-use Rattle.clr_rules.specs.Worked.{C1, H, KIM, L1, L2, L3, OPS, REED, S2, S3, S4, Saying, T1, c1_is_on, does, isolating_l3, jones_1, kim_1, kim_asks, kim_is_granted, l2_granted, register_after, said_at, says, worked_staff}
+use Rattle.clr_rules.specs.Worked.{C1, H, KIM, L1, L2, L3, OPS, S2, S3, S4, Saying, T1, c1_is_on, does, isolating_l3, jones_1, kim_1, kim_asks, kim_is_granted, l2_granted, register_after, said_at, says, worked_staff}
+use Rattle.clr_rules.specs.WorkedRows.{done_step, jones_record, kim_record}
 use Rattle.clr_rules.specs.declared.command.Kind.TheVariants.{Request, Order, Test, Ground as LayGround, SignOn, Switch, Show}
 use Rattle.clr_rules.specs.declared.hold_kind.HoldKind.TheVariants.{HeldOpen, Block, Tag, Tested, Ground, Crew}
 use Rattle.clr_rules.specs.declared.phase.Phase.TheVariants.{Requested, Granted}
-use Rattle.clr_rules.specs.declared.step_row.StepRow.{StepRow}
 
 abbrev pub C2 : List ℕ
 C2 = codes "C2"
 
 abbrev pub both_at_work : List Saying
 both_at_work = c1_is_on ++ kim_is_granted ++ says KIM (Test kim_1 L3 true) ∷ says KIM (LayGround kim_1 L3) ∷ says KIM (SignOn kim_1 C2) ∷ []
-
-abbrev pub done_step : ℕ → Task → StepRow
-done_step n task = step_row jones_1 1 n task Done (Some REED)
 
 -- SHOW, or any command that names JONES/1: its fence is L2 alone. KIM's holds at S3 are near; KIM's record and steps, KIM's holds at S4, T1
 -- and L3 and KIM's crew are not
@@ -37,8 +31,8 @@ NearJones = near_of (register_after both_at_work) (said_at 200 (says OPS (Show j
     staff = worked_staff;
     states = record { point = S2; position = Opened; hand = None } ∷ record { point = S3; position = Opened; hand = None } ∷ [];
     records = jones_record Granted 123 ∷ [];
-    steps = done_step 1 (does actions.Open S2) ∷ done_step 2 (does actions.Open S3) ∷ done_step 3 (does actions.Block S2)
-        ∷ done_step 4 (does actions.Block S3) ∷ done_step 5 (does actions.Tag S2) ∷ done_step 6 (does actions.Tag S3) ∷ [];
+    steps = done_step jones_1 1 1 (does actions.Open S2) ∷ done_step jones_1 1 2 (does actions.Open S3) ∷ done_step jones_1 1 3 (does actions.Block S2)
+        ∷ done_step jones_1 1 4 (does actions.Block S3) ∷ done_step jones_1 1 5 (does actions.Tag S2) ∷ done_step jones_1 1 6 (does actions.Tag S3) ∷ [];
     holds = hold_of jones_1 Block S2 ∷ hold_of jones_1 Block S3 ∷ hold_of kim_1 Block S3 ∷ hold_of jones_1 Crew C1 ∷ hold_of jones_1 Ground L2
         ∷ hold_of jones_1 HeldOpen S2 ∷ hold_of jones_1 HeldOpen S3 ∷ hold_of kim_1 HeldOpen S3 ∷ hold_of jones_1 Tag S2 ∷ hold_of jones_1 Tag S3
         ∷ hold_of kim_1 Tag S3 ∷ hold_of jones_1 Tested L2 ∷ [];

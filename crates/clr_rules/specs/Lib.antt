@@ -20,10 +20,12 @@ pub mod Changes
 pub mod Answer
 pub mod Run
 pub mod Worked
+pub mod WorkedRows
 pub mod ExamplesOfRefusals
 pub mod ExamplesOfChanges
 pub mod ExamplesOfFirstChecks
 pub mod ExamplesOfNearParts
+pub mod ExamplesOfIsolation
 pub mod Live
 pub mod Near
 pub mod Agreement

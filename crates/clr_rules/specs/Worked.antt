@@ -265,3 +265,8 @@ s3_unblocked = kim_is_restoring ++ step_runs kim_1 1 (codes "UNTAG S3") ++ step_
 -- S3 stays open, since the third step is amended
 abbrev pub s3_left : List Saying
 s3_left = s3_unblocked ++ says OPS (Amend kim_1 3) ∷ step_runs kim_1 3 (codes "LEAVE S3")
+
+-- an order at S2, S4 and T1, which makes a fence of L2 and L3
+abbrev pub isolating_l2_and_l3 : List Task
+isolating_l2_and_l3 = does Open S2 ∷ does Block S2 ∷ does Tag S2 ∷ does Open S4 ∷ does Block S4 ∷ does Control S4
+    ∷ does Tag S4 ∷ does Open T1 ∷ does Tag T1 ∷ []

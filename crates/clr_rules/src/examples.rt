@@ -2,5 +2,6 @@
 //! examples, and its body is empty.
 pub mod changes;
 pub mod first_checks;
+pub mod isolation;
 pub mod near_parts;
 pub mod refusals;

@@ -1,0 +1,181 @@
+-- EXAMPLES OF ISOLATION: JONES/1 lives its whole life in two registers. One has the worked network, and OPS switches S4 there while JONES has
+-- the clearance; two has little more than L2, and nothing else is done there. The fence of JONES/1 is L2 in both.
+use Rattle.std.specs.Prelude.{◌≡◌, ℕ, Bool, true, false, List, [], ◌∷◌, ◌++◌, length, codes, Some, None}
+use Rattle.clr_csv.specs.declared.employee.Role.TheVariants.{Operator, Charge, Field}
+use Rattle.clr_csv.specs.declared.employee.StaffRow.{StaffRow}
+use Rattle.clr_net.specs.Grid.{Grid}
+use Rattle.clr_net.specs.Names.{has_name}
+use Rattle.clr_net.specs.declared.point.Position.{Position}
+use Rattle.clr_net.specs.declared.point.Position.TheVariants.{Opened, Closed as Shut}
+use Rattle.clr_order.specs.declared.action.Action.TheVariants as actions
+use Rattle.clr_rules.specs.Agreement.{Agree, part_near}
+use Rattle.clr_rules.specs.Register.{Register, opening}
+use Rattle.clr_rules.specs.Run.{after_all}
+use Rattle.clr_rules.specs.Shown.{covers, marks, own_answers, shown}
+use Rattle.clr_rules.specs.Worked.{BOSS, C1, DALE, JONES, KIM, L1, L2, L3, OPS, REED, S2, S3, S4, Saying, T1, does, from_moment, isolating_l2_and_l3, jones_1, l2_asked, l2_granted, ops_1, restoring_l2, says, step_runs, worked_opening, worked_staff}
+use Rattle.clr_rules.specs.WorkedRows.{done_step, jones_record}
+use Rattle.clr_rules.specs.declared.change.Edit.TheVariants.{SetPosition, SetHand}
+use Rattle.clr_rules.specs.declared.command.Command.{Command}
+use Rattle.clr_rules.specs.declared.command.Kind.TheVariants.{Order, Test, Ground, Unground, SignOn, SignOff, Release, Restore, Switch, Show}
+use Rattle.clr_rules.specs.declared.phase.Phase.TheVariants.{Closed}
+
+-- THE TWO REGISTERS
+
+-- a network with L2, the points that lead to it, and the sections that they lead from: L1 is a source here
+abbrev pub two_net : Bool → Position → Grid
+two_net s3_is_lockable s2_stands = record {
+  sections = record { name = L1; source = true } ∷ record { name = L2; source = false } ∷ record { name = L3; source = false } ∷ [];
+  points =
+      record { name = S2; from_end = L1; to_end = L2; lockable = true; remote = false; position = s2_stands }
+      ∷ record { name = S3; from_end = L2; to_end = L3; lockable = s3_is_lockable; remote = false; position = Shut }
+      ∷ [];
+}
+
+abbrev pub register_one : Register
+register_one = worked_opening
+
+abbrev pub register_two : Register
+register_two = opening (two_net true Shut) worked_staff
+
+abbrev pub in_l2 : List ℕ → Bool
+in_l2 = has_name (L2 ∷ [])
+
+-- THE TWO LISTS
+
+-- JONES at work, from the test on
+abbrev pub jones_works_and_releases : List Saying
+jones_works_and_releases =
+    says JONES (Test jones_1 L2 false) ∷ says JONES (Ground jones_1 L2) ∷ says JONES (Test jones_1 L2 true) ∷ says JONES (Ground jones_1 L2)
+    ∷ says JONES (SignOn jones_1 C1) ∷ says JONES (Show jones_1) ∷ says JONES (SignOff jones_1 C1) ∷ says JONES (Unground jones_1 L2)
+    ∷ says JONES (Release jones_1 true true) ∷ []
+
+abbrev pub l2_is_restored : List Saying
+l2_is_restored =
+    says OPS (Restore jones_1 restoring_l2) ∷ step_runs jones_1 1 (codes "UNTAG S2") ++ step_runs jones_1 2 (codes "UNBLOCK S2")
+    ++ step_runs jones_1 3 (codes "CLOSE S2") ++ step_runs jones_1 4 (codes "UNTAG S3") ++ step_runs jones_1 5 (codes "UNBLOCK S3")
+    ++ step_runs jones_1 6 (codes "CLOSE S3")
+
+-- in register two, from moment 100 on: the 49 commands about JONES/1
+abbrev pub list_two : List Command
+list_two = from_moment 100 (l2_granted ++ jones_works_and_releases ++ l2_is_restored)
+
+-- OPS's switch order at a point, and its step
+abbrev pub ops_switches : List ℕ → List ℕ → List Saying
+ops_switches point text = says OPS (Switch (does actions.Open point ∷ [])) ∷ step_runs ops_1 1 text
+
+-- in register one the same, at the same moments; and after the grant these four commands of OPS
+abbrev pub list_one : List ℕ → List ℕ → List Command
+list_one point text =
+    from_moment 100 l2_granted ++ from_moment 120 (ops_switches point text) ++ from_moment 121 (jones_works_and_releases ++ l2_is_restored)
+
+abbrev pub with_s4_switched : List Command
+with_s4_switched = list_one S4 (codes "OPEN S4")
+
+abbrev pub with_s3_switched : List Command
+with_s3_switched = list_one S3 (codes "OPEN S3")
+
+-- WHAT ISOLATION ASKS
+
+-- the registers agree near JONES/1 on L2, although one of them has five sections and the other three
+abbrev pub TheRegistersAgree : Type 0
+TheRegistersAgree = Agree jones_1 in_l2 register_one register_two
+
+-- L2 covers the run in register one
+abbrev pub L2CoversTheRun : Type 0
+L2CoversTheRun = covers jones_1 in_l2 register_one with_s4_switched ≡ true
+
+-- both lists show JONES/1 the same: its own 49 commands, and no mark
+abbrev pub TheListsShowTheSame : Type 0
+TheListsShowTheSame = shown jones_1 in_l2 register_one with_s4_switched ≡ shown jones_1 in_l2 register_two list_two
+
+abbrev pub FortyNineAreShown : Type 0
+FortyNineAreShown = length (shown jones_1 in_l2 register_one with_s4_switched) ≡ 49
+
+-- AND WHAT IT GIVES
+
+-- JONES/1 has the same replies and the same edits
+abbrev pub TheAnswersAreTheSame : Type 0
+TheAnswersAreTheSame = own_answers jones_1 register_one with_s4_switched ≡ own_answers jones_1 register_two list_two
+
+-- what stands near JONES/1 in the end: nothing is held, S2 and S3 are closed, and all twelve steps are done
+abbrev pub near_in_the_end : Register
+near_in_the_end = record {
+  net = record {
+    sections = record { name = L2; source = false } ∷ [];
+    points = record { name = S2; from_end = L1; to_end = L2; lockable = true; remote = false; position = Opened }
+        ∷ record { name = S3; from_end = L2; to_end = L3; lockable = true; remote = false; position = Opened } ∷ [];
+  };
+  staff = worked_staff;
+  states = record { point = S2; position = Shut; hand = None } ∷ record { point = S3; position = Shut; hand = None } ∷ [];
+  records = jones_record Closed 148 ∷ [];
+  steps = done_step jones_1 1 1 (does actions.Open S2) ∷ done_step jones_1 1 2 (does actions.Open S3) ∷ done_step jones_1 1 3 (does actions.Block S2)
+      ∷ done_step jones_1 1 4 (does actions.Block S3) ∷ done_step jones_1 1 5 (does actions.Tag S2) ∷ done_step jones_1 1 6 (does actions.Tag S3)
+      ∷ done_step jones_1 2 1 (does actions.Untag S2) ∷ done_step jones_1 2 2 (does actions.Unblock S2) ∷ done_step jones_1 2 3 (does actions.Close S2)
+      ∷ done_step jones_1 2 4 (does actions.Untag S3) ∷ done_step jones_1 2 5 (does actions.Unblock S3) ∷ done_step jones_1 2 6 (does actions.Close S3) ∷ [];
+  holds = [];
+}
+
+abbrev pub OneEndsSo : Type 0
+OneEndsSo = part_near (after_all register_one with_s4_switched) jones_1 in_l2 ≡ near_in_the_end
+
+abbrev pub TwoEndsSo : Type 0
+TwoEndsSo = part_near (after_all register_two list_two) jones_1 in_l2 ≡ near_in_the_end
+
+-- and so the registers agree again
+abbrev pub TheRegistersStillAgree : Type 0
+TheRegistersStillAgree = Agree jones_1 in_l2 (after_all register_one with_s4_switched) (after_all register_two list_two)
+
+-- WHERE THEY DO NOT AGREE
+
+-- S3, which has an end in L2, cannot be locked in the second register
+abbrev pub AnotherPointDisagrees : Type 0
+AnotherPointDisagrees = Agree jones_1 in_l2 register_one (opening (two_net false Shut) worked_staff) → ⊥
+
+-- S2 stands open there
+abbrev pub AnotherPositionDisagrees : Type 0
+AnotherPositionDisagrees = Agree jones_1 in_l2 register_one (opening (two_net true Opened) worked_staff) → ⊥
+
+-- JONES has no supervisor there
+abbrev pub another_staff : List StaffRow
+another_staff =
+    record { name = BOSS; role = Charge; supervisor = None }
+    ∷ record { name = DALE; role = Field; supervisor = None }
+    ∷ record { name = JONES; role = Charge; supervisor = None }
+    ∷ record { name = KIM; role = Charge; supervisor = None }
+    ∷ record { name = OPS; role = Operator; supervisor = None }
+    ∷ record { name = REED; role = Field; supervisor = None }
+    ∷ []
+
+abbrev pub AnotherStaffDisagrees : Type 0
+AnotherStaffDisagrees = Agree jones_1 in_l2 register_one (opening (two_net true Shut) another_staff) → ⊥
+
+-- JONES has asked for a clearance there already
+abbrev pub AnotherNumberDisagrees : Type 0
+AnotherNumberDisagrees = Agree jones_1 in_l2 register_one (after_all register_two (from_moment 100 l2_asked)) → ⊥
+
+-- WHERE THE SET DOES NOT COVER
+
+-- an order at S2, S4 and T1 makes a fence of L2 and L3
+abbrev pub wide_list : List Command
+wide_list = from_moment 100 (l2_asked ++ says OPS (Order jones_1 (S2 ∷ S4 ∷ T1 ∷ []) isolating_l2_and_l3) ∷ [])
+
+abbrev pub L2DoesNotCoverL3 : Type 0
+L2DoesNotCoverL3 = covers jones_1 in_l2 register_one wide_list ≡ false
+
+abbrev pub BothSectionsCover : Type 0
+BothSectionsCover = covers jones_1 (has_name (L2 ∷ L3 ∷ [])) register_one wide_list ≡ true
+
+-- WHERE THE LISTS DO NOT SHOW THE SAME
+
+-- OPS switches S3 in place of S4, and S3 has an end in L2
+abbrev pub AnotherSwitchIsSeen : Type 0
+AnotherSwitchIsSeen = shown jones_1 in_l2 register_one with_s3_switched ≡ shown jones_1 in_l2 register_two list_two → ⊥
+
+-- the marks of that switch order: S3 is taken in hand; then it is open, and in nobody's hand
+abbrev pub ItsMarksAreSeen : Type 0
+ItsMarksAreSeen = shown jones_1 in_l2 register_one (from_moment 100 (ops_switches S3 (codes "OPEN S3"))) ≡
+    marks (SetHand S3 (Some ops_1)) [] ∷ marks (SetPosition S3 Opened) (SetHand S3 None ∷ []) ∷ []
+
+-- of S4 nothing is seen
+abbrev pub NoMarkIsSeen : Type 0
+NoMarkIsSeen = shown jones_1 in_l2 register_one (from_moment 100 (ops_switches S4 (codes "OPEN S4"))) ≡ []

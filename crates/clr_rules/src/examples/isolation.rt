@@ -1,0 +1,40 @@
+//! A clearance that lives its life in two registers.
+ghost use Rattle.clr_rules.specs.ExamplesOfIsolation.{AnotherNumberDisagrees, AnotherPointDisagrees, AnotherPositionDisagrees, AnotherStaffDisagrees, AnotherSwitchIsSeen, BothSectionsCover, FortyNineAreShown, ItsMarksAreSeen, L2CoversTheRun, L2DoesNotCoverL3, NoMarkIsSeen, OneEndsSo, TheAnswersAreTheSame, TheListsShowTheSame, TheRegistersAgree, TheRegistersStillAgree, TwoEndsSo};
+
+/// What isolation asks of two registers and two lists: the registers agree, the set covers the run, and the lists show the
+/// same.
+pub fn premises()
+    ensures agree { TheRegistersAgree }
+    ensures covered { L2CoversTheRun }
+    ensures same_shown { TheListsShowTheSame }
+    ensures all_shown { FortyNineAreShown }
+{}
+
+/// What it gives: the answers are the same, and the registers agree again.
+pub fn outcome()
+    ensures answers { TheAnswersAreTheSame }
+    ensures one { OneEndsSo }
+    ensures two { TwoEndsSo }
+    ensures agree { TheRegistersStillAgree }
+{}
+
+/// A point, a position, a staff or a number that is another.
+pub fn disagreements()
+    ensures point { AnotherPointDisagrees }
+    ensures position { AnotherPositionDisagrees }
+    ensures staff { AnotherStaffDisagrees }
+    ensures number { AnotherNumberDisagrees }
+{}
+
+/// A set that does not cover a run, and one that does.
+pub fn coverage()
+    ensures too_small { L2DoesNotCoverL3 }
+    ensures large_enough { BothSectionsCover }
+{}
+
+/// A switch order that is seen, and one that is not.
+pub fn marks()
+    ensures another_shown { AnotherSwitchIsSeen }
+    ensures seen { ItsMarksAreSeen }
+    ensures unseen { NoMarkIsSeen }
+{}
