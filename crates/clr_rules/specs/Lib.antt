@@ -22,6 +22,8 @@ pub mod Run
 pub mod Worked
 pub mod WorkedRows
 pub mod ExamplesOfRefusals
+pub mod ExamplesOfSequence
+pub mod ExamplesOfPhases
 pub mod ExamplesOfChanges
 pub mod ExamplesOfFirstChecks
 pub mod ExamplesOfNearParts

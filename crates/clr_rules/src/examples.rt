@@ -4,4 +4,6 @@ pub mod changes;
 pub mod first_checks;
 pub mod isolation;
 pub mod near_parts;
+pub mod phases;
 pub mod refusals;
+pub mod sequence;
