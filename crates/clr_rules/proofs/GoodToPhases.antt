@@ -1,13 +1,11 @@
 -- A good register is good phase by phase.
-use Rattle.std.proofs.Common.{◌≡◌, ℕ, Bool, true, false, ◌||◌, List, [], ◌∷◌, Option, Some, None, is_some, All, refl, sym, ◌∙◌, ap, arith}
+use Rattle.std.proofs.Common.{◌≡◌, ℕ, Bool, true, false, ◌||◌, List, [], ◌∷◌, Option, Some, None, is_some, All, refl, sym, ◌∙◌, ap}
 use Rattle.std.proofs.lemmas.Bool.{both_ways, false≢true, false_from_ne_true}
 use Rattle.std.proofs.lemmas.List.Elements.{All-contains, All-head, All-tail, All-weaker}
 use Rattle.std.proofs.lemmas.List.Folds.{list_any_none}
 use Rattle.std.proofs.lemmas.Option.{same_Some}
-use Rattle.clr_net.specs.Grid.{Grid}
 use Rattle.clr_net.specs.Name.{same_name}
 use Rattle.clr_net.proofs.Walks.{one_name}
-use Rattle.clr_order.specs.Isolating.{IsSoundOrder}
 use Rattle.clr_order.specs.Needed.{undoes}
 use Rattle.clr_order.specs.Step.{actions_at}
 use Rattle.clr_order.proofs.Undoing.{rule_undoes}
@@ -15,12 +13,12 @@ use Rattle.clr_rules.specs.Fences.{clearance_fence}
 use Rattle.clr_rules.specs.Good.{IsGood, has_record, is_active_at, left}
 use Rattle.clr_rules.specs.GoodByPhase.{ActiveInRound, HasNoWork, HoldsAsPut, HoldsNothing, InPhase, InPlaceAs, IsGoodByPhase, IsInPlace, Isolates, active_at, go_in_turn, inner_fence, of_round, outlook_of, present_of}
 use Rattle.clr_rules.specs.HoldKind.{is_point_kind}
-use Rattle.clr_rules.specs.Holds.{has_hold, held_at, hold_of, once}
+use Rattle.clr_rules.specs.Holds.{has_hold, held_at, hold_of}
 use Rattle.clr_rules.specs.Id.{Id, same_id}
 use Rattle.clr_rules.specs.Records.{is_closed, is_granted, is_in_switching, is_requested, is_restoring, is_running, is_standing, lacks_work, record_of}
 use Rattle.clr_rules.specs.Register.{Register}
 use Rattle.clr_rules.specs.States.{has_in_hand}
-use Rattle.clr_rules.specs.Steps.{is_active, is_in_turn, is_some_step, is_waiting, points_of, present_round, some_active, steps_in, steps_of, tasks_of}
+use Rattle.clr_rules.specs.Steps.{is_active, is_in_turn, is_some_step, is_waiting, present_round, some_active, steps_in, steps_of, tasks_of}
 use Rattle.clr_rules.specs.declared.hold.Hold.{Hold}
 use Rattle.clr_rules.specs.declared.hold_kind.HoldKind.{HoldKind}
 use Rattle.clr_rules.specs.declared.hold_kind.HoldKind.TheVariants.{HeldOpen, Block, Control, Tag}
@@ -29,18 +27,9 @@ use Rattle.clr_rules.specs.declared.phase.Phase.TheVariants.{Requested, Ordered,
 use Rattle.clr_rules.specs.declared.record.Record.{Record}
 use Rattle.clr_rules.specs.declared.step_row.StepRow.{StepRow}
 use Rattle.clr_rules.proofs.HoldMembers.{hold_there}
-use Rattle.clr_rules.proofs.RoundSteps.{All-in_round, no_step_of, no_step_there, of_round_is, of_the_round, one_id, record_id, some_step_there}
+use Rattle.clr_rules.proofs.PutHolds.{some_isolating}
+use Rattle.clr_rules.proofs.RoundSteps.{All-in_round, no_step_of, no_step_there, of_round_is, of_the_round, one_id, present_of_is, record_id}
 use Rattle.clr_rules.proofs.StepsInTurn.{round_rises, turn_by_turn}
-
--- the present round of a clearance, by its own steps
-pub present_of_is : (steps : List StepRow) (c : Id) → present_of (steps_of steps c) ≡ present_round steps c
-present_of_is steps c = rw (of_round_is steps c 2, of_round_is steps c 1) refl
-
--- an isolating order has a step
-some_isolating : (g : Grid) (work : List ℕ) (rows : List StepRow) → IsSoundOrder g work (once (points_of rows)) (tasks_of rows) → is_some_step rows ≡ true
-unfolding once
-some_isolating g work [] sound = let some = sound.some_point in absurd (omega arith)
-some_isolating g work (row ∷ rows) sound = some_step_there row rows
 
 -- no step stands where none of those that are left does
 none_there : (has : List ℕ → Bool) (p : List ℕ) (rows : List StepRow) → All (λ row. has row.step.point ≡ true) rows → has p ≡ false → actions_at (tasks_of rows) p ≡ []

@@ -10,6 +10,9 @@ pub mod Refusing
 pub mod Sparing
 pub mod RoundSteps
 pub mod HoldMembers
+pub mod PutHolds
+pub mod PhaseFacts
+pub mod PhasesToGood
 pub mod GoodToPhases
 pub mod StepsInTurn
 pub mod Opening

@@ -1,13 +1,13 @@
 -- The steps of a clearance, round by round; what a filter of a list keeps.
 use Rattle.std.proofs.Common.{◌≡◌, ℕ, Bool, true, false, ◌&&◌, nat_eq, List, [], ◌∷◌, length, filter, Some, All, Contains, refl, sym, ◌∙◌, arith}
 use Rattle.std.proofs.lemmas.Bool.{and_from, and_parts, eqb-true, eq-eqb, lt-ltb, ltb-false}
-use Rattle.std.proofs.lemmas.List.Elements.{All-cons, All-contains, All-contains_itself, All-filter, All-head, All-nil, All-tail, All-weaker}
+use Rattle.std.proofs.lemmas.List.Elements.{All-contains_itself, All-filter, All-head, All-tail, All-weaker, filter_passes}
 use Rattle.clr_shelf.specs.Keys.{equal}
 use Rattle.clr_shelf.specs.Members.{member-row_of}
-use Rattle.clr_rules.specs.GoodByPhase.{of_round}
+use Rattle.clr_rules.specs.GoodByPhase.{of_round, present_of}
 use Rattle.clr_rules.specs.Id.{Id, id_cmp, id_cmp_total, same_id, same_id_equiv, same_id_from_tie, same_id_ties}
 use Rattle.clr_rules.specs.Records.{record_key, record_of}
-use Rattle.clr_rules.specs.Steps.{is_of_round, is_some_step, steps_in, steps_of}
+use Rattle.clr_rules.specs.Steps.{is_of_round, is_some_step, present_round, steps_in, steps_of}
 use Rattle.clr_rules.specs.declared.record.Record.{Record}
 use Rattle.clr_rules.specs.declared.step_row.StepRow.{StepRow}
 use Rattle.clr_rules.proofs.NamedRows.{Contains-filter}
@@ -17,18 +17,6 @@ use Rattle.clr_rules.proofs.NamedRows.{Contains-filter}
 -- what holds of each element that is there holds of all
 pub All-from_each : {X : Type 0} (P : X → Type 0) (xs : List X) → ((x : X) → Contains xs x → P x) → All P xs
 All-from_each P xs each = All-weaker (Contains xs) P each xs (All-contains_itself xs)
-
--- what a filter keeps passes, and was there
-pub kept_passes : {X : Type 0} (q : X → Bool) (xs : List X) → All (λ x. q x ≡ true) (filter q xs)
-kept_passes q [] = All-nil (λ x. q x ≡ true)
-kept_passes q (x ∷ xs) = at (q x) refl (kept_passes q xs)
-  where
-    at : (b : Bool) → q x ≡ b → All (λ x. q x ≡ true) (filter q xs) → All (λ x. q x ≡ true) (filter q (x ∷ xs))
-    at true e more = rw e (All-cons (λ x. q x ≡ true) x (filter q xs) e more)
-    at false e more = rw e more
-
-pub All-of_kept : {X : Type 0} (q : X → Bool) (P : X → Type 0) (xs : List X) → All P (filter q xs) → (x : X) → Contains xs x → q x ≡ true → P x
-All-of_kept q P xs all x there passes = All-contains P (filter q xs) x all (Contains-filter q xs x there passes)
 
 -- a filter keeps nothing where nothing passes
 pub filter-none_passes : {X : Type 0} (q : X → Bool) (xs : List X) → All (λ x. q x ≡ false) xs → filter q xs ≡ []
@@ -68,13 +56,13 @@ of_round_is steps c round = filter-twice (λ (row : StepRow). nat_eq row.round r
 pub of_clearance : (steps : List StepRow) (c : Id) → All (λ row. row.id ≡ c) (steps_of steps c)
 unfolding steps_of
 of_clearance steps c = All-weaker (λ (row : StepRow). same_id c row.id ≡ true) (λ (row : StepRow). row.id ≡ c) (λ row same. sym (one_id c row.id same)) (steps_of steps c)
-    (kept_passes (λ (row : StepRow). same_id c row.id) steps)
+    (filter_passes (λ (row : StepRow). same_id c row.id) steps)
 
 pub of_the_round : (steps : List StepRow) (c : Id) (round : ℕ) → All (λ row. (row.id ≡ c) × (row.round ≡ round)) (steps_in steps c round)
 unfolding steps_in
 of_the_round steps c round = All-weaker (λ (row : StepRow). is_of_round c round row ≡ true) (λ (row : StepRow). (row.id ≡ c) × (row.round ≡ round))
     (λ row both. let parts = and_parts (same_id c row.id) (nat_eq row.round round) both in (sym (one_id c row.id parts.0), eqb-true row.round round parts.1))
-    (steps_in steps c round) (kept_passes (is_of_round c round) steps)
+    (steps_in steps c round) (filter_passes (is_of_round c round) steps)
 
 -- a step is among those of its clearance, and of its round
 pub among_own : (steps : List StepRow) (row : StepRow) → Contains steps row → Contains (steps_of steps row.id) row
@@ -107,3 +95,7 @@ All-in_round P steps c round all = All-filter (is_of_round c round) P steps all
 pub no_step_of : (steps : List StepRow) (c : Id) → All (λ row. same_id c row.id ≡ false) steps → steps_of steps c ≡ []
 unfolding steps_of
 no_step_of steps c none = filter-none_passes (λ (row : StepRow). same_id c row.id) steps none
+
+-- the present round of a clearance, by its own steps
+pub present_of_is : (steps : List StepRow) (c : Id) → present_of (steps_of steps c) ≡ present_round steps c
+present_of_is steps c = rw (of_round_is steps c 2, of_round_is steps c 1) refl

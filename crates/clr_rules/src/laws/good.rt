@@ -1,6 +1,6 @@
-ghost use Rattle.clr_rules.specs.GoodLaws.{GoodIsGoodByPhase};
+ghost use Rattle.clr_rules.specs.GoodLaws.{GoodFormsAreOne};
 
-/// In a good register each clearance is as its phase wants it.
-pub fn good_is_good_by_phase()
-    ensures { GoodIsGoodByPhase }
+/// A register is good in each of its parts exactly where each clearance is as its phase wants it.
+pub fn good_forms_are_one()
+    ensures { GoodFormsAreOne }
 {}
