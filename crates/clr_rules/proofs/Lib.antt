@@ -22,3 +22,4 @@ pub mod NearWords
 pub mod PartEdits
 pub mod Greatest
 pub mod Agreeing
+pub mod Runs

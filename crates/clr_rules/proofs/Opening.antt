@@ -17,7 +17,8 @@ use Rattle.clr_net.specs.Name.{name_cmp}
 use Rattle.clr_net.specs.Names.{has_name}
 use Rattle.clr_net.specs.declared.point.PointRow.{PointRow}
 use Rattle.clr_shelf.specs.Rows.{in_key_order, row_of}
-use Rattle.clr_rules.specs.Good.{IsGood, has_record, is_active_at, is_closing_at, is_known_work}
+use Rattle.clr_rules.specs.RunLaws.{KeepsOpening}
+use Rattle.clr_rules.specs.Good.{IsGood, ListsAreInOrder, has_record, is_active_at, is_closing_at, is_known_work}
 use Rattle.clr_rules.specs.Holds.{has_hold}
 use Rattle.clr_rules.specs.Id.{Id}
 use Rattle.clr_rules.specs.Records.{record_of}
@@ -94,6 +95,17 @@ none_closing c p = refl
 held_nowhere : (c : Id) (kind : HoldKind) (place : List ℕ) → has_hold [] c kind place ≡ true → ⊥
 held_nowhere c kind place held = false≢true (sym (no_hold c kind place) ∙ held)
 
+pub opening_is_in_order : (g : Grid) (staff : List StaffRow) → IsNetwork g → ListsAreInOrder (opening g staff)
+opening_is_in_order g staff net = record {
+  states = in_key_order-from_sorted name_cmp state_key (map first_state g.points) (rw (first_keys g.points) net.points_rise);
+  records = refl;
+  steps = refl;
+  holds = refl;
+}
+
+pub opening_keeps : (g : Grid) (staff : List StaffRow) → KeepsOpening g staff (opening g staff)
+opening_keeps g staff = record { same_net = refl; same_staff = refl; same_points = first_keys g.points }
+
 pub opening_is_good : (g : Grid) (staff : List StaffRow) → IsNetwork g → IsStaff staff → IsGood (opening g staff)
 opening_is_good g staff net is_staff = record {
   network = unplaced_is_network g net;
@@ -149,10 +161,5 @@ opening_is_good g staff net is_staff = record {
     states = first_keys g.points ∙ sym (unplaced_names g.points);
     steps = All-nil (λ (row : StepRow). IsTrue (has_name (point_names (map unplaced g.points)) row.step.point));
   };
-  in_order = record {
-    states = in_key_order-from_sorted name_cmp state_key (map first_state g.points) (rw (first_keys g.points) net.points_rise);
-    records = refl;
-    steps = refl;
-    holds = refl;
-  };
+  in_order = opening_is_in_order g staff net;
 }

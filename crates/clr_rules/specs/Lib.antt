@@ -44,3 +44,4 @@ pub mod OpeningLaws
 pub mod WorkLaws
 pub mod AgreementLaws
 pub mod MarkLaws
+pub mod RunLaws

@@ -6,4 +6,5 @@ pub mod good;
 pub mod live;
 pub mod marks;
 pub mod opening;
+pub mod runs;
 pub mod work;

@@ -1,0 +1,40 @@
+-- Runs as laws: what no command changes, one reply a command, and a run that goes on where another ended.
+use Rattle.std.specs.Prelude.{◌≡◌, List, ◌++◌, length, map}
+use Rattle.clr_csv.specs.declared.employee.StaffRow.{StaffRow}
+use Rattle.clr_net.specs.Grid.{Grid, IsNetwork, point_names}
+use Rattle.clr_rules.specs.Good.{ListsAreInOrder}
+use Rattle.clr_rules.specs.Register.{Register, opening, unplaced_net}
+use Rattle.clr_rules.specs.Run.{IsReached, after_all, replies}
+use Rattle.clr_rules.specs.States.{state_key}
+use Rattle.clr_rules.specs.declared.command.Command.{Command}
+
+-- in a reached register each list is in key order, one row a key
+abbrev pub ReachedListsAreInOrder : Type 0
+ReachedListsAreInOrder = (R : Register) → IsReached R → ListsAreInOrder R
+
+-- a register has the network and the staff of the opening one, and a state for each point, and for no other name
+pub record KeepsOpening (g : Grid) (staff : List StaffRow) (R : Register) : Type 0 where
+  pub same_net : R.net ≡ unplaced_net g
+  pub same_staff : R.staff ≡ staff
+  pub same_points : map state_key R.states ≡ point_names g.points
+
+-- no command changes the network, the staff, or which points there are
+abbrev pub RunsKeepOpening : Type 0
+RunsKeepOpening = (g : Grid) (staff : List StaffRow) → IsNetwork g → (commands : List Command)
+    → KeepsOpening g staff (after_all (opening g staff) commands)
+
+-- each command has one reply
+abbrev pub CommandsAreReplied : Type 0
+CommandsAreReplied = (R : Register) (commands : List Command) → length (replies R commands) ≡ length commands
+
+-- a run goes on where another ended
+pub record GoesOn (R : Register) (earlier later : List Command) : Type 0 where
+  pub register : after_all R (earlier ++ later) ≡ after_all (after_all R earlier) later
+  pub replied : replies R (earlier ++ later) ≡ replies R earlier ++ replies (after_all R earlier) later
+
+abbrev pub RunsGoOn : Type 0
+RunsGoOn = (R : Register) (earlier later : List Command) → GoesOn R earlier later
+
+-- what a run makes of a reached register is reached
+abbrev pub ReachedGoOn : Type 0
+ReachedGoOn = (R : Register) → IsReached R → (commands : List Command) → IsReached (after_all R commands)

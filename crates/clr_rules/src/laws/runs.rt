@@ -1,0 +1,19 @@
+ghost use Rattle.clr_rules.specs.RunLaws.{CommandsAreReplied, ReachedGoOn, ReachedListsAreInOrder, RunsGoOn, RunsKeepOpening};
+
+/// In a reached register each list is in key order, one row a key.
+pub fn reached_lists_are_in_order()
+    ensures { ReachedListsAreInOrder }
+{}
+
+/// No command changes the network, the staff, or which points there are.
+pub fn runs_keep_opening()
+    ensures { RunsKeepOpening }
+{}
+
+/// Each command of a run has one reply. A run goes on where another ended, and what it makes of a reached register is
+/// reached.
+pub fn runs_go_on()
+    ensures replied { CommandsAreReplied }
+    ensures together { RunsGoOn }
+    ensures reached { ReachedGoOn }
+{}
