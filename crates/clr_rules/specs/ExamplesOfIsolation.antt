@@ -11,12 +11,12 @@ use Rattle.clr_order.specs.declared.action.Action.TheVariants as actions
 use Rattle.clr_rules.specs.Agreement.{Agree, part_near}
 use Rattle.clr_rules.specs.Register.{Register, opening}
 use Rattle.clr_rules.specs.Run.{after_all}
-use Rattle.clr_rules.specs.Shown.{covers, marks, own_answers, shown}
-use Rattle.clr_rules.specs.Worked.{BOSS, C1, DALE, JONES, KIM, L1, L2, L3, OPS, REED, S2, S3, S4, Saying, T1, does, from_moment, isolating_l2_and_l3, jones_1, l2_asked, l2_granted, ops_1, restoring_l2, says, step_runs, worked_opening, worked_staff}
+use Rattle.clr_rules.specs.Shown.{covers, marks, own, own_answers, shown}
+use Rattle.clr_rules.specs.Worked.{BOSS, DALE, JONES, KIM, L1, L2, L3, OPS, REED, S2, S3, S4, Saying, T1, does, from_moment, isolating_l2_and_l3, jones_1, jones_works_and_releases, l2_asked, l2_granted, l2_is_restored, ops_1, said_at, says, step_runs, worked_opening, worked_staff}
 use Rattle.clr_rules.specs.WorkedRows.{done_step, jones_record}
 use Rattle.clr_rules.specs.declared.change.Edit.TheVariants.{SetPosition, SetHand}
 use Rattle.clr_rules.specs.declared.command.Command.{Command}
-use Rattle.clr_rules.specs.declared.command.Kind.TheVariants.{Order, Test, Ground, Unground, SignOn, SignOff, Release, Restore, Switch, Show}
+use Rattle.clr_rules.specs.declared.command.Kind.TheVariants.{Request, Order, Switch}
 use Rattle.clr_rules.specs.declared.phase.Phase.TheVariants.{Closed}
 
 -- THE TWO REGISTERS
@@ -41,19 +41,6 @@ abbrev pub in_l2 : List ℕ → Bool
 in_l2 = has_name (L2 ∷ [])
 
 -- THE TWO LISTS
-
--- JONES at work, from the test on
-abbrev pub jones_works_and_releases : List Saying
-jones_works_and_releases =
-    says JONES (Test jones_1 L2 false) ∷ says JONES (Ground jones_1 L2) ∷ says JONES (Test jones_1 L2 true) ∷ says JONES (Ground jones_1 L2)
-    ∷ says JONES (SignOn jones_1 C1) ∷ says JONES (Show jones_1) ∷ says JONES (SignOff jones_1 C1) ∷ says JONES (Unground jones_1 L2)
-    ∷ says JONES (Release jones_1 true true) ∷ []
-
-abbrev pub l2_is_restored : List Saying
-l2_is_restored =
-    says OPS (Restore jones_1 restoring_l2) ∷ step_runs jones_1 1 (codes "UNTAG S2") ++ step_runs jones_1 2 (codes "UNBLOCK S2")
-    ++ step_runs jones_1 3 (codes "CLOSE S2") ++ step_runs jones_1 4 (codes "UNTAG S3") ++ step_runs jones_1 5 (codes "UNBLOCK S3")
-    ++ step_runs jones_1 6 (codes "CLOSE S3")
 
 -- in register two, from moment 100 on: the 49 commands about JONES/1
 abbrev pub list_two : List Command
@@ -87,6 +74,11 @@ L2CoversTheRun = covers jones_1 in_l2 register_one with_s4_switched ≡ true
 -- both lists show JONES/1 the same: its own 49 commands, and no mark
 abbrev pub TheListsShowTheSame : Type 0
 TheListsShowTheSame = shown jones_1 in_l2 register_one with_s4_switched ≡ shown jones_1 in_l2 register_two list_two
+
+-- the first of them is JONES's request, with the row of the section that it asks for
+abbrev pub RequestsShowTheirSection : Type 0
+RequestsShowTheirSection = shown jones_1 in_l2 register_one (from_moment 100 l2_asked)
+    ≡ own (said_at 100 (says JONES (Request L2))) (Some (record { name = L2; source = false })) ∷ []
 
 abbrev pub FortyNineAreShown : Type 0
 FortyNineAreShown = length (shown jones_1 in_l2 register_one with_s4_switched) ≡ 49

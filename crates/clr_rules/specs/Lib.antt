@@ -28,6 +28,8 @@ pub mod ExamplesOfChanges
 pub mod ExamplesOfFirstChecks
 pub mod ExamplesOfNearParts
 pub mod ExamplesOfIsolation
+pub mod ExamplesOfRuns
+pub mod ExamplesOfLive
 pub mod Live
 pub mod Near
 pub mod Agreement

@@ -15,7 +15,7 @@ use Rattle.clr_rules.specs.Run.{after_all}
 use Rattle.clr_rules.specs.declared.change.Edit.{Edit}
 use Rattle.clr_rules.specs.declared.command.Command.{Command}
 use Rattle.clr_rules.specs.declared.command.Kind.{Kind}
-use Rattle.clr_rules.specs.declared.command.Kind.TheVariants.{Request, Order, Instruct, Repeat, Report, Grant, Test, Ground, SignOn, SignOff, Unground, Release, Restore, Amend}
+use Rattle.clr_rules.specs.declared.command.Kind.TheVariants.{Request, Order, Instruct, Repeat, Report, Grant, Test, Ground, SignOn, SignOff, Unground, Release, Restore, Amend, Show}
 use Rattle.clr_rules.specs.declared.refusal.Refusal.{Refusal}
 use Rattle.clr_rules.specs.declared.reply.Card.{Card}
 use Rattle.clr_rules.specs.declared.reply.Reply.TheVariants.{Accepted, Refused}
@@ -226,6 +226,20 @@ restoring_l2 = does Untag S2 ∷ does Unblock S2 ∷ does Close S2 ∷ does Unta
 
 abbrev pub l2_restoring : List Saying
 l2_restoring = l2_released ++ says OPS (Restore jones_1 restoring_l2) ∷ []
+
+-- all that JONES does from the grant to the release: a test that finds L2 live, and a ground too early; then work in its order
+abbrev pub jones_works_and_releases : List Saying
+jones_works_and_releases =
+    says JONES (Test jones_1 L2 false) ∷ says JONES (Ground jones_1 L2) ∷ says JONES (Test jones_1 L2 true) ∷ says JONES (Ground jones_1 L2)
+    ∷ says JONES (SignOn jones_1 C1) ∷ says JONES (Show jones_1) ∷ says JONES (SignOff jones_1 C1) ∷ says JONES (Unground jones_1 L2)
+    ∷ says JONES (Release jones_1 true true) ∷ []
+
+-- OPS orders the restoring of L2, and its six steps run
+abbrev pub l2_is_restored : List Saying
+l2_is_restored =
+    says OPS (Restore jones_1 restoring_l2) ∷ step_runs jones_1 1 (codes "UNTAG S2") ++ step_runs jones_1 2 (codes "UNBLOCK S2")
+    ++ step_runs jones_1 3 (codes "CLOSE S2") ++ step_runs jones_1 4 (codes "UNTAG S3") ++ step_runs jones_1 5 (codes "UNBLOCK S3")
+    ++ step_runs jones_1 6 (codes "CLOSE S3")
 
 -- THE LIFE OF KIM/1, which may begin at any time: KIM asks for L3, and OPS orders it at S3, S4 and T1
 

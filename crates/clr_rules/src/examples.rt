@@ -3,7 +3,9 @@
 pub mod changes;
 pub mod first_checks;
 pub mod isolation;
+pub mod live;
 pub mod near_parts;
 pub mod phases;
 pub mod refusals;
+pub mod runs;
 pub mod sequence;

@@ -1,5 +1,5 @@
 //! A clearance that lives its life in two registers.
-ghost use Rattle.clr_rules.specs.ExamplesOfIsolation.{AnotherNumberDisagrees, AnotherPointDisagrees, AnotherPositionDisagrees, AnotherStaffDisagrees, AnotherSwitchIsSeen, BothSectionsCover, FortyNineAreShown, ItsMarksAreSeen, L2CoversTheRun, L2DoesNotCoverL3, NoMarkIsSeen, OneEndsSo, TheAnswersAreTheSame, TheListsShowTheSame, TheRegistersAgree, TheRegistersStillAgree, TwoEndsSo};
+ghost use Rattle.clr_rules.specs.ExamplesOfIsolation.{AnotherNumberDisagrees, AnotherPointDisagrees, AnotherPositionDisagrees, AnotherStaffDisagrees, AnotherSwitchIsSeen, BothSectionsCover, FortyNineAreShown, ItsMarksAreSeen, L2CoversTheRun, L2DoesNotCoverL3, NoMarkIsSeen, OneEndsSo, RequestsShowTheirSection, TheAnswersAreTheSame, TheListsShowTheSame, TheRegistersAgree, TheRegistersStillAgree, TwoEndsSo};
 
 /// What isolation asks of two registers and two lists: the registers agree, the set covers the run, and the lists show the
 /// same.
@@ -8,6 +8,7 @@ pub fn premises()
     ensures covered { L2CoversTheRun }
     ensures same_shown { TheListsShowTheSame }
     ensures all_shown { FortyNineAreShown }
+    ensures request_shown { RequestsShowTheirSection }
 {}
 
 /// What it gives: the answers are the same, and the registers agree again.

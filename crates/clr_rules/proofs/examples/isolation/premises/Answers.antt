@@ -13,4 +13,4 @@ use Rattle.clr_rules.proofs.examples.isolation.premises.Goals as goal
 
 pub returns : goal.returns
 unfolding in_fence reaches row_of with_row without_row new_steps holds_of places_of has_some_hold has_any_hold hindering_hold held_among once steps_in steps_of greatest_number touching_names edited_all after_all shown own_answers covers
-returns c = record { agree = record { near = refl; own_holds = refl; greatest = refl }; covered = refl; same_shown = refl; all_shown = refl }
+returns c = record { agree = record { near = refl; own_holds = refl; greatest = refl }; covered = refl; same_shown = refl; all_shown = refl; request_shown = refl }

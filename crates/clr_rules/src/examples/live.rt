@@ -1,0 +1,10 @@
+//! Which sections are live.
+ghost use Rattle.clr_rules.specs.ExamplesOfLive.{AllAreLiveAtFirst, BothWorkSectionsAreDead, OneOpenPointIsNotEnough, OpenBordersAreDead};
+
+/// All at first; a section whose border is open is not.
+pub fn sections()
+    ensures at_first { AllAreLiveAtFirst }
+    ensures one_open { OneOpenPointIsNotEnough }
+    ensures border_open { OpenBordersAreDead }
+    ensures both_borders_open { BothWorkSectionsAreDead }
+{}

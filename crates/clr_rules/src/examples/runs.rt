@@ -1,0 +1,36 @@
+//! Lists of commands, answered one after the other.
+ghost use Rattle.clr_rules.specs.ExamplesOfRuns.{AClearanceIsHandedOn, AnOrderIsGivenUp, ClosedClearancesHaveNoFence, HeldPointsAreLeftOpen, JonesStillHolds, OnlyS4IsClosedAgain, OrdersRunSideBySide, ReleaseComesLast, RestoringKeepsTheFence, S2StaysInHand, TheFirstStepRuns, TheRegisterOfAGrant, TheWholeLife, WorkGoesInItsOrder};
+
+/// A clearance from its request to the last restoring step, and the register that its grant leaves.
+pub fn whole_life()
+    ensures replies { TheWholeLife }
+    ensures granted { TheRegisterOfAGrant }
+{}
+
+/// The steps and the work within that life, with what may not be said there.
+pub fn stages()
+    ensures first_step { TheFirstStepRuns }
+    ensures work { WorkGoesInItsOrder }
+    ensures release { ReleaseComesLast }
+    ensures transfer { AClearanceIsHandedOn }
+{}
+
+/// Two clearances hold one point, and the first that is restored leaves it open.
+pub fn two_clearances()
+    ensures replies { HeldPointsAreLeftOpen }
+    ensures states { OnlyS4IsClosedAgain }
+    ensures holds { JonesStillHolds }
+{}
+
+/// Switch orders beside a clearance.
+pub fn side_by_side()
+    ensures replies { OrdersRunSideBySide }
+    ensures hand { S2StaysInHand }
+{}
+
+/// An order that is given up after its first step, and undone.
+pub fn giving_up()
+    ensures replies { AnOrderIsGivenUp }
+    ensures restoring { RestoringKeepsTheFence }
+    ensures closed { ClosedClearancesHaveNoFence }
+{}
