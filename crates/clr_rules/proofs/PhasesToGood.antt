@@ -27,8 +27,7 @@ use Rattle.clr_rules.specs.declared.phase.Phase.{Phase}
 use Rattle.clr_rules.specs.declared.phase.Phase.TheVariants.{Requested, Ordered, Granted, Released, Restoring, Switching, Closed}
 use Rattle.clr_rules.specs.declared.record.Record.{Record}
 use Rattle.clr_rules.specs.declared.step_row.StepRow.{StepRow}
-use Rattle.clr_rules.proofs.DeadFences.{dead_within}
-use Rattle.clr_rules.proofs.FenceCuts.{has_name-once, in_fence_alike, in_fence_from_named}
+use Rattle.clr_rules.proofs.DeadFences.{dead_work_fence}
 use Rattle.clr_rules.proofs.HoldMembers.{hold_had}
 use Rattle.clr_rules.proofs.PhaseFacts.{HoldFacts, OrderFacts, StepFacts, WorkFacts, hold_facts, order_facts, stands_at_work, step_facts, work_facts}
 use Rattle.clr_rules.proofs.PutHolds.{all_put, needed_block, needed_control, needed_open, needed_tag, needed_there, one_of_name}
@@ -134,12 +133,11 @@ module _ (R : Register) (good : IsGoodByPhase R) where
             let (w, is, sound_order) = sound in
             let rows = of_round (steps_of R.steps c) 1 in
             let within : has_name (work_fence R.net (Some w) (points_of rows)) s ≡ true = rw (fence_is (granted_is r.phase granted), is) at inside in
-            dead_within R.net good.network R.states w (once (points_of rows)) (tasks_of rows) sound_order
-            (λ p cut.
-            let known = sym (has_name-once (points_of rows) p) ∙ cut in
+            dead_work_fence R.net good.network R.states w (points_of rows) (tasks_of rows) sound_order
+            (λ p known.
             let (row, there, named, steps_there) = needed_there R.net w rows sound_order p known in
             ap is_shut (good.held_open c HeldOpen p refl (as_needed HeldOpen p row refl steps_there ∙ needed_open row)))
-            s (in_fence_alike R.net w (once (points_of rows)) (points_of rows) (has_name-once (points_of rows)) s ∙ in_fence_from_named R.net w (points_of rows) s within)
+            s within
 
   -- ---- the parts
 
