@@ -23,3 +23,7 @@ pub mod PartEdits
 pub mod Greatest
 pub mod Agreeing
 pub mod Runs
+pub mod EditsInOrder
+pub mod NewNumbers
+pub mod FoundSteps
+pub mod OthersEdits

@@ -1,7 +1,7 @@
 -- Which replies there are, and which of them have edits.
-use Rattle.std.proofs.Common.{◌≡◌, ℕ, Bool, true, false, cond, List, [], ◌∷◌, Option, Some, None, is_some, refl, ap, ◌∙◌}
+use Rattle.std.proofs.Common.{◌≡◌, ℕ, Bool, true, false, List, [], ◌∷◌, Option, Some, None, is_some, refl, ap}
 use Rattle.std.specs.Prelude.{◌↔◌}
-use Rattle.clr_rules.proofs.EditReading.{record_of-put}
+use Rattle.clr_rules.proofs.Greatest.{has_record-put}
 use Rattle.clr_rules.proofs.Passing.{named_recorded}
 use Rattle.clr_rules.specs.Answer.{Answer, Known, answer, checks, concerned, first_refusal, known_of, settled, told, told_after}
 use Rattle.clr_rules.specs.Changes.{edits_of, new_steps, put_steps}
@@ -9,7 +9,7 @@ use Rattle.clr_rules.specs.Command.{named_clearance}
 use Rattle.clr_rules.specs.EditLaws.{refusal_of}
 use Rattle.clr_rules.specs.Edits.{edited, edited_all}
 use Rattle.clr_rules.specs.Good.{has_record}
-use Rattle.clr_rules.specs.Id.{Id, id_cmp, id_cmp_total, same_id}
+use Rattle.clr_rules.specs.Id.{Id, id_cmp, id_cmp_total}
 use Rattle.clr_rules.specs.Records.{record_key, record_of}
 use Rattle.clr_rules.specs.Register.{Register}
 use Rattle.clr_rules.specs.Run.{after}
@@ -28,12 +28,8 @@ use Rattle.clr_rules.specs.declared.reply.View.{View}
 
 -- ---- records stay
 
-some_chosen : (b : Bool) (r : Record) (found : Option Record) → is_some found ≡ true → is_some (cond b (Some r) found) ≡ true
-some_chosen true r found h = refl
-some_chosen false r found h = h
-
 edited-has_record : (edit : Edit) (R : Register) (c : Id) → has_record R.records c ≡ true → has_record (Register.records (edited edit R)) c ≡ true
-edited-has_record (PutRecord r) R c h = ap is_some (record_of-put r c R.records) ∙ some_chosen (same_id r.id c) r (record_of R.records c) h
+edited-has_record (PutRecord r) R c h = has_record-put c r R.records h
 edited-has_record (SetPosition p position) R c h = h
 edited-has_record (SetHand p hand) R c h = h
 edited-has_record (PutHold hold) R c h = h

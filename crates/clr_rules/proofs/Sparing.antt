@@ -21,6 +21,7 @@ use Rattle.clr_rules.specs.Holds.{has_hold, hold_key, holds_of}
 use Rattle.clr_rules.specs.Id.{Id, id_cmp, same_id, same_id_equiv}
 use Rattle.clr_rules.specs.Records.{record_key, record_of}
 use Rattle.clr_rules.specs.Register.{Register}
+use Rattle.clr_rules.specs.StateFacts.{hand_of-placed, position_of-handed}
 use Rattle.clr_rules.specs.States.{hand_in, has_in_hand, is_hand, position_of, state_of}
 use Rattle.clr_rules.specs.StepKey.{same_step_key, step_key, step_key_cmp, step_key_cmp_total}
 use Rattle.clr_rules.specs.Steps.{steps_of}
@@ -64,28 +65,14 @@ holds_of-others_taken c h holds differs =
 
 -- ---- hands and positions
 
-abbrev placed : Position → PointState → PointState
-placed position state = record state { position = position }
+abbrev at_position : Position → PointState → PointState
+at_position position state = record state { position = position }
 
-abbrev handed : Option Id → PointState → PointState
-handed hand state = record state { hand = hand }
-
--- a position that is set leaves the hand
-hand_in-placed : (b : Bool) (position : Position) (found : Option PointState)
-    → hand_in (changed_where b (placed position) found) ≡ hand_in found
-hand_in-placed true position None = refl
-hand_in-placed true position (Some state) = refl
-hand_in-placed false position found = refl
-
--- and a hand that is set the position
-position-handed : (b : Bool) (hand : Option Id) (found : Option PointState)
-    → option_map (λ state. state.position) (changed_where b (handed hand) found) ≡ option_map (λ state. state.position) found
-position-handed true hand None = refl
-position-handed true hand (Some state) = refl
-position-handed false hand found = refl
+abbrev in_hand_of : Option Id → PointState → PointState
+in_hand_of hand state = record state { hand = hand }
 
 stays_in_hand : (c : Id) (hand : Option Id) (found : Option PointState) → is_hand c (hand_in found) ≡ true → is_hand c hand ≡ true
-    → is_hand c (hand_in (option_map (handed hand) found)) ≡ true
+    → is_hand c (hand_in (option_map (in_hand_of hand) found)) ≡ true
 stays_in_hand c hand None before own = before
 stays_in_hand c hand (Some state) before own = own
 
@@ -95,7 +82,7 @@ still_own false own h had = cc
 
 hand_tested : (c : Id) (R S : Register) (p q : List ℕ) (hand : Option Id) → spares c R (SetHand p hand) ≡ true → Frame c R S
     → has_in_hand R.states c q ≡ true → (b : Bool) → same_name p q ≡ b
-    → is_hand c (hand_in (changed_where b (handed hand) (state_of S.states q))) ≡ true
+    → is_hand c (hand_in (changed_where b (in_hand_of hand) (state_of S.states q))) ≡ true
 hand_tested c R S p q hand spared before had true same =
     let own : is_hand c hand ≡ true = still_own (has_in_hand R.states c p) (is_hand c hand) spared (rw (one_name p q same) had) in
     stays_in_hand c hand (state_of S.states q) (before.hands_stay q had) own
@@ -103,7 +90,7 @@ hand_tested c R S p q hand spared before had false differs = before.hands_stay q
 
 stays_open : (position : Position) (holds : Bool) (found : Option PointState) → not (is_shut position && holds) ≡ true → holds ≡ true
     → option_map (λ state. state.position) found ≡ Some Opened
-    → option_map (λ state. state.position) (option_map (placed position) found) ≡ Some Opened
+    → option_map (λ state. state.position) (option_map (at_position position) found) ≡ Some Opened
 stays_open Opened holds None spared held open_before = open_before
 stays_open Opened holds (Some state) spared held open_before = refl
 stays_open Shut true found spared held open_before = cc
@@ -111,7 +98,7 @@ stays_open Shut false found spared held open_before = cc
 
 open_tested : (c : Id) (R S : Register) (p q : List ℕ) (position : Position) → spares c R (SetPosition p position) ≡ true → Frame c R S
     → has_hold R.holds c HeldOpen q ≡ true → position_of R.states q ≡ Some Opened → (b : Bool) → same_name p q ≡ b
-    → option_map (λ state. state.position) (changed_where b (placed position) (state_of S.states q)) ≡ Some Opened
+    → option_map (λ state. state.position) (changed_where b (at_position position) (state_of S.states q)) ≡ Some Opened
 open_tested c R S p q position spared before held was_open true same =
     stays_open position (has_hold R.holds c HeldOpen p) (state_of S.states q) spared (rw (one_name p q same) held) (before.closes_nothing q held was_open)
 open_tested c R S p q position spared before held was_open false differs = before.closes_nothing q held was_open
@@ -123,11 +110,9 @@ frame-edited c R S (SetPosition p position) ordered spared f = record {
   same_record = f.same_record;
   same_steps = f.same_steps;
   same_holds = f.same_holds;
-  hands_stay = λ q had.
-      ap (λ found. is_hand c (hand_in found)) (state_of-changed (placed position) (λ _. refl) p q S.states)
-      ∙ ap (is_hand c) (hand_in-placed (same_name p q) position (state_of S.states q)) ∙ f.hands_stay q had;
+  hands_stay = λ q had. ap (is_hand c) (hand_of-placed S.states p position q) ∙ f.hands_stay q had;
   closes_nothing = λ q held was_open.
-      ap (option_map (λ (state : PointState). state.position)) (state_of-changed (placed position) (λ _. refl) p q S.states)
+      ap (option_map (λ (state : PointState). state.position)) (state_of-changed (at_position position) (λ _. refl) p q S.states)
       ∙ open_tested c R S p q position spared f held was_open (same_name p q) refl;
 }
 frame-edited c R S (SetHand p hand) ordered spared f = record {
@@ -135,11 +120,9 @@ frame-edited c R S (SetHand p hand) ordered spared f = record {
   same_steps = f.same_steps;
   same_holds = f.same_holds;
   hands_stay = λ q had.
-      ap (λ found. is_hand c (hand_in found)) (state_of-changed (handed hand) (λ _. refl) p q S.states)
+      ap (λ found. is_hand c (hand_in found)) (state_of-changed (in_hand_of hand) (λ _. refl) p q S.states)
       ∙ hand_tested c R S p q hand spared f had (same_name p q) refl;
-  closes_nothing = λ q held was_open.
-      ap (option_map (λ (state : PointState). state.position)) (state_of-changed (handed hand) (λ _. refl) p q S.states)
-      ∙ position-handed (same_name p q) hand (state_of S.states q) ∙ f.closes_nothing q held was_open;
+  closes_nothing = λ q held was_open. position_of-handed S.states p hand q ∙ f.closes_nothing q held was_open;
 }
 frame-edited c R S (PutHold h) ordered spared f = record {
   same_record = f.same_record;

@@ -47,3 +47,5 @@ pub mod WorkLaws
 pub mod AgreementLaws
 pub mod MarkLaws
 pub mod RunLaws
+pub mod EditOrder
+pub mod FrameLaws

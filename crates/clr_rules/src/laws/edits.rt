@@ -1,4 +1,5 @@
 //! Laws of edits: what each does to the register, what it leaves, and which answers have none.
+ghost use Rattle.clr_rules.specs.EditOrder.{AnswersEditsInOrder};
 ghost use Rattle.clr_rules.specs.EditLaws.{AcceptedPassesChecks, EditsKeepNetwork, EditsKeepOrder, EditsLeaveTheRest, PutHoldAdds, PutRecordReplaces, PutStepReplaces, PutsKeepOtherRows, RefusedByFirstCheck, RefusedChangesNothing, SetHandSets, SetPositionSets, ShownChangesNothing, TakeHoldTakes};
 
 /// A record or a step that is put replaces that of its key, and all others are read as before.
@@ -45,4 +46,10 @@ pub fn refused_commands_change_nothing()
 pub fn accepted_commands_pass_all_checks()
     ensures shown { ShownChangesNothing }
     ensures accepted { AcceptedPassesChecks }
+{}
+
+/// Where the lists are in key order, an answer's edits stand in the order of their kinds, and those of a kind in that of
+/// their keys, no key twice.
+pub fn answers_edits_stand_in_order()
+    ensures { AnswersEditsInOrder }
 {}

@@ -1,8 +1,23 @@
 //! Laws of footprints: what edits leave alone.
 ghost use Rattle.clr_rules.specs.Footprint.{SparingEditsLeaveAlone};
+ghost use Rattle.clr_rules.specs.FrameLaws.{OthersEditsSpare, OthersEditsSpareAnywhere};
+ghost use Rattle.clr_rules.specs.Isolation.{OthersSpare};
 
 /// Edits that spare a clearance in the register before them leave its record, its steps and its holds as they are, clear
 /// no hand of it, and close no point that it holds open.
 pub fn sparing_edits_leave_alone()
     ensures { SparingEditsLeaveAlone }
+{}
+
+/// The edits of a command about another clearance spare a clearance: those of a report where the hands match the steps,
+/// those of any other command in every register.
+pub fn edits_of_others_spare()
+    ensures matched { OthersEditsSpare }
+    ensures anywhere { OthersEditsSpareAnywhere }
+{}
+
+/// In a good register a command about another clearance leaves a clearance's record, steps and holds as they are, clears
+/// no hand of it, and closes no point that it holds open.
+pub fn commands_of_others_leave_alone()
+    ensures { OthersSpare }
 {}
