@@ -1,10 +1,15 @@
 -- The greatest number of a requester's clearances, after a record is put.
-use Rattle.std.proofs.Common.{◌≡◌, ℕ, Bool, true, false, cond, List, [], ◌∷◌, map, refl, sym, ◌∙◌, ap, arith, is_some, Some}
-use Rattle.std.specs.List.{filter, fold}
+use Rattle.std.proofs.Common.{◌≡◌, ℕ, Bool, true, false, cond, List, [], ◌∷◌, map, refl, sym, ◌∙◌, ap, arith, is_some, Some, ◌⊎◌, inl, inr, ⊎_elim, nat_le, get_or, subst, ◌≤◌}
+use Rattle.std.specs.List.{filter, fold, All, Contains}
 use Rattle.std.specs.Ordering.{is_eq}
 use Rattle.std.specs.declared.cmp.Ordering.{Ordering}
 use Rattle.std.specs.declared.cmp.Ordering.TheVariants.{Less, Equal, Greater}
 use Rattle.std.proofs.lemmas.Bool.Decides.{nat_tests}
+use Rattle.std.proofs.lemmas.List.Elements.{Contains-get_or}
+use Rattle.clr_net.proofs.Walks.{one_name, same_itself}
+use Rattle.clr_shelf.specs.Lists.{Contains-cases, Contains-here, Contains-later}
+use Rattle.clr_rules.proofs.Kept.{kept_there, mapped_from, there_mapped}
+use Rattle.clr_rules.proofs.NamedRows.{Contains-filter}
 use Rattle.clr_net.specs.Name.{same_name}
 use Rattle.clr_shelf.specs.FirstRow.{keys-with_row, with_row-after, with_row-before, with_row-over}
 use Rattle.clr_shelf.specs.Groups.{filter-with_far, filter-with_inside}
@@ -109,3 +114,49 @@ has_record-put c r records there = at (is_eq (id_cmp r.id c)) (row_of-with id_cm
         → has_record (with_row id_cmp record_key r records) c ≡ true
     at true read = ap is_some read
     at false read = ap is_some read ∙ there
+
+-- ---- what the greatest number is
+
+at_least_both : (a n : ℕ) → (a ≤ greater a n) × (n ≤ greater a n)
+at_least_both a n = (grind (arith, nat_tests), grind (arith, nat_tests))
+
+one_of_both : (a n : ℕ) (b : Bool) → nat_le a n ≡ b → (greater a n ≡ a) ⊎ (greater a n ≡ n)
+one_of_both a n true is = inr (rw is refl)
+one_of_both a n false is = inl (rw is refl)
+
+at_least_first : (xs : List ℕ) (a : ℕ) → a ≤ fold greater a xs
+at_least_first [] a = omega arith
+at_least_first (x ∷ xs) a = omega (arith, (at_least_both a x).0, at_least_first xs (greater a x))
+
+at_least_each : (xs : List ℕ) (a x : ℕ) → Contains xs x → x ≤ fold greater a xs
+at_least_each [] a x (k, within, here) = absurd (omega arith)
+at_least_each (y ∷ xs) a x member = ⊎_elim
+    (λ here. rw (← here) (omega (arith, (at_least_both a y).1, at_least_first xs (greater a y))))
+    (λ later. at_least_each xs (greater a y) x later)
+    (Contains-cases y x xs member)
+
+is_one_of : (xs : List ℕ) (a : ℕ) → (fold greater a xs ≡ a) ⊎ Contains xs (fold greater a xs)
+is_one_of [] a = inl refl
+is_one_of (x ∷ xs) a = ⊎_elim
+    (λ start. ⊎_elim (λ is_a. inl (start ∙ is_a)) (λ is_x. inr (subst (λ (n : ℕ). Contains (x ∷ xs) n) (sym (start ∙ is_x)) (Contains-here x xs))) (one_of_both a x (nat_le a x) refl))
+    (λ later. inr (Contains-later x (fold greater a (x ∷ xs)) xs later))
+    (is_one_of xs (greater a x))
+
+pub greatest_is_greatest : (records : List Record) (requester : List ℕ)
+    → All (λ r. requester ≡ r.id.requester → r.id.number ≤ greatest_number records requester) records
+    × ((greatest_number records requester ≡ 0) ⊎ ((r : Record) × Contains records r × (requester ≡ r.id.requester) × (r.id.number ≡ greatest_number records requester)))
+unfolding greatest_number
+greatest_is_greatest records requester =
+    let own = λ (r : Record). same_name requester r.id.requester in
+    let number = λ (r : Record). r.id.number in (
+      λ k d within is_own. at_least_each (numbers_of records requester) 0 (number (get_or records k d))
+          (there_mapped number (filter own records) (get_or records k d) (Contains-filter own records (get_or records k d) (Contains-get_or records k d within)
+          (subst (λ (n : List ℕ). same_name requester n ≡ true) is_own (same_itself requester)))),
+      ⊎_elim
+          (λ none. inl none)
+          (λ some.
+          let found = mapped_from number (filter own records) (greatest_number records requester) some in
+          let kept = kept_there own records found.0 found.1 in
+          inr (found.0, kept.0, one_name requester (Id.requester (Record.id found.0)) kept.1, found.2))
+          (is_one_of (numbers_of records requester) 0),
+    )

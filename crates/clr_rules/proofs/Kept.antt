@@ -1,7 +1,7 @@
 -- Which rows a filter keeps, which names a list has, and how tests that say a condition in words are joined.
 use Rattle.std.proofs.Common.{◌≡◌, ◌↔◌, ◌⊎◌, inl, inr, ⊎_elim, ℕ, Bool, true, false, ◌&&◌, ◌||◌, List, [], ◌∷◌, map, refl, sym, ◌∙◌, ap, subst, arith}
 use Rattle.std.specs.List.{filter, Contains}
-use Rattle.std.proofs.lemmas.Bool.{and_from, and_parts, false≢true, or_cases, or_left, or_right}
+use Rattle.std.proofs.lemmas.Bool.{false_from_ne_true, and_from, and_parts, false≢true, or_cases, or_left, or_right}
 use Rattle.clr_net.specs.Name.{same_name}
 use Rattle.clr_net.specs.Names.{has_name}
 use Rattle.clr_net.proofs.Walks.{any_from, one_name, same_itself, some_from}
@@ -23,6 +23,16 @@ and_says a b P Q p q = (
   λ both. let parts = and_parts a b both in (p.0 parts.0, q.0 parts.1),
   λ both. and_from a b (p.1 both.0) (q.1 both.1),
 )
+
+pub says_as : {a b : Bool} {P : Type 0} → a ≡ b → Says b P → Says a P
+says_as same says = (λ passes. says.0 (sym same ∙ passes), λ words. same ∙ says.1 words)
+
+pub says_like : {a : Bool} {P Q : Type 0} → Says a P → (P → Q) → (Q → P) → Says a Q
+says_like says on back = (λ passes. on (says.0 passes), λ words. says.1 (back words))
+
+-- a test that says what cannot be fails
+pub fails : (a : Bool) → Says a ⊥ → a ≡ false
+fails a says = false_from_ne_true a says.0
 
 pub itself_says : (a : Bool) → Says a (a ≡ true)
 itself_says a = (λ h. h, λ h. h)
@@ -80,3 +90,8 @@ filter-kept p q (x ∷ xs) wider =
     at true e false f more = absurd (false≢true (sym f ∙ wider x (Contains-here x xs) e))
     at false e true f more = rw (f, e) more
     at false e false f more = rw (f, e) more
+
+-- a filter that no element passes keeps nothing
+pub filter-nothing : {X : Type 0} (p : X → Bool) (xs : List X) → ((x : X) → p x ≡ false) → filter p xs ≡ []
+filter-nothing p [] fails = refl
+filter-nothing p (x ∷ xs) fails = rw (fails x) (filter-nothing p xs fails)

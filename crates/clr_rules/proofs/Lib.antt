@@ -27,3 +27,6 @@ pub mod EditsInOrder
 pub mod NewNumbers
 pub mod FoundSteps
 pub mod OthersEdits
+pub mod NearTests
+pub mod NearParts
+pub mod NearOrder

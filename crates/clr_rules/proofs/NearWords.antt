@@ -51,10 +51,10 @@ near_hold_says inside beside own AtSection AtPoint Own in_says beside_says own_s
     (and_says (is_crew h.kind) (is_own own h.id) (is_crew h.kind ≡ true) (Own h.id) (itself_says (is_crew h.kind)) (own_says h.id)))
 
 -- nothing is own where nobody is meant
-none_is_own : (d : Id) → Says (is_own None d) ⊥
+pub none_is_own : (d : Id) → Says (is_own None d) ⊥
 none_is_own d = (λ passes. absurd (false≢true passes), λ never. absurd never)
 
-standing_says : (inside beside : List ℕ → Bool) (AtSection AtPoint : List ℕ → Type 0)
+pub standing_says : (inside beside : List ℕ → Bool) (AtSection AtPoint : List ℕ → Type 0)
     → ((s : List ℕ) → Says (inside s) (AtSection s)) → ((p : List ℕ) → Says (beside p) (AtPoint p))
     → (h : Hold) → Says (is_near_hold inside beside None h) (StandsAmong AtPoint AtSection h)
 standing_says inside beside AtSection AtPoint in_says beside_says h =

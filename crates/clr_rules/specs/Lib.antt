@@ -49,3 +49,4 @@ pub mod MarkLaws
 pub mod RunLaws
 pub mod EditOrder
 pub mod FrameLaws
+pub mod NearLaws

@@ -5,6 +5,7 @@ pub mod footprint;
 pub mod good;
 pub mod live;
 pub mod marks;
+pub mod near;
 pub mod opening;
 pub mod runs;
 pub mod work;
