@@ -5,7 +5,7 @@ use Rattle.clr_order.specs.declared.action.Action.TheVariants as actions
 use Rattle.clr_order.specs.declared.step.StepState.TheVariants.{Waiting, Instructed, Repeated, Done}
 use Rattle.clr_rules.specs.Answer.{Answer}
 use Rattle.clr_rules.specs.Holds.{hold_of}
-use Rattle.clr_rules.specs.Worked.{BOSS, C1, DALE, JONES, KIM, L2, L3, OPS, REED, S2, S3, S4, Saying, T1, accepted, answer_after, c1_is_off, c1_is_on, does, isolating_l2, isolating_l2_and_l3, isolating_l3, jones_1, kim_1, kim_asks, kim_is_granted, l2_asked, l2_blocked, l2_granted, l2_grounded, l2_isolated, l2_ordered, l2_released, l2_restoring, l2_tested, ops_1, restoring_l2, s2_opened, s3_left, s3_opened, s3_unblocked, s4_blocked, says, step_is_repeated, step_runs}
+use Rattle.clr_rules.specs.Worked.{BOSS, C1, DALE, JONES, KIM, L2, L3, OPS, REED, S2, S3, S4, Saying, T1, accepted, answer_after, c1_is_off, c1_is_on, does, isolating_l2, isolating_l3, jones_1, kim_1, kim_asks, kim_has_both, kim_is_granted, l2_asked, l2_blocked, l2_granted, l2_grounded, l2_isolated, l2_ordered, l2_released, l2_restoring, l2_tested, ops_1, restoring_l2, s2_opened, s3_left, s3_opened, s3_unblocked, s4_blocked, says, step_is_repeated, step_runs}
 use Rattle.clr_rules.specs.WorkedRows.{jones_card, jones_record, kim_card, kim_record, ops_card, ops_record, seen, step_row}
 use Rattle.clr_rules.specs.declared.change.Edit.TheVariants.{SetPosition, SetHand, PutHold, TakeHold, PutRecord, PutStep}
 use Rattle.clr_rules.specs.declared.command.Kind.TheVariants.{Request, Order, Instruct, Repeat, Report, Grant, Test, Ground as LayGround, Unground, SignOn, SignOff, Transfer, Release, Cancel, Restore, Amend, Switch, Show}
@@ -219,10 +219,7 @@ ReleasesTakeTests = answer_after l2_tested (says JONES (Release jones_1 true tru
 
 -- KIM has both sections of a fence tested, L3 first: the tests are taken in the order of their names
 abbrev pub both_tested : List Saying
-both_tested = kim_asks ++ says OPS (Order kim_1 (S2 ∷ S4 ∷ T1 ∷ []) isolating_l2_and_l3) ∷ step_runs kim_1 1 (codes "OPEN S2") ++ step_runs kim_1 2 (codes "BLOCK S2")
-    ++ step_runs kim_1 3 (codes "TAG S2") ++ step_runs kim_1 4 (codes "OPEN S4") ++ step_runs kim_1 5 (codes "BLOCK S4")
-    ++ step_runs kim_1 6 (codes "CONTROL S4") ++ step_runs kim_1 7 (codes "TAG S4") ++ step_runs kim_1 8 (codes "OPEN T1")
-    ++ step_runs kim_1 9 (codes "TAG T1") ++ says OPS (Grant kim_1) ∷ says KIM (Test kim_1 L3 true) ∷ says KIM (Test kim_1 L2 true) ∷ []
+both_tested = kim_has_both ++ says KIM (Test kim_1 L3 true) ∷ says KIM (Test kim_1 L2 true) ∷ []
 
 abbrev pub ReleasesTakeAllTests : Type 0
 ReleasesTakeAllTests = answer_after both_tested (says KIM (Release kim_1 true true)) ≡ accepted (kim_card Released 1 9 9)

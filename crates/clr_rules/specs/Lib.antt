@@ -28,6 +28,7 @@ pub mod ExamplesOfChanges
 pub mod ExamplesOfFirstChecks
 pub mod ExamplesOfNearParts
 pub mod ExamplesOfIsolation
+pub mod ExamplesOfNeighbours
 pub mod ExamplesOfRuns
 pub mod ExamplesOfLive
 pub mod Live

@@ -284,3 +284,11 @@ s3_left = s3_unblocked ++ says OPS (Amend kim_1 3) ∷ step_runs kim_1 3 (codes 
 abbrev pub isolating_l2_and_l3 : List Task
 isolating_l2_and_l3 = does Open S2 ∷ does Block S2 ∷ does Tag S2 ∷ does Open S4 ∷ does Block S4 ∷ does Control S4
     ∷ does Tag S4 ∷ does Open T1 ∷ does Tag T1 ∷ []
+
+-- KIM asks for L3, and has it with L2 by that order
+abbrev pub kim_has_both : List Saying
+kim_has_both =
+    kim_asks ++ says OPS (Order kim_1 (S2 ∷ S4 ∷ T1 ∷ []) isolating_l2_and_l3) ∷ step_runs kim_1 1 (codes "OPEN S2")
+    ++ step_runs kim_1 2 (codes "BLOCK S2") ++ step_runs kim_1 3 (codes "TAG S2") ++ step_runs kim_1 4 (codes "OPEN S4")
+    ++ step_runs kim_1 5 (codes "BLOCK S4") ++ step_runs kim_1 6 (codes "CONTROL S4") ++ step_runs kim_1 7 (codes "TAG S4")
+    ++ step_runs kim_1 8 (codes "OPEN T1") ++ step_runs kim_1 9 (codes "TAG T1") ++ says OPS (Grant kim_1) ∷ []

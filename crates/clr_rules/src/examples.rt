@@ -5,6 +5,7 @@ pub mod first_checks;
 pub mod isolation;
 pub mod live;
 pub mod near_parts;
+pub mod neighbours;
 pub mod phases;
 pub mod refusals;
 pub mod runs;
