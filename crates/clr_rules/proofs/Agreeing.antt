@@ -25,9 +25,10 @@ use Rattle.clr_rules.specs.declared.change.Edit.TheVariants.{SetPosition, SetHan
 use Rattle.clr_rules.specs.declared.hold.Hold.{Hold}
 use Rattle.clr_rules.specs.declared.record.Record.{Record}
 use Rattle.clr_rules.proofs.EditedLists.{edited-in_order}
-use Rattle.clr_rules.proofs.Greatest.{greatest-put, greatest-put_over, has_record-put}
+use Rattle.clr_rules.proofs.Greatest.{greatest-put, greatest-put_over}
 use Rattle.clr_rules.proofs.Kept.{filter-kept, name_says, there_mapped}
 use Rattle.clr_rules.proofs.NamedRows.{Contains-filter}
+use Rattle.clr_rules.proofs.Refusing.{edited-has_record}
 use Rattle.clr_rules.proofs.Sparing.{holds_of-others, holds_of-others_taken}
 use Rattle.clr_rules.proofs.PartEdits.{others_change_by_marks, part_near-edited_all}
 
@@ -150,15 +151,6 @@ greatest-known R ordered requester (PutRecord r) not_new =
     put_known r R.records requester ordered.records (same_name requester r.id.requester) (has_record R.records r.id) refl refl not_new
 greatest-known R ordered requester (PutStep row) not_new = refl
 
--- records that are there stay
-has_record-edited : (c : Id) (edit : Edit) (R : Register) → has_record R.records c ≡ true → has_record (Register.records (edited edit R)) c ≡ true
-has_record-edited c (SetPosition point position) R there = there
-has_record-edited c (SetHand point hand) R there = there
-has_record-edited c (PutHold h) R there = there
-has_record-edited c (TakeHold h) R there = there
-has_record-edited c (PutRecord r) R there = has_record-put c r R.records there
-has_record-edited c (PutStep row) R there = there
-
 and_not : (b known after : Bool) → (known ≡ true → after ≡ true) → (b && not known) ≡ false → (b && not after) ≡ false
 and_not true true after stays not_new = rw (stays refl) refl
 and_not true false after stays not_new = absurd (false≢true (sym not_new))
@@ -172,7 +164,7 @@ not_new-edited R requester edit (SetHand point hand) not_new = refl
 not_new-edited R requester edit (PutHold h) not_new = refl
 not_new-edited R requester edit (TakeHold h) not_new = refl
 not_new-edited R requester edit (PutRecord r) not_new = and_not (same_name requester r.id.requester) (has_record R.records r.id)
-    (has_record (Register.records (edited edit R)) r.id) (has_record-edited r.id edit R) not_new
+    (has_record (Register.records (edited edit R)) r.id) (edited-has_record edit R r.id) not_new
 not_new-edited R requester edit (PutStep row) not_new = refl
 
 -- ---- lists of edits of others

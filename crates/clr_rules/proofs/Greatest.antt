@@ -7,9 +7,9 @@ use Rattle.std.specs.declared.cmp.Ordering.TheVariants.{Less, Equal, Greater}
 use Rattle.std.proofs.lemmas.Bool.Decides.{nat_tests}
 use Rattle.std.proofs.lemmas.List.Elements.{Contains-get_or}
 use Rattle.clr_net.proofs.Walks.{one_name, same_itself}
-use Rattle.clr_shelf.specs.Lists.{Contains-cases, Contains-here, Contains-later}
-use Rattle.clr_rules.proofs.Kept.{kept_there, mapped_from, there_mapped}
-use Rattle.clr_rules.proofs.NamedRows.{Contains-filter}
+use Rattle.clr_shelf.specs.Lists.{Contains-here, Contains-later}
+use Rattle.clr_rules.proofs.NewNumbers.{number_below_greatest}
+use Rattle.clr_rules.proofs.Kept.{kept_there, mapped_from}
 use Rattle.clr_net.specs.Name.{same_name}
 use Rattle.clr_shelf.specs.FirstRow.{keys-with_row, with_row-after, with_row-before, with_row-over}
 use Rattle.clr_shelf.specs.Groups.{filter-with_far, filter-with_inside}
@@ -117,23 +117,9 @@ has_record-put c r records there = at (is_eq (id_cmp r.id c)) (row_of-with id_cm
 
 -- ---- what the greatest number is
 
-at_least_both : (a n : ℕ) → (a ≤ greater a n) × (n ≤ greater a n)
-at_least_both a n = (grind (arith, nat_tests), grind (arith, nat_tests))
-
 one_of_both : (a n : ℕ) (b : Bool) → nat_le a n ≡ b → (greater a n ≡ a) ⊎ (greater a n ≡ n)
 one_of_both a n true is = inr (rw is refl)
 one_of_both a n false is = inl (rw is refl)
-
-at_least_first : (xs : List ℕ) (a : ℕ) → a ≤ fold greater a xs
-at_least_first [] a = omega arith
-at_least_first (x ∷ xs) a = omega (arith, (at_least_both a x).0, at_least_first xs (greater a x))
-
-at_least_each : (xs : List ℕ) (a x : ℕ) → Contains xs x → x ≤ fold greater a xs
-at_least_each [] a x (k, within, here) = absurd (omega arith)
-at_least_each (y ∷ xs) a x member = ⊎_elim
-    (λ here. rw (← here) (omega (arith, (at_least_both a y).1, at_least_first xs (greater a y))))
-    (λ later. at_least_each xs (greater a y) x later)
-    (Contains-cases y x xs member)
 
 is_one_of : (xs : List ℕ) (a : ℕ) → (fold greater a xs ≡ a) ⊎ Contains xs (fold greater a xs)
 is_one_of [] a = inl refl
@@ -149,9 +135,8 @@ unfolding greatest_number
 greatest_is_greatest records requester =
     let own = λ (r : Record). same_name requester r.id.requester in
     let number = λ (r : Record). r.id.number in (
-      λ k d within is_own. at_least_each (numbers_of records requester) 0 (number (get_or records k d))
-          (there_mapped number (filter own records) (get_or records k d) (Contains-filter own records (get_or records k d) (Contains-get_or records k d within)
-          (subst (λ (n : List ℕ). same_name requester n ≡ true) is_own (same_itself requester)))),
+      λ k d within is_own. number_below_greatest requester records (get_or records k d) (Contains-get_or records k d within)
+          (subst (λ (n : List ℕ). same_name requester n ≡ true) is_own (same_itself requester)),
       ⊎_elim
           (λ none. inl none)
           (λ some.

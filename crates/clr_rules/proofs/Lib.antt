@@ -30,3 +30,4 @@ pub mod OthersEdits
 pub mod NearTests
 pub mod NearParts
 pub mod NearOrder
+pub mod OthersSteps

@@ -7,14 +7,12 @@ use Rattle.clr_net.specs.Fence.{in_fence}
 use Rattle.clr_net.specs.Grid.{Grid, section_names}
 use Rattle.clr_net.specs.Names.{has_name}
 use Rattle.clr_order.specs.Step.{Task, task}
-use Rattle.clr_shelf.specs.Keys.{equal}
-use Rattle.clr_shelf.specs.Members.{member-row_of}
 use Rattle.clr_rules.specs.Fences.{clearance_fence, found_fence, found_order_fence, order_fence, record_fence, work_fence}
 use Rattle.clr_rules.specs.HoldKind.{is_crew}
-use Rattle.clr_rules.specs.Id.{Id, id_cmp, id_cmp_total, same_id, same_id_equiv, same_id_from_tie, same_id_ties}
+use Rattle.clr_rules.specs.Id.{Id, same_id}
 use Rattle.clr_rules.specs.Near.{switched_by, switched_in}
 use Rattle.clr_rules.specs.NearLaws.{InFence, InOrderFence, IsStepPoint, IsSwitchPoint, IsWithin}
-use Rattle.clr_rules.specs.Records.{is_fenced, record_key, record_of}
+use Rattle.clr_rules.specs.Records.{is_fenced, record_of}
 use Rattle.clr_rules.specs.Register.{Register}
 use Rattle.clr_rules.specs.Steps.{points_of, steps_in, steps_of}
 use Rattle.clr_rules.specs.declared.hold_kind.HoldKind.{HoldKind}
@@ -23,15 +21,13 @@ use Rattle.clr_rules.specs.declared.record.Record.{Record}
 use Rattle.clr_rules.specs.declared.step_row.StepRow.{StepRow}
 use Rattle.clr_rules.proofs.FenceCuts.{named_in_fence}
 use Rattle.clr_rules.proofs.Kept.{Says, and_says, itself_says, kept_there, mapped_from, name_says, says_as, says_like, there_mapped}
+use Rattle.clr_rules.proofs.RoundSteps.{one_id, own_id, record_id}
 use Rattle.clr_rules.proofs.NamedRows.{Contains-filter}
 
 -- ---- a clearance that is meant
 
 pub own_says : (c d : Id) → Says (same_id c d) (c ≡ d)
-own_says c d = (
-  λ same. same_id_from_tie c d (equal (id_cmp c d) (sym (same_id_ties c d) ∙ same)),
-  λ is. subst (λ (e : Id). same_id c e ≡ true) is (same_id_equiv.refl c),
-)
+own_says c d = (one_id c d, λ is. subst (λ (e : Id). same_id c e ≡ true) is (own_id c))
 
 crew_from : (kind : HoldKind) → is_crew kind ≡ true → kind ≡ Crew
 crew_from HeldOpen is = cc is
@@ -44,10 +40,6 @@ crew_from Crew is = refl
 
 pub crew_says : (kind : HoldKind) → Says (is_crew kind) (kind ≡ Crew)
 crew_says kind = (crew_from kind, λ is. ap is_crew is)
-
--- the record that is read at an id has it
-read_id : (R : Register) (c : Id) (r : Record) → record_of R.records c ≡ Some r → r.id ≡ c
-read_id R c r read = same_id_from_tie r.id c (equal (id_cmp r.id c) (member-row_of id_cmp record_key id_cmp_total c r R.records read).1)
 
 -- ---- fences
 
@@ -82,7 +74,7 @@ module _ (R : Register) (c : Id) (s : List ℕ) where
 
   in_fence_from : (r : Record) → record_of R.records c ≡ Some r → (b : Bool) → is_fenced r.phase ≡ b → has_name (record_fence R.net R.steps r) s ≡ true → InFence R c s
   in_fence_from r read true fenced passes =
-      let words = (work_says R.net r.work (points_of (steps_in R.steps c 1)) s).0 (sym (fence-fenced r (read_id R c r read) fenced) ∙ passes) in
+      let words = (work_says R.net r.work (points_of (steps_in R.steps c 1)) s).0 (sym (fence-fenced r (record_id R.records c r read) fenced) ∙ passes) in
       record { r = r; work = words.0; read = read; fenced = fenced; works = words.1; within = words.2 }
   in_fence_from r read false unfenced passes = absurd (not_fenced r unfenced passes)
 
@@ -94,7 +86,7 @@ module _ (R : Register) (c : Id) (s : List ℕ) where
   pub fence_says : Says (has_name (clearance_fence R c) s) (InFence R c s)
   fence_says = (
     found_from (record_of R.records c) refl,
-    λ words. rw words.read (fence-fenced words.r (read_id R c words.r words.read) words.fenced
+    λ words. rw words.read (fence-fenced words.r (record_id R.records c words.r words.read) words.fenced
         ∙ (work_says R.net words.r.work (points_of (steps_in R.steps c 1)) s).1 (words.work, words.works, words.within)),
   )
 

@@ -28,7 +28,7 @@ use Rattle.clr_rules.specs.declared.reply.View.{View}
 
 -- ---- records stay
 
-edited-has_record : (edit : Edit) (R : Register) (c : Id) → has_record R.records c ≡ true → has_record (Register.records (edited edit R)) c ≡ true
+pub edited-has_record : (edit : Edit) (R : Register) (c : Id) → has_record R.records c ≡ true → has_record (Register.records (edited edit R)) c ≡ true
 edited-has_record (PutRecord r) R c h = has_record-put c r R.records h
 edited-has_record (SetPosition p position) R c h = h
 edited-has_record (SetHand p hand) R c h = h

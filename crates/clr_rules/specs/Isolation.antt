@@ -1,4 +1,4 @@
--- THE STATEMENTS OF ISOLATION, for review. No contract names them yet: they are not proved.
+-- THE STATEMENTS OF ISOLATION. Those that a law in src/laws names are proved: the frame (footprint), the steps of others (steps). The others are for review.
 use Rattle.std.specs.Prelude.{◌≡◌, ℕ, Bool, true, false, not, ◌||◌, IsTrue, List, [], ◌∷◌, map, filter, Some, Option, None}
 use Rattle.std.specs.List.{list_all}
 use Rattle.clr_net.specs.Fence.{FenceRows, fence_of, in_fence}

@@ -51,3 +51,4 @@ pub mod RunLaws
 pub mod EditOrder
 pub mod FrameLaws
 pub mod NearLaws
+pub mod StepLaws

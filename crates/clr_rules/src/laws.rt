@@ -8,4 +8,5 @@ pub mod marks;
 pub mod near;
 pub mod opening;
 pub mod runs;
+pub mod steps;
 pub mod work;

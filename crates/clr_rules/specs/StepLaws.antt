@@ -1,0 +1,25 @@
+-- How agreement near a clearance goes on from command to command, as laws.
+use Rattle.std.specs.Prelude.{◌≡◌, ℕ, Bool, false, List, All}
+use Rattle.clr_rules.specs.Agreement.{Agree}
+use Rattle.clr_rules.specs.AgreementLaws.{is_about, is_new_of}
+use Rattle.clr_rules.specs.Answer.{Answer, answer}
+use Rattle.clr_rules.specs.Good.{HandMatchesStep, ListsAreInOrder, is_operators}
+use Rattle.clr_rules.specs.Id.{Id}
+use Rattle.clr_rules.specs.Register.{Register}
+use Rattle.clr_rules.specs.Run.{after}
+use Rattle.clr_rules.specs.Shown.{is_own_command}
+use Rattle.clr_rules.specs.declared.command.Command.{Command}
+
+-- THE EDITS OF A COMMAND OF OTHERS are not about the clearance, and give its requester no new clearance. The requester is no operator
+pub record AreOfOthers (c : Id) (R : Register) (q : Command) : Type 0 where
+  pub of_others : All (λ edit. is_about c edit ≡ false) (Answer.edits (answer R q))
+  pub no_new_number : All (λ edit. is_new_of R.records c.requester edit ≡ false) (Answer.edits (answer R q))
+
+abbrev pub OthersEditsAreOfOthers : Type 0
+OthersEditsAreOfOthers = (R : Register) (c : Id) (q : Command) → HandMatchesStep R → is_operators R c.requester ≡ false
+    → is_own_command c q ≡ false → AreOfOthers c R q
+
+-- registers that agree and answer a command alike agree again after it, whatever it is about
+abbrev pub SameAnswersKeepAgreement : Type 0
+SameAnswersKeepAgreement = (R S : Register) (c : Id) (inside : List ℕ → Bool) (q : Command) → ListsAreInOrder R → ListsAreInOrder S
+    → answer R q ≡ answer S q → Agree c inside R S → Agree c inside (after R q) (after S q)
