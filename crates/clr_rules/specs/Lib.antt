@@ -24,6 +24,8 @@ pub mod WorkedRows
 pub mod ExamplesOfRefusals
 pub mod ExamplesOfSequence
 pub mod ExamplesOfPhases
+pub mod ExamplesOfOrders
+pub mod ExamplesOfOthers
 pub mod ExamplesOfChanges
 pub mod ExamplesOfFirstChecks
 pub mod ExamplesOfNearParts

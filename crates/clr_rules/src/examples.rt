@@ -6,6 +6,8 @@ pub mod isolation;
 pub mod live;
 pub mod near_parts;
 pub mod neighbours;
+pub mod orders;
+pub mod others;
 pub mod phases;
 pub mod refusals;
 pub mod runs;

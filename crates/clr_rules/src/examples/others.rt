@@ -1,0 +1,33 @@
+//! What does not serve, and what does not hinder.
+ghost use Rattle.clr_rules.specs.ExamplesOfOthers.{AnothersHoldsDoNotHinder, AnothersHoldsDoNotServe, HoldsGoByKind, LesserClearancesAreNamed, OwnHandsDoNotHinder, WhoMayHold, WorkSectionsCount};
+
+/// Holds of another clearance.
+pub fn anothers_do_not_serve()
+    ensures { AnothersHoldsDoNotServe }
+{}
+
+/// Holds of another clearance.
+pub fn anothers_do_not_hinder()
+    ensures { AnothersHoldsDoNotHinder }
+{}
+
+/// Where a crew works.
+pub fn work_sections()
+    ensures { WorkSectionsCount }
+{}
+
+/// Transfers.
+pub fn holders()
+    ensures { WhoMayHold }
+{}
+
+/// What a check says by itself, in registers that no commands make.
+pub fn made_registers()
+    ensures own_hand { OwnHandsDoNotHinder }
+    ensures lesser_clearance { LesserClearancesAreNamed }
+{}
+
+/// A section and a point of one name.
+pub fn one_name()
+    ensures { HoldsGoByKind }
+{}
