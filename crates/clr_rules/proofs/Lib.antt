@@ -21,6 +21,7 @@ pub mod Kept
 pub mod NearWords
 pub mod PartEdits
 pub mod Greatest
+pub mod ManyRequests
 pub mod Agreeing
 pub mod Runs
 pub mod EditsInOrder

@@ -1,15 +1,14 @@
 -- EXAMPLES OF REFUSALS: each of the 31 in the worked network, and some of them for more than one reason. A refused command changes nothing:
 -- its answer has no edits.
-use Rattle.std.specs.Prelude.{◌≡◌, false, true, List, [], ◌∷◌, ◌++◌, map, replicate, codes, Some}
-use Rattle.std.specs.List.{range_with_len}
+use Rattle.std.specs.Prelude.{◌≡◌, ℕ, zero, suc, false, true, List, [], ◌∷◌, ◌++◌, replicate, codes}
 use Rattle.clr_order.specs.declared.action.Action.TheVariants as actions
 use Rattle.clr_rules.specs.Answer.{answer}
 use Rattle.clr_rules.specs.Register.{Register, opening}
 use Rattle.clr_rules.specs.Run.{after_all}
 use Rattle.clr_rules.specs.Worked.{C1, DALE, H, JONES, BOSS, KIM, L1, L2, L3, OPS, REED, S1, S2, S3, S4, Saying, T1, ZZ, answer_after, c1_is_off, c1_is_on, does, from_moment, isolating_l2, isolating_l3, jones_1, kim_1, kim_asks, l2_asked, l2_granted, l2_ordered, l2_released, l2_tested, l2_ungrounded, ops_1, refused, register_after, s2_opened, s2_tagged, said_at, says, s3_unblocked, step_is_repeated, worked_opening, worked_staff}
+use Rattle.clr_rules.specs.declared.command.Command.{Command}
 use Rattle.clr_rules.specs.declared.command.Kind.TheVariants.{Request, Order, Instruct, Repeat, Report, Grant, Test, Ground, Unground, SignOn, Transfer, Release, Cancel, Restore, Switch, Show}
 use Rattle.clr_rules.specs.declared.hold_kind.HoldKind.TheVariants.{HeldOpen}
-use Rattle.clr_rules.specs.declared.phase.Phase.TheVariants.{Requested}
 use Rattle.clr_rules.specs.declared.refusal.Refusal.TheVariants.{UnknownCaller, WrongRole, UnknownSection, TooManyClearances, UnknownClearance, NotHolder, Earlier, WrongPhase, EmptyOrder, LongOrder, PointTwice, SourceInside, NotOnFence, StepsWrong, UnknownPoint, NoStep, OutOfTurn, StepState, InHand, Held, RepeatDiffers, WrongReporter, StepsLeft, OutsideFence, NotTested, Grounded, NotGrounded, CrewsOn, CrewState, BadTransfer, NotAttested}
 
 -- THE CALLER
@@ -26,15 +25,17 @@ OperatorsMayNotRequest = answer_after [] (says OPS (Request L2)) ≡ refused Wro
 abbrev pub SectionsAreKnown : Type 0
 SectionsAreKnown = answer_after [] (says JONES (Request (codes "L9"))) ≡ refused UnknownSection
 
--- JONES's requests number 1 to 9,999, none of them ordered yet
-abbrev pub nine_thousand_requests : Register
-nine_thousand_requests = record worked_opening {
-  records = map (λ n. record { id = record { requester = JONES; number = n }; holder = JONES; work = Some L2; phase = Requested; last = 100 }) (range_with_len 1 9999);
-}
+-- the same command, so many times
+unfoldable pub times : ℕ → Command → List Command
+times zero q = []
+times (suc n) q = q ∷ times n q
 
--- a requester has at most 9,999 clearances
+abbrev pub jones_requests : Command
+jones_requests = said_at 100 (says JONES (Request L2))
+
+-- a requester has at most 9,999 clearances: JONES's request after them is refused
 abbrev pub NumbersEnd : Type 0
-NumbersEnd = answer nine_thousand_requests (said_at 101 (says JONES (Request L2))) ≡ refused TooManyClearances
+NumbersEnd = answer (after_all worked_opening (times 9999 jones_requests)) jones_requests ≡ refused TooManyClearances
 
 -- THE RECORD
 
