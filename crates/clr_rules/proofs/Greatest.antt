@@ -84,7 +84,7 @@ pub greatest-put : (r : Record) (records : List Record) (requester : List ℕ) �
 greatest-put r records requester ordered = put_tested r records requester ordered (same_name requester r.id.requester) refl
 
 -- the numbers as a question to the records' ids
-numbers_by_ids : (requester : List ℕ) (records : List Record)
+pub numbers_by_ids : (requester : List ℕ) (records : List Record)
     → numbers_of records requester ≡ map (λ (d : Id). d.number) (filter (λ d. same_name requester d.requester) (map record_key records))
 numbers_by_ids requester [] = refl
 numbers_by_ids requester (r ∷ records) = at (same_name requester r.id.requester) refl (numbers_by_ids requester records)

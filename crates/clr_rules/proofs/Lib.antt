@@ -17,7 +17,11 @@ pub mod GoodToPhases
 pub mod StepsInTurn
 pub mod Opening
 pub mod DeadWork
+pub mod Keeping
+pub mod PutRecords
+pub mod PlaceFacts
 pub mod Kept
+pub mod KeptRecords
 pub mod NearWords
 pub mod PartEdits
 pub mod Greatest

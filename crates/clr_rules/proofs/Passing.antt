@@ -1,8 +1,8 @@
 -- What follows where no check of a command applies.
-use Rattle.std.proofs.Common.{◌≡◌, ℕ, Bool, true, false, not, List, [], ◌∷◌, Option, Some, None, refl, subst}
+use Rattle.std.proofs.Common.{◌≡◌, ℕ, Bool, true, false, not, List, [], ◌∷◌, Option, Some, None, is_some, refl, sym, ◌∙◌, ap, subst}
 use Rattle.std.proofs.lemmas.Bool.{not-false}
 use Rattle.clr_rules.specs.Answer.{Known, checks, first_refusal}
-use Rattle.clr_rules.specs.Checks.{refuse, unknown_clearance}
+use Rattle.clr_rules.specs.Checks.{refuse, unknown_clearance, where_some, wrong_phase}
 use Rattle.clr_rules.specs.Command.{named_clearance}
 use Rattle.clr_rules.specs.Good.{has_record}
 use Rattle.clr_rules.specs.Id.{Id}
@@ -10,7 +10,10 @@ use Rattle.clr_rules.specs.Register.{Register}
 use Rattle.clr_rules.specs.declared.command.Kind.{Kind}
 use Rattle.clr_rules.specs.declared.command.Kind.TheVariants.{Request, Order, Instruct, Repeat, Report, Grant, Test, Ground, Unground, SignOn, SignOff, Transfer, Release, Cancel, Restore, Amend, Switch, Show}
 use Rattle.clr_rules.specs.declared.refusal.Refusal.{Refusal}
-use Rattle.clr_rules.specs.declared.refusal.Refusal.TheVariants.{UnknownClearance}
+use Rattle.clr_rules.specs.declared.refusal.Refusal.TheVariants.{UnknownClearance, WrongPhase}
+use Rattle.clr_rules.specs.Records.{record_of}
+use Rattle.clr_rules.specs.declared.phase.Phase.{Phase}
+use Rattle.clr_rules.specs.declared.record.Record.{Record}
 
 -- each of these checks says nothing
 abbrev pub Pass : List (Option Refusal) → Type 0
@@ -62,3 +65,18 @@ named_is_recorded k R by at (Show c) h = is_recorded R c (all_pass (checks k R b
 pub named_recorded : (k : Known) (R : Register) (by : List ℕ) (at : ℕ) (kind : Kind) (c : Id)
     → first_refusal (checks k R by at kind) ≡ None → named_clearance kind ≡ Some c → has_record R.records c ≡ true
 named_recorded k R by at kind c passed names = subst (IsRecorded R) names (named_is_recorded k R by at kind passed)
+
+-- the record of a clearance that is known, and what a check of it says
+pub record_there : (R : Register) (c : Id) → unknown_clearance R c ≡ None → (r : Record) × (record_of R.records c ≡ Some r)
+record_there R c passed = at (record_of R.records c) refl (is_recorded R c passed)
+  where
+    at : (o : Option Record) → record_of R.records c ≡ o → is_some o ≡ true → (r : Record) × (record_of R.records c ≡ Some r)
+    at None none there = cc
+    at (Some r) found there = (r, found)
+
+pub check_of_found : {X : Type 0} (o : Option X) (x : X) (check : X → Option Refusal) → o ≡ Some x → where_some o check ≡ None → check x ≡ None
+check_of_found o x check found passed = sym (ap (λ found. where_some found check) found) ∙ passed
+
+pub phase_fits : (R : Register) (c : Id) (r : Record) (fits : Phase → Bool) → record_of R.records c ≡ Some r → wrong_phase R c fits ≡ None → fits r.phase ≡ true
+phase_fits R c r fits found passed =
+    not_refused_true (fits r.phase) WrongPhase (check_of_found (record_of R.records c) r (λ r. refuse (not (fits r.phase)) WrongPhase) found passed)

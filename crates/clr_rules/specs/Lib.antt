@@ -45,6 +45,7 @@ pub mod LiveLaws
 pub mod EditLaws
 pub mod StateFacts
 pub mod GoodLaws
+pub mod KeepLaws
 pub mod OpeningLaws
 pub mod WorkLaws
 pub mod AgreementLaws

@@ -1,0 +1,25 @@
+-- Commands keep a good register good, kind by kind.
+use Rattle.std.specs.Prelude.{ℕ, Bool, List}
+use Rattle.clr_rules.specs.Good.{IsGood}
+use Rattle.clr_rules.specs.Id.{Id}
+use Rattle.clr_rules.specs.Register.{Register}
+use Rattle.clr_rules.specs.Run.{after}
+use Rattle.clr_rules.specs.declared.command.Command.{Command}
+use Rattle.clr_rules.specs.declared.command.Kind.{Kind}
+use Rattle.clr_rules.specs.declared.command.Kind.TheVariants.{Grant, Show, Transfer}
+
+abbrev pub asked : List ℕ → ℕ → Kind → Command
+asked by at kind = record { caller = by; moment = at; kind = kind }
+
+-- WHAT KEEPS A GOOD REGISTER GOOD: whoever asks for it, whenever, the register that was good is good after the answer
+abbrev pub KeepsGood : Kind → Type 0
+KeepsGood kind = (R : Register) (by : List ℕ) (at : ℕ) → IsGood R → IsGood (after R (asked by at kind))
+
+abbrev pub ShowsKeepGood : Type 0
+ShowsKeepGood = (c : Id) → KeepsGood (Show c)
+
+abbrev pub GrantsKeepGood : Type 0
+GrantsKeepGood = (c : Id) → KeepsGood (Grant c)
+
+abbrev pub TransfersKeepGood : Type 0
+TransfersKeepGood = (c : Id) (to : List ℕ) (emergency : Bool) → KeepsGood (Transfer c to emergency)

@@ -1,0 +1,16 @@
+ghost use Rattle.clr_rules.specs.KeepLaws.{GrantsKeepGood, ShowsKeepGood, TransfersKeepGood};
+
+/// A command that shows a clearance keeps a good register good.
+pub fn shows_keep_good()
+    ensures { ShowsKeepGood }
+{}
+
+/// A grant keeps a good register good.
+pub fn grants_keep_good()
+    ensures { GrantsKeepGood }
+{}
+
+/// A transfer keeps a good register good.
+pub fn transfers_keep_good()
+    ensures { TransfersKeepGood }
+{}
