@@ -1,0 +1,73 @@
+-- What is lent, and the definitions.
+use Rattle.std.proofs.Common.{◌≡◌, ◌∙◌, ◌==◌, ◌&&◌, ◌||◌, ℕ, zero, suc, Bool, List, [], ◌∷◌, map, filter, length, refl, sym, ap}
+use Rattle.clr_net.specs.Fence.{FenceRows, fence_of, in_fence, leads, reaches}
+use Rattle.clr_net.specs.Grid.{Grid, section_names}
+use Rattle.clr_net.specs.Names.{has_name}
+use Rattle.clr_net.specs.declared.point.PointRow.{PointRow}
+use Rattle.clr_net.specs.declared.section.SectionRow.{SectionRow}
+use Rattle.clr_rules.specs.Answer.{Known}
+use Rattle.clr_rules.specs.GoodByPhase.{of_round}
+use Rattle.clr_rules.specs.Id.{Id, same_id}
+use Rattle.clr_rules.specs.Near.{Near}
+use Rattle.clr_rules.specs.Register.{Register, unplaced, unplaced_net}
+use Rattle.clr_rules.specs.Steps.{points_of, steps_in, steps_of}
+use Rattle.clr_rules.specs.declared.step_row.StepRow.{StepRow}
+use Rattle.clr_rules.proofs.NamedRows.{list_any-map}
+use Rattle.clr_rules.proofs.RoundSteps.{of_round_is}
+
+-- whether a walk leads to a section does not hang on positions
+reaches_unplaced : (points : List PointRow) (cut : List (List ℕ)) (work : List ℕ) (n : ℕ) (s : List ℕ)
+    → reaches (map unplaced points) cut work n s ≡ reaches points cut work n s
+unfolding reaches
+reaches_unplaced points cut work zero s = refl
+reaches_unplaced points cut work (suc n) s =
+    let same : reaches (map unplaced points) cut work n ≡ reaches points cut work n = λ i t. reaches_unplaced points cut work n t i in
+    rw same (ap (λ further. reaches points cut work n s || further) (list_any-map (leads (reaches points cut work n) cut s) unplaced points))
+
+-- nor does a fence
+pub in_fence_unplaced : (g : Grid) (work : List ℕ) (cut : List (List ℕ)) (s : List ℕ) → in_fence (unplaced_net g) work cut s ≡ in_fence g work cut s
+unfolding in_fence
+in_fence_unplaced g work cut s = ap (λ reached. has_name (section_names g.sections) work && reached) (reaches_unplaced g.points cut work (length g.sections) s)
+
+pub fence_unplaced : (g : Grid) (work : List ℕ) (cut : List (List ℕ))
+    → FenceRows.sections (fence_of g work cut) ≡ FenceRows.sections (fence_of (unplaced_net g) work cut)
+fence_unplaced g work cut =
+    ap (λ (inside : List ℕ → Bool). filter (λ (row : SectionRow). inside row.name) g.sections) (λ i s. sym (in_fence_unplaced g work cut s) i)
+
+-- the points of the rows of a round
+points_map : (rows : List StepRow) → map (λ row. row.step.point) rows ≡ points_of rows
+points_map [] = refl
+points_map (row ∷ rows) = ap (λ points. row.step.point ∷ points) (points_map rows)
+
+pub first_points_are : (steps : List StepRow) (c : Id)
+    → map (λ row. row.step.point) (filter (λ row. row.round == 1) (filter (λ row. same_id c row.id) steps)) ≡ points_of (steps_in steps c 1)
+unfolding of_round steps_of
+first_points_are steps c = points_map (of_round (steps_of steps c) 1) ∙ ap points_of (of_round_is steps c 1)
+
+-- the names of rows that are shown
+pub names_shown : {X : Type 0} (shows : X → SectionRow) (items : List X) → map (λ item. (shows item).name) items ≡ section_names (map shows items)
+names_shown shows [] = refl
+names_shown shows (item ∷ items) = ap (λ names. (shows item).name ∷ names) (names_shown shows items)
+
+pub unplaced_shown : {X : Type 0} (shows : X → PointRow) (items : List X) → map (λ item. unplaced (shows item)) items ≡ map unplaced (map shows items)
+unplaced_shown shows [] = refl
+unplaced_shown shows (item ∷ items) = ap (λ points. unplaced (shows item) ∷ points) (unplaced_shown shows items)
+
+-- what is lent is a register with what is known of it, if each of its parts is
+pub lent_whole : (near : Near) (known : Known) (R : Register)
+    → Known.greatest near.known ≡ known.greatest → Known.fence near.known ≡ known.fence
+    → Grid.sections (Register.net near.rows) ≡ Grid.sections R.net → Grid.points (Register.net near.rows) ≡ Grid.points R.net
+    → Register.staff near.rows ≡ R.staff → Register.states near.rows ≡ R.states → Register.records near.rows ≡ R.records
+    → Register.steps near.rows ≡ R.steps → Register.holds near.rows ≡ R.holds
+    → near ≡ record { known = known; rows = R }
+lent_whole near known R greatest fence sections points staff states records steps holds i = record {
+  known = record { greatest = greatest i; fence = fence i };
+  rows = record {
+    net = record { sections = sections i; points = points i };
+    staff = staff i;
+    states = states i;
+    records = records i;
+    steps = steps i;
+    holds = holds i;
+  };
+}

@@ -1,0 +1,36 @@
+-- A book as contracts see it: the register that its shelves hold, and how many rows may be put on each.
+use Rattle.std.specs.Prelude.{◌≤◌, ℕ, ◌+◌, List, [], ◌∷◌}
+use Rattle.clr_net.specs.Grid.{Grid}
+use Rattle.clr_rules.specs.Register.{Register}
+use Rattle.clr_rules.specs.declared.change.Edit.{Edit}
+use Rattle.clr_rules.specs.declared.change.Edit.TheVariants.{SetPosition, SetHand, PutHold, TakeHold, PutRecord, PutStep}
+
+-- rows that may be put; a point's state is only ever replaced, and needs no room
+pub record Room : Type 0 where
+  pub records : ℕ
+  pub steps : ℕ
+  pub holds : ℕ
+
+pub record Shelved : Type 0 where
+  -- the network as it was built, with the positions of its rows
+  pub network : Grid
+  pub register : Register
+  pub room : Room
+
+-- the room that edits need
+abbrev pub need_of : Edit → Room → Room
+need_of (SetPosition point position) need = need
+need_of (SetHand point hand) need = need
+need_of (PutHold h) need = record need { holds = need.holds + 1 }
+need_of (TakeHold h) need = need
+need_of (PutRecord r) need = record need { records = need.records + 1 }
+need_of (PutStep row) need = record need { steps = need.steps + 1 }
+
+abbrev pub needs : List Edit → Room
+needs [] = record { records = 0; steps = 0; holds = 0 }
+needs (edit ∷ edits) = need_of edit (needs edits)
+
+pub record Fits (need room : Room) : Type 0 where
+  pub records : need.records ≤ room.records
+  pub steps : need.steps ≤ room.steps
+  pub holds : need.holds ≤ room.holds

@@ -1,0 +1,158 @@
+//! The book: the network, the staff, and the rows of the register on four shelves.
+ghost use Rattle.std.specs.Prelude.{◌≡◌, [], IfOk, OnOk, map, option_copied};
+ghost use Rattle.clr_rules.specs.Edits.{edited, edited_all};
+ghost use Rattle.clr_rules.specs.Good.{ListsAreInOrder};
+ghost use Rattle.clr_rules.specs.Records.{record_of};
+ghost use Rattle.clr_rules.specs.Register.{Register, opening, unplaced_net};
+ghost use Rattle.clr_rules.specs.States.{state_of};
+ghost use Rattle.clr_rules.specs.Steps.{steps_of};
+ghost use Rattle.clr_book.specs.Shelved.{Fits, Room, Shelved, need_of, needs};
+
+use crate::shelves::all_rows;
+use crate::states::{opening_states, set_hand, set_position};
+use clr_csv::Staff;
+use clr_net::{Name, Network};
+use clr_rules::{Change, ClearanceId, Edit, Hold, PointState, Record, StepRow};
+use clr_shelf::Shelf;
+use std::alloc::{AllocError, Global};
+use std::marker::Model;
+
+/// The register of clearances of one network and one staff.
+#[derive(Drop)]
+pub struct Book<P: Shelf<PointState>, C: Shelf<Record>, T: Shelf<StepRow>, H: Shelf<Hold>> {
+    pub(crate) alloc: Global,
+    pub(crate) network: Network,
+    pub(crate) staff: Staff,
+    pub(crate) states: P,
+    pub(crate) records: C,
+    pub(crate) steps: T,
+    pub(crate) holds: H,
+}
+
+impl<P: Shelf<PointState>, C: Shelf<Record>, T: Shelf<StepRow>, H: Shelf<Hold>> Model
+    for Book<P, C, T, H> {
+    ghost use Rattle.clr_rules.specs.Register.{Register, unplaced_net};
+    ghost use Rattle.clr_book.specs.Shelved.{Room, Shelved};
+
+    ghost Value = { Shelved };
+
+    ghost view = { λ b. record {
+      network = b.network;
+      register = record {
+        net = unplaced_net b.network;
+        staff = b.staff;
+        states = P.rows b.states;
+        records = C.rows b.records;
+        steps = T.rows b.steps;
+        holds = H.rows b.holds;
+      };
+      room = record { records = C.room b.records; steps = T.room b.steps; holds = H.room b.holds };
+    } };
+}
+
+impl<P: Shelf<PointState>, C: Shelf<Record>, T: Shelf<StepRow>, H: Shelf<Hold>> Book<P, C, T, H> {
+    /// The book before the first command: each point in the position of its row, and nothing asked for, ordered or held.
+    pub fn opening(alloc: Global, network: Network, staff: Staff) -> Result<Self, AllocError>
+        ensures register { IfOk result (λ book. book.register ≡ opening network staff) }
+        ensures network { IfOk result (λ book. book.network ≡ network) }
+    {
+        let states = opening_states(alloc, network.points())?;
+        Ok(Book {
+            alloc,
+            network,
+            staff,
+            states,
+            records: C::empty(alloc),
+            steps: T::empty(alloc),
+            holds: H::empty(alloc),
+        })
+    }
+
+    pub fn network(&self) -> &Network
+        ensures { result.now ≡ self.now.network }
+    {
+        &self.network
+    }
+
+    /// The rows of a book stand in the order of their keys, one row a key: a law, with nothing to do.
+    pub fn stands_in_order(&self)
+        ensures { ListsAreInOrder self.now.register }
+    {
+        let _shelves = self.alloc;
+    }
+
+    /// The position of a point, and whose order is at work on it.
+    pub fn state(&self, point: &Name) -> Option<&PointState>
+        ensures { option_copied result ≡ state_of self.now.register.states point.now }
+    {
+        self.states.get(point)
+    }
+
+    pub fn record(&self, id: &ClearanceId) -> Option<&Record>
+        ensures { option_copied result ≡ record_of self.now.register.records id.now }
+    {
+        self.records.get(id)
+    }
+
+    /// All records, in the order of their clearances.
+    pub fn records(&self) -> Result<Vec<&Record>, AllocError>
+        ensures { IfOk result (λ found. map (λ row. row.now) found.items ≡ self.now.register.records) }
+    {
+        all_rows(self.alloc, &self.records)
+    }
+
+    /// The steps of a clearance, by round and then by their numbers.
+    #[tactic(auto, unfolding(clr_rules::specs::Steps::steps_of))]
+    pub fn steps(&self, id: &ClearanceId) -> Result<Vec<&StepRow>, AllocError>
+        ensures { IfOk result (λ found. map (λ row. row.now) found.items ≡ steps_of self.now.register.steps id.now) }
+    {
+        self.steps.group(self.alloc, id)
+    }
+
+    /// Makes the room that a change needs. It changes nothing else.
+    pub fn reserve(&mut self, change: &Change) -> Result<(), AllocError>
+        ensures register { self.new.register ≡ self.old.register }
+        ensures network { self.new.network ≡ self.old.network }
+        ensures room { OnOk result (Fits (needs change.now.edits) self.new.room) }
+    {
+        let edits = change.edits.as_slice().len();
+        self.records.reserve(edits)?;
+        self.steps.reserve(edits)?;
+        self.holds.reserve(edits)?;
+        Ok(())
+    }
+
+    /// Makes a change, in the room that `reserve` made for it.
+    pub fn apply(&mut self, change: Change)
+        requires { Fits (needs change.edits) self.old.room }
+        ensures register { self.new.register ≡ edited_all change.edits self.old.register }
+        ensures network { self.new.network ≡ self.old.network }
+    {
+        for edit in change.edits.as_slice() {
+            self.make(edit);
+        }
+    }
+
+    // Makes one edit.
+    fn make(&mut self, edit: &Edit)
+        requires { Fits (need_of edit.now (needs [])) self.old.room }
+        ensures register { self.new.register ≡ edited edit.now self.old.register }
+        ensures network { self.new.network ≡ self.old.network }
+        ensures room { Fits self.old.room (need_of edit.now self.new.room) }
+    {
+        match *edit {
+            Edit::SetPosition { point, position } => set_position(
+                &mut self.states,
+                &point,
+                position,
+            ),
+            Edit::SetHand { point, hand } => set_hand(&mut self.states, &point, hand),
+            Edit::PutHold(hold) => self.holds.put(hold),
+            Edit::TakeHold(hold) => {
+                let _taken = self.holds.take(&hold);
+            }
+            Edit::PutRecord(record) => self.records.put(record),
+            Edit::PutStep(row) => self.steps.put(row),
+        }
+    }
+}

@@ -1,0 +1,16 @@
+//! The register of clearances: a book over four shelves, what of it a command looks at, and what it is answered.
+#![tactic(auto)]
+
+mod book;
+mod lend;
+mod near;
+mod shelves;
+mod states;
+
+pub use book::Book;
+pub use clr_rules::{
+    Card, Change, ClearanceId, Command, Edit, Edits, Hold, HoldGroup, HoldKind, Holds, IdFault,
+    Items, Kind, MAX_CLEARANCE_NUMBER, MAX_MOMENT, Moment, Names, Phase, PointState, PointStates,
+    Record, Refusal, Reply, StepKey, StepRow, Steps, Tasks, Text, View,
+};
+pub use near::Near;

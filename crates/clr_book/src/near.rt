@@ -1,0 +1,43 @@
+//! What a command looks at: rows of the book, and what is known of it beside them.
+use clr_csv::Staff;
+use clr_net::{PointRow, SectionRow};
+use clr_rules::{Hold, PointState, Record, StepRow};
+use std::alloc::Global;
+use std::marker::Model;
+
+/// What is lent to a decision: rows, each list in the order of its keys.
+#[derive(Drop)]
+pub struct Near<'a> {
+    pub(crate) alloc: Global,
+    /// The greatest number of the requester's clearances, 0 where there is none.
+    pub(crate) greatest: u16,
+    /// The sections of the clearance's fence, or of the fence that the order would make.
+    pub(crate) fence: Vec<&'a SectionRow>,
+    pub(crate) sections: Vec<&'a SectionRow>,
+    pub(crate) points: Vec<&'a PointRow>,
+    pub(crate) staff: &'a Staff,
+    pub(crate) states: Vec<&'a PointState>,
+    pub(crate) records: Vec<&'a Record>,
+    pub(crate) steps: Vec<&'a StepRow>,
+    pub(crate) holds: Vec<&'a Hold>,
+}
+
+impl<'a> Model for Near<'a> {
+    ghost use Rattle.std.specs.Prelude.{map};
+    ghost use Rattle.clr_rules.specs.Near.{Near};
+    ghost use Rattle.clr_rules.specs.Register.{unplaced};
+
+    ghost Value = { Near };
+
+    ghost view = { λ n. record {
+      known = record { greatest = n.greatest; fence = map (λ row. row.now.name) n.fence.items };
+      rows = record {
+        net = record { sections = map (λ row. row.now) n.sections.items; points = map (λ row. unplaced row.now) n.points.items };
+        staff = n.staff.now;
+        states = map (λ row. row.now) n.states.items;
+        records = map (λ row. row.now) n.records.items;
+        steps = map (λ row. row.now) n.steps.items;
+        holds = map (λ row. row.now) n.holds.items;
+      };
+    } };
+}
