@@ -1,7 +1,7 @@
 -- The edits of commands about others spare a clearance.
 use Rattle.std.proofs.Common.{◌≡◌, ℕ, ◌+◌, Bool, true, false, not, List, [], ◌∷◌, ◌++◌, map, Option, Some, None, refl, sym, ◌∙◌, ap}
 use Rattle.std.specs.Prelude.{if◌then◌else◌}
-use Rattle.std.proofs.lemmas.Bool.{and_from, false_from_ne_true, not-true, not_from_false, or_left, true≢false}
+use Rattle.std.proofs.lemmas.Bool.{and_from, false_from_ne_true, not-true, not_from_false, true≢false}
 use Rattle.std.proofs.lemmas.List.Folds.{list_all-append}
 use Rattle.clr_net.specs.declared.point.Position.TheVariants.{Closed as Shut}
 use Rattle.clr_order.specs.Step.{Task}
@@ -13,18 +13,21 @@ use Rattle.clr_rules.proofs.FoundSteps.{present_step, step_is_active, step_is_cl
 use Rattle.clr_rules.proofs.NewNumbers.{new_is_another}
 use Rattle.clr_rules.proofs.Passing.{all_pass, not_refused_true}
 use Rattle.clr_rules.proofs.RoundSteps.{one_id, record_id}
+use Rattle.clr_rules.proofs.Sparing.{has_hold-same, sparing_edits_keep_outlook, sparing_edits_leave_alone}
 use Rattle.clr_rules.specs.Answer.{Answer, Known, answer, checks, first_refusal, known_of, numbered_for, settled}
 use Rattle.clr_rules.specs.Changes.{done_edits, edits_by, edits_of, hold_edits, new_steps, position_edits, put_steps, undone_edits, with_record, with_step}
 use Rattle.clr_rules.specs.Checks.{other_hand, refuse, where_some}
 use Rattle.clr_rules.specs.Command.{named_clearance}
-use Rattle.clr_rules.specs.Footprint.{all_spare, spares}
+use Rattle.clr_rules.specs.Footprint.{Frame, all_spare, both_or_neither, spares}
 use Rattle.clr_rules.specs.FrameLaws.{is_report}
-use Rattle.clr_rules.specs.Good.{HandMatchesStep}
-use Rattle.clr_rules.specs.Holds.{hold_of, places_of}
+use Rattle.clr_rules.specs.Good.{HandMatchesStep, IsGood, ListsAreInOrder}
+use Rattle.clr_rules.specs.GoodByPhase.{outlook_of}
+use Rattle.clr_rules.specs.Holds.{has_hold, hold_of, places_of}
 use Rattle.clr_rules.specs.Id.{Id, same_id, same_id_equiv}
-use Rattle.clr_rules.specs.Isolation.{is_about_another, is_others}
+use Rattle.clr_rules.specs.Isolation.{HeldStayOpen, is_about_another, is_others}
 use Rattle.clr_rules.specs.Records.{greatest_number, is_switch_order, record_of}
 use Rattle.clr_rules.specs.Register.{Register}
+use Rattle.clr_rules.specs.Run.{after}
 use Rattle.clr_rules.specs.States.{hand_of, has_in_hand, is_hand}
 use Rattle.clr_rules.specs.Steps.{is_active, is_close, is_repeated, present, step_at}
 use Rattle.clr_rules.specs.declared.change.Edit.{Edit}
@@ -57,9 +60,9 @@ check_of_found found row check is passed = rw is at passed
 -- ---- lists of edits
 
 module _ (c : Id) (R : Register) where
-  -- a hand that is cleared or set spares c where the point is not in its hand
-  spares_hand : (p : List ℕ) (hand : Option Id) → has_in_hand R.states c p ≡ false → spares c R (SetHand p hand) ≡ true
-  spares_hand p hand free = or_left _ _ (not_from_false _ free)
+  -- a hand that is cleared or set to another spares c where the point is not in its hand
+  spares_hand : (p : List ℕ) (hand : Option Id) → has_in_hand R.states c p ≡ false → is_hand c hand ≡ false → spares c R (SetHand p hand) ≡ true
+  spares_hand p hand free others = ap (λ had. both_or_neither had (is_hand c hand)) free ∙ not_from_false _ others
 
   steps_spare : (d : Id) (round n : ℕ) (tasks : List Task) → not (same_id c d) ≡ true → all_spare c R (put_steps (new_steps d round n tasks)) ≡ true
   unfolding new_steps
@@ -137,9 +140,9 @@ module _ (c : Id) (R : Register) (d : Id) (row : StepRow) (n : ℕ) (matches : H
   report_spares : (at : ℕ) (done : Bool) (r : Record) → not (same_id c r.id) ≡ true → not (same_id c row.id) ≡ true
       → all_spare c R (if done then done_edits R at r row else undone_edits at r row) ≡ true
   report_spares at true r own step =
-      done_spares c R row.step.action (is_switch_order r) row.step.point r _ _ (spares_hand c R row.step.point None reported_hand) reported_close own own step
+      done_spares c R row.step.action (is_switch_order r) row.step.point r _ _ (spares_hand c R row.step.point None reported_hand refl) reported_close own own step
   report_spares at false r own step =
-      and_from _ _ (spares_hand c R row.step.point None reported_hand) (and_from _ _ own (and_from _ _ step refl))
+      and_from _ _ (spares_hand c R row.step.point None reported_hand refl) (and_from _ _ own (and_from _ _ step refl))
 
 -- ---- each kind of command
 
@@ -155,7 +158,7 @@ module _ (c : Id) (R : Register) (k : Known) (by : List ℕ) (at : ℕ) where
       let free : other_hand d (hand_of R.states row.step.point) ≡ None =
       check_of_found (step_at (present R.steps d) n) row (λ row. other_hand d (hand_of R.states row.step.point)) found
       (all_pass (checks k R by at (kinds.Instruct d n)) passed).1.1.1.1.1.1.1.1.0 in
-      and_from _ _ (spares_hand c R row.step.point (Some d) (no_other_hand c d (hand_of R.states row.step.point) (not-true (same_id c d) others) free))
+      and_from _ _ (spares_hand c R row.step.point (Some d) (no_other_hand c d (hand_of R.states row.step.point) (not-true (same_id c d) others) free) (not-true (same_id c d) others))
       (and_from _ _ own (and_from _ _ step refl)))
   edits_spare (kinds.Repeat d n text) matches greatest others passed =
       by_step c R d n _ others (λ r row found own step. and_from _ _ own (and_from _ _ step refl))
@@ -195,3 +198,21 @@ pub others_edits_spare : (R : Register) (c : Id) (q : Command) → (is_report q.
     → all_spare c R (Answer.edits (answer R q)) ≡ true
 others_edits_spare R c q matches others =
     settled_spares c R q (first_refusal (checks (known_of R q) R q.caller q.moment q.kind)) refl matches others
+
+-- ---- what is left alone
+
+pub others_keep_outlook : (R : Register) (c : Id) (q : Command) → ListsAreInOrder R → HandMatchesStep R → is_others c R q ≡ true
+    → outlook_of (after R q) c ≡ outlook_of R c
+others_keep_outlook R c q ordered matches others =
+    sparing_edits_keep_outlook c R (Answer.edits (answer R q)) ordered (others_edits_spare R c q (λ _. matches) others)
+
+pub others_spare : (R : Register) (c : Id) (q : Command) → IsGood R → is_others c R q ≡ true → Frame c R (after R q)
+others_spare R c q good others =
+    sparing_edits_leave_alone c R (Answer.edits (answer R q)) good.in_order (others_edits_spare R c q (λ _. good.hand_matches_step) others)
+
+pub others_keep_held_open : (R : Register) (c : Id) (q : Command) → IsGood R → is_others c R q ≡ true → HeldStayOpen c (after R q)
+others_keep_held_open R c q good others p held =
+    let frame = others_spare R c q good others in
+    let held_before : has_hold R.holds c HeldOpen p ≡ true =
+    sym (has_hold-same R.holds (Register.holds (after R q)) c HeldOpen p frame.same_holds) ∙ held in
+    frame.closes_nothing p held_before (good.held_points_are_open.open_there c HeldOpen p refl held_before)

@@ -1,5 +1,5 @@
 -- What leaves a clearance alone.
-use Rattle.std.specs.Prelude.{◌≡◌, ℕ, Bool, true, false, not, ◌&&◌, ◌||◌, List, Some}
+use Rattle.std.specs.Prelude.{◌≡◌, ℕ, Bool, true, false, not, ◌&&◌, List, Some}
 use Rattle.std.specs.List.{list_all}
 use Rattle.clr_net.specs.declared.point.Position.{Position}
 use Rattle.clr_net.specs.declared.point.Position.TheVariants.{Opened, Closed as Shut}
@@ -28,11 +28,15 @@ abbrev pub is_shut : Position → Bool
 is_shut Shut = true
 is_shut Opened = false
 
--- WHETHER AN EDIT SPARES A CLEARANCE in a register: it is of another's record, step or hold, takes no point out of the clearance's hand, and
--- closes no point that it holds open
+abbrev pub both_or_neither : Bool → Bool → Bool
+both_or_neither true b = b
+both_or_neither false b = not b
+
+-- WHETHER AN EDIT SPARES A CLEARANCE in a register: it is of another's record, step or hold, takes no point out of the clearance's hand and puts
+-- none into it, and closes no point that it holds open
 abbrev pub spares : Id → Register → Edit → Bool
 spares c R (SetPosition p position) = not (is_shut position && has_hold R.holds c HeldOpen p)
-spares c R (SetHand p hand) = not (has_in_hand R.states c p) || is_hand c hand
+spares c R (SetHand p hand) = both_or_neither (has_in_hand R.states c p) (is_hand c hand)
 spares c R (PutHold h) = not (same_id c h.id)
 spares c R (TakeHold h) = not (same_id c h.id)
 spares c R (PutRecord r) = not (same_id c r.id)

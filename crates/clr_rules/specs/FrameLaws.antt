@@ -1,11 +1,15 @@
--- What commands about others leave alone, edit by edit, as laws.
-use Rattle.std.specs.Prelude.{◌≡◌, Bool, true, false}
+-- What sparing edits and commands about others leave alone, as laws.
+use Rattle.std.specs.Prelude.{◌≡◌, Bool, true, false, List}
 use Rattle.clr_rules.specs.Answer.{Answer, answer}
+use Rattle.clr_rules.specs.Edits.{edited_all}
 use Rattle.clr_rules.specs.Footprint.{all_spare}
-use Rattle.clr_rules.specs.Good.{HandMatchesStep}
+use Rattle.clr_rules.specs.Good.{HandMatchesStep, IsGood, ListsAreInOrder}
+use Rattle.clr_rules.specs.GoodByPhase.{outlook_of}
 use Rattle.clr_rules.specs.Id.{Id}
-use Rattle.clr_rules.specs.Isolation.{is_others}
+use Rattle.clr_rules.specs.Isolation.{HeldStayOpen, is_others}
 use Rattle.clr_rules.specs.Register.{Register}
+use Rattle.clr_rules.specs.Run.{after}
+use Rattle.clr_rules.specs.declared.change.Edit.{Edit}
 use Rattle.clr_rules.specs.declared.command.Command.{Command}
 use Rattle.clr_rules.specs.declared.command.Kind.{Kind}
 use Rattle.clr_rules.specs.declared.command.Kind.TheVariants.{Report}
@@ -23,3 +27,17 @@ OthersEditsSpare = (R : Register) (c : Id) (q : Command) → HandMatchesStep R �
 abbrev pub OthersEditsSpareAnywhere : Type 0
 OthersEditsSpareAnywhere = (R : Register) (c : Id) (q : Command) → is_report q.kind ≡ false → is_others c R q ≡ true
     → all_spare c R (Answer.edits (answer R q)) ≡ true
+
+-- WHAT THE REGISTER HAS OF A CLEARANCE, its record, its steps, its holds and what it has in hand, stays after edits that spare it,
+abbrev pub SparingEditsKeepOutlook : Type 0
+SparingEditsKeepOutlook = (c : Id) (R : Register) (edits : List Edit) → ListsAreInOrder R → all_spare c R edits ≡ true
+    → outlook_of (edited_all edits R) c ≡ outlook_of R c
+
+-- so after a command about another,
+abbrev pub OthersKeepOutlook : Type 0
+OthersKeepOutlook = (R : Register) (c : Id) (q : Command) → ListsAreInOrder R → HandMatchesStep R → is_others c R q ≡ true
+    → outlook_of (after R q) c ≡ outlook_of R c
+
+-- and the points that it holds are open then
+abbrev pub OthersKeepHeldOpen : Type 0
+OthersKeepHeldOpen = (R : Register) (c : Id) (q : Command) → IsGood R → is_others c R q ≡ true → HeldStayOpen c (after R q)

@@ -1,12 +1,13 @@
 //! Laws of footprints: what edits leave alone.
 ghost use Rattle.clr_rules.specs.Footprint.{SparingEditsLeaveAlone};
-ghost use Rattle.clr_rules.specs.FrameLaws.{OthersEditsSpare, OthersEditsSpareAnywhere};
+ghost use Rattle.clr_rules.specs.FrameLaws.{OthersEditsSpare, OthersEditsSpareAnywhere, OthersKeepHeldOpen, OthersKeepOutlook, SparingEditsKeepOutlook};
 ghost use Rattle.clr_rules.specs.Isolation.{OthersSpare};
 
 /// Edits that spare a clearance in the register before them leave its record, its steps and its holds as they are, clear
-/// no hand of it, and close no point that it holds open.
+/// no hand of it, and close no point that it holds open; all that the register has of it is the same.
 pub fn sparing_edits_leave_alone()
-    ensures { SparingEditsLeaveAlone }
+    ensures frame { SparingEditsLeaveAlone }
+    ensures outlook { SparingEditsKeepOutlook }
 {}
 
 /// The edits of a command about another clearance spare a clearance: those of a report where the hands match the steps,
@@ -19,5 +20,12 @@ pub fn edits_of_others_spare()
 /// In a good register a command about another clearance leaves a clearance's record, steps and holds as they are, clears
 /// no hand of it, and closes no point that it holds open.
 pub fn commands_of_others_leave_alone()
-    ensures { OthersSpare }
+    ensures frame { OthersSpare }
+    ensures open { OthersKeepHeldOpen }
+{}
+
+/// Where the hands match the steps, all that the register has of a clearance is the same after a command about another:
+/// its record, its steps, its holds, and what it has in hand.
+pub fn commands_of_others_keep_outlook()
+    ensures { OthersKeepOutlook }
 {}

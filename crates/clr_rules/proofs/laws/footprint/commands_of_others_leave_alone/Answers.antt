@@ -1,8 +1,8 @@
-use Rattle.clr_rules.proofs.OthersEdits.{others_edits_spare}
-use Rattle.clr_rules.proofs.Sparing.{sparing_edits_leave_alone}
+use Rattle.clr_rules.proofs.OthersEdits.{others_keep_held_open, others_spare}
 use Rattle.clr_rules.proofs.laws.footprint.commands_of_others_leave_alone.Goals as goal
-use Rattle.clr_rules.specs.Answer.{Answer, answer}
 
-pub returns : goal.returns
-returns c = λ R id q good others.
-    sparing_edits_leave_alone id R (Answer.edits (answer R q)) good.in_order (others_edits_spare R id q (λ _. good.hand_matches_step) others)
+pub returns-clause-frame : goal.returns-clause-frame
+returns-clause-frame c = others_spare
+
+pub returns-clause-open : goal.returns-clause-open
+returns-clause-open c = others_keep_held_open
