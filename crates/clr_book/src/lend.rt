@@ -1,5 +1,5 @@
 //! Lending a command what it looks at.
-ghost use Rattle.std.specs.Prelude.{◌≡◌, ◌==◌, IfOk, map, filter};
+ghost use Rattle.std.specs.Prelude.{◌≡◌, ◌≤◌, ◌==◌, IfOk, map, filter};
 ghost use Rattle.std.specs.List.{fold};
 ghost use Rattle.clr_net.specs.Name.{same_name};
 ghost use Rattle.clr_rules.specs.Answer.{fence_for, known_of, numbered_for};
@@ -40,7 +40,8 @@ impl<P: Shelf<PointState>, C: Shelf<Record>, T: Shelf<StepRow>, H: Shelf<Hold>> 
     // The greatest number of the clearances of the requester whose clearance is named, or of the caller; 0 where there is none.
     #[tactic(auto, unfolding(clr_rules::specs::Records::greatest_number))]
     fn greatest_for(&self, command: &Command) -> Result<u16, AllocError>
-        ensures { IfOk result (λ greatest. greatest ≡ greatest_number self.now.register.records (numbered_for command.now.caller (named_clearance command.now.kind))) }
+        ensures value { IfOk result (λ greatest. greatest ≡ greatest_number self.now.register.records (numbered_for command.now.caller (named_clearance command.now.kind))) }
+        ensures range { IfOk result (λ greatest. greatest ≤ 9999) }
     {
         let requester = numbered_for(command.caller, command.kind.clearance());
         let records = self.records.group(self.alloc, &requester)?;
@@ -112,7 +113,8 @@ fn numbered_for(caller: Name, named: Option<ClearanceId>) -> Name
 
 // The greatest number of these records, 0 where there is none.
 fn greatest_of(records: &[&Record]) -> u16
-    ensures { result ≡ fold greater 0 (map (λ row. row.id.number) (map (λ row. row.now) records.now)) }
+    ensures value { result ≡ fold greater 0 (map (λ row. row.id.number) (map (λ row. row.now) records.now)) }
+    ensures range { result ≤ 9999 }
 {
     let mut greatest = 0;
     for record in records {

@@ -5,7 +5,9 @@ use clr_rules::{Hold, PointState, Record, StepRow};
 use std::alloc::Global;
 use std::marker::Model;
 
-/// What is lent to a decision: rows, each list in the order of its keys.
+/// What is lent to a decision: rows, each list in the order of its keys, and the greatest number of the requester.
+///
+/// Numbers go up to 9,999, so that there is one more for a new clearance wherever the caller has not used them all.
 #[derive(Drop)]
 pub struct Near<'a> {
     pub(crate) alloc: Global,
@@ -23,7 +25,7 @@ pub struct Near<'a> {
 }
 
 impl<'a> Model for Near<'a> {
-    ghost use Rattle.std.specs.Prelude.{map};
+    ghost use Rattle.std.specs.Prelude.{◌≤◌, map};
     ghost use Rattle.clr_rules.specs.Near.{Near};
     ghost use Rattle.clr_rules.specs.Register.{unplaced};
 
@@ -40,4 +42,6 @@ impl<'a> Model for Near<'a> {
         holds = map (λ row. row.now) n.holds.items;
       };
     } };
+
+    ghost invariant = { λ n. n.greatest ≤ 9999 };
 }

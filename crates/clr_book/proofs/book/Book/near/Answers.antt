@@ -11,7 +11,7 @@ pub returns : goal.returns
 returns g c =
     let R = c.args.self.now.register in
     lent_whole _ (known_of R c.args.command.now) R
-    c.in_ok-greatest_for.ensures
+    c.in_ok-greatest_for.ensures.value
     c.in_ok-fence_for.ensures
     (c.in_ok-references.ensures ∙ c.sections.ensures.rows ∙ ap (λ (v : Shelved). v.register.net.sections) c.self.view_is)
     (unplaced_shown (λ (row : Bor PointRow). row.now) c.in_ok-references-2.field-0.items ∙ ap (map unplaced) (c.in_ok-references-2.ensures ∙ c.points.ensures.rows)
