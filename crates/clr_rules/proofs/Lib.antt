@@ -36,3 +36,4 @@ pub mod NearTests
 pub mod NearParts
 pub mod NearOrder
 pub mod OthersSteps
+pub mod Locality

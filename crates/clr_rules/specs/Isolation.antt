@@ -1,4 +1,5 @@
--- THE STATEMENTS OF ISOLATION. Those that a law in src/laws names are proved: the frame (footprint), the steps of others (steps). The others are for review.
+-- THE STATEMENTS OF ISOLATION. Proved so far: Locality, OthersSpare, OthersStep and LoneStep, each by a law in src/laws. The others stand here for review,
+-- and no contract names them.
 use Rattle.std.specs.Prelude.{◌≡◌, ℕ, Bool, true, false, not, ◌||◌, IsTrue, List, [], ◌∷◌, map, filter, Some, Option, None}
 use Rattle.std.specs.List.{list_all}
 use Rattle.clr_net.specs.Fence.{FenceRows, fence_of, in_fence}

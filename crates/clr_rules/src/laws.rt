@@ -5,6 +5,7 @@ pub mod footprint;
 pub mod good;
 pub mod keeps;
 pub mod live;
+pub mod locality;
 pub mod marks;
 pub mod near;
 pub mod opening;
