@@ -18,6 +18,8 @@ pub mod StepsInTurn
 pub mod Opening
 pub mod DeadWork
 pub mod Keeping
+pub mod NewRecords
+pub mod NewClearances
 pub mod PutRecords
 pub mod PlaceFacts
 pub mod Kept

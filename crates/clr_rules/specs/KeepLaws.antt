@@ -6,7 +6,7 @@ use Rattle.clr_rules.specs.Register.{Register}
 use Rattle.clr_rules.specs.Run.{after}
 use Rattle.clr_rules.specs.declared.command.Command.{Command}
 use Rattle.clr_rules.specs.declared.command.Kind.{Kind}
-use Rattle.clr_rules.specs.declared.command.Kind.TheVariants.{Grant, Show, Transfer}
+use Rattle.clr_rules.specs.declared.command.Kind.TheVariants.{Grant, Request, Show, Transfer}
 
 abbrev pub asked : List ℕ → ℕ → Kind → Command
 asked by at kind = record { caller = by; moment = at; kind = kind }
@@ -23,3 +23,6 @@ GrantsKeepGood = (c : Id) → KeepsGood (Grant c)
 
 abbrev pub TransfersKeepGood : Type 0
 TransfersKeepGood = (c : Id) (to : List ℕ) (emergency : Bool) → KeepsGood (Transfer c to emergency)
+
+abbrev pub RequestsKeepGood : Type 0
+RequestsKeepGood = (section : List ℕ) → KeepsGood (Request section)

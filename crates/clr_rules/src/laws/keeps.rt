@@ -1,4 +1,4 @@
-ghost use Rattle.clr_rules.specs.KeepLaws.{GrantsKeepGood, ShowsKeepGood, TransfersKeepGood};
+ghost use Rattle.clr_rules.specs.KeepLaws.{GrantsKeepGood, RequestsKeepGood, ShowsKeepGood, TransfersKeepGood};
 
 /// A command that shows a clearance keeps a good register good.
 pub fn shows_keep_good()
@@ -13,4 +13,9 @@ pub fn grants_keep_good()
 /// A transfer keeps a good register good.
 pub fn transfers_keep_good()
     ensures { TransfersKeepGood }
+{}
+
+/// A request keeps a good register good.
+pub fn requests_keep_good()
+    ensures { RequestsKeepGood }
 {}
