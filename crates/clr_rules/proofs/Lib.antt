@@ -18,6 +18,11 @@ pub mod StepsInTurn
 pub mod Opening
 pub mod DeadWork
 pub mod Keeping
+pub mod StepSplits
+pub mod PutSteps
+pub mod KeptSteps
+pub mod PresentSteps
+pub mod StepMoves
 pub mod NewRecords
 pub mod NewClearances
 pub mod PutRecords

@@ -75,13 +75,13 @@ none_now phase steps none = All-from_each (λ (row : StepRow). is_active row.ste
     (λ row there active. absurd (both_ways (some_active steps) none (any_from (λ (row : StepRow). is_active row.step.state) steps row there active)))
 
 -- the present round, where there is no second, and where there is one
-first_present : (g : Grid) (work : List ℕ) (v : Outlook) → Isolates g work v → of_round v.steps 2 ≡ [] → present_of v.steps ≡ 1
+pub first_present : (g : Grid) (work : List ℕ) (v : Outlook) → Isolates g work v → of_round v.steps 2 ≡ [] → present_of v.steps ≡ 1
 first_present g work v isolates one = rw (one, some_isolating g work (of_round v.steps 1) isolates) refl
 
-second_present : (steps : List StepRow) → is_some_step (of_round steps 2) ≡ true → present_of steps ≡ 2
+pub second_present : (steps : List StepRow) → is_some_step (of_round steps 2) ≡ true → present_of steps ≡ 2
 second_present steps some = rw some refl
 
-no_second : {A : Type 0} (steps : List StepRow) → of_round steps 2 ≡ [] → is_some_step (of_round steps 2) ≡ true → A
+pub no_second : {A : Type 0} (steps : List StepRow) → of_round steps 2 ≡ [] → is_some_step (of_round steps 2) ≡ true → A
 no_second steps none some = absurd (false≢true (sym (ap is_some_step none) ∙ some))
 
 none_of_round : (round : ℕ) → of_round [] round ≡ []

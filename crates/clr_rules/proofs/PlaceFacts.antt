@@ -53,7 +53,7 @@ phase_beside g Restoring None v o hand h = absurd h
 phase_beside g Switching (Some work) v o hand h = absurd h
 
 -- a step that is Done is not given out
-done_rests : (state : StepState) → is_done state ≡ true → is_active state ≡ false
+pub done_rests : (state : StepState) → is_done state ≡ true → is_active state ≡ false
 done_rests Done h = refl
 done_rests Waiting h = refl
 done_rests Instructed h = cc

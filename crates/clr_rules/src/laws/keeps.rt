@@ -1,4 +1,4 @@
-ghost use Rattle.clr_rules.specs.KeepLaws.{GrantsKeepGood, RequestsKeepGood, ShowsKeepGood, TransfersKeepGood};
+ghost use Rattle.clr_rules.specs.KeepLaws.{GrantsKeepGood, RepeatsKeepGood, RequestsKeepGood, ShowsKeepGood, TransfersKeepGood};
 
 /// A command that shows a clearance keeps a good register good.
 pub fn shows_keep_good()
@@ -18,4 +18,9 @@ pub fn transfers_keep_good()
 /// A request keeps a good register good.
 pub fn requests_keep_good()
     ensures { RequestsKeepGood }
+{}
+
+/// The repeat of a step's text keeps a good register good.
+pub fn repeats_keep_good()
+    ensures { RepeatsKeepGood }
 {}
