@@ -19,6 +19,7 @@ pub mod Opening
 pub mod DeadWork
 pub mod Keeping
 pub mod StepSplits
+pub mod HandedSteps
 pub mod PutSteps
 pub mod KeptSteps
 pub mod PresentSteps

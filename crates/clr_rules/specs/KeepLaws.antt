@@ -6,7 +6,7 @@ use Rattle.clr_rules.specs.Register.{Register}
 use Rattle.clr_rules.specs.Run.{after}
 use Rattle.clr_rules.specs.declared.command.Command.{Command}
 use Rattle.clr_rules.specs.declared.command.Kind.{Kind}
-use Rattle.clr_rules.specs.declared.command.Kind.TheVariants.{Grant, Repeat, Request, Show, Transfer}
+use Rattle.clr_rules.specs.declared.command.Kind.TheVariants.{Grant, Instruct, Repeat, Request, Show, Transfer}
 
 abbrev pub asked : List ℕ → ℕ → Kind → Command
 asked by at kind = record { caller = by; moment = at; kind = kind }
@@ -29,3 +29,6 @@ RequestsKeepGood = (section : List ℕ) → KeepsGood (Request section)
 
 abbrev pub RepeatsKeepGood : Type 0
 RepeatsKeepGood = (c : Id) (n : ℕ) (text : List ℕ) → KeepsGood (Repeat c n text)
+
+abbrev pub InstructsKeepGood : Type 0
+InstructsKeepGood = (c : Id) (n : ℕ) → KeepsGood (Instruct c n)

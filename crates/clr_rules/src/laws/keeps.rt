@@ -1,4 +1,4 @@
-ghost use Rattle.clr_rules.specs.KeepLaws.{GrantsKeepGood, RepeatsKeepGood, RequestsKeepGood, ShowsKeepGood, TransfersKeepGood};
+ghost use Rattle.clr_rules.specs.KeepLaws.{GrantsKeepGood, InstructsKeepGood, RepeatsKeepGood, RequestsKeepGood, ShowsKeepGood, TransfersKeepGood};
 
 /// A command that shows a clearance keeps a good register good.
 pub fn shows_keep_good()
@@ -23,4 +23,9 @@ pub fn requests_keep_good()
 /// The repeat of a step's text keeps a good register good.
 pub fn repeats_keep_good()
     ensures { RepeatsKeepGood }
+{}
+
+/// That a step is given out keeps a good register good.
+pub fn instructs_keep_good()
+    ensures { InstructsKeepGood }
 {}
