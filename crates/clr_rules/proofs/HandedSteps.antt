@@ -1,19 +1,17 @@
 -- A step moves on with its point's hand, without an action: it is given out, or reported not done.
-use Rattle.std.proofs.Common.{◌≡◌, ℕ, Bool, true, false, cond, not, ◌&&◌, List, [], ◌∷◌, ◌++◌, filter, Option, Some, None, is_some, Contains, refl, sym, ◌∙◌, ap, subst, arith}
-use Rattle.std.specs.List.{fold, list_any}
-use Rattle.std.proofs.lemmas.Bool.{and_parts, both_ways, false≢true, false_from_ne_true, not-false, true_from_ne_false}
+use Rattle.std.proofs.Common.{◌≡◌, ℕ, Bool, true, false, cond, ◌&&◌, List, [], ◌∷◌, ◌++◌, filter, Option, Some, None, Contains, refl, sym, ◌∙◌, ap, subst, arith}
+use Rattle.std.specs.List.{fold}
+use Rattle.std.proofs.lemmas.Bool.{and_parts, false≢true, true_from_ne_false}
 use Rattle.std.proofs.lemmas.Cmp.{nat_list_eq_equiv}
 use Rattle.clr_net.specs.Name.{same_name}
-use Rattle.clr_net.specs.declared.point.Position.TheVariants.{Opened}
 use Rattle.clr_net.proofs.Walks.{one_name, same_itself}
 use Rattle.clr_order.specs.Step.{task}
-use Rattle.clr_order.specs.declared.step.StepState.{StepState}
-use Rattle.clr_order.specs.declared.step.StepState.TheVariants.{Waiting, Instructed, Repeated, Done}
+use Rattle.clr_order.specs.declared.step.StepState.TheVariants.{Instructed}
 use Rattle.clr_rules.specs.Changes.{moved as moved_step}
-use Rattle.clr_rules.specs.Checks.{held, held_by, in_hand, other_hand, out_of_turn, refuse}
+use Rattle.clr_rules.specs.Checks.{held_by, other_hand}
 use Rattle.clr_rules.specs.Edits.{edited_all}
 use Rattle.clr_rules.specs.Good.{is_closing_at}
-use Rattle.clr_rules.specs.GoodByPhase.{IsGoodByPhase, IsInPlace, active_at, outlook_of, present_of}
+use Rattle.clr_rules.specs.GoodByPhase.{IsGoodByPhase, active_at, outlook_of, present_of}
 use Rattle.clr_rules.specs.HoldKind.{is_point_kind}
 use Rattle.clr_rules.specs.Holds.{earlier_hold, first_hold, has_hold, hindering_hold, hinders, hold_of, same_kind}
 use Rattle.clr_rules.specs.Id.{Id, same_id}
@@ -21,7 +19,7 @@ use Rattle.clr_rules.specs.KeepLaws.{InstructsKeepGood}
 use Rattle.clr_rules.specs.Records.{is_running, record_of}
 use Rattle.clr_rules.specs.Register.{Register}
 use Rattle.clr_rules.specs.StateFacts.{handed, position_of-handed}
-use Rattle.clr_rules.specs.States.{has_in_hand, hand_of, is_hand, position_of}
+use Rattle.clr_rules.specs.States.{has_in_hand, hand_of, is_hand}
 use Rattle.clr_rules.specs.StepKey.{step_key}
 use Rattle.clr_rules.specs.Steps.{is_active, is_close, is_done, is_in_turn, is_waiting, present, step_at, steps_of}
 use Rattle.clr_rules.specs.declared.change.Edit.{Edit}
@@ -29,9 +27,8 @@ use Rattle.clr_rules.specs.declared.change.Edit.TheVariants.{PutRecord, PutStep,
 use Rattle.clr_rules.specs.declared.command.Kind.TheVariants.{Instruct}
 use Rattle.clr_rules.specs.declared.hold.Hold.{Hold}
 use Rattle.clr_rules.specs.declared.hold_kind.HoldKind.{HoldKind}
-use Rattle.clr_rules.specs.declared.hold_kind.HoldKind.TheVariants.{HeldOpen, Block, Control, Tag}
+use Rattle.clr_rules.specs.declared.hold_kind.HoldKind.TheVariants.{HeldOpen, Block}
 use Rattle.clr_rules.specs.declared.record.Record.{Record}
-use Rattle.clr_rules.specs.declared.refusal.Refusal.{Refusal}
 use Rattle.clr_rules.specs.declared.refusal.Refusal.TheVariants.{OutOfTurn}
 use Rattle.clr_rules.specs.declared.step_row.StepRow.{StepRow}
 use Rattle.clr_rules.proofs.HoldMembers.{hold_there}
@@ -40,9 +37,9 @@ use Rattle.clr_rules.proofs.KeptRecords.{in_phase_of}
 use Rattle.clr_rules.proofs.KeptSteps.{state_fits, turns_split}
 use Rattle.clr_rules.proofs.NamedRows.{Contains-filter}
 use Rattle.clr_rules.proofs.Passing.{check_of_found, not_refused_true, phase_fits, record_there}
-use Rattle.clr_rules.proofs.PresentSteps.{FoundStep, IsPresent, active_midst, active_moves, found_step_edits, step_there, waiting_midst, waiting_not_done}
+use Rattle.clr_rules.proofs.PresentSteps.{IsPresent, found_step_edits, step_there, waiting_midst, waiting_not_done}
 use Rattle.clr_rules.proofs.PutRecords.{moved, same_closing}
-use Rattle.clr_rules.proofs.PutSteps.{StepPut, closes_at, closing_by, hand_read, known_put, one_hand, other_hands, others_put, phase_by, place_by, put_step, state_known, step_put}
+use Rattle.clr_rules.proofs.PutSteps.{StepPut, closes_at, closing_by, hand_read, known_put, other_hands, others_put, phase_by, place_by, put_step, state_known, step_put}
 use Rattle.clr_rules.proofs.RoundSteps.{one_id, own_id, record_id}
 use Rattle.clr_rules.proofs.StepMoves.{InMidst, active-only, active_is, phase_again, turns_again}
 

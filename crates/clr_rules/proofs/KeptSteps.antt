@@ -1,20 +1,17 @@
 -- Commands that move a step on without an action: it is repeated, given out, or not done.
-use Rattle.std.proofs.Common.{◌≡◌, ℕ, Bool, true, false, cond, not, ◌&&◌, nat_eq, List, [], ◌∷◌, ◌++◌, Option, Some, None, is_some, All, Contains, refl, sym, ◌∙◌, ap, subst}
-use Rattle.std.specs.List.{list_any}
-use Rattle.std.proofs.lemmas.Bool.{and_parts, both_ways, false≢true}
+use Rattle.std.proofs.Common.{◌≡◌, ℕ, Bool, true, not, ◌&&◌, List, [], ◌∷◌, ◌++◌, Some, None, refl, sym, ◌∙◌, ap, subst}
 use Rattle.clr_net.specs.Name.{same_name}
-use Rattle.clr_order.specs.Step.{task}
 use Rattle.clr_order.specs.declared.step.StepState.{StepState}
-use Rattle.clr_order.specs.declared.step.StepState.TheVariants.{Waiting, Instructed, Repeated, Done}
+use Rattle.clr_order.specs.declared.step.StepState.TheVariants.{Repeated}
 use Rattle.clr_rules.specs.Changes.{moved as moved_step}
-use Rattle.clr_rules.specs.Checks.{at_step, refuse, wrong_state}
+use Rattle.clr_rules.specs.Checks.{refuse, wrong_state}
 use Rattle.clr_rules.specs.Edits.{edited_all}
-use Rattle.clr_rules.specs.GoodByPhase.{IsGoodByPhase, IsInPlace, active_at, outlook_of, present_of}
+use Rattle.clr_rules.specs.GoodByPhase.{IsGoodByPhase, IsInPlace, outlook_of, present_of}
 use Rattle.clr_rules.specs.Id.{Id}
 use Rattle.clr_rules.specs.KeepLaws.{RepeatsKeepGood}
 use Rattle.clr_rules.specs.Records.{is_running, record_of}
 use Rattle.clr_rules.specs.Register.{Register}
-use Rattle.clr_rules.specs.Steps.{is_active, is_done, is_waiting, present, step_at, steps_of}
+use Rattle.clr_rules.specs.Steps.{is_active, present, step_at, steps_of}
 use Rattle.clr_rules.specs.declared.change.Edit.{Edit}
 use Rattle.clr_rules.specs.declared.change.Edit.TheVariants.{PutRecord, PutStep}
 use Rattle.clr_rules.specs.declared.command.Kind.TheVariants.{Repeat}

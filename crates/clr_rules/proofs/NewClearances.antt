@@ -1,5 +1,5 @@
 -- Commands that make a new clearance: a request.
-use Rattle.std.proofs.Common.{◌≡◌, ℕ, ◌+◌, Bool, true, false, not, List, [], ◌∷◌, Option, Some, None, refl, sym, ◌∙◌, ap, subst}
+use Rattle.std.proofs.Common.{◌≡◌, ℕ, Bool, true, false, not, List, [], ◌∷◌, Option, Some, None, refl, sym, ◌∙◌, ap, subst}
 use Rattle.std.specs.Option.{is_some}
 use Rattle.std.proofs.lemmas.Bool.{false≢true}
 use Rattle.clr_csv.specs.declared.employee.Role.{Role}
@@ -8,7 +8,7 @@ use Rattle.clr_csv.specs.declared.employee.StaffRow.{StaffRow}
 use Rattle.clr_net.specs.Grid.{Grid, section_names}
 use Rattle.clr_net.specs.Names.{has_name}
 use Rattle.clr_rules.specs.Changes.{new_record}
-use Rattle.clr_rules.specs.Checks.{employee, has_role, is_charge, is_operator, refuse, unknown_caller, where_some, wrong_role}
+use Rattle.clr_rules.specs.Checks.{employee, has_role, is_charge, is_operator, refuse, unknown_caller, wrong_role}
 use Rattle.clr_rules.specs.Edits.{edited_all}
 use Rattle.clr_rules.specs.GoodByPhase.{InPlaceAs, IsBare, IsGoodByPhase, outlook_of}
 use Rattle.clr_rules.specs.Good.{is_operators}
@@ -33,8 +33,12 @@ caller_role R by fits known right = at (employee R.staff by) refl (not_refused_t
   where
     at : (o : Option StaffRow) → employee R.staff by ≡ o → is_some o ≡ true → (row : StaffRow) × (employee R.staff by ≡ Some row) × (fits row.role ≡ true)
     at None none there = absurd (false≢true there)
-    at (Some row) found there = (row, found, not_refused_true (fits row.role) WrongRole
-        (check_of_found (employee R.staff by) row (λ (row : StaffRow). refuse (not (fits row.role)) WrongRole) found right))
+    at (Some row) found there = (
+      row,
+      found,
+      not_refused_true (fits row.role) WrongRole
+          (check_of_found (employee R.staff by) row (λ (row : StaffRow). refuse (not (fits row.role)) WrongRole) found right),
+    )
 
 charge_operates_not : (role : Role) → is_charge role ≡ true → is_operator role ≡ false
 charge_operates_not Charge h = refl

@@ -1,29 +1,27 @@
 -- The step of a number in a clearance's present round, as the checks of commands find it.
-use Rattle.std.proofs.Common.{◌≡◌, ℕ, ◌<◌, Bool, true, false, cond, not, ◌&&◌, ◌||◌, nat_eq, nat_lt, List, [], ◌∷◌, ◌++◌, filter, Option, Some, None, is_some, All, Contains, refl, sym, ◌∙◌, ap, subst, arith}
-use Rattle.std.specs.List.{list_all}
-use Rattle.std.proofs.lemmas.Bool.{and_from, and_parts, both_ways, eq-eqb, eqb-true, false≢true, lt-ltb, or_cases}
+use Rattle.std.proofs.Common.{◌≡◌, ℕ, ◌<◌, Bool, true, false, not, ◌||◌, nat_eq, nat_lt, List, [], ◌∷◌, ◌++◌, Option, Some, None, is_some, Contains, refl, sym, ◌∙◌, ap, subst, arith}
+use Rattle.std.proofs.lemmas.Bool.{and_from, and_parts, eqb-true, false≢true, lt-ltb}
 use Rattle.std.proofs.lemmas.List.Elements.{All-contains, All-head, All-weaker}
 use Rattle.clr_order.proofs.Finds.{found_passes}
 use Rattle.clr_order.specs.declared.step.StepState.{StepState}
 use Rattle.clr_order.specs.declared.step.StepState.TheVariants.{Waiting, Instructed, Repeated, Done}
 use Rattle.clr_rules.specs.Changes.{edits_by, with_step}
-use Rattle.clr_rules.specs.Checks.{no_step, where_some}
+use Rattle.clr_rules.specs.Checks.{no_step}
 use Rattle.clr_rules.specs.Edits.{edited_all}
-use Rattle.clr_rules.specs.GoodByPhase.{ActiveInRound, IsGoodByPhase, all_waiting, go_in_turn, of_round, outlook_of, present_of}
+use Rattle.clr_rules.specs.GoodByPhase.{ActiveInRound, IsGoodByPhase, go_in_turn, of_round, outlook_of, present_of}
 use Rattle.clr_rules.specs.Id.{Id}
 use Rattle.clr_rules.specs.Records.{is_running, record_of}
 use Rattle.clr_rules.specs.Register.{Register}
 use Rattle.clr_rules.specs.Steps.{all_done, is_active, is_done, is_in_turn, is_of_round, is_some_step, is_waiting, present, present_round, step_at, steps_in, steps_of}
 use Rattle.clr_rules.specs.declared.change.Edit.{Edit}
 use Rattle.clr_rules.specs.declared.record.Record.{Record}
-use Rattle.clr_rules.specs.declared.refusal.Refusal.{Refusal}
 use Rattle.clr_rules.specs.declared.refusal.Refusal.TheVariants.{NoStep}
 use Rattle.clr_rules.specs.declared.step_row.StepRow.{StepRow}
 use Rattle.clr_rules.proofs.KeptRecords.{in_phase_of}
 use Rattle.clr_rules.proofs.Passing.{not_refused_true}
 use Rattle.clr_rules.proofs.PhaseFacts.{step_facts}
 use Rattle.clr_rules.proofs.PutHolds.{found_there, kept_there}
-use Rattle.clr_rules.proofs.RoundSteps.{among_own, no_step_there, of_round_is, of_the_round, present_of_is}
+use Rattle.clr_rules.proofs.RoundSteps.{no_step_there, of_round_is, of_the_round, present_of_is}
 use Rattle.clr_rules.proofs.StepMoves.{InMidst}
 use Rattle.clr_rules.proofs.StepSplits.{All-before, done_before, of_round-here, waiting_after}
 use Rattle.clr_rules.proofs.StepsInTurn.{Rises, round_rises}

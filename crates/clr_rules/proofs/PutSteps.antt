@@ -1,24 +1,21 @@
 -- A step is put over another of its clearance: what the register has of steps, and what it may leave of states and holds.
-use Rattle.std.proofs.Common.{◌≡◌, ℕ, Bool, true, false, cond, not, ◌&&◌, nat_eq, List, [], ◌∷◌, ◌++◌, Option, Some, None, is_some, IsTrue, All, Contains, refl, sym, ◌∙◌, ap, subst}
+use Rattle.std.proofs.Common.{◌≡◌, ℕ, Bool, true, false, cond, ◌&&◌, List, ◌∷◌, ◌++◌, Option, Some, None, is_some, IsTrue, All, Contains, refl, sym, ◌∙◌, ap, subst}
 use Rattle.std.specs.List.{list_any}
-use Rattle.std.proofs.lemmas.Bool.{and_parts, both_ways, false≢true}
+use Rattle.std.proofs.lemmas.Bool.{false≢true}
 use Rattle.std.proofs.lemmas.List.Elements.{All-contains}
 use Rattle.clr_net.specs.Grid.{Grid, point_names}
 use Rattle.clr_net.specs.Name.{same_name}
 use Rattle.clr_net.specs.Names.{has_name}
 use Rattle.clr_net.proofs.Walks.{one_name}
-use Rattle.clr_order.specs.Step.{task}
-use Rattle.clr_order.specs.declared.action.Action.{Action}
 use Rattle.clr_shelf.specs.Groups.{All-with_row, filter-with_inside}
 use Rattle.clr_shelf.specs.KeyOrder.{in_key_order-filter}
 use Rattle.clr_shelf.specs.Rows.{in_key_order, with_row}
 use Rattle.clr_rules.specs.Good.{is_closing_at}
-use Rattle.clr_rules.specs.GoodByPhase.{InPhase, IsGoodByPhase, IsInPlace, Outlook, outlook_of}
-use Rattle.clr_rules.specs.Holds.{has_hold}
+use Rattle.clr_rules.specs.GoodByPhase.{InPhase, IsGoodByPhase, IsInPlace, outlook_of}
 use Rattle.clr_rules.specs.Id.{Id, same_id}
 use Rattle.clr_rules.specs.Register.{Register}
 use Rattle.clr_rules.specs.StateFacts.{hand_of-handed, hand_of-handed_other, handed, state_is_known}
-use Rattle.clr_rules.specs.States.{has_in_hand, hand_of, is_hand, state_key, state_of}
+use Rattle.clr_rules.specs.States.{has_in_hand, is_hand, state_of}
 use Rattle.clr_rules.specs.StepKey.{step_key, step_key_cmp, step_key_cmp_total}
 use Rattle.clr_rules.specs.Steps.{is_active, is_close, steps_of}
 use Rattle.clr_rules.specs.declared.hold_kind.HoldKind.{HoldKind}
@@ -29,7 +26,7 @@ use Rattle.clr_rules.specs.declared.step_row.StepRow.{StepRow}
 use Rattle.clr_rules.proofs.PresentSteps.{IsPresent}
 use Rattle.clr_rules.proofs.RoundSteps.{among_own, one_id, own_id}
 use Rattle.clr_rules.proofs.Sparing.{steps_of-others}
-use Rattle.clr_rules.proofs.StepSplits.{Split, split_at}
+use Rattle.clr_rules.proofs.StepSplits.{split_at}
 
 -- the steps with one put
 abbrev pub put_step : StepRow → List StepRow → List StepRow

@@ -1,23 +1,20 @@
 -- A step of a clearance's present round is put anew, its task the same: what is so of the clearance's steps.
-use Rattle.std.proofs.Common.{◌≡◌, ℕ, Bool, true, false, not, ◌&&◌, nat_eq, nat_lt, List, [], ◌∷◌, ◌++◌, map, length, Option, Some, None, All, Contains, refl, sym, ◌∙◌, ap, subst, arith}
+use Rattle.std.proofs.Common.{◌≡◌, ℕ, Bool, true, false, ◌&&◌, nat_eq, List, [], ◌∷◌, ◌++◌, Option, Some, None, All, Contains, refl, sym, ◌∙◌, ap, subst}
 use Rattle.std.specs.List.{list_any}
-use Rattle.std.proofs.lemmas.Bool.{both_ways, eq-eqb, eqb-true, false≢true, false_from_ne_true}
-use Rattle.std.proofs.lemmas.List.{length-map}
+use Rattle.std.proofs.lemmas.Bool.{both_ways, eqb-true, false≢true, false_from_ne_true}
 use Rattle.std.proofs.lemmas.List.Elements.{All-contains, All-head, All-tail}
 use Rattle.clr_net.specs.Grid.{Grid}
 use Rattle.clr_net.specs.Name.{same_name}
 use Rattle.clr_order.specs.Action.{is_switching}
 use Rattle.clr_order.specs.Isolating.{IsSoundOrder}
-use Rattle.clr_order.specs.Needed.{undoes}
-use Rattle.clr_order.specs.Step.{Task, actions_at, task, task_points}
-use Rattle.clr_shelf.specs.Lists.{Contains-here, list_all-contains}
+use Rattle.clr_order.specs.Step.{Task, task, task_points}
+use Rattle.clr_shelf.specs.Lists.{list_all-contains}
 use Rattle.clr_rules.specs.Good.{left, put_by, puts}
-use Rattle.clr_rules.specs.GoodByPhase.{ActiveInRound, InPhase, Isolates, IsInPlace, Outlook, active_at, all_waiting, go_in_turn, of_round, present_of}
+use Rattle.clr_rules.specs.GoodByPhase.{ActiveInRound, InPhase, active_at, all_waiting, go_in_turn, of_round, present_of}
 use Rattle.clr_rules.specs.Holds.{once}
 use Rattle.clr_rules.specs.Records.{is_running}
 use Rattle.clr_rules.specs.Steps.{all_done, is_active, is_done, is_some_step, is_waiting, points_of, some_active, tasks_of}
 use Rattle.clr_rules.specs.declared.hold_kind.HoldKind.{HoldKind}
-use Rattle.clr_rules.specs.declared.hold_kind.HoldKind.TheVariants.{HeldOpen, Block, Control, Tag}
 use Rattle.clr_rules.specs.declared.phase.Phase.{Phase}
 use Rattle.clr_rules.specs.declared.phase.Phase.TheVariants.{Requested, Ordered, Granted, Released, Restoring, Switching, Closed}
 use Rattle.clr_rules.specs.declared.record.Record.{Record}
@@ -25,7 +22,7 @@ use Rattle.clr_rules.specs.declared.step_row.StepRow.{StepRow}
 use Rattle.clr_rules.proofs.PhaseFacts.{first_present}
 use Rattle.clr_rules.proofs.PlaceFacts.{done_rests, in_round}
 use Rattle.clr_rules.proofs.RoundSteps.{All-from_each, some_step_there}
-use Rattle.clr_rules.proofs.StepSplits.{All-before, All-swap, any-more, any-only, any-swap, left_after_done, left_waiting, map-swap, of_round-far, of_round-here, turn_between, waits_not_active}
+use Rattle.clr_rules.proofs.StepSplits.{All-before, All-swap, any-only, any-swap, left_after_done, map-swap, of_round-far, of_round-here, turn_between, waits_not_active}
 
 -- steps of which those of the one round in which steps are given out are not given out
 none_active_in : (rows : List StepRow) (k : ℕ) → ActiveInRound rows k → ((row : StepRow) → Contains (of_round rows k) row → is_active row.step.state ≡ false)
