@@ -57,6 +57,15 @@ impl<'a> Fence<'a> {
         Ok(Fence { sections, touching })
     }
 
+    /// The fence that has these rows, each list in the order of names: one whose rows were lent apart from their network.
+    pub fn of_rows(sections: Vec<&'a SectionRow>, touching: Vec<&'a PointRow>) -> Self
+        requires sections_rise { IsStrictlySortedBy name_cmp (section_names (map (λ row. row.now) sections.items)) }
+        requires points_rise { IsStrictlySortedBy name_cmp (point_names (map (λ row. row.now) touching.items)) }
+        ensures { result ≡ record { sections = map (λ row. row.now) sections.entry.items; touching = map (λ row. row.now) touching.entry.items } }
+    {
+        Fence { sections, touching }
+    }
+
     /// The sections inside, in the order of their names.
     pub fn sections(&self) -> &[&'a SectionRow]
         ensures rows { map (λ row. row.now) result.now ≡ self.now.sections }
