@@ -4,3 +4,4 @@ pub mod Steps
 pub mod Opening
 pub mod SortedRows
 pub mod Lending
+pub mod OrderPositions

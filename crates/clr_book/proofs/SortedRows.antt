@@ -1,5 +1,5 @@
 -- Rows that a sort has put in the order of their keys, where no two of them have one key.
-use Rattle.std.proofs.Common.{◌≡◌, ◌∙◌, ◌<◌, ℕ, ◌+◌, Bool, true, false, List, [], ◌∷◌, length, map, get_or, arith, refl, sym, ap, ◌&&◌}
+use Rattle.std.proofs.Common.{◌≡◌, ◌∙◌, ◌<◌, ℕ, ◌+◌, Bool, true, false, List, [], ◌∷◌, length, map, filter, get_or, arith, refl, sym, ap, ◌&&◌}
 use Rattle.std.specs.List.{AllByRecursion, IsDistinct, list_all}
 use Rattle.std.specs.List.Sorted.{IsPermutation, IsSortedByKey, IsStrictlySortedBy}
 use Rattle.std.specs.Cmp.{IsTotalOrder}
@@ -76,3 +76,22 @@ sorted-map compare key_of shows [] sorted k d above inside = absurd (omega arith
 sorted-map compare key_of shows (x ∷ items) sorted k d above inside =
     let size = length-map (x ∷ items) shows in
     rw (get_or-map shows (x ∷ items) k x d (omega arith), get_or-map shows (x ∷ items) (k + 1) x d (omega arith)) (sorted k x above (omega arith))
+
+module _ {Key Row : Type 0} (compare : Key → Key → Ordering) (key_of : Row → Key) (q : Row → Bool) where
+  all_kept : (P : Key → Type 0) (rows : List Row) → AllByRecursion P (map key_of rows) → AllByRecursion P (map key_of (filter q rows))
+  all_kept P [] all = tt
+  all_kept P (row ∷ rows) all = at (q row) refl (all_kept P rows all.1)
+    where
+      at : (b : Bool) → q row ≡ b → AllByRecursion P (map key_of (filter q rows)) → AllByRecursion P (map key_of (filter q (row ∷ rows)))
+      at true e more = rw e (all.0, more)
+      at false e more = rw e more
+
+  -- rows whose keys rise still do so when some are left out
+  pub rising-filter : (rows : List Row) → IsStrictlySortedBy compare (map key_of rows) → IsStrictlySortedBy compare (map key_of (filter q rows))
+  unfolding IsStrictlySortedBy
+  rising-filter [] rises = tt
+  rising-filter (row ∷ rows) rises = at (q row) refl (rising-filter rows rises.1)
+    where
+      at : (b : Bool) → q row ≡ b → IsStrictlySortedBy compare (map key_of (filter q rows)) → IsStrictlySortedBy compare (map key_of (filter q (row ∷ rows)))
+      at true e more = rw e (all_kept (λ key. compare (key_of row) key ≡ Less) rows rises.0, more)
+      at false e more = rw e more

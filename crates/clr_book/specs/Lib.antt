@@ -1,1 +1,2 @@
 pub mod Shelved
+pub mod OrderChecks

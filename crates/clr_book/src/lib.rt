@@ -4,6 +4,7 @@
 mod book;
 mod lend;
 mod near;
+mod orders;
 mod shelves;
 mod states;
 

@@ -26,6 +26,9 @@ pub struct Near<'a> {
 
 impl<'a> Model for Near<'a> {
     ghost use Rattle.std.specs.Prelude.{◌≤◌, map};
+    ghost use Rattle.std.specs.List.Sorted.{IsStrictlySortedBy};
+    ghost use Rattle.clr_net.specs.Grid.{point_names, section_names};
+    ghost use Rattle.clr_net.specs.Name.{name_cmp};
     ghost use Rattle.clr_rules.specs.Near.{Near};
     ghost use Rattle.clr_rules.specs.Register.{unplaced};
 
@@ -43,5 +46,5 @@ impl<'a> Model for Near<'a> {
       };
     } };
 
-    ghost invariant = { λ n. n.greatest ≤ 9999 };
+    ghost invariant = { λ n. (n.greatest ≤ 9999) × IsStrictlySortedBy name_cmp (section_names (map (λ row. row.now) n.sections.items)) × IsStrictlySortedBy name_cmp (point_names (map (λ row. row.now) n.points.items)) };
 }
