@@ -14,12 +14,13 @@ use Rattle.clr_rules.proofs.NewNumbers.{new_is_another}
 use Rattle.clr_rules.proofs.Passing.{all_pass, not_refused_true}
 use Rattle.clr_rules.proofs.RoundSteps.{one_id, record_id}
 use Rattle.clr_rules.proofs.Sparing.{has_hold-same, sparing_edits_keep_outlook, sparing_edits_leave_alone}
-use Rattle.clr_rules.specs.Answer.{Answer, Known, answer, checks, first_refusal, known_of, numbered_for, settled}
+use Rattle.clr_rules.specs.Answer.{Answer, Known, answer, checks, concerned, first_refusal, known_of, numbered_for, settled}
 use Rattle.clr_rules.specs.Changes.{done_edits, edits_by, edits_of, hold_edits, new_steps, position_edits, put_steps, undone_edits, with_record, with_step}
 use Rattle.clr_rules.specs.Checks.{other_hand, refuse, where_some}
 use Rattle.clr_rules.specs.Command.{named_clearance}
+use Rattle.clr_rules.specs.Edits.{edited_all}
 use Rattle.clr_rules.specs.Footprint.{Frame, all_spare, both_or_neither, spares}
-use Rattle.clr_rules.specs.FrameLaws.{is_report}
+use Rattle.clr_rules.specs.FrameLaws.{is_report, subject_of}
 use Rattle.clr_rules.specs.Good.{HandMatchesStep, IsGood, ListsAreInOrder}
 use Rattle.clr_rules.specs.GoodByPhase.{outlook_of}
 use Rattle.clr_rules.specs.Holds.{has_hold, hold_of, places_of}
@@ -147,59 +148,82 @@ module _ (c : Id) (R : Register) (d : Id) (row : StepRow) (n : ℕ) (matches : H
 -- ---- each kind of command
 
 module _ (c : Id) (R : Register) (k : Known) (by : List ℕ) (at : ℕ) where
-  edits_spare : (kind : Kind) → (is_report kind ≡ true → HandMatchesStep R) → k.greatest ≡ greatest_number R.records (numbered_for by (named_clearance kind))
-      → is_about_another c R by (named_clearance kind) ≡ true → first_refusal (checks k R by at kind) ≡ None
-      → all_spare c R (edits_of k.greatest R by at kind) ≡ true
-  edits_spare (kinds.Request section) matches greatest others passed =
-      and_from _ _ (not_from_false _ (new_is_another c R by k.greatest greatest others)) refl
-  edits_spare (kinds.Order d points tasks) matches greatest others passed =
+  -- where no check applies, all but the clearance that the command is about are spared
+  edits_spare : (kind : Kind) → (is_report kind ≡ true → HandMatchesStep R) → not (same_id c (concerned k.greatest by (named_clearance kind))) ≡ true
+      → first_refusal (checks k R by at kind) ≡ None → all_spare c R (edits_of k.greatest R by at kind) ≡ true
+  edits_spare (kinds.Request section) matches others passed = and_from _ _ others refl
+  edits_spare (kinds.Order d points tasks) matches others passed =
       by_record c R d _ others (λ r own. and_from _ _ own (steps_spare c R d 1 1 tasks others))
-  edits_spare (kinds.Instruct d n) matches greatest others passed = by_step c R d n _ others (λ r row found own step.
+  edits_spare (kinds.Instruct d n) matches others passed = by_step c R d n _ others (λ r row found own step.
       let free : other_hand d (hand_of R.states row.step.point) ≡ None =
       check_of_found (step_at (present R.steps d) n) row (λ row. other_hand d (hand_of R.states row.step.point)) found
       (all_pass (checks k R by at (kinds.Instruct d n)) passed).1.1.1.1.1.1.1.1.0 in
       and_from _ _ (spares_hand c R row.step.point (Some d) (no_other_hand c d (hand_of R.states row.step.point) (not-true (same_id c d) others) free) (not-true (same_id c d) others))
       (and_from _ _ own (and_from _ _ step refl)))
-  edits_spare (kinds.Repeat d n text) matches greatest others passed =
+  edits_spare (kinds.Repeat d n text) matches others passed =
       by_step c R d n _ others (λ r row found own step. and_from _ _ own (and_from _ _ step refl))
-  edits_spare (kinds.Report d n done) matches greatest others passed = by_step c R d n _ others (λ r row found own step.
+  edits_spare (kinds.Report d n done) matches others passed = by_step c R d n _ others (λ r row found own step.
       let check : refuse (not (is_repeated row.step.state)) WrongState ≡ None =
       check_of_found (step_at (present R.steps d) n) row (λ row. refuse (not (is_repeated row.step.state)) WrongState) found
       (all_pass (checks k R by at (kinds.Report d n done)) passed).1.1.1.1.1.1.0 in
       report_spares c R d row n (matches refl) others found (not_refused_true (is_repeated row.step.state) WrongState check) at done r own step)
-  edits_spare (kinds.Grant d) matches greatest others passed = by_record c R d _ others (λ r own. and_from _ _ own refl)
-  edits_spare (kinds.Test d section true) matches greatest others passed = by_record c R d _ others (λ r own. and_from _ _ others (and_from _ _ own refl))
-  edits_spare (kinds.Test d section false) matches greatest others passed = by_record c R d _ others (λ r own. and_from _ _ others (and_from _ _ own refl))
-  edits_spare (kinds.Ground d section) matches greatest others passed = by_record c R d _ others (λ r own. and_from _ _ others (and_from _ _ own refl))
-  edits_spare (kinds.Unground d section) matches greatest others passed =
+  edits_spare (kinds.Grant d) matches others passed = by_record c R d _ others (λ r own. and_from _ _ own refl)
+  edits_spare (kinds.Test d section true) matches others passed = by_record c R d _ others (λ r own. and_from _ _ others (and_from _ _ own refl))
+  edits_spare (kinds.Test d section false) matches others passed = by_record c R d _ others (λ r own. and_from _ _ others (and_from _ _ own refl))
+  edits_spare (kinds.Ground d section) matches others passed = by_record c R d _ others (λ r own. and_from _ _ others (and_from _ _ own refl))
+  edits_spare (kinds.Unground d section) matches others passed =
       by_record c R d _ others (λ r own. and_from _ _ others (and_from _ _ others (and_from _ _ own refl)))
-  edits_spare (kinds.SignOn d crew) matches greatest others passed = by_record c R d _ others (λ r own. and_from _ _ others (and_from _ _ own refl))
-  edits_spare (kinds.SignOff d crew) matches greatest others passed = by_record c R d _ others (λ r own. and_from _ _ others (and_from _ _ own refl))
-  edits_spare (kinds.Transfer d to emergency) matches greatest others passed = by_record c R d _ others (λ r own. and_from _ _ own refl)
-  edits_spare (kinds.Release d notified clear) matches greatest others passed = by_record c R d _ others (λ r own.
+  edits_spare (kinds.SignOn d crew) matches others passed = by_record c R d _ others (λ r own. and_from _ _ others (and_from _ _ own refl))
+  edits_spare (kinds.SignOff d crew) matches others passed = by_record c R d _ others (λ r own. and_from _ _ others (and_from _ _ own refl))
+  edits_spare (kinds.Transfer d to emergency) matches others passed = by_record c R d _ others (λ r own. and_from _ _ own refl)
+  edits_spare (kinds.Release d notified clear) matches others passed = by_record c R d _ others (λ r own.
       list_all-append (spares c R) (map (λ place. TakeHold (hold_of d Tested place)) (places_of R.holds d Tested)) _
       ∙ and_from _ _ (takes_spare c R d (places_of R.holds d Tested) others) (and_from _ _ own refl))
-  edits_spare (kinds.Cancel d) matches greatest others passed = by_record c R d _ others (λ r own. and_from _ _ own refl)
-  edits_spare (kinds.Restore d tasks) matches greatest others passed =
+  edits_spare (kinds.Cancel d) matches others passed = by_record c R d _ others (λ r own. and_from _ _ own refl)
+  edits_spare (kinds.Restore d tasks) matches others passed =
       by_record c R d _ others (λ r own. and_from _ _ own (steps_spare c R d 2 1 tasks others))
-  edits_spare (kinds.Amend d n) matches greatest others passed =
+  edits_spare (kinds.Amend d n) matches others passed =
       by_step c R d n _ others (λ r row found own step. and_from _ _ own (and_from _ _ step refl))
-  edits_spare (kinds.Switch tasks) matches greatest others passed =
-      let another = not_from_false _ (new_is_another c R by k.greatest greatest others) in
-      and_from _ _ another (steps_spare c R _ 1 1 tasks another)
-  edits_spare (kinds.Show d) matches greatest others passed = refl
+  edits_spare (kinds.Switch tasks) matches others passed =
+      and_from _ _ others (steps_spare c R (concerned k.greatest by None) 1 1 tasks others)
+  edits_spare (kinds.Show d) matches others passed = refl
+
+-- a command about another is about another
+concerned_is_another : (c : Id) (R : Register) (by : List ℕ) (greatest : ℕ) (named : Option Id) → greatest ≡ greatest_number R.records (numbered_for by named)
+    → is_about_another c R by named ≡ true → not (same_id c (concerned greatest by named)) ≡ true
+concerned_is_another c R by greatest None is others = not_from_false _ (new_is_another c R by greatest is others)
+concerned_is_another c R by greatest (Some d) is others = others
 
 settled_spares : (c : Id) (R : Register) (q : Command) (found : Option Refusal) → first_refusal (checks (known_of R q) R q.caller q.moment q.kind) ≡ found
-    → (is_report q.kind ≡ true → HandMatchesStep R) → is_others c R q ≡ true → all_spare c R (Answer.edits (settled (known_of R q) R q found)) ≡ true
-settled_spares c R q None passed matches others = edits_spare c R (known_of R q) q.caller q.moment q.kind matches refl others passed
+    → (is_report q.kind ≡ true → HandMatchesStep R) → not (same_id c (subject_of R q)) ≡ true
+    → all_spare c R (Answer.edits (settled (known_of R q) R q found)) ≡ true
+settled_spares c R q None passed matches others = edits_spare c R (known_of R q) q.caller q.moment q.kind matches others passed
 settled_spares c R q (Some refusal) passed matches others = refl
+
+answers_spare : (R : Register) (c : Id) (q : Command) → (is_report q.kind ≡ true → HandMatchesStep R) → not (same_id c (subject_of R q)) ≡ true
+    → all_spare c R (Answer.edits (answer R q)) ≡ true
+answers_spare R c q matches others =
+    settled_spares c R q (first_refusal (checks (known_of R q) R q.caller q.moment q.kind)) refl matches others
 
 pub others_edits_spare : (R : Register) (c : Id) (q : Command) → (is_report q.kind ≡ true → HandMatchesStep R) → is_others c R q ≡ true
     → all_spare c R (Answer.edits (answer R q)) ≡ true
 others_edits_spare R c q matches others =
-    settled_spares c R q (first_refusal (checks (known_of R q) R q.caller q.moment q.kind)) refl matches others
+    answers_spare R c q matches (concerned_is_another c R q.caller (Known.greatest (known_of R q)) (named_clearance q.kind) refl others)
 
 -- ---- what is left alone
+
+-- where no check applies, the outlook of every clearance stays but that of the one that the command is about
+pub edits_keep_others : (R : Register) (k : Known) (by : List ℕ) (at : ℕ) (kind : Kind) → ListsAreInOrder R → HandMatchesStep R
+    → first_refusal (checks k R by at kind) ≡ None → (c : Id) → same_id c (concerned k.greatest by (named_clearance kind)) ≡ false
+    → outlook_of (edited_all (edits_of k.greatest R by at kind) R) c ≡ outlook_of R c
+edits_keep_others R k by at kind ordered matches passed c differs =
+    sparing_edits_keep_outlook c R (edits_of k.greatest R by at kind) ordered
+    (edits_spare c R k by at kind (λ _. matches) (not_from_false _ differs) passed)
+
+pub one_outlook_changes : (R : Register) (c : Id) (q : Command) → ListsAreInOrder R → HandMatchesStep R → same_id c (subject_of R q) ≡ false
+    → outlook_of (after R q) c ≡ outlook_of R c
+one_outlook_changes R c q ordered matches differs =
+    sparing_edits_keep_outlook c R (Answer.edits (answer R q)) ordered (answers_spare R c q (λ _. matches) (not_from_false _ differs))
 
 pub others_keep_outlook : (R : Register) (c : Id) (q : Command) → ListsAreInOrder R → HandMatchesStep R → is_others c R q ≡ true
     → outlook_of (after R q) c ≡ outlook_of R c

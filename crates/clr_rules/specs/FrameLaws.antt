@@ -1,11 +1,12 @@
 -- What sparing edits and commands about others leave alone, as laws.
 use Rattle.std.specs.Prelude.{◌≡◌, Bool, true, false, List}
-use Rattle.clr_rules.specs.Answer.{Answer, answer}
+use Rattle.clr_rules.specs.Answer.{Answer, Known, answer, concerned, known_of}
+use Rattle.clr_rules.specs.Command.{named_clearance}
 use Rattle.clr_rules.specs.Edits.{edited_all}
 use Rattle.clr_rules.specs.Footprint.{all_spare}
 use Rattle.clr_rules.specs.Good.{HandMatchesStep, IsGood, ListsAreInOrder}
 use Rattle.clr_rules.specs.GoodByPhase.{outlook_of}
-use Rattle.clr_rules.specs.Id.{Id}
+use Rattle.clr_rules.specs.Id.{Id, same_id}
 use Rattle.clr_rules.specs.Isolation.{HeldStayOpen, is_others}
 use Rattle.clr_rules.specs.Register.{Register}
 use Rattle.clr_rules.specs.Run.{after}
@@ -33,7 +34,16 @@ abbrev pub SparingEditsKeepOutlook : Type 0
 SparingEditsKeepOutlook = (c : Id) (R : Register) (edits : List Edit) → ListsAreInOrder R → all_spare c R edits ≡ true
     → outlook_of (edited_all edits R) c ≡ outlook_of R c
 
--- so after a command about another,
+-- the clearance that a command is about: the one that it names, or the one that it makes
+abbrev pub subject_of : Register → Command → Id
+subject_of R q = concerned (Known.greatest (known_of R q)) q.caller (named_clearance q.kind)
+
+-- so after a command it stays of every clearance but the one that the command is about,
+abbrev pub OneOutlookChanges : Type 0
+OneOutlookChanges = (R : Register) (c : Id) (q : Command) → ListsAreInOrder R → HandMatchesStep R → same_id c (subject_of R q) ≡ false
+    → outlook_of (after R q) c ≡ outlook_of R c
+
+-- in a word, after a command about another,
 abbrev pub OthersKeepOutlook : Type 0
 OthersKeepOutlook = (R : Register) (c : Id) (q : Command) → ListsAreInOrder R → HandMatchesStep R → is_others c R q ≡ true
     → outlook_of (after R q) c ≡ outlook_of R c

@@ -1,6 +1,6 @@
 //! Laws of footprints: what edits leave alone.
 ghost use Rattle.clr_rules.specs.Footprint.{SparingEditsLeaveAlone};
-ghost use Rattle.clr_rules.specs.FrameLaws.{OthersEditsSpare, OthersEditsSpareAnywhere, OthersKeepHeldOpen, OthersKeepOutlook, SparingEditsKeepOutlook};
+ghost use Rattle.clr_rules.specs.FrameLaws.{OneOutlookChanges, OthersEditsSpare, OthersEditsSpareAnywhere, OthersKeepHeldOpen, OthersKeepOutlook, SparingEditsKeepOutlook};
 ghost use Rattle.clr_rules.specs.Isolation.{OthersSpare};
 
 /// Edits that spare a clearance in the register before them leave its record, its steps and its holds as they are, clear
@@ -24,8 +24,9 @@ pub fn commands_of_others_leave_alone()
     ensures open { OthersKeepHeldOpen }
 {}
 
-/// Where the hands match the steps, all that the register has of a clearance is the same after a command about another:
-/// its record, its steps, its holds, and what it has in hand.
-pub fn commands_of_others_keep_outlook()
-    ensures { OthersKeepOutlook }
+/// Where the hands match the steps, a command changes what the register has of one clearance alone, the one that it names
+/// or makes: the record, the steps, the holds and the hands of all others are the same.
+pub fn commands_change_one_clearance()
+    ensures one { OneOutlookChanges }
+    ensures others { OthersKeepOutlook }
 {}
