@@ -5,3 +5,5 @@ pub mod Opening
 pub mod SortedRows
 pub mod Lending
 pub mod OrderPositions
+pub mod OrderPassed
+pub mod NewSteps

@@ -5,6 +5,7 @@ mod book;
 mod lend;
 mod near;
 mod orders;
+mod rounds;
 mod shelves;
 mod states;
 

@@ -1,0 +1,38 @@
+//! The steps of a new round.
+ghost use Rattle.std.specs.Prelude.{◌≡◌, ◌≤◌, IfOk, length, map};
+ghost use Rattle.clr_order.specs.Step.{task};
+ghost use Rattle.clr_rules.specs.Changes.{new_steps};
+
+use clr_order::{Step, StepState};
+use clr_rules::{ClearanceId, StepRow};
+use std::alloc::{AllocError, Global};
+
+/// The steps of a round, numbered from 1, each waiting and without a reader.
+#[tactic(auto, unfolding(clr_rules::specs::Changes::new_steps))]
+pub(crate) fn new_steps(
+    alloc: Global,
+    id: ClearanceId,
+    round: u8,
+    steps: &[Step],
+) -> Result<Vec<StepRow>, AllocError>
+    requires { length steps.now ≤ 256 }
+    ensures { IfOk result (λ rows. rows.items ≡ new_steps id round 1 (map task steps.now)) }
+{
+    let mut rows = Vec::new(alloc);
+    let mut ordinal = 1;
+    for step in steps {
+        rows.push(StepRow {
+            id,
+            round,
+            ordinal,
+            step: Step {
+                action: step.action,
+                point: step.point,
+                state: StepState::Waiting,
+                reader: None,
+            },
+        })?;
+        ordinal += 1;
+    }
+    Ok(rows)
+}
