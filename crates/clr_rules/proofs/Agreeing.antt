@@ -2,7 +2,7 @@
 use Rattle.std.proofs.Common.{◌≡◌, ℕ, Bool, true, false, not, ◌&&◌, cond, List, [], ◌∷◌, refl, sym, ◌∙◌, ap}
 use Rattle.std.specs.List.{filter, All, Contains}
 use Rattle.std.proofs.lemmas.Bool.{false≢true}
-use Rattle.std.proofs.lemmas.List.Elements.{All-head, All-tail, All-cons, All-nil, All-weaker}
+use Rattle.std.proofs.lemmas.List.Elements.{All-contains, All-head, All-tail, All-cons, All-nil, All-weaker}
 use Rattle.clr_net.specs.Grid.{Grid, point_names}
 use Rattle.clr_net.specs.Name.{same_name}
 use Rattle.clr_net.specs.Names.{has_name}
@@ -26,7 +26,7 @@ use Rattle.clr_rules.specs.declared.hold.Hold.{Hold}
 use Rattle.clr_rules.specs.declared.record.Record.{Record}
 use Rattle.clr_rules.proofs.EditedLists.{edited-in_order}
 use Rattle.clr_rules.proofs.Greatest.{greatest-put, greatest-put_over}
-use Rattle.clr_rules.proofs.Kept.{filter-kept, name_says, there_mapped}
+use Rattle.clr_rules.proofs.Kept.{filter-kept, filter-no_member, name_says, there_mapped}
 use Rattle.clr_rules.proofs.NamedRows.{Contains-filter}
 use Rattle.clr_rules.proofs.Refusing.{edited-has_record}
 use Rattle.clr_rules.proofs.Sparing.{holds_of-others, holds_of-others_taken}
@@ -50,7 +50,7 @@ agrees_on c inside R S T first second = record {
 -- ---- the points that touch the set stand in the part
 
 -- a point that touches the set is named among those that do
-touching_named : (g : Grid) (inside : List ℕ → Bool) (p : PointRow) → Contains g.points p → touches inside p ≡ true
+pub touching_named : (g : Grid) (inside : List ℕ → Bool) (p : PointRow) → Contains g.points p → touches inside p ≡ true
     → has_name (touching_names g inside) p.name ≡ true
 unfolding touching_names
 touching_named g inside p there touching = (name_says (touching_names g inside) p.name).1
@@ -201,9 +201,8 @@ same_marks_agree R S R_order S_order c inside left right left_others left_known 
 }
 
 marks_none : (g : Grid) (inside : List ℕ → Bool) (edits : List Edit) → All (λ edit. is_mark g inside edit ≡ false) edits → marks_of g inside edits ≡ []
-marks_none g inside [] none = refl
-marks_none g inside (edit ∷ edits) none =
-    rw (All-head (λ edit. is_mark g inside edit ≡ false) edit edits none) (marks_none g inside edits (All-tail (λ edit. is_mark g inside edit ≡ false) edit edits none))
+marks_none g inside edits none =
+    filter-no_member (is_mark g inside) edits (λ edit there. All-contains (λ edit. is_mark g inside edit ≡ false) edits edit none there)
 
 -- edits that leave a clearance alone keep agreement
 pub left_alone_agrees : (R : Register) → ListsAreInOrder R → (c : Id) (inside : List ℕ → Bool) (edits : List Edit)

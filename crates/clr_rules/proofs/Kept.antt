@@ -91,7 +91,10 @@ filter-kept p q (x ∷ xs) wider =
     at false e true f more = rw (f, e) more
     at false e false f more = rw (f, e) more
 
--- a filter that no element passes keeps nothing
+-- a filter that no element of the list passes keeps nothing
+pub filter-no_member : {X : Type 0} (p : X → Bool) (xs : List X) → ((x : X) → Contains xs x → p x ≡ false) → filter p xs ≡ []
+filter-no_member p [] fails = refl
+filter-no_member p (x ∷ xs) fails = rw (fails x (Contains-here x xs)) (filter-no_member p xs (λ y there. fails y (Contains-later x y xs there)))
+
 pub filter-nothing : {X : Type 0} (p : X → Bool) (xs : List X) → ((x : X) → p x ≡ false) → filter p xs ≡ []
-filter-nothing p [] fails = refl
-filter-nothing p (x ∷ xs) fails = rw (fails x) (filter-nothing p xs fails)
+filter-nothing p xs fails = filter-no_member p xs (λ x _. fails x)

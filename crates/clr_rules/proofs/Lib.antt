@@ -45,3 +45,5 @@ pub mod NearParts
 pub mod NearOrder
 pub mod OthersSteps
 pub mod Locality
+pub mod SameFences
+pub mod LookAlike

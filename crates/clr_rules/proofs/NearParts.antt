@@ -34,19 +34,19 @@ use Rattle.clr_rules.proofs.NearWords.{near_hold_says, standing_says, touching_s
 
 -- ---- a command that names a clearance
 
-switched_named : (R : Register) (kind : Kind) (c : Id) → named_clearance kind ≡ Some c → switched R kind ≡ switched_in R (Some c)
+pub switched_named : (R : Register) (kind : Kind) (c : Id) → named_clearance kind ≡ Some c → switched R kind ≡ switched_in R (Some c)
 switched_named R (Switch tasks) c named = absurd (none-some c named)
 switched_named R kind c named = ap (switched_in R) named
 
-not_asked : (kind : Kind) (c : Id) → named_clearance kind ≡ Some c → (s : List ℕ) → is_asked kind s ≡ false
+pub not_asked : (kind : Kind) (c : Id) → named_clearance kind ≡ Some c → (s : List ℕ) → is_asked kind s ≡ false
 not_asked (Request section) c named s = absurd (none-some c named)
 not_asked kind c named s = refl
 
-fence_named : (R : Register) (kind : Kind) (c : Id) → named_clearance kind ≡ Some c → is_order kind ≡ false → fence_for R kind ≡ clearance_fence R c
+pub fence_named : (R : Register) (kind : Kind) (c : Id) → named_clearance kind ≡ Some c → is_order kind ≡ false → fence_for R kind ≡ clearance_fence R c
 fence_named R (Order d points tasks) c named no_order = cc no_order
 fence_named R kind c named no_order = ap (named_fence R) named
 
-or_false : (a b : Bool) → b ≡ false → (a || b) ≡ a
+pub or_false : (a b : Bool) → b ≡ false → (a || b) ≡ a
 or_false true b is = refl
 or_false false b is = is
 

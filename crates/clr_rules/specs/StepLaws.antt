@@ -1,13 +1,17 @@
 -- How agreement near a clearance goes on from command to command, as laws.
-use Rattle.std.specs.Prelude.{◌≡◌, ℕ, Bool, false, List, All}
+use Rattle.std.specs.Prelude.{◌≡◌, ℕ, Bool, true, false, List, [], ◌∷◌, All}
 use Rattle.clr_rules.specs.Agreement.{Agree}
 use Rattle.clr_rules.specs.AgreementLaws.{is_about, is_new_of}
 use Rattle.clr_rules.specs.Answer.{Answer, answer}
 use Rattle.clr_rules.specs.Good.{HandMatchesStep, ListsAreInOrder, is_operators}
 use Rattle.clr_rules.specs.Id.{Id}
+use Rattle.clr_rules.specs.Isolation.{AreAlike}
+use Rattle.clr_rules.specs.Near.{near_of}
+use Rattle.clr_rules.specs.NearLaws.{is_order}
+use Rattle.clr_rules.specs.Records.{record_of}
 use Rattle.clr_rules.specs.Register.{Register}
 use Rattle.clr_rules.specs.Run.{after}
-use Rattle.clr_rules.specs.Shown.{is_own_command}
+use Rattle.clr_rules.specs.Shown.{asked_row, found_phase_requested, is_own_command}
 use Rattle.clr_rules.specs.declared.command.Command.{Command}
 
 -- THE EDITS OF A COMMAND OF OTHERS are not about the clearance, and give its requester no new clearance. The requester is no operator
@@ -23,3 +27,11 @@ OthersEditsAreOfOthers = (R : Register) (c : Id) (q : Command) → HandMatchesSt
 abbrev pub SameAnswersKeepAgreement : Type 0
 SameAnswersKeepAgreement = (R S : Register) (c : Id) (inside : List ℕ → Bool) (q : Command) → ListsAreInOrder R → ListsAreInOrder S
     → answer R q ≡ answer S q → Agree c inside R S → Agree c inside (after R q) (after S q)
+
+-- registers that agree near a clearance on a set that covers its fence are one to its own commands: these look at the same in both. An order
+-- does so while the clearance is Requested, and a request where it asks for the same row in both
+abbrev pub OwnCommandsLookAtTheSame : Type 0
+OwnCommandsLookAtTheSame = (c : Id) (inside : List ℕ → Bool) (R S : Register) (q : Command) → AreAlike c inside R S (q ∷ [])
+    → is_own_command c q ≡ true → asked_row R q.kind ≡ asked_row S q.kind
+    → (is_order q.kind ≡ true → found_phase_requested (record_of R.records c) ≡ true)
+    → near_of R q ≡ near_of S q

@@ -1,6 +1,6 @@
 //! Agreement near a clearance from command to command: the steps of isolation.
 ghost use Rattle.clr_rules.specs.Isolation.{LoneStep, OthersStep};
-ghost use Rattle.clr_rules.specs.StepLaws.{OthersEditsAreOfOthers, SameAnswersKeepAgreement};
+ghost use Rattle.clr_rules.specs.StepLaws.{OthersEditsAreOfOthers, OwnCommandsLookAtTheSame, SameAnswersKeepAgreement};
 
 /// The edits of a command of others are not about the clearance, and give its requester no new clearance.
 pub fn others_edits_are_of_others()
@@ -17,4 +17,9 @@ pub fn others_commands_keep_agreement()
 /// Registers that agree and answer a command alike agree again after it.
 pub fn same_answers_keep_agreement()
     ensures { SameAnswersKeepAgreement }
+{}
+
+/// Registers that agree near a clearance, on a set that covers its fence, give its own commands the same near part.
+pub fn own_commands_look_at_the_same()
+    ensures { OwnCommandsLookAtTheSame }
 {}
