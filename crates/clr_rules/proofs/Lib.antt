@@ -19,6 +19,8 @@ pub mod Opening
 pub mod DeadWork
 pub mod Keeping
 pub mod StepSplits
+pub mod DonePhases
+pub mod DoneHolds
 pub mod HandedSteps
 pub mod PutSteps
 pub mod KeptSteps
