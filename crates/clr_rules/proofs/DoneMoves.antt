@@ -86,7 +86,7 @@ module _ (R : Register) (good : IsGoodByPhase R) (c : Id) (r : Record) (found : 
   point_there = state_known R good c row new p refl
 
   -- the point is in the clearance's hand
-  in_own_hand : has_in_hand R.states c row.step.point ≡ true
+  pub in_own_hand : has_in_hand R.states c row.step.point ≡ true
   in_own_hand =
       (good.in_place c).hands point
       ∙ any_from (λ (other : StepRow). is_active other.step.state && same_name point other.step.point) (steps_of R.steps c) row

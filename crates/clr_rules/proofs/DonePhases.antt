@@ -84,7 +84,7 @@ point_kind_differs of kind at_point off_point = false_from_ne_true (same_kind of
     both_ways (is_point_kind kind) off_point (ap is_point_kind (sym (one_kind of kind same)) ∙ at_point))
 
 -- no hold of a record that holds nothing is left after a take
-none_taken : (b has : Bool) → has ≡ false → (not b && has) ≡ false
+pub none_taken : (b has : Bool) → has ≡ false → (not b && has) ≡ false
 none_taken true has none = refl
 none_taken false has none = none
 
@@ -175,7 +175,7 @@ module _ (g : Grid) (before after : List StepRow) (row new : StepRow) (k : ℕ) 
         turned true h = absurd (false≢true h)
 
     -- at the step's point its action comes first
-    undone_here : undoes (had Tag p) (had Control p) (had Block p) (had HeldOpen p) (row.step.action ∷ actions_at (tasks_of (of_round after k)) p) ≡ true
+    pub undone_here : undoes (had Tag p) (had Control p) (had Block p) (had HeldOpen p) (row.step.action ∷ actions_at (tasks_of (of_round after k)) p) ≡ true
     undone_here =
         let first : undoes (had Tag p) (had Control p) (had Block p) (had HeldOpen p) (actions_at (task row.step ∷ tasks_of (of_round after k)) p) ≡ true =
         rw left_was at (h.undone p) in

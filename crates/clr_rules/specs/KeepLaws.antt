@@ -6,7 +6,7 @@ use Rattle.clr_rules.specs.Register.{Register}
 use Rattle.clr_rules.specs.Run.{after}
 use Rattle.clr_rules.specs.declared.command.Command.{Command}
 use Rattle.clr_rules.specs.declared.command.Kind.{Kind}
-use Rattle.clr_rules.specs.declared.command.Kind.TheVariants.{Grant, Instruct, Repeat, Request, Show, Transfer}
+use Rattle.clr_rules.specs.declared.command.Kind.TheVariants.{Grant, Instruct, Repeat, Report, Request, Show, Transfer}
 
 abbrev pub asked : List ℕ → ℕ → Kind → Command
 asked by at kind = record { caller = by; moment = at; kind = kind }
@@ -32,3 +32,6 @@ RepeatsKeepGood = (c : Id) (n : ℕ) (text : List ℕ) → KeepsGood (Repeat c n
 
 abbrev pub InstructsKeepGood : Type 0
 InstructsKeepGood = (c : Id) (n : ℕ) → KeepsGood (Instruct c n)
+
+abbrev pub ReportsKeepGood : Type 0
+ReportsKeepGood = (c : Id) (n : ℕ) (done : Bool) → KeepsGood (Report c n done)

@@ -1,4 +1,4 @@
-ghost use Rattle.clr_rules.specs.KeepLaws.{GrantsKeepGood, InstructsKeepGood, RepeatsKeepGood, RequestsKeepGood, ShowsKeepGood, TransfersKeepGood};
+ghost use Rattle.clr_rules.specs.KeepLaws.{GrantsKeepGood, InstructsKeepGood, RepeatsKeepGood, ReportsKeepGood, RequestsKeepGood, ShowsKeepGood, TransfersKeepGood};
 
 /// A command that shows a clearance keeps a good register good.
 pub fn shows_keep_good()
@@ -28,4 +28,9 @@ pub fn repeats_keep_good()
 /// That a step is given out keeps a good register good.
 pub fn instructs_keep_good()
     ensures { InstructsKeepGood }
+{}
+
+/// The report of a step, done or not, keeps a good register good.
+pub fn reports_keep_good()
+    ensures { ReportsKeepGood }
 {}
