@@ -1,5 +1,5 @@
 -- A hold that is put or taken: what each clearance then has, kind by kind and place by place.
-use Rattle.std.proofs.Common.{◌≡◌, ℕ, Bool, true, false, not, ◌&&◌, ◌||◌, nat_eq, List, find, Option, Some, refl, sym, ◌∙◌, ap, ◌⊎◌, inl, inr}
+use Rattle.std.proofs.Common.{◌≡◌, ℕ, Bool, true, false, not, ◌&&◌, ◌||◌, nat_eq, List, find, Some, refl, sym, ◌∙◌, ap, ◌⊎◌, inl, inr}
 use Rattle.std.specs.Ordering.{is_eq}
 use Rattle.std.proofs.lemmas.Bool.{and_from, and_parts, false≢true, or_cases}
 use Rattle.std.proofs.lemmas.Cmp.{tied_itself}

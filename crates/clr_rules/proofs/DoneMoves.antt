@@ -1,6 +1,5 @@
 -- A step is Done, and the register is edited by its action: what it takes that it stays good.
-use Rattle.std.proofs.Common.{◌≡◌, ◌⊎◌, inl, inr, ⊎_elim, ℕ, Bool, true, false, cond, not, ◌&&◌, ◌||◌, List, [], ◌∷◌, ◌++◌, Option, Some, None, is_some, Contains, refl, sym, ◌∙◌, ap, subst}
-use Rattle.std.specs.List.{list_any}
+use Rattle.std.proofs.Common.{◌≡◌, ◌⊎◌, inl, inr, ⊎_elim, ℕ, Bool, true, false, cond, not, ◌&&◌, List, [], ◌∷◌, ◌++◌, Option, Some, None, is_some, Contains, refl, sym, ◌∙◌, ap, subst}
 use Rattle.std.specs.Option.{option_map}
 use Rattle.std.proofs.lemmas.Bool.{and_from, and_parts, both_ways, false≢true}
 use Rattle.std.proofs.lemmas.Cmp.{nat_list_eq_equiv}
@@ -13,7 +12,7 @@ use Rattle.clr_shelf.specs.Rows.{with_row, without_row}
 use Rattle.clr_rules.specs.Changes.{moved as moved_step}
 use Rattle.clr_rules.specs.Edits.{edited_all}
 use Rattle.clr_rules.specs.Good.{is_closing_at}
-use Rattle.clr_rules.specs.GoodByPhase.{InPhase, IsGoodByPhase, Outlook, active_at, outlook_of}
+use Rattle.clr_rules.specs.GoodByPhase.{InPhase, IsGoodByPhase, Outlook, active_at}
 use Rattle.clr_rules.specs.Hold.{hold_cmp}
 use Rattle.clr_rules.specs.HoldKind.{is_point_kind}
 use Rattle.clr_rules.specs.Holds.{has_hold, hold_key, hold_of, same_kind}
@@ -23,21 +22,20 @@ use Rattle.clr_rules.specs.Register.{Register}
 use Rattle.clr_rules.specs.StateFacts.{hand_of-placed, handed, placed, position_of-handed, position_of-placed, position_of-placed_other, state_of-changed}
 use Rattle.clr_rules.specs.States.{has_in_hand, is_hand, position_of, state_of}
 use Rattle.clr_rules.specs.Steps.{is_active, is_close, steps_of}
-use Rattle.clr_rules.specs.declared.change.Edit.{Edit}
 use Rattle.clr_rules.specs.declared.change.Edit.TheVariants.{PutHold, PutRecord, PutStep, SetHand, SetPosition, TakeHold}
 use Rattle.clr_rules.specs.declared.hold.Hold.{Hold}
 use Rattle.clr_rules.specs.declared.hold_kind.HoldKind.{HoldKind}
-use Rattle.clr_rules.specs.declared.hold_kind.HoldKind.TheVariants.{HeldOpen, Block, Control, Tag}
+use Rattle.clr_rules.specs.declared.hold_kind.HoldKind.TheVariants.{HeldOpen}
 use Rattle.clr_rules.specs.declared.point_state.PointState.{PointState}
 use Rattle.clr_rules.specs.declared.record.Record.{Record}
 use Rattle.clr_rules.specs.declared.step_row.StepRow.{StepRow}
-use Rattle.clr_rules.proofs.DoneHolds.{is_there, kind_itself, others_hold_put, others_hold_taken, own_taken, was_or_put, was_there}
+use Rattle.clr_rules.proofs.DoneHolds.{kind_itself, others_hold_put, others_hold_taken, own_taken, was_or_put, was_there}
 use Rattle.clr_rules.proofs.Keeping.{keeps}
 use Rattle.clr_rules.proofs.KeptSteps.{turns_split}
 use Rattle.clr_rules.proofs.PresentSteps.{IsPresent, active_midst}
 use Rattle.clr_rules.proofs.PutRecords.{Moved, moved, same_closing}
 use Rattle.clr_rules.proofs.PutSteps.{StepPut, closes_at, closing_by, hand_read, known_put, one_hand, others_put, place_by, put_step, state_known, step_put}
-use Rattle.clr_rules.proofs.RoundSteps.{among_own, one_id, record_id}
+use Rattle.clr_rules.proofs.RoundSteps.{among_own, one_id}
 use Rattle.clr_rules.proofs.StepMoves.{InMidst, active-only, active_is, turns_again}
 
 -- a step that is closing is given out

@@ -1,7 +1,6 @@
 -- A step is Done, and its hold is put or taken: the clearance is as its phase wants it.
-use Rattle.std.proofs.Common.{◌≡◌, ◌⊎◌, inl, inr, ℕ, Bool, true, false, not, ◌&&◌, ◌||◌, nat_eq, List, [], ◌∷◌, ◌++◌, map, filter, Option, Some, None, All, Contains, refl, sym, ◌∙◌, ap, subst, arith}
-use Rattle.std.specs.List.{list_any}
-use Rattle.std.proofs.lemmas.Bool.{and_from, and_parts, both_ways, false≢true, false_from_ne_true, true_from_ne_false}
+use Rattle.std.proofs.Common.{◌≡◌, ℕ, Bool, true, false, not, ◌&&◌, ◌||◌, List, [], ◌∷◌, ◌++◌, Option, refl, sym, ◌∙◌, ap, subst}
+use Rattle.std.proofs.lemmas.Bool.{and_from, and_parts, both_ways, false≢true, false_from_ne_true}
 use Rattle.std.proofs.lemmas.Cmp.{nat_list_eq_equiv}
 use Rattle.std.proofs.lemmas.List.Elements.{All-head}
 use Rattle.clr_net.specs.Grid.{Grid}
@@ -13,7 +12,7 @@ use Rattle.clr_order.specs.Step.{Task, actions_at, task}
 use Rattle.clr_order.specs.declared.action.Action.{Action}
 use Rattle.clr_order.specs.declared.action.Action.TheVariants as actions
 use Rattle.clr_rules.specs.Good.{left, put_by, puts}
-use Rattle.clr_rules.specs.GoodByPhase.{ActiveInRound, HoldsNothing, InClosed, InOrdered, InRestoring, InSwitching, Outlook, of_round, present_of}
+use Rattle.clr_rules.specs.GoodByPhase.{ActiveInRound, HoldsNothing, InClosed, InOrdered, InRestoring, InSwitching, of_round, present_of}
 use Rattle.clr_rules.specs.HoldKind.{is_point_kind}
 use Rattle.clr_rules.specs.Holds.{same_kind}
 use Rattle.clr_rules.specs.Steps.{all_done, is_active, is_done, tasks_of}
