@@ -2,7 +2,7 @@
 use Rattle.std.specs.Prelude.{◌≡◌, false, true, List, [], ◌∷◌, ◌++◌, map, codes, Option, Some, None}
 use Rattle.clr_order.specs.declared.action.Action.TheVariants as actions
 use Rattle.clr_rules.specs.Answer.{Answer}
-use Rattle.clr_rules.specs.Worked.{C1, JONES, KIM, L2, OPS, REED, S2, S3, S4, Saying, answer_after, c1_is_on, does, isolating_l2, jones_1, kim_1, l2_asked, l2_granted, l2_grounded, l2_isolated, l2_ordered, l2_released, l2_restoring, l2_tested, ops_1, restoring_l2, s3_unblocked, says, step_is_repeated}
+use Rattle.clr_rules.specs.Worked.{C1, JONES, KIM, L2, OPS, REED, S2, S3, S4, Saying, answer_after, c1_is_on, does, isolating_l2, jones_1, kim_1, l2_asked, l2_granted, l2_grounded, l2_isolated, l2_ordered, l2_released, l2_restoring, l2_tested, ops_1, restoring_l2, s2_opened, s3_unblocked, says, step_is_repeated, step_runs}
 use Rattle.clr_rules.specs.declared.command.Kind.{Kind}
 use Rattle.clr_rules.specs.declared.command.Kind.TheVariants.{Request, Order, Instruct, Repeat, Report, Grant, Test, Ground, Unground, SignOn, SignOff, Transfer, Release, Cancel, Restore, Amend, Switch, Show}
 use Rattle.clr_rules.specs.declared.refusal.Refusal.{Refusal}
@@ -132,3 +132,21 @@ pub record CommandsOfSeveralRoles : Type 0 where
   pub cancel : by_role l2_ordered (Cancel jones_1) ≡ Some NotHolder ∷ Some WrongRole ∷ None ∷ []
   pub transfer : by_role l2_ordered (Transfer jones_1 KIM false) ≡ Some NotHolder ∷ Some NotHolder ∷ None ∷ []
   pub show : by_role l2_ordered (Show jones_1) ≡ None ∷ None ∷ None ∷ []
+
+-- what is said of a step of JONES/1 while it is Waiting, Instructed, Repeated, and Done
+abbrev pub by_state : Saying → List (Option Refusal)
+by_state next = map (λ said. refused_after said next)
+    (l2_ordered ∷ (l2_ordered ++ says OPS (Instruct jones_1 1) ∷ []) ∷ (l2_ordered ++ step_is_repeated jones_1 1 (codes "OPEN S2")) ∷ s2_opened ∷ [])
+
+-- and of a closing step of KIM/1
+abbrev pub closing_by_state : Saying → List (Option Refusal)
+closing_by_state next = map (λ said. refused_after said next)
+    (s3_unblocked ∷ (s3_unblocked ++ says OPS (Instruct kim_1 3) ∷ []) ∷ (s3_unblocked ++ step_is_repeated kim_1 3 (codes "CLOSE S3"))
+    ∷ (s3_unblocked ++ step_runs kim_1 3 (codes "CLOSE S3")) ∷ [])
+
+pub record StepsByState : Type 0 where
+  pub instruct : by_state (says OPS (Instruct jones_1 1)) ≡ None ∷ Some StepState ∷ Some StepState ∷ Some StepState ∷ []
+  pub repeat : by_state (says REED (Repeat jones_1 1 (codes "OPEN S2"))) ≡ Some StepState ∷ None ∷ None ∷ Some StepState ∷ []
+  pub report : by_state (says REED (Report jones_1 1 true)) ≡ Some StepState ∷ Some StepState ∷ None ∷ Some StepState ∷ []
+  pub cancel : by_state (says JONES (Cancel jones_1)) ≡ None ∷ Some StepState ∷ Some StepState ∷ None ∷ []
+  pub amend : closing_by_state (says OPS (Amend kim_1 3)) ≡ None ∷ Some StepState ∷ Some StepState ∷ Some StepState ∷ []

@@ -30,6 +30,7 @@ pub mod ExamplesOfChanges
 pub mod ExamplesOfFirstChecks
 pub mod ExamplesOfNearParts
 pub mod ExamplesOfIsolation
+pub mod ExamplesOfSight
 pub mod ExamplesOfNeighbours
 pub mod ExamplesOfRuns
 pub mod ExamplesOfLive

@@ -12,3 +12,4 @@ pub mod phases;
 pub mod refusals;
 pub mod runs;
 pub mod sequence;
+pub mod sight;

@@ -1,5 +1,5 @@
 //! What each command is answered in each phase, and from each role.
-ghost use Rattle.clr_rules.specs.ExamplesOfPhases.{CommandsInCharge, CommandsOfSeveralRoles, CommandsOfTheField, HoldersByPhase, OperatorsCommands, OrdersByPhase, StepsByPhase, SwitchOrdersByPhase, ViewsByPhase, WorkByPhase};
+ghost use Rattle.clr_rules.specs.ExamplesOfPhases.{CommandsInCharge, CommandsOfSeveralRoles, CommandsOfTheField, HoldersByPhase, OperatorsCommands, OrdersByPhase, StepsByPhase, StepsByState, SwitchOrdersByPhase, ViewsByPhase, WorkByPhase};
 
 /// Orders, and their grant.
 pub fn orders()
@@ -49,4 +49,9 @@ pub fn in_charge()
 /// What several roles say.
 pub fn several()
     ensures { CommandsOfSeveralRoles }
+{}
+
+/// Steps, in each state.
+pub fn states()
+    ensures { StepsByState }
 {}

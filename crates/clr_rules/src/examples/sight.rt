@@ -1,0 +1,30 @@
+//! What a clearance sees, and what is near.
+ghost use Rattle.clr_rules.specs.ExamplesOfSight.{AgreementLooksAtTheNearPart, Covering, Marks, NearAClosedClearance, NearASwitchOrderThatStands, NoMarks, OwnCommands, SectionsAreShown};
+
+/// Its own commands.
+pub fn own_commands()
+    ensures { OwnCommands }
+{}
+
+/// Marks, and what is none.
+pub fn marks()
+    ensures marks { Marks }
+    ensures none { NoMarks }
+    ensures sections { SectionsAreShown }
+{}
+
+/// Sets that cover a run, and sets that do not.
+pub fn covering()
+    ensures { Covering }
+{}
+
+/// What is near a clearance.
+pub fn near()
+    ensures agreement { AgreementLooksAtTheNearPart }
+    ensures closed { NearAClosedClearance }
+{}
+
+/// What is near a switch order that stands.
+pub fn switch_orders()
+    ensures { NearASwitchOrderThatStands }
+{}
