@@ -6,7 +6,7 @@ use Rattle.clr_rules.specs.Register.{Register}
 use Rattle.clr_rules.specs.Run.{after}
 use Rattle.clr_rules.specs.declared.command.Command.{Command}
 use Rattle.clr_rules.specs.declared.command.Kind.{Kind}
-use Rattle.clr_rules.specs.declared.command.Kind.TheVariants.{Grant, Instruct, Repeat, Report, Request, Show, Transfer}
+use Rattle.clr_rules.specs.declared.command.Kind.TheVariants.{Cancel, Grant, Ground, Instruct, Release, Repeat, Report, Request, Show, SignOff, SignOn, Test, Transfer, Unground}
 
 abbrev pub asked : List ℕ → ℕ → Kind → Command
 asked by at kind = record { caller = by; moment = at; kind = kind }
@@ -35,3 +35,18 @@ InstructsKeepGood = (c : Id) (n : ℕ) → KeepsGood (Instruct c n)
 
 abbrev pub ReportsKeepGood : Type 0
 ReportsKeepGood = (c : Id) (n : ℕ) (done : Bool) → KeepsGood (Report c n done)
+
+abbrev pub TestsKeepGood : Type 0
+TestsKeepGood = (c : Id) (section : List ℕ) (dead : Bool) → KeepsGood (Test c section dead)
+
+abbrev pub GroundsKeepGood : Type 0
+GroundsKeepGood = (c : Id) (section : List ℕ) → KeepsGood (Ground c section)
+
+abbrev pub UngroundsKeepGood : Type 0
+UngroundsKeepGood = (c : Id) (section : List ℕ) → KeepsGood (Unground c section)
+
+abbrev pub SignOnsKeepGood : Type 0
+SignOnsKeepGood = (c : Id) (crew : List ℕ) → KeepsGood (SignOn c crew)
+
+abbrev pub SignOffsKeepGood : Type 0
+SignOffsKeepGood = (c : Id) (crew : List ℕ) → KeepsGood (SignOff c crew)

@@ -1,4 +1,4 @@
-ghost use Rattle.clr_rules.specs.KeepLaws.{GrantsKeepGood, InstructsKeepGood, RepeatsKeepGood, ReportsKeepGood, RequestsKeepGood, ShowsKeepGood, TransfersKeepGood};
+ghost use Rattle.clr_rules.specs.KeepLaws.{GrantsKeepGood, GroundsKeepGood, InstructsKeepGood, RepeatsKeepGood, ReportsKeepGood, RequestsKeepGood, ShowsKeepGood, SignOffsKeepGood, SignOnsKeepGood, TestsKeepGood, TransfersKeepGood, UngroundsKeepGood};
 
 /// A command that shows a clearance keeps a good register good.
 pub fn shows_keep_good()
@@ -33,4 +33,29 @@ pub fn instructs_keep_good()
 /// The report of a step, done or not, keeps a good register good.
 pub fn reports_keep_good()
     ensures { ReportsKeepGood }
+{}
+
+/// A test of a section keeps a good register good.
+pub fn tests_keep_good()
+    ensures { TestsKeepGood }
+{}
+
+/// That a section is grounded keeps a good register good.
+pub fn grounds_keep_good()
+    ensures { GroundsKeepGood }
+{}
+
+/// That a ground is taken keeps a good register good.
+pub fn ungrounds_keep_good()
+    ensures { UngroundsKeepGood }
+{}
+
+/// That a crew is signed on keeps a good register good.
+pub fn sign_ons_keep_good()
+    ensures { SignOnsKeepGood }
+{}
+
+/// That a crew is signed off keeps a good register good.
+pub fn sign_offs_keep_good()
+    ensures { SignOffsKeepGood }
 {}
