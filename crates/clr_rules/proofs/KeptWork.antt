@@ -1,17 +1,15 @@
 -- Commands of the work under a granted clearance: it is tested and grounded, and crews are signed on and off.
-use Rattle.std.proofs.Common.{◌≡◌, ◌⊎◌, inl, inr, ⊎_elim, ℕ, Bool, true, false, cond, not, ◌&&◌, ◌||◌, List, [], ◌∷◌, Option, Some, None, Contains, refl, sym, ◌∙◌, ap, subst}
-use Rattle.std.specs.List.{list_any}
+use Rattle.std.proofs.Common.{◌≡◌, ◌⊎◌, inl, inr, ⊎_elim, ℕ, Bool, true, false, cond, not, ◌&&◌, ◌||◌, List, [], ◌∷◌, Option, Some, None, refl, sym, ◌∙◌, ap, subst}
 use Rattle.std.proofs.lemmas.Bool.{and_from, both_ways, false≢true, false_from_ne_true, or_right}
 use Rattle.std.proofs.lemmas.Cmp.{nat_list_eq_equiv}
-use Rattle.clr_net.specs.Grid.{Grid}
 use Rattle.clr_net.specs.Name.{same_name}
 use Rattle.clr_net.specs.Names.{has_name}
-use Rattle.clr_net.proofs.Walks.{any_from, one_name, same_itself}
+use Rattle.clr_net.proofs.Walks.{any_from}
 use Rattle.clr_shelf.specs.Rows.{with_row, without_row}
-use Rattle.clr_rules.specs.Checks.{at_work, crews_on_work, not_grounded, outside_fence, refuse, where_some}
+use Rattle.clr_rules.specs.Checks.{at_work, refuse, where_some}
 use Rattle.clr_rules.specs.Edits.{edited_all}
 use Rattle.clr_rules.specs.Fences.{clearance_fence}
-use Rattle.clr_rules.specs.GoodByPhase.{InGranted, InPhase, IsGoodByPhase, Outlook, inner_fence, outlook_of}
+use Rattle.clr_rules.specs.GoodByPhase.{InGranted, InPhase, IsGoodByPhase, inner_fence, outlook_of}
 use Rattle.clr_rules.specs.Hold.{hold_cmp}
 use Rattle.clr_rules.specs.HoldKind.{is_point_kind}
 use Rattle.clr_rules.specs.Holds.{has_hold, has_some_hold, hold_key, hold_of, same_kind}
@@ -19,12 +17,11 @@ use Rattle.clr_rules.specs.Id.{Id, id_cmp, same_id, same_id_equiv}
 use Rattle.clr_rules.specs.KeepLaws.{GroundsKeepGood, SignOffsKeepGood, SignOnsKeepGood, TestsKeepGood, UngroundsKeepGood}
 use Rattle.clr_rules.specs.Records.{is_granted, record_key, record_of}
 use Rattle.clr_rules.specs.Register.{Register}
-use Rattle.clr_rules.specs.declared.change.Edit.{Edit}
 use Rattle.clr_rules.specs.declared.change.Edit.TheVariants.{PutHold, PutRecord, TakeHold}
 use Rattle.clr_rules.specs.declared.command.Kind.TheVariants.{Ground as GroundIt, SignOff, SignOn, Test, Unground}
 use Rattle.clr_rules.specs.declared.hold.Hold.{Hold}
 use Rattle.clr_rules.specs.declared.hold_kind.HoldKind.{HoldKind}
-use Rattle.clr_rules.specs.declared.hold_kind.HoldKind.TheVariants.{HeldOpen, Block, Control, Tag, Tested, Ground, Crew}
+use Rattle.clr_rules.specs.declared.hold_kind.HoldKind.TheVariants.{Tested, Ground, Crew}
 use Rattle.clr_rules.specs.declared.phase.Phase.{Phase}
 use Rattle.clr_rules.specs.declared.phase.Phase.TheVariants.{Requested, Ordered, Granted, Released, Restoring, Switching, Closed}
 use Rattle.clr_rules.specs.declared.record.Record.{Record}

@@ -6,7 +6,7 @@ use Rattle.clr_rules.specs.Register.{Register}
 use Rattle.clr_rules.specs.Run.{after}
 use Rattle.clr_rules.specs.declared.command.Command.{Command}
 use Rattle.clr_rules.specs.declared.command.Kind.{Kind}
-use Rattle.clr_rules.specs.declared.command.Kind.TheVariants.{Cancel, Grant, Ground, Instruct, Release, Repeat, Report, Request, Show, SignOff, SignOn, Test, Transfer, Unground}
+use Rattle.clr_rules.specs.declared.command.Kind.TheVariants.{Grant, Ground, Instruct, Repeat, Report, Request, Show, SignOff, SignOn, Test, Transfer, Unground}
 
 abbrev pub asked : List ℕ → ℕ → Kind → Command
 asked by at kind = record { caller = by; moment = at; kind = kind }
