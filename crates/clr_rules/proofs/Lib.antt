@@ -52,3 +52,4 @@ pub mod OthersSteps
 pub mod Locality
 pub mod SameFences
 pub mod LookAlike
+pub mod OwnHoldsNear

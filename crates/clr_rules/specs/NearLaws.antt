@@ -6,12 +6,15 @@ use Rattle.clr_net.specs.declared.point.PointRow.{PointRow}
 use Rattle.clr_net.specs.declared.section.SectionRow.{SectionRow}
 use Rattle.clr_order.specs.Step.{Task, task_points}
 use Rattle.clr_rules.specs.Command.{named_clearance}
-use Rattle.clr_rules.specs.Good.{ListsAreInOrder}
+use Rattle.clr_rules.specs.Good.{IsGood, ListsAreInOrder}
 use Rattle.clr_rules.specs.HoldKind.{is_point_kind}
+use Rattle.clr_rules.specs.Holds.{holds_of}
+use Rattle.clr_rules.specs.Fences.{clearance_fence, touching_names}
+use Rattle.clr_net.specs.Names.{has_name}
 use Rattle.clr_rules.specs.Id.{Id}
 use Rattle.clr_rules.specs.MarkLaws.{HasEndIn, StandsAmong}
 use Rattle.clr_rules.specs.Near.{Near, near_of, near_part}
-use Rattle.clr_rules.specs.Records.{greatest_number, is_fenced, record_of}
+use Rattle.clr_rules.specs.Records.{greatest_number, is_fenced, is_standing, record_of}
 use Rattle.clr_rules.specs.Register.{Register}
 use Rattle.clr_rules.specs.Steps.{points_of, steps_in}
 use Rattle.clr_rules.specs.declared.command.Command.{Command}
@@ -171,3 +174,17 @@ NearHasNoOtherRows = (R : Register) (q : Command) → HasNoOtherRows R (near_par
 
 abbrev pub NearIsInOrder : Type 0
 NearIsInOrder = (R : Register) (q : Command) → ListsAreInOrder R → ListsAreInOrder (near_part R q)
+
+-- ---- in a good register
+
+-- all holds of a clearance stand near a command that names it: those at points stand at points of its order, which touch its fence, and tests
+-- and grounds at sections of its fence
+abbrev pub OwnHoldsAreNear : Type 0
+OwnHoldsAreNear = (R : Register) (q : Command) (c : Id) → IsGood R → named_clearance q.kind ≡ Some c → is_order q.kind ≡ false
+    → holds_of (Register.holds (near_part R q)) c ≡ holds_of R.holds c
+
+-- the points of the first round of a standing order touch its fence
+abbrev pub OrderPointsTouchTheFence : Type 0
+OrderPointsTouchTheFence = (R : Register) (c : Id) → IsGood R → (r : Record) → record_of R.records c ≡ Some r → is_standing r.phase ≡ true
+    → (p : List ℕ) → has_name (points_of (steps_in R.steps c 1)) p ≡ true
+    → has_name (touching_names R.net (has_name (clearance_fence R c))) p ≡ true

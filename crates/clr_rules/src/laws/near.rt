@@ -1,5 +1,5 @@
 //! The near part: which rows of the register a command looks at.
-ghost use Rattle.clr_rules.specs.NearLaws.{GreatestIsGreatest, NamedLooksAtItsFence, NearHasNoOtherRows, NearIsInOrder, OrderLooksAtFenceToBe, PointsHaveOneRow, RequestLooksAtItsSection, SwitchLooksAtItsPoints, SwitchOrderHasItsPoints};
+ghost use Rattle.clr_rules.specs.NearLaws.{GreatestIsGreatest, NamedLooksAtItsFence, NearHasNoOtherRows, NearIsInOrder, OrderLooksAtFenceToBe, OrderPointsTouchTheFence, OwnHoldsAreNear, PointsHaveOneRow, RequestLooksAtItsSection, SwitchLooksAtItsPoints, SwitchOrderHasItsPoints};
 
 /// A command that names a clearance looks at its record, steps and crews, at the sections of its fence, at the points that
 /// touch the fence with their positions and hands, and at all holds at these sections and points.
@@ -41,4 +41,11 @@ pub fn greatest_is_greatest()
 pub fn near_has_no_other_rows()
     ensures rows { NearHasNoOtherRows }
     ensures order { NearIsInOrder }
+{}
+
+/// In a good register all holds of a clearance are near a command that names it: the points of a standing order touch its
+/// fence.
+pub fn own_holds_are_near()
+    ensures points { OrderPointsTouchTheFence }
+    ensures holds { OwnHoldsAreNear }
 {}
