@@ -53,3 +53,6 @@ pub mod Locality
 pub mod SameFences
 pub mod LookAlike
 pub mod OwnHoldsNear
+pub mod OwnQuestions
+pub mod OwnChecks
+pub mod OwnParts

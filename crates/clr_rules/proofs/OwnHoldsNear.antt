@@ -1,11 +1,10 @@
 -- All holds of a clearance stand near a command that names it.
-use Rattle.std.proofs.Common.{◌≡◌, ◌∙◌, ◌⊎◌, inl, inr, ⊎_elim, ℕ, Bool, true, false, ◌&&◌, ◌||◌, List, Option, Some, None, refl, sym, ap, subst}
-use Rattle.std.specs.Prelude.{IsTrue}
-use Rattle.std.specs.List.{All, Contains, filter}
+use Rattle.std.proofs.Common.{◌≡◌, ◌∙◌, ◌⊎◌, inl, inr, ⊎_elim, ℕ, true, false, ◌&&◌, ◌||◌, List, Option, Some, None, refl, sym, ap}
+use Rattle.std.specs.List.{Contains}
 use Rattle.std.proofs.lemmas.Bool.{and_from, false≢true, or_cases, or_left, or_right}
 use Rattle.std.proofs.lemmas.List.Elements.{All-contains}
 use Rattle.clr_net.specs.Fence.{FenceRows, fence_of, in_fence}
-use Rattle.clr_net.specs.Grid.{Grid, IsNetwork}
+use Rattle.clr_net.specs.Grid.{Grid}
 use Rattle.clr_net.specs.Name.{same_name}
 use Rattle.clr_net.specs.Names.{has_name}
 use Rattle.clr_net.specs.declared.point.PointRow.{PointRow}
@@ -14,14 +13,14 @@ use Rattle.clr_order.specs.Isolating.{IsSoundOrder, is_border_point, touching_ro
 use Rattle.clr_order.proofs.Finds.{found_passes}
 use Rattle.clr_rules.specs.Answer.{fence_for, known_of}
 use Rattle.clr_rules.specs.Command.{named_clearance}
-use Rattle.clr_rules.specs.Fences.{clearance_fence, touches, touching_names, work_fence}
+use Rattle.clr_rules.specs.Fences.{clearance_fence, touching_names}
 use Rattle.clr_rules.specs.Good.{IsGood, IsSoundFor}
 use Rattle.clr_rules.specs.HoldKind.{is_crew, is_point_kind, is_section_kind}
 use Rattle.clr_rules.specs.Holds.{has_hold, holds_of, is_near_hold, is_own, once}
 use Rattle.clr_rules.specs.Id.{Id, same_id}
 use Rattle.clr_rules.specs.MarkLaws.{HasEndIn}
 use Rattle.clr_rules.specs.Near.{is_beside, near_part}
-use Rattle.clr_rules.specs.NearLaws.{InFence, is_order}
+use Rattle.clr_rules.specs.NearLaws.{is_order}
 use Rattle.clr_rules.specs.Records.{is_fenced, is_standing, record_of}
 use Rattle.clr_rules.specs.Register.{Register}
 use Rattle.clr_rules.specs.Steps.{points_of, steps_in, tasks_of}

@@ -43,11 +43,12 @@ touches_wider near inside wider p touching = ⊎_elim
 
 -- ---- what is read of the part near a clearance
 
-module _ (R : Register) (c : Id) (inside : List ℕ → Bool) where
-  record_of-part : record_of (Register.records (part_near R c inside)) c ≡ record_of R.records c
-  record_of-part = row_of-filter_inside id_cmp record_key id_cmp_total (λ (r : Record). same_id c r.id) c R.records
-      (λ r tied. subst (λ (d : Id). same_id c d ≡ true) (sym (same_id_from_tie r.id c (equal (id_cmp r.id c) tied))) (own_id c))
+-- the record of a clearance among those of the clearance
+pub record_of-own : (records : List Record) (c : Id) → record_of (filter (λ r. same_id c r.id) records) c ≡ record_of records c
+record_of-own records c = row_of-filter_inside id_cmp record_key id_cmp_total (λ (r : Record). same_id c r.id) c records
+    (λ r tied. subst (λ (d : Id). same_id c d ≡ true) (sym (same_id_from_tie r.id c (equal (id_cmp r.id c) tied))) (own_id c))
 
+module _ (R : Register) (c : Id) (inside : List ℕ → Bool) where
   steps_in-part : (round : ℕ) → steps_in (Register.steps (part_near R c inside)) c round ≡ steps_in R.steps c round
   unfolding steps_in
   steps_in-part round = filter-filter_wider (is_of_round c round) (λ (row : StepRow). same_id c row.id)
@@ -65,7 +66,7 @@ module _ (R : Register) (c : Id) (inside : List ℕ → Bool) where
 
 module _ (R S : Register) (c : Id) (inside : List ℕ → Bool) (agree : Agree c inside R S) where
   pub same_record : record_of R.records c ≡ record_of S.records c
-  same_record = sym (record_of-part R c inside) ∙ ap (λ (P : Register). record_of P.records c) agree.near ∙ record_of-part S c inside
+  same_record = sym (record_of-own R.records c) ∙ ap (λ (P : Register). record_of P.records c) agree.near ∙ record_of-own S.records c
 
   same_steps : (round : ℕ) → steps_in R.steps c round ≡ steps_in S.steps c round
   same_steps round = sym (steps_in-part R c inside round) ∙ ap (λ (P : Register). steps_in P.steps c round) agree.near ∙ steps_in-part S c inside round

@@ -56,3 +56,4 @@ pub mod EditOrder
 pub mod FrameLaws
 pub mod NearLaws
 pub mod StepLaws
+pub mod OwnLaws

@@ -9,6 +9,7 @@ pub mod locality;
 pub mod marks;
 pub mod near;
 pub mod opening;
+pub mod own;
 pub mod runs;
 pub mod steps;
 pub mod work;

@@ -1,0 +1,43 @@
+-- What a register has of a clearance, and that its commands look at this and at what is near, as laws.
+use Rattle.std.specs.Prelude.{◌≡◌, ℕ, Bool, true, false, List, Some}
+use Rattle.clr_rules.specs.Agreement.{Agree}
+use Rattle.clr_rules.specs.Answer.{Known, checks}
+use Rattle.clr_rules.specs.Command.{named_clearance}
+use Rattle.clr_rules.specs.Good.{IsGood}
+use Rattle.clr_rules.specs.Holds.{holds_of}
+use Rattle.clr_rules.specs.Id.{Id}
+use Rattle.clr_rules.specs.Near.{near_part}
+use Rattle.clr_rules.specs.NearLaws.{is_order}
+use Rattle.clr_rules.specs.Records.{record_of}
+use Rattle.clr_rules.specs.Register.{Register}
+use Rattle.clr_rules.specs.Steps.{steps_of}
+use Rattle.clr_rules.specs.declared.command.Command.{Command}
+use Rattle.clr_rules.specs.declared.command.Kind.{Kind}
+use Rattle.clr_rules.specs.declared.command.Kind.TheVariants.{Instruct}
+
+-- two registers have the same staff, and the same of a clearance: its record, its steps and its holds
+pub record SameOwn (c : Id) (R S : Register) : Type 0 where
+  pub staff : R.staff ≡ S.staff
+  pub own_record : record_of R.records c ≡ record_of S.records c
+  pub own_steps : steps_of R.steps c ≡ steps_of S.steps c
+  pub own_holds : holds_of R.holds c ≡ holds_of S.holds c
+
+abbrev pub is_instruct : Kind → Bool
+is_instruct (Instruct c n) = true
+is_instruct kind = false
+
+-- registers that agree near a clearance have the same of it
+abbrev pub AgreeingRegistersHaveTheSame : Type 0
+AgreeingRegistersHaveTheSame = (c : Id) (inside : List ℕ → Bool) (R S : Register) → Agree c inside R S → SameOwn c R S
+
+-- the near part of a command that names a clearance has the same of it as the whole register
+abbrev pub NearHasTheOwn : Type 0
+NearHasTheOwn = (R : Register) (q : Command) (c : Id) → IsGood R → named_clearance q.kind ≡ Some c → is_order q.kind ≡ false
+    → SameOwn c R (near_part R q)
+
+-- the checks of a command that names a clearance look at nothing else of the rows, but for those of an order, and of a point where a step is
+-- given out
+abbrev pub ChecksLookAtTheOwn : Type 0
+ChecksLookAtTheOwn = (c : Id) (R S : Register) → SameOwn c R S → (k : Known) (by : List ℕ) (at : ℕ) (kind : Kind)
+    → named_clearance kind ≡ Some c → is_order kind ≡ false → is_instruct kind ≡ false
+    → checks k R by at kind ≡ checks k S by at kind
