@@ -56,3 +56,6 @@ pub mod OwnHoldsNear
 pub mod OwnQuestions
 pub mod OwnChecks
 pub mod OwnParts
+pub mod NewRounds
+pub mod PassedOrders
+pub mod KeptSwitches

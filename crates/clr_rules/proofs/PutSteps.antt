@@ -32,7 +32,7 @@ use Rattle.clr_rules.proofs.StepSplits.{split_at}
 abbrev pub put_step : StepRow → List StepRow → List StepRow
 put_step new steps = with_row step_key_cmp step_key new steps
 
-own_steps : (c : Id) (new : StepRow) (steps : List StepRow) → same_id c new.id ≡ true → steps_of (put_step new steps) c ≡ put_step new (steps_of steps c)
+pub own_steps : (c : Id) (new : StepRow) (steps : List StepRow) → same_id c new.id ≡ true → steps_of (put_step new steps) c ≡ put_step new (steps_of steps c)
 unfolding steps_of
 own_steps c new steps own = filter-with_inside step_key_cmp step_key step_key_cmp_total (λ (row : StepRow). same_id c row.id) new steps own
 

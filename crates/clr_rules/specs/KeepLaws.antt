@@ -1,12 +1,13 @@
 -- Commands keep a good register good, kind by kind.
 use Rattle.std.specs.Prelude.{ℕ, Bool, List}
+use Rattle.clr_order.specs.Step.{Task}
 use Rattle.clr_rules.specs.Good.{IsGood}
 use Rattle.clr_rules.specs.Id.{Id}
 use Rattle.clr_rules.specs.Register.{Register}
 use Rattle.clr_rules.specs.Run.{after}
 use Rattle.clr_rules.specs.declared.command.Command.{Command}
 use Rattle.clr_rules.specs.declared.command.Kind.{Kind}
-use Rattle.clr_rules.specs.declared.command.Kind.TheVariants.{Grant, Ground, Instruct, Repeat, Report, Request, Show, SignOff, SignOn, Test, Transfer, Unground}
+use Rattle.clr_rules.specs.declared.command.Kind.TheVariants.{Grant, Ground, Instruct, Repeat, Report, Request, Show, SignOff, SignOn, Switch, Test, Transfer, Unground}
 
 abbrev pub asked : List ℕ → ℕ → Kind → Command
 asked by at kind = record { caller = by; moment = at; kind = kind }
@@ -50,3 +51,6 @@ SignOnsKeepGood = (c : Id) (crew : List ℕ) → KeepsGood (SignOn c crew)
 
 abbrev pub SignOffsKeepGood : Type 0
 SignOffsKeepGood = (c : Id) (crew : List ℕ) → KeepsGood (SignOff c crew)
+
+abbrev pub SwitchesKeepGood : Type 0
+SwitchesKeepGood = (tasks : List Task) → KeepsGood (Switch tasks)

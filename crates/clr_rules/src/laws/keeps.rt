@@ -1,4 +1,4 @@
-ghost use Rattle.clr_rules.specs.KeepLaws.{GrantsKeepGood, GroundsKeepGood, InstructsKeepGood, RepeatsKeepGood, ReportsKeepGood, RequestsKeepGood, ShowsKeepGood, SignOffsKeepGood, SignOnsKeepGood, TestsKeepGood, TransfersKeepGood, UngroundsKeepGood};
+ghost use Rattle.clr_rules.specs.KeepLaws.{GrantsKeepGood, GroundsKeepGood, InstructsKeepGood, RepeatsKeepGood, ReportsKeepGood, RequestsKeepGood, ShowsKeepGood, SignOffsKeepGood, SignOnsKeepGood, SwitchesKeepGood, TestsKeepGood, TransfersKeepGood, UngroundsKeepGood};
 
 /// A command that shows a clearance keeps a good register good.
 pub fn shows_keep_good()
@@ -58,4 +58,9 @@ pub fn sign_ons_keep_good()
 /// That a crew is signed off keeps a good register good.
 pub fn sign_offs_keep_good()
     ensures { SignOffsKeepGood }
+{}
+
+/// A switch order keeps a good register good.
+pub fn switches_keep_good()
+    ensures { SwitchesKeepGood }
 {}
