@@ -6,4 +6,8 @@ pub mod SortedRows
 pub mod Lending
 pub mod OrderPositions
 pub mod OrderPassed
+pub mod Counting
+pub mod PuttingSteps
+pub mod Accepting
+pub mod Phases
 pub mod NewSteps

@@ -1,2 +1,5 @@
 pub mod Shelved
 pub mod OrderChecks
+pub mod Wanted
+pub mod PutSteps
+pub mod Decided

@@ -2,12 +2,16 @@
 #![tactic(auto)]
 
 mod book;
+mod decision;
+mod kinds;
 mod lend;
 mod near;
 mod orders;
-mod rounds;
+mod progress;
+mod questions;
 mod shelves;
 mod states;
+mod view;
 
 pub use book::Book;
 pub use clr_rules::{
@@ -15,4 +19,6 @@ pub use clr_rules::{
     Items, Kind, MAX_CLEARANCE_NUMBER, MAX_MOMENT, Moment, Names, Phase, PointState, PointStates,
     Record, Refusal, Reply, StepKey, StepRow, Steps, Tasks, Text, View,
 };
+pub use decision::Decision;
+pub use kinds::decide;
 pub use near::Near;

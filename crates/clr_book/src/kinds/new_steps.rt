@@ -1,10 +1,9 @@
 //! The steps of a new round.
-ghost use Rattle.std.specs.Prelude.{◌≡◌, ◌≤◌, IfOk, length, map};
-ghost use Rattle.clr_order.specs.Step.{task};
+ghost use Rattle.std.specs.Prelude.{◌≡◌, ◌≤◌, IfOk, length};
 ghost use Rattle.clr_rules.specs.Changes.{new_steps};
 
 use clr_order::{Step, StepState};
-use clr_rules::{ClearanceId, StepRow};
+use clr_rules::{ClearanceId, StepRow, Tasks};
 use std::alloc::{AllocError, Global};
 
 /// The steps of a round, numbered from 1, each waiting and without a reader.
@@ -13,14 +12,14 @@ pub(crate) fn new_steps(
     alloc: Global,
     id: ClearanceId,
     round: u8,
-    steps: &[Step],
+    tasks: &Tasks,
 ) -> Result<Vec<StepRow>, AllocError>
-    requires { length steps.now ≤ 256 }
-    ensures { IfOk result (λ rows. rows.items ≡ new_steps id round 1 (map task steps.now)) }
+    requires { length tasks.now ≤ 256 }
+    ensures { IfOk result (λ rows. rows.items ≡ new_steps id round 1 tasks.now) }
 {
     let mut rows = Vec::new(alloc);
-    let mut ordinal = 1;
-    for step in steps {
+    let mut ordinal: u16 = 1;
+    for step in tasks.as_slice() {
         rows.push(StepRow {
             id,
             round,

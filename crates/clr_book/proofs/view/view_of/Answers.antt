@@ -1,0 +1,29 @@
+use Rattle.std.proofs.Common.{◌∙◌, filter, map, None, ap, sym}
+use Rattle.clr_net.specs.Names.{has_name}
+use Rattle.clr_rules.specs.Fences.{touching_names}
+use Rattle.clr_rules.specs.Holds.{in_kind_order, is_near_hold}
+use Rattle.clr_rules.specs.declared.point_state.PointState.{PointState}
+use Rattle.clr_rules.specs.declared.step_row.StepRow.{StepRow}
+use Rattle.clr_book.proofs.view.view_of.Goals as goal
+
+pub returns : goal.returns
+returns c =
+    let R = c.args.near.now.rows in
+    let fence = c.in_ok-fence.ensures in
+    let touching = c.in_ok-touching.ensures ∙ ap (λ names. touching_names R.net (has_name names)) (c.deref.ensures.value ∙ fence) in
+    let inside = c.deref-2.ensures.value ∙ fence in
+    let beside = c.deref-3.ensures.value ∙ touching in
+    let near_points = c.deref-5.ensures.value ∙ touching in
+    let near_holds = c.in_ok-near_holds.ensures ∙ (λ i. filter (is_near_hold (has_name (inside i)) (has_name (beside i)) None) R.holds) in
+    let holds = c.in_ok-holds.ensures ∙ ap in_kind_order (c.deref-4.ensures.value ∙ near_holds) in
+    let points = c.in_ok-points.ensures ∙ (λ i. filter (λ (state : PointState). has_name (near_points i) state.point) R.states) in
+    let steps = c.in_ok-steps.ensures ∙ ap (map (λ (row : StepRow). row.step)) (sym c.last_round.ensures) in
+    λ i. record {
+      card = c.card.ensures i;
+      crews = (c.new.ensures ∙ c.in_ok-crews.ensures) i;
+      fence = (c.new-2.ensures ∙ fence) i;
+      holds = (c.new-3.ensures ∙ holds) i;
+      points = (c.new-4.ensures ∙ points) i;
+      steps = (c.new-5.ensures ∙ steps) i;
+      work = c.args.clearance.now.work;
+    }
