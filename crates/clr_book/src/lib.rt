@@ -1,6 +1,7 @@
 //! The register of clearances: a book over four shelves, what of it a command looks at, and what it is answered.
 #![tactic(auto)]
 
+mod answer;
 mod book;
 mod decision;
 mod kinds;
