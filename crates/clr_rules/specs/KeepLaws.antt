@@ -7,7 +7,7 @@ use Rattle.clr_rules.specs.Register.{Register}
 use Rattle.clr_rules.specs.Run.{after}
 use Rattle.clr_rules.specs.declared.command.Command.{Command}
 use Rattle.clr_rules.specs.declared.command.Kind.{Kind}
-use Rattle.clr_rules.specs.declared.command.Kind.TheVariants.{Grant, Ground, Instruct, Repeat, Report, Request, Show, SignOff, SignOn, Switch, Test, Transfer, Unground}
+use Rattle.clr_rules.specs.declared.command.Kind.TheVariants.{Cancel, Grant, Ground, Instruct, Release, Repeat, Report, Request, Show, SignOff, SignOn, Switch, Test, Transfer, Unground}
 
 abbrev pub asked : List ℕ → ℕ → Kind → Command
 asked by at kind = record { caller = by; moment = at; kind = kind }
@@ -54,3 +54,9 @@ SignOffsKeepGood = (c : Id) (crew : List ℕ) → KeepsGood (SignOff c crew)
 
 abbrev pub SwitchesKeepGood : Type 0
 SwitchesKeepGood = (tasks : List Task) → KeepsGood (Switch tasks)
+
+abbrev pub CancelsKeepGood : Type 0
+CancelsKeepGood = (c : Id) → KeepsGood (Cancel c)
+
+abbrev pub ReleasesKeepGood : Type 0
+ReleasesKeepGood = (c : Id) (notified clear : Bool) → KeepsGood (Release c notified clear)

@@ -1,4 +1,4 @@
-ghost use Rattle.clr_rules.specs.KeepLaws.{GrantsKeepGood, GroundsKeepGood, InstructsKeepGood, RepeatsKeepGood, ReportsKeepGood, RequestsKeepGood, ShowsKeepGood, SignOffsKeepGood, SignOnsKeepGood, SwitchesKeepGood, TestsKeepGood, TransfersKeepGood, UngroundsKeepGood};
+ghost use Rattle.clr_rules.specs.KeepLaws.{CancelsKeepGood, GrantsKeepGood, GroundsKeepGood, InstructsKeepGood, ReleasesKeepGood, RepeatsKeepGood, ReportsKeepGood, RequestsKeepGood, ShowsKeepGood, SignOffsKeepGood, SignOnsKeepGood, SwitchesKeepGood, TestsKeepGood, TransfersKeepGood, UngroundsKeepGood};
 
 /// A command that shows a clearance keeps a good register good.
 pub fn shows_keep_good()
@@ -63,4 +63,14 @@ pub fn sign_offs_keep_good()
 /// A switch order keeps a good register good.
 pub fn switches_keep_good()
     ensures { SwitchesKeepGood }
+{}
+
+/// A cancel keeps a good register good.
+pub fn cancels_keep_good()
+    ensures { CancelsKeepGood }
+{}
+
+/// A release keeps a good register good.
+pub fn releases_keep_good()
+    ensures { ReleasesKeepGood }
 {}
