@@ -87,7 +87,7 @@ marks_alike R S c inside agree edits =
 -- ---- the clearance's own holds
 
 -- the holds of a clearance after an edit
-abbrev own_after : Id → Edit → List Hold → List Hold
+abbrev pub own_after : Id → Edit → List Hold → List Hold
 own_after c (PutHold h) holds = cond (same_id c h.id) (with_row hold_cmp hold_key h holds) holds
 own_after c (TakeHold h) holds = without_row hold_cmp hold_key h holds
 own_after c edit holds = holds
@@ -102,7 +102,7 @@ take_own : (c : Id) (h : Hold) (holds : List Hold) → holds_of (without_row hol
 unfolding holds_of
 take_own c h holds = filter-without_row hold_cmp hold_key hold_cmp_total (λ other. same_id c other.id) h holds
 
-holds_of-edited : (R : Register) → ListsAreInOrder R → (c : Id) (edit : Edit) → holds_of (Register.holds (edited edit R)) c ≡ own_after c edit (holds_of R.holds c)
+pub holds_of-edited : (R : Register) → ListsAreInOrder R → (c : Id) (edit : Edit) → holds_of (Register.holds (edited edit R)) c ≡ own_after c edit (holds_of R.holds c)
 holds_of-edited R ordered c (SetPosition point position) = refl
 holds_of-edited R ordered c (SetHand point hand) = refl
 holds_of-edited R ordered c (PutHold h) = put_own c h R.holds ordered.holds (same_id c h.id) refl

@@ -60,3 +60,5 @@ pub mod OwnParts
 pub mod NewRounds
 pub mod PassedOrders
 pub mod KeptSwitches
+pub mod OwnEdits
+pub mod OwnAnswers

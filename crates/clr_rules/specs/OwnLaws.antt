@@ -1,12 +1,15 @@
 -- What a register has of a clearance, and that its commands look at this and at what is near, as laws.
 use Rattle.std.specs.Prelude.{◌≡◌, ℕ, Bool, true, false, List, Some}
 use Rattle.clr_rules.specs.Agreement.{Agree}
-use Rattle.clr_rules.specs.Answer.{Known, checks}
+use Rattle.clr_rules.specs.Answer.{Known, answer, answer_with, checks, known_of}
+use Rattle.clr_rules.specs.Changes.{edits_of}
+use Rattle.clr_rules.specs.Edits.{edited_all}
+use Rattle.clr_rules.specs.declared.change.Edit.{Edit}
 use Rattle.clr_rules.specs.Command.{named_clearance}
-use Rattle.clr_rules.specs.Good.{IsGood}
+use Rattle.clr_rules.specs.Good.{IsGood, ListsAreInOrder}
 use Rattle.clr_rules.specs.Holds.{holds_of}
 use Rattle.clr_rules.specs.Id.{Id}
-use Rattle.clr_rules.specs.Near.{near_part}
+use Rattle.clr_rules.specs.Near.{near_of, near_part}
 use Rattle.clr_rules.specs.NearLaws.{is_order}
 use Rattle.clr_rules.specs.Records.{record_of}
 use Rattle.clr_rules.specs.Register.{Register}
@@ -41,3 +44,25 @@ abbrev pub ChecksLookAtTheOwn : Type 0
 ChecksLookAtTheOwn = (c : Id) (R S : Register) → SameOwn c R S → (k : Known) (by : List ℕ) (at : ℕ) (kind : Kind)
     → named_clearance kind ≡ Some c → is_order kind ≡ false → is_instruct kind ≡ false
     → checks k R by at kind ≡ checks k S by at kind
+
+-- the edits of a command that names a clearance are made by what the register has of it
+abbrev pub EditsAreOfTheOwn : Type 0
+EditsAreOfTheOwn = (c : Id) (R S : Register) → ListsAreInOrder R → ListsAreInOrder S → SameOwn c R S
+    → (greatest : ℕ) (by : List ℕ) (at : ℕ) (kind : Kind) → named_clearance kind ≡ Some c
+    → edits_of greatest R by at kind ≡ edits_of greatest S by at kind
+
+-- and both registers have the same of it after the same edits
+abbrev pub SameEditsKeepTheOwn : Type 0
+SameEditsKeepTheOwn = (c : Id) (R S : Register) → ListsAreInOrder R → ListsAreInOrder S → SameOwn c R S
+    → (edits : List Edit) → SameOwn c (edited_all edits R) (edited_all edits S)
+
+-- WHAT IS NEAR IS ENOUGH: in a good register a command that names a clearance, but for an order and for a step that is given out, is answered
+-- from its near part as from the whole register
+abbrev pub NearIsEnough : Type 0
+NearIsEnough = (R : Register) (q : Command) (c : Id) → IsGood R → named_clearance q.kind ≡ Some c → is_order q.kind ≡ false → is_instruct q.kind ≡ false
+    → answer R q ≡ answer_with (known_of R q) (near_part R q) q
+
+-- so good registers with the same near part answer it alike
+abbrev pub SameNearSameAnswer : Type 0
+SameNearSameAnswer = (R S : Register) (q : Command) (c : Id) → IsGood R → IsGood S → named_clearance q.kind ≡ Some c → is_order q.kind ≡ false
+    → is_instruct q.kind ≡ false → near_of R q ≡ near_of S q → answer R q ≡ answer S q

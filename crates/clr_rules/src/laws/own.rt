@@ -1,5 +1,5 @@
 //! What a register has of a clearance, and what its commands look at.
-ghost use Rattle.clr_rules.specs.OwnLaws.{AgreeingRegistersHaveTheSame, ChecksLookAtTheOwn, NearHasTheOwn};
+ghost use Rattle.clr_rules.specs.OwnLaws.{AgreeingRegistersHaveTheSame, ChecksLookAtTheOwn, EditsAreOfTheOwn, NearHasTheOwn, NearIsEnough, SameEditsKeepTheOwn, SameNearSameAnswer};
 
 /// Registers that agree near a clearance have the same staff, record, steps and holds of it, and so has the near part of a
 /// command that names it.
@@ -11,4 +11,17 @@ pub fn same_own_is_near()
 /// The checks of a command look at these alone, but for those of an order, and of a point where a step is given out.
 pub fn checks_look_at_the_own()
     ensures { ChecksLookAtTheOwn }
+{}
+
+/// Its edits are made by these, and both registers have the same of the clearance after the same edits.
+pub fn edits_are_of_the_own()
+    ensures made { EditsAreOfTheOwn }
+    ensures after { SameEditsKeepTheOwn }
+{}
+
+/// In a good register a command that names a clearance, but for an order and for a step that is given out, is answered from
+/// its near part as from the whole register; so good registers with the same near part answer it alike.
+pub fn near_is_enough()
+    ensures enough { NearIsEnough }
+    ensures alike { SameNearSameAnswer }
 {}
