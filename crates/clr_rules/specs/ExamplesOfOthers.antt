@@ -1,5 +1,5 @@
 -- EXAMPLES OF WHAT DOES NOT SERVE AND WHAT DOES NOT HINDER: another's test, ground and crew; another section; another employee; a hand of one's own.
-use Rattle.std.specs.Prelude.{◌≡◌, ℕ, false, true, List, [], ◌∷◌, ◌++◌, codes, Some, None}
+use Rattle.std.specs.Prelude.{◌≡◌, ℕ, false, true, List, [], ◌∷◌, ◌++◌, codes, Some, None, map, Option}
 use Rattle.clr_net.specs.declared.point.Position.TheVariants.{Closed as Shut}
 use Rattle.clr_order.specs.declared.action.Action.TheVariants as actions
 use Rattle.clr_rules.specs.Answer.{Answer, answer}
@@ -7,15 +7,17 @@ use Rattle.clr_rules.specs.Edits.{edited_all}
 use Rattle.clr_rules.specs.ExamplesOfChanges.{both_tested}
 use Rattle.clr_rules.specs.ExamplesOfPhases.{refusal_in, refused_after}
 use Rattle.clr_rules.specs.ExamplesOfSequence.{tells}
-use Rattle.clr_rules.specs.Holds.{hold_of}
+use Rattle.clr_rules.specs.Holds.{hindering_hold, hold_of}
 use Rattle.clr_rules.specs.Register.{Register, opening}
 use Rattle.clr_rules.specs.Run.{after_all}
 use Rattle.clr_rules.specs.Worked.{BOSS, C1, JONES, KIM, L2, L3, OPS, REED, S2, S3, Saying, ZZ, accepted, answer_after, c1_is_on, kim_is_ordered, refused, does, from_moment, isolating_l2, jones_1, kim_1, l2_granted, ops_1, register_after, s2_opened, said_at, says, step_runs, worked_staff}
 use Rattle.clr_rules.specs.declared.change.Edit.TheVariants.{SetHand, PutHold, PutRecord, TakeHold}
-use Rattle.clr_rules.specs.declared.phase.Phase.TheVariants.{Closed, Released}
+use Rattle.clr_rules.specs.declared.phase.Phase.TheVariants.{Requested, Closed, Released}
 use Rattle.clr_rules.specs.WorkedRows.{kim_card, kim_record}
 use Rattle.clr_rules.specs.declared.command.Kind.TheVariants.{Request, Order, Instruct, Grant, Test, Ground as LayGround, Unground, SignOn, SignOff, Transfer, Release, Cancel, Restore, Switch}
-use Rattle.clr_rules.specs.declared.hold_kind.HoldKind.TheVariants.{HeldOpen, Tag, Tested}
+use Rattle.clr_rules.specs.declared.hold.Hold.{Hold}
+use Rattle.clr_rules.specs.declared.hold_kind.HoldKind.{HoldKind}
+use Rattle.clr_rules.specs.declared.hold_kind.HoldKind.TheVariants.{HeldOpen, Block, Control, Tag, Tested, Ground, Crew}
 use Rattle.clr_rules.specs.declared.refusal.Refusal.TheVariants.{NotHolder, NotTested, Grounded, NotGrounded, CrewsOn, CrewState, BadTransfer, Held}
 
 -- KIM has a clearance on L2 as well, at the same points
@@ -85,6 +87,22 @@ abbrev pub LesserClearancesAreNamed : Type 0
 LesserClearancesAreNamed =
     answer (edited_all (PutHold (hold_of jones_1 Tag S2) ∷ PutHold (hold_of kim_1 HeldOpen S2) ∷ []) (register_after (says OPS (Switch (does actions.Close S2 ∷ [])) ∷ [])))
     (said_at 200 (says OPS (Instruct ops_1 1))) ≡ refused (Held jones_1 Tag)
+
+-- of one clearance's holds at a point the first is named: HeldOpen, then Block, then Control, then Tag
+abbrev pub first_at_s2 : List HoldKind → Option Hold
+first_at_s2 kinds = hindering_hold (map (λ kind. hold_of jones_1 kind S2) kinds) kim_1 S2
+
+pub record KindsStandInOrder : Type 0 where
+  pub held_open : first_at_s2 (Block ∷ HeldOpen ∷ []) ≡ Some (hold_of jones_1 HeldOpen S2)
+  pub block : first_at_s2 (Control ∷ Tag ∷ Block ∷ []) ≡ Some (hold_of jones_1 Block S2)
+  pub control : first_at_s2 (Tag ∷ Control ∷ []) ≡ Some (hold_of jones_1 Control S2)
+  pub none : first_at_s2 (Tested ∷ Ground ∷ Crew ∷ []) ≡ None
+
+-- a holder whom the staff lacks has no supervisor
+abbrev pub StrangersHaveNoSupervisor : Type 0
+StrangersHaveNoSupervisor =
+    answer (edited_all (PutRecord (record { id = jones_1; holder = ZZ; work = Some L2; phase = Requested; last = 100 }) ∷ []) (register_after []))
+    (said_at 200 (says BOSS (Transfer jones_1 BOSS true))) ≡ refused NotHolder
 
 -- ONE NAME FOR TWO: a section A and a point A, which joins the section to M; the point P joins M to the source G
 abbrev pub A : List ℕ

@@ -5,6 +5,7 @@ use Rattle.clr_net.specs.declared.point.Position.TheVariants.{Opened, Closed as 
 use Rattle.clr_order.specs.declared.action.Action.TheVariants as actions
 use Rattle.clr_order.specs.declared.step.StepState.TheVariants.{Waiting}
 use Rattle.clr_rules.specs.Agreement.{part_near}
+use Rattle.clr_rules.specs.Edits.{edited_all}
 use Rattle.clr_rules.specs.ExamplesOfIsolation.{in_l2}
 use Rattle.clr_rules.specs.ExamplesOfNearParts.{both_at_work}
 use Rattle.clr_rules.specs.Holds.{hold_of}
@@ -42,10 +43,11 @@ Marks = marks_of worked_net in_l2
     ≡ SetPosition S3 Opened ∷ SetHand S2 (Some kim_1) ∷ PutHold (hold_of kim_1 Block S3) ∷ PutHold (hold_of kim_1 Ground L2)
     ∷ TakeHold (hold_of kim_1 Tag S2) ∷ TakeHold (hold_of kim_1 Tested L2) ∷ []
 
--- a crew, a record and a step are none, even of JONES
+-- a crew, a record and a step are none, even of JONES; nor is a hold at a section that has a point's name, or at a point that has a section's
 abbrev pub NoMarks : Type 0
 NoMarks = marks_of worked_net in_l2
-    (PutHold (hold_of jones_1 Crew C1) ∷ TakeHold (hold_of jones_1 Crew L2) ∷ PutRecord (jones_record Ordered 100)
+    (PutHold (hold_of jones_1 Crew C1) ∷ TakeHold (hold_of jones_1 Crew L2) ∷ TakeHold (hold_of jones_1 Crew S2)
+    ∷ PutHold (hold_of kim_1 Ground S3) ∷ PutHold (hold_of kim_1 Block L2) ∷ PutRecord (jones_record Ordered 100)
     ∷ PutStep (step_row jones_1 1 1 (does actions.Open S2) Waiting None) ∷ []) ≡ []
 
 -- what two requests and another's show JONES/1: its requester's, with the section that is asked for, if there is one
@@ -89,6 +91,11 @@ AgreementLooksAtTheNearPart = part_near (register_after both_at_work) jones_1 in
       ∷ hold_of jones_1 HeldOpen S2 ∷ hold_of jones_1 HeldOpen S3 ∷ hold_of kim_1 HeldOpen S3 ∷ hold_of jones_1 Tag S2 ∷ hold_of jones_1 Tag S3
       ∷ hold_of kim_1 Tag S3 ∷ hold_of jones_1 Tested L2 ∷ [];
 }
+
+-- in a register that no commands make JONES/1 has a tag at S4, outside its fence: it is not near
+abbrev pub OwnHoldsElsewhereAreNotNear : Type 0
+OwnHoldsElsewhereAreNotNear =
+    Register.holds (Near.rows (near_of (edited_all (PutHold (hold_of jones_1 Tag S4) ∷ []) (register_after l2_ordered)) (said_at 200 (says OPS (Show jones_1))))) ≡ []
 
 -- a clearance that is Closed lends its record and its steps, and nothing of the network
 abbrev pub NearAClosedClearance : Type 0

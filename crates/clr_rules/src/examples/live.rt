@@ -1,5 +1,5 @@
 //! Which sections are live.
-ghost use Rattle.clr_rules.specs.ExamplesOfLive.{AllAreLiveAtFirst, BothWorkSectionsAreDead, OneOpenPointIsNotEnough, OpenBordersAreDead};
+ghost use Rattle.clr_rules.specs.ExamplesOfLive.{AllAreLiveAtFirst, BothWorkSectionsAreDead, OneOpenPointIsNotEnough, OpenBordersAreDead, StatelessPointsAreNotClosed};
 
 /// All at first; a section whose border is open is not.
 pub fn sections()
@@ -7,4 +7,5 @@ pub fn sections()
     ensures one_open { OneOpenPointIsNotEnough }
     ensures border_open { OpenBordersAreDead }
     ensures both_borders_open { BothWorkSectionsAreDead }
+    ensures without_states { StatelessPointsAreNotClosed }
 {}

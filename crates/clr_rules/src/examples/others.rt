@@ -1,5 +1,5 @@
 //! What does not serve, and what does not hinder.
-ghost use Rattle.clr_rules.specs.ExamplesOfOthers.{AnothersHoldsDoNotHinder, AnothersHoldsDoNotServe, HoldsGoByKind, LesserClearancesAreNamed, OwnHandsDoNotHinder, WhoMayHold, WorkSectionsCount};
+ghost use Rattle.clr_rules.specs.ExamplesOfOthers.{AnothersHoldsDoNotHinder, AnothersHoldsDoNotServe, HoldsGoByKind, KindsStandInOrder, LesserClearancesAreNamed, OwnHandsDoNotHinder, StrangersHaveNoSupervisor, WhoMayHold, WorkSectionsCount};
 
 /// Holds of another clearance.
 pub fn anothers_do_not_serve()
@@ -25,6 +25,8 @@ pub fn holders()
 pub fn made_registers()
     ensures own_hand { OwnHandsDoNotHinder }
     ensures lesser_clearance { LesserClearancesAreNamed }
+    ensures kinds { KindsStandInOrder }
+    ensures strange_holder { StrangersHaveNoSupervisor }
 {}
 
 /// A section and a point of one name.

@@ -1,5 +1,5 @@
 //! What a clearance sees, and what is near.
-ghost use Rattle.clr_rules.specs.ExamplesOfSight.{AgreementLooksAtTheNearPart, Covering, Marks, NearAClosedClearance, NearASwitchOrderThatStands, NoMarks, OwnCommands, SectionsAreShown};
+ghost use Rattle.clr_rules.specs.ExamplesOfSight.{AgreementLooksAtTheNearPart, Covering, Marks, NearAClosedClearance, NearASwitchOrderThatStands, NoMarks, OwnCommands, OwnHoldsElsewhereAreNotNear, SectionsAreShown};
 
 /// Its own commands.
 pub fn own_commands()
@@ -22,6 +22,7 @@ pub fn covering()
 pub fn near()
     ensures agreement { AgreementLooksAtTheNearPart }
     ensures closed { NearAClosedClearance }
+    ensures elsewhere { OwnHoldsElsewhereAreNotNear }
 {}
 
 /// What is near a switch order that stands.

@@ -13,4 +13,4 @@ use Rattle.clr_rules.proofs.examples.live.sections.Goals as goal
 
 pub returns : goal.returns
 unfolding in_fence reaches row_of with_row without_row new_steps holds_of places_of has_some_hold has_any_hold hindering_hold held_among once steps_in steps_of greatest_number touching_names edited_all after_all open_points is_live
-returns c = record { at_first = refl; one_open = refl; border_open = refl; both_borders_open = refl }
+returns c = record { at_first = refl; one_open = refl; border_open = refl; both_borders_open = refl; without_states = refl }

@@ -12,4 +12,4 @@ use Rattle.clr_rules.proofs.examples.sight.near.Goals as goal
 
 pub returns : goal.returns
 unfolding in_fence reaches row_of with_row without_row new_steps holds_of places_of has_some_hold has_any_hold hindering_hold held_among once steps_in steps_of greatest_number touching_names edited_all after_all
-returns c = record { agreement = refl; closed = refl }
+returns c = record { agreement = refl; closed = refl; elsewhere = refl }
