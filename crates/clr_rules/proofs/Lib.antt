@@ -19,6 +19,7 @@ pub mod Opening
 pub mod DeadWork
 pub mod Keeping
 pub mod StepSplits
+pub mod AmendedSteps
 pub mod EndedWork
 pub mod KeptWork
 pub mod ReportedSteps

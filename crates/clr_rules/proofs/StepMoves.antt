@@ -32,7 +32,7 @@ none_active_in rows k given_out rests = All-from_each (λ (row : StepRow). is_ac
     both_ways (is_active row.step.state)
     (rests row (in_round rows k row there (All-contains (λ (row : StepRow). is_active row.step.state ≡ true → row.round ≡ k) rows row given_out there active))) active))
 
-some_step_between : (before : List StepRow) (x : StepRow) (after : List StepRow) → is_some_step (before ++ x ∷ after) ≡ true
+pub some_step_between : (before : List StepRow) (x : StepRow) (after : List StepRow) → is_some_step (before ++ x ∷ after) ≡ true
 some_step_between [] x after = some_step_there x after
 some_step_between (row ∷ before) x after = some_step_there row (before ++ x ∷ after)
 

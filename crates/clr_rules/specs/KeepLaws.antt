@@ -7,7 +7,7 @@ use Rattle.clr_rules.specs.Register.{Register}
 use Rattle.clr_rules.specs.Run.{after}
 use Rattle.clr_rules.specs.declared.command.Command.{Command}
 use Rattle.clr_rules.specs.declared.command.Kind.{Kind}
-use Rattle.clr_rules.specs.declared.command.Kind.TheVariants.{Cancel, Grant, Ground, Instruct, Release, Repeat, Report, Request, Show, SignOff, SignOn, Switch, Test, Transfer, Unground}
+use Rattle.clr_rules.specs.declared.command.Kind.TheVariants.{Amend, Cancel, Grant, Ground, Instruct, Release, Repeat, Report, Request, Show, SignOff, SignOn, Switch, Test, Transfer, Unground}
 
 abbrev pub asked : List ℕ → ℕ → Kind → Command
 asked by at kind = record { caller = by; moment = at; kind = kind }
@@ -60,3 +60,6 @@ CancelsKeepGood = (c : Id) → KeepsGood (Cancel c)
 
 abbrev pub ReleasesKeepGood : Type 0
 ReleasesKeepGood = (c : Id) (notified clear : Bool) → KeepsGood (Release c notified clear)
+
+abbrev pub AmendsKeepGood : Type 0
+AmendsKeepGood = (c : Id) (n : ℕ) → KeepsGood (Amend c n)
