@@ -1,17 +1,15 @@
 -- Commands that end the work, or give it up: a release and a cancel.
-use Rattle.std.proofs.Common.{◌≡◌, ◌⊎◌, inl, inr, ℕ, Bool, true, false, cond, not, ◌&&◌, ◌||◌, List, [], ◌∷◌, ◌++◌, map, filter, Option, Some, None, Contains, refl, sym, ◌∙◌, ap, subst}
-use Rattle.std.specs.List.{list_any}
-use Rattle.std.proofs.lemmas.Bool.{and_from, and_parts, both_ways, false≢true, false_from_ne_true, or_cases, or_left, or_right}
+use Rattle.std.proofs.Common.{◌≡◌, ℕ, Bool, true, false, cond, not, ◌&&◌, ◌||◌, List, [], ◌∷◌, ◌++◌, map, filter, Option, Some, None, refl, sym, ◌∙◌, ap, subst}
+use Rattle.std.proofs.lemmas.Bool.{and_from, false≢true, false_from_ne_true}
 use Rattle.std.proofs.lemmas.Cmp.{nat_list_eq_equiv}
 use Rattle.clr_net.specs.Grid.{Grid}
 use Rattle.clr_net.specs.Name.{same_name}
 use Rattle.clr_net.specs.Names.{has_name}
-use Rattle.clr_net.proofs.Walks.{any_from, one_name, same_itself}
+use Rattle.clr_net.proofs.Walks.{any_from}
 use Rattle.clr_shelf.specs.Rows.{with_row, without_row}
 use Rattle.clr_rules.specs.Changes.{cancelled_phase}
-use Rattle.clr_rules.specs.Checks.{crews_on, grounded, step_given_out}
-use Rattle.clr_rules.specs.Edits.{edited, edited_all}
-use Rattle.clr_rules.specs.GoodByPhase.{InClosed, InGranted, InPhase, InReleased, IsGoodByPhase, Outlook, outlook_of}
+use Rattle.clr_rules.specs.Edits.{edited_all}
+use Rattle.clr_rules.specs.GoodByPhase.{InPhase, InReleased, IsGoodByPhase, Outlook, outlook_of}
 use Rattle.clr_rules.specs.Hold.{hold_cmp}
 use Rattle.clr_rules.specs.HoldKind.{is_point_kind}
 use Rattle.clr_rules.specs.Holds.{has_any_hold, has_hold, has_some_hold, hold_key, hold_of, places_of, same_kind}
@@ -20,7 +18,6 @@ use Rattle.clr_rules.specs.KeepLaws.{CancelsKeepGood, ReleasesKeepGood}
 use Rattle.clr_rules.specs.Records.{is_cancellable, is_granted, is_ordered, record_key, record_of}
 use Rattle.clr_rules.specs.Register.{Register}
 use Rattle.clr_rules.specs.Steps.{some_active, steps_of}
-use Rattle.clr_rules.specs.States.{has_in_hand}
 use Rattle.clr_rules.specs.declared.change.Edit.{Edit}
 use Rattle.clr_rules.specs.declared.change.Edit.TheVariants.{PutRecord, TakeHold}
 use Rattle.clr_rules.specs.declared.command.Kind.TheVariants.{Cancel, Release}
@@ -31,9 +28,8 @@ use Rattle.clr_rules.specs.declared.phase.Phase.{Phase}
 use Rattle.clr_rules.specs.declared.phase.Phase.TheVariants.{Requested, Ordered, Granted, Released, Restoring, Switching, Closed}
 use Rattle.clr_rules.specs.declared.record.Record.{Record}
 use Rattle.clr_rules.specs.declared.refusal.Refusal.TheVariants.{CrewsOn, Grounded, StepState as WrongState}
-use Rattle.clr_rules.proofs.DoneHolds.{is_there, kind_itself, others_hold_taken, own_taken, was_there}
+use Rattle.clr_rules.proofs.DoneHolds.{others_hold_taken, own_taken}
 use Rattle.clr_rules.proofs.HoldMembers.{hold_there}
-use Rattle.clr_rules.proofs.Kept.{there_mapped}
 use Rattle.clr_rules.proofs.KeptRecords.{found_edits, in_phase_of, record_alone}
 use Rattle.clr_rules.proofs.KeptWork.{GrantedWork, granted_work, has_some}
 use Rattle.clr_rules.proofs.Keeping.{Changed, commands_keep, keeps}

@@ -63,3 +63,4 @@ pub mod PassedOrders
 pub mod KeptSwitches
 pub mod OwnEdits
 pub mod OwnAnswers
+pub mod OrderAnswers

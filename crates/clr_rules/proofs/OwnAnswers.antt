@@ -2,7 +2,7 @@
 use Rattle.std.proofs.Common.{◌≡◌, ◌∙◌, inl, inr, ⊎_elim, ℕ, Bool, true, false, List, [], length, map, Option, Some, None, refl, sym, ap}
 use Rattle.std.specs.List.{count_by, filter}
 use Rattle.std.proofs.lemmas.Bool.{or_left}
-use Rattle.clr_net.specs.Grid.{point_names}
+use Rattle.clr_net.specs.Grid.{Grid, point_names}
 use Rattle.clr_net.specs.Names.{has_name}
 use Rattle.clr_net.specs.declared.point.PointRow.{PointRow}
 use Rattle.clr_shelf.specs.Lists.{filter-filter_wider}
@@ -14,7 +14,7 @@ use Rattle.clr_rules.specs.Fences.{touches, touching_names}
 use Rattle.clr_rules.specs.Good.{IsGood, ListsAreInOrder}
 use Rattle.clr_rules.specs.Holds.{in_kind_order, is_near_hold, is_own, places_of}
 use Rattle.clr_rules.specs.Id.{Id}
-use Rattle.clr_rules.specs.Near.{Near, is_beside, near_of, near_part}
+use Rattle.clr_rules.specs.Near.{is_beside, near_part}
 use Rattle.clr_rules.specs.NearLaws.{is_order}
 use Rattle.clr_rules.specs.OwnLaws.{SameOwn, is_instruct}
 use Rattle.clr_rules.specs.Records.{record_of}
@@ -90,7 +90,7 @@ module _ (c : Id) (R S : Register) (R_order : ListsAreInOrder R) (S_order : List
   about : (T : Register) → told_after k T q.caller q.kind ≡ told k T q.kind (record_of T.records c)
   about T = ap (λ (o : Option Id). told k T q.kind (record_of T.records (concerned k.greatest q.caller o))) named
 
-  accepted_alike : is_show q.kind ≡ false → settled k R q None ≡ settled k S q None
+  pub accepted_alike : is_show q.kind ≡ false → settled k R q None ≡ settled k S q None
   accepted_alike no_show =
       let edits = edits_of k.greatest R q.caller q.moment q.kind in
       let after = same_own_edited_all c R S R_order S_order same edits in
@@ -111,10 +111,14 @@ module _ (c : Id) (R S : Register) (R_order : ListsAreInOrder R) (S_order : List
 -- ---- a show
 
 module _ (R : Register) (q : Command) where
+  -- the points that touch the fence are near
+  pub touching_rows_near : filter (touches (has_name (fence_for R q.kind))) (Grid.points (Register.net (near_part R q))) ≡ filter (touches (has_name (fence_for R q.kind))) R.net.points
+  touching_rows_near = filter-kept (touches (has_name (fence_for R q.kind))) (λ (p : PointRow). is_beside R (known_of R q) q.kind p.name) R.net.points
+      (λ p there touching. or_left (has_name (touching_names R.net (has_name (fence_for R q.kind))) p.name) _ (touching_named R.net (has_name (fence_for R q.kind)) p there touching))
+
   touching_near : touching_names (Register.net (near_part R q)) (has_name (fence_for R q.kind)) ≡ touching_names R.net (has_name (fence_for R q.kind))
   unfolding touching_names
-  touching_near = ap point_names (filter-kept (touches (has_name (fence_for R q.kind))) (λ (p : PointRow). is_beside R (known_of R q) q.kind p.name) R.net.points
-      (λ p there touching. or_left (has_name (touching_names R.net (has_name (fence_for R q.kind))) p.name) _ (touching_named R.net (has_name (fence_for R q.kind)) p there touching)))
+  touching_near = ap point_names touching_rows_near
 
   -- the states of the points that touch the fence, and the holds there and at its sections, are near
   shown_states : filter (λ (state : PointState). has_name (touching_names R.net (has_name (fence_for R q.kind))) state.point) (Register.states (near_part R q))
@@ -215,14 +219,6 @@ module _ (R : Register) (good : IsGood R) (by : List ℕ) (at : ℕ) where
       ∙ ap (λ list. settled (known_of R (asked (Show d))) (near_part R (asked (Show d))) (asked (Show d)) (first_refusal list)) (near_checks (Show d) d refl refl refl)
   by_kind _ c named no_order no_instruct true show = cc show
 
-pub near_is_enough : (R : Register) (q : Command) (c : Id) → IsGood R → named_clearance q.kind ≡ Some c → is_order q.kind ≡ false → is_instruct q.kind ≡ false
+pub near_is_enough_but_orders : (R : Register) (q : Command) (c : Id) → IsGood R → named_clearance q.kind ≡ Some c → is_order q.kind ≡ false → is_instruct q.kind ≡ false
     → answer R q ≡ answer_with (known_of R q) (near_part R q) q
-near_is_enough R q c good named no_order no_instruct = by_kind R good q.caller q.moment q.kind c named no_order no_instruct (is_show q.kind) refl
-
--- so registers with the same near part answer alike
-pub same_near_same_answer : (R S : Register) (q : Command) (c : Id) → IsGood R → IsGood S → named_clearance q.kind ≡ Some c → is_order q.kind ≡ false
-    → is_instruct q.kind ≡ false → near_of R q ≡ near_of S q → answer R q ≡ answer S q
-same_near_same_answer R S q c R_good S_good named no_order no_instruct same =
-    near_is_enough R q c R_good named no_order no_instruct
-    ∙ ap (λ (near : Near). answer_with near.known near.rows q) same
-    ∙ sym (near_is_enough S q c S_good named no_order no_instruct)
+near_is_enough_but_orders R q c good named no_order no_instruct = by_kind R good q.caller q.moment q.kind c named no_order no_instruct (is_show q.kind) refl

@@ -32,13 +32,13 @@ use Rattle.clr_rules.specs.declared.step_row.StepRow.{StepRow}
 use Rattle.clr_rules.proofs.OwnQuestions.{same_has_hold, same_held_among, same_present, same_round, same_some_hold}
 
 module _ (c : Id) (R S : Register) (same : SameOwn c R S) where
-  caller : (by : List ℕ) → unknown_caller R by ≡ unknown_caller S by
+  pub caller : (by : List ℕ) → unknown_caller R by ≡ unknown_caller S by
   caller by = ap (λ (staff : List StaffRow). refuse (not (is_some (employee staff by))) refusals.UnknownCaller) same.staff
 
-  role : (by : List ℕ) (fits : Role → Bool) → wrong_role R by fits ≡ wrong_role S by fits
+  pub role : (by : List ℕ) (fits : Role → Bool) → wrong_role R by fits ≡ wrong_role S by fits
   role by fits = ap (λ (staff : List StaffRow). where_some (employee staff by) (λ row. refuse (not (fits row.role)) refusals.WrongRole)) same.staff
 
-  clearance : unknown_clearance R c ≡ unknown_clearance S c
+  pub clearance : unknown_clearance R c ≡ unknown_clearance S c
   clearance = ap (λ (o : Option Record). refuse (not (is_some o)) refusals.UnknownClearance) same.own_record
 
   at_record : (check : Record → Option Refusal) → where_some (record_of R.records c) check ≡ where_some (record_of S.records c) check
@@ -47,10 +47,10 @@ module _ (c : Id) (R S : Register) (same : SameOwn c R S) where
   holder : (by : List ℕ) → not_holder R c by ≡ not_holder S c by
   holder by = at_record (λ r. refuse (not (same_name by r.holder)) refusals.NotHolder)
 
-  moment : (at : ℕ) → earlier R c at ≡ earlier S c at
+  pub moment : (at : ℕ) → earlier R c at ≡ earlier S c at
   moment at = at_record (λ r. refuse (nat_lt at r.last) refusals.Earlier)
 
-  phase : (fits : Phase → Bool) → wrong_phase R c fits ≡ wrong_phase S c fits
+  pub phase : (fits : Phase → Bool) → wrong_phase R c fits ≡ wrong_phase S c fits
   phase fits = at_record (λ r. refuse (not (fits r.phase)) refusals.WrongPhase)
 
   at_number : (n : ℕ) (check : StepRow → Option Refusal) → at_step R c n check ≡ at_step S c n check

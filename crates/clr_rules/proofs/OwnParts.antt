@@ -17,7 +17,7 @@ use Rattle.clr_rules.proofs.OwnHoldsNear.{own_holds_near}
 use Rattle.clr_rules.proofs.SameFences.{record_of-own, same_record}
 
 -- the steps of a clearance among those of the clearance
-steps_of-own : (steps : List StepRow) (c : Id) → steps_of (filter (λ row. same_id c row.id) steps) c ≡ steps_of steps c
+pub steps_of-own : (steps : List StepRow) (c : Id) → steps_of (filter (λ row. same_id c row.id) steps) c ≡ steps_of steps c
 unfolding steps_of
 steps_of-own steps c = filter-filter_wider (λ (row : StepRow). same_id c row.id) (λ row. same_id c row.id) (λ row own. own) steps
 
