@@ -97,6 +97,9 @@ pub record KindsStandInOrder : Type 0 where
   pub block : first_at_s2 (Control ∷ Tag ∷ Block ∷ []) ≡ Some (hold_of jones_1 Block S2)
   pub control : first_at_s2 (Tag ∷ Control ∷ []) ≡ Some (hold_of jones_1 Control S2)
   pub none : first_at_s2 (Tested ∷ Ground ∷ Crew ∷ []) ≡ None
+  -- a clearance's own HeldOpen does not keep it from closing the point, and its own tag does
+  pub own_tag : hindering_hold (hold_of jones_1 HeldOpen S2 ∷ hold_of jones_1 Tag S2 ∷ []) jones_1 S2 ≡ Some (hold_of jones_1 Tag S2)
+  pub own_held_open : hindering_hold (hold_of jones_1 HeldOpen S2 ∷ []) jones_1 S2 ≡ None
 
 -- a holder whom the staff lacks has no supervisor
 abbrev pub StrangersHaveNoSupervisor : Type 0

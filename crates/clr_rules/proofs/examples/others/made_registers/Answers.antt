@@ -12,4 +12,4 @@ use Rattle.clr_rules.proofs.examples.others.made_registers.Goals as goal
 
 pub returns : goal.returns
 unfolding in_fence reaches row_of with_row without_row new_steps holds_of places_of has_some_hold has_any_hold hindering_hold held_among once steps_in steps_of greatest_number touching_names edited_all after_all
-returns c = record { own_hand = refl; lesser_clearance = refl; kinds = record { held_open = refl; block = refl; control = refl; none = refl }; strange_holder = refl }
+returns c = record { own_hand = refl; lesser_clearance = refl; kinds = record { held_open = refl; block = refl; control = refl; none = refl; own_tag = refl; own_held_open = refl }; strange_holder = refl }
