@@ -1,8 +1,6 @@
 -- An operator amends a restoring order: a Close that waits becomes a Leave.
-use Rattle.std.proofs.Common.{◌≡◌, ℕ, Bool, true, false, not, ◌&&◌, ◌||◌, nat_eq, List, [], ◌∷◌, ◌++◌, map, filter, Option, Some, None, All, Contains, refl, sym, ◌∙◌, ap, subst}
-use Rattle.std.specs.List.{list_all, list_any}
-use Rattle.std.proofs.lemmas.Bool.{and_from, and_parts, both_ways, eq-eqb, eqb-true, false≢true}
-use Rattle.std.proofs.lemmas.List.Elements.{All-contains, filter-append}
+use Rattle.std.proofs.Common.{◌≡◌, ℕ, Bool, true, false, not, ◌&&◌, ◌||◌, nat_eq, List, [], ◌∷◌, ◌++◌, Option, Some, None, refl, sym, ◌∙◌, ap, subst}
+use Rattle.std.proofs.lemmas.Bool.{and_from, and_parts, eqb-true, false≢true}
 use Rattle.clr_net.specs.Grid.{Grid}
 use Rattle.clr_net.specs.Name.{same_name}
 use Rattle.clr_order.specs.Isolating.{IsSoundOrder}
@@ -10,11 +8,10 @@ use Rattle.clr_order.specs.Needed.{undoes}
 use Rattle.clr_order.specs.Step.{Task, actions_at, task}
 use Rattle.clr_order.specs.declared.action.Action.{Action}
 use Rattle.clr_order.specs.declared.action.Action.TheVariants as actions
-use Rattle.clr_order.specs.declared.step.StepState.{StepState}
-use Rattle.clr_rules.specs.Checks.{not_a_waiting_close, refuse}
+use Rattle.clr_rules.specs.Checks.{refuse}
 use Rattle.clr_rules.specs.Edits.{edited_all}
 use Rattle.clr_rules.specs.Good.{left}
-use Rattle.clr_rules.specs.GoodByPhase.{ActiveInRound, InPhase, InRestoring, IsGoodByPhase, IsInPlace, Outlook, active_at, all_waiting, go_in_turn, of_round, outlook_of, present_of}
+use Rattle.clr_rules.specs.GoodByPhase.{InPhase, InRestoring, IsGoodByPhase, all_waiting, go_in_turn, of_round, outlook_of, present_of}
 use Rattle.clr_rules.specs.Holds.{once}
 use Rattle.clr_rules.specs.Id.{Id}
 use Rattle.clr_rules.specs.KeepLaws.{AmendsKeepGood}
@@ -35,12 +32,12 @@ use Rattle.clr_rules.proofs.Keeping.{commands_keep, keeps}
 use Rattle.clr_rules.proofs.KeptRecords.{in_phase_of}
 use Rattle.clr_rules.proofs.KeptSteps.{turns_split}
 use Rattle.clr_rules.proofs.Passing.{check_of_found, not_refused_true, phase_fits, record_there}
-use Rattle.clr_rules.proofs.PresentSteps.{FoundStep, IsPresent, found_step_edits, step_there, waiting_not_done}
+use Rattle.clr_rules.proofs.PresentSteps.{IsPresent, found_step_edits, step_there, waiting_not_done}
 use Rattle.clr_rules.proofs.PutRecords.{moved, quiet}
 use Rattle.clr_rules.proofs.PutSteps.{StepPut, closes_at, closing_by, known_put, others_put, phase_by, place_by, put_step, step_put}
 use Rattle.clr_rules.proofs.RoundSteps.{record_id}
 use Rattle.clr_rules.proofs.StepMoves.{some_step_between}
-use Rattle.clr_rules.proofs.StepSplits.{All-before, All-swap, any-swap, map-swap, of_round-far, of_round-here, waits_not_active}
+use Rattle.clr_rules.proofs.StepSplits.{All-swap, any-swap, of_round-far, of_round-here, waits_not_active}
 
 -- ---- a Leave undoes what a Close does
 

@@ -64,3 +64,4 @@ pub mod KeptSwitches
 pub mod OwnEdits
 pub mod OwnAnswers
 pub mod OrderAnswers
+pub mod NewAnswers

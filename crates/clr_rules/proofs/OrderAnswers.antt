@@ -16,7 +16,7 @@ use Rattle.clr_rules.specs.Good.{IsGood}
 use Rattle.clr_rules.specs.HoldKind.{is_point_kind}
 use Rattle.clr_rules.specs.Holds.{has_hold, holds_of, is_near_hold}
 use Rattle.clr_rules.specs.Id.{Id, same_id}
-use Rattle.clr_rules.specs.Near.{Near, is_beside, near_of, near_part}
+use Rattle.clr_rules.specs.Near.{is_beside, near_part}
 use Rattle.clr_rules.specs.OwnLaws.{SameOwn, is_instruct}
 use Rattle.clr_rules.specs.Records.{is_granted, is_requested, is_standing, record_of}
 use Rattle.clr_rules.specs.Refusals.{order_refusal}
@@ -137,14 +137,6 @@ by_kind : (R : Register) → IsGood R → (by : List ℕ) (at : ℕ) (kind : Kin
 by_kind R good by at (Order d points tasks) c named no_instruct = order_is_enough R good by at d points tasks
 by_kind R good by at kind c named no_instruct = near_is_enough_but_orders R (record { caller = by; moment = at; kind = kind }) c good named refl no_instruct
 
-pub near_is_enough : (R : Register) (q : Command) (c : Id) → IsGood R → named_clearance q.kind ≡ Some c → is_instruct q.kind ≡ false
+pub named_is_enough : (R : Register) (q : Command) (c : Id) → IsGood R → named_clearance q.kind ≡ Some c → is_instruct q.kind ≡ false
     → answer R q ≡ answer_with (known_of R q) (near_part R q) q
-near_is_enough R q c good named no_instruct = by_kind R good q.caller q.moment q.kind c named no_instruct
-
--- so registers with the same near part answer alike
-pub same_near_same_answer : (R S : Register) (q : Command) (c : Id) → IsGood R → IsGood S → named_clearance q.kind ≡ Some c
-    → is_instruct q.kind ≡ false → near_of R q ≡ near_of S q → answer R q ≡ answer S q
-same_near_same_answer R S q c R_good S_good named no_instruct same =
-    near_is_enough R q c R_good named no_instruct
-    ∙ ap (λ (near : Near). answer_with near.known near.rows q) same
-    ∙ sym (near_is_enough S q c S_good named no_instruct)
+named_is_enough R q c good named no_instruct = by_kind R good q.caller q.moment q.kind c named no_instruct

@@ -40,7 +40,7 @@ use Rattle.clr_rules.proofs.OwnParts.{near_has_own}
 use Rattle.clr_rules.proofs.OwnQuestions.{same_places, same_present, same_present_round}
 use Rattle.clr_rules.proofs.RoundSteps.{record_id}
 
-abbrev is_show : Kind → Bool
+abbrev pub is_show : Kind → Bool
 is_show (Show c) = true
 is_show _ = false
 
@@ -72,7 +72,7 @@ told_nothing : (k : Known) (R S : Register) (kind : Kind) → told k R kind None
 told_nothing k R S kind = refl
 
 -- so registers that have the same of the clearance are told of alike
-told_alike : (c : Id) (R S : Register) → SameOwn c R S → (k : Known) (kind : Kind) → is_show kind ≡ false
+pub told_alike : (c : Id) (R S : Register) → SameOwn c R S → (k : Known) (kind : Kind) → is_show kind ≡ false
     → told k R kind (record_of R.records c) ≡ told k S kind (record_of S.records c)
 told_alike c R S same k kind no_show = at (record_of R.records c) refl ∙ ap (told k S kind) same.own_record
   where

@@ -19,8 +19,7 @@ pub fn edits_are_of_the_own()
     ensures after { SameEditsKeepTheOwn }
 {}
 
-/// In a good register a command that names a clearance, but for one that gives a step out, is answered from its near part
-/// as from the whole register; so good registers with the same near part answer it alike.
+/// In a good register a command, but for one that gives a step out, is answered from its near part as from the whole register; so good registers with the same near part answer it alike.
 pub fn near_is_enough()
     ensures enough { NearIsEnough }
     ensures alike { SameNearSameAnswer }
