@@ -36,7 +36,7 @@ one_kind a b same = same_Some a b
 pub kind_itself : (a : HoldKind) → same_kind a a ≡ true
 kind_itself a = ap is_eq (tied_itself kind_cmp_total a)
 
-same_tests : (a b : Bool) → (a ≡ true → b ≡ true) → (b ≡ true → a ≡ true) → a ≡ b
+pub same_tests : (a b : Bool) → (a ≡ true → b ≡ true) → (b ≡ true → a ≡ true) → a ≡ b
 same_tests true b there back = sym (there refl)
 same_tests false true there back = absurd (false≢true (back refl))
 same_tests false false there back = refl

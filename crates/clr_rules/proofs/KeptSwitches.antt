@@ -40,7 +40,7 @@ switching_passed R tasks passed =
     (by_name StepsWrong (unswitching_point tasks) _ (λ name. refl)
     (by_name UnknownPoint (stray_point found tasks) None (λ name. refl) refl)))) passed)
 
-no_round : (k : ℕ) → of_round [] k ≡ []
+pub no_round : (k : ℕ) → of_round [] k ≡ []
 unfolding of_round
 no_round k = refl
 

@@ -19,6 +19,8 @@ pub mod Opening
 pub mod DeadWork
 pub mod Keeping
 pub mod StepSplits
+pub mod IsolatingSteps
+pub mod KeptOrders
 pub mod AmendedSteps
 pub mod EndedWork
 pub mod KeptWork

@@ -1,4 +1,4 @@
-ghost use Rattle.clr_rules.specs.KeepLaws.{AmendsKeepGood, CancelsKeepGood, GrantsKeepGood, GroundsKeepGood, InstructsKeepGood, ReleasesKeepGood, RepeatsKeepGood, ReportsKeepGood, RequestsKeepGood, ShowsKeepGood, SignOffsKeepGood, SignOnsKeepGood, SwitchesKeepGood, TestsKeepGood, TransfersKeepGood, UngroundsKeepGood};
+ghost use Rattle.clr_rules.specs.KeepLaws.{AmendsKeepGood, CancelsKeepGood, GrantsKeepGood, GroundsKeepGood, InstructsKeepGood, OrdersKeepGood, ReleasesKeepGood, RepeatsKeepGood, ReportsKeepGood, RequestsKeepGood, ShowsKeepGood, SignOffsKeepGood, SignOnsKeepGood, SwitchesKeepGood, TestsKeepGood, TransfersKeepGood, UngroundsKeepGood};
 
 /// A command that shows a clearance keeps a good register good.
 pub fn shows_keep_good()
@@ -78,4 +78,9 @@ pub fn releases_keep_good()
 /// The amending of a step keeps a good register good.
 pub fn amends_keep_good()
     ensures { AmendsKeepGood }
+{}
+
+/// An isolating order keeps a good register good.
+pub fn orders_keep_good()
+    ensures { OrdersKeepGood }
 {}
