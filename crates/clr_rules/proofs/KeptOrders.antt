@@ -1,20 +1,17 @@
 -- An isolating order that is not refused: it is sound at the points of its steps, each taken once.
-use Rattle.std.proofs.Common.{◌≡◌, ◌⊎◌, inl, inr, ℕ, ◌+◌, ◌<◌, ◌≤◌, Bool, true, false, not, ◌&&◌, ◌||◌, ◌==◌, nat_lt, List, [], ◌∷◌, map, filter, length, Option, Some, None, IsTrue, All, Contains, refl, sym, ◌∙◌, ap, subst, arith}
-use Rattle.std.specs.List.{IsDistinct, list_any}
-use Rattle.std.proofs.lemmas.Bool.{and_from, and_parts, both_ways, false≢true, false_from_ne_true, or_cases, or_left, or_right}
+use Rattle.std.proofs.Common.{◌≡◌, ◌⊎◌, inl, inr, ℕ, ◌<◌, ◌≤◌, Bool, true, false, not, ◌||◌, ◌==◌, nat_lt, List, [], ◌∷◌, filter, length, Option, Some, None, IsTrue, All, Contains, refl, sym, ◌∙◌, ap, subst, arith}
+use Rattle.std.proofs.lemmas.Bool.{and_from, false≢true, false_from_ne_true, or_cases, or_left, or_right}
 use Rattle.std.proofs.lemmas.List.Elements.{All-contains, All-head, All-nil, All-tail, All-weaker}
 use Rattle.clr_net.specs.Fence.{FenceRows, fence_of, in_fence}
-use Rattle.clr_net.specs.Grid.{Grid, IsNetwork, point_names, section_names}
+use Rattle.clr_net.specs.Grid.{Grid, IsNetwork, point_names}
 use Rattle.clr_net.specs.Name.{same_name}
 use Rattle.clr_net.specs.Names.{has_name}
 use Rattle.clr_net.specs.declared.point.PointRow.{PointRow}
 use Rattle.clr_net.specs.declared.section.SectionRow.{SectionRow}
 use Rattle.clr_net.proofs.Walks.{any_from, one_name, same_itself, some_from}
 use Rattle.clr_order.specs.Isolating.{IsSoundOrder, IsSoundWithin, has_repeat, is_border_point, isolating_fault, needed_at, off_border, source_inside, touching_row, wrong_point}
-use Rattle.clr_order.specs.Needed.{needed}
 use Rattle.clr_order.specs.Step.{Task, actions_at, stray_point, task_points}
 use Rattle.clr_order.specs.declared.action.Action.{Action}
-use Rattle.clr_order.specs.declared.order_fault.OrderFault.{OrderFault}
 use Rattle.clr_order.specs.declared.order_fault.OrderFault.TheVariants.{EmptyOrder, LongOrder, NotOnFence, PointTwice, SourceInside, StepsWrong}
 use Rattle.clr_order.proofs.SoundOrders.{sound_from_no_fault}
 use Rattle.clr_order.proofs.Steps.{once_from}

@@ -1,23 +1,15 @@
 -- Reports: a step is Done, by its action and the clearance's phase; or it is not done.
-use Rattle.std.proofs.Common.{◌≡◌, ℕ, Bool, true, false, cond, not, ◌&&◌, List, [], ◌∷◌, ◌++◌, filter, Option, Some, None, Contains, refl, sym, ◌∙◌, ap, subst}
-use Rattle.std.specs.List.{list_all}
+use Rattle.std.proofs.Common.{◌≡◌, ℕ, Bool, true, false, cond, not, ◌&&◌, List, [], ◌∷◌, ◌++◌, Option, Some, None, Contains, refl, sym, ◌∙◌, ap, subst}
 use Rattle.std.proofs.lemmas.Bool.{false≢true}
 use Rattle.std.proofs.lemmas.List.Elements.{All-head}
-use Rattle.clr_net.specs.Grid.{Grid}
-use Rattle.clr_net.specs.Name.{same_name}
-use Rattle.clr_net.specs.Names.{has_name}
-use Rattle.clr_net.specs.declared.point.PointRow.{PointRow}
 use Rattle.clr_net.specs.declared.point.Position.TheVariants.{Opened, Closed as Shut}
 use Rattle.clr_net.proofs.Walks.{same_itself}
 use Rattle.clr_order.specs.Action.{is_switching}
-use Rattle.clr_order.specs.Isolating.{IsSoundOrder}
-use Rattle.clr_order.specs.Needed.{needed, undoes}
-use Rattle.clr_order.specs.Step.{Task, actions_at, task}
+use Rattle.clr_order.specs.Needed.{undoes}
 use Rattle.clr_order.specs.declared.action.Action.{Action}
 use Rattle.clr_order.specs.declared.action.Action.TheVariants as actions
 use Rattle.clr_order.specs.declared.step.StepState.TheVariants.{Waiting, Instructed, Repeated, Done}
 use Rattle.clr_order.specs.declared.step.StepState.{StepState}
-use Rattle.clr_shelf.specs.Lists.{list_all-contains}
 use Rattle.clr_shelf.specs.Rows.{with_row, without_row}
 use Rattle.clr_rules.specs.Changes.{done_edits, hold_edits, moved as moved_step, phase_after, position_edits, undone_edits}
 use Rattle.clr_rules.specs.Edits.{edited_all}
@@ -25,20 +17,20 @@ use Rattle.clr_rules.specs.Good.{puts}
 use Rattle.clr_rules.specs.GoodByPhase.{InOrdered, InPhase, InRestoring, InSwitching, IsGoodByPhase, Outlook, of_round, present_of}
 use Rattle.clr_rules.specs.Hold.{hold_cmp}
 use Rattle.clr_rules.specs.HoldKind.{is_point_kind}
-use Rattle.clr_rules.specs.Holds.{has_hold, hold_key, hold_of, once, same_kind}
+use Rattle.clr_rules.specs.Holds.{has_hold, hold_key, hold_of, same_kind}
 use Rattle.clr_rules.specs.Id.{Id}
 use Rattle.clr_rules.specs.KeepLaws.{ReportsKeepGood}
 use Rattle.clr_rules.specs.Records.{ends_with_steps, is_running, is_switch_order, lacks_work, record_of}
 use Rattle.clr_rules.specs.Register.{Register}
 use Rattle.clr_rules.specs.StateFacts.{handed, placed}
 use Rattle.clr_rules.specs.States.{hand_of, has_in_hand, position_of}
-use Rattle.clr_rules.specs.Steps.{all_done, is_active, is_close, is_done, is_repeated, is_some_step, points_of, present, steps_in, steps_of, tasks_of}
+use Rattle.clr_rules.specs.Steps.{all_done, is_active, is_close, is_done, is_repeated, is_some_step, present, steps_in, steps_of}
 use Rattle.clr_rules.specs.declared.change.Edit.{Edit}
 use Rattle.clr_rules.specs.declared.change.Edit.TheVariants.{PutRecord, PutStep, SetHand}
 use Rattle.clr_rules.specs.declared.command.Kind.TheVariants.{Report}
 use Rattle.clr_rules.specs.declared.hold.Hold.{Hold}
 use Rattle.clr_rules.specs.declared.hold_kind.HoldKind.{HoldKind}
-use Rattle.clr_rules.specs.declared.hold_kind.HoldKind.TheVariants.{HeldOpen, Block, Control, Tag, Tested, Ground, Crew}
+use Rattle.clr_rules.specs.declared.hold_kind.HoldKind.TheVariants.{HeldOpen, Block, Control, Tag}
 use Rattle.clr_rules.specs.declared.phase.Phase.{Phase}
 use Rattle.clr_rules.specs.declared.phase.Phase.TheVariants.{Requested, Ordered, Granted, Released, Restoring, Switching, Closed}
 use Rattle.clr_rules.specs.declared.point_state.PointState.{PointState}
@@ -48,17 +40,14 @@ use Rattle.clr_rules.proofs.DoneHolds.{is_there, own_put, own_taken}
 use Rattle.clr_rules.proofs.DoneMoves.{close_keeps, done_midst, done_put, in_own_hand, open_keeps, put_keeps, switch_open_keeps, take_keeps}
 use Rattle.clr_rules.proofs.DonePhases.{closed_done, none_taken, ordered_done, restored, restoring_done, switching_done, undone_here, undone_kind}
 use Rattle.clr_rules.proofs.HandedSteps.{handed_keeps}
-use Rattle.clr_rules.proofs.IsolatingSteps.{is_isolating, isolating_step, put_kind, puts_kind}
-use Rattle.clr_rules.proofs.Kept.{there_mapped}
+use Rattle.clr_rules.proofs.IsolatingSteps.{is_isolating, isolating_step, puts_kind}
 use Rattle.clr_rules.proofs.KeptRecords.{in_phase_of}
 use Rattle.clr_rules.proofs.KeptSteps.{state_fits, turns_split}
 use Rattle.clr_rules.proofs.Keeping.{commands_keep}
-use Rattle.clr_rules.proofs.NamedRows.{Contains-filter, has_name-row}
 use Rattle.clr_rules.proofs.Passing.{phase_fits, record_there}
 use Rattle.clr_rules.proofs.PhaseFacts.{first_present, hold_facts}
 use Rattle.clr_rules.proofs.PlaceFacts.{in_round}
 use Rattle.clr_rules.proofs.PresentSteps.{IsPresent, active_midst, active_moves, found_step_edits, step_there}
-use Rattle.clr_rules.proofs.PutHolds.{needed_there}
 use Rattle.clr_rules.proofs.PutSteps.{one_hand, phase_by, put_step}
 use Rattle.clr_rules.proofs.RoundSteps.{among_own, of_round_is, record_id}
 use Rattle.clr_rules.proofs.StepMoves.{second_again, turns_again}
