@@ -1,5 +1,5 @@
 -- Switch orders: a new record of an operator's, with the steps of its one round.
-use Rattle.std.proofs.Common.{◌≡◌, ℕ, true, false, List, [], ◌∷◌, length, nat_lt, None, refl, sym, ◌∙◌, ap, subst}
+use Rattle.std.proofs.Common.{◌≡◌, ℕ, true, false, List, ◌∷◌, length, nat_lt, None, refl, sym, ◌∙◌, ap, subst}
 use Rattle.std.specs.Prelude.{◌==◌}
 use Rattle.std.proofs.lemmas.List.Elements.{All-contains, All-nil}
 use Rattle.clr_net.specs.Grid.{Grid, point_names}
@@ -27,6 +27,7 @@ use Rattle.clr_rules.proofs.NewClearances.{bare_before, caller_role}
 use Rattle.clr_rules.proofs.NewRecords.{new_numbered, next_is_free}
 use Rattle.clr_rules.proofs.NewRounds.{All-own, IsReady, none_in_round, others_are, put_all, round_moved, round_put, with_round}
 use Rattle.clr_rules.proofs.PassedOrders.{by_name, by_test, no_refusal}
+use Rattle.clr_rules.proofs.PhaseFacts.{none_of_round}
 use Rattle.clr_rules.proofs.PutRecords.{changed_by}
 use Rattle.clr_rules.proofs.RoundSteps.{of_round_is}
 
@@ -55,7 +56,7 @@ module _ (R : Register) (by : List ℕ) (at : ℕ) (tasks : List Task) (good : I
   ready : IsReady R new.id 1 tasks
   ready = record {
     rests = rw bare.no_step (All-nil (λ (row : StepRow). is_active row.step.state ≡ false));
-    none_yet = sym (of_round_is R.steps new.id 1) ∙ ap (λ (steps : List StepRow). of_round steps 1) bare.no_step ∙ no_round 1;
+    none_yet = sym (of_round_is R.steps new.id 1) ∙ ap (λ (steps : List StepRow). of_round steps 1) bare.no_step ∙ none_of_round 1;
     known = switches.known;
   }
 
@@ -65,7 +66,7 @@ module _ (R : Register) (by : List ℕ) (at : ℕ) (tasks : List Task) (good : I
         only_switching = All-own R good new 1 tasks ready (λ (row : StepRow). is_switching row.step.action ≡ true)
             (λ m t there. All-contains (λ (t : Task). is_switching t.action ≡ true) tasks t switches.switching there)
             (rw bare.no_step (All-nil (λ (row : StepRow). is_switching row.step.action ≡ true)));
-        one_round = others_are R good new 1 tasks ready 2 refl ∙ ap (λ (steps : List StepRow). of_round steps 2) bare.no_step ∙ no_round 2;
+        one_round = others_are R good new 1 tasks ready 2 refl ∙ ap (λ (steps : List StepRow). of_round steps 2) bare.no_step ∙ none_of_round 2;
         given_out = none_in_round R good new 1 tasks ready (present_of (steps_of (put_all (new_steps new.id 1 1 tasks) R.steps) new.id));
         no_hold = bare.no_hold;
       })) refl (sym operator) (new_numbered R good by new refl)

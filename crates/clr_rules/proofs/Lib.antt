@@ -67,3 +67,4 @@ pub mod OwnEdits
 pub mod OwnAnswers
 pub mod OrderAnswers
 pub mod NewAnswers
+pub mod KeptRestores

@@ -84,7 +84,7 @@ second_present steps some = rw some refl
 pub no_second : {A : Type 0} (steps : List StepRow) → of_round steps 2 ≡ [] → is_some_step (of_round steps 2) ≡ true → A
 no_second steps none some = absurd (false≢true (sym (ap is_some_step none) ∙ some))
 
-none_of_round : (round : ℕ) → of_round [] round ≡ []
+pub none_of_round : (round : ℕ) → of_round [] round ≡ []
 unfolding of_round
 none_of_round round = refl
 

@@ -7,7 +7,7 @@ use Rattle.clr_rules.specs.Register.{Register}
 use Rattle.clr_rules.specs.Run.{after}
 use Rattle.clr_rules.specs.declared.command.Command.{Command}
 use Rattle.clr_rules.specs.declared.command.Kind.{Kind}
-use Rattle.clr_rules.specs.declared.command.Kind.TheVariants.{Amend, Cancel, Grant, Ground, Instruct, Order, Release, Repeat, Report, Request, Show, SignOff, SignOn, Switch, Test, Transfer, Unground}
+use Rattle.clr_rules.specs.declared.command.Kind.TheVariants.{Amend, Cancel, Grant, Ground, Instruct, Order, Release, Repeat, Report, Request, Restore, Show, SignOff, SignOn, Switch, Test, Transfer, Unground}
 
 abbrev pub asked : List ℕ → ℕ → Kind → Command
 asked by at kind = record { caller = by; moment = at; kind = kind }
@@ -66,3 +66,6 @@ AmendsKeepGood = (c : Id) (n : ℕ) → KeepsGood (Amend c n)
 
 abbrev pub OrdersKeepGood : Type 0
 OrdersKeepGood = (c : Id) (points : List (List ℕ)) (tasks : List Task) → KeepsGood (Order c points tasks)
+
+abbrev pub RestoresKeepGood : Type 0
+RestoresKeepGood = (c : Id) (tasks : List Task) → KeepsGood (Restore c tasks)

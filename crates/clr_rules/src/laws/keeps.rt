@@ -1,4 +1,4 @@
-ghost use Rattle.clr_rules.specs.KeepLaws.{AmendsKeepGood, CancelsKeepGood, GrantsKeepGood, GroundsKeepGood, InstructsKeepGood, OrdersKeepGood, ReleasesKeepGood, RepeatsKeepGood, ReportsKeepGood, RequestsKeepGood, ShowsKeepGood, SignOffsKeepGood, SignOnsKeepGood, SwitchesKeepGood, TestsKeepGood, TransfersKeepGood, UngroundsKeepGood};
+ghost use Rattle.clr_rules.specs.KeepLaws.{AmendsKeepGood, CancelsKeepGood, GrantsKeepGood, GroundsKeepGood, InstructsKeepGood, OrdersKeepGood, ReleasesKeepGood, RepeatsKeepGood, ReportsKeepGood, RequestsKeepGood, RestoresKeepGood, ShowsKeepGood, SignOffsKeepGood, SignOnsKeepGood, SwitchesKeepGood, TestsKeepGood, TransfersKeepGood, UngroundsKeepGood};
 
 /// A command that shows a clearance keeps a good register good.
 pub fn shows_keep_good()
@@ -83,4 +83,8 @@ pub fn amends_keep_good()
 /// An isolating order keeps a good register good.
 pub fn orders_keep_good()
     ensures { OrdersKeepGood }
+
+/// A restoring order keeps a good register good.
+pub fn restores_keep_good()
+    ensures { RestoresKeepGood }
 {}
