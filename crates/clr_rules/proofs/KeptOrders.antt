@@ -37,11 +37,11 @@ use Rattle.clr_rules.proofs.DoneHolds.{same_tests}
 use Rattle.clr_rules.proofs.FenceCuts.{has_name-once, in_fence_alike, in_fence_from_named, named_from_in_fence}
 use Rattle.clr_rules.proofs.Keeping.{Changed, commands_keep, keeps}
 use Rattle.clr_rules.proofs.KeptRecords.{found_edits, in_phase_of}
-use Rattle.clr_rules.proofs.KeptSwitches.{no_round}
 use Rattle.clr_rules.proofs.NamedRows.{has_name-filter, has_name-row}
 use Rattle.clr_rules.proofs.PassedOrders.{by_name, by_test, no_refusal}
 use Rattle.clr_rules.proofs.NewRounds.{IsReady, new_tasks, new_wait, none_in_round, others_are, round_is, round_moved, round_put, with_round}
 use Rattle.clr_rules.proofs.Passing.{phase_fits, record_there}
+use Rattle.clr_rules.proofs.PhaseFacts.{none_of_round}
 use Rattle.clr_rules.proofs.PutHolds.{needed_there, waiting_put_nothing}
 use Rattle.clr_rules.proofs.PutRecords.{moved, outlook_with}
 use Rattle.clr_rules.proofs.RoundSteps.{All-from_each, of_round_is, record_id}
@@ -221,7 +221,7 @@ module _ (R : Register) (good : IsGoodByPhase R) (r : Record) (found : record_of
       ap (has_name (point_names (Grid.points R.net))) same ∙ has_name-row (λ (p : PointRow). p.name) (Grid.points R.net) row row_there)
 
   none_of : (k : ℕ) → of_round (steps_of R.steps r.id) k ≡ []
-  none_of k = ap (λ (steps : List StepRow). of_round steps k) bare.no_step ∙ no_round k
+  none_of k = ap (λ (steps : List StepRow). of_round steps k) bare.no_step ∙ none_of_round k
 
   ready : IsReady R r.id 1 tasks
   ready = record {

@@ -41,10 +41,6 @@ switching_passed R tasks passed =
     (by_name StepsWrong (unswitching_point tasks) _ (λ name. refl)
     (by_name UnknownPoint (stray_point found tasks) None (λ name. refl) refl)))) passed)
 
-pub no_round : (k : ℕ) → of_round [] k ≡ []
-unfolding of_round
-no_round k = refl
-
 module _ (R : Register) (by : List ℕ) (at : ℕ) (tasks : List Task) (good : IsGoodByPhase R) (operator : is_operators R by ≡ true)
     (switches : IsSwitching (point_names (Grid.points R.net)) tasks) where
   abbrev new : Record

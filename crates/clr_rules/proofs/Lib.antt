@@ -19,6 +19,7 @@ pub mod Opening
 pub mod DeadWork
 pub mod Keeping
 pub mod StepSplits
+pub mod EveryKind
 pub mod IsolatingSteps
 pub mod KeptOrders
 pub mod AmendedSteps

@@ -4,7 +4,7 @@ use Rattle.clr_order.specs.Step.{Task}
 use Rattle.clr_rules.specs.Good.{IsGood}
 use Rattle.clr_rules.specs.Id.{Id}
 use Rattle.clr_rules.specs.Register.{Register}
-use Rattle.clr_rules.specs.Run.{after}
+use Rattle.clr_rules.specs.Run.{IsReached, after}
 use Rattle.clr_rules.specs.declared.command.Command.{Command}
 use Rattle.clr_rules.specs.declared.command.Kind.{Kind}
 use Rattle.clr_rules.specs.declared.command.Kind.TheVariants.{Amend, Cancel, Grant, Ground, Instruct, Order, Release, Repeat, Report, Request, Restore, Show, SignOff, SignOn, Switch, Test, Transfer, Unground}
@@ -69,3 +69,11 @@ OrdersKeepGood = (c : Id) (points : List (List ℕ)) (tasks : List Task) → Kee
 
 abbrev pub RestoresKeepGood : Type 0
 RestoresKeepGood = (c : Id) (tasks : List Task) → KeepsGood (Restore c tasks)
+
+-- EVERY COMMAND KEEPS A GOOD REGISTER GOOD, whatever its kind, and whether it is accepted, shown or refused
+abbrev pub CommandsKeepGood : Type 0
+CommandsKeepGood = (R : Register) (q : Command) → IsGood R → IsGood (after R q)
+
+-- EVERY REGISTER THAT IS REACHED IS GOOD
+abbrev pub ReachedRegistersAreGood : Type 0
+ReachedRegistersAreGood = (R : Register) → IsReached R → IsGood R

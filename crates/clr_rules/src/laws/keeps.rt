@@ -1,4 +1,4 @@
-ghost use Rattle.clr_rules.specs.KeepLaws.{AmendsKeepGood, CancelsKeepGood, GrantsKeepGood, GroundsKeepGood, InstructsKeepGood, OrdersKeepGood, ReleasesKeepGood, RepeatsKeepGood, ReportsKeepGood, RequestsKeepGood, RestoresKeepGood, ShowsKeepGood, SignOffsKeepGood, SignOnsKeepGood, SwitchesKeepGood, TestsKeepGood, TransfersKeepGood, UngroundsKeepGood};
+ghost use Rattle.clr_rules.specs.KeepLaws.{AmendsKeepGood, CancelsKeepGood, CommandsKeepGood, GrantsKeepGood, GroundsKeepGood, InstructsKeepGood, OrdersKeepGood, ReachedRegistersAreGood, ReleasesKeepGood, RepeatsKeepGood, ReportsKeepGood, RequestsKeepGood, RestoresKeepGood, ShowsKeepGood, SignOffsKeepGood, SignOnsKeepGood, SwitchesKeepGood, TestsKeepGood, TransfersKeepGood, UngroundsKeepGood};
 
 /// A command that shows a clearance keeps a good register good.
 pub fn shows_keep_good()
@@ -83,8 +83,19 @@ pub fn amends_keep_good()
 /// An isolating order keeps a good register good.
 pub fn orders_keep_good()
     ensures { OrdersKeepGood }
+{}
 
 /// A restoring order keeps a good register good.
 pub fn restores_keep_good()
     ensures { RestoresKeepGood }
+{}
+
+/// Every command keeps a good register good: it is so of each kind, accepted, shown or refused.
+pub fn commands_keep_good()
+    ensures { CommandsKeepGood }
+{}
+
+/// Every register that commands reach from an opening one is good.
+pub fn reached_registers_are_good()
+    ensures { ReachedRegistersAreGood }
 {}
