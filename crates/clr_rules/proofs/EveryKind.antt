@@ -1,5 +1,5 @@
 -- Every command keeps a good register good, and so every register that is reached is good.
-use Rattle.std.proofs.Common.{◌≡◌, List, [], ◌∷◌, sym, subst}
+use Rattle.std.proofs.Common.{List, [], ◌∷◌, sym, subst}
 use Rattle.clr_rules.specs.Good.{IsGood}
 use Rattle.clr_rules.specs.KeepLaws.{KeepsGood}
 use Rattle.clr_rules.specs.Register.{Register, opening}
