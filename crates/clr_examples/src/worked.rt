@@ -1,4 +1,5 @@
-//! The networks of the worked examples.
+//! The networks and the staff of the worked examples.
+use clr_csv::{Counted, Staff, read_staff};
 use clr_net::{Name, NetFault, Network, PointRow, Position, SectionRow};
 use std::alloc::Global;
 use std::test::Fail;
@@ -34,6 +35,20 @@ pub fn worked_network(alloc: Global) -> Result<Network, Fail> {
         })?;
     }
     Ok(Network::build(alloc, sections, points)?)
+}
+
+/// The staff of the files in examples/.
+pub fn worked_staff(alloc: Global) -> Result<Staff, Fail> {
+    let file: &[u8] = b"employee,role,supervisor
+OPS,operator,
+REED,field,
+DALE,field,
+JONES,charge,BOSS
+KIM,charge,
+BOSS,charge,
+";
+    let rows = read_staff(alloc, &mut Counted::new(file))?;
+    Ok(Staff::build(alloc, rows)?)
 }
 
 /// The network of the one section A, without points.
