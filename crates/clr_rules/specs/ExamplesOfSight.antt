@@ -1,18 +1,18 @@
 -- EXAMPLES OF SIGHT: which commands are a clearance's own, which edits it sees as marks, what covers a run, and what is near.
-use Rattle.std.specs.Prelude.{◌≡◌, ℕ, Bool, true, false, List, [], ◌∷◌, ◌++◌, map, Some, None}
+use Rattle.std.specs.Prelude.{◌≡◌, ℕ, Bool, true, false, List, [], ◌∷◌, ◌++◌, map, Some, None, length}
 use Rattle.clr_net.specs.Names.{has_name}
 use Rattle.clr_net.specs.declared.point.Position.TheVariants.{Opened, Closed as Shut}
 use Rattle.clr_order.specs.declared.action.Action.TheVariants as actions
 use Rattle.clr_order.specs.declared.step.StepState.TheVariants.{Waiting}
 use Rattle.clr_rules.specs.Agreement.{part_near}
 use Rattle.clr_rules.specs.Edits.{edited_all}
-use Rattle.clr_rules.specs.ExamplesOfIsolation.{in_l2}
+use Rattle.clr_rules.specs.ExamplesOfIsolation.{in_l2, register_one, with_s4_switched}
 use Rattle.clr_rules.specs.ExamplesOfNearParts.{both_at_work}
 use Rattle.clr_rules.specs.Holds.{hold_of}
 use Rattle.clr_rules.specs.Id.{Id}
 use Rattle.clr_rules.specs.Near.{Near, near_of}
 use Rattle.clr_rules.specs.Register.{Register}
-use Rattle.clr_rules.specs.Shown.{covers, is_own_command, marks_of, own, shown}
+use Rattle.clr_rules.specs.Shown.{covers, is_own_command, marks_of, own, own_answers, shown}
 use Rattle.clr_rules.specs.Worked.{C1, JONES, KIM, L1, L2, L3, OPS, S1, S2, S3, S4, Saying, T1, ZZ, does, from_moment, isolating_l2_and_l3, jones_1, kim_1, kim_asks, l2_asked, l2_ordered, ops_1, register_after, said_at, says, worked_net, worked_staff}
 use Rattle.clr_rules.specs.WorkedRows.{done_step, jones_record, step_row}
 use Rattle.clr_rules.specs.declared.change.Edit.TheVariants.{SetPosition, SetHand, PutHold, TakeHold, PutRecord, PutStep}
@@ -30,6 +30,10 @@ OwnCommands = map (λ saying. is_own_command jones_1 (said_at 100 saying))
     (says OPS (Instruct jones_1 1) ∷ says KIM (Show jones_1) ∷ says JONES (Request L3)
     ∷ says KIM (Request L2) ∷ says JONES (Switch []) ∷ says OPS (Switch []) ∷ says JONES (Cancel jones_2) ∷ says JONES (Show kim_1) ∷ [])
     ≡ true ∷ true ∷ true ∷ false ∷ false ∷ false ∷ false ∷ false ∷ []
+
+-- each of them is answered: all 49 of the whole life
+abbrev pub FortyNineAreAnswered : Type 0
+FortyNineAreAnswered = length (own_answers jones_1 register_one with_s4_switched) ≡ 49
 
 -- MARKS on L2: of these edits the first of each two concerns L2, or a point with an end in it
 abbrev pub Marks : Type 0

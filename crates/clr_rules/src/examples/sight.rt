@@ -1,5 +1,5 @@
 //! What a clearance sees, and what is near.
-ghost use Rattle.clr_rules.specs.ExamplesOfSight.{AgreementLooksAtTheNearPart, Covering, Marks, NearAClosedClearance, NearASwitchOrderThatStands, NoMarks, OwnCommands, OwnHoldsElsewhereAreNotNear, SectionsAreShown};
+ghost use Rattle.clr_rules.specs.ExamplesOfSight.{AgreementLooksAtTheNearPart, Covering, FortyNineAreAnswered, Marks, NearAClosedClearance, NearASwitchOrderThatStands, NoMarks, OwnCommands, OwnHoldsElsewhereAreNotNear, SectionsAreShown};
 
 /// Its own commands.
 pub fn own_commands()
@@ -28,4 +28,9 @@ pub fn near()
 /// What is near a switch order that stands.
 pub fn switch_orders()
     ensures { NearASwitchOrderThatStands }
+{}
+
+/// The answers to its own commands.
+pub fn own_answers()
+    ensures { FortyNineAreAnswered }
 {}
