@@ -1,4 +1,4 @@
--- THE STATEMENTS OF ISOLATION. Proved so far: Locality, OthersSpare, OthersStep and LoneStep, each by a law in src/laws. The others stand here for review,
+-- THE STATEMENTS OF ISOLATION. Proved so far: Locality, OthersSpare, OthersStep, LoneStep and NothingIsTakenAway, each by a law in src/laws. The others stand here for review,
 -- and no contract names them.
 use Rattle.std.specs.Prelude.{◌≡◌, ℕ, Bool, true, false, not, ◌||◌, IsTrue, List, [], ◌∷◌, map, filter, Some, Option, None}
 use Rattle.std.specs.List.{list_all}

@@ -3,6 +3,7 @@ pub mod agreement;
 pub mod edits;
 pub mod footprint;
 pub mod good;
+pub mod headline;
 pub mod keeps;
 pub mod live;
 pub mod locality;
