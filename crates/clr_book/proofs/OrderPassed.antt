@@ -1,75 +1,33 @@
 -- An order that no check refuses is sound, and so has at most 256 steps.
-use Rattle.std.proofs.Common.{◌∷◌, [], ◌≡◌, ◌≤◌, ℕ, Bool, true, false, ◌||◌, ◌==◌, nat_lt, List, length, Option, None, Some, refl, sym}
+use Rattle.std.proofs.Common.{◌∷◌, [], ◌≡◌, ◌≤◌, ℕ, ◌||◌, ◌==◌, nat_lt, List, length, Option, None, Some, refl, sym}
 use Rattle.std.proofs.lemmas.Option.{none-some}
-use mathlib.Core.Bool.{true≢false}
-use Rattle.clr_net.specs.Fence.{FenceRows}
 use Rattle.clr_order.specs.Isolating.{IsSoundWithin, has_repeat, isolating_fault, off_border, source_inside, wrong_point}
-use Rattle.clr_order.specs.OrderFault.{fault_if, name_fault}
 use Rattle.clr_order.specs.Step.{Task, stray_point}
-use Rattle.clr_order.specs.declared.order_fault.OrderFault.{OrderFault}
-use Rattle.clr_order.specs.declared.order_fault.OrderFault.TheVariants.{EmptyOrder, LongOrder, PointTwice, SourceInside, NotOnFence, StepsWrong, UnknownPoint, NoMemory}
+use Rattle.clr_order.specs.declared.order_fault.OrderFault.TheVariants.{EmptyOrder, LongOrder, PointTwice, SourceInside, NotOnFence, StepsWrong}
 use Rattle.clr_order.proofs.SoundOrders.{sound_from_no_fault}
 use Rattle.clr_rules.specs.Answer.{Known, checks, first_refusal}
 use Rattle.clr_rules.specs.Checks.{earlier, is_operator, unknown_caller, unknown_clearance, unsound_order, wrong_phase, wrong_role}
 use Rattle.clr_rules.specs.Fences.{rows_of_fence}
 use Rattle.clr_rules.specs.Id.{Id}
 use Rattle.clr_rules.specs.Records.{is_requested}
-use Rattle.clr_rules.specs.Refusals.{order_refusal}
 use Rattle.clr_rules.specs.Register.{Register}
 use Rattle.clr_rules.specs.declared.command.Kind.TheVariants as kinds
 use Rattle.clr_rules.specs.declared.refusal.Refusal.{Refusal}
-use Rattle.clr_rules.specs.declared.refusal.Refusal.TheVariants as refusals
-
-is_memory : Option OrderFault → Bool
-is_memory None = false
-is_memory (Some EmptyOrder) = false
-is_memory (Some LongOrder) = false
-is_memory (Some PointTwice) = false
-is_memory (Some (SourceInside section)) = false
-is_memory (Some (NotOnFence point)) = false
-is_memory (Some (StepsWrong point)) = false
-is_memory (Some (UnknownPoint point)) = false
-is_memory (Some NoMemory) = true
-
-by_test : (b : Bool) (fault : OrderFault) (rest : Option OrderFault) → is_memory (Some fault) ≡ false → is_memory rest ≡ false → is_memory (fault_if b fault rest) ≡ false
-by_test true fault rest told more = told
-by_test false fault rest told more = more
-
-by_name : (fault : List ℕ → OrderFault) (found : Option (List ℕ)) (rest : Option OrderFault) → ((name : List ℕ) → is_memory (Some (fault name)) ≡ false) → is_memory rest ≡ false
-    → is_memory (name_fault fault found rest) ≡ false
-by_name fault None rest told more = more
-by_name fault (Some name) rest told more = told name
-
--- the check of an order never tells want of memory
-no_memory : (fence : FenceRows) (points : List (List ℕ)) (tasks : List Task) → is_memory (isolating_fault fence points tasks) ≡ false
-unfolding is_memory
-no_memory fence points tasks =
-    by_test (length points == 0) EmptyOrder _ refl
-    (by_test (nat_lt 64 (length points) || nat_lt 256 (length tasks)) LongOrder _ refl
-    (by_test (has_repeat points) PointTwice _ refl
-    (by_name SourceInside (source_inside fence) _ (λ name. refl)
-    (by_name NotOnFence (off_border fence points) _ (λ name. refl)
-    (by_name StepsWrong (wrong_point fence points tasks) _ (λ name. refl)
-    (by_name StepsWrong (stray_point points tasks) None (λ name. refl) refl))))))
-
-no_refusal : (fault : Option OrderFault) → is_memory fault ≡ false → order_refusal fault ≡ None → fault ≡ None
-unfolding is_memory
-no_refusal None memory none = refl
-no_refusal (Some EmptyOrder) memory none = absurd (none-some refusals.EmptyOrder (sym none))
-no_refusal (Some LongOrder) memory none = absurd (none-some refusals.LongOrder (sym none))
-no_refusal (Some PointTwice) memory none = absurd (none-some refusals.PointTwice (sym none))
-no_refusal (Some (SourceInside section)) memory none = absurd (none-some (refusals.SourceInside section) (sym none))
-no_refusal (Some (NotOnFence point)) memory none = absurd (none-some (refusals.NotOnFence point) (sym none))
-no_refusal (Some (StepsWrong point)) memory none = absurd (none-some (refusals.StepsWrong point) (sym none))
-no_refusal (Some (UnknownPoint point)) memory none = absurd (none-some (refusals.UnknownPoint point) (sym none))
-no_refusal (Some NoMemory) memory none = absurd (true≢false memory)
+use Rattle.clr_rules.proofs.PassedOrders.{by_name, by_test, no_refusal}
 
 -- an order that is not refused is sound within the fence that it would make
 pub order_passed : (R : Register) (fence : List (List ℕ)) (points : List (List ℕ)) (tasks : List Task) → unsound_order R fence points tasks ≡ None
     → IsSoundWithin (rows_of_fence R.net fence) points tasks
 order_passed R fence points tasks none =
     let rows = rows_of_fence R.net fence in
-    sound_from_no_fault rows points tasks (no_refusal (isolating_fault rows points tasks) (no_memory rows points tasks) none)
+    sound_from_no_fault rows points tasks (no_refusal (isolating_fault rows points tasks)
+    (by_test (length points == 0) EmptyOrder _ refl
+    (by_test (nat_lt 64 (length points) || nat_lt 256 (length tasks)) LongOrder _ refl
+    (by_test (has_repeat points) PointTwice _ refl
+    (by_name SourceInside (source_inside rows) _ (λ name. refl)
+    (by_name NotOnFence (off_border rows points) _ (λ name. refl)
+    (by_name StepsWrong (wrong_point rows points tasks) _ (λ name. refl)
+    (by_name StepsWrong (stray_point points tasks) None (λ name. refl) refl))))))) none)
 
 pub steps_fit : (R : Register) (fence : List (List ℕ)) (points : List (List ℕ)) (tasks : List Task) → unsound_order R fence points tasks ≡ None → length tasks ≤ 256
 steps_fit R fence points tasks none = (order_passed R fence points tasks none).steps_fit
