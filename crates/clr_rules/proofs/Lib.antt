@@ -20,6 +20,7 @@ pub mod DeadWork
 pub mod Keeping
 pub mod StepSplits
 pub mod EveryKind
+pub mod Headline
 pub mod IsolatingSteps
 pub mod KeptOrders
 pub mod AmendedSteps
