@@ -43,6 +43,7 @@ pub mod Kept
 pub mod KeptRecords
 pub mod NearWords
 pub mod PartEdits
+pub mod GivenOut
 pub mod Greatest
 pub mod ManyRequests
 pub mod Agreeing
@@ -62,6 +63,7 @@ pub mod OwnHoldsNear
 pub mod OwnQuestions
 pub mod OwnChecks
 pub mod OwnParts
+pub mod OwnSteps
 pub mod NewRounds
 pub mod PassedOrders
 pub mod KeptSwitches

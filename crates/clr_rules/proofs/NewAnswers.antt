@@ -25,7 +25,7 @@ use Rattle.clr_rules.specs.Good.{IsGood, has_record}
 use Rattle.clr_rules.specs.Holds.{holds_of, is_near_hold}
 use Rattle.clr_rules.specs.Id.{Id, same_id}
 use Rattle.clr_rules.specs.Near.{Near, is_beside, near_of, near_part}
-use Rattle.clr_rules.specs.OwnLaws.{SameOwn, is_instruct}
+use Rattle.clr_rules.specs.OwnLaws.{SameOwn}
 use Rattle.clr_rules.specs.Records.{greatest_number, record_of}
 use Rattle.clr_rules.specs.Refusals.{order_refusal}
 use Rattle.clr_rules.specs.Register.{Register}
@@ -173,20 +173,20 @@ module _ (R : Register) (good : IsGood R) (by : List ℕ) (at : ℕ) where
 
 -- ---- what is near is enough
 
-by_kind : (R : Register) → IsGood R → (by : List ℕ) (at : ℕ) (kind : Kind) (named : Option Id) → named_clearance kind ≡ named → is_instruct kind ≡ false
+by_kind : (R : Register) → IsGood R → (by : List ℕ) (at : ℕ) (kind : Kind) (named : Option Id) → named_clearance kind ≡ named
     → answer R (record { caller = by; moment = at; kind = kind })
     ≡ answer_with (known_of R (record { caller = by; moment = at; kind = kind })) (near_part R (record { caller = by; moment = at; kind = kind })) (record { caller = by; moment = at; kind = kind })
-by_kind R good by at (Request section) named is no_instruct = request_is_enough R good by at section
-by_kind R good by at (Switch tasks) named is no_instruct = switch_is_enough R good by at tasks
-by_kind R good by at kind (Some c) is no_instruct = named_is_enough R (record { caller = by; moment = at; kind = kind }) c good is no_instruct
-by_kind R good by at _ None is no_instruct = cc is
+by_kind R good by at (Request section) named is = request_is_enough R good by at section
+by_kind R good by at (Switch tasks) named is = switch_is_enough R good by at tasks
+by_kind R good by at kind (Some c) is = named_is_enough R (record { caller = by; moment = at; kind = kind }) c good is
+by_kind R good by at _ None is = cc is
 
-pub near_is_enough : (R : Register) (q : Command) → IsGood R → is_instruct q.kind ≡ false → answer R q ≡ answer_with (known_of R q) (near_part R q) q
-near_is_enough R q good no_instruct = by_kind R good q.caller q.moment q.kind (named_clearance q.kind) refl no_instruct
+pub near_is_enough : (R : Register) (q : Command) → IsGood R → answer R q ≡ answer_with (known_of R q) (near_part R q) q
+near_is_enough R q good = by_kind R good q.caller q.moment q.kind (named_clearance q.kind) refl
 
 -- so registers with the same near part answer alike
-pub same_near_same_answer : (R S : Register) (q : Command) → IsGood R → IsGood S → is_instruct q.kind ≡ false → near_of R q ≡ near_of S q → answer R q ≡ answer S q
-same_near_same_answer R S q R_good S_good no_instruct same =
-    near_is_enough R q R_good no_instruct
+pub same_near_same_answer : (R S : Register) (q : Command) → IsGood R → IsGood S → near_of R q ≡ near_of S q → answer R q ≡ answer S q
+same_near_same_answer R S q R_good S_good same =
+    near_is_enough R q R_good
     ∙ ap (λ (near : Near). answer_with near.known near.rows q) same
-    ∙ sym (near_is_enough S q S_good no_instruct)
+    ∙ sym (near_is_enough S q S_good)

@@ -17,13 +17,13 @@ use Rattle.clr_rules.specs.HoldKind.{is_point_kind}
 use Rattle.clr_rules.specs.Holds.{has_hold, holds_of, is_near_hold}
 use Rattle.clr_rules.specs.Id.{Id, same_id}
 use Rattle.clr_rules.specs.Near.{is_beside, near_part}
-use Rattle.clr_rules.specs.OwnLaws.{SameOwn, is_instruct}
+use Rattle.clr_rules.specs.OwnLaws.{SameOwn}
 use Rattle.clr_rules.specs.Records.{is_granted, is_requested, is_standing, record_of}
 use Rattle.clr_rules.specs.Refusals.{order_refusal}
 use Rattle.clr_rules.specs.Register.{Register}
 use Rattle.clr_rules.specs.declared.command.Command.{Command}
 use Rattle.clr_rules.specs.declared.command.Kind.{Kind}
-use Rattle.clr_rules.specs.declared.command.Kind.TheVariants.{Order}
+use Rattle.clr_rules.specs.declared.command.Kind.TheVariants.{Instruct, Order}
 use Rattle.clr_rules.specs.Command.{named_clearance}
 use Rattle.clr_rules.specs.declared.hold.Hold.{Hold}
 use Rattle.clr_rules.specs.declared.hold_kind.HoldKind.{HoldKind}
@@ -32,6 +32,7 @@ use Rattle.clr_rules.specs.declared.phase.Phase.TheVariants.{Requested, Ordered,
 use Rattle.clr_rules.specs.declared.record.Record.{Record}
 use Rattle.clr_rules.specs.declared.refusal.Refusal.{Refusal}
 use Rattle.clr_rules.specs.declared.refusal.Refusal.TheVariants.{WrongPhase}
+use Rattle.clr_rules.proofs.GivenOut.{giving_out_is_enough}
 use Rattle.clr_rules.proofs.HoldMembers.{hold_had}
 use Rattle.clr_rules.proofs.Kept.{filter-no_member, kept_there}
 use Rattle.clr_rules.proofs.NearOrder.{near_in_order}
@@ -131,12 +132,13 @@ module _ (R : Register) (good : IsGood R) (by : List ℕ) (at : ℕ) (c : Id) (p
 
 -- ---- what is near is enough
 
-by_kind : (R : Register) → IsGood R → (by : List ℕ) (at : ℕ) (kind : Kind) (c : Id) → named_clearance kind ≡ Some c → is_instruct kind ≡ false
+by_kind : (R : Register) → IsGood R → (by : List ℕ) (at : ℕ) (kind : Kind) (c : Id) → named_clearance kind ≡ Some c
     → answer R (record { caller = by; moment = at; kind = kind })
     ≡ answer_with (known_of R (record { caller = by; moment = at; kind = kind })) (near_part R (record { caller = by; moment = at; kind = kind })) (record { caller = by; moment = at; kind = kind })
-by_kind R good by at (Order d points tasks) c named no_instruct = order_is_enough R good by at d points tasks
-by_kind R good by at kind c named no_instruct = near_is_enough_but_orders R (record { caller = by; moment = at; kind = kind }) c good named refl no_instruct
+by_kind R good by at (Order d points tasks) c named = order_is_enough R good by at d points tasks
+by_kind R good by at (Instruct d n) c named = giving_out_is_enough R good by at d n
+by_kind R good by at kind c named = near_is_enough_but_orders R (record { caller = by; moment = at; kind = kind }) c good named refl refl
 
-pub named_is_enough : (R : Register) (q : Command) (c : Id) → IsGood R → named_clearance q.kind ≡ Some c → is_instruct q.kind ≡ false
+pub named_is_enough : (R : Register) (q : Command) (c : Id) → IsGood R → named_clearance q.kind ≡ Some c
     → answer R q ≡ answer_with (known_of R q) (near_part R q) q
-named_is_enough R q c good named no_instruct = by_kind R good q.caller q.moment q.kind c named no_instruct
+named_is_enough R q c good named = by_kind R good q.caller q.moment q.kind c named

@@ -99,7 +99,7 @@ module _ (c : Id) (R S : Register) (R_order : ListsAreInOrder R) (S_order : List
       ∙ ap (λ (list : List Edit). told_after k (edited_all list S) q.caller q.kind) made in
       λ i. record { reply = reply i; edits = made i }
 
-  settled_alike : (found : Option Refusal) → is_show q.kind ≡ false → settled k R q found ≡ settled k S q found
+  pub settled_alike : (found : Option Refusal) → is_show q.kind ≡ false → settled k R q found ≡ settled k S q found
   settled_alike None no_show = accepted_alike no_show
   settled_alike (Some refusal) no_show = refl
 

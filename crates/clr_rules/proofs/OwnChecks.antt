@@ -9,7 +9,7 @@ use Rattle.clr_order.specs.Restoring.{restoring_fault}
 use Rattle.clr_order.specs.Step.{Task, task}
 use Rattle.clr_order.specs.declared.step.StepState.{StepState}
 use Rattle.clr_rules.specs.Answer.{Known, checks}
-use Rattle.clr_rules.specs.Checks.{at_step, at_work, bad_transfer, crew_is_off, crew_is_on, crews_on, crews_on_work, earlier, employee, grounded, grounded_there, held, in_hand, is_charge, is_charge_or_operator, is_field, is_in_charge, is_operator, is_supervisor, may_not_transfer, no_step, not_attested, not_grounded, not_holder, not_tested, out_of_turn, outside_fence, refuse, step_given_out, steps_left, unknown_caller, unknown_clearance, where_some, wrong_phase, wrong_restoring, wrong_role, wrong_state}
+use Rattle.clr_rules.specs.Checks.{at_step, at_work, bad_transfer, crew_is_off, crew_is_on, crews_on, crews_on_work, earlier, employee, grounded, grounded_there, is_charge, is_charge_or_operator, is_field, is_in_charge, is_operator, is_supervisor, may_not_transfer, no_step, not_attested, not_grounded, not_holder, not_tested, out_of_turn, outside_fence, refuse, step_given_out, steps_left, unknown_caller, unknown_clearance, where_some, wrong_phase, wrong_restoring, wrong_role, wrong_state}
 use Rattle.clr_rules.specs.Command.{named_clearance}
 use Rattle.clr_rules.specs.Holds.{has_hold, has_some_hold, held_among}
 use Rattle.clr_rules.specs.Id.{Id}
@@ -56,13 +56,13 @@ module _ (c : Id) (R S : Register) (same : SameOwn c R S) where
   at_number : (n : ℕ) (check : StepRow → Option Refusal) → at_step R c n check ≡ at_step S c n check
   at_number n check = ap (λ (rows : List StepRow). where_some (step_at rows n) check) (same_present c R S same)
 
-  number : (n : ℕ) → no_step R c n ≡ no_step S c n
+  pub number : (n : ℕ) → no_step R c n ≡ no_step S c n
   number n = ap (λ (rows : List StepRow). refuse (not (is_some (step_at rows n))) refusals.NoStep) (same_present c R S same)
 
-  turn : (n : ℕ) → out_of_turn R c n ≡ out_of_turn S c n
+  pub turn : (n : ℕ) → out_of_turn R c n ≡ out_of_turn S c n
   turn n = ap (λ (rows : List StepRow). refuse (not (is_in_turn rows n)) refusals.OutOfTurn) (same_present c R S same)
 
-  state : (n : ℕ) (fits : StepState → Bool) → wrong_state R c n fits ≡ wrong_state S c n fits
+  pub state : (n : ℕ) (fits : StepState → Bool) → wrong_state R c n fits ≡ wrong_state S c n fits
   state n fits = at_number n (λ row. refuse (not (fits row.step.state)) refusals.StepState)
 
   tested : (section : List ℕ) → not_tested R c section ≡ not_tested S c section
@@ -123,42 +123,31 @@ abbrev pub SameOfNamed : Register → Register → Option Id → Type 0
 SameOfNamed R S None = ⊥
 SameOfNamed R S (Some c) = SameOwn c R S
 
--- the two checks of the point where a step is given out say the same
-abbrev pub SamePoint : Register → Register → Kind → Type 0
-SamePoint R S (kinds.Instruct c n) = (in_hand R c n ≡ in_hand S c n) × (held R c n ≡ held S c n)
-SamePoint R S kind = Unit {0}
-
--- where no step is given out there is no such check
-no_point : (R S : Register) (kind : Kind) → is_instruct kind ≡ false → SamePoint R S kind
-no_point R S (kinds.Instruct c n) other = cc other
-no_point R S _ other = tt
-
--- each check of a command that names a clearance says the same, but for an order, and for the two checks of a point where a step is given out
+-- each check of a command that names a clearance says the same, but for an order, and for a command that gives a step out: two checks of this look at
+-- the step's point
 module _ (k : Known) (R S : Register) (by : List ℕ) (at : ℕ) where
-  pub same_checks : (kind : Kind) → SameOfNamed R S (named_clearance kind) → is_order kind ≡ false → SamePoint R S kind
+  pub same_checks : (kind : Kind) → SameOfNamed R S (named_clearance kind) → is_order kind ≡ false → is_instruct kind ≡ false
       → checks k R by at kind ≡ checks k S by at kind
-  same_checks (kinds.Request section) same no_order at_point = absurd same
-  same_checks (kinds.Switch tasks) same no_order at_point = absurd same
-  same_checks (kinds.Order c points tasks) same no_order at_point = cc no_order
-  same_checks (kinds.Instruct c n) same no_order at_point = λ i. caller c R S same by i ∷ role c R S same by is_operator i ∷ clearance c R S same i
-      ∷ moment c R S same at i ∷ phase c R S same is_running i ∷ number c R S same n i ∷ turn c R S same n i ∷ state c R S same n is_waiting i
-      ∷ at_point.0 i ∷ at_point.1 i ∷ []
-  same_checks (kinds.Repeat c n text) same no_order at_point = λ i. caller c R S same by i ∷ role c R S same by is_field i ∷ clearance c R S same i ∷ moment c R S same at i ∷ phase c R S same is_running i ∷ number c R S same n i ∷ state c R S same n is_active i ∷ at_number c R S same n (λ row. refuse (not (bytes_eq (step_text (task row.step)) text)) refusals.RepeatDiffers) i ∷ []
-  same_checks (kinds.Report c n done) same no_order at_point = λ i. caller c R S same by i ∷ role c R S same by is_field i ∷ clearance c R S same i ∷ moment c R S same at i ∷ phase c R S same is_running i ∷ number c R S same n i ∷ state c R S same n is_repeated i ∷ at_number c R S same n (λ row. refuse (not (is_named by row.step.reader)) refusals.WrongReporter) i ∷ []
-  same_checks (kinds.Grant c) same no_order at_point = λ i. caller c R S same by i ∷ role c R S same by is_operator i ∷ clearance c R S same i ∷ moment c R S same at i ∷ phase c R S same is_ordered i ∷ all_steps c R S same i ∷ []
-  same_checks (kinds.Test c section dead) same no_order at_point = λ i. caller c R S same by i ∷ role c R S same by is_charge i ∷ clearance c R S same i ∷ holder c R S same by i ∷ moment c R S same at i ∷ phase c R S same is_granted i ∷ outside_fence k.fence section ∷ []
-  same_checks (kinds.Ground c section) same no_order at_point = λ i. caller c R S same by i ∷ role c R S same by is_charge i ∷ clearance c R S same i ∷ holder c R S same by i ∷ moment c R S same at i ∷ phase c R S same is_granted i ∷ outside_fence k.fence section ∷ tested c R S same section i ∷ no_ground c R S same section i ∷ []
-  same_checks (kinds.Unground c section) same no_order at_point = λ i. caller c R S same by i ∷ role c R S same by is_charge i ∷ clearance c R S same i ∷ holder c R S same by i ∷ moment c R S same at i ∷ phase c R S same is_granted i ∷ outside_fence k.fence section ∷ grounded_at c R S same section i ∷ crews_there c R S same section i ∷ []
-  same_checks (kinds.SignOn c crew) same no_order at_point = λ i. caller c R S same by i ∷ role c R S same by is_charge i ∷ clearance c R S same i ∷ holder c R S same by i ∷ moment c R S same at i ∷ phase c R S same is_granted i ∷ at_works c R S same (not_tested R c) (not_tested S c) (tested c R S same) i ∷ at_works c R S same (not_grounded R c) (not_grounded S c) (grounded_at c R S same) i ∷ no_crew c R S same crew i ∷ []
-  same_checks (kinds.SignOff c crew) same no_order at_point = λ i. caller c R S same by i ∷ role c R S same by is_charge i ∷ clearance c R S same i ∷ holder c R S same by i ∷ moment c R S same at i ∷ phase c R S same is_granted i ∷ has_crew c R S same crew i ∷ []
-  same_checks (kinds.Transfer c to emergency) same no_order at_point = λ i. caller c R S same by i ∷ clearance c R S same i ∷ hands_on c R S same by emergency i ∷ moment c R S same at i ∷ phase c R S same is_transferable i ∷ hands_to c R S same to i ∷ []
-  same_checks (kinds.Release c notified clear) same no_order at_point = λ i. caller c R S same by i ∷ role c R S same by is_charge i ∷ clearance c R S same i ∷ holder c R S same by i ∷ moment c R S same at i ∷ phase c R S same is_granted i ∷ no_crews c R S same i ∷ no_grounds c R S same i ∷ not_attested notified clear ∷ []
-  same_checks (kinds.Cancel c) same no_order at_point = λ i. caller c R S same by i ∷ role c R S same by is_charge_or_operator i ∷ clearance c R S same i ∷ holder c R S same by i ∷ moment c R S same at i ∷ phase c R S same is_cancellable i ∷ none_given c R S same i ∷ []
-  same_checks (kinds.Restore c tasks) same no_order at_point = λ i. caller c R S same by i ∷ role c R S same by is_operator i ∷ clearance c R S same i ∷ moment c R S same at i ∷ phase c R S same is_released i ∷ restoring c R S same tasks i ∷ []
-  same_checks (kinds.Amend c n) same no_order at_point = λ i. caller c R S same by i ∷ role c R S same by is_operator i ∷ clearance c R S same i ∷ moment c R S same at i ∷ phase c R S same is_restoring i ∷ number c R S same n i ∷ at_number c R S same n (λ row. refuse (not (is_waiting row.step.state && is_close row.step.action)) refusals.StepState) i ∷ []
-  same_checks (kinds.Show c) same no_order at_point = λ i. caller c R S same by i ∷ clearance c R S same i ∷ []
+  same_checks (kinds.Request section) same no_order no_instruct = absurd same
+  same_checks (kinds.Switch tasks) same no_order no_instruct = absurd same
+  same_checks (kinds.Order c points tasks) same no_order no_instruct = cc no_order
+  same_checks (kinds.Instruct c n) same no_order no_instruct = cc no_instruct
+  same_checks (kinds.Repeat c n text) same no_order no_instruct = λ i. caller c R S same by i ∷ role c R S same by is_field i ∷ clearance c R S same i ∷ moment c R S same at i ∷ phase c R S same is_running i ∷ number c R S same n i ∷ state c R S same n is_active i ∷ at_number c R S same n (λ row. refuse (not (bytes_eq (step_text (task row.step)) text)) refusals.RepeatDiffers) i ∷ []
+  same_checks (kinds.Report c n done) same no_order no_instruct = λ i. caller c R S same by i ∷ role c R S same by is_field i ∷ clearance c R S same i ∷ moment c R S same at i ∷ phase c R S same is_running i ∷ number c R S same n i ∷ state c R S same n is_repeated i ∷ at_number c R S same n (λ row. refuse (not (is_named by row.step.reader)) refusals.WrongReporter) i ∷ []
+  same_checks (kinds.Grant c) same no_order no_instruct = λ i. caller c R S same by i ∷ role c R S same by is_operator i ∷ clearance c R S same i ∷ moment c R S same at i ∷ phase c R S same is_ordered i ∷ all_steps c R S same i ∷ []
+  same_checks (kinds.Test c section dead) same no_order no_instruct = λ i. caller c R S same by i ∷ role c R S same by is_charge i ∷ clearance c R S same i ∷ holder c R S same by i ∷ moment c R S same at i ∷ phase c R S same is_granted i ∷ outside_fence k.fence section ∷ []
+  same_checks (kinds.Ground c section) same no_order no_instruct = λ i. caller c R S same by i ∷ role c R S same by is_charge i ∷ clearance c R S same i ∷ holder c R S same by i ∷ moment c R S same at i ∷ phase c R S same is_granted i ∷ outside_fence k.fence section ∷ tested c R S same section i ∷ no_ground c R S same section i ∷ []
+  same_checks (kinds.Unground c section) same no_order no_instruct = λ i. caller c R S same by i ∷ role c R S same by is_charge i ∷ clearance c R S same i ∷ holder c R S same by i ∷ moment c R S same at i ∷ phase c R S same is_granted i ∷ outside_fence k.fence section ∷ grounded_at c R S same section i ∷ crews_there c R S same section i ∷ []
+  same_checks (kinds.SignOn c crew) same no_order no_instruct = λ i. caller c R S same by i ∷ role c R S same by is_charge i ∷ clearance c R S same i ∷ holder c R S same by i ∷ moment c R S same at i ∷ phase c R S same is_granted i ∷ at_works c R S same (not_tested R c) (not_tested S c) (tested c R S same) i ∷ at_works c R S same (not_grounded R c) (not_grounded S c) (grounded_at c R S same) i ∷ no_crew c R S same crew i ∷ []
+  same_checks (kinds.SignOff c crew) same no_order no_instruct = λ i. caller c R S same by i ∷ role c R S same by is_charge i ∷ clearance c R S same i ∷ holder c R S same by i ∷ moment c R S same at i ∷ phase c R S same is_granted i ∷ has_crew c R S same crew i ∷ []
+  same_checks (kinds.Transfer c to emergency) same no_order no_instruct = λ i. caller c R S same by i ∷ clearance c R S same i ∷ hands_on c R S same by emergency i ∷ moment c R S same at i ∷ phase c R S same is_transferable i ∷ hands_to c R S same to i ∷ []
+  same_checks (kinds.Release c notified clear) same no_order no_instruct = λ i. caller c R S same by i ∷ role c R S same by is_charge i ∷ clearance c R S same i ∷ holder c R S same by i ∷ moment c R S same at i ∷ phase c R S same is_granted i ∷ no_crews c R S same i ∷ no_grounds c R S same i ∷ not_attested notified clear ∷ []
+  same_checks (kinds.Cancel c) same no_order no_instruct = λ i. caller c R S same by i ∷ role c R S same by is_charge_or_operator i ∷ clearance c R S same i ∷ holder c R S same by i ∷ moment c R S same at i ∷ phase c R S same is_cancellable i ∷ none_given c R S same i ∷ []
+  same_checks (kinds.Restore c tasks) same no_order no_instruct = λ i. caller c R S same by i ∷ role c R S same by is_operator i ∷ clearance c R S same i ∷ moment c R S same at i ∷ phase c R S same is_released i ∷ restoring c R S same tasks i ∷ []
+  same_checks (kinds.Amend c n) same no_order no_instruct = λ i. caller c R S same by i ∷ role c R S same by is_operator i ∷ clearance c R S same i ∷ moment c R S same at i ∷ phase c R S same is_restoring i ∷ number c R S same n i ∷ at_number c R S same n (λ row. refuse (not (is_waiting row.step.state && is_close row.step.action)) refusals.StepState) i ∷ []
+  same_checks (kinds.Show c) same no_order no_instruct = λ i. caller c R S same by i ∷ clearance c R S same i ∷ []
 
 pub checks_of_own : (c : Id) (R S : Register) → SameOwn c R S → (k : Known) (by : List ℕ) (at : ℕ) (kind : Kind)
     → named_clearance kind ≡ Some c → is_order kind ≡ false → is_instruct kind ≡ false → checks k R by at kind ≡ checks k S by at kind
 checks_of_own c R S same k by at kind named no_order no_instruct =
-    same_checks k R S by at kind (subst (SameOfNamed R S) (sym named) same) no_order (no_point R S kind no_instruct)
+    same_checks k R S by at kind (subst (SameOfNamed R S) (sym named) same) no_order no_instruct

@@ -1,5 +1,5 @@
 -- What follows where no check of a command applies.
-use Rattle.std.proofs.Common.{◌≡◌, ℕ, Bool, true, false, not, List, [], ◌∷◌, Option, Some, None, is_some, refl, sym, ◌∙◌, ap, subst}
+use Rattle.std.proofs.Common.{◌≡◌, ℕ, Bool, true, false, not, List, [], ◌∷◌, ◌++◌, Option, Some, None, is_some, refl, sym, ◌∙◌, ap, subst}
 use Rattle.std.proofs.lemmas.Bool.{not-false}
 use Rattle.clr_rules.specs.Answer.{Known, checks, first_refusal}
 use Rattle.clr_rules.specs.Checks.{refuse, unknown_clearance, where_some, wrong_phase}
@@ -24,6 +24,19 @@ pub all_pass : (list : List (Option Refusal)) → first_refusal list ≡ None �
 all_pass [] h = tt
 all_pass (None ∷ rest) h = (refl, all_pass rest h)
 all_pass (Some refusal ∷ rest) h = cc
+
+-- checks that come after others count where those pass
+pub first_after : (early first second : List (Option Refusal)) → (first_refusal early ≡ None → first_refusal first ≡ first_refusal second)
+    → first_refusal (early ++ first) ≡ first_refusal (early ++ second)
+first_after [] first second alike = alike refl
+first_after (None ∷ early) first second alike = first_after early first second alike
+first_after (Some refusal ∷ early) first second alike = refl
+
+-- and not where one of those applies
+pub first_stops : (early later : List (Option Refusal)) (refusal : Refusal) → first_refusal early ≡ Some refusal → first_refusal (early ++ later) ≡ Some refusal
+first_stops [] later refusal h = cc h
+first_stops (None ∷ early) later refusal h = first_stops early later refusal h
+first_stops (Some first ∷ early) later refusal h = h
 
 pub not_refused : (b : Bool) (refusal : Refusal) → refuse b refusal ≡ None → b ≡ false
 not_refused true refusal h = cc

@@ -1,5 +1,5 @@
--- THE STATEMENTS OF ISOLATION. Proved so far, each by a law in src/laws: Locality, OthersSpare, OthersStep, LoneStep and NothingIsTakenAway; and
--- SameShownSameAnswers and OwnCommandsAlone from OwnStep (HeadlineLaws). OwnStep and Independence are not proved yet.
+-- THE STATEMENTS OF ISOLATION. Proved so far: Locality, Independence, OthersSpare, OwnStep, OthersStep, LoneStep and NothingIsTakenAway, each by a law in src/laws. The others stand
+-- here for review, and no contract names them.
 use Rattle.std.specs.Prelude.{◌≡◌, ℕ, Bool, true, false, not, ◌||◌, IsTrue, List, [], ◌∷◌, map, filter, Some, Option, None}
 use Rattle.std.specs.List.{list_all}
 use Rattle.clr_net.specs.Fence.{FenceRows, fence_of, in_fence}

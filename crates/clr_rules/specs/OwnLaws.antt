@@ -9,7 +9,7 @@ use Rattle.clr_rules.specs.Command.{named_clearance}
 use Rattle.clr_rules.specs.Good.{IsGood, ListsAreInOrder}
 use Rattle.clr_rules.specs.Holds.{holds_of}
 use Rattle.clr_rules.specs.Id.{Id}
-use Rattle.clr_rules.specs.Near.{near_of, near_part}
+use Rattle.clr_rules.specs.Near.{near_part}
 use Rattle.clr_rules.specs.NearLaws.{is_order}
 use Rattle.clr_rules.specs.Records.{record_of}
 use Rattle.clr_rules.specs.Register.{Register}
@@ -56,12 +56,6 @@ abbrev pub SameEditsKeepTheOwn : Type 0
 SameEditsKeepTheOwn = (c : Id) (R S : Register) → ListsAreInOrder R → ListsAreInOrder S → SameOwn c R S
     → (edits : List Edit) → SameOwn c (edited_all edits R) (edited_all edits S)
 
--- WHAT IS NEAR IS ENOUGH: in a good register a command, but for one that gives a step out, is answered from its near part as from the whole
--- register
+-- WHAT IS NEAR IS ENOUGH: in a good register a command is answered from its near part as from the whole register
 abbrev pub NearIsEnough : Type 0
-NearIsEnough = (R : Register) (q : Command) → IsGood R → is_instruct q.kind ≡ false
-    → answer R q ≡ answer_with (known_of R q) (near_part R q) q
-
--- so good registers with the same near part answer it alike
-abbrev pub SameNearSameAnswer : Type 0
-SameNearSameAnswer = (R S : Register) (q : Command) → IsGood R → IsGood S → is_instruct q.kind ≡ false → near_of R q ≡ near_of S q → answer R q ≡ answer S q
+NearIsEnough = (R : Register) (q : Command) → IsGood R → answer R q ≡ answer_with (known_of R q) (near_part R q) q

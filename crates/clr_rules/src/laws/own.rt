@@ -1,5 +1,6 @@
 //! What a register has of a clearance, and what its commands look at.
-ghost use Rattle.clr_rules.specs.OwnLaws.{AgreeingRegistersHaveTheSame, ChecksLookAtTheOwn, EditsAreOfTheOwn, NearHasTheOwn, NearIsEnough, SameEditsKeepTheOwn, SameNearSameAnswer};
+ghost use Rattle.clr_rules.specs.Isolation.{Independence};
+ghost use Rattle.clr_rules.specs.OwnLaws.{AgreeingRegistersHaveTheSame, ChecksLookAtTheOwn, EditsAreOfTheOwn, NearHasTheOwn, NearIsEnough, SameEditsKeepTheOwn};
 
 /// Registers that agree near a clearance have the same staff, record, steps and holds of it, and so has the near part of a
 /// command that names it.
@@ -19,8 +20,9 @@ pub fn edits_are_of_the_own()
     ensures after { SameEditsKeepTheOwn }
 {}
 
-/// In a good register a command, but for one that gives a step out, is answered from its near part as from the whole register; so good registers with the same near part answer it alike.
+/// In a good register a command is answered from its near part as from the whole register; so good registers with the same near part give
+/// the same answer to it.
 pub fn near_is_enough()
     ensures enough { NearIsEnough }
-    ensures alike { SameNearSameAnswer }
+    ensures alike { Independence }
 {}

@@ -1,5 +1,5 @@
 //! Agreement near a clearance from command to command: the steps of isolation.
-ghost use Rattle.clr_rules.specs.Isolation.{LoneStep, OthersStep};
+ghost use Rattle.clr_rules.specs.Isolation.{LoneStep, OthersStep, OwnStep};
 ghost use Rattle.clr_rules.specs.StepLaws.{OthersEditsAreOfOthers, OwnCommandsLookAtTheSame, SameAnswersKeepAgreement};
 
 /// The edits of a command of others are not about the clearance, and give its requester no new clearance.
@@ -22,4 +22,9 @@ pub fn same_answers_keep_agreement()
 /// Registers that agree near a clearance, on a set that covers its fence, give its own commands the same near part.
 pub fn own_commands_look_at_the_same()
     ensures { OwnCommandsLookAtTheSame }
+{}
+
+/// Registers that agree near a clearance, on a set that covers its fence, answer its own commands alike, and agree again after each.
+pub fn own_commands_keep_agreement()
+    ensures { OwnStep }
 {}

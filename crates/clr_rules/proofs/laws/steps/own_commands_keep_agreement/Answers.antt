@@ -1,0 +1,5 @@
+use Rattle.clr_rules.proofs.OwnSteps.{own_step}
+use Rattle.clr_rules.proofs.laws.steps.own_commands_keep_agreement.Goals as goal
+
+pub returns : goal.returns
+returns c = own_step
