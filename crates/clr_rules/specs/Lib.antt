@@ -41,7 +41,6 @@ pub mod Shown
 pub mod Good
 pub mod Footprint
 pub mod Isolation
-pub mod HeadlineLaws
 pub mod GoodByPhase
 pub mod LiveLaws
 pub mod EditLaws

@@ -1,6 +1,11 @@
-//! The headline, as far as it is proved.
-ghost use Rattle.clr_rules.specs.HeadlineLaws.{AloneFromOwnStep, HeadlineFromOwnStep};
-ghost use Rattle.clr_rules.specs.Isolation.{NothingIsTakenAway};
+//! The headline: what others do does not change what a clearance is answered, and takes nothing away from it.
+ghost use Rattle.clr_rules.specs.Isolation.{NothingIsTakenAway, OwnCommandsAlone, SameShownSameAnswers};
+
+/// The headline's first half: where two reached registers agree near a clearance on a set that covers its run, two lists of
+/// commands that show it the same give the same answers to its own commands, and leave registers that agree again.
+pub fn same_shown_same_answers()
+    ensures { SameShownSameAnswers }
+{}
 
 /// At each place of a run, no command about another clearance closes a point that a clearance holds, or takes away its tags,
 /// grounds, order or record: they are as before it, and each point that the clearance holds open is open.
@@ -8,15 +13,7 @@ pub fn nothing_is_taken_away()
     ensures { NothingIsTakenAway }
 {}
 
-/// The first half of the headline, from the step of own commands, which is not proved yet: where own commands are answered
-/// alike in registers that agree, two lists of commands that show a clearance the same give the same answers to its own
-/// commands, and registers that agree again.
-pub fn headline_from_own_step()
-    ensures { HeadlineFromOwnStep }
-{}
-
-/// The consequence, from the step of own commands too: where no command of others marks the set, a clearance is answered as
-/// if its own commands stood alone.
-pub fn alone_from_own_step()
-    ensures { AloneFromOwnStep }
+/// The consequence: where no command of others marks the set, a clearance is answered as if its own commands stood alone.
+pub fn own_commands_stand_alone()
+    ensures { OwnCommandsAlone }
 {}

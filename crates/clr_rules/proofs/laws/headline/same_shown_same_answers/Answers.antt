@@ -1,5 +1,5 @@
 use Rattle.clr_rules.proofs.Headline.{same_shown}
-use Rattle.clr_rules.proofs.laws.headline.headline_from_own_step.Goals as goal
+use Rattle.clr_rules.proofs.laws.headline.same_shown_same_answers.Goals as goal
 
 pub returns : goal.returns
 returns c = same_shown
