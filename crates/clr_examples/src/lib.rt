@@ -12,6 +12,8 @@ mod networks;
 #[cfg(test)]
 mod orders;
 #[cfg(test)]
+mod register;
+#[cfg(test)]
 mod staff;
 #[cfg(test)]
 mod worked;
