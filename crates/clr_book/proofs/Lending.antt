@@ -1,18 +1,30 @@
 -- What is lent, and the definitions.
-use Rattle.std.proofs.Common.{◌≡◌, ◌∙◌, ◌==◌, ◌&&◌, ◌||◌, ℕ, zero, suc, Bool, List, [], ◌∷◌, map, filter, length, refl, sym, ap}
+use Rattle.std.proofs.Common.{◌≡◌, ◌∙◌, ◌==◌, ◌&&◌, ◌||◌, ℕ, zero, suc, Bool, true, false, Some, ◌++◌, List, [], ◌∷◌, map, filter, length, refl, sym, ap}
+use Rattle.std.proofs.lemmas.Bool.{and_parts}
+use Rattle.std.proofs.lemmas.List.Folds.{list_any-append}
 use Rattle.clr_net.specs.Fence.{FenceRows, fence_of, in_fence, leads, reaches}
-use Rattle.clr_net.specs.Grid.{Grid, section_names}
+use Rattle.clr_net.specs.Grid.{Grid, point_names, section_names}
+use Rattle.clr_net.specs.Name.{same_name}
 use Rattle.clr_net.specs.Names.{has_name}
 use Rattle.clr_net.specs.declared.point.PointRow.{PointRow}
 use Rattle.clr_net.specs.declared.section.SectionRow.{SectionRow}
-use Rattle.clr_rules.specs.Answer.{Known}
+use Rattle.clr_rules.specs.Answer.{Known, fence_for, known_of}
 use Rattle.clr_rules.specs.GoodByPhase.{of_round}
 use Rattle.clr_rules.specs.Id.{Id, same_id}
-use Rattle.clr_rules.specs.Near.{Near}
+use Rattle.clr_order.specs.Step.{task, task_points}
+use Rattle.clr_order.specs.declared.step.Step.{Step}
+use Rattle.clr_rules.specs.Fences.{touches, touching_names}
+use Rattle.clr_rules.specs.Near.{Near, is_beside, switched, switched_in}
+use Rattle.clr_rules.specs.Records.{is_switch_order, record_of}
+use Rattle.clr_rules.specs.declared.command.Command.{Command}
+use Rattle.clr_rules.specs.declared.record.Record.{Record}
 use Rattle.clr_rules.specs.Register.{Register, unplaced, unplaced_net}
 use Rattle.clr_rules.specs.Steps.{points_of, steps_in, steps_of}
 use Rattle.clr_rules.specs.declared.step_row.StepRow.{StepRow}
 use Rattle.clr_rules.proofs.NamedRows.{list_any-map}
+use Rattle.clr_rules.proofs.Kept.{filter-kept}
+use Rattle.clr_rules.proofs.Opening.{unplaced_names}
+use Rattle.clr_book.proofs.OrderPositions.{touching_unplaced}
 use Rattle.clr_rules.proofs.RoundSteps.{of_round_is}
 
 -- whether a walk leads to a section does not hang on positions
@@ -52,6 +64,48 @@ names_shown shows (item ∷ items) = ap (λ names. (shows item).name ∷ names) 
 pub unplaced_shown : {X : Type 0} (shows : X → PointRow) (items : List X) → map (λ item. unplaced (shows item)) items ≡ map unplaced (map shows items)
 unplaced_shown shows [] = refl
 unplaced_shown shows (item ∷ items) = ap (λ points. unplaced (shows item) ∷ points) (unplaced_shown shows items)
+
+pub points_shown : {X : Type 0} (shows : X → StepRow) (items : List X) → map (λ item. (shows item).step.point) items ≡ points_of (map shows items)
+points_shown shows [] = refl
+points_shown shows (item ∷ items) = ap (λ points. (shows item).step.point ∷ points) (points_shown shows items)
+
+pub task_points_are : (steps : List Step) → map (λ step. step.point) steps ≡ task_points (map task steps)
+task_points_are [] = refl
+task_points_are (step ∷ steps) = ap (λ points. step.point ∷ points) (task_points_are steps)
+
+-- which points touch a fence does not hang on positions
+pub touching_are : (inside : List ℕ → Bool) (g : Grid) → point_names (filter (touches inside) g.points) ≡ touching_names (unplaced_net g) inside
+unfolding touching_names
+touching_are inside g = sym (ap point_names (touching_unplaced inside g.points) ∙ unplaced_names (filter (touches inside) g.points))
+
+-- the points of a switch order that was found
+pub switched_found : (R : Register) (c : Id) (r : Record) (steps : List StepRow) → record_of R.records c ≡ Some r → is_switch_order r ≡ true
+    → steps ≡ filter (λ row. same_id c row.id) R.steps → points_of steps ≡ switched_in R (Some c)
+unfolding steps_of
+switched_found R c r steps found switches rows = rw (found, switches) (ap points_of rows)
+
+-- a clearance's record is among those of its requester
+pub own_of_requester : (c : Id) (records : List Record) → filter (λ r. same_id c r.id) (filter (λ r. same_name c.requester r.id.requester) records) ≡ filter (λ r. same_id c r.id) records
+own_of_requester c records =
+    filter-kept (λ (r : Record). same_id c r.id) (λ r. same_name c.requester r.id.requester) records (λ r there own. (and_parts (same_name c.requester r.id.requester) (c.number == r.id.number) own).0)
+
+has_name-append : (first rest : List (List ℕ)) (p : List ℕ) → has_name (first ++ rest) p ≡ (has_name first p || has_name rest p)
+has_name-append first rest p = list_any-append (same_name p) first rest
+
+-- the points near a command, by their names
+pub beside_lent : (R : Register) (q : Command) (names fence : List (List ℕ)) → names ≡ touching_names R.net (has_name fence) ++ switched R q.kind → fence ≡ fence_for R q.kind
+    → has_name names ≡ is_beside R (known_of R q) q.kind
+beside_lent R q names fence are fenced = rw (are, fenced) (λ i p. has_name-append (touching_names R.net (has_name (fence_for R q.kind))) (switched R q.kind) p i)
+
+-- which points have these names does not hang on positions
+pub named_unplaced : (named : List ℕ → Bool) (points : List PointRow) → map unplaced (filter (λ p. named p.name) points) ≡ filter (λ p. named p.name) (map unplaced points)
+named_unplaced named [] = refl
+named_unplaced named (p ∷ points) = at (named p.name) refl (named_unplaced named points)
+  where
+    at : (b : Bool) → named p.name ≡ b → map unplaced (filter (λ p. named p.name) points) ≡ filter (λ p. named p.name) (map unplaced points)
+        → map unplaced (filter (λ p. named p.name) (p ∷ points)) ≡ filter (λ p. named p.name) (map unplaced (p ∷ points))
+    at true e more = rw e (ap (λ rest. unplaced p ∷ rest) more)
+    at false e more = rw e more
 
 -- what is lent is a register with what is known of it, if each of its parts is
 pub lent_whole : (near : Near) (known : Known) (R : Register)

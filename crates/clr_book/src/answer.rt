@@ -1,6 +1,7 @@
 //! The book's answer to a command.
 ghost use Rattle.std.specs.Prelude.{◌≡◌, true, IfOk};
 ghost use Rattle.clr_rules.specs.Answer.{answer};
+ghost use Rattle.clr_rules.specs.Good.{IsGood};
 ghost use Rattle.clr_book.specs.Decided.{is_written};
 
 use crate::book::Book;
@@ -11,11 +12,11 @@ use clr_shelf::Shelf;
 use std::alloc::AllocError;
 
 impl<P: Shelf<PointState>, C: Shelf<Record>, T: Shelf<StepRow>, H: Shelf<Hold>> Book<P, C, T, H> {
-    /// What the book answers to a command, and what the command would change. The book stays as it is: room for the change
-    /// is made by `reserve`, and the change by `apply`.
+    /// What the book answers to a command, and what the command would change; the book of every register that is reached is good.
+    /// The book stays as it is: room for the change is made by `reserve`, and the change by `apply`.
     pub fn answer(&self, command: &Command) -> Result<Decision, AllocError>
         requires { is_written command.now.kind ≡ true }
-        ensures { IfOk result (λ d. answer self.now.register command.now ≡ record { reply = d.reply; edits = d.change.edits }) }
+        ensures { IsGood self.now.register → IfOk result (λ d. answer self.now.register command.now ≡ record { reply = d.reply; edits = d.change.edits }) }
     {
         let near = self.near(command)?;
         let decision = decide(&near, command)?;

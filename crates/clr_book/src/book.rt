@@ -109,11 +109,12 @@ impl<P: Shelf<PointState>, C: Shelf<Record>, T: Shelf<StepRow>, H: Shelf<Hold>> 
         self.steps.group(self.alloc, id)
     }
 
-    /// Makes the room that a change needs. It changes nothing else.
+    /// Makes the room that a change needs. It changes nothing else, and room that was made stays, also where memory is refused.
     pub fn reserve(&mut self, change: &Change) -> Result<(), AllocError>
         ensures register { self.new.register ≡ self.old.register }
         ensures network { self.new.network ≡ self.old.network }
         ensures room { OnOk result (Fits (needs change.now.edits) self.new.room) }
+        ensures kept { Fits self.old.room self.new.room }
     {
         let edits = change.edits.as_slice().len();
         self.records.reserve(edits)?;

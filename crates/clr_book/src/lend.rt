@@ -1,164 +1,187 @@
 //! Lending a command what it looks at.
-ghost use Rattle.std.specs.Prelude.{◌≡◌, ◌≤◌, ◌==◌, IfOk, map, filter};
-ghost use Rattle.std.specs.List.{fold};
-ghost use Rattle.clr_net.specs.Name.{same_name};
-ghost use Rattle.clr_rules.specs.Answer.{fence_for, known_of, numbered_for};
-ghost use Rattle.clr_rules.specs.Command.{named_clearance};
-ghost use Rattle.clr_rules.specs.Fences.{record_fence, work_fence};
-ghost use Rattle.clr_rules.specs.Records.{greatest_number, greater, is_fenced};
-ghost use Rattle.clr_rules.specs.Register.{unplaced_net};
-ghost use Rattle.clr_rules.specs.Steps.{points_of, steps_in};
+ghost use Rattle.std.specs.Prelude.{◌≡◌, ◌||◌, IfOk, map, filter};
+ghost use Rattle.clr_net.specs.Names.{has_name};
+ghost use Rattle.clr_rules.specs.Holds.{is_near_hold, is_own};
+ghost use Rattle.clr_rules.specs.Id.{same_id};
+ghost use Rattle.clr_rules.specs.Near.{is_asked, near_of};
 
 use crate::book::Book;
+use crate::fences::{has_name, is_near_hold};
 use crate::near::Near;
 use crate::shelves::all_rows;
-use clr_net::{Name, Network, SectionRow};
-use clr_rules::{ClearanceId, Command, Hold, Kind, Phase, PointState, Record, StepRow};
+use clr_net::{Name, PointRow, SectionRow};
+use clr_rules::{ClearanceId, Command, Hold, Kind, PointState, Record, StepRow};
 use clr_shelf::Shelf;
 use std::alloc::{AllocError, Global};
 
 impl<P: Shelf<PointState>, C: Shelf<Record>, T: Shelf<StepRow>, H: Shelf<Hold>> Book<P, C, T, H> {
-    /// What a command looks at: the whole book, with what is known of it for this command.
+    /// What a command looks at, and no other row: the near part of the book's register.
     pub fn near(&self, command: &Command) -> Result<Near<'_>, AllocError>
-        ensures { IfOk result (λ near. near ≡ record { known = known_of self.now.register command.now; rows = self.now.register }) }
+        ensures { IfOk result (λ near. near ≡ near_of self.now.register command.now) }
     {
+        let kind = &command.kind;
+        let own = kind.clearance();
+        let fence = self.fence_for(kind)?;
+        let beside = self.points_beside(kind, &fence)?;
         let near = Near {
             alloc: self.alloc,
             greatest: self.greatest_for(command)?,
-            fence: self.fence_for(&command.kind)?,
-            sections: references(self.alloc, self.network.sections())?,
-            points: references(self.alloc, self.network.points())?,
+            sections: self.sections_near(kind, &fence)?,
+            points: points_among(self.alloc, self.network.points(), &beside)?,
             staff: &self.staff,
-            states: all_rows(self.alloc, &self.states)?,
-            records: all_rows(self.alloc, &self.records)?,
-            steps: all_rows(self.alloc, &self.steps)?,
-            holds: all_rows(self.alloc, &self.holds)?,
+            states: self.states_near(&beside)?,
+            records: self.own_records(own)?,
+            steps: self.own_steps(own)?,
+            holds: self.holds_near(&fence, &beside, own)?,
+            fence,
         };
         Ok(near)
     }
 
-    // The greatest number of the clearances of the requester whose clearance is named, or of the caller; 0 where there is none.
-    #[tactic(auto, unfolding(clr_rules::specs::Records::greatest_number))]
-    fn greatest_for(&self, command: &Command) -> Result<u16, AllocError>
-        ensures value { IfOk result (λ greatest. greatest ≡ greatest_number self.now.register.records (numbered_for command.now.caller (named_clearance command.now.kind))) }
-        ensures range { IfOk result (λ greatest. greatest ≤ 9999) }
+    // The sections of the fence, and the one that a request asks for.
+    fn sections_near(&self, kind: &Kind, fence: &[Name]) -> Result<Vec<&SectionRow>, AllocError>
+        ensures { IfOk result (λ found. map (λ row. row.now) found.items ≡ filter (λ row. has_name fence.now row.name || is_asked kind.now row.name) self.now.register.net.sections) }
     {
-        let requester = numbered_for(command.caller, command.kind.clearance());
-        let records = self.records.group(self.alloc, &requester)?;
-        Ok(greatest_of(&records))
+        let found = sections_among(self.alloc, self.network.sections(), fence, kind)?;
+        Ok(found)
     }
 
-    // The sections of the clearance's fence, or of the fence that the order would make.
-    fn fence_for(&self, kind: &Kind) -> Result<Vec<&SectionRow>, AllocError>
-        ensures { IfOk result (λ fence. map (λ row. row.now.name) fence.items ≡ fence_for self.now.register kind.now) }
+    // The positions of these points, and whose order is at work on them.
+    fn states_near(&self, beside: &[Name]) -> Result<Vec<&PointState>, AllocError>
+        ensures { IfOk result (λ found. map (λ row. row.now) found.items ≡ filter (λ state. has_name beside.now state.point) self.now.register.states) }
     {
-        let Some(id) = kind.clearance() else {
-            return Ok(Vec::new(self.alloc));
-        };
-        let Some(record) = self.records.get(&id) else {
-            return Ok(Vec::new(self.alloc));
-        };
-        let fence = match kind {
-            Kind::Order { points, .. } => work_fence(
-                self.alloc,
-                &self.network,
-                record.work,
-                points.as_slice(),
-            )?,
-            _ => self.record_fence(record)?,
-        };
-        Ok(fence)
+        let rows = all_rows(self.alloc, &self.states)?;
+        let found = states_at(self.alloc, &rows, beside)?;
+        Ok(found)
     }
 
-    // The sections of a record's fence, which is cut at the points of its first round.
-    fn record_fence(&self, entry: &Record) -> Result<Vec<&SectionRow>, AllocError>
-        ensures { IfOk result (λ fence. map (λ row. row.now.name) fence.items ≡ record_fence self.now.register.net self.now.register.steps entry.now) }
+    // The record of the clearance that is named.
+    fn own_records(&self, own: Option<ClearanceId>) -> Result<Vec<&Record>, AllocError>
+        ensures { IfOk result (λ found. map (λ row. row.now) found.items ≡ filter (λ r. is_own own r.id) self.now.register.records) }
     {
-        if !is_fenced(entry.phase) {
-            return Ok(Vec::new(self.alloc));
+        let id = match own {
+            Some(id) => id,
+            None => return Ok(Vec::new(self.alloc)),
+        };
+        let rows = self.records.group(self.alloc, &id.requester())?;
+        let found = records_of(self.alloc, &rows, id)?;
+        Ok(found)
+    }
+
+    // The steps of the clearance that is named.
+    fn own_steps(&self, own: Option<ClearanceId>) -> Result<Vec<&StepRow>, AllocError>
+        ensures { IfOk result (λ found. map (λ row. row.now) found.items ≡ filter (λ row. is_own own row.id) self.now.register.steps) }
+    {
+        match own {
+            Some(id) => self.steps.group(self.alloc, &id),
+            None => Ok(Vec::new(self.alloc)),
         }
-        let steps = self.steps.group(self.alloc, &entry.id)?;
-        let points = first_points(self.alloc, &steps)?;
-        let fence = work_fence(self.alloc, &self.network, entry.work, &points)?;
-        Ok(fence)
+    }
+
+    // The holds at these sections and points, and the crews of the clearance that is named.
+    fn holds_near(
+        &self,
+        fence: &[Name],
+        beside: &[Name],
+        own: Option<ClearanceId>,
+    ) -> Result<Vec<&Hold>, AllocError>
+        ensures { IfOk result (λ found. map (λ row. row.now) found.items ≡ filter (is_near_hold (has_name fence.now) (has_name beside.now) own) self.now.register.holds) }
+    {
+        let rows = all_rows(self.alloc, &self.holds)?;
+        let found = holds_at(self.alloc, &rows, fence, beside, &own)?;
+        Ok(found)
     }
 }
 
-// The sections of the fence of a work section, cut at these points; none without one.
-fn work_fence<'a>(
+// Whether a command is a request for a section.
+fn is_asked(kind: &Kind, name: Name) -> bool
+    ensures { result ≡ is_asked kind.now name }
+{
+    match kind {
+        Kind::Request { section } => *section == name,
+        _ => false,
+    }
+}
+
+fn sections_among<'a>(
     alloc: Global,
-    network: &'a Network,
-    work: Option<Name>,
-    cut: &[Name],
+    rows: &'a [SectionRow],
+    fence: &[Name],
+    kind: &Kind,
 ) -> Result<Vec<&'a SectionRow>, AllocError>
-    ensures { IfOk result (λ fence. map (λ row. row.now.name) fence.items ≡ work_fence (unplaced_net network.now) work cut.now) }
+    ensures { IfOk result (λ found. map (λ row. row.now) found.items ≡ filter (λ row. has_name fence.now row.name || is_asked kind.now row.name) rows.now) }
 {
-    let Some(work) = work else {
-        return Ok(Vec::new(alloc));
-    };
-    let fence = network.fence(&work, cut)?;
-    let sections = to_vec(alloc, fence.sections())?;
-    Ok(sections)
-}
-
-// Whose numbers count: those of the requester of the clearance that is named; a new clearance is the caller's.
-fn numbered_for(caller: Name, named: Option<ClearanceId>) -> Name
-    ensures { result ≡ numbered_for caller named }
-{
-    match named {
-        Some(id) => id.requester(),
-        None => caller,
-    }
-}
-
-// The greatest number of these records, 0 where there is none.
-fn greatest_of(records: &[&Record]) -> u16
-    ensures value { result ≡ fold greater 0 (map (λ row. row.id.number) (map (λ row. row.now) records.now)) }
-    ensures range { result ≤ 9999 }
-{
-    let mut greatest = 0;
-    for record in records {
-        let number = record.id.number();
-        if greatest <= number {
-            greatest = number;
+    let mut found = Vec::new(alloc);
+    for row in rows {
+        if has_name(fence, row.name) || is_asked(kind, row.name) {
+            found.push(row)?;
         }
     }
-    greatest
+    Ok(found)
 }
 
-// The points of the first round of these steps, in their order.
-fn first_points(alloc: Global, steps: &[&StepRow]) -> Result<Vec<Name>, AllocError>
-    ensures { IfOk result (λ points. points.items ≡ map (λ row. row.step.point) (filter (λ row. row.round == 1) (map (λ row. row.now) steps.now))) }
+fn points_among<'a>(
+    alloc: Global,
+    rows: &'a [PointRow],
+    beside: &[Name],
+) -> Result<Vec<&'a PointRow>, AllocError>
+    ensures { IfOk result (λ found. map (λ row. row.now) found.items ≡ filter (λ row. has_name beside.now row.name) rows.now) }
 {
-    let mut points = Vec::new(alloc);
-    for row in steps {
-        if row.round == 1 {
-            points.push(row.step.point)?;
+    let mut found = Vec::new(alloc);
+    for row in rows {
+        if has_name(beside, row.name) {
+            found.push(row)?;
         }
     }
-    Ok(points)
+    Ok(found)
 }
 
-// Whether a record of this phase has a fence.
-fn is_fenced(phase: Phase) -> bool
-    ensures { result ≡ is_fenced phase }
+fn records_of<'a>(
+    alloc: Global,
+    rows: &[&'a Record],
+    id: ClearanceId,
+) -> Result<Vec<&'a Record>, AllocError>
+    ensures { IfOk result (λ found. map (λ row. row.now) found.items ≡ filter (λ r. same_id id r.id) (map (λ row. row.now) rows.now)) }
 {
-    match phase {
-        Phase::Requested | Phase::Closed => false,
-        Phase::Ordered | Phase::Granted | Phase::Released | Phase::Restoring | Phase::Switching =>
-            true,
+    let mut found = Vec::new(alloc);
+    for row in rows {
+        if id == row.id {
+            found.push(*row)?;
+        }
     }
+    Ok(found)
 }
 
-fn to_vec<'a>(alloc: Global, rows: &[&'a SectionRow]) -> Result<Vec<&'a SectionRow>, AllocError>
-    ensures { IfOk result (λ copies. map (λ row. row.now) copies.items ≡ map (λ row. row.now) rows.now) }
+fn states_at<'a>(
+    alloc: Global,
+    rows: &[&'a PointState],
+    beside: &[Name],
+) -> Result<Vec<&'a PointState>, AllocError>
+    ensures { IfOk result (λ found. map (λ row. row.now) found.items ≡ filter (λ state. has_name beside.now state.point) (map (λ row. row.now) rows.now)) }
 {
-    rows.iter().copied().collect(alloc)
+    let mut found = Vec::new(alloc);
+    for row in rows {
+        if has_name(beside, row.point) {
+            found.push(*row)?;
+        }
+    }
+    Ok(found)
 }
 
-// A reference to each of these rows.
-fn references<R>(alloc: Global, rows: &[R]) -> Result<Vec<&R>, AllocError>
-    ensures { IfOk result (λ found. map (λ row. row.now) found.items ≡ rows.now) }
+fn holds_at<'a>(
+    alloc: Global,
+    rows: &[&'a Hold],
+    fence: &[Name],
+    beside: &[Name],
+    own: &Option<ClearanceId>,
+) -> Result<Vec<&'a Hold>, AllocError>
+    ensures { IfOk result (λ found. map (λ row. row.now) found.items ≡ filter (is_near_hold (has_name fence.now) (has_name beside.now) own.now) (map (λ row. row.now) rows.now)) }
 {
-    rows.iter().collect(alloc)
+    let mut found = Vec::new(alloc);
+    for row in rows {
+        if is_near_hold(fence, beside, own, row) {
+            found.push(*row)?;
+        }
+    }
+    Ok(found)
 }

@@ -2,9 +2,12 @@
 #![tactic(auto)]
 
 mod answer;
+mod beside;
 mod book;
 mod decision;
+mod fences;
 mod kinds;
+mod known;
 mod lend;
 mod near;
 mod orders;

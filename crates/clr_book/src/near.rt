@@ -1,6 +1,6 @@
 //! What a command looks at: rows of the book, and what is known of it beside them.
 use clr_csv::Staff;
-use clr_net::{PointRow, SectionRow};
+use clr_net::{Name, PointRow, SectionRow};
 use clr_rules::{Hold, PointState, Record, StepRow};
 use std::alloc::Global;
 use std::marker::Model;
@@ -14,7 +14,7 @@ pub struct Near<'a> {
     /// The greatest number of the requester's clearances, 0 where there is none.
     pub(crate) greatest: u16,
     /// The sections of the clearance's fence, or of the fence that the order would make.
-    pub(crate) fence: Vec<&'a SectionRow>,
+    pub(crate) fence: Vec<Name>,
     pub(crate) sections: Vec<&'a SectionRow>,
     pub(crate) points: Vec<&'a PointRow>,
     pub(crate) staff: &'a Staff,
@@ -35,7 +35,7 @@ impl<'a> Model for Near<'a> {
     ghost Value = { Near };
 
     ghost view = { λ n. record {
-      known = record { greatest = n.greatest; fence = map (λ row. row.now.name) n.fence.items };
+      known = record { greatest = n.greatest; fence = n.fence.items };
       rows = record {
         net = record { sections = map (λ row. row.now) n.sections.items; points = map (λ row. unplaced row.now) n.points.items };
         staff = n.staff.now;

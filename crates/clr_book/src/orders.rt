@@ -8,8 +8,9 @@ ghost use Rattle.clr_rules.specs.Refusals.{order_refusal};
 ghost use Rattle.clr_book.specs.OrderChecks.{refusal_of};
 ghost use Rattle.std.specs.Prelude.{Some};
 
+use crate::fences::{has_name, touching_points};
 use crate::near::Near;
-use clr_net::{Fence, Name, PointRow, SectionRow};
+use clr_net::{Fence, Name, SectionRow};
 use clr_order::{OrderFault, Step, check_isolating};
 use clr_rules::Refusal;
 use std::alloc::{AllocError, Global};
@@ -32,46 +33,17 @@ pub(crate) fn unsound_order(
 fn fence_sections<'a>(
     alloc: Global,
     rows: &[&'a SectionRow],
-    fence: &[&SectionRow],
+    fence: &[Name],
 ) -> Result<Vec<&'a SectionRow>, AllocError>
-    ensures { IfOk result (λ kept. map (λ row. row.now) kept.items ≡ filter (λ row. has_name (map (λ section. section.now.name) fence.now) row.name) (map (λ row. row.now) rows.now)) }
+    ensures { IfOk result (λ kept. map (λ row. row.now) kept.items ≡ filter (λ row. has_name fence.now row.name) (map (λ row. row.now) rows.now)) }
 {
     let mut kept = Vec::new(alloc);
     for row in rows {
-        if has_section(fence, row.name) {
+        if has_name(fence, row.name) {
             kept.push(*row)?;
         }
     }
     Ok(kept)
-}
-
-// The rows of the points with an end in a fence.
-fn touching_points<'a>(
-    alloc: Global,
-    rows: &[&'a PointRow],
-    fence: &[&SectionRow],
-) -> Result<Vec<&'a PointRow>, AllocError>
-    ensures { IfOk result (λ kept. map (λ row. row.now) kept.items ≡ filter (touches (has_name (map (λ section. section.now.name) fence.now))) (map (λ row. row.now) rows.now)) }
-{
-    let mut kept = Vec::new(alloc);
-    for row in rows {
-        if has_section(fence, row.from_end) || has_section(fence, row.to_end) {
-            kept.push(*row)?;
-        }
-    }
-    Ok(kept)
-}
-
-// Whether a section is in a fence.
-fn has_section(fence: &[&SectionRow], name: Name) -> bool
-    ensures { result ≡ has_name (map (λ section. section.now.name) fence.now) name }
-{
-    for section in fence {
-        if name == section.name {
-            return true;
-        }
-    }
-    false
 }
 
 // The refusal that the check of an order told, if it told one.

@@ -8,6 +8,7 @@ ghost use Rattle.clr_rules.specs.Register.{unplaced};
 ghost use Rattle.clr_rules.specs.Steps.{present, steps_in};
 ghost use Rattle.clr_rules.specs.declared.hold_kind.HoldKind.TheVariants as hold_kinds;
 
+use crate::fences::{has_name, is_near_hold, touches};
 use crate::near::Near;
 use crate::progress::progress_with;
 use crate::questions::steps::{is_of_round, last_round};
@@ -18,29 +19,11 @@ use clr_rules::{
 };
 use std::alloc::{AllocError, Global};
 
-/// Whether a name is among these.
-fn has_name(names: &[Name], name: Name) -> bool
-    ensures { result ≡ has_name names.now name }
-{
-    names.iter().any(|other| name == *other)
-}
-
 /// The names of the fence's sections.
 fn fence_names(near: &Near) -> Result<Vec<Name>, AllocError>
     ensures { IfOk result (λ names. names.items ≡ near.now.known.fence) }
 {
-    let mut names = Vec::new(near.alloc);
-    for row in &near.fence {
-        names.push(row.name)?;
-    }
-    Ok(names)
-}
-
-/// Whether a point has an end among these sections.
-fn touches(fence: &[Name], point: &PointRow) -> bool
-    ensures { result ≡ touches (has_name fence.now) (unplaced point.now) }
-{
-    has_name(fence, point.from_end) || has_name(fence, point.to_end)
+    near.fence.iter().copied().collect(near.alloc)
 }
 
 /// The points with an end among these sections.
@@ -98,22 +81,13 @@ fn steps_in(near: &Near, id: ClearanceId, round: u8) -> Result<Vec<Step>, AllocE
     Ok(steps)
 }
 
-/// Whether a hold stands at one of these sections or points.
-fn is_at(hold: &Hold, fence: &[Name], touching: &[Name]) -> bool
-    ensures { result ≡ is_near_hold (has_name fence.now) (has_name touching.now) None hold.now }
-{
-    let at_point = hold.kind.stands_at_point() && has_name(touching, hold.place);
-    let at_section = hold.kind.stands_at_section() && has_name(fence, hold.place);
-    at_point || at_section
-}
-
 /// The holds at these sections and points.
 fn holds_at(near: &Near, fence: &[Name], touching: &[Name]) -> Result<Vec<Hold>, AllocError>
     ensures { IfOk result (λ holds. holds.items ≡ filter (is_near_hold (has_name fence.now) (has_name touching.now) None) near.now.rows.holds) }
 {
     let mut holds = Vec::new(near.alloc);
     for hold in &near.holds {
-        if is_at(hold, fence, touching) {
+        if is_near_hold(fence, touching, &None, hold) {
             holds.push(**hold)?;
         }
     }

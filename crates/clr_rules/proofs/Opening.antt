@@ -43,7 +43,7 @@ module _ {Key Row : Type 0} (compare : Key → Key → Ordering) (key_of : Row �
   in_key_order-from_sorted (row ∷ rows) rising =
       rw (all_above row rows (sorted_head compare (key_of row) (map key_of rows) rising), in_key_order-from_sorted rows (sorted_tail compare (key_of row) (map key_of rows) rising)) refl
 
-unplaced_names : (points : List PointRow) → point_names (map unplaced points) ≡ point_names points
+pub unplaced_names : (points : List PointRow) → point_names (map unplaced points) ≡ point_names points
 unplaced_names [] = refl
 unplaced_names (p ∷ points) = ap (λ names. p.name ∷ names) (unplaced_names points)
 

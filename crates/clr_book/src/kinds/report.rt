@@ -13,7 +13,9 @@ use crate::kinds::moved::moved;
 use crate::near::Near;
 use crate::progress::progress_with;
 use crate::questions::callers::{Players, unknown_caller, wrong_role};
-use crate::questions::clearances::{Phases, earlier, record, unknown_clearance, wrong_phase};
+use crate::questions::clearances::{
+    Phases, earlier, is_switch_order, record, unknown_clearance, wrong_phase,
+};
 use crate::questions::first::first_of;
 use crate::questions::steps::{States, no_step, step, wrong_reporter, wrong_state};
 use clr_net::{Name, Position};
@@ -74,15 +76,6 @@ fn hold_edit(switching: bool, id: ClearanceId, action: Action, point: Name) -> O
         Action::Uncontrol => Some(Edit::TakeHold(hold(HoldKind::Control))),
         Action::Unblock => Some(Edit::TakeHold(hold(HoldKind::Block))),
         Action::Close | Action::Leave => Some(Edit::TakeHold(hold(HoldKind::HeldOpen))),
-    }
-}
-
-fn is_switch_order(clearance: &Record) -> bool
-    ensures { result ≡ is_switch_order clearance.now }
-{
-    match clearance.work {
-        Some(_) => false,
-        None => true,
     }
 }
 

@@ -1,7 +1,7 @@
 //! Checks of the clearance that is named.
 ghost use Rattle.std.specs.Prelude.{◌≡◌, option_copied};
 ghost use Rattle.clr_rules.specs.Checks.{earlier, too_many_clearances, unknown_clearance, unknown_section, wrong_phase};
-ghost use Rattle.clr_rules.specs.Records.{record_of};
+ghost use Rattle.clr_rules.specs.Records.{is_switch_order, record_of};
 ghost use Rattle.clr_book.specs.Wanted.{falls};
 
 use crate::near::Near;
@@ -38,6 +38,16 @@ pub(crate) fn record<'a>(near: &Near<'a>, id: ClearanceId) -> Option<&'a Record>
     ensures { option_copied result ≡ record_of near.now.rows.records id }
 {
     find_row(&near.records, &id)
+}
+
+/// Whether a record is that of a switch order, which has no work section.
+pub(crate) fn is_switch_order(clearance: &Record) -> bool
+    ensures { result ≡ is_switch_order clearance.now }
+{
+    match clearance.work {
+        Some(_) => false,
+        None => true,
+    }
 }
 
 /// Whether the network lacks the section that is asked for.

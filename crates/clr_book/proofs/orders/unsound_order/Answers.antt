@@ -20,7 +20,7 @@ use Rattle.clr_book.proofs.orders.unsound_order.Goals as goal
 -- src/orders.rt:26:17
 pub of_rows-fence-requires-clause-sections_rise : goal.of_rows-fence-requires-clause-sections_rise
 of_rows-fence-requires-clause-sections_rise c =
-    let inside = has_name (map (λ (section : Bor SectionRow). section.now.name) c.deref-2.result.now) in
+    let inside = has_name c.deref-2.result.now in
     let rows = map (λ (row : Bor SectionRow). row.now) c.deref.result.now in
     rw c.in_ok-sections.ensures
     (rising-filter name_cmp (λ (row : SectionRow). row.name) (λ row. inside row.name) rows
@@ -29,7 +29,7 @@ of_rows-fence-requires-clause-sections_rise c =
 -- src/orders.rt:26:17
 pub of_rows-fence-requires-clause-points_rise : goal.of_rows-fence-requires-clause-points_rise
 of_rows-fence-requires-clause-points_rise c =
-    let inside = has_name (map (λ (section : Bor SectionRow). section.now.name) c.deref-4.result.now) in
+    let inside = has_name c.deref-4.result.now in
     let rows = map (λ (row : Bor PointRow). row.now) c.deref-3.result.now in
     rw c.in_ok-touching.ensures
     (rising-filter name_cmp (λ (row : PointRow). row.name) (touches inside) rows
@@ -44,14 +44,14 @@ returns c =
     let g = c.args.near.now.rows.net in
     let S = map (λ (row : Bor SectionRow). row.now) c.near.inside.sections.items in
     let T = map (λ (row : Bor PointRow). row.now) c.near.inside.points.items in
-    let names : map (λ (row : Bor SectionRow). row.now.name) c.near.inside.fence.items ≡ known = ap (λ (n : Near). n.known.fence) c.near.view_is in
+    let names : c.near.inside.fence.items ≡ known = ap (λ (n : Near). n.known.fence) c.near.view_is in
     let sections : FenceRows.sections c.of_rows-fence.result ≡ filter (λ row. has_name known row.name) S =
     ap FenceRows.sections c.of_rows-fence.ensures ∙ c.in_ok-sections.ensures
-    ∙ ap (λ (all : List (List ℕ)). filter (λ row. has_name all row.name) (map (λ row. row.now) c.deref.result.now)) (ap (map (λ (row : Bor SectionRow). row.now.name)) c.deref-2.ensures.value ∙ names)
+    ∙ ap (λ (all : List (List ℕ)). filter (λ row. has_name all row.name) (map (λ row. row.now) c.deref.result.now)) (c.deref-2.ensures.value ∙ names)
     ∙ ap (λ (items : List (Bor SectionRow)). filter (λ row. has_name known row.name) (map (λ row. row.now) items)) c.deref.ensures.value in
     let touching : FenceRows.touching c.of_rows-fence.result ≡ filter (touches (has_name known)) T =
     ap FenceRows.touching c.of_rows-fence.ensures ∙ c.in_ok-touching.ensures
-    ∙ ap (λ (all : List (List ℕ)). filter (touches (has_name all)) (map (λ row. row.now) c.deref-3.result.now)) (ap (map (λ (row : Bor SectionRow). row.now.name)) c.deref-4.ensures.value ∙ names)
+    ∙ ap (λ (all : List (List ℕ)). filter (touches (has_name all)) (map (λ row. row.now) c.deref-3.result.now)) (c.deref-4.ensures.value ∙ names)
     ∙ ap (λ (items : List (Bor PointRow)). filter (touches (has_name known)) (map (λ row. row.now) items)) c.deref-3.ensures.value in
     c.refusal_of.ensures ∙ ap refusal_of c.check_isolating.ensures.first ∙ told (isolating_fault c.of_rows-fence.result points tasks)
     ∙ ap order_refusal (order_told S T known c.of_rows-fence.result g points tasks sections touching

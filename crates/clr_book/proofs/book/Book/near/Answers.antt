@@ -1,23 +1,53 @@
-use Rattle.std.proofs.Common.{◌∙◌, ap, map, Bor}
+use Rattle.std.proofs.Common.{◌≡◌, ◌∙◌, ◌||◌, ap, filter, map, Bor, List, ℕ, Bool, Option, sym}
+use Rattle.clr_net.specs.Name.{name_cmp}
+use Rattle.clr_net.specs.Names.{has_name}
 use Rattle.clr_net.specs.declared.point.PointRow.{PointRow}
+use Rattle.clr_net.specs.declared.section.SectionRow.{SectionRow}
 use Rattle.clr_rules.specs.Answer.{known_of}
+use Rattle.clr_rules.specs.Holds.{is_near_hold, is_own}
+use Rattle.clr_rules.specs.Id.{Id}
+use Rattle.clr_rules.specs.Near.{is_asked, is_beside, near_part}
 use Rattle.clr_rules.specs.Register.{unplaced}
 use Rattle.clr_book.specs.Shelved.{Shelved}
-use Rattle.clr_book.proofs.Lending.{lent_whole, unplaced_shown}
+use Rattle.clr_book.proofs.Lending.{beside_lent, lent_whole, named_unplaced, unplaced_shown}
+use Rattle.clr_book.proofs.SortedRows.{rising-filter}
 use Rattle.clr_book.proofs.book.Book.near.Goals as goal
 
--- src/lend.rt:20:5
+-- src/lend.rt:22:5
 pub returns : goal.returns
 returns g c =
     let R = c.args.self.now.register in
-    lent_whole _ (known_of R c.args.command.now) R
+    let q = c.args.command.now in
+    let k = known_of R q in
+    let own = c.clearance-own.ensures in
+    let fence = c.in_ok-fence.ensures in
+    let beside : has_name c.in_ok-beside.beside.items ≡ is_beside R k q.kind = beside_lent R q c.in_ok-beside.beside.items c.deref.result.now c.in_ok-beside.ensures (c.deref.ensures.value ∙ fence) in
+    let at_points : has_name c.deref-3.result.now ≡ is_beside R k q.kind = ap has_name c.deref-3.ensures.value ∙ beside in
+    let at_states : has_name c.deref-4.result.now ≡ is_beside R k q.kind = ap has_name c.deref-4.ensures.value ∙ beside in
+    let at_holds : has_name c.deref-6.result.now ≡ is_beside R k q.kind = ap has_name c.deref-6.ensures.value ∙ beside in
+    lent_whole _ k (near_part R q)
     c.in_ok-greatest_for.ensures.value
-    c.in_ok-fence_for.ensures
-    (c.in_ok-references.ensures ∙ c.sections.ensures.rows ∙ ap (λ (v : Shelved). v.register.net.sections) c.self.view_is)
-    (unplaced_shown (λ (row : Bor PointRow). row.now) c.in_ok-references-2.field-0.items ∙ ap (map unplaced) (c.in_ok-references-2.ensures ∙ c.points.ensures.rows)
-    ∙ ap (λ (v : Shelved). v.register.net.points) c.self.view_is)
+    fence
+    (c.in_ok-sections_near.ensures ∙ ap (λ (names : List (List ℕ)). filter (λ row. has_name names row.name || is_asked q.kind row.name) R.net.sections) (c.deref-2.ensures.value ∙ fence))
+    (unplaced_shown (λ (row : Bor PointRow). row.now) c.in_ok-points_among.field-0.items
+    ∙ ap (map unplaced) (c.in_ok-points_among.ensures ∙ (λ i. filter (λ row. at_points i row.name) (c.points.ensures.rows i)))
+    ∙ named_unplaced (is_beside R k q.kind) c.self.inside.network.points ∙ ap (λ (v : Shelved). filter (λ row. is_beside R k q.kind row.name) v.register.net.points) c.self.view_is)
     (ap (λ (v : Shelved). v.register.staff) c.self.view_is)
-    (c.in_ok-all_rows.ensures ∙ ap (λ (v : Shelved). v.register.states) c.self.view_is)
-    (c.in_ok-all_rows-2.ensures ∙ ap (λ (v : Shelved). v.register.records) c.self.view_is)
-    (c.in_ok-all_rows-3.ensures ∙ ap (λ (v : Shelved). v.register.steps) c.self.view_is)
-    (c.in_ok-all_rows-4.ensures ∙ ap (λ (v : Shelved). v.register.holds) c.self.view_is)
+    (c.in_ok-states_near.ensures ∙ ap (λ (near : List ℕ → Bool). filter (λ state. near state.point) R.states) at_states)
+    (c.in_ok-own_records.ensures ∙ ap (λ (o : Option Id). filter (λ r. is_own o r.id) R.records) own)
+    (c.in_ok-own_steps.ensures ∙ ap (λ (o : Option Id). filter (λ row. is_own o row.id) R.steps) own)
+    (c.in_ok-holds_near.ensures ∙ (λ i. filter (is_near_hold (has_name ((c.deref-5.ensures.value ∙ fence) i)) (at_holds i) (own i)) R.holds))
+
+-- src/lend.rt:38:12
+pub invariant_of-near : goal.invariant_of-near
+invariant_of-near g c =
+    let R = c.args.self.now.register in
+    let fence = c.deref-2.result.now in
+    let beside = c.deref-3.result.now in
+    let sections : R.net.sections ≡ c.self.inside.network.sections = ap (λ (v : Shelved). v.register.net.sections) (sym c.self.view_is) in (
+      c.in_ok-greatest_for.ensures.range,
+      rw (c.in_ok-sections_near.ensures, sections)
+          (rising-filter name_cmp (λ (row : SectionRow). row.name) (λ row. has_name fence row.name || is_asked c.args.command.now.kind row.name) c.self.inside.network.sections c.points.ensures.network.sections_rise),
+      rw (c.in_ok-points_among.ensures, c.points.ensures.rows)
+          (rising-filter name_cmp (λ (row : PointRow). row.name) (λ row. has_name beside row.name) c.self.inside.network.points c.points.ensures.network.points_rise),
+    )

@@ -1,7 +1,7 @@
 use Rattle.std.proofs.Common.{◌≡◌, ◌≤◌, map, drop}
 use Rattle.std.specs.List.{fold}
 use Rattle.clr_rules.specs.Records.{greater}
-use Rattle.clr_book.proofs.lend.greatest_of.Given as goal
+use Rattle.clr_book.proofs.known.greatest_of.Given as goal
 
 -- the greatest of what is left, from the greatest so far, is that of all
 abbrev pub invariant-loop-record : goal.invariant-loop-record

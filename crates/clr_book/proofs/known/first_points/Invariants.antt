@@ -1,5 +1,5 @@
 use Rattle.std.proofs.Common.{◌≡◌, ◌==◌, ◌++◌, map, filter, drop}
-use Rattle.clr_book.proofs.lend.first_points.Given as goal
+use Rattle.clr_book.proofs.known.first_points.Given as goal
 
 -- the points so far, and those that are left, are all
 abbrev pub invariant-loop-row : goal.invariant-loop-row

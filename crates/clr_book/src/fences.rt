@@ -1,0 +1,65 @@
+//! What lies in a fence, and what touches it.
+ghost use Rattle.std.specs.Prelude.{◌≡◌, ◌++◌, IfOk, filter, map};
+ghost use Rattle.clr_net.specs.Names.{has_name};
+ghost use Rattle.clr_rules.specs.Fences.{touches};
+ghost use Rattle.clr_rules.specs.Holds.{is_near_hold, is_own};
+
+use clr_net::{Name, PointRow};
+use clr_rules::{ClearanceId, Hold, HoldKind};
+use std::alloc::{AllocError, Global};
+
+/// Whether a name is among these.
+pub(crate) fn has_name(names: &[Name], name: Name) -> bool
+    ensures { result ≡ has_name names.now name }
+{
+    names.iter().any(|other| name == *other)
+}
+
+/// Whether a point has an end among these sections.
+pub(crate) fn touches(fence: &[Name], point: &PointRow) -> bool
+    ensures { result ≡ touches (has_name fence.now) point.now }
+{
+    has_name(fence, point.from_end) || has_name(fence, point.to_end)
+}
+
+/// Whether a clearance is the one that is meant, if one is.
+pub(crate) fn is_own(own: Option<ClearanceId>, id: ClearanceId) -> bool
+    ensures { result ≡ is_own own id }
+{
+    match own {
+        Some(own) => own == id,
+        None => false,
+    }
+}
+
+/// Whether a hold stands at one of these sections or points, or is a crew of the clearance that is meant.
+pub(crate) fn is_near_hold(
+    fence: &[Name],
+    points: &[Name],
+    own: &Option<ClearanceId>,
+    hold: &Hold,
+) -> bool
+    ensures { result ≡ is_near_hold (has_name fence.now) (has_name points.now) own.now hold.now }
+{
+    let at_point = hold.kind.stands_at_point() && has_name(points, hold.place);
+    let at_section = hold.kind.stands_at_section() && has_name(fence, hold.place);
+    let signed_on = matches!(hold.kind, HoldKind::Crew) && is_own(*own, hold.id);
+    at_point || (at_section || signed_on)
+}
+
+/// The points with an end in a fence.
+pub(crate) fn touching_points<'a>(
+    alloc: Global,
+    rows: &[&'a PointRow],
+    fence: &[Name],
+) -> Result<Vec<&'a PointRow>, AllocError>
+    ensures { IfOk result (λ kept. map (λ row. row.now) kept.items ≡ filter (touches (has_name fence.now)) (map (λ row. row.now) rows.now)) }
+{
+    let mut kept = Vec::new(alloc);
+    for row in rows {
+        if touches(fence, row) {
+            kept.push(*row)?;
+        }
+    }
+    Ok(kept)
+}
