@@ -51,7 +51,7 @@ impl<P: Shelf<PointState>, C: Shelf<Record>, T: Shelf<StepRow>, H: Shelf<Hold>> 
         if !is_switch_order(record) {
             return Ok(Vec::new(self.alloc));
         }
-        let steps = self.steps.group(self.alloc, &id)?;
+        let steps = self.steps.group(&id)?;
         let points = points_of(self.alloc, &steps)?;
         Ok(points)
     }

@@ -106,7 +106,7 @@ impl<P: Shelf<PointState>, C: Shelf<Record>, T: Shelf<StepRow>, H: Shelf<Hold>> 
     pub fn steps(&self, id: &ClearanceId) -> Result<Vec<&StepRow>, AllocError>
         ensures { IfOk result (λ found. map (λ row. row.now) found.items ≡ steps_of self.now.register.steps id.now) }
     {
-        self.steps.group(self.alloc, id)
+        self.steps.group(id)
     }
 
     /// Makes the room that a change needs. It changes nothing else, and room that was made stays, also where memory is refused.

@@ -23,7 +23,7 @@ impl<P: Shelf<PointState>, C: Shelf<Record>, T: Shelf<StepRow>, H: Shelf<Hold>> 
         ensures range { IfOk result (λ greatest. greatest ≤ 9999) }
     {
         let requester = numbered_for(command.caller, command.kind.clearance());
-        let records = self.records.group(self.alloc, &requester)?;
+        let records = self.records.group(&requester)?;
         Ok(greatest_of(&records))
     }
 
@@ -56,7 +56,7 @@ impl<P: Shelf<PointState>, C: Shelf<Record>, T: Shelf<StepRow>, H: Shelf<Hold>> 
         if !is_fenced(entry.phase) {
             return Ok(Vec::new(self.alloc));
         }
-        let steps = self.steps.group(self.alloc, &entry.id)?;
+        let steps = self.steps.group(&entry.id)?;
         let points = first_points(self.alloc, &steps)?;
         let fence = work_fence(self.alloc, &self.network, entry.work, &points)?;
         Ok(fence)

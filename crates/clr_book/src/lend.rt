@@ -63,7 +63,7 @@ impl<P: Shelf<PointState>, C: Shelf<Record>, T: Shelf<StepRow>, H: Shelf<Hold>> 
             Some(id) => id,
             None => return Ok(Vec::new(self.alloc)),
         };
-        let rows = self.records.group(self.alloc, &id.requester())?;
+        let rows = self.records.group(&id.requester())?;
         let found = records_of(self.alloc, &rows, id)?;
         Ok(found)
     }
@@ -73,7 +73,7 @@ impl<P: Shelf<PointState>, C: Shelf<Record>, T: Shelf<StepRow>, H: Shelf<Hold>> 
         ensures { IfOk result (λ found. map (λ row. row.now) found.items ≡ filter (λ row. is_own own row.id) self.now.register.steps) }
     {
         match own {
-            Some(id) => self.steps.group(self.alloc, &id),
+            Some(id) => self.steps.group(&id),
             None => Ok(Vec::new(self.alloc)),
         }
     }

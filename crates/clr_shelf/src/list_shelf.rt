@@ -53,11 +53,11 @@ impl<R: Row> Shelf<R> for ListShelf<R> {
         &self.list[place]
     }
 
-    fn group(&self, alloc: Global, group: &R::Group) -> Result<Vec<&R>, AllocError> {
+    fn group(&self, group: &R::Group) -> Result<Vec<&R>, AllocError> {
         self.list
             .iter()
             .filter(|row| row.belongs_to(group))
-            .collect(alloc)
+            .collect(*self.list.allocator())
     }
 
     fn reserve(&mut self, n: usize) -> Result<(), AllocError> {

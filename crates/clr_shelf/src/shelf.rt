@@ -35,7 +35,7 @@ pub trait Shelf<R: Row>: Drop {
         ensures { slice_get (places self.now) place ≡ Some result.now };
 
     /// The rows of a group, in key order.
-    fn group(&self, alloc: Global, group: &R::Group) -> Result<Vec<&R>, AllocError>
+    fn group(&self, group: &R::Group) -> Result<Vec<&R>, AllocError>
         ensures { IfOk result (λ found. map (λ row. row.now) found.items ≡ filter (R.is_in group.now) (rows self.now)) };
 
     /// Makes room for `n` puts. It fails only where the room was less and memory is refused.

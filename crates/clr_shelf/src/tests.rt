@@ -108,13 +108,13 @@ fn a_group_is_given_in_key_order(rt: HostRuntime) -> Result<(), Fail> {
     ];
     let shelf: ListShelf<Berth> = shelf_of(rt.alloc(), &berths)?;
 
-    let group = shelf.group(rt.alloc(), &5)?;
+    let group = shelf.group(&5)?;
     let mut depths = Vec::new(rt.alloc());
     for berth in &group {
         depths.push(berth.depth)?;
     }
     assert_eq!(rt; depths.as_slice(), [33, 31, 30].as_slice());
-    assert!(rt; shelf.group(rt.alloc(), &7)?.is_empty());
+    assert!(rt; shelf.group(&7)?.is_empty());
     Ok(())
 }
 
