@@ -111,13 +111,9 @@ fn sections_among<'a>(
 ) -> Result<Vec<&'a SectionRow>, AllocError>
     ensures { IfOk result (λ found. map (λ row. row.now) found.items ≡ filter (λ row. has_name fence.now row.name || is_asked kind.now row.name) rows.now) }
 {
-    let mut found = Vec::new(alloc);
-    for row in rows {
-        if has_name(fence, row.name) || is_asked(kind, row.name) {
-            found.push(row)?;
-        }
-    }
-    Ok(found)
+    rows.iter()
+        .filter(|row| has_name(fence, row.name) || is_asked(kind, row.name))
+        .collect(alloc)
 }
 
 fn points_among<'a>(
@@ -127,13 +123,9 @@ fn points_among<'a>(
 ) -> Result<Vec<&'a PointRow>, AllocError>
     ensures { IfOk result (λ found. map (λ row. row.now) found.items ≡ filter (λ row. has_name beside.now row.name) rows.now) }
 {
-    let mut found = Vec::new(alloc);
-    for row in rows {
-        if has_name(beside, row.name) {
-            found.push(row)?;
-        }
-    }
-    Ok(found)
+    rows.iter()
+        .filter(|row| has_name(beside, row.name))
+        .collect(alloc)
 }
 
 fn records_of<'a>(
