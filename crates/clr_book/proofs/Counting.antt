@@ -4,22 +4,14 @@ use Rattle.std.specs.List.{count_by, list_all}
 use Rattle.std.specs.Ordering.{is_eq, is_lt, is_gt}
 use Rattle.std.specs.declared.cmp.Ordering.{Ordering}
 use Rattle.std.specs.declared.cmp.Ordering.TheVariants.{Less, Equal, Greater}
+use Rattle.std.proofs.lemmas.Bool.{and_parts}
 use Rattle.std.proofs.lemmas.List.Sums.{count_by-le-length, length-filter, sum_by-append, sum_by-cons}
-use mathlib.Core.Bool.{true≢false}
 use Rattle.clr_shelf.specs.Rows.{with_row}
 use Rattle.clr_rules.specs.Id.{Id}
 use Rattle.clr_rules.specs.StepKey.{step_key, step_key_cmp}
 use Rattle.clr_rules.specs.Steps.{is_done, is_of_round, steps_in}
 use Rattle.clr_rules.specs.declared.step_row.StepRow.{StepRow}
 use Rattle.clr_book.specs.PutSteps.{each_once, has_key_of, is_put, put_all}
-
-left_of : (a b : Bool) → (a && b) ≡ true → a ≡ true
-left_of true b h = refl
-left_of false b h = absurd (true≢false (sym h))
-
-right_of : (a b : Bool) → (a && b) ≡ true → b ≡ true
-right_of true b h = h
-right_of false b h = absurd (true≢false (sym h))
 
 three_ways : (o : Ordering) (b : Bool) → cond (is_lt o && b) 1 0 + cond (is_gt o && b) 1 0 ≡ cond (b && not (is_eq o)) 1 0
 three_ways Less true = refl
@@ -68,8 +60,8 @@ module _ {X : Type 0} where
   all_counted p [] h = refl
   all_counted p (x ∷ xs) h =
       let more : count_by p (x ∷ xs) ≡ cond {A = ℕ} (p x) 1 0 + count_by p xs = count_by-cons p x xs in
-      let first : cond {A = ℕ} (p x) 1 0 ≡ 1 = ap (λ b. cond b 1 0) (left_of (p x) (list_all p xs) h) in
-      let rest : count_by p xs ≡ length xs = all_counted p xs (right_of (p x) (list_all p xs) h) in
+      let first : cond {A = ℕ} (p x) 1 0 ≡ 1 = ap (λ b. cond b 1 0) ((and_parts (p x) (list_all p xs) h).0) in
+      let rest : count_by p xs ≡ length xs = all_counted p xs ((and_parts (p x) (list_all p xs) h).1) in
       omega arith
 
   counted_first : (p : X → Bool) (x : X) (xs : List X) (b : Bool) → p x ≡ b → count_by p (x ∷ xs) ≡ length (x ∷ xs)
@@ -131,8 +123,7 @@ count_by-put_all p [] steps once =
     omega arith
 count_by-put_all p (row ∷ rows) steps once =
     let left = λ (x : StepRow). p x && not (is_put rows x) in
-    let alone : not (is_put rows row) ≡ true = left_of (not (is_put rows row)) (each_once rows) once in
-    let others : each_once rows ≡ true = right_of (not (is_put rows row)) (each_once rows) once in
+    let (alone, others) = and_parts (not (is_put rows row)) (each_once rows) once in
     let rest : count_by left (with_row step_key_cmp step_key row steps) + count_by p rows ≡ count_by p (put_all rows (with_row step_key_cmp step_key row steps)) =
     count_by-put_all p rows (with_row step_key_cmp step_key row steps) others in
     let one : count_by left (with_row step_key_cmp step_key row steps) ≡ count_by (λ x. left x && not (has_key_of x row)) steps + cond {A = ℕ} (left row) 1 0 = count_by-with_row left row steps in

@@ -1,5 +1,5 @@
 -- What is lent, and the definitions.
-use Rattle.std.proofs.Common.{◌≡◌, ◌∙◌, ◌==◌, ◌&&◌, ◌||◌, ℕ, zero, suc, Bool, true, false, Some, ◌++◌, List, [], ◌∷◌, map, filter, length, refl, sym, ap}
+use Rattle.std.proofs.Common.{◌≡◌, ◌∙◌, ◌==◌, ◌&&◌, ◌||◌, ℕ, zero, suc, Bool, true, Some, ◌++◌, List, [], ◌∷◌, map, filter, length, refl, sym, ap}
 use Rattle.std.proofs.lemmas.Bool.{and_parts}
 use Rattle.std.proofs.lemmas.List.Folds.{list_any-append}
 use Rattle.clr_net.specs.Fence.{FenceRows, fence_of, in_fence, leads, reaches}
@@ -96,16 +96,6 @@ has_name-append first rest p = list_any-append (same_name p) first rest
 pub beside_lent : (R : Register) (q : Command) (names fence : List (List ℕ)) → names ≡ touching_names R.net (has_name fence) ++ switched R q.kind → fence ≡ fence_for R q.kind
     → has_name names ≡ is_beside R (known_of R q) q.kind
 beside_lent R q names fence are fenced = rw (are, fenced) (λ i p. has_name-append (touching_names R.net (has_name (fence_for R q.kind))) (switched R q.kind) p i)
-
--- which points have these names does not hang on positions
-pub named_unplaced : (named : List ℕ → Bool) (points : List PointRow) → map unplaced (filter (λ p. named p.name) points) ≡ filter (λ p. named p.name) (map unplaced points)
-named_unplaced named [] = refl
-named_unplaced named (p ∷ points) = at (named p.name) refl (named_unplaced named points)
-  where
-    at : (b : Bool) → named p.name ≡ b → map unplaced (filter (λ p. named p.name) points) ≡ filter (λ p. named p.name) (map unplaced points)
-        → map unplaced (filter (λ p. named p.name) (p ∷ points)) ≡ filter (λ p. named p.name) (map unplaced (p ∷ points))
-    at true e more = rw e (ap (λ rest. unplaced p ∷ rest) more)
-    at false e more = rw e more
 
 -- what is lent is a register with what is known of it, if each of its parts is
 pub lent_whole : (near : Near) (known : Known) (R : Register)

@@ -22,15 +22,17 @@ pub told : (fault : Option OrderFault) → refusal_of (answer_of fault) ≡ orde
 told None = refl
 told (Some fault) = refl
 
--- the points with an end inside, whatever their positions
-pub touching_unplaced : (inside : List ℕ → Bool) (points : List PointRow) → filter (touches inside) (map unplaced points) ≡ map unplaced (filter (touches inside) points)
-touching_unplaced inside [] = refl
-touching_unplaced inside (p ∷ points) = at (touches inside p) refl (touching_unplaced inside points)
+-- which points pass a test does not hang on positions, if the test does not
+pub unplaced_kept : (q : PointRow → Bool) → ((p : PointRow) → q (unplaced p) ≡ q p) → (points : List PointRow) → filter q (map unplaced points) ≡ map unplaced (filter q points)
+unplaced_kept q same [] = refl
+unplaced_kept q same (p ∷ points) = at (q p) refl (unplaced_kept q same points)
   where
-    at : (b : Bool) → touches inside p ≡ b → filter (touches inside) (map unplaced points) ≡ map unplaced (filter (touches inside) points)
-        → filter (touches inside) (map unplaced (p ∷ points)) ≡ map unplaced (filter (touches inside) (p ∷ points))
-    at true e more = rw (e, more) refl
-    at false e more = rw (e, more) refl
+    at : (b : Bool) → q p ≡ b → filter q (map unplaced points) ≡ map unplaced (filter q points) → filter q (map unplaced (p ∷ points)) ≡ map unplaced (filter q (p ∷ points))
+    at true e more = rw (same p, e) (ap (λ rest. unplaced p ∷ rest) more)
+    at false e more = rw (same p, e) more
+
+pub touching_unplaced : (inside : List ℕ → Bool) (points : List PointRow) → filter (touches inside) (map unplaced points) ≡ map unplaced (filter (touches inside) points)
+touching_unplaced inside = unplaced_kept (touches inside) (λ p. refl)
 
 abbrev rows : List SectionRow → List PointRow → FenceRows
 rows sections touching = record { sections = sections; touching = touching }

@@ -1,8 +1,9 @@
 -- A state that is taken and put again, changed; and states that are put one after the other, in the order of their points.
-use Rattle.std.proofs.Common.{◌≡◌, ℕ, Bool, true, false, not, ◌&&◌, List, [], ◌∷◌, ◌++◌, Some, None, refl, sym, ◌∙◌, ap}
+use Rattle.std.proofs.Common.{◌≡◌, ℕ, true, not, List, [], ◌∷◌, ◌++◌, Some, None, refl, sym, ◌∙◌, ap}
 use Rattle.std.specs.Ordering.{is_eq, is_lt, is_gt}
 use Rattle.std.specs.declared.cmp.Ordering.{Ordering}
 use Rattle.std.specs.declared.cmp.Ordering.TheVariants.{Less, Equal, Greater}
+use Rattle.std.proofs.lemmas.Bool.{and_parts}
 use Rattle.std.proofs.lemmas.Cmp.{nat_list_cmp_total}
 use mathlib.Core.Bool.{true≢false}
 use Rattle.clr_net.specs.Name.{name_cmp}
@@ -31,14 +32,6 @@ not_higher Less h = refl
 not_higher Equal h = absurd (true≢false (sym h))
 not_higher Greater h = absurd (true≢false (sym h))
 
-left_of : (a b : Bool) → (a && b) ≡ true → a ≡ true
-left_of true b h = refl
-left_of false b h = absurd (true≢false (sym h))
-
-right_of : (a b : Bool) → (a && b) ≡ true → b ≡ true
-right_of true b h = h
-right_of false b h = absurd (true≢false (sym h))
-
 module _ {Key Row : Type 0} (compare : Key → Key → Ordering) (key_of : Row → Key) where
   -- putting a row replaces that of its key, so it makes no difference whether that was taken before
   pub with_row-taken : (row : Row) (rows : List Row) → with_row compare key_of row (without_row compare key_of (key_of row) rows) ≡ with_row compare key_of row rows
@@ -64,9 +57,10 @@ module _ {Key Row : Type 0} (compare : Key → Key → Ordering) (key_of : Row �
       → list_all (λ other. is_lt (compare (key_of other) (key_of row))) front ≡ true
   front_lower row [] back ordered = refl
   front_lower row (first ∷ front) back ordered =
-      rw (list_all-contains (λ next. is_lt (compare (key_of first) (key_of next))) (front ++ row ∷ back) row (left_of (list_all (λ next. is_lt (compare (key_of first) (key_of next))) (front ++ row ∷ back)) (in_key_order compare key_of (front ++ row ∷ back)) ordered)
-      (Contains-append_right front (row ∷ back) row (Contains-here row back)))
-      (front_lower row front back (right_of (list_all (λ next. is_lt (compare (key_of first) (key_of next))) (front ++ row ∷ back)) (in_key_order compare key_of (front ++ row ∷ back)) ordered))
+      let rest = front ++ row ∷ back in
+      let (lowest, others) = and_parts (list_all (λ next. is_lt (compare (key_of first) (key_of next))) rest) (in_key_order compare key_of rest) ordered in
+      rw (list_all-contains (λ next. is_lt (compare (key_of first) (key_of next))) rest row lowest (Contains-append_right front (row ∷ back) row (Contains-here row back)))
+      (front_lower row front back others)
 
 -- the state that is found is that of the point
 pub found_at : (states : List PointState) (p : List ℕ) (s : PointState) → state_of states p ≡ Some s → s.point ≡ p

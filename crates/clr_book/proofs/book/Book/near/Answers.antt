@@ -1,4 +1,4 @@
-use Rattle.std.proofs.Common.{◌≡◌, ◌∙◌, ◌||◌, ap, filter, map, Bor, List, ℕ, Bool, Option, sym}
+use Rattle.std.proofs.Common.{◌≡◌, ◌∙◌, ◌||◌, ap, filter, map, refl, Bor, List, ℕ, Bool, Option, sym}
 use Rattle.clr_net.specs.Name.{name_cmp}
 use Rattle.clr_net.specs.Names.{has_name}
 use Rattle.clr_net.specs.declared.point.PointRow.{PointRow}
@@ -9,7 +9,8 @@ use Rattle.clr_rules.specs.Id.{Id}
 use Rattle.clr_rules.specs.Near.{is_asked, is_beside, near_part}
 use Rattle.clr_rules.specs.Register.{unplaced}
 use Rattle.clr_book.specs.Shelved.{Shelved}
-use Rattle.clr_book.proofs.Lending.{beside_lent, lent_whole, named_unplaced, unplaced_shown}
+use Rattle.clr_book.proofs.Lending.{beside_lent, lent_whole, unplaced_shown}
+use Rattle.clr_book.proofs.OrderPositions.{unplaced_kept}
 use Rattle.clr_book.proofs.SortedRows.{rising-filter}
 use Rattle.clr_book.proofs.book.Book.near.Goals as goal
 
@@ -31,7 +32,7 @@ returns g c =
     (c.in_ok-sections_near.ensures ∙ ap (λ (names : List (List ℕ)). filter (λ row. has_name names row.name || is_asked q.kind row.name) R.net.sections) (c.deref-2.ensures.value ∙ fence))
     (unplaced_shown (λ (row : Bor PointRow). row.now) c.in_ok-points_among.field-0.items
     ∙ ap (map unplaced) (c.in_ok-points_among.ensures ∙ (λ i. filter (λ row. at_points i row.name) (c.points.ensures.rows i)))
-    ∙ named_unplaced (is_beside R k q.kind) c.self.inside.network.points ∙ ap (λ (v : Shelved). filter (λ row. is_beside R k q.kind row.name) v.register.net.points) c.self.view_is)
+    ∙ sym (unplaced_kept (λ (row : PointRow). is_beside R k q.kind row.name) (λ p. refl) c.self.inside.network.points) ∙ ap (λ (v : Shelved). filter (λ row. is_beside R k q.kind row.name) v.register.net.points) c.self.view_is)
     (ap (λ (v : Shelved). v.register.staff) c.self.view_is)
     (c.in_ok-states_near.ensures ∙ ap (λ (near : List ℕ → Bool). filter (λ state. near state.point) R.states) at_states)
     (c.in_ok-own_records.ensures ∙ ap (λ (o : Option Id). filter (λ r. is_own o r.id) R.records) own)
