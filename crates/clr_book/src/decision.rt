@@ -9,8 +9,8 @@ ghost use Rattle.clr_book.specs.Decided.{accepted_with, answered, ended};
 ghost use Rattle.clr_book.specs.PutSteps.{each_once};
 
 use crate::near::Near;
-use crate::progress::progress_with;
-use clr_rules::{Card, Change, Edit, Edits, Record, Refusal, Reply, StepRow, View};
+use crate::progress::{card_with, progress_with};
+use clr_rules::{Change, Edit, Edits, Record, Refusal, Reply, StepRow, View};
 use std::alloc::{AllocError, Global};
 
 /// What a command is answered, and what it changes.
@@ -69,14 +69,7 @@ pub(crate) fn accept(
     ensures { IfOk result (λ d. answered d ≡ accepted_with near.now.rows edits.items clearance steps.now) }
 {
     let progress = progress_with(near, steps, clearance.id);
-    let card = Card {
-        clearance: clearance.id,
-        phase: clearance.phase,
-        holder: clearance.holder,
-        round: progress.round,
-        done: progress.done,
-        steps: progress.steps,
-    };
+    let card = card_with(&clearance, progress);
     let all = end(edits, clearance, steps)?;
     Ok(Decision {
         reply: Reply::Accepted(card),

@@ -6,7 +6,7 @@ ghost use Rattle.clr_book.specs.PutSteps.{each_once, has_key_of, is_put, progres
 
 use crate::near::Near;
 use crate::questions::steps::{is_done, is_of_round};
-use clr_rules::{ClearanceId, StepRow};
+use clr_rules::{Card, ClearanceId, Record, StepRow};
 use clr_shelf::Row;
 
 /// The present round of a clearance, and how many of its steps are done.
@@ -101,5 +101,19 @@ pub(crate) fn progress_with(near: &Near, put: &[StepRow], id: ClearanceId) -> Pr
         round: if first.steps > 0 { 1 } else { 0 },
         done: first.done,
         steps: first.steps,
+    }
+}
+
+/// The card of a record, its present round being this far.
+pub(crate) fn card_with(clearance: &Record, progress: Progress) -> Card
+    ensures { result ≡ record { clearance = clearance.now.id; phase = clearance.now.phase; holder = clearance.now.holder; round = progress.round; done = progress.done; steps = progress.steps } }
+{
+    Card {
+        clearance: clearance.id,
+        phase: clearance.phase,
+        holder: clearance.holder,
+        round: progress.round,
+        done: progress.done,
+        steps: progress.steps,
     }
 }

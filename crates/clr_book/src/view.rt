@@ -10,7 +10,7 @@ ghost use Rattle.clr_rules.specs.declared.hold_kind.HoldKind.TheVariants as hold
 
 use crate::fences::{has_name, is_near_hold, touches};
 use crate::near::Near;
-use crate::progress::progress_with;
+use crate::progress::{card_with, progress_with};
 use crate::questions::steps::{is_of_round, last_round};
 use clr_net::{Name, PointRow};
 use clr_order::Step;
@@ -139,15 +139,7 @@ fn in_kind_order(alloc: Global, holds: &[Hold]) -> Result<Vec<Hold>, AllocError>
 fn card(near: &Near, clearance: &Record) -> Card
     ensures { result ≡ card_of near.now.rows clearance.now }
 {
-    let progress = progress_with(near, &[], clearance.id);
-    Card {
-        clearance: clearance.id,
-        phase: clearance.phase,
-        holder: clearance.holder,
-        round: progress.round,
-        done: progress.done,
-        steps: progress.steps,
-    }
+    card_with(clearance, progress_with(near, &[], clearance.id))
 }
 
 /// The view of a record.
