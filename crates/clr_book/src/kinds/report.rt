@@ -1,5 +1,5 @@
 //! The reader of a step reports that it was done, or that it was not.
-ghost use Rattle.std.specs.Prelude.{◌≡◌, ◌++◌, IfOk, [], ◌∷◌, None};
+ghost use Rattle.std.specs.Prelude.{◌≡◌, ◌++◌, true, IfOk, [], ◌∷◌, None};
 ghost use Rattle.clr_rules.specs.Answer.{answer_with, checks, first_refusal};
 ghost use Rattle.clr_rules.specs.Changes.{hold_edits, moved, phase_after, position_edits};
 ghost use Rattle.clr_rules.specs.Records.{ends_with_steps, is_switch_order};
@@ -23,15 +23,9 @@ use clr_order::{Action, StepState};
 use clr_rules::{ClearanceId, Edit, Hold, HoldKind, Moment, Phase, Record, Refusal, StepRow};
 use std::alloc::{AllocError, Global};
 
-fn refusal_of(
-    near: &Near,
-    by: Name,
-    at: Moment,
-    id: ClearanceId,
-    number: u16,
-    done: bool,
-) -> Option<Refusal>
-    ensures { result ≡ first_refusal (checks near.now.known near.now.rows by at (kinds.Report id number done)) }
+/// The checks of a report are the same, whether it says that the step was done or that it was not.
+fn refusal_of(near: &Near, by: Name, at: Moment, id: ClearanceId, number: u16) -> Option<Refusal>
+    ensures { result ≡ first_refusal (checks near.now.known near.now.rows by at (kinds.Report id number true)) }
 {
     first_of(&[
         unknown_caller(near, by),
@@ -195,7 +189,7 @@ pub(crate) fn decide_report(
 ) -> Result<Decision, AllocError>
     ensures { IfOk result (λ d. answer_with near.now.known near.now.rows (record { caller = by; moment = at; kind = kinds.Report id number done }) ≡ answered d) }
 {
-    if let Some(refusal) = refusal_of(near, by, at, id, number, done) {
+    if let Some(refusal) = refusal_of(near, by, at, id, number) {
         return Ok(refused(near.alloc, refusal));
     }
     let Some(found) = record(near, id) else {
