@@ -10,10 +10,15 @@ use clr_shelf::ListShelf;
 use std::alloc::Global;
 use std::test::Fail;
 
-type ListBook = Book<ListShelf<PointState>, ListShelf<Record>, ListShelf<StepRow>, ListShelf<Hold>>;
+pub type ListBook = Book<
+    ListShelf<PointState>,
+    ListShelf<Record>,
+    ListShelf<StepRow>,
+    ListShelf<Hold>,
+>;
 
-/// The book of the files in examples/, before the first command.
-fn opening_book(alloc: Global) -> Result<ListBook, Fail> {
+/// The book of the worked network and staff, before the first command.
+pub fn opening_book(alloc: Global) -> Result<ListBook, Fail> {
     let network = worked_network(alloc)?;
     let staff = worked_staff(alloc)?;
     Ok(Book::opening(alloc, network, staff)?)
@@ -31,7 +36,11 @@ fn book_after(alloc: Global, edits: &[Edit]) -> Result<ListBook, Fail> {
     Ok(book)
 }
 
-fn stands(point: &str, position: Position, hand: Option<ClearanceId>) -> Result<PointState, Fail> {
+pub fn stands(
+    point: &str,
+    position: Position,
+    hand: Option<ClearanceId>,
+) -> Result<PointState, Fail> {
     Ok(PointState {
         point: Name::read(point)?,
         position,
@@ -67,7 +76,7 @@ fn step(id: &str, round: u8, ordinal: u16, state: StepState) -> Result<StepRow, 
 }
 
 /// What a clearance holds at S2.
-fn hold(kind: HoldKind, id: &str) -> Result<Hold, Fail> {
+pub fn hold(kind: HoldKind, id: &str) -> Result<Hold, Fail> {
     Ok(Hold {
         kind,
         place: Name::read("S2")?,

@@ -2,28 +2,21 @@
 ghost use Rattle.std.specs.Prelude.{◌≡◌, true};
 ghost use Rattle.clr_book.specs.Decided.{is_written};
 
-use crate::worked::{names, single_section, worked_network, worked_staff};
+use crate::books::{ListBook, hold, opening_book, stands};
+use crate::worked::{names, single_section, worked_staff};
 use clr_book::{
-    Book, Card, ClearanceId, Command, Hold, Kind, Moment, Names, Phase, PointState, Record,
-    Refusal, Reply, StepRow, Tasks, Text,
+    Book, Card, ClearanceId, Command, HoldKind, Holds, Kind, Moment, Names, Phase, PointStates,
+    Refusal, Reply, Steps, Tasks, Text, View,
 };
-use clr_net::Name;
-use clr_order::{Step, read_step_text};
-use clr_shelf::ListShelf;
+use clr_net::{Name, Position};
+use clr_order::{Step, StepState, read_step_text};
 use std::alloc::Global;
 use std::test::Fail;
-
-type ListBook = Book<ListShelf<PointState>, ListShelf<Record>, ListShelf<StepRow>, ListShelf<Hold>>;
 
 /// The steps that isolate L2 at S2 and S3.
 const ISOLATE_L2: [&str; 6] = [
     "OPEN S2", "OPEN S3", "BLOCK S2", "BLOCK S3", "TAG S2", "TAG S3",
 ];
-
-/// The book of the worked network and staff, before the first command.
-fn opening_book(alloc: Global) -> Result<ListBook, Fail> {
-    Ok(Book::opening(alloc, worked_network(alloc)?, worked_staff(alloc)?)?)
-}
 
 /// What a command is answered. Its change is made.
 fn say(book: &mut ListBook, by: &str, at: u64, kind: Kind) -> Result<Reply, Fail>
@@ -46,14 +39,8 @@ fn request(book: &mut ListBook, by: &str, at: u64, section: &str) -> Result<Repl
     Ok(reply)
 }
 
-fn order(
-    alloc: Global,
-    book: &mut ListBook,
-    at: u64,
-    id: &str,
-    points: &[&str],
-    texts: &[&str],
-) -> Result<Reply, Fail> {
+/// Steps that nobody has read, from their texts.
+fn waiting(alloc: Global, texts: &[&str]) -> Result<Vec<Step>, Fail> {
     let mut steps = Vec::new(alloc);
     for text in texts {
         // The checker proves this only where the type of the reader is seen.
@@ -62,10 +49,21 @@ fn order(
             ..read_step_text(text)?
         })?;
     }
+    Ok(steps)
+}
+
+fn order(
+    alloc: Global,
+    book: &mut ListBook,
+    at: u64,
+    id: &str,
+    points: &[&str],
+    texts: &[&str],
+) -> Result<Reply, Fail> {
     let kind = Kind::Order {
         clearance: ClearanceId::read(id)?,
         points: Names::new(names(alloc, points)?),
-        steps: Tasks::new(steps),
+        steps: Tasks::new(waiting(alloc, texts)?),
     };
     let reply = say(book, "OPS", at, kind)?;
     Ok(reply)
@@ -110,9 +108,9 @@ fn grant(book: &mut ListBook, at: u64, id: &str) -> Result<Reply, Fail> {
     Ok(reply)
 }
 
-fn show(book: &mut ListBook, id: &str) -> Result<Reply, Fail> {
+fn show(book: &mut ListBook, by: &str, id: &str) -> Result<Reply, Fail> {
     let clearance = ClearanceId::read(id)?;
-    let reply = say(book, "JONES", 0, Kind::Show { clearance })?;
+    let reply = say(book, by, 0, Kind::Show { clearance })?;
     Ok(reply)
 }
 
@@ -140,15 +138,20 @@ fn ordered_book(alloc: Global) -> Result<ListBook, Fail> {
 }
 
 /// The card of JONES/1, which JONES holds.
-fn card(phase: Phase, round: u8, done: usize, steps: usize) -> Result<Reply, Fail> {
-    Ok(Reply::Accepted(Card {
+fn jones_card(phase: Phase, round: u8, done: usize, steps: usize) -> Result<Card, Fail> {
+    Ok(Card {
         clearance: ClearanceId::read("JONES/1")?,
         phase,
         holder: Name::read("JONES")?,
         round,
         done,
         steps,
-    }))
+    })
+}
+
+/// A command on JONES/1 was accepted, and this is its card.
+fn card(phase: Phase, round: u8, done: usize, steps: usize) -> Result<Reply, Fail> {
+    Ok(Reply::Accepted(jones_card(phase, round, done, steps)?))
 }
 
 #[test]
@@ -336,7 +339,7 @@ fn moments_roles_and_unknown_names(rt: HostRuntime) -> Result<(), Fail> {
     assert_eq!(rt; reply, Reply::Refused(Refusal::WrongRole));
     let reply = request(&mut book, "JONES", 100, "L9")?;
     assert_eq!(rt; reply, Reply::Refused(Refusal::UnknownSection));
-    let reply = show(&mut book, "JONES/9")?;
+    let reply = show(&mut book, "JONES", "JONES/9")?;
     assert_eq!(rt; reply, Reply::Refused(Refusal::UnknownClearance));
     let reply = request(&mut book, "JONES", 100, "L2")?;
     assert_eq!(rt; reply, card(Phase::Requested, 0, 0, 0)?);
@@ -366,5 +369,68 @@ fn request_at_the_last_moment(rt: HostRuntime) -> Result<(), Fail> {
     let mut book = opening_book(rt.alloc())?;
     let reply = request(&mut book, "JONES", 4102444799, "L2")?;
     assert_eq!(rt; reply, card(Phase::Requested, 0, 0, 0)?);
+    Ok(())
+}
+
+/// The steps that isolate L2 at S2 and S3, the first of them done by REED.
+fn steps_after_the_first(alloc: Global) -> Result<Vec<Step>, Fail> {
+    let mut steps = waiting(alloc, &ISOLATE_L2)?;
+    let first = steps.first_mut().ok_or("a first step")?;
+    first.state = StepState::Done;
+    first.reader = Some(Name::read("REED")?);
+    Ok(steps)
+}
+
+/// How JONES/1 stands after the first of its steps: S2 is open and held.
+fn view_after_the_first(alloc: Global) -> Result<View, Fail> {
+    let mut holds = Vec::new(alloc);
+    holds.push(hold(HoldKind::HeldOpen, "JONES/1")?)?;
+    let mut points = Vec::new(alloc);
+    points.push(stands("S2", Position::Opened, None)?)?;
+    points.push(stands("S3", Position::Closed, None)?)?;
+    Ok(View {
+        card: jones_card(Phase::Ordered, 1, 1, 6)?,
+        crews: Names::new(Vec::new(alloc)),
+        fence: Names::new(names(alloc, &["L2"])?),
+        holds: Holds::new(holds),
+        points: PointStates::new(points),
+        steps: Steps::new(steps_after_the_first(alloc)?),
+        work: Some(Name::read("L2")?),
+    })
+}
+
+#[test]
+fn view_after_one_step(rt: HostRuntime) -> Result<(), Fail> {
+    let mut book = ordered_book(rt.alloc())?;
+    let _done = run_step(rt.alloc(), &mut book, 102, "JONES/1", 1, "OPEN S2")?;
+    let reply = show(&mut book, "DALE", "JONES/1")?;
+    assert_eq!(rt; reply, Reply::Shown(view_after_the_first(rt.alloc())?));
+    Ok(())
+}
+
+/// A requester's clearance of this number was asked for.
+fn requested(requester: &str, number: u16) -> Result<Reply, Fail> {
+    let requester = Name::read(requester)?;
+    Ok(Reply::Accepted(Card {
+        clearance: ClearanceId::new(requester, number).ok_or("a number")?,
+        phase: Phase::Requested,
+        holder: requester,
+        round: 0,
+        done: 0,
+        steps: 0,
+    }))
+}
+
+#[test]
+fn all_numbers_of_a_requester(rt: HostRuntime) -> Result<(), Fail> {
+    let mut book = opening_book(rt.alloc())?;
+    for number in 1..10000 {
+        let reply = request(&mut book, "JONES", 100, "L2")?;
+        assert_eq!(rt; reply, requested("JONES", number)?);
+    }
+    let reply = request(&mut book, "JONES", 100, "L2")?;
+    assert_eq!(rt; reply, Reply::Refused(Refusal::TooManyClearances));
+    let reply = request(&mut book, "KIM", 100, "L2")?;
+    assert_eq!(rt; reply, requested("KIM", 1)?);
     Ok(())
 }
