@@ -3,3 +3,34 @@ pub mod OrderChecks
 pub mod Wanted
 pub mod PutSteps
 pub mod Decided
+
+-- The definitions of the register's rules, passed on: whoever stands on clr_book names them here.
+pub use Rattle.clr_rules.specs.Agreement
+pub use Rattle.clr_rules.specs.Answer
+pub use Rattle.clr_rules.specs.Changes
+pub use Rattle.clr_rules.specs.Checks
+pub use Rattle.clr_rules.specs.Command
+pub use Rattle.clr_rules.specs.Edits
+pub use Rattle.clr_rules.specs.Fences
+pub use Rattle.clr_rules.specs.Footprint
+pub use Rattle.clr_rules.specs.Good
+pub use Rattle.clr_rules.specs.GoodByPhase
+pub use Rattle.clr_rules.specs.Hold
+pub use Rattle.clr_rules.specs.HoldKind
+pub use Rattle.clr_rules.specs.Holds
+pub use Rattle.clr_rules.specs.Id
+pub use Rattle.clr_rules.specs.IdText
+pub use Rattle.clr_rules.specs.Isolation
+pub use Rattle.clr_rules.specs.Live
+pub use Rattle.clr_rules.specs.Moment
+pub use Rattle.clr_rules.specs.Near
+pub use Rattle.clr_rules.specs.Phase
+pub use Rattle.clr_rules.specs.Records
+pub use Rattle.clr_rules.specs.Refusal
+pub use Rattle.clr_rules.specs.Refusals
+pub use Rattle.clr_rules.specs.Register
+pub use Rattle.clr_rules.specs.Run
+pub use Rattle.clr_rules.specs.Shown
+pub use Rattle.clr_rules.specs.States
+pub use Rattle.clr_rules.specs.StepKey
+pub use Rattle.clr_rules.specs.Steps
