@@ -20,6 +20,14 @@ fn open_tie_is_a_way_in(rt: HostRuntime) -> Result<(), Fail> {
 }
 
 #[test]
+fn points_off_the_border(rt: HostRuntime) -> Result<(), Fail> {
+    let network = worked_network(rt.alloc())?;
+    let names = fence_names(rt.alloc(), &network, "L2", &["S1", "S4", "S3"])?;
+    assert_eq!(rt; names.as_str(), " L1 L2 L3");
+    Ok(())
+}
+
+#[test]
 fn one_section_without_points(rt: HostRuntime) -> Result<(), Fail> {
     let network = single_section(rt.alloc())?;
     let names = fence_names(rt.alloc(), &network, "A", &[])?;
