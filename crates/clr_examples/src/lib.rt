@@ -8,6 +8,8 @@ mod csv;
 #[cfg(test)]
 mod fences;
 #[cfg(test)]
+mod field;
+#[cfg(test)]
 mod networks;
 #[cfg(test)]
 mod orders;

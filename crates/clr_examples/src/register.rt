@@ -18,8 +18,21 @@ const ISOLATE_L2: [&str; 6] = [
     "OPEN S2", "OPEN S3", "BLOCK S2", "BLOCK S3", "TAG S2", "TAG S3",
 ];
 
+/// The steps that isolate L3 at S3, S4 and T1.
+pub(crate) const ISOLATE_L3: [&str; 9] = [
+    "OPEN S3",
+    "BLOCK S3",
+    "TAG S3",
+    "OPEN S4",
+    "BLOCK S4",
+    "CONTROL S4",
+    "TAG S4",
+    "OPEN T1",
+    "TAG T1",
+];
+
 /// What a command is answered. Its change is made.
-fn say(book: &mut ListBook, by: &str, at: u64, kind: Kind) -> Result<Reply, Fail>
+pub(crate) fn say(book: &mut ListBook, by: &str, at: u64, kind: Kind) -> Result<Reply, Fail>
     requires { is_written kind ≡ true }
 {
     let command = Command {
@@ -33,7 +46,12 @@ fn say(book: &mut ListBook, by: &str, at: u64, kind: Kind) -> Result<Reply, Fail
     Ok(decision.reply)
 }
 
-fn request(book: &mut ListBook, by: &str, at: u64, section: &str) -> Result<Reply, Fail> {
+pub(crate) fn request(
+    book: &mut ListBook,
+    by: &str,
+    at: u64,
+    section: &str,
+) -> Result<Reply, Fail> {
     let section = Name::read(section)?;
     let reply = say(book, by, at, Kind::Request { section })?;
     Ok(reply)
@@ -52,7 +70,7 @@ fn waiting(alloc: Global, texts: &[&str]) -> Result<Vec<Step>, Fail> {
     Ok(steps)
 }
 
-fn order(
+pub(crate) fn order(
     alloc: Global,
     book: &mut ListBook,
     at: u64,
@@ -69,7 +87,7 @@ fn order(
     Ok(reply)
 }
 
-fn instruct(book: &mut ListBook, at: u64, id: &str, step: u16) -> Result<Reply, Fail> {
+pub(crate) fn instruct(book: &mut ListBook, at: u64, id: &str, step: u16) -> Result<Reply, Fail> {
     let clearance = ClearanceId::read(id)?;
     let reply = say(book, "OPS", at, Kind::Instruct { clearance, step })?;
     Ok(reply)
@@ -92,7 +110,13 @@ fn repeat(
     Ok(reply)
 }
 
-fn report(book: &mut ListBook, by: &str, at: u64, id: &str, step: u16) -> Result<Reply, Fail> {
+pub(crate) fn report(
+    book: &mut ListBook,
+    by: &str,
+    at: u64,
+    id: &str,
+    step: u16,
+) -> Result<Reply, Fail> {
     let kind = Kind::Report {
         clearance: ClearanceId::read(id)?,
         step,
@@ -115,7 +139,7 @@ fn show(book: &mut ListBook, by: &str, id: &str) -> Result<Reply, Fail> {
 }
 
 /// A step is given out, repeated by REED and reported as done.
-fn run_step(
+pub(crate) fn run_step(
     alloc: Global,
     book: &mut ListBook,
     at: u64,
@@ -130,19 +154,26 @@ fn run_step(
 }
 
 /// JONES asks for L2, and OPS orders it at S2 and S3.
-fn ordered_book(alloc: Global) -> Result<ListBook, Fail> {
+pub(crate) fn ordered_book(alloc: Global) -> Result<ListBook, Fail> {
     let mut book = opening_book(alloc)?;
     let _asked = request(&mut book, "JONES", 100, "L2")?;
     let _ordered = order(alloc, &mut book, 101, "JONES/1", &["S2", "S3"], &ISOLATE_L2)?;
     Ok(book)
 }
 
-/// The card of JONES/1, which JONES holds.
-fn jones_card(phase: Phase, round: u8, done: usize, steps: usize) -> Result<Card, Fail> {
+/// The card of a clearance that its requester holds.
+pub(crate) fn own_card(
+    id: &str,
+    phase: Phase,
+    round: u8,
+    done: usize,
+    steps: usize,
+) -> Result<Card, Fail> {
+    let clearance = ClearanceId::read(id)?;
     Ok(Card {
-        clearance: ClearanceId::read("JONES/1")?,
+        clearance,
         phase,
-        holder: Name::read("JONES")?,
+        holder: clearance.requester(),
         round,
         done,
         steps,
@@ -150,8 +181,8 @@ fn jones_card(phase: Phase, round: u8, done: usize, steps: usize) -> Result<Card
 }
 
 /// A command on JONES/1 was accepted, and this is its card.
-fn card(phase: Phase, round: u8, done: usize, steps: usize) -> Result<Reply, Fail> {
-    Ok(Reply::Accepted(jones_card(phase, round, done, steps)?))
+pub(crate) fn card(phase: Phase, round: u8, done: usize, steps: usize) -> Result<Reply, Fail> {
+    Ok(Reply::Accepted(own_card("JONES/1", phase, round, done, steps)?))
 }
 
 #[test]
@@ -263,26 +294,8 @@ fn needed_steps_at_each_point(rt: HostRuntime) -> Result<(), Fail> {
     ];
     let reply = order_of_l3(rt.alloc(), &texts)?;
     assert_eq!(rt; reply, steps_wrong("S4")?);
-    let texts = [
-        "OPEN S3",
-        "BLOCK S3",
-        "TAG S3",
-        "OPEN S4",
-        "BLOCK S4",
-        "CONTROL S4",
-        "TAG S4",
-        "OPEN T1",
-        "TAG T1",
-    ];
-    let reply = order_of_l3(rt.alloc(), &texts)?;
-    let accepted = Card {
-        clearance: ClearanceId::read("KIM/1")?,
-        phase: Phase::Ordered,
-        holder: Name::read("KIM")?,
-        round: 1,
-        done: 0,
-        steps: 9,
-    };
+    let reply = order_of_l3(rt.alloc(), &ISOLATE_L3)?;
+    let accepted = own_card("KIM/1", Phase::Ordered, 1, 0, 9)?;
     assert_eq!(rt; reply, Reply::Accepted(accepted));
     Ok(())
 }
@@ -389,7 +402,7 @@ fn view_after_the_first(alloc: Global) -> Result<View, Fail> {
     points.push(stands("S2", Position::Opened, None)?)?;
     points.push(stands("S3", Position::Closed, None)?)?;
     Ok(View {
-        card: jones_card(Phase::Ordered, 1, 1, 6)?,
+        card: own_card("JONES/1", Phase::Ordered, 1, 1, 6)?,
         crews: Names::new(Vec::new(alloc)),
         fence: Names::new(names(alloc, &["L2"])?),
         holds: Holds::new(holds),
