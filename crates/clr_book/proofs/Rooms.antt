@@ -1,35 +1,8 @@
 -- The room that edits need.
-use Rattle.std.proofs.Common.{◌≤◌, ◌+◌, List, [], ◌∷◌, length, arith}
+use Rattle.std.proofs.Common.{arith}
 use Rattle.clr_rules.specs.declared.change.Edit.{Edit}
 use Rattle.clr_rules.specs.declared.change.Edit.TheVariants.{SetPosition, SetHand, PutHold, TakeHold, PutRecord, PutStep}
-use Rattle.clr_book.specs.Shelved.{Fits, Room, need_of, needs}
-
--- one edit more needs one row more at most
-one_more : (edit : Edit) (need room : Room) → need.records + 1 ≤ room.records → need.steps + 1 ≤ room.steps → need.holds + 1 ≤ room.holds → Fits (need_of edit need) room
-one_more (SetPosition point position) need room records steps holds = record { records = omega arith; steps = omega arith; holds = omega arith }
-one_more (SetHand point hand) need room records steps holds = record { records = omega arith; steps = omega arith; holds = omega arith }
-one_more (PutHold h) need room records steps holds = record { records = omega arith; steps = omega arith; holds = omega arith }
-one_more (TakeHold h) need room records steps holds = record { records = omega arith; steps = omega arith; holds = omega arith }
-one_more (PutRecord r) need room records steps holds = record { records = omega arith; steps = omega arith; holds = omega arith }
-one_more (PutStep row) need room records steps holds = record { records = omega arith; steps = omega arith; holds = omega arith }
-
-fits_all : (edits : List Edit) → Fits (needs edits) (record { records = length edits; steps = length edits; holds = length edits })
-fits_all [] = record { records = omega arith; steps = omega arith; holds = omega arith }
-fits_all (edit ∷ edits) =
-    let rest = fits_all edits in
-    let a : Room.records (needs edits) ≤ length edits = rest.records in
-    let b : Room.steps (needs edits) ≤ length edits = rest.steps in
-    let d : Room.holds (needs edits) ≤ length edits = rest.holds in
-    one_more edit (needs edits) (record { records = length (edit ∷ edits); steps = length (edit ∷ edits); holds = length (edit ∷ edits) }) (omega arith) (omega arith) (omega arith)
-
--- room for as many rows as there are edits is enough
-pub needs_fit : (edits : List Edit) (room : Room) → length edits ≤ room.records → length edits ≤ room.steps → length edits ≤ room.holds → Fits (needs edits) room
-needs_fit edits room records steps holds =
-    let rest = fits_all edits in
-    let a : Room.records (needs edits) ≤ length edits = rest.records in
-    let b : Room.steps (needs edits) ≤ length edits = rest.steps in
-    let d : Room.holds (needs edits) ≤ length edits = rest.holds in
-    record { records = omega arith; steps = omega arith; holds = omega arith }
+use Rattle.clr_book.specs.Shelved.{Fits, Room, need_of}
 
 room_kept : (need before after : Room) → Fits need before → Fits before after → Fits need after
 room_kept need before after fits left =

@@ -3,7 +3,6 @@ pub mod OrderChecks
 pub mod Wanted
 pub mod PutSteps
 pub mod Decided
-
 -- The definitions of the register's rules, passed on: whoever stands on clr_book names them here.
 pub use Rattle.clr_rules.specs.Agreement
 pub use Rattle.clr_rules.specs.Answer

@@ -1,5 +1,5 @@
 //! The book: the network, the staff, and the rows of the register on four shelves.
-ghost use Rattle.std.specs.Prelude.{◌≡◌, [], IfOk, OnOk, map, option_copied};
+ghost use Rattle.std.specs.Prelude.{◌≡◌, [], IfOk, IsOk, OnOk, map, option_copied};
 ghost use Rattle.clr_rules.specs.Edits.{edited, edited_all};
 ghost use Rattle.clr_rules.specs.Good.{ListsAreInOrder};
 ghost use Rattle.clr_rules.specs.Records.{record_of};
@@ -8,6 +8,7 @@ ghost use Rattle.clr_rules.specs.States.{state_of};
 ghost use Rattle.clr_rules.specs.Steps.{steps_of};
 ghost use Rattle.clr_book.specs.Shelved.{Fits, Room, Shelved, need_of, needs};
 
+use crate::room::puts_of;
 use crate::shelves::all_rows;
 use crate::states::{opening_states, set_hand, set_position};
 use clr_csv::Staff;
@@ -109,17 +110,19 @@ impl<P: Shelf<PointState>, C: Shelf<Record>, T: Shelf<StepRow>, H: Shelf<Hold>> 
         self.steps.group(id)
     }
 
-    /// Makes the room that a change needs. It changes nothing else, and room that was made stays, also where memory is refused.
+    /// Makes the room that a change needs. It changes nothing else, and room that was made stays, also where memory is refused;
+    /// that is only asked for where there is less room.
     pub fn reserve(&mut self, change: &Change) -> Result<(), AllocError>
         ensures register { self.new.register ≡ self.old.register }
         ensures network { self.new.network ≡ self.old.network }
         ensures room { OnOk result (Fits (needs change.now.edits) self.new.room) }
         ensures kept { Fits self.old.room self.new.room }
+        ensures succeeds { Fits (needs change.now.edits) self.old.room → IsOk result }
     {
-        let edits = change.edits.as_slice().len();
-        self.records.reserve(edits)?;
-        self.steps.reserve(edits)?;
-        self.holds.reserve(edits)?;
+        let puts = puts_of(change.edits.as_slice());
+        self.records.reserve(puts.records)?;
+        self.steps.reserve(puts.steps)?;
+        self.holds.reserve(puts.holds)?;
         Ok(())
     }
 

@@ -13,6 +13,7 @@ mod near;
 mod orders;
 mod progress;
 mod questions;
+mod room;
 mod shelves;
 mod states;
 mod view;
