@@ -1,7 +1,8 @@
 //! The book's answer to a command.
 ghost use Rattle.std.specs.Prelude.{◌≡◌, true, IfOk};
-ghost use Rattle.clr_rules.specs.Answer.{answer};
+ghost use Rattle.clr_rules.specs.Answer.{answer, answer_with};
 ghost use Rattle.clr_rules.specs.Good.{IsGood};
+ghost use Rattle.clr_rules.specs.Near.{Near, near_of};
 ghost use Rattle.clr_book.specs.Decided.{is_written};
 
 use crate::book::Book;
@@ -16,7 +17,8 @@ impl<P: Shelf<PointState>, C: Shelf<Record>, T: Shelf<StepRow>, H: Shelf<Hold>> 
     /// The book stays as it is: room for the change is made by `reserve`, and the change by `apply`.
     pub fn answer(&self, command: &Command) -> Result<Decision, AllocError>
         requires { is_written command.now.kind ≡ true }
-        ensures { IsGood self.now.register → IfOk result (λ d. answer self.now.register command.now ≡ record { reply = d.reply; edits = d.change.edits }) }
+        ensures lent { IfOk result (λ d. answer_with (Near.known (near_of self.now.register command.now)) (Near.rows (near_of self.now.register command.now)) command.now ≡ record { reply = d.reply; edits = d.change.edits }) }
+        ensures whole { IsGood self.now.register → IfOk result (λ d. answer self.now.register command.now ≡ record { reply = d.reply; edits = d.change.edits }) }
     {
         let near = self.near(command)?;
         let decision = decide(&near, command)?;
