@@ -3,7 +3,7 @@ ghost use Rattle.std.specs.Prelude.{◌≡◌, true, IfOk};
 ghost use Rattle.clr_rules.specs.Answer.{answer, answer_with};
 ghost use Rattle.clr_rules.specs.Good.{IsGood};
 ghost use Rattle.clr_rules.specs.Near.{Near, near_of};
-ghost use Rattle.clr_book.specs.Decided.{is_written};
+ghost use Rattle.clr_book.specs.Decided.{answered, is_written};
 
 use crate::book::Book;
 use crate::decision::Decision;
@@ -17,8 +17,8 @@ impl<P: Shelf<PointState>, C: Shelf<Record>, T: Shelf<StepRow>, H: Shelf<Hold>> 
     /// The book stays as it is: room for the change is made by `reserve`, and the change by `apply`.
     pub fn answer(&self, command: &Command) -> Result<Decision, AllocError>
         requires { is_written command.now.kind ≡ true }
-        ensures lent { IfOk result (λ d. answer_with (Near.known (near_of self.now.register command.now)) (Near.rows (near_of self.now.register command.now)) command.now ≡ record { reply = d.reply; edits = d.change.edits }) }
-        ensures whole { IsGood self.now.register → IfOk result (λ d. answer self.now.register command.now ≡ record { reply = d.reply; edits = d.change.edits }) }
+        ensures lent { IfOk result (λ d. answer_with (Near.known (near_of self.now.register command.now)) (Near.rows (near_of self.now.register command.now)) command.now ≡ answered d) }
+        ensures whole { IsGood self.now.register → IfOk result (λ d. answer self.now.register command.now ≡ answered d) }
     {
         let near = self.near(command)?;
         let decision = decide(&near, command)?;

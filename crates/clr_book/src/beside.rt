@@ -15,7 +15,7 @@ use clr_shelf::Shelf;
 use std::alloc::{AllocError, Global};
 
 impl<P: Shelf<PointState>, C: Shelf<Record>, T: Shelf<StepRow>, H: Shelf<Hold>> Book<P, C, T, H> {
-    // The points that touch the fence, and those of the switch order that the command makes or names.
+    /// The points that touch the fence, and those of the switch order that the command makes or names.
     pub(crate) fn points_beside(&self, kind: &Kind, fence: &[Name]) -> Result<Vec<Name>, AllocError>
         ensures { IfOk result (λ names. names.items ≡ touching_names self.now.register.net (has_name fence.now) ++ switched self.now.register kind.now) }
     {
@@ -25,7 +25,7 @@ impl<P: Shelf<PointState>, C: Shelf<Record>, T: Shelf<StepRow>, H: Shelf<Hold>> 
         Ok(names)
     }
 
-    // The points of the switch order that a command makes or names.
+    /// The points of the switch order that a command makes or names.
     fn switched(&self, kind: &Kind) -> Result<Vec<Name>, AllocError>
         ensures { IfOk result (λ names. names.items ≡ switched self.now.register kind.now) }
     {
@@ -38,7 +38,7 @@ impl<P: Shelf<PointState>, C: Shelf<Record>, T: Shelf<StepRow>, H: Shelf<Hold>> 
         }
     }
 
-    // The points of a clearance that is a switch order.
+    /// The points of a clearance that is a switch order.
     fn switched_in(&self, named: Option<ClearanceId>) -> Result<Vec<Name>, AllocError>
         ensures { IfOk result (λ names. names.items ≡ switched_in self.now.register named) }
     {
@@ -57,7 +57,7 @@ impl<P: Shelf<PointState>, C: Shelf<Record>, T: Shelf<StepRow>, H: Shelf<Hold>> 
     }
 }
 
-// The points with an end in a fence.
+/// The points with an end in a fence.
 fn touching_names(
     alloc: Global,
     points: &[PointRow],
@@ -65,23 +65,21 @@ fn touching_names(
 ) -> Result<Vec<Name>, AllocError>
     ensures { IfOk result (λ names. names.items ≡ point_names (filter (touches (has_name fence.now)) points.now)) }
 {
-    let mut names = Vec::new(alloc);
-    for point in points {
-        if touches(fence, point) {
-            names.push(point.name)?;
-        }
-    }
-    Ok(names)
+    points
+        .iter()
+        .filter(|point| touches(fence, point))
+        .map(|point| point.name)
+        .collect(alloc)
 }
 
-// The points of the steps of an order.
+/// The points of the steps of an order.
 fn task_points(alloc: Global, steps: &[Step]) -> Result<Vec<Name>, AllocError>
     ensures { IfOk result (λ points. points.items ≡ map (λ step. step.point) steps.now) }
 {
     steps.iter().map(|step| step.point).collect(alloc)
 }
 
-// The points of these steps.
+/// The points of these steps.
 fn points_of(alloc: Global, steps: &[&StepRow]) -> Result<Vec<Name>, AllocError>
     ensures { IfOk result (λ points. points.items ≡ map (λ row. row.now.step.point) steps.now) }
 {

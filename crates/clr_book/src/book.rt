@@ -69,6 +69,7 @@ impl<P: Shelf<PointState>, C: Shelf<Record>, T: Shelf<StepRow>, H: Shelf<Hold>> 
         })
     }
 
+    /// The network that the book was opened with, each point in the position of its row.
     pub fn network(&self) -> &Network
         ensures { result.now ≡ self.now.network }
     {
@@ -89,6 +90,7 @@ impl<P: Shelf<PointState>, C: Shelf<Record>, T: Shelf<StepRow>, H: Shelf<Hold>> 
         self.states.get(point)
     }
 
+    /// What is written down of a clearance, or of a switch order.
     pub fn record(&self, id: &ClearanceId) -> Option<&Record>
         ensures { option_copied result ≡ record_of self.now.register.records id.now }
     {
@@ -137,7 +139,7 @@ impl<P: Shelf<PointState>, C: Shelf<Record>, T: Shelf<StepRow>, H: Shelf<Hold>> 
         }
     }
 
-    // Makes one edit.
+    /// Makes one edit.
     fn make(&mut self, edit: &Edit)
         requires { Fits (need_of edit.now (needs [])) self.old.room }
         ensures register { self.new.register ≡ edited edit.now self.old.register }

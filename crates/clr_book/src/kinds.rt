@@ -4,7 +4,7 @@ ghost use Rattle.clr_rules.specs.Answer.{answer, answer_with};
 ghost use Rattle.clr_rules.specs.Good.{IsGood};
 ghost use Rattle.clr_rules.specs.Near.{near_of};
 ghost use Rattle.clr_rules.specs.Register.{Register};
-ghost use Rattle.clr_book.specs.Decided.{is_written};
+ghost use Rattle.clr_book.specs.Decided.{answered, is_written};
 
 mod grant;
 mod instruct;
@@ -31,8 +31,8 @@ use std::alloc::AllocError;
 /// What a command is answered, and what it changes. Of a good register the near part is enough.
 pub fn decide(near: &Near, command: &Command) -> Result<Decision, AllocError>
     requires written { is_written command.now.kind ≡ true }
-    ensures lent { IfOk result (λ d. answer_with near.now.known near.now.rows command.now ≡ record { reply = d.reply; edits = d.change.edits }) }
-    ensures whole { (R : Register) → IsGood R → near_of R command.now ≡ near.now → IfOk result (λ d. answer R command.now ≡ record { reply = d.reply; edits = d.change.edits }) }
+    ensures lent { IfOk result (λ d. answer_with near.now.known near.now.rows command.now ≡ answered d) }
+    ensures whole { (R : Register) → IsGood R → near_of R command.now ≡ near.now → IfOk result (λ d. answer R command.now ≡ answered d) }
 {
     let decision = decide_kind(near, command)?;
     Ok(decision)
@@ -40,7 +40,7 @@ pub fn decide(near: &Near, command: &Command) -> Result<Decision, AllocError>
 
 fn decide_kind(near: &Near, command: &Command) -> Result<Decision, AllocError>
     requires { is_written command.now.kind ≡ true }
-    ensures { IfOk result (λ d. answer_with near.now.known near.now.rows command.now ≡ record { reply = d.reply; edits = d.change.edits }) }
+    ensures { IfOk result (λ d. answer_with near.now.known near.now.rows command.now ≡ answered d) }
 {
     let (by, at) = (command.caller, command.moment);
     match &command.kind {

@@ -16,7 +16,7 @@ use clr_shelf::Shelf;
 use std::alloc::{AllocError, Global};
 
 impl<P: Shelf<PointState>, C: Shelf<Record>, T: Shelf<StepRow>, H: Shelf<Hold>> Book<P, C, T, H> {
-    // The greatest number of the clearances of the requester whose clearance is named, or of the caller; 0 where there is none.
+    /// The greatest number of the clearances of the requester whose clearance is named, or of the caller; 0 where there is none.
     #[tactic(auto, unfolding(clr_rules::specs::Records::greatest_number))]
     pub(crate) fn greatest_for(&self, command: &Command) -> Result<u16, AllocError>
         ensures value { IfOk result (λ greatest. greatest ≡ greatest_number self.now.register.records (numbered_for command.now.caller (named_clearance command.now.kind))) }
@@ -27,7 +27,7 @@ impl<P: Shelf<PointState>, C: Shelf<Record>, T: Shelf<StepRow>, H: Shelf<Hold>> 
         Ok(greatest_of(&records))
     }
 
-    // The sections of the clearance's fence, or of the fence that the order would make.
+    /// The sections of the clearance's fence, or of the fence that the order would make.
     pub(crate) fn fence_for(&self, kind: &Kind) -> Result<Vec<Name>, AllocError>
         ensures { IfOk result (λ fence. fence.items ≡ fence_for self.now.register kind.now) }
     {
@@ -49,21 +49,21 @@ impl<P: Shelf<PointState>, C: Shelf<Record>, T: Shelf<StepRow>, H: Shelf<Hold>> 
         Ok(fence)
     }
 
-    // The sections of a record's fence, which is cut at the points of its first round.
-    fn record_fence(&self, entry: &Record) -> Result<Vec<Name>, AllocError>
-        ensures { IfOk result (λ fence. fence.items ≡ record_fence self.now.register.net self.now.register.steps entry.now) }
+    /// The sections of a clearance's fence, which is cut at the points of its first round.
+    fn record_fence(&self, clearance: &Record) -> Result<Vec<Name>, AllocError>
+        ensures { IfOk result (λ fence. fence.items ≡ record_fence self.now.register.net self.now.register.steps clearance.now) }
     {
-        if !is_fenced(entry.phase) {
+        if !is_fenced(clearance.phase) {
             return Ok(Vec::new(self.alloc));
         }
-        let steps = self.steps.group(&entry.id)?;
+        let steps = self.steps.group(&clearance.id)?;
         let points = first_points(self.alloc, &steps)?;
-        let fence = work_fence(self.alloc, &self.network, entry.work, &points)?;
+        let fence = work_fence(self.alloc, &self.network, clearance.work, &points)?;
         Ok(fence)
     }
 }
 
-// The sections of the fence of a work section, cut at these points; none without a work section.
+/// The sections of the fence of a work section, cut at these points; none without a work section.
 fn work_fence(
     alloc: Global,
     network: &Network,
@@ -80,7 +80,7 @@ fn work_fence(
     Ok(names)
 }
 
-// Whose numbers count: those of the requester of the clearance that is named; a new clearance is the caller's.
+/// Whose numbers count: those of the requester of the clearance that is named; a new clearance is the caller's.
 fn numbered_for(caller: Name, named: Option<ClearanceId>) -> Name
     ensures { result ≡ numbered_for caller named }
 {
@@ -90,7 +90,7 @@ fn numbered_for(caller: Name, named: Option<ClearanceId>) -> Name
     }
 }
 
-// The greatest number of these records, 0 where there is none.
+/// The greatest number of these records, 0 where there is none.
 fn greatest_of(records: &[&Record]) -> u16
     ensures value { result ≡ fold greater 0 (map (λ row. row.id.number) (map (λ row. row.now) records.now)) }
     ensures range { result ≤ 9999 }
@@ -105,7 +105,7 @@ fn greatest_of(records: &[&Record]) -> u16
     greatest
 }
 
-// The points of the first round of these steps, in their order.
+/// The points of the first round of these steps, in their order.
 fn first_points(alloc: Global, steps: &[&StepRow]) -> Result<Vec<Name>, AllocError>
     ensures { IfOk result (λ points. points.items ≡ map (λ row. row.step.point) (filter (λ row. row.round == 1) (map (λ row. row.now) steps.now))) }
 {
@@ -118,7 +118,7 @@ fn first_points(alloc: Global, steps: &[&StepRow]) -> Result<Vec<Name>, AllocErr
     Ok(points)
 }
 
-// Whether a record of this phase has a fence.
+/// Whether a record of this phase has a fence.
 fn is_fenced(phase: Phase) -> bool
     ensures { result ≡ is_fenced phase }
 {
@@ -129,6 +129,7 @@ fn is_fenced(phase: Phase) -> bool
     }
 }
 
+/// The names of these sections.
 fn names_of(alloc: Global, sections: &[&SectionRow]) -> Result<Vec<Name>, AllocError>
     ensures { IfOk result (λ names. names.items ≡ map (λ row. row.now.name) sections.now) }
 {

@@ -38,7 +38,7 @@ impl<P: Shelf<PointState>, C: Shelf<Record>, T: Shelf<StepRow>, H: Shelf<Hold>> 
         Ok(near)
     }
 
-    // The sections of the fence, and the one that a request asks for.
+    /// The sections of the fence, and the one that a request asks for.
     fn sections_near(&self, kind: &Kind, fence: &[Name]) -> Result<Vec<&SectionRow>, AllocError>
         ensures { IfOk result (λ found. map (λ row. row.now) found.items ≡ filter (λ row. has_name fence.now row.name || is_asked kind.now row.name) self.now.register.net.sections) }
     {
@@ -46,16 +46,16 @@ impl<P: Shelf<PointState>, C: Shelf<Record>, T: Shelf<StepRow>, H: Shelf<Hold>> 
         Ok(found)
     }
 
-    // The positions of these points, and whose order is at work on them.
+    /// The positions of these points, and whose order is at work on them.
     fn states_near(&self, beside: &[Name]) -> Result<Vec<&PointState>, AllocError>
         ensures { IfOk result (λ found. map (λ row. row.now) found.items ≡ filter (λ state. has_name beside.now state.point) self.now.register.states) }
     {
         let rows = all_rows(self.alloc, &self.states)?;
-        let found = states_at(self.alloc, &rows, beside)?;
+        let found = states_among(self.alloc, &rows, beside)?;
         Ok(found)
     }
 
-    // The record of the clearance that is named.
+    /// The record of the clearance that is named.
     fn own_records(&self, own: Option<ClearanceId>) -> Result<Vec<&Record>, AllocError>
         ensures { IfOk result (λ found. map (λ row. row.now) found.items ≡ filter (λ r. is_own own r.id) self.now.register.records) }
     {
@@ -64,11 +64,11 @@ impl<P: Shelf<PointState>, C: Shelf<Record>, T: Shelf<StepRow>, H: Shelf<Hold>> 
             None => return Ok(Vec::new(self.alloc)),
         };
         let rows = self.records.group(&id.requester())?;
-        let found = records_of(self.alloc, &rows, id)?;
+        let found = records_among(self.alloc, &rows, id)?;
         Ok(found)
     }
 
-    // The steps of the clearance that is named.
+    /// The steps of the clearance that is named.
     fn own_steps(&self, own: Option<ClearanceId>) -> Result<Vec<&StepRow>, AllocError>
         ensures { IfOk result (λ found. map (λ row. row.now) found.items ≡ filter (λ row. is_own own row.id) self.now.register.steps) }
     {
@@ -78,7 +78,7 @@ impl<P: Shelf<PointState>, C: Shelf<Record>, T: Shelf<StepRow>, H: Shelf<Hold>> 
         }
     }
 
-    // The holds at these sections and points, and the crews of the clearance that is named.
+    /// The holds at these sections and points, and the crews of the clearance that is named.
     fn holds_near(
         &self,
         fence: &[Name],
@@ -88,12 +88,12 @@ impl<P: Shelf<PointState>, C: Shelf<Record>, T: Shelf<StepRow>, H: Shelf<Hold>> 
         ensures { IfOk result (λ found. map (λ row. row.now) found.items ≡ filter (is_near_hold (has_name fence.now) (has_name beside.now) own) self.now.register.holds) }
     {
         let rows = all_rows(self.alloc, &self.holds)?;
-        let found = holds_at(self.alloc, &rows, fence, beside, &own)?;
+        let found = holds_among(self.alloc, &rows, fence, beside, &own)?;
         Ok(found)
     }
 }
 
-// Whether a command is a request for a section.
+/// Whether a command is a request for a section.
 fn is_asked(kind: &Kind, name: Name) -> bool
     ensures { result ≡ is_asked kind.now name }
 {
@@ -103,6 +103,7 @@ fn is_asked(kind: &Kind, name: Name) -> bool
     }
 }
 
+/// Those of these sections that are in a fence, or asked for.
 fn sections_among<'a>(
     alloc: Global,
     rows: &'a [SectionRow],
@@ -116,6 +117,7 @@ fn sections_among<'a>(
         .collect(alloc)
 }
 
+/// Those of these points that have one of the names.
 fn points_among<'a>(
     alloc: Global,
     rows: &'a [PointRow],
@@ -128,7 +130,8 @@ fn points_among<'a>(
         .collect(alloc)
 }
 
-fn records_of<'a>(
+/// Those of these records that are of a clearance.
+fn records_among<'a>(
     alloc: Global,
     rows: &[&'a Record],
     id: ClearanceId,
@@ -144,7 +147,8 @@ fn records_of<'a>(
     Ok(found)
 }
 
-fn states_at<'a>(
+/// Those of these states that are of points of the names.
+fn states_among<'a>(
     alloc: Global,
     rows: &[&'a PointState],
     beside: &[Name],
@@ -160,7 +164,8 @@ fn states_at<'a>(
     Ok(found)
 }
 
-fn holds_at<'a>(
+/// Those of these holds that are near.
+fn holds_among<'a>(
     alloc: Global,
     rows: &[&'a Hold],
     fence: &[Name],

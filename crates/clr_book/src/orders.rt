@@ -1,12 +1,11 @@
 //! The check of an isolating order over what is lent.
-ghost use Rattle.std.specs.Prelude.{◌≡◌, ◌||◌, IfOk, filter, map};
+ghost use Rattle.std.specs.Prelude.{◌≡◌, IfOk, Some, filter, map};
 ghost use Rattle.clr_net.specs.Names.{has_name};
 ghost use Rattle.clr_order.specs.Step.{task};
 ghost use Rattle.clr_rules.specs.Checks.{unsound_order};
 ghost use Rattle.clr_rules.specs.Fences.{rows_of_fence, touches};
 ghost use Rattle.clr_rules.specs.Refusals.{order_refusal};
 ghost use Rattle.clr_book.specs.OrderChecks.{refusal_of};
-ghost use Rattle.std.specs.Prelude.{Some};
 
 use crate::fences::{has_name, touching_points};
 use crate::near::Near;
@@ -29,7 +28,7 @@ pub(crate) fn unsound_order(
     Ok(refusal_of(check_isolating(&fence, points, steps)))
 }
 
-// The rows of the sections of a fence.
+/// The rows of the sections of a fence.
 fn fence_sections<'a>(
     alloc: Global,
     rows: &[&'a SectionRow],
@@ -46,7 +45,7 @@ fn fence_sections<'a>(
     Ok(kept)
 }
 
-// The refusal that the check of an order told, if it told one.
+/// The refusal that the check of an order told, if it told one.
 fn refusal_of(told: Result<(), OrderFault>) -> Option<Refusal>
     ensures { result ≡ refusal_of told }
 {
@@ -56,7 +55,7 @@ fn refusal_of(told: Result<(), OrderFault>) -> Option<Refusal>
     }
 }
 
-// The refusal of a command whose order has this fault. Want of memory is none, and no check of an order answers it.
+/// The refusal of a command whose order has this fault. Want of memory is none, and no check of an order answers it.
 fn order_refusal(fault: OrderFault) -> Option<Refusal>
     ensures { result ≡ order_refusal (Some fault) }
 {

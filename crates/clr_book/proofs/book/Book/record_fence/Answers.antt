@@ -11,7 +11,7 @@ use Rattle.clr_book.proofs.book.Book.record_fence.Goals as goal
 -- src/lend.rt:69:5
 pub returns : goal.returns
 returns g c =
-    let id = c.args.entry.now.id in
+    let id = c.args.clearance.now.id in
     let rows = g.T.Shelf.rows c.self.inside.steps in
     let net : unplaced_net c.self.inside.network ≡ c.args.self.now.register.net = ap (λ (v : Shelved). v.register.net) c.self.view_is in
     let steps : rows ≡ c.args.self.now.register.steps = ap (λ (v : Shelved). v.register.steps) c.self.view_is in
@@ -19,6 +19,6 @@ returns g c =
     c.deref-2.ensures.value ∙ c.in_ok-points.ensures
     ∙ ap (λ (found : List StepRow). map (λ row. row.step.point) (filter (λ row. row.round == 1) found)) (ap (map (λ (row : Bor StepRow). row.now)) c.deref.ensures.value ∙ c.in_ok-steps.ensures)
     ∙ first_points_are rows id ∙ ap (λ all. points_of (steps_in all id 1)) steps in
-    let fenced : is_fenced c.args.entry.now.phase ≡ true = sym c.is_fenced.ensures ∙ c.if-not-is_fenced.false in
+    let fenced : is_fenced c.args.clearance.now.phase ≡ true = sym c.is_fenced.ensures ∙ c.if-not-is_fenced.false in
     rw fenced
-    (c.in_ok-fence.ensures ∙ ap (λ g. work_fence g c.args.entry.now.work c.deref-2.result.now) net ∙ ap (work_fence c.args.self.now.register.net c.args.entry.now.work) points)
+    (c.in_ok-fence.ensures ∙ ap (λ g. work_fence g c.args.clearance.now.work c.deref-2.result.now) net ∙ ap (work_fence c.args.self.now.register.net c.args.clearance.now.work) points)

@@ -1,7 +1,7 @@
 use Rattle.std.proofs.Common.{◌≡◌, ◌++◌, map, filter, drop}
 use Rattle.clr_net.specs.Names.{has_name}
 use Rattle.clr_rules.specs.Holds.{is_near_hold}
-use Rattle.clr_book.proofs.lend.holds_at.Given as goal
+use Rattle.clr_book.proofs.lend.holds_among.Given as goal
 
 -- the rows so far, and those that are left, are all
 abbrev pub invariant-loop-row : goal.invariant-loop-row

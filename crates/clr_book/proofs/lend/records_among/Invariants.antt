@@ -1,6 +1,6 @@
 use Rattle.std.proofs.Common.{◌≡◌, ◌++◌, map, filter, drop}
 use Rattle.clr_rules.specs.Id.{same_id}
-use Rattle.clr_book.proofs.lend.records_of.Given as goal
+use Rattle.clr_book.proofs.lend.records_among.Given as goal
 
 -- the rows so far, and those that are left, are all
 abbrev pub invariant-loop-row : goal.invariant-loop-row
