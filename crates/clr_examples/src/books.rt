@@ -1,8 +1,8 @@
 //! The book over lists: its opening, changes made in it, and what is read of it.
 use crate::worked::{worked_network, worked_staff};
 use clr_book::{
-    Book, Change, ClearanceId, Command, Edit, Edits, Hold, HoldKind, Kind, Moment, Phase,
-    PointState, Record, StepRow,
+    Book, Change, ClearanceId, Command, Edit, Edits, Hold, HoldKind, Kind, Moment, Names, Phase,
+    PointState, Record, StepRow, Tasks, Text,
 };
 use clr_net::{Name, Position};
 use clr_order::{Action, Step, StepState};
@@ -58,6 +58,13 @@ fn record(id: &str, phase: Phase) -> Result<Record, Fail> {
         phase,
         last: Moment::new(1000).ok_or("a moment")?,
     })
+}
+
+/// The last moment of JONES/1.
+pub fn last_of_jones(book: &ListBook) -> Result<u64, Fail> {
+    let id = ClearanceId::read("JONES/1")?;
+    let record = book.record(&id).ok_or("a record")?;
+    Ok(record.last.seconds())
 }
 
 /// A step that opens S2.
@@ -220,24 +227,118 @@ fn rows_put_in_another_order(rt: HostRuntime) -> Result<(), Fail> {
     Ok(())
 }
 
-#[test]
-fn rows_lent_to_commands(rt: HostRuntime) -> Result<(), Fail> {
+/// Commands of each kind but request and switch order, which name a clearance.
+fn kinds_that_name(alloc: Global, id: &str) -> Result<Vec<Kind>, Fail> {
+    let clearance = ClearanceId::read(id)?;
+    let section = Name::read("L2")?;
+    let none = || Tasks::new(Vec::new(alloc));
+    let kinds = vec![in alloc;
+        Kind::Order {
+            clearance,
+            points: Names::new(Vec::new(alloc)),
+            steps: none()
+        },
+        Kind::Instruct { clearance, step: 1 },
+        Kind::Repeat {
+            clearance,
+            step: 1,
+            text: Text::new(String::new(alloc))
+        },
+        Kind::Report {
+            clearance,
+            step: 1,
+            done: true
+        },
+        Kind::Grant { clearance },
+        Kind::Test {
+            clearance,
+            section,
+            dead: true
+        },
+        Kind::Ground { clearance, section },
+        Kind::Unground { clearance, section },
+        Kind::SignOn {
+            clearance,
+            crew: section
+        },
+        Kind::SignOff {
+            clearance,
+            crew: section
+        },
+        Kind::Transfer {
+            clearance,
+            to: section,
+            emergency: false
+        },
+        Kind::Release {
+            clearance,
+            notified: true,
+            clear: true
+        },
+        Kind::Cancel { clearance },
+        Kind::Restore {
+            clearance,
+            steps: none()
+        },
+        Kind::Amend { clearance, step: 1 },
+        Kind::Show { clearance },
+    ]?;
+    Ok(kinds)
+}
+
+/// A switch order that opens S2.
+fn switch_order(alloc: Global) -> Result<Kind, Fail> {
+    let first = step("OPS/2", 1, 1, StepState::Waiting)?;
+    let mut steps = Vec::new(alloc);
+    // The checker proves this only where the type of the reader is seen.
+    steps.push(Step {
+        reader: None,
+        ..first.step
+    })?;
+    Ok(Kind::Switch {
+        steps: Tasks::new(steps),
+    })
+}
+
+/// JONES/1 is ordered and holds S2 open, and OPS/1 is a switch order with a step there.
+fn book_with_two(alloc: Global) -> Result<ListBook, Fail> {
+    let switching = Record {
+        work: None,
+        ..record("OPS/1", Phase::Switching)?
+    };
     let edits = [
         Edit::PutHold(hold(HoldKind::HeldOpen, "JONES/1")?),
         Edit::PutRecord(record("JONES/1", Phase::Ordered)?),
+        Edit::PutRecord(switching),
         Edit::PutStep(step("JONES/1", 1, 1, StepState::Waiting)?),
+        Edit::PutStep(step("OPS/1", 1, 1, StepState::Waiting)?),
     ];
-    let clearance = ClearanceId::read("JONES/1")?;
+    let book = book_after(alloc, &edits)?;
+    Ok(book)
+}
+
+/// The book lends what a command of JONES looks at.
+fn lend(book: &ListBook, kind: Kind) -> Result<(), Fail> {
+    let command = Command {
+        caller: Name::read("JONES")?,
+        moment: Moment::new(2000).ok_or("a moment")?,
+        kind,
+    };
+    let _near = book.near(&command)?;
+    Ok(())
+}
+
+#[test]
+fn rows_lent_to_commands(rt: HostRuntime) -> Result<(), Fail> {
+    let book = book_with_two(rt.alloc())?;
     let section = Name::read("L1")?;
-    let moment = Moment::new(2000).ok_or("a moment")?;
-    let book = book_after(rt.alloc(), &edits)?;
-    for kind in [Kind::Request { section }, Kind::Show { clearance }] {
-        let command = Command {
-            caller: clearance.requester(),
-            moment,
-            kind,
-        };
-        let _near = book.near(&command)?;
+    lend(&book, Kind::Request { section })?;
+    lend(&book, switch_order(rt.alloc())?)?;
+    for kind in kinds_that_name(rt.alloc(), "JONES/1")? {
+        lend(&book, kind)?;
+    }
+    for kind in kinds_that_name(rt.alloc(), "OPS/1")? {
+        lend(&book, kind)?;
     }
     Ok(())
 }
