@@ -223,6 +223,7 @@ to_phases R good = record {
   closing_free = good.hand_matches_step.closing;
   numbered = good.numbers_have_no_gaps.numbered;
   work_known = good.numbers_have_no_gaps.work_known;
+  placed = good.placed;
   points_known = good.points_known;
   in_order = good.in_order;
 }

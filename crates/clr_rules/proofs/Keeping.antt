@@ -65,6 +65,7 @@ keeps R edits c good changed = record {
   closing_free = changed.closing_free;
   numbered = changed.numbered;
   work_known = rw same.same_net changed.work_known;
+  placed = rw same.same_net good.placed;
   points_known = record {
     states = same.same_points ∙ rw same.same_net good.points_known.states;
     steps = rw same.same_net changed.steps_known;

@@ -16,6 +16,7 @@ use Rattle.clr_net.specs.Grid.{Grid, IsNetwork, has_ends, has_one_section, point
 use Rattle.clr_net.specs.Name.{name_cmp}
 use Rattle.clr_net.specs.Names.{has_name}
 use Rattle.clr_net.specs.declared.point.PointRow.{PointRow}
+use Rattle.clr_net.proofs.ListFacts.{map-map}
 use Rattle.clr_shelf.specs.Rows.{in_key_order, row_of}
 use Rattle.clr_rules.specs.RunLaws.{KeepsOpening}
 use Rattle.clr_rules.specs.Good.{IsGood, ListsAreInOrder, has_record, is_active_at, is_closing_at, is_known_work}
@@ -50,6 +51,10 @@ unplaced_names (p ∷ points) = ap (λ names. p.name ∷ names) (unplaced_names 
 first_keys : (points : List PointRow) → map state_key (map first_state points) ≡ point_names points
 first_keys [] = refl
 first_keys (p ∷ points) = ap (λ names. p.name ∷ names) (first_keys points)
+
+-- what has no position any more keeps so
+pub unplaced_once : (g : Grid) → unplaced_net (unplaced_net g) ≡ unplaced_net g
+unplaced_once g = ap (λ points. record { sections = g.sections; points = points }) (map-map unplaced unplaced g.points)
 
 -- a network is one wherever its points stand
 pub unplaced_is_network : (g : Grid) → IsNetwork g → IsNetwork (unplaced_net g)
@@ -157,6 +162,7 @@ opening_is_good g staff net is_staff = record {
     phases = λ c r found switch. absurd (no_record c r found);
     switching = λ c r found switch. absurd (no_record c r found);
   };
+  placed = unplaced_once g;
   points_known = record {
     states = first_keys g.points ∙ sym (unplaced_names g.points);
     steps = All-nil (λ (row : StepRow). IsTrue (has_name (point_names (map unplaced g.points)) row.step.point));

@@ -224,6 +224,7 @@ from_phases R good = record {
   holds_are_put = holds_are_put R good;
   restoring_rounds = λ c r found restoring. rw (← of_round_is R.steps c 2) ((order R good c r found).second_round restoring);
   switch_orders = switch_orders R good;
+  placed = good.placed;
   points_known = good.points_known;
   in_order = good.in_order;
 }

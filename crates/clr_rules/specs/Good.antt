@@ -1,4 +1,4 @@
--- GOOD REGISTERS: what holds in every register that commands have made from an opening one. Thirteen parts, each in its own words;
+-- GOOD REGISTERS: what holds in every register that commands have made from an opening one. Fourteen parts, each in its own words;
 -- GoodByPhase says the same phase by phase.
 use Rattle.std.specs.Prelude.{◌≡◌, ℕ, Bool, true, false, not, ◌&&◌, ◌||◌, IsTrue, List, [], length, map, filter, All, Contains, Option, None, Some}
 use Rattle.std.specs.List.{list_any, range_with_len}
@@ -24,7 +24,7 @@ use Rattle.clr_rules.specs.Holds.{has_hold, held_at, hold_key, once}
 use Rattle.clr_rules.specs.Id.{Id, id_cmp}
 use Rattle.clr_rules.specs.Live.{is_live}
 use Rattle.clr_rules.specs.Records.{is_closed, is_granted, is_in_switching, is_requested, is_restoring, is_running, is_standing, is_switch_order, numbers_of, record_key, record_of}
-use Rattle.clr_rules.specs.Register.{Register}
+use Rattle.clr_rules.specs.Register.{Register, unplaced_net}
 use Rattle.clr_rules.specs.States.{has_in_hand, position_of, state_key}
 use Rattle.clr_rules.specs.StepKey.{step_key, step_key_cmp}
 use Rattle.clr_rules.specs.Steps.{all_done, is_active, is_close, is_done, is_in_turn, is_some_step, is_waiting, points_of, present_round, steps_in, steps_of, tasks_of}
@@ -181,6 +181,10 @@ pub record SwitchOrdersAreOperators (R : Register) : Type 0 where
   pub phases : (c : Id) (r : Record) → record_of R.records c ≡ Some r → is_switch_order r ≡ true → (is_in_switching r.phase || is_closed r.phase) ≡ true
   pub switching : (c : Id) (r : Record) → record_of R.records c ≡ Some r → is_in_switching r.phase ≡ true → is_switch_order r ≡ true
 
+-- THE NETWORK HAS NO POSITIONS: each row of a point is Opened, since where the point stands is in its state
+abbrev pub NetworkIsUnplaced : Register → Type 0
+NetworkIsUnplaced R = unplaced_net R.net ≡ R.net
+
 -- POINTS ARE THOSE OF THE NETWORK: each point has a state, no other name has one, and each step is at a point
 pub record PointsAreKnown (R : Register) : Type 0 where
   pub states : map state_key R.states ≡ point_names (Grid.points R.net)
@@ -208,5 +212,6 @@ pub record IsGood (R : Register) : Type 0 where
   pub holds_are_put : HoldsAreWhatDoneStepsPut R
   pub restoring_rounds : RestoringHaveSecondRound R
   pub switch_orders : SwitchOrdersAreOperators R
+  pub placed : NetworkIsUnplaced R
   pub points_known : PointsAreKnown R
   pub in_order : ListsAreInOrder R

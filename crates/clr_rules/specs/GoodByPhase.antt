@@ -12,7 +12,7 @@ use Rattle.clr_order.specs.Isolating.{IsSoundOrder}
 use Rattle.clr_order.specs.Needed.{undoes}
 use Rattle.clr_order.specs.Step.{actions_at}
 use Rattle.clr_rules.specs.Fences.{work_fence}
-use Rattle.clr_rules.specs.Good.{ListsAreInOrder, PointsAreKnown, is_closing_at, is_known_work, is_operators, left, put_by}
+use Rattle.clr_rules.specs.Good.{ListsAreInOrder, NetworkIsUnplaced, PointsAreKnown, is_closing_at, is_known_work, is_operators, left, put_by}
 use Rattle.clr_rules.specs.HoldKind.{is_point_kind}
 use Rattle.clr_rules.specs.Holds.{has_hold, once}
 use Rattle.clr_rules.specs.Id.{Id}
@@ -174,5 +174,6 @@ pub record IsGoodByPhase (R : Register) : Type 0 where
   -- a requester's clearances are numbered without gaps, and their work sections are known
   pub numbered : (requester : List ℕ) → numbers_of R.records requester ≡ range_with_len 1 (length (numbers_of R.records requester))
   pub work_known : All (λ r. IsTrue (is_known_work (section_names (Grid.sections R.net)) r.work)) R.records
+  pub placed : NetworkIsUnplaced R
   pub points_known : PointsAreKnown R
   pub in_order : ListsAreInOrder R
