@@ -72,3 +72,4 @@ pub mod OwnAnswers
 pub mod OrderAnswers
 pub mod NewAnswers
 pub mod KeptRestores
+pub mod RunReplies

@@ -52,6 +52,7 @@ pub mod WorkLaws
 pub mod AgreementLaws
 pub mod MarkLaws
 pub mod RunLaws
+pub mod RunHeadline
 pub mod EditOrder
 pub mod FrameLaws
 pub mod NearLaws

@@ -11,6 +11,7 @@ pub mod marks;
 pub mod near;
 pub mod opening;
 pub mod own;
+pub mod run_headline;
 pub mod runs;
 pub mod steps;
 pub mod work;
