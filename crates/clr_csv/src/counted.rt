@@ -1,3 +1,4 @@
+//! Readers and writers that count their failures.
 ghost use Rattle.std.specs.Prelude.{◌≡◌, ℕ};
 ghost use Rattle.std.specs.Io.{ReadsAtMost};
 ghost use Rattle.std.specs.Io.KnownBytes.{ReadConsumes};
@@ -19,7 +20,8 @@ pub trait CountedRead: Read {
     /// What `read` does. A failure adds one to `failures`.
     fn read_counted(&mut self, buf: &mut [u8]) -> io::Result<usize>
         ensures bound { ReadsAtMost result buf.new }
-        ensures bytes { ReadConsumes (Self.remaining self.old) (Self.remaining self.new) result buf.new }
+        ensures bytes { ReadConsumes (Self.remaining self.old) (Self.remaining self.new)
+            result buf.new }
         ensures count { failure_count self.new ≡ count_after result (failure_count self.old) };
 }
 
@@ -57,7 +59,8 @@ impl<T: Read> Read for Counted<T> {
 
     fn read(&mut self, buf: &mut [u8]) -> io::Result<usize>
         ensures bound { ReadsAtMost result buf.new }
-        ensures bytes { ReadConsumes (T.remaining (counted_inner self.old)) (T.remaining (counted_inner self.new)) result buf.new }
+        ensures bytes { ReadConsumes (T.remaining (counted_inner self.old))
+            (T.remaining (counted_inner self.new)) result buf.new }
         ensures count { counted_failures self.new ≡ count_after result (counted_failures self.old) }
     {
         let answer = self.inner.read(buf);

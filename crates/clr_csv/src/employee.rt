@@ -1,3 +1,4 @@
+//! An employee as a row of the staff.
 use clr_net::{Name, Named};
 
 /// What an employee may do.

@@ -1,3 +1,4 @@
+//! Why a file gives no rows.
 ghost use Rattle.std.specs.Prelude.{◌≡◌};
 ghost use Rattle.clr_csv.specs.declared.fault.CsvFault.TheVariants.{NoMemory};
 

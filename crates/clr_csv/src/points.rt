@@ -1,4 +1,5 @@
-ghost use Rattle.std.specs.Prelude.{◌≡◌, ◌≢◌, ◌+◌, Err, IfSome, IsErrOf};
+//! The file of the switching points.
+ghost use Rattle.std.specs.Prelude.{◌≡◌, ◌≢◌, Err, IfSome, IsErrOf};
 ghost use Rattle.clr_csv.specs.Answers.{GivesUnlessFailed};
 ghost use Rattle.clr_csv.specs.Failures.{Rose};
 ghost use Rattle.clr_csv.specs.Points.{point_header, point_in, points_of};
@@ -8,7 +9,6 @@ use crate::columns::{ColumnFault, name_in, position_in, yes_no_in};
 use crate::counted::CountedRead;
 use crate::fault::CsvFault;
 use crate::rows::{FileRow, read_rows};
-use crate::whole::MAX_FILE_BYTES;
 use clr_net::PointRow;
 use csv::StringRecord;
 use std::alloc::Global;
@@ -44,10 +44,13 @@ impl FileRow for PointRow {
 /// `point,from,to,lockable,remote,position`, and under it a row for each point, with its name, the
 /// sections at its ends, `yes` or `no` for lockable and for remote, and `open` or `closed`.
 pub fn read_points<R: CountedRead>(alloc: Global, reader: &mut R) -> Result<Vec<PointRow>, CsvFault>
-    ensures rows { IfSome (R.remaining reader.old) (λ file. GivesUnlessFailed (λ rows. rows.items) (points_of file) result) }
-    ensures bounded { TakesAtMost (MAX_FILE_BYTES + 1) (R.remaining reader.old) (R.remaining reader.new) }
-    ensures cause { IsErrOf result CsvFault.ReadFailed → Rose (R.failure_count reader.old) (R.failure_count reader.new) }
-    ensures others { result ≢ Err CsvFault.ReadFailed → R.failure_count reader.new ≡ R.failure_count reader.old }
+    ensures rows { IfSome (R.remaining reader.old) (λ file.
+        GivesUnlessFailed (λ rows. rows.items) (points_of file) result) }
+    ensures bounded { TakesAtMost 4194305 (R.remaining reader.old) (R.remaining reader.new) }
+    ensures cause { IsErrOf result CsvFault.ReadFailed
+        → Rose (R.failure_count reader.old) (R.failure_count reader.new) }
+    ensures others { result ≢ Err CsvFault.ReadFailed
+        → R.failure_count reader.new ≡ R.failure_count reader.old }
 {
     let rows = read_rows(alloc, reader)?;
     Ok(rows)

@@ -1,3 +1,4 @@
+//! The rows of a file: its header, and under it a row to each record.
 ghost use Rattle.std.specs.Prelude.{◌≡◌, ◌≢◌, ℕ, ◌+◌, ◌^◌, ◌<◌, Err, IfSome, IsErrOf, List, Result, length, map, true};
 ghost use Rattle.csv.specs.Reading.{default_config, records, strip_bom};
 ghost use Rattle.csv.specs.Records.{fields_of};
@@ -10,7 +11,7 @@ use crate::columns::ColumnFault;
 use crate::counted::CountedRead;
 use crate::fault::CsvFault;
 use crate::table::Table;
-use crate::whole::{MAX_FILE_BYTES, read_whole};
+use crate::whole::read_whole;
 use csv::StringRecord;
 use std::alloc::Global;
 
@@ -64,7 +65,8 @@ fn read_row<T: FileRow>(row: usize, fields: &StringRecord) -> Result<T, CsvFault
 /// Reads the first record, which is to be the header.
 fn read_header(alloc: Global, table: &mut Table<'_>, header: &[&str]) -> Result<(), CsvFault>
     requires { is_ascii (map (λ name. name.now) header.now) ≡ true }
-    ensures { Gives (λ done. table.new) (under_header (map (λ name. name.now) header.now) table.old) result }
+    ensures { Gives (λ done. table.new)
+        (under_header (map (λ name. name.now) header.now) table.old) result }
 {
     let mut fields = StringRecord::new(alloc);
     let found = table.next(&mut fields, CsvFault::Header)?;
@@ -78,7 +80,8 @@ fn read_header(alloc: Global, table: &mut Table<'_>, header: &[&str]) -> Result<
 /// Reads the rows under the header.
 fn read_table<T: FileRow>(alloc: Global, table: &mut Table<'_>) -> Result<Vec<T>, CsvFault>
     requires { length table.old + 1 < 2 ^ 64 }
-    ensures { Gives (λ rows. rows.items) (rows_from (row_of T.header T.columns) 1 table.old) result }
+    ensures { Gives (λ rows. rows.items)
+        (rows_from (row_of T.header T.columns) 1 table.old) result }
 {
     let mut fields = StringRecord::new(alloc);
     let mut rows = Vec::new(alloc);
@@ -93,7 +96,8 @@ fn read_table<T: FileRow>(alloc: Global, table: &mut Table<'_>) -> Result<Vec<T>
 /// Reads the rows of a file that is in memory.
 #[tactic(auto, unfolding(crate::specs::Rows::rows_in))]
 fn rows_in<T: FileRow>(alloc: Global, bytes: &[u8]) -> Result<Vec<T>, CsvFault>
-    ensures { Gives (λ rows. rows.items) (rows_in T.header T.columns (records default_config (strip_bom bytes.now))) result }
+    ensures { Gives (λ rows. rows.items)
+        (rows_in T.header T.columns (records default_config (strip_bom bytes.now))) result }
 {
     let mut table = Table::new(alloc, bytes);
     read_header(alloc, &mut table, T::header())?;
@@ -107,10 +111,13 @@ pub(crate) fn read_rows<T: FileRow, R: CountedRead>(
     alloc: Global,
     reader: &mut R,
 ) -> Result<Vec<T>, CsvFault>
-    ensures rows { IfSome (R.remaining reader.old) (λ bytes. GivesUnlessFailed (λ rows. rows.items) (rows_of T.header T.columns bytes) result) }
-    ensures bounded { TakesAtMost (MAX_FILE_BYTES + 1) (R.remaining reader.old) (R.remaining reader.new) }
-    ensures cause { IsErrOf result CsvFault.ReadFailed → Rose (R.failure_count reader.old) (R.failure_count reader.new) }
-    ensures others { result ≢ Err CsvFault.ReadFailed → R.failure_count reader.new ≡ R.failure_count reader.old }
+    ensures rows { IfSome (R.remaining reader.old) (λ bytes.
+        GivesUnlessFailed (λ rows. rows.items) (rows_of T.header T.columns bytes) result) }
+    ensures bounded { TakesAtMost 4194305 (R.remaining reader.old) (R.remaining reader.new) }
+    ensures cause { IsErrOf result CsvFault.ReadFailed
+        → Rose (R.failure_count reader.old) (R.failure_count reader.new) }
+    ensures others { result ≢ Err CsvFault.ReadFailed
+        → R.failure_count reader.new ≡ R.failure_count reader.old }
 {
     let bytes = read_whole(alloc, reader)?;
     let rows = rows_in(alloc, bytes.as_slice())?;

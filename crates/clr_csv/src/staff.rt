@@ -1,3 +1,4 @@
+//! The staff: every employee, checked and in the order of their names.
 ghost use Rattle.std.specs.Prelude.{◌≡◌, ◌≤◌, IfOk, IsTrue, All, OnOk, false, find, length, map, not, position};
 ghost use Rattle.std.specs.Option.{option_copied};
 ghost use Rattle.std.specs.List.{IsDistinct};
@@ -75,7 +76,8 @@ fn check_names(alloc: Global, rows: &[StaffRow]) -> Result<(), StaffFault>
 fn in_order(alloc: Global, rows: &[StaffRow]) -> Result<Vec<StaffRow>, AllocError>
     requires { IsDistinct same_name (staff_names rows.now) }
     ensures all { IfOk result (λ by_name. IsPermutation rows.now by_name.items) }
-    ensures rising { IfOk result (λ by_name. IsStrictlySortedBy name_cmp (staff_names by_name.items)) }
+    ensures rising { IfOk result (λ by_name.
+        IsStrictlySortedBy name_cmp (staff_names by_name.items)) }
 {
     let mut by_name: Vec<StaffRow> = rows.iter().copied().collect(alloc)?;
     sort_by_name(&mut by_name);
@@ -86,7 +88,8 @@ fn in_order(alloc: Global, rows: &[StaffRow]) -> Result<Vec<StaffRow>, AllocErro
 fn check_supervisors(by_name: &[StaffRow], rows: &[StaffRow]) -> Result<(), StaffFault>
     requires { IsStrictlySortedBy name_cmp (staff_names by_name.now) }
     ensures passes { Passes (supervisor_fault (staff_names by_name.now) rows.now) result }
-    ensures known { OnOk result (All (λ row. IsTrue (has_known_supervisor (staff_names by_name.now) row)) rows.now) }
+    ensures known { OnOk result
+        (All (λ row. IsTrue (has_known_supervisor (staff_names by_name.now) row)) rows.now) }
     ensures differ { OnOk result (All (λ row. is_own_supervisor row ≡ false) rows.now) }
 {
     if let Some(place) = unknown_supervisor(by_name, rows) {
@@ -101,7 +104,8 @@ fn check_supervisors(by_name: &[StaffRow], rows: &[StaffRow]) -> Result<(), Staf
 /// The first place of a row with a supervisor who is none of the staff.
 fn unknown_supervisor(by_name: &[StaffRow], rows: &[StaffRow]) -> Option<usize>
     requires { IsStrictlySortedBy name_cmp (staff_names by_name.now) }
-    ensures { result ≡ position (λ row. not (has_known_supervisor (staff_names by_name.now) row)) rows.now }
+    ensures { result
+        ≡ position (λ row. not (has_known_supervisor (staff_names by_name.now) row)) rows.now }
 {
     rows.iter()
         .position(|row| !is_known(by_name, row.supervisor))

@@ -1,3 +1,4 @@
+//! Why rows are no staff.
 ghost use Rattle.std.specs.Prelude.{◌≡◌};
 ghost use Rattle.clr_csv.specs.declared.staff_fault.StaffFault.TheVariants.{NoMemory};
 

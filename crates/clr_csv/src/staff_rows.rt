@@ -1,4 +1,5 @@
-ghost use Rattle.std.specs.Prelude.{◌≡◌, ◌≢◌, ◌+◌, Err, IfSome, IsErrOf};
+//! The file of the staff.
+ghost use Rattle.std.specs.Prelude.{◌≡◌, ◌≢◌, Err, IfSome, IsErrOf};
 ghost use Rattle.clr_csv.specs.Answers.{GivesUnlessFailed};
 ghost use Rattle.clr_csv.specs.Failures.{Rose};
 ghost use Rattle.clr_csv.specs.StaffRows.{staff_header, staff_row_in, staff_of};
@@ -9,7 +10,6 @@ use crate::counted::CountedRead;
 use crate::employee::StaffRow;
 use crate::fault::CsvFault;
 use crate::rows::{FileRow, read_rows};
-use crate::whole::MAX_FILE_BYTES;
 use csv::StringRecord;
 use std::alloc::Global;
 
@@ -38,10 +38,13 @@ impl FileRow for StaffRow {
 /// row for each employee, with the name, with `operator`, `field` or `charge`, and with the
 /// supervisor's name, empty where there is none.
 pub fn read_staff<R: CountedRead>(alloc: Global, reader: &mut R) -> Result<Vec<StaffRow>, CsvFault>
-    ensures rows { IfSome (R.remaining reader.old) (λ file. GivesUnlessFailed (λ rows. rows.items) (staff_of file) result) }
-    ensures bounded { TakesAtMost (MAX_FILE_BYTES + 1) (R.remaining reader.old) (R.remaining reader.new) }
-    ensures cause { IsErrOf result CsvFault.ReadFailed → Rose (R.failure_count reader.old) (R.failure_count reader.new) }
-    ensures others { result ≢ Err CsvFault.ReadFailed → R.failure_count reader.new ≡ R.failure_count reader.old }
+    ensures rows { IfSome (R.remaining reader.old) (λ file.
+        GivesUnlessFailed (λ rows. rows.items) (staff_of file) result) }
+    ensures bounded { TakesAtMost 4194305 (R.remaining reader.old) (R.remaining reader.new) }
+    ensures cause { IsErrOf result CsvFault.ReadFailed
+        → Rose (R.failure_count reader.old) (R.failure_count reader.new) }
+    ensures others { result ≢ Err CsvFault.ReadFailed
+        → R.failure_count reader.new ≡ R.failure_count reader.old }
 {
     let rows = read_rows(alloc, reader)?;
     Ok(rows)

@@ -1,4 +1,5 @@
-ghost use Rattle.std.specs.Prelude.{◌≡◌, ◌≢◌, ◌+◌, Err, IsErrOf, IfSome};
+//! A file, read whole.
+ghost use Rattle.std.specs.Prelude.{◌≡◌, ◌≢◌, Err, IsErrOf, IfSome};
 ghost use Rattle.clr_csv.specs.Failures.{Rose};
 ghost use Rattle.clr_csv.specs.Answers.{GivesUnlessFailed};
 ghost use Rattle.clr_csv.specs.Whole.{TakesAtMost, within_limit};
@@ -15,10 +16,13 @@ const PIECE: usize = 8192;
 
 /// Reads a file whole, before any of it is looked at. No failure is tried again.
 pub(crate) fn read_whole<R: CountedRead>(alloc: Global, reader: &mut R) -> Result<Vec<u8>, CsvFault>
-    ensures bytes { IfSome (R.remaining reader.old) (λ bytes. GivesUnlessFailed (λ v. v.items) (within_limit bytes) result) }
-    ensures bounded { TakesAtMost (MAX_FILE_BYTES + 1) (R.remaining reader.old) (R.remaining reader.new) }
-    ensures cause { IsErrOf result CsvFault.ReadFailed → Rose (R.failure_count reader.old) (R.failure_count reader.new) }
-    ensures others { result ≢ Err CsvFault.ReadFailed → R.failure_count reader.new ≡ R.failure_count reader.old }
+    ensures bytes { IfSome (R.remaining reader.old) (λ bytes.
+        GivesUnlessFailed (λ v. v.items) (within_limit bytes) result) }
+    ensures bounded { TakesAtMost 4194305 (R.remaining reader.old) (R.remaining reader.new) }
+    ensures cause { IsErrOf result CsvFault.ReadFailed
+        → Rose (R.failure_count reader.old) (R.failure_count reader.new) }
+    ensures others { result ≢ Err CsvFault.ReadFailed
+        → R.failure_count reader.new ≡ R.failure_count reader.old }
 {
     let mut bytes = Vec::new(alloc);
     let mut piece = [0; PIECE];

@@ -1,7 +1,5 @@
 //! The three files, read: the worked network's files, each fault of a reader, and readers that fail.
-use clr_csv::{
-    Counted, CountedRead, CsvFault, MAX_FILE_BYTES, Role, read_points, read_sections, read_staff,
-};
+use clr_csv::{Counted, CountedRead, CsvFault, Role, read_points, read_sections, read_staff};
 use clr_net::{Name, PointRow, Position, SectionRow};
 use std::alloc::Global;
 use std::io;
@@ -164,7 +162,7 @@ S3,L2,L3,yes,no,closed\nS4,L3,H,yes,yes,closed\nT1,L1,L3,no,no,shut\n",
 
 #[test]
 fn longest_file_reads(rt: HostRuntime) -> Result<(), Fail> {
-    let mut file = vec![in rt.alloc(); b'\n'; MAX_FILE_BYTES]?;
+    let mut file = vec![in rt.alloc(); b'\n'; 4_194_304]?;
     for (place, byte) in SECTIONS.iter().enumerate() {
         if place < file.len() {
             file[place] = *byte;

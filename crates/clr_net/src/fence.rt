@@ -1,3 +1,4 @@
+//! The fence of a section, and what touches it.
 ghost use Rattle.std.specs.Prelude.{◌≡◌, ℕ, length, map, IfOk};
 ghost use Rattle.std.specs.List.Sorted.{IsStrictlySortedBy};
 ghost use Rattle.clr_net.specs.Name.{name_cmp};
@@ -32,9 +33,14 @@ impl<'a> Model for Fence<'a> {
 
     ghost Value = { FenceRows };
 
-    ghost view = { λ f. record { sections = map (λ row. row.now) f.sections.items; touching = map (λ row. row.now) f.touching.items } };
+    ghost view = { λ f. record {
+      sections = map (λ row. row.now) f.sections.items;
+      touching = map (λ row. row.now) f.touching.items;
+    } };
 
-    ghost invariant = { λ f. IsStrictlySortedBy name_cmp (section_names (map (λ row. row.now) f.sections.items)) × IsStrictlySortedBy name_cmp (point_names (map (λ row. row.now) f.touching.items)) };
+    ghost invariant = { λ f.
+        IsStrictlySortedBy name_cmp (section_names (map (λ row. row.now) f.sections.items))
+        × IsStrictlySortedBy name_cmp (point_names (map (λ row. row.now) f.touching.items)) };
 }
 
 impl<'a> Fence<'a> {
@@ -50,7 +56,10 @@ impl<'a> Fence<'a> {
         requires points_rise { IsStrictlySortedBy name_cmp (point_names points.now) }
         requires sections_marked { length inside.now ≡ length sections.now }
         requires points_marked { length touching.now ≡ length points.now }
-        ensures { IfOk result (λ fence. fence ≡ record { sections = kept inside.now sections.now; touching = kept touching.now points.now }) }
+        ensures { IfOk result (λ fence. fence ≡ record {
+          sections = kept inside.now sections.now;
+          touching = kept touching.now points.now;
+        }) }
     {
         let sections = kept_rows(alloc, sections, inside)?;
         let touching = kept_rows(alloc, points, touching)?;
@@ -59,9 +68,14 @@ impl<'a> Fence<'a> {
 
     /// The fence that has these rows, each list in the order of names: one whose rows were lent apart from their network.
     pub fn of_rows(sections: Vec<&'a SectionRow>, touching: Vec<&'a PointRow>) -> Self
-        requires sections_rise { IsStrictlySortedBy name_cmp (section_names (map (λ row. row.now) sections.items)) }
-        requires points_rise { IsStrictlySortedBy name_cmp (point_names (map (λ row. row.now) touching.items)) }
-        ensures { result ≡ record { sections = map (λ row. row.now) sections.entry.items; touching = map (λ row. row.now) touching.entry.items } }
+        requires sections_rise { IsStrictlySortedBy name_cmp
+            (section_names (map (λ row. row.now) sections.items)) }
+        requires points_rise { IsStrictlySortedBy name_cmp
+            (point_names (map (λ row. row.now) touching.items)) }
+        ensures { result ≡ record {
+          sections = map (λ row. row.now) sections.entry.items;
+          touching = map (λ row. row.now) touching.entry.items;
+        } }
     {
         Fence { sections, touching }
     }

@@ -13,7 +13,7 @@ mod section;
 mod ways;
 
 pub use fence::Fence;
-pub use name::{MAX_NAME_LEN, Name, NameFault};
+pub use name::{MAX_NAME_LEN, Name, NameFault, has_name};
 pub use named::{Named, place_of, repeat_place, row_of, sort_by_name};
 pub use net_fault::NetFault;
 pub use network::{MAX_POINTS, MAX_SECTIONS, Network};

@@ -1,9 +1,12 @@
+//! The name of a section, a switching point, an employee or a crew.
 ghost use Rattle.std.specs.Prelude.{◌≡◌, ◌↔◌, ◌==◌, IsOk, ℕ, List, IsTrue, length, Some, take, drop, refl};
 ghost use Rattle.std.specs.Cmp.{partial_equiv_from_equiv};
 ghost use Rattle.std.proofs.lemmas.Cmp.{nat_list_eq_equiv, nat_list_cmp_total};
 ghost use Rattle.std.specs.Cmp.Lexicographic.{texts_po, texts_ties};
+ghost use Rattle.std.specs.Fmt.{padded as laid_out};
 ghost use Rattle.std.specs.Ordering.{as_partial_cmp};
 ghost use Rattle.clr_net.specs.Name.{is_name, is_name_byte, same_name, name_cmp};
+ghost use Rattle.clr_net.specs.Names.{has_name};
 ghost use Rattle.clr_net.specs.NameText.{bad_byte, read_name};
 
 use std::cmp::Ordering;
@@ -50,7 +53,8 @@ impl Model for Name {
 
     ghost view = { λ n. take n.len n.bytes };
 
-    ghost invariant = { λ n. (n.bytes ≡ padded (take n.len n.bytes)) × IsTrue (is_name (take n.len n.bytes)) × (n.len ≡ length (take n.len n.bytes)) };
+    ghost invariant = { λ n. (n.bytes ≡ padded (take n.len n.bytes))
+        × IsTrue (is_name (take n.len n.bytes)) × (n.len ≡ length (take n.len n.bytes)) };
 
     ghost inverse = { λ text. record { bytes = padded text; len = length text } };
 
@@ -121,6 +125,13 @@ impl Name {
     }
 }
 
+/// Whether a name is among these, which may stand in any order.
+pub fn has_name(names: &[Name], name: Name) -> bool
+    ensures { result ≡ has_name names.now name }
+{
+    names.iter().any(|other| name == *other)
+}
+
 impl PartialEq for Name {
     ghost eq = { same_name };
 
@@ -161,6 +172,8 @@ impl Ord for Name {
 
 impl fmt::Display for Name {
     ghost output = { λ n. Some n };
+
+    ghost styled_output = { λ n spec. Some (laid_out spec n) };
 
     fn fmt<W: fmt::Write>(&self, f: &mut fmt::Formatter<W>) -> fmt::Result {
         f.pad(self.as_str())

@@ -22,7 +22,8 @@ pub trait Named {
 pub fn sort_by_name<R: Named>(rows: &mut Vec<R>)
     ensures permutation { IsPermutation rows.old.items rows.new.items }
     ensures sorted { IsSortedByKey R.name_of name_cmp rows.new.items }
-    ensures rising { IsDistinct same_name (map R.name_of rows.old.items) → IsStrictlySortedBy name_cmp (map R.name_of rows.new.items) }
+    ensures rising { IsDistinct same_name (map R.name_of rows.old.items)
+        → IsStrictlySortedBy name_cmp (map R.name_of rows.new.items) }
 {
     rows.sort_unstable_by_key(|row| row.name());
 }
@@ -50,7 +51,8 @@ pub fn row_of<R: Named>(rows: &[R], name: Name) -> Option<&R>
 pub fn repeat_place<R: Named>(alloc: Global, rows: &[R]) -> Result<Option<usize>, AllocError>
     ensures place { IfOk result (λ place. place ≡ repeat_place (map R.name_of rows.now)) }
     ensures inside { IfOk result (λ place. IfSome place (λ i. i < length rows.now)) }
-    ensures once { IfOk result (λ place. IfNone place (IsDistinct same_name (map R.name_of rows.now))) }
+    ensures once { IfOk result (λ place.
+        IfNone place (IsDistinct same_name (map R.name_of rows.now))) }
 {
     let mut seen = BTreeSet::new(alloc);
     for (place, row) in rows.iter().enumerate() {

@@ -1,3 +1,4 @@
+//! Why rows are no network.
 ghost use Rattle.std.specs.Prelude.{◌≡◌};
 ghost use Rattle.clr_net.specs.declared.net_fault.NetFault.TheVariants.{NoMemory};
 

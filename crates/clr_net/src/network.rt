@@ -1,3 +1,4 @@
+//! The network: its sections and switching points, checked and in the order of their names.
 ghost use Rattle.std.specs.Prelude.{◌≡◌, ◌<◌, ◌≤◌, ℕ, List, false, find, length, not, position, IfOk, OnOk, IsTrue, All};
 ghost use Rattle.std.specs.Option.{option_copied};
 ghost use Rattle.std.specs.List.{IsDistinct};
@@ -41,7 +42,9 @@ impl Model for Network {
 
     ghost view = { λ n. record { sections = n.sections.items; points = n.points.items } };
 
-    ghost invariant = { λ n. IsNetwork (record { sections = n.sections.items; points = n.points.items }) × IsIndexOf (record { sections = n.sections.items; points = n.points.items }) n.ways };
+    ghost invariant = { λ n.
+        IsNetwork (record { sections = n.sections.items; points = n.points.items })
+        × IsIndexOf (record { sections = n.sections.items; points = n.points.items }) n.ways };
 }
 
 impl Network {
@@ -68,7 +71,8 @@ impl Network {
 
     /// The section of this name.
     pub fn section(&self, name: &Name) -> Option<&SectionRow>
-        ensures { option_copied result ≡ find (λ row. same_name name.now row.name) self.now.sections }
+        ensures { option_copied result
+            ≡ find (λ row. same_name name.now row.name) self.now.sections }
     {
         row_of(&self.sections, *name)
     }
@@ -144,7 +148,8 @@ fn check_names(alloc: Global, sections: &[SectionRow], points: &[PointRow]) -> R
 fn check_ends(sections: &[SectionRow], points: &[PointRow]) -> Result<(), NetFault>
     requires { IsStrictlySortedBy name_cmp (section_names sections.now) }
     ensures passes { Passes (end_fault (section_names sections.now) points.now) result }
-    ensures known { OnOk result (All (λ p. IsTrue (has_ends (section_names sections.now) p)) points.now) }
+    ensures known { OnOk result
+        (All (λ p. IsTrue (has_ends (section_names sections.now) p)) points.now) }
     ensures differ { OnOk result (All (λ p. has_one_section p ≡ false) points.now) }
 {
     if let Some(place) = unknown_end(sections, points) {

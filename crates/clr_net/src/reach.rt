@@ -26,7 +26,8 @@ pub(crate) fn mark_fence(
     requires network { IsNetwork (record { sections = sections.now; points = points.now }) }
     requires index { IsIndexOf (record { sections = sections.now; points = points.now }) ways.now }
     ensures len { IfOk result (λ marked. length marked.items ≡ length sections.now) }
-    ensures marks { IfOk result (λ marked. MarksFence (record { sections = sections.now; points = points.now }) work cut.now marked.items) }
+    ensures marks { IfOk result (λ marked. MarksFence
+        (record { sections = sections.now; points = points.now }) work cut.now marked.items) }
 {
     match place_of(sections, work) {
         Some(start) => {
@@ -77,7 +78,8 @@ fn reach(alloc: Global, ways: &Ways, uncut: &[bool], start: usize) -> Result<Vec
     requires start { start < vec_len ways.now.around }
     requires fit { WaysFit (around_of ways.now) (vec_len ways.now.around) (length uncut.now) }
     ensures len { IfOk result (λ marked. vec_len marked ≡ vec_len ways.now.around) }
-    ensures marks { IfOk result (λ marked. Marks (around_of ways.now) uncut.now start marked.items) }
+    ensures marks { IfOk result (λ marked.
+        Marks (around_of ways.now) uncut.now start marked.items) }
 {
     let mut marked = vec![in alloc; false; ways.around.len()]?;
     let mut waiting = Vec::new(alloc);
@@ -97,7 +99,8 @@ fn follow(
     waiting: &mut Vec<usize>,
 ) -> Result<(), AllocError>
     requires { All (λ w. (w.point < length uncut.now) × (w.to < length marked.old)) ways.now }
-    ensures { OnOk result (Follows ways.now uncut.now marked.old waiting.old.items marked.new waiting.new.items) }
+    ensures { OnOk result
+        (Follows ways.now uncut.now marked.old waiting.old.items marked.new waiting.new.items) }
 {
     for way in ways {
         if uncut[way.point] && !marked[way.to] {

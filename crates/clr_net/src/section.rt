@@ -1,3 +1,4 @@
+//! A section as a row of the network.
 use crate::name::Name;
 use crate::named::Named;
 

@@ -33,7 +33,8 @@ fn ends_of(
 ) -> Result<Vec<Ends>, AllocError>
     requires sorted { IsStrictlySortedBy name_cmp (section_names sections.now) }
     requires known { All (λ p. IsTrue (has_ends (section_names sections.now) p)) points.now }
-    ensures { IfOk result (λ ends. ends.items ≡ map (ends_in (section_names sections.now)) points.now) }
+    ensures { IfOk result (λ ends.
+        ends.items ≡ map (ends_in (section_names sections.now)) points.now) }
 {
     let mut ends = Vec::with_capacity(alloc, points.len())?;
     for point in points {
@@ -48,7 +49,8 @@ fn ends_of(
 fn ways_around(alloc: Global, count: usize, ends: &[Ends]) -> Result<Vec<Vec<Way>>, AllocError>
     requires { All (AreBelow count) ends.now }
     ensures len { IfOk result (λ around. vec_len around ≡ count) }
-    ensures index { IfOk result (λ around. IsAround ends.now (length ends.now) (map (λ ways. ways.items) around.items)) }
+    ensures index { IfOk result (λ around.
+        IsAround ends.now (length ends.now) (map (λ ways. ways.items) around.items)) }
 {
     let mut around = no_ways(alloc, count)?;
     for (point, end) in ends.iter().enumerate() {
@@ -66,7 +68,8 @@ fn ways_around(alloc: Global, count: usize, ends: &[Ends]) -> Result<Vec<Vec<Way
 /// No way out of any of `count` sections.
 fn no_ways(alloc: Global, count: usize) -> Result<Vec<Vec<Way>>, AllocError>
     ensures len { IfOk result (λ around. vec_len around ≡ count) }
-    ensures none { IfOk result (λ around. map (λ ways. ways.items) around.items ≡ replicate count []) }
+    ensures none { IfOk result (λ around.
+        map (λ ways. ways.items) around.items ≡ replicate count []) }
 {
     let mut around = Vec::with_capacity(alloc, count)?;
     for _ in 0..count {
@@ -79,7 +82,8 @@ fn no_ways(alloc: Global, count: usize) -> Result<Vec<Vec<Way>>, AllocError>
 fn add_way(around: &mut Vec<Vec<Way>>, place: usize, way: Way) -> Result<(), AllocError>
     requires { place < vec_len around.old }
     ensures len { vec_len around.new ≡ vec_len around.old }
-    ensures adds { OnOk result (AddsWay (map (λ ways. ways.items) around.old.items) (map (λ ways. ways.items) around.new.items) place way) }
+    ensures adds { OnOk result (AddsWay (map (λ ways. ways.items) around.old.items)
+        (map (λ ways. ways.items) around.new.items) place way) }
 {
     let ways = &mut around[place];
     ways.push(way)?;

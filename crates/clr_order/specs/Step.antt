@@ -1,11 +1,28 @@
 -- Steps as the rules see them: an action at a point, whatever the step's state.
-use Rattle.std.specs.Prelude.{ℕ, Bool, not, List, map, filter, find, Option}
+use Rattle.std.specs.Prelude.{ℕ, Bool, not, List, [], ◌∷◌, codes, map, filter, find, Option}
+use Rattle.std.specs.Str.{bytes_eq}
 use Rattle.std.specs.Cmp.Lexicographic.{pointwise}
 use Rattle.clr_net.specs.Name.{same_name}
 use Rattle.clr_net.specs.Names.{has_name}
 use Rattle.clr_order.specs.Action.{same_action}
 use Rattle.clr_order.specs.declared.action.Action.{Action}
 use Rattle.clr_order.specs.declared.step.Step.{Step}
+use Rattle.clr_order.specs.declared.step.StepState.{StepState}
+use Rattle.clr_order.specs.declared.step.StepState.TheVariants.{Waiting, Instructed, Repeated, Done}
+
+-- a state as a text
+abbrev pub state_text : StepState → List ℕ
+state_text Waiting = codes "Waiting"
+state_text Instructed = codes "Instructed"
+state_text Repeated = codes "Repeated"
+state_text Done = codes "Done"
+
+abbrev pub all_states : List StepState
+all_states = Waiting ∷ Instructed ∷ Repeated ∷ Done ∷ []
+
+-- the state that a text names
+abbrev pub state_named : List ℕ → Option StepState
+state_named text = find (λ state. bytes_eq (state_text state) text) all_states
 
 -- what a step does, and where
 pub record Task : Type 0 where

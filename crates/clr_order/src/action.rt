@@ -1,4 +1,6 @@
+//! The actions of a step, and their words.
 ghost use Rattle.std.specs.Prelude.{◌≡◌, Some};
+ghost use Rattle.std.specs.Fmt.{padded};
 ghost use Rattle.clr_order.specs.Action.{action_named, action_word};
 
 use std::fmt;
@@ -31,6 +33,8 @@ pub enum Action {
 
 impl fmt::Display for Action {
     ghost output = { λ a. Some (action_word a) };
+
+    ghost styled_output = { λ a spec. Some (padded spec (action_word a)) };
 
     fn fmt<W: fmt::Write>(&self, f: &mut fmt::Formatter<W>) -> fmt::Result {
         f.pad(self.word())

@@ -1,3 +1,4 @@
+//! A point that a clearance holds, and what it holds there.
 use clr_net::Name;
 
 /// One point that a clearance holds open, and which other holds it has there.

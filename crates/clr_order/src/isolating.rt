@@ -1,6 +1,5 @@
 //! The check of an isolating order.
 ghost use Rattle.std.specs.Prelude.{◌≡◌, ◌↔◌, IsOk, map};
-ghost use Rattle.clr_net.specs.Names.{has_name};
 ghost use Rattle.clr_order.specs.Isolating.{IsSoundWithin, has_repeat, isolating_fault, is_border_point, needed_at, off_border, source_inside, touching_row, wrong_point};
 ghost use Rattle.clr_order.specs.OrderFault.{answer_of};
 ghost use Rattle.clr_order.specs.Step.{actions_at, same_actions, stray_point, task};
@@ -10,7 +9,7 @@ use crate::needed::needed;
 use crate::order_fault::OrderFault;
 use crate::places;
 use crate::step::{MAX_STEPS, Step, does_at};
-use clr_net::{Fence, Name, PointRow, row_of};
+use clr_net::{Fence, Name, PointRow, has_name, row_of};
 
 /// The most points of an isolating order.
 pub const MAX_ORDER_POINTS: usize = 64;
@@ -110,7 +109,8 @@ fn off_border(fence: &Fence, points: &[Name]) -> Option<Name>
 
 /// Whether the steps at a point are those that it needs.
 fn is_isolated(fence: &Fence, point: Name, steps: &[Step]) -> bool
-    ensures { result ≡ same_actions (actions_at (map task steps.now) point) (needed_at fence.now point) }
+    ensures { result ≡ same_actions (actions_at (map task steps.now) point)
+        (needed_at fence.now point) }
 {
     match touching_row(fence, point) {
         Some(row) => does_at(steps, point, needed(row)),
@@ -126,13 +126,6 @@ fn wrong_point(fence: &Fence, points: &[Name], steps: &[Step]) -> Option<Name>
         .iter()
         .copied()
         .find(|point| !is_isolated(fence, *point, steps))
-}
-
-/// Whether a point is among these.
-fn has_name(points: &[Name], point: Name) -> bool
-    ensures { result ≡ has_name points.now point }
-{
-    places::has_point(points, point)
 }
 
 /// The point of the first step that stands at none of the points.

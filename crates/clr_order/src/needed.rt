@@ -1,3 +1,4 @@
+//! The steps that a point needs before it isolates.
 ghost use Rattle.std.specs.Prelude.{◌≡◌};
 ghost use Rattle.clr_order.specs.Needed.{needed};
 

@@ -1,3 +1,4 @@
+//! Why an order is refused.
 use clr_net::Name;
 use thiserror::Error;
 

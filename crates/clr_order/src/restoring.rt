@@ -95,7 +95,8 @@ impl HoldsLeft {
 
     /// Does one action, where it is the turn of the hold that it takes off.
     fn take(&mut self, action: Action) -> bool
-        ensures { (others : List Action) → are_undone self.old (action ∷ others) ≡ (result && are_undone self.new others) }
+        ensures { (others : List Action)
+            → are_undone self.old (action ∷ others) ≡ (result && are_undone self.new others) }
     {
         match action {
             Action::Untag => mem::replace(&mut self.tag, false),

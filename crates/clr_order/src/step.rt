@@ -1,8 +1,11 @@
-ghost use Rattle.std.specs.Prelude.{◌≡◌, map};
-ghost use Rattle.clr_order.specs.Step.{actions_at, same_actions, task};
+//! A step of an order, and how far it has come.
+ghost use Rattle.std.specs.Prelude.{◌≡◌, Some, map};
+ghost use Rattle.std.specs.Fmt.{padded};
+ghost use Rattle.clr_order.specs.Step.{actions_at, same_actions, state_named, state_text, task};
 
 use crate::action::Action;
 use clr_net::Name;
+use std::fmt;
 
 /// The most steps of an order.
 pub const MAX_STEPS: usize = 256;
@@ -18,6 +21,48 @@ pub enum StepState {
     Repeated,
     /// It was reported as done.
     Done,
+}
+
+impl StepState {
+    /// All states, in the order in which a step comes to them.
+    const ALL: [StepState; 4] = [
+        StepState::Waiting,
+        StepState::Instructed,
+        StepState::Repeated,
+        StepState::Done,
+    ];
+
+    /// The state as a text.
+    pub fn text(self) -> &'static str
+        ensures { result.now ≡ state_text self }
+    {
+        match self {
+            StepState::Waiting => "Waiting",
+            StepState::Instructed => "Instructed",
+            StepState::Repeated => "Repeated",
+            StepState::Done => "Done",
+        }
+    }
+
+    /// The state that a text names.
+    pub fn named(text: &str) -> Option<StepState>
+        ensures { result ≡ state_named text.now }
+    {
+        StepState::ALL
+            .iter()
+            .copied()
+            .find(|state| state.text() == text)
+    }
+}
+
+impl fmt::Display for StepState {
+    ghost output = { λ state. Some (state_text state) };
+
+    ghost styled_output = { λ state spec. Some (padded spec (state_text state)) };
+
+    fn fmt<W: fmt::Write>(&self, f: &mut fmt::Formatter<W>) -> fmt::Result {
+        f.pad(self.text())
+    }
 }
 
 /// One step of an order: an action at a switching point.

@@ -15,8 +15,10 @@ use clr_net::{Name, PointRow};
 /// Checks an order that opens and closes points without holding them. `found` are the points of its steps that the network
 /// has, in any order.
 pub fn check_switching(found: &[&PointRow], steps: &[Step]) -> Result<(), OrderFault>
-    ensures switching { IsOk result ↔ IsSwitching (point_names (map (λ row. row.now) found.now)) (map task steps.now) }
-    ensures first { result ≡ answer_of (switching_fault (point_names (map (λ row. row.now) found.now)) (map task steps.now)) }
+    ensures switching { IsOk result
+        ↔ IsSwitching (point_names (map (λ row. row.now) found.now)) (map task steps.now) }
+    ensures first { result ≡ answer_of
+        (switching_fault (point_names (map (λ row. row.now) found.now)) (map task steps.now)) }
 {
     match switching_fault(found, steps) {
         Some(fault) => Err(fault),
@@ -26,7 +28,8 @@ pub fn check_switching(found: &[&PointRow], steps: &[Step]) -> Result<(), OrderF
 
 /// The first refusal of the order.
 fn switching_fault(found: &[&PointRow], steps: &[Step]) -> Option<OrderFault>
-    ensures { result ≡ switching_fault (point_names (map (λ row. row.now) found.now)) (map task steps.now) }
+    ensures { result
+        ≡ switching_fault (point_names (map (λ row. row.now) found.now)) (map task steps.now) }
 {
     if steps.is_empty() {
         return Some(OrderFault::EmptyOrder);
@@ -45,7 +48,8 @@ fn switching_fault(found: &[&PointRow], steps: &[Step]) -> Option<OrderFault>
 
 /// The point of the first step whose point was not found.
 fn unknown_point(found: &[&PointRow], steps: &[Step]) -> Option<Name>
-    ensures { result ≡ stray_point (point_names (map (λ row. row.now) found.now)) (map task steps.now) }
+    ensures { result
+        ≡ stray_point (point_names (map (λ row. row.now) found.now)) (map task steps.now) }
 {
     places::stray_point(found, steps)
 }
