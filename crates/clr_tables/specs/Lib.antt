@@ -1,0 +1,5 @@
+pub mod TableText
+pub mod Words
+pub mod Tables
+pub mod TableEdits
+pub mod RowsRead

@@ -1,0 +1,45 @@
+//! The tables of the register.
+ghost use Rattle.std.specs.Prelude.{◌≡◌, Some};
+ghost use Rattle.clr_tables.specs.TableText.{table_text};
+
+use std::fmt;
+
+/// A table of the register in a database.
+#[derive(Clone, Copy, Debug, PartialEq, Eq)]
+pub enum TableName {
+    /// What the tables say of themselves: their version.
+    Meta,
+    Section,
+    /// The switching points, with their present positions and hands.
+    Point,
+    Staff,
+    /// The records of clearances and switch orders.
+    Clearance,
+    Step,
+    Hold,
+}
+
+impl TableName {
+    /// The name that the table has in the database.
+    pub fn text(self) -> &'static str
+        ensures { result.now ≡ table_text self }
+    {
+        match self {
+            TableName::Meta => "meta",
+            TableName::Section => "section",
+            TableName::Point => "point",
+            TableName::Staff => "staff",
+            TableName::Clearance => "clearance",
+            TableName::Step => "step",
+            TableName::Hold => "hold",
+        }
+    }
+}
+
+impl fmt::Display for TableName {
+    ghost output = { λ table. Some (table_text table) };
+
+    fn fmt<W: fmt::Write>(&self, f: &mut fmt::Formatter<W>) -> fmt::Result {
+        f.pad(self.text())
+    }
+}
