@@ -1,4 +1,5 @@
 pub mod Taken
+pub mod Writing
 pub mod Records
 pub mod Readers
 pub mod RowLemmas

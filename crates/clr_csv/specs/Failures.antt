@@ -1,5 +1,5 @@
 -- How a count of failures goes, of a reader or of a writer.
-use Rattle.std.specs.Prelude.{ℕ, ◌+◌, ◌-◌, ◌^◌, ◌<◌, ◌≤◌, ◌⊎◌, min, Result, Ok, Err}
+use Rattle.std.specs.Prelude.{ℕ, ◌+◌, ◌-◌, ◌^◌, ◌<◌, ◌≤◌, ◌⊎◌, ◌==◌, ◌&&◌, Bool, false, not, min, List, length, Result, Ok, Err}
 
 -- the count after a call: a failure adds one, up to the greatest number that the count holds
 abbrev pub count_after : {T E : Type 0} → Result T E → ℕ → ℕ
@@ -9,3 +9,8 @@ count_after (Err failure) count = min (count + 1) (2 ^ 64 - 1)
 -- the count has risen; one that stands at its greatest number is taken as risen
 abbrev pub Rose : ℕ → ℕ → Type 0
 Rose old new = (old < new) ⊎ (2 ^ 64 - 1 ≤ old)
+
+-- a write was given bytes, and took none of them
+abbrev pub took_none : {E : Type 0} → Result ℕ E → List ℕ → Bool
+took_none (Ok count) bytes = not (length bytes == 0) && (count == 0)
+took_none (Err failure) bytes = false

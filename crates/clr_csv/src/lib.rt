@@ -15,7 +15,7 @@ mod staff_rows;
 mod table;
 mod whole;
 
-pub use counted::{Counted, CountedRead};
+pub use counted::{Counted, CountedRead, CountedWrite};
 pub use employee::{Role, StaffRow};
 pub use fault::CsvFault;
 pub use points::read_points;
@@ -23,4 +23,4 @@ pub use sections::read_sections;
 pub use staff::{MAX_STAFF, Staff};
 pub use staff_fault::StaffFault;
 pub use staff_rows::read_staff;
-pub use whole::MAX_FILE_BYTES;
+pub use whole::{MAX_FILE_BYTES, read_whole, write_whole};

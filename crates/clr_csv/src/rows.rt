@@ -11,7 +11,7 @@ use crate::columns::ColumnFault;
 use crate::counted::CountedRead;
 use crate::fault::CsvFault;
 use crate::table::Table;
-use crate::whole::read_whole;
+use crate::whole::{MAX_FILE_BYTES, read_whole};
 use csv::StringRecord;
 use std::alloc::Global;
 
@@ -119,7 +119,7 @@ pub(crate) fn read_rows<T: FileRow, R: CountedRead>(
     ensures others { result ≢ Err CsvFault.ReadFailed
         → R.failure_count reader.new ≡ R.failure_count reader.old }
 {
-    let bytes = read_whole(alloc, reader)?;
+    let bytes = read_whole(alloc, reader, MAX_FILE_BYTES)?;
     let rows = rows_in(alloc, bytes.as_slice())?;
     Ok(rows)
 }

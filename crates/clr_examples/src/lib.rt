@@ -21,3 +21,5 @@ mod register;
 mod staff;
 #[cfg(test)]
 mod worked;
+#[cfg(test)]
+mod writers;
