@@ -73,3 +73,5 @@ pub mod OrderAnswers
 pub mod NewAnswers
 pub mod KeptRestores
 pub mod RunReplies
+pub mod PutRows
+pub mod Tags

@@ -49,6 +49,7 @@ pub mod GoodLaws
 pub mod KeepLaws
 pub mod OpeningLaws
 pub mod WorkLaws
+pub mod TagLaws
 pub mod AgreementLaws
 pub mod MarkLaws
 pub mod RunLaws

@@ -14,4 +14,5 @@ pub mod own;
 pub mod run_headline;
 pub mod runs;
 pub mod steps;
+pub mod tags;
 pub mod work;
