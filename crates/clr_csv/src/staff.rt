@@ -45,6 +45,13 @@ impl Staff {
         Ok(Staff { rows: by_name })
     }
 
+    /// A staff is one within the limits: a law, with nothing to do.
+    pub fn is_staff(&self)
+        ensures { IsStaff self.now }
+    {
+        let _rows = &self.rows;
+    }
+
     /// The employee of this name.
     pub fn find(&self, name: &Name) -> Option<&StaffRow>
         ensures { option_copied result ≡ find (λ row. same_name name.now row.name) self.now }

@@ -69,6 +69,13 @@ impl Network {
         })
     }
 
+    /// A network is one within the limits: a law, with nothing to do.
+    pub fn is_network(&self)
+        ensures { IsNetwork self.now }
+    {
+        let _rows = &self.sections;
+    }
+
     /// The section of this name.
     pub fn section(&self, name: &Name) -> Option<&SectionRow>
         ensures { option_copied result

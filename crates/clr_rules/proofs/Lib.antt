@@ -75,3 +75,5 @@ pub mod KeptRestores
 pub mod RunReplies
 pub mod PutRows
 pub mod Tags
+pub mod Bounds
+pub mod ReachedExamples

@@ -1,13 +1,14 @@
 -- What is read after edits was read before them, or is one of the rows that they put; and what no edit takes stays.
-use Rattle.std.proofs.Common.{◌≡◌, ℕ, Bool, true, false, cond, not, ◌&&◌, ◌||◌, List, [], ◌∷◌, ◌++◌, map, Option, Some, None, is_some, refl, sym, ◌∙◌, ap, subst, ◌⊎◌, inl, inr, ⊎_elim}
+use Rattle.std.proofs.Common.{◌≡◌, ℕ, Bool, true, false, cond, ◌||◌, List, [], ◌∷◌, ◌++◌, map, Option, Some, None, refl, sym, ◌∙◌, ap, subst, ◌⊎◌, inl, inr, ⊎_elim}
 use Rattle.std.specs.List.{AllByRecursion}
 use Rattle.std.proofs.Math.Bool.{or-true}
 use Rattle.std.proofs.lemmas.Option.{same_Some}
-use Rattle.clr_order.specs.Step.{Task}
-use Rattle.clr_rules.specs.Changes.{edits_by, new_steps, put_steps, with_record, with_step}
+use Rattle.clr_order.specs.declared.action.Action.{Action}
+use Rattle.clr_order.specs.declared.action.Action.TheVariants as actions
+use Rattle.clr_rules.specs.Changes.{edits_by, hold_edits, position_edits, put_steps, with_record, with_step}
 use Rattle.clr_rules.specs.EditLaws.{is_hold}
 use Rattle.clr_rules.specs.Edits.{edited, edited_all}
-use Rattle.clr_rules.specs.Holds.{has_hold}
+use Rattle.clr_rules.specs.Holds.{has_hold, hold_of}
 use Rattle.clr_rules.specs.Id.{Id, same_id}
 use Rattle.clr_rules.specs.Records.{record_of}
 use Rattle.clr_rules.specs.Register.{Register}
@@ -15,6 +16,7 @@ use Rattle.clr_rules.specs.Steps.{present, step_at}
 use Rattle.clr_rules.specs.declared.change.Edit.{Edit}
 use Rattle.clr_rules.specs.declared.change.Edit.TheVariants.{SetPosition, SetHand, PutHold, TakeHold, PutRecord, PutStep}
 use Rattle.clr_rules.specs.declared.hold_kind.HoldKind.{HoldKind}
+use Rattle.clr_rules.specs.declared.hold_kind.HoldKind.TheVariants.{Tested}
 use Rattle.clr_rules.specs.declared.record.Record.{Record}
 use Rattle.clr_rules.specs.declared.step_row.StepRow.{StepRow}
 use Rattle.clr_rules.proofs.EditReading.{has_hold-put, has_hold-taken, record_of-put}
@@ -62,6 +64,24 @@ module _ (P : Record → Type 0) (Q : StepRow → Type 0) where
   pub steps_put : (rows : List StepRow) → AllByRecursion Q rows → AllPutSuch P Q (put_steps rows)
   steps_put [] h = tt
   steps_put (row ∷ rows) h = (h.0, steps_put rows h.1)
+
+  pub takes_put : (d : Id) (places : List (List ℕ)) → AllPutSuch P Q (map (λ place. TakeHold (hold_of d Tested place)) places)
+  takes_put d [] = tt
+  takes_put d (place ∷ places) = (tt, takes_put d places)
+
+  -- the edits of a step that is reported done put one record and one step
+  pub done_put : (switching : Bool) (d : Id) (a : Action) (p : List ℕ) (s : Record) (row : StepRow) → P s → Q row
+      → AllPutSuch P Q (position_edits a p ++ SetHand p None ∷ hold_edits switching d a p ++ PutRecord s ∷ PutStep row ∷ [])
+  done_put true d actions.Open p s row h k = (tt, (tt, (h, (k, tt))))
+  done_put false d actions.Open p s row h k = (tt, (tt, (tt, (h, (k, tt)))))
+  done_put switching d actions.Close p s row h k = (tt, (tt, (tt, (h, (k, tt)))))
+  done_put switching d actions.Block p s row h k = (tt, (tt, (h, (k, tt))))
+  done_put switching d actions.Control p s row h k = (tt, (tt, (h, (k, tt))))
+  done_put switching d actions.Tag p s row h k = (tt, (tt, (h, (k, tt))))
+  done_put switching d actions.Untag p s row h k = (tt, (tt, (h, (k, tt))))
+  done_put switching d actions.Uncontrol p s row h k = (tt, (tt, (h, (k, tt))))
+  done_put switching d actions.Unblock p s row h k = (tt, (tt, (h, (k, tt))))
+  done_put switching d actions.Leave p s row h k = (tt, (tt, (h, (k, tt))))
 
   record_read : (edit : Edit) (R : Register) (c : Id) (s : Record) → PutsSuch P Q edit → record_of (Register.records (edited edit R)) c ≡ Some s
       → (record_of R.records c ≡ Some s) ⊎ P s

@@ -69,6 +69,10 @@ replies-append R (q ∷ earlier) later = ap (λ rest. Answer.reply (answer R q) 
 pub runs_go_on : (R : Register) (earlier later : List Command) → GoesOn R earlier later
 runs_go_on R earlier later = record { register = after_all-append R earlier later; replied = replies-append R earlier later }
 
+pub opening_is_reached : (g : Grid) (staff : List StaffRow) → IsNetwork g → IsStaff staff → IsReached (opening g staff)
+unfolding after_all
+opening_is_reached g staff net is_staff = record { net = g; staff = staff; commands = []; is_network = net; is_staff = is_staff; reached = refl }
+
 pub reached_go_on : (R : Register) → IsReached R → (commands : List Command) → IsReached (after_all R commands)
 reached_go_on R h commands = record {
   net = h.net;

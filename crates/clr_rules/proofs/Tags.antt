@@ -1,12 +1,9 @@
 -- Tags: which command takes one, and how a clearance comes to be Restoring or Released.
-use Rattle.std.proofs.Common.{◌≡◌, ℕ, Bool, true, false, cond, not, ◌&&◌, List, [], ◌∷◌, ◌++◌, map, Option, Some, None, Contains, refl, sym, ◌∙◌, ap, subst, ◌⊎◌, inl, inr, ⊎_elim}
+use Rattle.std.proofs.Common.{◌≡◌, ℕ, Bool, true, false, cond, ◌&&◌, List, [], ◌∷◌, ◌++◌, map, Option, Some, None, Contains, refl, sym, ◌∙◌, ap, subst, ◌⊎◌, inl, inr, ⊎_elim}
 use Rattle.std.specs.List.{AllByRecursion}
 use Rattle.std.proofs.lemmas.Bool.{and_parts, both_ways, false≢true}
 use Rattle.std.proofs.lemmas.List.Elements.{All-contains}
 use Rattle.std.proofs.lemmas.Option.{same_Some}
-use Rattle.clr_net.specs.Grid.{Grid}
-use Rattle.clr_net.specs.Name.{same_name}
-use Rattle.clr_net.proofs.Walks.{one_name}
 use Rattle.clr_order.specs.Action.{is_switching}
 use Rattle.clr_order.specs.Step.{Task}
 use Rattle.clr_order.specs.declared.action.Action.{Action}
@@ -14,31 +11,29 @@ use Rattle.clr_order.specs.declared.action.Action.TheVariants as actions
 use Rattle.clr_order.specs.declared.step.StepState.TheVariants.{Done}
 use Rattle.clr_shelf.specs.Keys.{equal}
 use Rattle.clr_shelf.specs.Rows.{with_row}
-use Rattle.clr_rules.specs.Answer.{Answer, Known, answer, checks, known_of, settled}
-use Rattle.clr_rules.specs.Changes.{cancelled_phase, done_edits, edits_of, hold_edits, moved, new_record, new_steps, phase_after, position_edits, put_steps, undone_edits}
+use Rattle.clr_rules.specs.Answer.{Answer, Known, checks, known_of, settled}
+use Rattle.clr_rules.specs.Changes.{done_edits, edits_of, hold_edits, moved, new_steps, phase_after, position_edits, put_steps, undone_edits}
 use Rattle.clr_rules.specs.Checks.{not_attested}
 use Rattle.clr_rules.specs.EditLaws.{is_hold, refusal_of}
 use Rattle.clr_rules.specs.Edits.{edited_all}
-use Rattle.clr_rules.specs.Good.{IsGood}
-use Rattle.clr_rules.specs.GoodByPhase.{InPhase, IsGoodByPhase, Outlook, of_round, outlook_of, present_of}
+use Rattle.clr_rules.specs.GoodByPhase.{InPhase, IsGoodByPhase, of_round, outlook_of}
 use Rattle.clr_rules.specs.Hold.{hold_cmp, same_hold}
-use Rattle.clr_rules.specs.Holds.{has_any_hold, has_hold, hold_of, places_of, same_kind}
-use Rattle.clr_rules.specs.Id.{Id, same_id}
+use Rattle.clr_rules.specs.Holds.{has_any_hold, has_hold, hold_of, places_of}
+use Rattle.clr_rules.specs.Id.{Id}
 use Rattle.clr_rules.specs.KeepLaws.{asked}
-use Rattle.clr_rules.specs.Records.{ends_with_steps, is_cancellable, is_granted, is_ordered, is_released, is_running, is_switch_order, record_of}
+use Rattle.clr_rules.specs.Records.{ends_with_steps, is_granted, is_ordered, is_released, is_running, is_switch_order, record_of}
 use Rattle.clr_rules.specs.Register.{Register}
 use Rattle.clr_rules.specs.Run.{after}
 use Rattle.clr_rules.specs.StepKey.{step_key, step_key_cmp}
 use Rattle.clr_rules.specs.Steps.{all_done, present, step_at, steps_of}
 use Rattle.clr_rules.specs.TagLaws.{IsUntag, OnlyReleasedAreRestored, ReleasedAreGivenBack, TagsAreUntagged}
 use Rattle.clr_rules.specs.declared.change.Edit.{Edit}
-use Rattle.clr_rules.specs.declared.change.Edit.TheVariants.{PutRecord, PutStep, SetHand, SetPosition, TakeHold, PutHold}
+use Rattle.clr_rules.specs.declared.change.Edit.TheVariants.{PutRecord, PutStep, SetHand, TakeHold, PutHold}
 use Rattle.clr_rules.specs.declared.command.Command.{Command}
 use Rattle.clr_rules.specs.declared.command.Kind.{Kind}
 use Rattle.clr_rules.specs.declared.command.Kind.TheVariants as kinds
 use Rattle.clr_rules.specs.declared.hold.Hold.{Hold}
-use Rattle.clr_rules.specs.declared.hold_kind.HoldKind.{HoldKind}
-use Rattle.clr_rules.specs.declared.hold_kind.HoldKind.TheVariants.{HeldOpen, Block, Control, Tag, Tested, Ground, Crew}
+use Rattle.clr_rules.specs.declared.hold_kind.HoldKind.TheVariants.{Tag, Tested}
 use Rattle.clr_rules.specs.declared.phase.Phase.{Phase}
 use Rattle.clr_rules.specs.declared.phase.Phase.TheVariants.{Requested, Ordered, Granted, Released, Restoring, Switching, Closed}
 use Rattle.clr_rules.specs.declared.record.Record.{Record}
@@ -51,10 +46,9 @@ use Rattle.clr_rules.proofs.KeptRecords.{in_phase_of}
 use Rattle.clr_rules.proofs.Passing.{Pass, all_pass, not_refused_true, phase_fits}
 use Rattle.clr_rules.proofs.PhaseFacts.{first_present}
 use Rattle.clr_rules.proofs.PlaceFacts.{in_round}
-use Rattle.clr_rules.proofs.PresentSteps.{FoundStep, IsPresent, step_there}
-use Rattle.clr_rules.proofs.PutHolds.{found_there}
-use Rattle.clr_rules.proofs.PutRows.{AllLeave, AllPutSuch, AnyStep, Leaves, PutsSuch, both_put, by_record, by_step, left_by_all, record_after, steps_leave, steps_put}
-use Rattle.clr_rules.proofs.RoundSteps.{among_own, one_id, record_id}
+use Rattle.clr_rules.proofs.PresentSteps.{IsPresent, step_there}
+use Rattle.clr_rules.proofs.PutRows.{AllLeave, AllPutSuch, AnyStep, both_put, by_record, by_step, done_put, left_by_all, record_after, steps_leave, steps_put, takes_put}
+use Rattle.clr_rules.proofs.RoundSteps.{among_own, record_id}
 
 -- ---- how a clearance comes into a phase
 
@@ -131,30 +125,12 @@ attested : (notified clear : Bool) → not_attested notified clear ≡ None → 
 attested notified clear passed = and_parts notified clear (not_refused_true (notified && clear) NotAttested passed)
 
 module _ (R : Register) (k : Known) (by : List ℕ) (at : ℕ) where
-  takes_only : (P : Record → Type 0) (d : Id) (places : List (List ℕ)) → AllPutSuch P AnyStep (map (λ place. TakeHold (hold_of d Tested place)) places)
-  takes_only P d [] = tt
-  takes_only P d (place ∷ places) = (tt, takes_only P d places)
-
   any_steps : (rows : List StepRow) → AllByRecursion AnyStep rows
   any_steps [] = tt
   any_steps (row ∷ rows) = (tt, any_steps rows)
 
   new_only : (P : Record → Type 0) (d : Id) (round n : ℕ) (tasks : List Task) → AllPutSuch P AnyStep (put_steps (new_steps d round n tasks))
   new_only P d round n tasks = steps_put P AnyStep (new_steps d round n tasks) (any_steps (new_steps d round n tasks))
-
-  -- the edits of a step that is reported done put one record
-  done_came : (P : Record → Type 0) (switching : Bool) (d : Id) (a : Action) (p : List ℕ) (s : Record) (row : StepRow) → P s
-      → AllPutSuch P AnyStep (position_edits a p ++ SetHand p None ∷ hold_edits switching d a p ++ PutRecord s ∷ PutStep row ∷ [])
-  done_came P true d actions.Open p s row h = (tt, (tt, (h, (tt, tt))))
-  done_came P false d actions.Open p s row h = (tt, (tt, (tt, (h, (tt, tt)))))
-  done_came P switching d actions.Close p s row h = (tt, (tt, (tt, (h, (tt, tt)))))
-  done_came P switching d actions.Block p s row h = (tt, (tt, (h, (tt, tt))))
-  done_came P switching d actions.Control p s row h = (tt, (tt, (h, (tt, tt))))
-  done_came P switching d actions.Tag p s row h = (tt, (tt, (h, (tt, tt))))
-  done_came P switching d actions.Untag p s row h = (tt, (tt, (h, (tt, tt))))
-  done_came P switching d actions.Uncontrol p s row h = (tt, (tt, (h, (tt, tt))))
-  done_came P switching d actions.Unblock p s row h = (tt, (tt, (h, (tt, tt))))
-  done_came P switching d actions.Leave p s row h = (tt, (tt, (h, (tt, tt))))
 
   -- WHERE NO CHECK APPLIES, each record that is put came so into its phase
   all_came : (kind : Kind) → Pass (checks k R by at kind) → AllPutSuch (CameSo R kind) AnyStep (edits_of k.greatest R by at kind)
@@ -171,9 +147,9 @@ module _ (R : Register) (k : Known) (by : List ℕ) (at : ℕ) where
           → AllPutSuch (CameSo R (kinds.Report c n done)) AnyStep (cond done (done_edits R at r row) (undone_edits at r row))
       by_done true r row found =
           let now = moved Done row.step.reader row in
-          done_came (CameSo R (kinds.Report c n true)) (is_switch_order r) r.id row.step.action row.step.point
+          done_put (CameSo R (kinds.Report c n true)) AnyStep (is_switch_order r) r.id row.step.action row.step.point
           (record r { phase = phase_after R.steps r now; last = at }) now
-          (ended R (kinds.Report c n true) r c found at (ends_with_steps r.phase && all_done (present (with_row step_key_cmp step_key now R.steps) r.id)))
+          (ended R (kinds.Report c n true) r c found at (ends_with_steps r.phase && all_done (present (with_row step_key_cmp step_key now R.steps) r.id))) tt
       by_done false r row found = (tt, (same_phase R (kinds.Report c n false) r c found r.holder at, (tt, tt)))
   all_came (kinds.Grant c) passed = by_record (AllPutSuch (CameSo R (kinds.Grant c)) AnyStep) tt R c _ (λ r found. (tt, tt))
   all_came (kinds.Test c section dead) passed = by_record (AllPutSuch (CameSo R (kinds.Test c section dead)) AnyStep) tt R c _ (λ r found. by_dead dead r found)
@@ -194,16 +170,22 @@ module _ (R : Register) (k : Known) (by : List ℕ) (at : ℕ) where
       (same_phase R (kinds.Transfer c to emergency) r c found to at, tt))
   all_came (kinds.Release c notified clear) passed = by_record (AllPutSuch (CameSo R (kinds.Release c notified clear)) AnyStep) tt R c _ (λ r found.
       both_put (CameSo R (kinds.Release c notified clear)) AnyStep (map (λ place. TakeHold (hold_of c Tested place)) (places_of R.holds c Tested)) _
-      (takes_only (CameSo R (kinds.Release c notified clear)) c (places_of R.holds c Tested))
-      (let said = attested notified clear passed.1.1.1.1.1.1.1.1.0 in
-      let own_id = record_id R.records c r found in
-      (r, ap (record_of R.records) own_id ∙ found, inr (inl
-      (granted_is r.phase (phase_fits R c r is_granted found passed.1.1.1.1.1.0), λ i. kinds.Release (sym own_id i) (said.0 i) (said.1 i)))), tt))
+      (takes_put (CameSo R (kinds.Release c notified clear)) AnyStep c (places_of R.holds c Tested)) (
+        let said = attested notified clear passed.1.1.1.1.1.1.1.1.0 in
+            let own_id = record_id R.records c r found in (
+              r,
+              ap (record_of R.records) own_id ∙ found,
+              inr (inl
+                  (granted_is r.phase (phase_fits R c r is_granted found passed.1.1.1.1.1.0), λ i. kinds.Release (sym own_id i) (said.0 i) (said.1 i))),
+            ),
+        tt,
+      ))
   all_came (kinds.Cancel c) passed = by_record (AllPutSuch (CameSo R (kinds.Cancel c)) AnyStep) tt R c _ (λ r found.
       (cancelled R (kinds.Cancel c) r c found at (is_ordered r.phase && has_any_hold R.holds r.id) refl refl, tt))
-  all_came (kinds.Restore c tasks) passed = by_record (AllPutSuch (CameSo R (kinds.Restore c tasks)) AnyStep) tt R c _ (λ r found.
-      ((r, here R (kinds.Restore c tasks) r c found, inr (released_is r.phase (phase_fits R c r is_released found passed.1.1.1.1.0))),
-      new_only (CameSo R (kinds.Restore c tasks)) c 2 1 tasks))
+  all_came (kinds.Restore c tasks) passed = by_record (AllPutSuch (CameSo R (kinds.Restore c tasks)) AnyStep) tt R c _ (λ r found. (
+    (r, here R (kinds.Restore c tasks) r c found, inr (released_is r.phase (phase_fits R c r is_released found passed.1.1.1.1.0))),
+    new_only (CameSo R (kinds.Restore c tasks)) c 2 1 tasks,
+  ))
   all_came (kinds.Amend c n) passed = by_step (AllPutSuch (CameSo R (kinds.Amend c n)) AnyStep) tt R c n _ (λ r row found step.
       (same_phase R (kinds.Amend c n) r c found r.holder at, (tt, tt)))
   all_came (kinds.Switch tasks) passed = (tt, new_only (CameSo R (kinds.Switch tasks)) _ 1 1 tasks)

@@ -1,23 +1,31 @@
 -- EXAMPLES OF ISOLATION: JONES/1 lives its whole life in two registers. One has the worked network, and OPS switches S4 there while JONES has
 -- the clearance; two has little more than L2, and nothing else is done there. The fence of JONES/1 is L2 in both.
-use Rattle.std.specs.Prelude.{◌≡◌, ℕ, Bool, true, false, List, [], ◌∷◌, ◌++◌, length, codes, Some, None}
+use Rattle.std.specs.Prelude.{◌≡◌, ℕ, Bool, true, false, List, [], ◌∷◌, ◌++◌, length, map, filter, codes, Some, None}
 use Rattle.clr_csv.specs.declared.employee.Role.TheVariants.{Operator, Charge, Field}
 use Rattle.clr_csv.specs.declared.employee.StaffRow.{StaffRow}
 use Rattle.clr_net.specs.Grid.{Grid}
+use Rattle.clr_net.specs.Name.{same_name}
 use Rattle.clr_net.specs.Names.{has_name}
 use Rattle.clr_net.specs.declared.point.Position.{Position}
 use Rattle.clr_net.specs.declared.point.Position.TheVariants.{Opened, Closed as Shut}
+use Rattle.clr_order.specs.Step.{Task}
 use Rattle.clr_order.specs.declared.action.Action.TheVariants as actions
+use Rattle.clr_order.specs.declared.step.StepState.TheVariants.{Waiting}
 use Rattle.clr_rules.specs.Agreement.{Agree, part_near}
+use Rattle.clr_rules.specs.Good.{is_operators}
+use Rattle.clr_rules.specs.Holds.{has_hold}
 use Rattle.clr_rules.specs.Register.{Register, opening}
-use Rattle.clr_rules.specs.Run.{after_all}
+use Rattle.clr_rules.specs.Run.{IsReached, after_all}
 use Rattle.clr_rules.specs.Shown.{covers, marks, own, own_answers, shown}
-use Rattle.clr_rules.specs.Worked.{BOSS, DALE, JONES, KIM, L1, L2, L3, OPS, REED, S2, S3, S4, Saying, T1, does, from_moment, isolating_l2_and_l3, jones_1, jones_works_and_releases, l2_asked, l2_granted, l2_is_restored, ops_1, said_at, says, step_runs, worked_opening, worked_staff}
+use Rattle.clr_rules.specs.Steps.{steps_of}
+use Rattle.clr_rules.specs.Worked.{BOSS, DALE, JONES, KIM, L1, L2, L3, OPS, REED, S2, S3, S4, Saying, T1, does, from_moment, isolating_l2_and_l3, jones_1, jones_works_and_releases, kim_1, kim_asks, l2_asked, l2_granted, l2_is_restored, ops_1, said_at, says, step_runs, worked_opening, worked_staff}
 use Rattle.clr_rules.specs.WorkedRows.{done_step, jones_record}
 use Rattle.clr_rules.specs.declared.change.Edit.TheVariants.{SetPosition, SetHand}
 use Rattle.clr_rules.specs.declared.command.Command.{Command}
 use Rattle.clr_rules.specs.declared.command.Kind.TheVariants.{Request, Order, Switch}
+use Rattle.clr_rules.specs.declared.hold_kind.HoldKind.TheVariants.{Tag}
 use Rattle.clr_rules.specs.declared.phase.Phase.TheVariants.{Closed}
+use Rattle.clr_rules.specs.declared.step_row.StepRow.{StepRow}
 
 -- THE TWO REGISTERS
 
@@ -66,6 +74,14 @@ with_s3_switched = list_one S3 (codes "OPEN S3")
 -- the registers agree near JONES/1 on L2, although one of them has five sections and the other three
 abbrev pub TheRegistersAgree : Type 0
 TheRegistersAgree = Agree jones_1 in_l2 register_one register_two
+
+-- both are reached: they are the opening registers of two networks and a staff
+abbrev pub BothAreReached : Type 0
+BothAreReached = IsReached register_one × IsReached register_two
+
+-- and JONES is no operator
+abbrev pub JonesIsNoOperator : Type 0
+JonesIsNoOperator = is_operators register_one JONES ≡ false
 
 -- L2 covers the run in register one
 abbrev pub L2CoversTheRun : Type 0
@@ -144,6 +160,43 @@ AnotherStaffDisagrees = Agree jones_1 in_l2 register_one (opening (two_net true 
 -- JONES has asked for a clearance there already
 abbrev pub AnotherNumberDisagrees : Type 0
 AnotherNumberDisagrees = Agree jones_1 in_l2 register_one (after_all register_two (from_moment 100 l2_asked)) → ⊥
+
+-- A NEIGHBOUR'S ORDER: after the grant KIM/1 is asked for, on L3, and ordered at S4, T1 and S3; its six steps at S4 and T1 run, and no step at
+-- S3 is given out
+
+-- the steps of KIM/1 at S3
+abbrev pub steps_at_s3 : List StepRow → List StepRow
+steps_at_s3 steps = filter (λ row. same_name S3 row.step.point) (steps_of steps kim_1)
+
+abbrev pub s4_and_t1_first : List Task
+s4_and_t1_first =
+    does actions.Open S4 ∷ does actions.Block S4 ∷ does actions.Control S4 ∷ does actions.Tag S4 ∷ does actions.Open T1 ∷ does actions.Tag T1
+    ∷ does actions.Open S3 ∷ does actions.Block S3 ∷ does actions.Tag S3 ∷ []
+
+abbrev pub kim_switches_outside : List Saying
+kim_switches_outside =
+    kim_asks ++ says OPS (Order kim_1 (S4 ∷ T1 ∷ S3 ∷ []) s4_and_t1_first) ∷ step_runs kim_1 1 (codes "OPEN S4") ++ step_runs kim_1 2 (codes "BLOCK S4")
+    ++ step_runs kim_1 3 (codes "CONTROL S4") ++ step_runs kim_1 4 (codes "TAG S4") ++ step_runs kim_1 5 (codes "OPEN T1") ++ step_runs kim_1 6 (codes "TAG T1")
+
+abbrev pub with_kim : List Command
+with_kim = from_moment 100 l2_granted ++ from_moment 300 kim_switches_outside ++ from_moment 121 (jones_works_and_releases ++ l2_is_restored)
+
+-- L2 covers this run too, it shows JONES/1 the same, and gives JONES/1 the same answers
+abbrev pub L2CoversKimsRun : Type 0
+L2CoversKimsRun = covers jones_1 in_l2 register_one with_kim ≡ true
+
+abbrev pub KimLeavesNoMark : Type 0
+KimLeavesNoMark = shown jones_1 in_l2 register_one with_kim ≡ shown jones_1 in_l2 register_two list_two
+
+abbrev pub KimChangesNoAnswer : Type 0
+KimChangesNoAnswer = own_answers jones_1 register_one with_kim ≡ own_answers jones_1 register_two list_two
+
+-- though KIM/1's sixth step is done, and the seventh waits
+abbrev pub KimsTagHangs : Type 0
+KimsTagHangs = has_hold (Register.holds (after_all register_one with_kim)) kim_1 Tag T1 ≡ true
+
+abbrev pub KimLeavesS3 : Type 0
+KimLeavesS3 = map (λ (row : StepRow). row.step.state) (steps_at_s3 (Register.steps (after_all register_one with_kim))) ≡ Waiting ∷ Waiting ∷ Waiting ∷ []
 
 -- WHERE THE SET DOES NOT COVER
 

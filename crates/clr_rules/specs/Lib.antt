@@ -53,6 +53,7 @@ pub mod TagLaws
 pub mod AgreementLaws
 pub mod MarkLaws
 pub mod RunLaws
+pub mod BoundLaws
 pub mod RunHeadline
 pub mod EditOrder
 pub mod FrameLaws

@@ -1,5 +1,6 @@
 -- Runs as laws: what no command changes, one reply a command, and a run that goes on where another ended.
 use Rattle.std.specs.Prelude.{◌≡◌, List, ◌++◌, length, map}
+use Rattle.clr_csv.specs.Staff.{IsStaff}
 use Rattle.clr_csv.specs.declared.employee.StaffRow.{StaffRow}
 use Rattle.clr_net.specs.Grid.{Grid, IsNetwork, point_names}
 use Rattle.clr_rules.specs.Good.{ListsAreInOrder}
@@ -34,6 +35,10 @@ pub record GoesOn (R : Register) (earlier later : List Command) : Type 0 where
 
 abbrev pub RunsGoOn : Type 0
 RunsGoOn = (R : Register) (earlier later : List Command) → GoesOn R earlier later
+
+-- the opening register of a network and a staff is reached, by a run of no commands
+abbrev pub OpeningRegistersAreReached : Type 0
+OpeningRegistersAreReached = (g : Grid) (staff : List StaffRow) → IsNetwork g → IsStaff staff → IsReached (opening g staff)
 
 -- what a run makes of a reached register is reached
 abbrev pub ReachedGoOn : Type 0

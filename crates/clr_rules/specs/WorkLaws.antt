@@ -13,8 +13,10 @@ use Rattle.clr_rules.specs.Live.{is_live}
 use Rattle.clr_rules.specs.LiveLaws.{ClosedWalk}
 use Rattle.clr_rules.specs.Records.{is_granted, record_of}
 use Rattle.clr_rules.specs.Register.{Register}
+use Rattle.clr_rules.specs.Run.{after}
 use Rattle.clr_rules.specs.States.{position_of}
 use Rattle.clr_rules.specs.Steps.{points_of, steps_in}
+use Rattle.clr_rules.specs.declared.command.Command.{Command}
 use Rattle.clr_rules.specs.declared.hold_kind.HoldKind.TheVariants.{Ground, Crew}
 use Rattle.clr_rules.specs.declared.record.Record.{Record}
 
@@ -31,6 +33,11 @@ GrantedWorkIsDead = (R : Register) → IsGood R → (c : Id) (r : Record) → re
 -- no section that bears a ground is live
 abbrev pub GroundedSectionsAreDead : Type 0
 GroundedSectionsAreDead = (R : Register) → IsGood R → (c : Id) (s : List ℕ) → has_hold R.holds c Ground s ≡ true → is_live R.net R.states s ≡ false
+
+-- NO COMMAND FEEDS A GROUND: after each command, a report of a closing too, no section that bears a ground is live
+abbrev pub ClosingsFeedNoGround : Type 0
+ClosingsFeedNoGround = (R : Register) (q : Command) → IsGood R → (c : Id) (s : List ℕ) → has_hold (Register.holds (after R q)) c Ground s ≡ true
+    → is_live (Register.net (after R q)) (Register.states (after R q)) s ≡ false
 
 -- in other words: closed points lead from no source to a ground
 abbrev pub NoSourceFeedsGrounds : Type 0

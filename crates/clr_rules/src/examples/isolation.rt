@@ -1,5 +1,5 @@
 //! A clearance that lives its life in two registers.
-ghost use Rattle.clr_rules.specs.ExamplesOfIsolation.{AnotherNumberDisagrees, AnotherPointDisagrees, AnotherPositionDisagrees, AnotherStaffDisagrees, AnotherSwitchIsSeen, BothSectionsCover, FortyNineAreShown, ItsMarksAreSeen, L2CoversTheRun, L2DoesNotCoverL3, NoMarkIsSeen, OneEndsSo, RequestsShowTheirSection, TheAnswersAreTheSame, TheListsShowTheSame, TheRegistersAgree, TheRegistersStillAgree, TwoEndsSo};
+ghost use Rattle.clr_rules.specs.ExamplesOfIsolation.{AnotherNumberDisagrees, AnotherPointDisagrees, AnotherPositionDisagrees, AnotherStaffDisagrees, AnotherSwitchIsSeen, BothAreReached, BothSectionsCover, FortyNineAreShown, ItsMarksAreSeen, JonesIsNoOperator, KimChangesNoAnswer, KimLeavesNoMark, KimLeavesS3, KimsTagHangs, L2CoversKimsRun, L2CoversTheRun, L2DoesNotCoverL3, NoMarkIsSeen, OneEndsSo, RequestsShowTheirSection, TheAnswersAreTheSame, TheListsShowTheSame, TheRegistersAgree, TheRegistersStillAgree, TwoEndsSo};
 
 /// What isolation asks of two registers and two lists: the registers agree, the set covers the run, and the lists show the
 /// same.
@@ -9,6 +9,21 @@ pub fn premises()
     ensures same_shown { TheListsShowTheSame }
     ensures all_shown { FortyNineAreShown }
     ensures request_shown { RequestsShowTheirSection }
+{}
+
+/// The registers are reached, and the requester is no operator.
+pub fn reached()
+    ensures both { BothAreReached }
+    ensures no_operator { JonesIsNoOperator }
+{}
+
+/// A neighbour's order, whose steps at other points run: the set covers it, the same is shown, and the answers are the same.
+pub fn neighbours_order()
+    ensures covered { L2CoversKimsRun }
+    ensures same_shown { KimLeavesNoMark }
+    ensures answers { KimChangesNoAnswer }
+    ensures tagged { KimsTagHangs }
+    ensures left { KimLeavesS3 }
 {}
 
 /// What it gives: the answers are the same, and the registers agree again.

@@ -1,4 +1,5 @@
-ghost use Rattle.clr_rules.specs.RunLaws.{CommandsAreReplied, ReachedGoOn, ReachedListsAreInOrder, RunsGoOn, RunsKeepOpening};
+ghost use Rattle.clr_rules.specs.BoundLaws.{ReachedRegistersAreBounded};
+ghost use Rattle.clr_rules.specs.RunLaws.{CommandsAreReplied, OpeningRegistersAreReached, ReachedGoOn, ReachedListsAreInOrder, RunsGoOn, RunsKeepOpening};
 
 /// In a reached register each list is in key order, one row a key.
 pub fn reached_lists_are_in_order()
@@ -16,4 +17,14 @@ pub fn runs_go_on()
     ensures replied { CommandsAreReplied }
     ensures together { RunsGoOn }
     ensures reached { ReachedGoOn }
+{}
+
+/// The opening register of a network and a staff is reached, by a run of no commands.
+pub fn opening_registers_are_reached()
+    ensures { OpeningRegistersAreReached }
+{}
+
+/// In a reached register no clearance has a number over 9,999, and each step is of the first round or the second.
+pub fn reached_registers_are_bounded()
+    ensures { ReachedRegistersAreBounded }
 {}

@@ -1,4 +1,4 @@
-ghost use Rattle.clr_rules.specs.WorkLaws.{CrewsWorkSafely, GrantedFencesStayDead, GrantedPointsBearAllHolds, GrantedWorkIsDead, GroundedSectionsAreDead, NoSourceFeedsGrounds};
+ghost use Rattle.clr_rules.specs.WorkLaws.{ClosingsFeedNoGround, CrewsWorkSafely, GrantedFencesStayDead, GrantedPointsBearAllHolds, GrantedWorkIsDead, GroundedSectionsAreDead, NoSourceFeedsGrounds};
 
 /// While a clearance is granted, no section of its fence is live, and its work section is one of these.
 pub fn granted_fences_stay_dead()
@@ -10,6 +10,11 @@ pub fn granted_fences_stay_dead()
 pub fn grounded_sections_are_dead()
     ensures dead { GroundedSectionsAreDead }
     ensures unfed { NoSourceFeedsGrounds }
+{}
+
+/// After each command, a closing that is reported done too, no section that bears a ground is live.
+pub fn closings_feed_no_ground()
+    ensures { ClosingsFeedNoGround }
 {}
 
 /// A point that was opened for a granted clearance is open, held open and tagged, blocked where it can be locked, and

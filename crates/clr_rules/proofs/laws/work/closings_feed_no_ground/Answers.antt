@@ -1,0 +1,7 @@
+use Rattle.clr_rules.specs.Run.{after}
+use Rattle.clr_rules.proofs.DeadWork.{grounded_sections_are_dead}
+use Rattle.clr_rules.proofs.EveryKind.{commands_keep_good}
+use Rattle.clr_rules.proofs.laws.work.closings_feed_no_ground.Goals as goal
+
+pub returns : goal.returns
+returns _ R q good = grounded_sections_are_dead (after R q) (commands_keep_good R q good)
