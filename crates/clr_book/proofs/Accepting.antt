@@ -1,15 +1,16 @@
 -- What a command is answered that no check refuses.
 use Rattle.std.specs.Prelude.{if◌then◌else◌}
 use Rattle.std.proofs.Common.{◌≡◌, ℕ, ◌+◌, Bool, true, false, List, [], ◌∷◌, Some, None, refl, sym, ◌∙◌, ap}
-use Rattle.clr_rules.specs.Answer.{Answer, Known, answer_with, card_of, checks, concerned, first_refusal, settled, told, told_after, view_of}
-use Rattle.clr_rules.specs.Changes.{edits_of, moved, new_record, new_steps}
+use Rattle.clr_rules.specs.Answer.{Answer, answer_with, card_of, concerned, first_refusal, settled, told, told_after, view_of}
+use Rattle.clr_rules.specs.Commands.{Known, checks, edits_of}
+use Rattle.clr_rules.specs.Changes.{moved, new_record, new_steps}
 use Rattle.clr_rules.specs.Command.{named_clearance}
 use Rattle.clr_rules.specs.Edits.{edited_all}
 use Rattle.clr_rules.specs.Id.{Id, is_clearance_number, new_id}
 use Rattle.clr_rules.specs.Records.{record_of}
 use Rattle.clr_rules.specs.Register.{Register}
 use Rattle.clr_rules.specs.Steps.{present, step_at}
-use Rattle.clr_rules.proofs.RoundSteps.{record_id}
+use Rattle.clr_rules.proofs.lists.RoundSteps.{record_id}
 use Rattle.clr_order.specs.Step.{Task}
 use Rattle.clr_order.specs.declared.step.StepState.TheVariants.{Waiting, Instructed, Repeated, Done}
 use Rattle.clr_rules.specs.declared.change.Edit.{Edit}

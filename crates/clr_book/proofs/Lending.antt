@@ -8,7 +8,8 @@ use Rattle.clr_net.specs.Name.{same_name}
 use Rattle.clr_net.specs.Names.{has_name}
 use Rattle.clr_net.specs.declared.point.PointRow.{PointRow}
 use Rattle.clr_net.specs.declared.section.SectionRow.{SectionRow}
-use Rattle.clr_rules.specs.Answer.{Known, fence_for, known_of}
+use Rattle.clr_rules.specs.Commands.{Known}
+use Rattle.clr_rules.specs.Answer.{fence_for, known_of}
 use Rattle.clr_rules.specs.GoodByPhase.{of_round}
 use Rattle.clr_rules.specs.Id.{Id, same_id}
 use Rattle.clr_order.specs.Step.{task, task_points}
@@ -21,11 +22,11 @@ use Rattle.clr_rules.specs.declared.record.Record.{Record}
 use Rattle.clr_rules.specs.Register.{Register, unplaced, unplaced_net}
 use Rattle.clr_rules.specs.Steps.{points_of, steps_in, steps_of}
 use Rattle.clr_rules.specs.declared.step_row.StepRow.{StepRow}
-use Rattle.clr_rules.proofs.NamedRows.{list_any-map}
-use Rattle.clr_rules.proofs.Kept.{filter-kept}
-use Rattle.clr_rules.proofs.Opening.{unplaced_names}
+use Rattle.clr_rules.proofs.lists.NamedRows.{list_any-map}
+use Rattle.clr_rules.proofs.lists.Filters.{filter-kept}
+use Rattle.clr_rules.proofs.good.Opening.{unplaced_names}
 use Rattle.clr_book.proofs.OrderPositions.{touching_unplaced}
-use Rattle.clr_rules.proofs.RoundSteps.{of_round_is}
+use Rattle.clr_rules.proofs.lists.RoundSteps.{of_round_is}
 
 -- whether a walk leads to a section does not hang on positions
 reaches_unplaced : (points : List PointRow) (cut : List (List ℕ)) (work : List ℕ) (n : ℕ) (s : List ℕ)

@@ -5,7 +5,8 @@ use Rattle.clr_order.specs.Isolating.{IsSoundWithin, has_repeat, isolating_fault
 use Rattle.clr_order.specs.Step.{Task, stray_point}
 use Rattle.clr_order.specs.declared.order_fault.OrderFault.TheVariants.{EmptyOrder, LongOrder, PointTwice, SourceInside, NotOnFence, StepsWrong}
 use Rattle.clr_order.proofs.SoundOrders.{sound_from_no_fault}
-use Rattle.clr_rules.specs.Answer.{Known, checks, first_refusal}
+use Rattle.clr_rules.specs.Commands.{Known, checks}
+use Rattle.clr_rules.specs.Answer.{first_refusal}
 use Rattle.clr_rules.specs.Checks.{earlier, is_operator, unknown_caller, unknown_clearance, unsound_order, wrong_phase, wrong_role}
 use Rattle.clr_rules.specs.Fences.{rows_of_fence}
 use Rattle.clr_rules.specs.Id.{Id}
@@ -13,7 +14,7 @@ use Rattle.clr_rules.specs.Records.{is_requested}
 use Rattle.clr_rules.specs.Register.{Register}
 use Rattle.clr_rules.specs.declared.command.Kind.TheVariants as kinds
 use Rattle.clr_rules.specs.declared.refusal.Refusal.{Refusal}
-use Rattle.clr_rules.proofs.PassedOrders.{by_name, by_test, no_refusal}
+use Rattle.clr_rules.proofs.edits.PassedOrders.{by_name, by_test, no_refusal}
 
 -- an order that is not refused is sound within the fence that it would make
 pub order_passed : (R : Register) (fence : List (List ℕ)) (points : List (List ℕ)) (tasks : List Task) → unsound_order R fence points tasks ≡ None

@@ -16,7 +16,7 @@ use Rattle.clr_shelf.specs.KeyOrder.{in_key_order-first, in_key_order-rest}
 use Rattle.clr_shelf.specs.Keys.{less}
 use Rattle.clr_shelf.specs.Rows.{in_key_order}
 use Rattle.clr_shelf.specs.SameRows.{same_from_permutation}
-use Rattle.clr_rules.proofs.Opening.{in_key_order-from_sorted}
+use Rattle.clr_rules.proofs.good.Opening.{in_key_order-from_sorted}
 
 module _ {Key Row : Type 0} (compare : Key → Key → Ordering) (key_of : Row → Key) (order : IsTotalOrder compare) where
   -- of two keys that differ the first is lower, where the second is not

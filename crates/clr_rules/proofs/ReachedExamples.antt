@@ -11,7 +11,7 @@ use Rattle.clr_net.specs.declared.point.Position.TheVariants.{Closed}
 use Rattle.clr_rules.specs.ExamplesOfIsolation.{register_one, register_two, two_net}
 use Rattle.clr_rules.specs.Run.{IsReached}
 use Rattle.clr_rules.specs.Worked.{worked_net, worked_staff}
-use Rattle.clr_rules.proofs.Runs.{opening_is_reached}
+use Rattle.clr_rules.proofs.edits.Runs.{opening_is_reached}
 
 each_false : {X : Type 0} (p : X → Bool) (xs : List X) → list_all (λ x. not (p x)) xs ≡ true → All (λ x. p x ≡ false) xs
 each_false p [] all = All-nil (λ x. p x ≡ false)

@@ -1,14 +1,13 @@
 -- WHAT AN ACCEPTED COMMAND CHANGES: its edits, in the order of their kinds, those of a kind in the order of their keys. An edit
 -- stands also where it changes nothing.
-use Rattle.std.specs.Prelude.{ℕ, ◌+◌, Bool, ◌&&◌, if◌then◌else◌, List, [], ◌∷◌, ◌++◌, map, Option, None, Some}
+use Rattle.std.specs.Prelude.{ℕ, if◌then◌else◌, ◌+◌, Bool, ◌&&◌, List, [], ◌∷◌, ◌++◌, map, Option, None, Some}
 use Rattle.clr_net.specs.declared.point.Position.TheVariants.{Opened, Closed as Shut}
 use Rattle.clr_order.specs.Step.{Task}
 use Rattle.clr_order.specs.declared.action.Action.{Action}
-use Rattle.clr_order.specs.declared.action.Action.TheVariants as actions
 use Rattle.clr_order.specs.declared.step.StepState.{StepState}
-use Rattle.clr_order.specs.declared.step.StepState.TheVariants.{Waiting, Instructed, Repeated, Done}
+use Rattle.clr_order.specs.declared.step.StepState.TheVariants.{Waiting, Done}
 use Rattle.clr_shelf.specs.Rows.{with_row}
-use Rattle.clr_rules.specs.Holds.{has_any_hold, hold_of, places_of}
+use Rattle.clr_rules.specs.Holds.{has_any_hold, hold_of}
 use Rattle.clr_rules.specs.Id.{Id}
 use Rattle.clr_rules.specs.Records.{ends_with_steps, is_ordered, is_switch_order, record_of}
 use Rattle.clr_rules.specs.Register.{Register}
@@ -16,13 +15,12 @@ use Rattle.clr_rules.specs.StepKey.{step_key, step_key_cmp}
 use Rattle.clr_rules.specs.Steps.{all_done, present, step_at}
 use Rattle.clr_rules.specs.declared.change.Edit.{Edit}
 use Rattle.clr_rules.specs.declared.change.Edit.TheVariants.{SetPosition, SetHand, PutHold, TakeHold, PutRecord, PutStep}
-use Rattle.clr_rules.specs.declared.command.Kind.{Kind}
-use Rattle.clr_rules.specs.declared.command.Kind.TheVariants as kinds
-use Rattle.clr_rules.specs.declared.hold_kind.HoldKind.TheVariants.{HeldOpen, Block, Control, Tag, Tested, Ground, Crew}
+use Rattle.clr_rules.specs.declared.hold_kind.HoldKind.TheVariants.{HeldOpen, Block, Control, Tag}
 use Rattle.clr_rules.specs.declared.phase.Phase.{Phase}
-use Rattle.clr_rules.specs.declared.phase.Phase.TheVariants.{Requested, Ordered, Granted, Released, Restoring, Switching, Closed}
+use Rattle.clr_rules.specs.declared.phase.Phase.TheVariants.{Released, Closed}
 use Rattle.clr_rules.specs.declared.record.Record.{Record}
 use Rattle.clr_rules.specs.declared.step_row.StepRow.{StepRow}
+use Rattle.clr_order.specs.declared.action.Action.TheVariants as actions
 
 -- the steps of a round, numbered from n, each Waiting and without a reader
 unfoldable pub new_steps : Id → ℕ → ℕ → List Task → List StepRow
@@ -92,35 +90,3 @@ with_record R c edits = edits_by (record_of R.records c) edits
 
 abbrev pub with_step : Register → Id → ℕ → (Record → StepRow → List Edit) → List Edit
 with_step R c n edits = with_record R c (λ r. edits_by (step_at (present R.steps c) n) (edits r))
-
-abbrev pub edits_of : ℕ → Register → List ℕ → ℕ → Kind → List Edit
-edits_of greatest R by at (kinds.Request section) = PutRecord (new_record greatest by at (Some section) Requested) ∷ []
-edits_of greatest R by at (kinds.Order c points tasks) =
-    with_record R c (λ r. PutRecord (record r { phase = Ordered; last = at }) ∷ put_steps (new_steps c 1 1 tasks))
-edits_of greatest R by at (kinds.Instruct c n) = with_step R c n (λ r row.
-    SetHand row.step.point (Some c) ∷ PutRecord (record r { last = at }) ∷ PutStep (moved Instructed row.step.reader row) ∷ [])
-edits_of greatest R by at (kinds.Repeat c n text) = with_step R c n (λ r row.
-    PutRecord (record r { last = at }) ∷ PutStep (moved Repeated (Some by) row) ∷ [])
-edits_of greatest R by at (kinds.Report c n done) = with_step R c n (λ r row. if done then done_edits R at r row else undone_edits at r row)
-edits_of greatest R by at (kinds.Grant c) = with_record R c (λ r. PutRecord (record r { phase = Granted; last = at }) ∷ [])
-edits_of greatest R by at (kinds.Test c section dead) = with_record R c (λ r.
-    (if dead then PutHold (hold_of c Tested section) else TakeHold (hold_of c Tested section)) ∷ PutRecord (record r { last = at }) ∷ [])
-edits_of greatest R by at (kinds.Ground c section) =
-    with_record R c (λ r. PutHold (hold_of c Ground section) ∷ PutRecord (record r { last = at }) ∷ [])
-edits_of greatest R by at (kinds.Unground c section) = with_record R c (λ r.
-    TakeHold (hold_of c Ground section) ∷ TakeHold (hold_of c Tested section) ∷ PutRecord (record r { last = at }) ∷ [])
-edits_of greatest R by at (kinds.SignOn c crew) =
-    with_record R c (λ r. PutHold (hold_of c Crew crew) ∷ PutRecord (record r { last = at }) ∷ [])
-edits_of greatest R by at (kinds.SignOff c crew) =
-    with_record R c (λ r. TakeHold (hold_of c Crew crew) ∷ PutRecord (record r { last = at }) ∷ [])
-edits_of greatest R by at (kinds.Transfer c to emergency) = with_record R c (λ r. PutRecord (record r { holder = to; last = at }) ∷ [])
-edits_of greatest R by at (kinds.Release c notified clear) = with_record R c (λ r.
-    map (λ place. TakeHold (hold_of c Tested place)) (places_of R.holds c Tested) ++ PutRecord (record r { phase = Released; last = at }) ∷ [])
-edits_of greatest R by at (kinds.Cancel c) = with_record R c (λ r. PutRecord (record r { phase = cancelled_phase R r; last = at }) ∷ [])
-edits_of greatest R by at (kinds.Restore c tasks) =
-    with_record R c (λ r. PutRecord (record r { phase = Restoring; last = at }) ∷ put_steps (new_steps c 2 1 tasks))
-edits_of greatest R by at (kinds.Amend c n) = with_step R c n (λ r row.
-    PutRecord (record r { last = at }) ∷ PutStep (record row { step = record (StepRow.step row) { action = actions.Leave } }) ∷ [])
-edits_of greatest R by at (kinds.Switch tasks) =
-    PutRecord (new_record greatest by at None Switching) ∷ put_steps (new_steps (record { requester = by; number = greatest + 1 }) 1 1 tasks)
-edits_of greatest R by at (kinds.Show c) = []

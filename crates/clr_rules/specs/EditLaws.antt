@@ -7,7 +7,8 @@ use Rattle.std.proofs.Common.{◌⊎◌}
 use Rattle.clr_net.specs.Name.{same_name}
 use Rattle.clr_net.specs.declared.point.Position.{Position}
 use Rattle.clr_shelf.specs.Rows.{row_of}
-use Rattle.clr_rules.specs.Answer.{Answer, answer, checks, first_refusal, known_of}
+use Rattle.clr_rules.specs.Answer.{Answer, answer, first_refusal, known_of}
+use Rattle.clr_rules.specs.Commands.{checks}
 use Rattle.clr_rules.specs.Edits.{edited, edited_all}
 use Rattle.clr_rules.specs.Good.{ListsAreInOrder}
 use Rattle.clr_rules.specs.Hold.{hold_cmp}

@@ -1,6 +1,7 @@
 -- What sparing edits and commands about others leave alone, as laws.
 use Rattle.std.specs.Prelude.{◌≡◌, Bool, true, false, List}
-use Rattle.clr_rules.specs.Answer.{Answer, Known, answer, concerned, known_of}
+use Rattle.clr_rules.specs.Answer.{Answer, answer, concerned, known_of}
+use Rattle.clr_rules.specs.Commands.{Known}
 use Rattle.clr_rules.specs.Command.{named_clearance}
 use Rattle.clr_rules.specs.Edits.{edited_all}
 use Rattle.clr_rules.specs.Footprint.{all_spare}

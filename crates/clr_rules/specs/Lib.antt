@@ -17,6 +17,7 @@ pub mod Refusals
 pub mod Checks
 pub mod Edits
 pub mod Changes
+pub mod Commands
 pub mod Answer
 pub mod Run
 pub mod Worked
@@ -44,7 +45,6 @@ pub mod Isolation
 pub mod GoodByPhase
 pub mod LiveLaws
 pub mod EditLaws
-pub mod StateFacts
 pub mod GoodLaws
 pub mod KeepLaws
 pub mod OpeningLaws

@@ -3,7 +3,8 @@ use Rattle.std.specs.Prelude.{ℕ, Bool, false, ◌||◌, if◌then◌else◌, L
 use Rattle.clr_net.specs.Name.{same_name}
 use Rattle.clr_net.specs.Names.{has_name}
 use Rattle.clr_order.specs.Step.{task_points}
-use Rattle.clr_rules.specs.Answer.{Known, known_of}
+use Rattle.clr_rules.specs.Commands.{Known}
+use Rattle.clr_rules.specs.Answer.{known_of}
 use Rattle.clr_rules.specs.Command.{named_clearance}
 use Rattle.clr_rules.specs.Fences.{touching_names}
 use Rattle.clr_rules.specs.Holds.{is_near_hold, is_own}

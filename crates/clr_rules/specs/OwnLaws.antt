@@ -1,8 +1,8 @@
 -- What a register has of a clearance, and that its commands look at this and at what is near, as laws.
 use Rattle.std.specs.Prelude.{◌≡◌, ℕ, Bool, true, false, List, Some}
 use Rattle.clr_rules.specs.Agreement.{Agree}
-use Rattle.clr_rules.specs.Answer.{Known, answer, answer_with, checks, known_of}
-use Rattle.clr_rules.specs.Changes.{edits_of}
+use Rattle.clr_rules.specs.Commands.{Known, checks, edits_of}
+use Rattle.clr_rules.specs.Answer.{answer, answer_with, known_of}
 use Rattle.clr_rules.specs.Edits.{edited_all}
 use Rattle.clr_rules.specs.declared.change.Edit.{Edit}
 use Rattle.clr_rules.specs.Command.{named_clearance}

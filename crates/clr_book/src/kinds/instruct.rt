@@ -1,6 +1,7 @@
 //! An operator gives a step out to the field.
 ghost use Rattle.std.specs.Prelude.{◌≡◌, IfOk};
-ghost use Rattle.clr_rules.specs.Answer.{answer_with, checks, first_refusal};
+ghost use Rattle.clr_rules.specs.Answer.{answer_with, first_refusal};
+ghost use Rattle.clr_rules.specs.Commands.{checks};
 ghost use Rattle.clr_rules.specs.declared.command.Kind.TheVariants as kinds;
 ghost use Rattle.clr_book.specs.Decided.{answered};
 

@@ -1,6 +1,7 @@
 //! The field repeats the text of a step that was given out.
 ghost use Rattle.std.specs.Prelude.{◌≡◌, IfOk};
-ghost use Rattle.clr_rules.specs.Answer.{answer_with, checks, first_refusal};
+ghost use Rattle.clr_rules.specs.Answer.{answer_with, first_refusal};
+ghost use Rattle.clr_rules.specs.Commands.{checks};
 ghost use Rattle.clr_rules.specs.declared.command.Kind.TheVariants as kinds;
 ghost use Rattle.clr_book.specs.Decided.{answered};
 

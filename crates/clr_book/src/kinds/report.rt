@@ -1,6 +1,7 @@
 //! The reader of a step reports that it was done, or that it was not.
 ghost use Rattle.std.specs.Prelude.{◌≡◌, ◌++◌, true, IfOk, [], ◌∷◌, None};
-ghost use Rattle.clr_rules.specs.Answer.{answer_with, checks, first_refusal};
+ghost use Rattle.clr_rules.specs.Answer.{answer_with, first_refusal};
+ghost use Rattle.clr_rules.specs.Commands.{checks};
 ghost use Rattle.clr_rules.specs.Changes.{hold_edits, moved, phase_after, position_edits};
 ghost use Rattle.clr_rules.specs.Records.{ends_with_steps, is_switch_order};
 ghost use Rattle.clr_order.specs.declared.step.StepState.TheVariants.{Done, Waiting};

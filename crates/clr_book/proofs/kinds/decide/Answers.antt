@@ -1,7 +1,7 @@
 use Rattle.std.proofs.Common.{◌∙◌, ap}
 use Rattle.clr_rules.specs.Answer.{answer_with}
 use Rattle.clr_rules.specs.Near.{Near}
-use Rattle.clr_rules.proofs.NewAnswers.{near_is_enough}
+use Rattle.clr_rules.proofs.near.NewAnswers.{near_is_enough}
 use Rattle.clr_book.proofs.kinds.decide.Goals as goal
 
 -- src/kinds.rt:32:1

@@ -3,7 +3,7 @@ use Rattle.clr_net.specs.Name.{same_name}
 use Rattle.clr_rules.specs.Holds.{is_own}
 use Rattle.clr_rules.specs.Id.{same_id}
 use Rattle.clr_rules.specs.declared.record.Record.{Record}
-use Rattle.clr_rules.proofs.Kept.{filter-nothing}
+use Rattle.clr_rules.proofs.lists.Filters.{filter-nothing}
 use Rattle.clr_book.specs.Shelved.{Shelved}
 use Rattle.clr_book.proofs.Lending.{own_of_requester}
 use Rattle.clr_book.proofs.book.Book.own_records.Goals as goal

@@ -1,7 +1,7 @@
 use Rattle.std.proofs.Common.{◌∙◌, None, ap, map, refl, sym, Bor}
 use Rattle.clr_rules.specs.Holds.{is_own}
 use Rattle.clr_rules.specs.declared.step_row.StepRow.{StepRow}
-use Rattle.clr_rules.proofs.Kept.{filter-nothing}
+use Rattle.clr_rules.proofs.lists.Filters.{filter-nothing}
 use Rattle.clr_book.proofs.book.Book.own_steps.Goals as goal
 
 -- src/lend.rt:71:5

@@ -1,4 +1,4 @@
-use Rattle.std.proofs.Common.{Bool, List, length, ap, refl}
+use Rattle.std.proofs.Common.{Bool, List, length, ap}
 use Rattle.std.specs.Prelude.{◌==◌}
 use mathlib.Core.Bool.{true≢false}
 use Rattle.clr_rules.specs.Shown.{Item, covers, own_answers, shown}
@@ -20,11 +20,3 @@ is_seen items = length items == 51
 pub returns-clause-another_shown : goal.returns-clause-another_shown
 unfolding in_fence reaches row_of with_row without_row new_steps holds_of places_of has_some_hold has_any_hold hindering_hold held_among once steps_in steps_of greatest_number touching_names edited_all after_all shown own_answers covers is_seen
 returns-clause-another_shown c same = true≢false (ap is_seen same)
-
-pub returns-clause-seen : goal.returns-clause-seen
-unfolding in_fence reaches row_of with_row without_row new_steps holds_of places_of has_some_hold has_any_hold hindering_hold held_among once steps_in steps_of greatest_number touching_names edited_all after_all shown own_answers covers
-returns-clause-seen c = refl
-
-pub returns-clause-unseen : goal.returns-clause-unseen
-unfolding in_fence reaches row_of with_row without_row new_steps holds_of places_of has_some_hold has_any_hold hindering_hold held_among once steps_in steps_of greatest_number touching_names edited_all after_all shown own_answers covers
-returns-clause-unseen c = refl

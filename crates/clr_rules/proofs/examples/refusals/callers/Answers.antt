@@ -1,16 +1,5 @@
-use Rattle.std.specs.Prelude.{refl}
-use Rattle.clr_net.specs.Fence.{in_fence, reaches}
-use Rattle.clr_rules.specs.Changes.{new_steps}
-use Rattle.clr_rules.specs.Edits.{edited_all}
-use Rattle.clr_rules.specs.Fences.{touching_names}
-use Rattle.clr_rules.specs.Holds.{has_any_hold, has_some_hold, held_among, hindering_hold, holds_of, once, places_of}
-use Rattle.clr_rules.specs.Records.{greatest_number}
-use Rattle.clr_rules.specs.Run.{after_all}
-use Rattle.clr_rules.specs.Steps.{steps_in, steps_of}
-use Rattle.clr_shelf.specs.Rows.{row_of, with_row, without_row}
 use Rattle.clr_rules.proofs.ManyRequests.{numbers_end}
 use Rattle.clr_rules.proofs.examples.refusals.callers.Goals as goal
 
-pub returns : goal.returns
-unfolding in_fence reaches row_of with_row without_row new_steps holds_of places_of has_some_hold has_any_hold hindering_hold held_among once steps_in steps_of greatest_number touching_names edited_all after_all
-returns c = record { unknown_caller = refl; wrong_role = refl; unknown_section = refl; too_many_clearances = numbers_end }
+pub returns-clause-too_many_clearances : goal.returns-clause-too_many_clearances
+returns-clause-too_many_clearances c = numbers_end

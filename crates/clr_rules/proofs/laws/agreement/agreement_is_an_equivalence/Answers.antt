@@ -1,4 +1,4 @@
-use Rattle.clr_rules.proofs.Agreeing.{agrees_back, agrees_on, agrees_with_itself}
+use Rattle.clr_rules.proofs.isolation.Agreement.{agrees_back, agrees_on, agrees_with_itself}
 use Rattle.clr_rules.proofs.laws.agreement.agreement_is_an_equivalence.Goals as goal
 
 pub returns-clause-itself : goal.returns-clause-itself

@@ -1,4 +1,4 @@
-use Rattle.clr_rules.proofs.Agreeing.{left_alone_agrees, one_left_alone_agrees}
+use Rattle.clr_rules.proofs.isolation.Agreement.{left_alone_agrees, one_left_alone_agrees}
 use Rattle.clr_rules.proofs.laws.agreement.edits_of_others_keep_agreement.Goals as goal
 
 pub returns-clause-one : goal.returns-clause-one

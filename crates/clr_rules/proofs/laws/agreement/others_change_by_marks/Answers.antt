@@ -1,4 +1,4 @@
-use Rattle.clr_rules.proofs.PartEdits.{others_change_by_marks}
+use Rattle.clr_rules.proofs.isolation.PartEdits.{others_change_by_marks}
 use Rattle.clr_rules.proofs.laws.agreement.others_change_by_marks.Goals as goal
 
 pub returns : goal.returns

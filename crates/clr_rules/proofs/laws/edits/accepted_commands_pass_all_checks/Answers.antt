@@ -1,4 +1,4 @@
-use Rattle.clr_rules.proofs.Refusing.{accepted_passes_checks, shown_changes_nothing}
+use Rattle.clr_rules.proofs.edits.Refusing.{accepted_passes_checks, shown_changes_nothing}
 use Rattle.clr_rules.proofs.laws.edits.accepted_commands_pass_all_checks.Goals as goal
 
 pub returns-clause-shown : goal.returns-clause-shown

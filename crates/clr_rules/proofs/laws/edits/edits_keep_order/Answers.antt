@@ -1,4 +1,4 @@
-use Rattle.clr_rules.proofs.EditedLists.{edited_all-in_order, edited_all-network}
+use Rattle.clr_rules.proofs.edits.EditedLists.{edited_all-in_order, edited_all-network}
 use Rattle.clr_rules.proofs.laws.edits.edits_keep_order.Goals as goal
 
 pub returns-clause-order : goal.returns-clause-order

@@ -1,4 +1,4 @@
-use Rattle.clr_rules.proofs.EditReading.{has_hold-put, has_hold-taken}
+use Rattle.clr_rules.proofs.edits.EditReading.{has_hold-put, has_hold-taken}
 use Rattle.clr_rules.proofs.laws.edits.holds_are_put_and_taken.Goals as goal
 
 pub returns-clause-put : goal.returns-clause-put

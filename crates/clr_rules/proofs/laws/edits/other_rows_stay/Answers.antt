@@ -1,4 +1,4 @@
-use Rattle.clr_rules.proofs.EditReading.{has_row_put, has_row_taken}
+use Rattle.clr_rules.proofs.edits.EditReading.{has_row_put, has_row_taken}
 use Rattle.clr_rules.proofs.laws.edits.other_rows_stay.Goals as goal
 use Rattle.clr_rules.specs.Hold.{hold_cmp, hold_cmp_total}
 use Rattle.clr_rules.specs.Holds.{hold_key}

@@ -1,5 +1,5 @@
 use Rattle.std.proofs.Common.{refl}
-use Rattle.clr_rules.proofs.EditReading.{state_of-changed}
+use Rattle.clr_rules.proofs.edits.EditReading.{state_of-changed}
 use Rattle.clr_rules.proofs.laws.edits.states_are_set.Goals as goal
 
 pub returns-clause-position : goal.returns-clause-position

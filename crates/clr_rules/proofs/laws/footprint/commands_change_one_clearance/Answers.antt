@@ -1,4 +1,4 @@
-use Rattle.clr_rules.proofs.OthersEdits.{one_outlook_changes, others_keep_outlook}
+use Rattle.clr_rules.proofs.isolation.OthersEdits.{one_outlook_changes, others_keep_outlook}
 use Rattle.clr_rules.proofs.laws.footprint.commands_change_one_clearance.Goals as goal
 
 pub returns-clause-one : goal.returns-clause-one

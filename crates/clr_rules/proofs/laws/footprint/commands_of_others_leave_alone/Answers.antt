@@ -1,4 +1,4 @@
-use Rattle.clr_rules.proofs.OthersEdits.{others_keep_held_open, others_spare}
+use Rattle.clr_rules.proofs.isolation.OthersEdits.{others_keep_held_open, others_spare}
 use Rattle.clr_rules.proofs.laws.footprint.commands_of_others_leave_alone.Goals as goal
 
 pub returns-clause-frame : goal.returns-clause-frame

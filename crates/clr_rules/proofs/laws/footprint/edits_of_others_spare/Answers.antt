@@ -1,4 +1,4 @@
-use Rattle.clr_rules.proofs.OthersEdits.{others_edits_spare}
+use Rattle.clr_rules.proofs.isolation.OthersEdits.{others_edits_spare}
 use Rattle.clr_rules.proofs.laws.footprint.edits_of_others_spare.Goals as goal
 
 pub returns-clause-matched : goal.returns-clause-matched

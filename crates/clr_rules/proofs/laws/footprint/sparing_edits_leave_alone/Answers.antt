@@ -1,4 +1,4 @@
-use Rattle.clr_rules.proofs.Sparing.{sparing_edits_keep_outlook, sparing_edits_leave_alone}
+use Rattle.clr_rules.proofs.isolation.Sparing.{sparing_edits_keep_outlook, sparing_edits_leave_alone}
 use Rattle.clr_rules.proofs.laws.footprint.sparing_edits_leave_alone.Goals as goal
 
 pub returns-clause-frame : goal.returns-clause-frame

@@ -1,7 +1,7 @@
 use Rattle.clr_rules.specs.Run.{after_all}
-use Rattle.clr_rules.proofs.EveryKind.{reached_are_good}
-use Rattle.clr_rules.proofs.OthersEdits.{others_keep_held_open, others_spare}
-use Rattle.clr_rules.proofs.Runs.{reached_go_on}
+use Rattle.clr_rules.proofs.keeps.EveryKind.{reached_are_good}
+use Rattle.clr_rules.proofs.isolation.OthersEdits.{others_keep_held_open, others_spare}
+use Rattle.clr_rules.proofs.edits.Runs.{reached_go_on}
 use Rattle.clr_rules.proofs.laws.headline.nothing_is_taken_away.Goals as goal
 
 pub returns : goal.returns

@@ -1,4 +1,4 @@
-use Rattle.clr_rules.proofs.Headline.{same_shown}
+use Rattle.clr_rules.proofs.isolation.Headline.{same_shown}
 use Rattle.clr_rules.proofs.laws.headline.same_shown_same_answers.Goals as goal
 
 pub returns : goal.returns

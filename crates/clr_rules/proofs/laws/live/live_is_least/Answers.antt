@@ -1,4 +1,4 @@
-use Rattle.clr_rules.proofs.LiveSections.{live_is_least}
+use Rattle.clr_rules.proofs.live.LiveSections.{live_is_least}
 use Rattle.clr_rules.proofs.laws.live.live_is_least.Goals as goal
 
 pub returns : goal.returns

@@ -1,4 +1,4 @@
-use Rattle.clr_rules.proofs.LiveSections.{live_is_closed_walks, live_is_walks}
+use Rattle.clr_rules.proofs.live.LiveSections.{live_is_closed_walks, live_is_walks}
 use Rattle.clr_rules.proofs.laws.live.live_is_walks.Goals as goal
 
 pub returns-clause-walks : goal.returns-clause-walks

@@ -1,4 +1,4 @@
-use Rattle.clr_rules.proofs.DeadFences.{dead_fence}
+use Rattle.clr_rules.proofs.live.DeadFences.{dead_fence}
 use Rattle.clr_rules.proofs.laws.live.sound_orders_keep_fences_dead.Goals as goal
 
 pub returns : goal.returns

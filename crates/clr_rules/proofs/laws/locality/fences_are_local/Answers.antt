@@ -1,4 +1,4 @@
-use Rattle.clr_rules.proofs.Locality.{same_rows}
+use Rattle.clr_rules.proofs.isolation.Locality.{same_rows}
 use Rattle.clr_rules.proofs.laws.locality.fences_are_local.Goals as goal
 
 pub returns : goal.returns

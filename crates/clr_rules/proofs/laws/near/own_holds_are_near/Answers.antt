@@ -1,4 +1,4 @@
-use Rattle.clr_rules.proofs.OwnHoldsNear.{own_holds_near, round_one_touches}
+use Rattle.clr_rules.proofs.near.OwnHoldsNear.{own_holds_near, round_one_touches}
 use Rattle.clr_rules.proofs.laws.near.own_holds_are_near.Goals as goal
 
 pub returns-clause-points : goal.returns-clause-points

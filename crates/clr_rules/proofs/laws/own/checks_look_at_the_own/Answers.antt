@@ -1,4 +1,4 @@
-use Rattle.clr_rules.proofs.OwnChecks.{checks_of_own}
+use Rattle.clr_rules.proofs.near.OwnChecks.{checks_of_own}
 use Rattle.clr_rules.proofs.laws.own.checks_look_at_the_own.Goals as goal
 
 pub returns : goal.returns

@@ -1,4 +1,4 @@
-use Rattle.clr_rules.proofs.NewAnswers.{near_is_enough, same_near_same_answer}
+use Rattle.clr_rules.proofs.near.NewAnswers.{near_is_enough, same_near_same_answer}
 use Rattle.clr_rules.proofs.laws.own.near_is_enough.Goals as goal
 
 pub returns-clause-enough : goal.returns-clause-enough

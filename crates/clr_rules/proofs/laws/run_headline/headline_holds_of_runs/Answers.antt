@@ -1,4 +1,4 @@
-use Rattle.clr_rules.proofs.RunReplies.{others_change_no_reply, others_take_nothing, own_stand_alone}
+use Rattle.clr_rules.proofs.isolation.RunReplies.{others_change_no_reply, others_take_nothing, own_stand_alone}
 use Rattle.clr_rules.proofs.laws.run_headline.headline_holds_of_runs.Goals as goal
 
 pub returns-clause-replies : goal.returns-clause-replies

@@ -1,4 +1,4 @@
-use Rattle.clr_rules.proofs.Bounds.{reached_are_bounded}
+use Rattle.clr_rules.proofs.good.Bounds.{reached_are_bounded}
 use Rattle.clr_rules.proofs.laws.runs.reached_registers_are_bounded.Goals as goal
 
 pub returns : goal.returns

@@ -1,4 +1,4 @@
-use Rattle.clr_rules.proofs.Runs.{commands_are_replied, reached_go_on, runs_go_on}
+use Rattle.clr_rules.proofs.edits.Runs.{commands_are_replied, reached_go_on, runs_go_on}
 use Rattle.clr_rules.proofs.laws.runs.runs_go_on.Goals as goal
 
 pub returns-clause-replied : goal.returns-clause-replied

@@ -1,4 +1,4 @@
-use Rattle.clr_rules.proofs.OthersSteps.{others_step, lone_step}
+use Rattle.clr_rules.proofs.isolation.OthersSteps.{others_step, lone_step}
 use Rattle.clr_rules.proofs.laws.steps.others_commands_keep_agreement.Goals as goal
 
 pub returns-clause-both : goal.returns-clause-both

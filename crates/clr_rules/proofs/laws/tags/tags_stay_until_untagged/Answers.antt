@@ -1,4 +1,4 @@
-use Rattle.clr_rules.proofs.Tags.{only_released_are_restored, released_are_given_back, tags_are_untagged}
+use Rattle.clr_rules.proofs.good.Tags.{only_released_are_restored, released_are_given_back, tags_are_untagged}
 use Rattle.clr_rules.proofs.laws.tags.tags_stay_until_untagged.Goals as goal
 
 pub returns-clause-untagged : goal.returns-clause-untagged

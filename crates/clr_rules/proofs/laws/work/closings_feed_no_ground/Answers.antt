@@ -1,6 +1,6 @@
 use Rattle.clr_rules.specs.Run.{after}
-use Rattle.clr_rules.proofs.DeadWork.{grounded_sections_are_dead}
-use Rattle.clr_rules.proofs.EveryKind.{commands_keep_good}
+use Rattle.clr_rules.proofs.good.DeadWork.{grounded_sections_are_dead}
+use Rattle.clr_rules.proofs.keeps.EveryKind.{commands_keep_good}
 use Rattle.clr_rules.proofs.laws.work.closings_feed_no_ground.Goals as goal
 
 pub returns : goal.returns

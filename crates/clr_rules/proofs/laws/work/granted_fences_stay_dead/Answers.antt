@@ -1,4 +1,4 @@
-use Rattle.clr_rules.proofs.DeadWork.{granted_fences_stay_dead, granted_work_is_dead}
+use Rattle.clr_rules.proofs.good.DeadWork.{granted_fences_stay_dead, granted_work_is_dead}
 use Rattle.clr_rules.proofs.laws.work.granted_fences_stay_dead.Goals as goal
 
 pub returns-clause-fence : goal.returns-clause-fence

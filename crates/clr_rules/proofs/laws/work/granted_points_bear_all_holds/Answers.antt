@@ -1,4 +1,4 @@
-use Rattle.clr_rules.proofs.DeadWork.{granted_points_bear_all_holds}
+use Rattle.clr_rules.proofs.good.DeadWork.{granted_points_bear_all_holds}
 use Rattle.clr_rules.proofs.laws.work.granted_points_bear_all_holds.Goals as goal
 
 pub returns : goal.returns

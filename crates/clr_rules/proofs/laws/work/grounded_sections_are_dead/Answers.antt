@@ -1,4 +1,4 @@
-use Rattle.clr_rules.proofs.DeadWork.{grounded_sections_are_dead, no_source_feeds_grounds}
+use Rattle.clr_rules.proofs.good.DeadWork.{grounded_sections_are_dead, no_source_feeds_grounds}
 use Rattle.clr_rules.proofs.laws.work.grounded_sections_are_dead.Goals as goal
 
 pub returns-clause-dead : goal.returns-clause-dead

@@ -1,0 +1,14 @@
+pub mod EditReading
+pub mod EditedLists
+pub mod EditsInOrder
+pub mod NewRecords
+pub mod NewRounds
+pub mod PassedOrders
+pub mod Passing
+pub mod PresentSteps
+pub mod PutRecords
+pub mod PutSteps
+pub mod Refusing
+pub mod Runs
+pub mod StepMoves
+pub mod PutRows

@@ -1,0 +1,88 @@
+-- What a list of edits keeps: the order of the lists, the network, the staff, and the points that have states.
+use Rattle.std.proofs.Common.{List, [], ◌∷◌, refl, ◌∙◌}
+use Rattle.clr_shelf.specs.KeyOrder.{in_key_order-with_row, in_key_order-without_row}
+use Rattle.clr_rules.specs.EditLaws.{KeepsNetwork}
+use Rattle.clr_rules.specs.Edits.{edited, edited_all}
+use Rattle.clr_rules.specs.Good.{ListsAreInOrder}
+use Rattle.clr_rules.specs.Hold.{hold_cmp, hold_cmp_total}
+use Rattle.clr_rules.specs.Holds.{hold_key}
+use Rattle.clr_rules.specs.Id.{id_cmp, id_cmp_total}
+use Rattle.clr_rules.specs.Records.{record_key}
+use Rattle.clr_rules.specs.Register.{Register}
+use Rattle.clr_rules.proofs.lists.StateFacts.{in_key_order-change, state_keys-change}
+use Rattle.clr_rules.specs.StepKey.{step_key, step_key_cmp, step_key_cmp_total}
+use Rattle.clr_rules.specs.declared.change.Edit.{Edit}
+use Rattle.clr_rules.specs.declared.change.Edit.TheVariants.{SetPosition, SetHand, PutHold, TakeHold, PutRecord, PutStep}
+
+-- an edit keeps the lists in order
+pub edited-in_order : (edit : Edit) (R : Register) → ListsAreInOrder R → ListsAreInOrder (edited edit R)
+edited-in_order (SetPosition p position) R h = record {
+  states = in_key_order-change (λ state. record state { position = position }) R.states p h.states;
+  records = h.records;
+  steps = h.steps;
+  holds = h.holds;
+}
+edited-in_order (SetHand p hand) R h = record {
+  states = in_key_order-change (λ state. record state { hand = hand }) R.states p h.states;
+  records = h.records;
+  steps = h.steps;
+  holds = h.holds;
+}
+edited-in_order (PutHold hold) R h = record {
+  states = h.states;
+  records = h.records;
+  steps = h.steps;
+  holds = in_key_order-with_row hold_cmp hold_key hold_cmp_total hold R.holds h.holds;
+}
+edited-in_order (TakeHold hold) R h = record {
+  states = h.states;
+  records = h.records;
+  steps = h.steps;
+  holds = in_key_order-without_row hold_cmp hold_key hold_cmp_total hold R.holds h.holds;
+}
+edited-in_order (PutRecord r) R h = record {
+  states = h.states;
+  steps = h.steps;
+  holds = h.holds;
+  records = in_key_order-with_row id_cmp record_key id_cmp_total r R.records h.records;
+}
+edited-in_order (PutStep row) R h = record {
+  states = h.states;
+  records = h.records;
+  holds = h.holds;
+  steps = in_key_order-with_row step_key_cmp step_key step_key_cmp_total row R.steps h.steps;
+}
+
+pub edited_all-in_order : (R : Register) (edits : List Edit) → ListsAreInOrder R → ListsAreInOrder (edited_all edits R)
+unfolding edited_all
+edited_all-in_order R [] h = h
+edited_all-in_order R (edit ∷ edits) h = edited_all-in_order (edited edit R) edits (edited-in_order edit R h)
+
+-- an edit keeps the network, the staff and the points
+edited-network : (edit : Edit) (R : Register) → ListsAreInOrder R → KeepsNetwork R (edited edit R)
+edited-network (SetPosition p position) R h = record {
+  same_net = refl;
+  same_staff = refl;
+  same_points = state_keys-change (λ state. record state { position = position }) (λ _. refl) R.states p h.states;
+}
+edited-network (SetHand p hand) R h = record {
+  same_net = refl;
+  same_staff = refl;
+  same_points = state_keys-change (λ state. record state { hand = hand }) (λ _. refl) R.states p h.states;
+}
+edited-network (PutHold hold) R h = record { same_net = refl; same_staff = refl; same_points = refl }
+edited-network (TakeHold hold) R h = record { same_net = refl; same_staff = refl; same_points = refl }
+edited-network (PutRecord r) R h = record { same_net = refl; same_staff = refl; same_points = refl }
+edited-network (PutStep row) R h = record { same_net = refl; same_staff = refl; same_points = refl }
+
+pub edited_all-network : (R : Register) (edits : List Edit) → ListsAreInOrder R → KeepsNetwork R (edited_all edits R)
+unfolding edited_all
+edited_all-network R [] h = record { same_net = refl; same_staff = refl; same_points = refl }
+edited_all-network R (edit ∷ edits) h =
+    let first = edited-network edit R h in
+    let rest = edited_all-network (edited edit R) edits (edited-in_order edit R h) in
+    record {
+      same_net = rest.same_net ∙ first.same_net;
+      same_staff = rest.same_staff ∙ first.same_staff;
+      same_points = rest.same_points ∙ first.same_points;
+    }

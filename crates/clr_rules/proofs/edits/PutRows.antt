@@ -1,0 +1,138 @@
+-- What is read after edits was read before them, or is one of the rows that they put; and what no edit takes stays.
+use Rattle.std.proofs.Common.{◌≡◌, ℕ, Bool, true, false, cond, ◌||◌, List, [], ◌∷◌, ◌++◌, map, Option, Some, None, refl, sym, ◌∙◌, ap, subst, ◌⊎◌, inl, inr, ⊎_elim}
+use Rattle.std.specs.List.{AllByRecursion}
+use Rattle.std.proofs.Math.Bool.{or-true}
+use Rattle.std.proofs.lemmas.Option.{same_Some}
+use Rattle.clr_order.specs.declared.action.Action.{Action}
+use Rattle.clr_order.specs.declared.action.Action.TheVariants as actions
+use Rattle.clr_rules.specs.Changes.{edits_by, hold_edits, position_edits, put_steps, with_record, with_step}
+use Rattle.clr_rules.specs.EditLaws.{is_hold}
+use Rattle.clr_rules.specs.Edits.{edited, edited_all}
+use Rattle.clr_rules.specs.Holds.{has_hold, hold_of}
+use Rattle.clr_rules.specs.Id.{Id, same_id}
+use Rattle.clr_rules.specs.Records.{record_of}
+use Rattle.clr_rules.specs.Register.{Register}
+use Rattle.clr_rules.specs.Steps.{present, step_at}
+use Rattle.clr_rules.specs.declared.change.Edit.{Edit}
+use Rattle.clr_rules.specs.declared.change.Edit.TheVariants.{SetPosition, SetHand, PutHold, TakeHold, PutRecord, PutStep}
+use Rattle.clr_rules.specs.declared.hold_kind.HoldKind.{HoldKind}
+use Rattle.clr_rules.specs.declared.hold_kind.HoldKind.TheVariants.{Tested}
+use Rattle.clr_rules.specs.declared.record.Record.{Record}
+use Rattle.clr_rules.specs.declared.step_row.StepRow.{StepRow}
+use Rattle.clr_rules.proofs.edits.EditReading.{has_hold-put, has_hold-taken, record_of-put}
+
+-- edits of a record that is found, and of its step
+pub by_record : (T : List Edit → Type 0) → T [] → (R : Register) (c : Id) (edits : Record → List Edit)
+    → ((r : Record) → record_of R.records c ≡ Some r → T (edits r)) → T (with_record R c edits)
+by_record T none R c edits each = at (record_of R.records c) refl
+  where
+    at : (found : Option Record) → record_of R.records c ≡ found → T (edits_by found edits)
+    at None is = none
+    at (Some r) is = each r is
+
+pub by_step : (T : List Edit → Type 0) → T [] → (R : Register) (c : Id) (n : ℕ) (edits : Record → StepRow → List Edit)
+    → ((r : Record) (row : StepRow) → record_of R.records c ≡ Some r → step_at (present R.steps c) n ≡ Some row → T (edits r row)) → T (with_step R c n edits)
+by_step T none R c n edits each = by_record T none R c (λ r. edits_by (step_at (present R.steps c) n) (edits r)) (λ r found. at r found (step_at (present R.steps c) n) refl)
+  where
+    at : (r : Record) → record_of R.records c ≡ Some r → (step : Option StepRow) → step_at (present R.steps c) n ≡ step → T (edits_by step (edits r))
+    at r found None is = none
+    at r found (Some row) is = each r row found is
+
+-- ---- what is put
+
+-- a record that is put is such, and so is a step that is put
+abbrev pub PutsSuch : (Record → Type 0) → (StepRow → Type 0) → Edit → Type 0
+PutsSuch P Q (PutRecord r) = P r
+PutsSuch P Q (PutStep row) = Q row
+PutsSuch P Q (SetPosition p position) = Unit {0}
+PutsSuch P Q (SetHand p hand) = Unit {0}
+PutsSuch P Q (PutHold h) = Unit {0}
+PutsSuch P Q (TakeHold h) = Unit {0}
+
+abbrev pub AllPutSuch : (Record → Type 0) → (StepRow → Type 0) → List Edit → Type 0
+AllPutSuch P Q edits = AllByRecursion (PutsSuch P Q) edits
+
+-- any row is such
+abbrev pub AnyStep : StepRow → Type 0
+AnyStep row = Unit {0}
+
+module _ (P : Record → Type 0) (Q : StepRow → Type 0) where
+  pub both_put : (before after : List Edit) → AllPutSuch P Q before → AllPutSuch P Q after → AllPutSuch P Q (before ++ after)
+  both_put [] after h k = k
+  both_put (edit ∷ before) after h k = (h.0, both_put before after h.1 k)
+
+  pub steps_put : (rows : List StepRow) → AllByRecursion Q rows → AllPutSuch P Q (put_steps rows)
+  steps_put [] h = tt
+  steps_put (row ∷ rows) h = (h.0, steps_put rows h.1)
+
+  pub takes_put : (d : Id) (places : List (List ℕ)) → AllPutSuch P Q (map (λ place. TakeHold (hold_of d Tested place)) places)
+  takes_put d [] = tt
+  takes_put d (place ∷ places) = (tt, takes_put d places)
+
+  -- the edits of a step that is reported done put one record and one step
+  pub done_put : (switching : Bool) (d : Id) (a : Action) (p : List ℕ) (s : Record) (row : StepRow) → P s → Q row
+      → AllPutSuch P Q (position_edits a p ++ SetHand p None ∷ hold_edits switching d a p ++ PutRecord s ∷ PutStep row ∷ [])
+  done_put true d actions.Open p s row h k = (tt, (tt, (h, (k, tt))))
+  done_put false d actions.Open p s row h k = (tt, (tt, (tt, (h, (k, tt)))))
+  done_put switching d actions.Close p s row h k = (tt, (tt, (tt, (h, (k, tt)))))
+  done_put switching d actions.Block p s row h k = (tt, (tt, (h, (k, tt))))
+  done_put switching d actions.Control p s row h k = (tt, (tt, (h, (k, tt))))
+  done_put switching d actions.Tag p s row h k = (tt, (tt, (h, (k, tt))))
+  done_put switching d actions.Untag p s row h k = (tt, (tt, (h, (k, tt))))
+  done_put switching d actions.Uncontrol p s row h k = (tt, (tt, (h, (k, tt))))
+  done_put switching d actions.Unblock p s row h k = (tt, (tt, (h, (k, tt))))
+  done_put switching d actions.Leave p s row h k = (tt, (tt, (h, (k, tt))))
+
+  record_read : (edit : Edit) (R : Register) (c : Id) (s : Record) → PutsSuch P Q edit → record_of (Register.records (edited edit R)) c ≡ Some s
+      → (record_of R.records c ≡ Some s) ⊎ P s
+  record_read (PutRecord r) R c s such read = at (same_id r.id c) (sym (record_of-put r c R.records) ∙ read)
+    where
+      at : (b : Bool) → cond b (Some r) (record_of R.records c) ≡ Some s → (record_of R.records c ≡ Some s) ⊎ P s
+      at true is = inr (subst P (same_Some r s is) such)
+      at false is = inl is
+  record_read (PutStep row) R c s such read = inl read
+  record_read (SetPosition p position) R c s such read = inl read
+  record_read (SetHand p hand) R c s such read = inl read
+  record_read (PutHold h) R c s such read = inl read
+  record_read (TakeHold h) R c s such read = inl read
+
+  -- a record that is read after edits was read before them, or is such as they put
+  pub record_after : (edits : List Edit) (R : Register) (c : Id) (s : Record) → AllPutSuch P Q edits → record_of (Register.records (edited_all edits R)) c ≡ Some s
+      → (record_of R.records c ≡ Some s) ⊎ P s
+  unfolding edited_all
+  record_after [] R c s such read = inl read
+  record_after (edit ∷ edits) R c s such read =
+      ⊎_elim (λ before. record_read edit R c s such.0 before) (λ h. inr h) (record_after edits (edited edit R) c s such.1 read)
+
+-- ---- holds that stay
+
+-- an edit does not take a hold
+abbrev pub Leaves : Id → HoldKind → List ℕ → Edit → Type 0
+Leaves c kind place (TakeHold h) = is_hold h c kind place ≡ false
+Leaves c kind place (PutHold h) = Unit {0}
+Leaves c kind place (PutRecord r) = Unit {0}
+Leaves c kind place (PutStep row) = Unit {0}
+Leaves c kind place (SetPosition p position) = Unit {0}
+Leaves c kind place (SetHand p hand) = Unit {0}
+
+abbrev pub AllLeave : Id → HoldKind → List ℕ → List Edit → Type 0
+AllLeave c kind place edits = AllByRecursion (Leaves c kind place) edits
+
+module _ (c : Id) (kind : HoldKind) (place : List ℕ) where
+  left_by : (edit : Edit) (R : Register) → Leaves c kind place edit → has_hold R.holds c kind place ≡ true → has_hold (Register.holds (edited edit R)) c kind place ≡ true
+  left_by (TakeHold h) R leaves has = has_hold-taken h R.holds c kind place ∙ rw (leaves, has) refl
+  left_by (PutHold h) R leaves has = has_hold-put h R.holds c kind place ∙ ap (λ b. is_hold h c kind place || b) has ∙ or-true (is_hold h c kind place)
+  left_by (PutRecord r) R leaves has = has
+  left_by (PutStep row) R leaves has = has
+  left_by (SetPosition p position) R leaves has = has
+  left_by (SetHand p hand) R leaves has = has
+
+  pub left_by_all : (edits : List Edit) (R : Register) → AllLeave c kind place edits → has_hold R.holds c kind place ≡ true
+      → has_hold (Register.holds (edited_all edits R)) c kind place ≡ true
+  unfolding edited_all
+  left_by_all [] R leave has = has
+  left_by_all (edit ∷ edits) R leave has = left_by_all edits (edited edit R) leave.1 (left_by edit R leave.0 has)
+
+  pub steps_leave : (rows : List StepRow) → AllLeave c kind place (put_steps rows)
+  steps_leave [] = tt
+  steps_leave (row ∷ rows) = (tt, steps_leave rows)

@@ -1,0 +1,84 @@
+-- Runs: what every command keeps, a run keeps; and a run that goes on where another ended.
+use Rattle.std.proofs.Common.{◌≡◌, ◌∙◌, suc, List, [], ◌∷◌, ◌++◌, length, refl, sym, ap, subst}
+use Rattle.clr_csv.specs.Staff.{IsStaff}
+use Rattle.clr_csv.specs.declared.employee.StaffRow.{StaffRow}
+use Rattle.clr_net.specs.Grid.{Grid, IsNetwork}
+use Rattle.clr_rules.specs.Answer.{Answer, answer}
+use Rattle.clr_rules.specs.Good.{ListsAreInOrder}
+use Rattle.clr_rules.specs.Register.{Register, opening}
+use Rattle.clr_rules.specs.Run.{IsReached, after, after_all, replies}
+use Rattle.clr_rules.specs.RunLaws.{GoesOn, KeepsOpening}
+use Rattle.clr_rules.specs.declared.command.Command.{Command}
+use Rattle.clr_rules.proofs.edits.EditedLists.{edited_all-in_order, edited_all-network}
+use Rattle.clr_rules.proofs.good.Opening.{opening_is_in_order, opening_keeps}
+
+-- what each command keeps, a run keeps
+pub kept_by_run : (P : Register → Type 0) → ((R : Register) (q : Command) → P R → P (after R q)) → (R : Register) (commands : List Command) → P R → P (after_all R commands)
+unfolding after_all
+kept_by_run P step R [] h = h
+kept_by_run P step R (q ∷ commands) h = kept_by_run P step (after R q) commands (step R q h)
+
+-- and what opening registers have besides, every reached register has
+pub reached_have : (P : Register → Type 0) → ((g : Grid) (staff : List StaffRow) → IsNetwork g → IsStaff staff → P (opening g staff))
+    → ((R : Register) (q : Command) → P R → P (after R q)) → (R : Register) → IsReached R → P R
+reached_have P first step R reached =
+    subst P (sym reached.reached) (kept_by_run P step (opening reached.net reached.staff) reached.commands (first reached.net reached.staff reached.is_network reached.is_staff))
+
+pub reached_lists_are_in_order : (R : Register) → IsReached R → ListsAreInOrder R
+reached_lists_are_in_order = reached_have ListsAreInOrder (λ g staff net _. opening_is_in_order g staff net)
+    (λ R q h. edited_all-in_order R (Answer.edits (answer R q)) h)
+
+-- the order of the lists, and what no command changes
+record Keeps (g : Grid) (staff : List StaffRow) (R : Register) : Type 0 where
+  in_order : ListsAreInOrder R
+  opened : KeepsOpening g staff R
+
+keeps_more : (g : Grid) (staff : List StaffRow) (R : Register) (q : Command) → Keeps g staff R → Keeps g staff (after R q)
+keeps_more g staff R q h =
+    let edits = Answer.edits (answer R q) in
+    let kept = edited_all-network R edits h.in_order in
+    record {
+      in_order = edited_all-in_order R edits h.in_order;
+      opened = record {
+        same_net = kept.same_net ∙ h.opened.same_net;
+        same_staff = kept.same_staff ∙ h.opened.same_staff;
+        same_points = kept.same_points ∙ h.opened.same_points;
+      };
+    }
+
+pub runs_keep_opening : (g : Grid) (staff : List StaffRow) → IsNetwork g → (commands : List Command) → KeepsOpening g staff (after_all (opening g staff) commands)
+runs_keep_opening g staff net commands =
+    let kept = kept_by_run (Keeps g staff) (keeps_more g staff) (opening g staff) commands (record { in_order = opening_is_in_order g staff net; opened = opening_keeps g staff }) in
+    kept.opened
+
+pub commands_are_replied : (R : Register) (commands : List Command) → length (replies R commands) ≡ length commands
+unfolding replies
+commands_are_replied R [] = refl
+commands_are_replied R (q ∷ commands) = ap suc (commands_are_replied (after R q) commands)
+
+after_all-append : (R : Register) (earlier later : List Command) → after_all R (earlier ++ later) ≡ after_all (after_all R earlier) later
+unfolding after_all
+after_all-append R [] later = refl
+after_all-append R (q ∷ earlier) later = after_all-append (after R q) earlier later
+
+replies-append : (R : Register) (earlier later : List Command) → replies R (earlier ++ later) ≡ replies R earlier ++ replies (after_all R earlier) later
+unfolding replies after_all
+replies-append R [] later = refl
+replies-append R (q ∷ earlier) later = ap (λ rest. Answer.reply (answer R q) ∷ rest) (replies-append (after R q) earlier later)
+
+pub runs_go_on : (R : Register) (earlier later : List Command) → GoesOn R earlier later
+runs_go_on R earlier later = record { register = after_all-append R earlier later; replied = replies-append R earlier later }
+
+pub opening_is_reached : (g : Grid) (staff : List StaffRow) → IsNetwork g → IsStaff staff → IsReached (opening g staff)
+unfolding after_all
+opening_is_reached g staff net is_staff = record { net = g; staff = staff; commands = []; is_network = net; is_staff = is_staff; reached = refl }
+
+pub reached_go_on : (R : Register) → IsReached R → (commands : List Command) → IsReached (after_all R commands)
+reached_go_on R h commands = record {
+  net = h.net;
+  staff = h.staff;
+  commands = h.commands ++ commands;
+  is_network = h.is_network;
+  is_staff = h.is_staff;
+  reached = ap (λ S. after_all S commands) h.reached ∙ sym (after_all-append (opening h.net h.staff) h.commands commands);
+}

@@ -1,0 +1,12 @@
+pub mod DeadWork
+pub mod GoodToPhases
+pub mod IsolatingSteps
+pub mod Keeping
+pub mod Opening
+pub mod PhaseFacts
+pub mod PhasesToGood
+pub mod PlaceFacts
+pub mod PutHolds
+pub mod StepsInTurn
+pub mod Bounds
+pub mod Tags

@@ -1,0 +1,136 @@
+-- No command makes a number over 9,999, or a step of a third round.
+use Rattle.std.proofs.Common.{◌≡◌, ℕ, ◌+◌, ◌≤◌, Bool, true, false, cond, nat_eq, List, [], ◌∷◌, map, Option, Some, None, refl, sym, subst, arith, ◌⊎◌, inl, inr, ⊎_elim}
+use Rattle.std.specs.Prelude.{◌==◌}
+use Rattle.std.specs.List.{AllByRecursion}
+use Rattle.std.proofs.lemmas.Bool.{eqb-false}
+use Rattle.std.proofs.lemmas.List.Elements.{All-contains, All-nil}
+use Rattle.clr_net.specs.Grid.{Grid}
+use Rattle.clr_csv.specs.declared.employee.StaffRow.{StaffRow}
+use Rattle.clr_order.specs.Step.{Task}
+use Rattle.clr_shelf.specs.Groups.{All-with_row}
+use Rattle.clr_shelf.specs.Members.{member-row_of}
+use Rattle.clr_rules.specs.Answer.{Answer, known_of, settled}
+use Rattle.clr_rules.specs.Commands.{checks, edits_of}
+use Rattle.clr_rules.specs.BoundLaws.{IsBounded}
+use Rattle.clr_rules.specs.Changes.{done_edits, new_steps, put_steps, undone_edits}
+use Rattle.clr_rules.specs.Checks.{too_many_clearances}
+use Rattle.clr_rules.specs.EditLaws.{refusal_of}
+use Rattle.clr_rules.specs.Edits.{edited, edited_all}
+use Rattle.clr_rules.specs.Holds.{hold_of, places_of}
+use Rattle.clr_rules.specs.Id.{Id, id_cmp, id_cmp_total}
+use Rattle.clr_rules.proofs.good.Keeping.{asked}
+use Rattle.clr_rules.specs.Records.{greatest_number, is_switch_order, record_key, record_of}
+use Rattle.clr_rules.specs.Register.{Register, opening}
+use Rattle.clr_rules.specs.Run.{IsReached, after}
+use Rattle.clr_rules.specs.StepKey.{step_key, step_key_cmp, step_key_cmp_total}
+use Rattle.clr_rules.specs.Steps.{present, step_at}
+use Rattle.clr_rules.specs.declared.change.Edit.{Edit}
+use Rattle.clr_rules.specs.declared.change.Edit.TheVariants.{PutHold, PutRecord, PutStep, SetHand, SetPosition, TakeHold}
+use Rattle.clr_rules.specs.declared.command.Command.{Command}
+use Rattle.clr_rules.specs.declared.command.Kind.{Kind}
+use Rattle.clr_rules.specs.declared.command.Kind.TheVariants as kinds
+use Rattle.clr_rules.specs.declared.hold_kind.HoldKind.TheVariants.{Tested}
+use Rattle.clr_rules.specs.declared.record.Record.{Record}
+use Rattle.clr_rules.specs.declared.refusal.Refusal.{Refusal}
+use Rattle.clr_rules.specs.declared.refusal.Refusal.TheVariants.{TooManyClearances}
+use Rattle.clr_rules.specs.declared.step_row.StepRow.{StepRow}
+use Rattle.clr_rules.proofs.lists.FoundSteps.{present_step}
+use Rattle.clr_rules.proofs.lists.Greatest.{greatest_is_greatest}
+use Rattle.clr_rules.proofs.edits.Passing.{Pass, all_pass, not_refused}
+use Rattle.clr_rules.proofs.edits.PutRows.{AllPutSuch, PutsSuch, both_put, by_record, by_step, done_put, steps_put, takes_put}
+use Rattle.clr_rules.proofs.edits.Runs.{reached_have}
+
+abbrev IsNumber : Record → Type 0
+IsNumber r = r.id.number ≤ 9999
+
+abbrev IsRound : StepRow → Type 0
+IsRound row = (row.round ≡ 1) ⊎ (row.round ≡ 2)
+
+abbrev PutInBounds : List Edit → Type 0
+PutInBounds edits = AllPutSuch IsNumber IsRound edits
+
+new_in_bounds : (d : Id) (round n : ℕ) (tasks : List Task) → (round ≡ 1) ⊎ (round ≡ 2) → AllByRecursion IsRound (new_steps d round n tasks)
+unfolding new_steps
+new_in_bounds d round n [] is = tt
+new_in_bounds d round n (t ∷ tasks) is = (is, new_in_bounds d round (n + 1) tasks is)
+
+new_put : (d : Id) (round : ℕ) (tasks : List Task) → (round ≡ 1) ⊎ (round ≡ 2) → PutInBounds (put_steps (new_steps d round 1 tasks))
+new_put d round tasks is = steps_put IsNumber IsRound (new_steps d round 1 tasks) (new_in_bounds d round 1 tasks is)
+
+module _ (R : Register) (bounded : IsBounded R) (by : List ℕ) (at : ℕ) where
+  of_record : (c : Id) (r : Record) → record_of R.records c ≡ Some r → IsNumber r
+  of_record c r found = All-contains IsNumber R.records r bounded.numbers (member-row_of id_cmp record_key id_cmp_total c r R.records found).0
+
+  of_step : (c : Id) (n : ℕ) (row : StepRow) → step_at (present R.steps c) n ≡ Some row → IsRound row
+  of_step c n row found = All-contains IsRound R.steps row bounded.rounds (present_step R.steps c n row found).there
+
+  -- the number after the greatest
+  next_number : too_many_clearances (greatest_number R.records by) ≡ None → greatest_number R.records by + 1 ≤ 9999
+  next_number passed =
+      let differs = not_refused (greatest_number R.records by == 9999) TooManyClearances passed in
+      below (greatest_number R.records by) differs (⊎_elim (λ none. subst (λ n. n ≤ 9999) (sym none) (omega arith))
+      (λ some. subst (λ n. n ≤ 9999) some.3 (All-contains IsNumber R.records some.0 bounded.numbers some.1))
+      (greatest_is_greatest R.records by).1)
+    where
+      below : (n : ℕ) → nat_eq n 9999 ≡ false → n ≤ 9999 → n + 1 ≤ 9999
+      below n differs small = let other = eqb-false n 9999 differs in omega (arith, other)
+
+  all_in_bounds : (kind : Kind) → Pass (checks (known_of R (asked by at kind)) R by at kind) → PutInBounds (edits_of (known_of R (asked by at kind)).greatest R by at kind)
+  all_in_bounds (kinds.Request section) passed = (next_number passed.1.1.1.0, tt)
+  all_in_bounds (kinds.Order c points tasks) passed = by_record PutInBounds tt R c _ (λ r found. (of_record c r found, new_put c 1 tasks (inl refl)))
+  all_in_bounds (kinds.Instruct c n) passed = by_step PutInBounds tt R c n _ (λ r row found step. (tt, (of_record c r found, (of_step c n row step, tt))))
+  all_in_bounds (kinds.Repeat c n text) passed = by_step PutInBounds tt R c n _ (λ r row found step. (of_record c r found, (of_step c n row step, tt)))
+  all_in_bounds (kinds.Report c n done) passed = by_step PutInBounds tt R c n _ (λ r row found step. by_done done r row (of_record c r found) (of_step c n row step))
+    where
+      by_done : (done : Bool) (r : Record) (row : StepRow) → IsNumber r → IsRound row → PutInBounds (cond done (done_edits R at r row) (undone_edits at r row))
+      by_done true r row number round = done_put IsNumber IsRound (is_switch_order r) r.id row.step.action row.step.point _ _ number round
+      by_done false r row number round = (tt, (number, (round, tt)))
+  all_in_bounds (kinds.Grant c) passed = by_record PutInBounds tt R c _ (λ r found. (of_record c r found, tt))
+  all_in_bounds (kinds.Test c section dead) passed = by_record PutInBounds tt R c _ (λ r found. by_dead dead (record r { last = at }) (of_record c r found))
+    where
+      by_dead : (dead : Bool) (s : Record) → IsNumber s → PutInBounds (cond dead (PutHold (hold_of c Tested section)) (TakeHold (hold_of c Tested section)) ∷ PutRecord s ∷ [])
+      by_dead true s number = (tt, (number, tt))
+      by_dead false s number = (tt, (number, tt))
+  all_in_bounds (kinds.Ground c section) passed = by_record PutInBounds tt R c _ (λ r found. (tt, (of_record c r found, tt)))
+  all_in_bounds (kinds.Unground c section) passed = by_record PutInBounds tt R c _ (λ r found. (tt, (tt, (of_record c r found, tt))))
+  all_in_bounds (kinds.SignOn c crew) passed = by_record PutInBounds tt R c _ (λ r found. (tt, (of_record c r found, tt)))
+  all_in_bounds (kinds.SignOff c crew) passed = by_record PutInBounds tt R c _ (λ r found. (tt, (of_record c r found, tt)))
+  all_in_bounds (kinds.Transfer c to emergency) passed = by_record PutInBounds tt R c _ (λ r found. (of_record c r found, tt))
+  all_in_bounds (kinds.Release c notified clear) passed = by_record PutInBounds tt R c _ (λ r found.
+      both_put IsNumber IsRound (map (λ place. TakeHold (hold_of c Tested place)) (places_of R.holds c Tested)) _
+      (takes_put IsNumber IsRound c (places_of R.holds c Tested)) (of_record c r found, tt))
+  all_in_bounds (kinds.Cancel c) passed = by_record PutInBounds tt R c _ (λ r found. (of_record c r found, tt))
+  all_in_bounds (kinds.Restore c tasks) passed = by_record PutInBounds tt R c _ (λ r found. (of_record c r found, new_put c 2 tasks (inr refl)))
+  all_in_bounds (kinds.Amend c n) passed = by_step PutInBounds tt R c n _ (λ r row found step. (of_record c r found, (of_step c n row step, tt)))
+  all_in_bounds (kinds.Switch tasks) passed = (next_number passed.1.1.0, new_put _ 1 tasks (inl refl))
+  all_in_bounds (kinds.Show c) passed = tt
+
+-- edits that put in bounds
+edited_bounded : (edit : Edit) (R : Register) → PutsSuch IsNumber IsRound edit → IsBounded R → IsBounded (edited edit R)
+edited_bounded (PutRecord r) R such bounded =
+    record { numbers = All-with_row id_cmp record_key id_cmp_total IsNumber r R.records such bounded.numbers; rounds = bounded.rounds }
+edited_bounded (PutStep row) R such bounded =
+    record { numbers = bounded.numbers; rounds = All-with_row step_key_cmp step_key step_key_cmp_total IsRound row R.steps such bounded.rounds }
+edited_bounded (SetPosition p position) R such bounded = record { numbers = bounded.numbers; rounds = bounded.rounds }
+edited_bounded (SetHand p hand) R such bounded = record { numbers = bounded.numbers; rounds = bounded.rounds }
+edited_bounded (PutHold h) R such bounded = record { numbers = bounded.numbers; rounds = bounded.rounds }
+edited_bounded (TakeHold h) R such bounded = record { numbers = bounded.numbers; rounds = bounded.rounds }
+
+edited_all_bounded : (edits : List Edit) (R : Register) → PutInBounds edits → IsBounded R → IsBounded (edited_all edits R)
+unfolding edited_all
+edited_all_bounded [] R such bounded = bounded
+edited_all_bounded (edit ∷ edits) R such bounded = edited_all_bounded edits (edited edit R) such.1 (edited_bounded edit R such.0 bounded)
+
+commands_bounded : (R : Register) (q : Command) → IsBounded R → IsBounded (after R q)
+commands_bounded R q bounded = at (refusal_of R q) refl
+  where
+    at : (refused : Option Refusal) → refusal_of R q ≡ refused → IsBounded (edited_all (Answer.edits (settled (known_of R q) R q refused)) R)
+    at None passed = edited_all_bounded (edits_of (known_of R q).greatest R q.caller q.moment q.kind) R
+        (all_in_bounds R bounded q.caller q.moment q.kind (all_pass (checks (known_of R q) R q.caller q.moment q.kind) passed)) bounded
+    at (Some refusal) is = edited_all_bounded [] R tt bounded
+
+opening_is_bounded : (g : Grid) (staff : List StaffRow) → IsBounded (opening g staff)
+opening_is_bounded g staff = record { numbers = All-nil IsNumber; rounds = All-nil IsRound }
+
+pub reached_are_bounded : (R : Register) → IsReached R → IsBounded R
+reached_are_bounded = reached_have IsBounded (λ g staff net is_staff. opening_is_bounded g staff) commands_bounded

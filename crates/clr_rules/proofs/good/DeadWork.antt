@@ -1,0 +1,99 @@
+-- What work on a line rests on, from the parts of a good register.
+use Rattle.std.proofs.Common.{◌≡◌, ◌∙◌, ℕ, true, false, IsTrue, Option, Some, None, List, Contains, refl, ap}
+use Rattle.std.proofs.lemmas.Bool.{both_ways, false≢true}
+use Rattle.std.proofs.lemmas.List.Elements.{All-contains}
+use Rattle.clr_net.specs.Grid.{Grid, section_names}
+use Rattle.clr_net.specs.Names.{has_name}
+use Rattle.clr_net.specs.declared.point.PointRow.{PointRow}
+use Rattle.clr_net.specs.declared.point.Position.TheVariants.{Opened}
+use Rattle.clr_net.specs.declared.section.SectionRow.{SectionRow}
+use Rattle.clr_net.proofs.Walks.{fence_is_closed}
+use Rattle.clr_shelf.specs.Members.{member-row_of}
+use Rattle.clr_rules.specs.Fences.{clearance_fence, work_fence}
+use Rattle.clr_rules.specs.Good.{IsFullyHeld, IsGood, is_known_work, works_on}
+use Rattle.clr_rules.specs.Holds.{has_hold}
+use Rattle.clr_rules.specs.Id.{Id, id_cmp, id_cmp_total}
+use Rattle.clr_rules.specs.Live.{is_live}
+use Rattle.clr_rules.specs.LiveLaws.{ClosedWalk}
+use Rattle.clr_rules.specs.Records.{is_fenced, is_granted, record_key, record_of}
+use Rattle.clr_rules.specs.Register.{Register}
+use Rattle.clr_rules.specs.States.{position_of}
+use Rattle.clr_rules.specs.Steps.{points_of, steps_in}
+use Rattle.clr_rules.specs.WorkLaws.{IsSafeWork}
+use Rattle.clr_rules.specs.declared.hold_kind.HoldKind.TheVariants.{HeldOpen, Ground, Crew}
+use Rattle.clr_rules.specs.declared.phase.Phase.{Phase}
+use Rattle.clr_rules.specs.declared.phase.Phase.TheVariants.{Requested, Ordered, Granted, Released, Restoring, Switching, Closed}
+use Rattle.clr_rules.specs.declared.record.Record.{Record}
+use Rattle.clr_rules.proofs.live.FenceCuts.{named_from_in_fence}
+use Rattle.clr_rules.proofs.live.LiveSections.{live_is_closed_walks}
+
+granted_is_fenced : (phase : Phase) → is_granted phase ≡ true → is_fenced phase ≡ true
+granted_is_fenced Granted granted = refl
+granted_is_fenced Requested granted = cc
+granted_is_fenced Ordered granted = refl
+granted_is_fenced Released granted = refl
+granted_is_fenced Restoring granted = refl
+granted_is_fenced Switching granted = refl
+granted_is_fenced Closed granted = cc
+
+-- a record is one of the list, and of its clearance
+found_record : (R : Register) (c : Id) (r : Record) → record_of R.records c ≡ Some r → Contains R.records r
+found_record R c r found = (member-row_of id_cmp record_key id_cmp_total c r R.records found).0
+
+module _ (R : Register) (good : IsGood R) (c : Id) where
+  -- the fence of a clearance that has one
+  fence_of_granted : (r : Record) (work : List ℕ) → record_of R.records c ≡ Some r → is_granted r.phase ≡ true → r.work ≡ Some work
+      → clearance_fence R c ≡ work_fence R.net (Some work) (points_of (steps_in R.steps r.id 1))
+  fence_of_granted r work found granted is = rw (found, granted_is_fenced r.phase granted, is) refl
+
+  pub granted_fences_stay_dead : (r : Record) → record_of R.records c ≡ Some r → is_granted r.phase ≡ true
+      → (s : List ℕ) → has_name (clearance_fence R c) s ≡ true → is_live R.net R.states s ≡ false
+  granted_fences_stay_dead = good.granted_fences_are_dead c
+
+  -- the work section lies in its own fence
+  pub granted_work_is_dead : (r : Record) → record_of R.records c ≡ Some r → is_granted r.phase ≡ true
+      → (work : List ℕ) → r.work ≡ Some work → (has_name (clearance_fence R c) work ≡ true) × (is_live R.net R.states work ≡ false)
+  granted_work_is_dead r found granted work is =
+      let all_known = All-contains (λ (r : Record). IsTrue (is_known_work (section_names (Grid.sections R.net)) r.work)) R.records r good.numbers_have_no_gaps.work_known (found_record R c r found) in
+      let known : has_name (section_names (Grid.sections R.net)) work ≡ true = rw is at all_known in
+      let cut = points_of (steps_in R.steps r.id 1) in
+      let inside : has_name (clearance_fence R c) work ≡ true =
+      ap (λ fence. has_name fence work) (fence_of_granted r work found granted is)
+      ∙ named_from_in_fence R.net work good.network cut work ((fence_is_closed R.net good.network work cut).0 known) in
+      (inside, good.granted_fences_are_dead c r found granted work inside)
+
+  pub grounded_sections_are_dead : (s : List ℕ) → has_hold R.holds c Ground s ≡ true → is_live R.net R.states s ≡ false
+  grounded_sections_are_dead s grounded =
+      let (r, found, granted) = good.work_holds_belong.granted c Ground s refl grounded in
+      good.granted_fences_are_dead c r found granted s (good.work_holds_belong.grounded_inside c s grounded)
+
+  pub no_source_feeds_grounds : (s : List ℕ) → has_hold R.holds c Ground s ≡ true
+      → (source : SectionRow) → Contains (Grid.sections R.net) source → source.source ≡ true → ClosedWalk (Grid.points R.net) R.states source.name s → ⊥
+  no_source_feeds_grounds s grounded source there is_source walk =
+      both_ways (is_live R.net R.states s) (grounded_sections_are_dead s grounded)
+      ((live_is_closed_walks R.net R.states good.network s).1 (source, there, is_source, walk))
+
+  pub granted_points_bear_all_holds : (r : Record) → record_of R.records c ≡ Some r → is_granted r.phase ≡ true
+      → (point : PointRow) → Contains (Grid.points R.net) point → has_name (points_of (steps_in R.steps c 1)) point.name ≡ true
+      → (position_of R.states point.name ≡ Some Opened) × IsFullyHeld R.holds c point
+  granted_points_bear_all_holds r found granted point there cut =
+      let held = good.granted_points_are_held.held c r found granted point there cut in
+      (good.held_points_are_open.open_there c HeldOpen point.name refl held.held_open, held)
+
+  crew_works : (crew : List ℕ) (r : Record) (work : Option (List ℕ)) → r.work ≡ work → record_of R.records c ≡ Some r → is_granted r.phase ≡ true
+      → works_on R.holds c Ground work ≡ true → IsSafeWork R c
+  crew_works crew r None is found granted grounded = absurd (false≢true grounded)
+  crew_works crew r (Some work) is found granted grounded = record {
+    clearance = r;
+    work = work;
+    recorded = found;
+    granted = granted;
+    worked_on = is;
+    grounded = grounded;
+    dead = (granted_work_is_dead r found granted work is).1;
+  }
+
+  pub crews_work_safely : (crew : List ℕ) → has_hold R.holds c Crew crew ≡ true → IsSafeWork R c
+  crews_work_safely crew on =
+      let (r, found, granted) = good.work_holds_belong.granted c Crew crew refl on in
+      crew_works crew r r.work refl found granted (good.work_holds_belong.crews_grounded c crew r on found)

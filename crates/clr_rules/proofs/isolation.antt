@@ -1,0 +1,11 @@
+pub mod Agreement
+pub mod Headline
+pub mod Locality
+pub mod LookAlike
+pub mod OthersEdits
+pub mod OthersSteps
+pub mod OwnSteps
+pub mod PartEdits
+pub mod SameFences
+pub mod Sparing
+pub mod RunReplies

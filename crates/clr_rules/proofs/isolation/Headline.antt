@@ -1,0 +1,332 @@
+-- The headline's first half, from the steps: by the first list of commands, and inside it by the second, past what shows nothing.
+use Rattle.std.proofs.Common.{◌≡◌, ℕ, Bool, true, false, cond, List, [], ◌∷◌, Option, refl, sym, ◌∙◌, ap, subst}
+use Rattle.std.specs.Prelude.{if◌then◌else◌}
+use Rattle.std.specs.List.{filter, find, list_all}
+use Rattle.std.proofs.lemmas.Bool.{and_from, and_parts, false≢true}
+use Rattle.clr_csv.specs.declared.employee.StaffRow.{StaffRow}
+use Rattle.clr_net.specs.Grid.{Grid}
+use Rattle.clr_net.specs.Name.{same_name}
+use Rattle.clr_net.specs.declared.section.SectionRow.{SectionRow}
+use Rattle.clr_rules.specs.Agreement.{Agree}
+use Rattle.clr_rules.specs.Answer.{Answer, answer}
+use Rattle.clr_rules.specs.Checks.{employee, has_role, is_operator}
+use Rattle.clr_rules.specs.Fences.{clearance_fence}
+use Rattle.clr_rules.specs.Good.{IsGood, ListsAreInOrder, is_operators}
+use Rattle.clr_rules.specs.Id.{Id}
+use Rattle.clr_rules.specs.Isolation.{AreAlike, OwnCommandsAlone, SameShownSameAnswers, is_own_item}
+use Rattle.clr_rules.specs.Register.{Register}
+use Rattle.clr_rules.specs.Run.{after, after_all}
+use Rattle.clr_rules.specs.Shown.{Item, asked_row, covers, heard, includes, is_own_command, marks_of, own_answers, shown}
+use Rattle.clr_rules.specs.declared.change.Edit.{Edit}
+use Rattle.clr_rules.specs.declared.command.Command.{Command}
+use Rattle.clr_rules.specs.declared.command.Kind.{Kind}
+use Rattle.clr_rules.specs.declared.command.Kind.TheVariants.{Request}
+use Rattle.clr_rules.proofs.isolation.Agreement.{agrees_with_itself}
+use Rattle.clr_rules.proofs.edits.EditedLists.{edited_all-in_order, edited_all-network}
+use Rattle.clr_rules.proofs.keeps.EveryKind.{commands_keep_good, reached_are_good}
+use Rattle.clr_rules.proofs.isolation.OthersSteps.{first_step, others_step, second_step}
+use Rattle.clr_rules.proofs.isolation.OwnSteps.{own_step}
+use Rattle.clr_rules.proofs.edits.Runs.{reached_lists_are_in_order}
+
+-- ---- what a first command shows and is answered
+
+module _ (c : Id) (inside : List ℕ → Bool) (R : Register) (q : Command) (rest : List Command) where
+  pub shown_own : is_own_command c q ≡ true → shown c inside R (q ∷ rest) ≡ Item.own q (asked_row R q.kind) ∷ shown c inside (after R q) rest
+  unfolding shown
+  shown_own is = ap (λ b. if b then Item.own q (asked_row R q.kind) ∷ shown c inside (after R q) rest
+      else heard (marks_of R.net inside (Answer.edits (answer R q))) (shown c inside (after R q) rest)) is
+
+  pub shown_heard : is_own_command c q ≡ false → (marks : List Edit) → marks_of R.net inside (Answer.edits (answer R q)) ≡ marks
+      → shown c inside R (q ∷ rest) ≡ heard marks (shown c inside (after R q) rest)
+  unfolding shown
+  shown_heard is marks are = ap (λ b. if b then Item.own q (asked_row R q.kind) ∷ shown c inside (after R q) rest
+      else heard (marks_of R.net inside (Answer.edits (answer R q))) (shown c inside (after R q) rest)) is
+      ∙ ap (λ (edits : List Edit). heard edits (shown c inside (after R q) rest)) are
+
+module _ (c : Id) (R : Register) (q : Command) (rest : List Command) where
+  pub answered_own : is_own_command c q ≡ true → own_answers c R (q ∷ rest) ≡ answer R q ∷ own_answers c (after R q) rest
+  unfolding own_answers
+  answered_own is = ap (λ b. if b then answer R q ∷ own_answers c (after R q) rest else own_answers c (after R q) rest) is
+
+  pub answered_others : is_own_command c q ≡ false → own_answers c R (q ∷ rest) ≡ own_answers c (after R q) rest
+  unfolding own_answers
+  answered_others is = ap (λ b. if b then answer R q ∷ own_answers c (after R q) rest else own_answers c (after R q) rest) is
+
+-- ---- equal items
+
+none_is_none : (item : Item) (items : List Item) → [] ≡ item ∷ items → ⊥
+none_is_none item items same = cc
+
+own_is_no_marks : (q : Command) (row : Option SectionRow) (edit : Edit) (edits : List Edit) (items others : List Item)
+    → Item.own q row ∷ items ≡ Item.marks edit edits ∷ others → ⊥
+own_is_no_marks q row edit edits items others same = cc
+
+module _ (q p : Command) (asked found : Option SectionRow) (items others : List Item) (same : Item.own q asked ∷ items ≡ Item.own p found ∷ others) where
+  same_command : q ≡ p
+  same_command = cc
+
+  same_row : asked ≡ found
+  same_row = cc
+
+  same_after_own : items ≡ others
+  same_after_own = cc
+
+module _ (edit mark : Edit) (edits marks : List Edit) (items others : List Item) (same : Item.marks edit edits ∷ items ≡ Item.marks mark marks ∷ others) where
+  same_marks : edit ∷ edits ≡ mark ∷ marks
+  same_marks = cc
+
+  same_after_marks : items ≡ others
+  same_after_marks = cc
+
+-- ---- two registers side by side
+
+-- two good registers that agree near a clearance whose requester is no operator
+pub record Alongside (c : Id) (inside : List ℕ → Bool) (R S : Register) : Type 0 where
+  pub first_good : IsGood R
+  pub second_good : IsGood S
+  pub no_operator : is_operators R c.requester ≡ false
+  pub agree : Agree c inside R S
+
+alike : (c : Id) (inside : List ℕ → Bool) (R S : Register) (commands : List Command) → Alongside c inside R S → covers c inside R commands ≡ true
+    → AreAlike c inside R S commands
+alike c inside R S commands near covered = record {
+  first_good = near.first_good;
+  second_good = near.second_good;
+  no_operator = near.no_operator;
+  agree = near.agree;
+  covered = covered;
+}
+
+-- no command makes the requester an operator
+still_no_operator : (c : Id) (R : Register) (q : Command) → IsGood R → is_operators R c.requester ≡ false → is_operators (after R q) c.requester ≡ false
+still_no_operator c R q good none =
+    let kept = edited_all-network R (Answer.edits (answer R q)) good.in_order in
+    ap (λ (staff : List StaffRow). has_role is_operator (employee staff c.requester)) kept.same_staff ∙ none
+
+module _ (c : Id) (inside : List ℕ → Bool) (R S : Register) (near : Alongside c inside R S) where
+  both_on : (q p : Command) → Agree c inside (after R q) (after S p) → Alongside c inside (after R q) (after S p)
+  both_on q p agree = record {
+    first_good = commands_keep_good R q near.first_good;
+    second_good = commands_keep_good S p near.second_good;
+    no_operator = still_no_operator c R q near.first_good near.no_operator;
+    agree = agree;
+  }
+
+  first_on : (q : Command) → Agree c inside (after R q) S → Alongside c inside (after R q) S
+  first_on q agree = record {
+    first_good = commands_keep_good R q near.first_good;
+    second_good = near.second_good;
+    no_operator = still_no_operator c R q near.first_good near.no_operator;
+    agree = agree;
+  }
+
+  second_on : (p : Command) → Agree c inside R (after S p) → Alongside c inside R (after S p)
+  second_on p agree = record {
+    first_good = near.first_good;
+    second_good = commands_keep_good S p near.second_good;
+    no_operator = near.no_operator;
+    agree = agree;
+  }
+
+-- ---- a set that covers a run
+
+module _ (c : Id) (inside : List ℕ → Bool) where
+  covers_fence : (R : Register) (commands : List Command) → covers c inside R commands ≡ true → includes inside (clearance_fence R c) ≡ true
+  unfolding covers
+  covers_fence R [] covered = covered
+  covers_fence R (q ∷ commands) covered = (and_parts _ _ (and_parts _ _ covered).0).0
+
+  covers_after : (R : Register) (q : Command) (commands : List Command) → covers c inside R (q ∷ commands) ≡ true → covers c inside (after R q) commands ≡ true
+  unfolding covers
+  covers_after R q commands covered = (and_parts _ _ covered).1
+
+  covers_none : (R : Register) (commands : List Command) → covers c inside R commands ≡ true → covers c inside R [] ≡ true
+  unfolding covers
+  covers_none R commands covered = covers_fence R commands covered
+
+  -- the first command alone is covered: the fences before it, and the fence after it
+  covers_one : (R : Register) (q : Command) (commands : List Command) → covers c inside R (q ∷ commands) ≡ true → covers c inside R (q ∷ []) ≡ true
+  unfolding covers
+  covers_one R q commands covered = and_from _ _ (and_parts _ _ covered).0 (covers_fence (after R q) commands (and_parts _ _ covered).1)
+
+-- ---- past what shows nothing in the second list
+
+module _ (c : Id) (inside : List ℕ → Bool) (R : Register) (commands : List Command) where
+  -- the replies are the same, and the registers agree at the end
+  abbrev pub EndAlike : Register → List Command → Type 0
+  EndAlike S others = (own_answers c R commands ≡ own_answers c S others) × Agree c inside (after_all R commands) (after_all S others)
+
+  -- what is owed where the second list ends, and where its next command shows something
+  record Meets (items : List Item) : Type 0 where
+    at_end : (S : Register) → Alongside c inside R S → items ≡ [] → EndAlike S []
+    at_own : (S : Register) (p : Command) (rest : List Command) → Alongside c inside R S → is_own_command c p ≡ true
+        → items ≡ Item.own p (asked_row S p.kind) ∷ shown c inside (after S p) rest → EndAlike S (p ∷ rest)
+    at_marks : (S : Register) (p : Command) (rest : List Command) → Alongside c inside R S → is_own_command c p ≡ false
+        → (edit : Edit) (edits : List Edit) → marks_of S.net inside (Answer.edits (answer S p)) ≡ edit ∷ edits
+        → items ≡ Item.marks edit edits ∷ shown c inside (after S p) rest → EndAlike S (p ∷ rest)
+
+  module _ (items : List Item) (meets : Meets items) (covered : covers c inside R [] ≡ true) where
+    -- a command of others that shows nothing is passed over; the rest are met
+    past_others : (S : Register) (p : Command) (rest : List Command) → ((T : Register) → Alongside c inside R T → items ≡ shown c inside T rest → EndAlike T rest)
+        → Alongside c inside R S → is_own_command c p ≡ false → (marks : List Edit) → marks_of S.net inside (Answer.edits (answer S p)) ≡ marks
+        → items ≡ heard marks (shown c inside (after S p) rest) → EndAlike S (p ∷ rest)
+    unfolding after_all
+    past_others S p rest later near is [] none same =
+        let end = later (after S p) (second_on c inside R S near p (second_step c inside R S [] (alike c inside R S [] near covered) p is none)) same in
+        (end.0 ∙ sym (answered_others c S p rest is), end.1)
+    past_others S p rest later near is (edit ∷ edits) are same = meets.at_marks S p rest near is edit edits are same
+
+    past_one : (S : Register) (p : Command) (rest : List Command) → ((T : Register) → Alongside c inside R T → items ≡ shown c inside T rest → EndAlike T rest)
+        → Alongside c inside R S → (b : Bool) → is_own_command c p ≡ b → items ≡ shown c inside S (p ∷ rest) → EndAlike S (p ∷ rest)
+    past_one S p rest later near true is same = meets.at_own S p rest near is (same ∙ shown_own c inside S p rest is)
+    past_one S p rest later near false is same =
+        let marks = marks_of S.net inside (Answer.edits (answer S p)) in
+        past_others S p rest later near is marks refl (same ∙ shown_heard c inside S p rest is marks refl)
+
+    past_silent : (others : List Command) (S : Register) → Alongside c inside R S → items ≡ shown c inside S others → EndAlike S others
+    unfolding shown
+    past_silent [] S near same = meets.at_end S near same
+    past_silent (p ∷ rest) S near same = past_one S p rest (past_silent rest) near (is_own_command c p) refl same
+
+-- ---- the first list
+
+module _ (c : Id) (inside : List ℕ → Bool) where
+  abbrev HoldsFor : List Command → Type 0
+  HoldsFor commands = (R S : Register) (others : List Command) → Alongside c inside R S → covers c inside R commands ≡ true
+      → shown c inside R commands ≡ shown c inside S others → EndAlike c inside R commands S others
+
+  at_the_end : HoldsFor []
+  unfolding shown own_answers after_all
+  at_the_end R S others near covered same = past_silent c inside R [] [] (record {
+    at_end = λ T along none. (refl, along.agree);
+    at_own = λ T p rest along is there. absurd (none_is_none _ _ there);
+    at_marks = λ T p rest along is edit edits are there. absurd (none_is_none _ _ there);
+  }) covered others S near same
+
+  module _ (q : Command) (rest : List Command) (later : HoldsFor rest) (R : Register) (covered : covers c inside R (q ∷ rest) ≡ true) where
+    -- an own command meets the same own command, and both are answered alike
+    own_meets_own : (S : Register) (others : List Command) → Alongside c inside R S → is_own_command c q ≡ true → asked_row R q.kind ≡ asked_row S q.kind
+        → shown c inside (after R q) rest ≡ shown c inside (after S q) others → EndAlike c inside R (q ∷ rest) S (q ∷ others)
+    unfolding after_all
+    own_meets_own S others near is row same =
+        let step = own_step c inside R S q (alike c inside R S (q ∷ []) near (covers_one c inside R q rest covered)) is row in
+        let end = later (after R q) (after S q) others (both_on c inside R S near q q step.1) (covers_after c inside R q rest covered) same in
+        (answered_own c R q rest is ∙ (λ i. step.0 i ∷ end.0 i) ∙ sym (answered_own c S q others is), end.1)
+
+    own_meets : is_own_command c q ≡ true → Meets c inside R (q ∷ rest) (Item.own q (asked_row R q.kind) ∷ shown c inside (after R q) rest)
+    own_meets is = record {
+      at_end = λ S near none. absurd (none_is_none _ _ (sym none));
+      at_own = λ S p others near p_is same.
+          let equal = same_command q p _ _ _ _ same in
+          subst (λ (p : Command). EndAlike c inside R (q ∷ rest) S (p ∷ others)) equal
+          (own_meets_own S others near is (same_row q p _ _ _ _ same ∙ ap (λ (x : Command). asked_row S x.kind) (sym equal))
+          (same_after_own q p _ _ _ _ same ∙ ap (λ (x : Command). shown c inside (after S x) others) (sym equal)));
+      at_marks = λ S p others near p_is edit edits are same. absurd (own_is_no_marks _ _ _ _ _ _ same);
+    }
+
+    -- marks meet equal marks, and the registers agree again
+    marks_meet : is_own_command c q ≡ false → (mark : Edit) (marks : List Edit) → marks_of R.net inside (Answer.edits (answer R q)) ≡ mark ∷ marks
+        → Meets c inside R (q ∷ rest) (Item.marks mark marks ∷ shown c inside (after R q) rest)
+    unfolding after_all
+    marks_meet is mark marks are = record {
+      at_end = λ S near none. absurd (none_is_none _ _ (sym none));
+      at_own = λ S p others near p_is same. absurd (own_is_no_marks _ _ _ _ _ _ (sym same));
+      at_marks = λ S p others near p_is edit edits p_are same.
+          let agree = others_step c inside R S q p (alike c inside R S (q ∷ []) near (covers_one c inside R q rest covered)) is p_is
+          (are ∙ same_marks mark edit marks edits _ _ same ∙ sym p_are) in
+          let end = later (after R q) (after S p) others (both_on c inside R S near q p agree) (covers_after c inside R q rest covered)
+          (same_after_marks mark edit marks edits _ _ same) in
+          (answered_others c R q rest is ∙ end.0 ∙ sym (answered_others c S p others p_is), end.1);
+    }
+
+    of_others : (S : Register) (others : List Command) → Alongside c inside R S → is_own_command c q ≡ false
+        → (marks : List Edit) → marks_of R.net inside (Answer.edits (answer R q)) ≡ marks
+        → heard marks (shown c inside (after R q) rest) ≡ shown c inside S others → EndAlike c inside R (q ∷ rest) S others
+    unfolding after_all
+    of_others S others near is [] none same =
+        let agree = first_step c inside R S (q ∷ []) (alike c inside R S (q ∷ []) near (covers_one c inside R q rest covered)) q is none in
+        let end = later (after R q) S others (first_on c inside R S near q agree) (covers_after c inside R q rest covered) same in
+        (answered_others c R q rest is ∙ end.0, end.1)
+    of_others S others near is (edit ∷ edits) are same =
+        past_silent c inside R (q ∷ rest) (Item.marks edit edits ∷ shown c inside (after R q) rest) (marks_meet is edit edits are)
+        (covers_none c inside R (q ∷ rest) covered) others S near same
+
+    one_more : (S : Register) (others : List Command) → Alongside c inside R S → (b : Bool) → is_own_command c q ≡ b
+        → shown c inside R (q ∷ rest) ≡ shown c inside S others → EndAlike c inside R (q ∷ rest) S others
+    one_more S others near true is same =
+        past_silent c inside R (q ∷ rest) (Item.own q (asked_row R q.kind) ∷ shown c inside (after R q) rest) (own_meets is)
+        (covers_none c inside R (q ∷ rest) covered) others S near (sym (shown_own c inside R q rest is) ∙ same)
+    one_more S others near false is same =
+        let marks = marks_of R.net inside (Answer.edits (answer R q)) in
+        of_others S others near is marks refl (sym (shown_heard c inside R q rest is marks refl) ∙ same)
+
+  pub good_alike : (commands : List Command) → HoldsFor commands
+  good_alike [] = at_the_end
+  good_alike (q ∷ rest) = λ R S others near covered. one_more q rest (good_alike rest) R covered S others near (is_own_command c q) refl
+
+-- THE HEADLINE, FIRST HALF
+pub same_shown : SameShownSameAnswers
+same_shown c inside R S commands others R_reached S_reached no_operator agree covered same =
+    good_alike c inside commands R S others (record {
+      first_good = reached_are_good R R_reached;
+      second_good = reached_are_good S S_reached;
+      no_operator = no_operator;
+      agree = agree;
+    }) covered same
+
+-- ---- own commands alone
+
+-- where all that is shown is own commands, the own commands alone show the same, also to another register of the same network
+module _ (c : Id) (inside : List ℕ → Bool) where
+  abbrev ShowsAlone : List Command → Type 0
+  ShowsAlone commands = (R S : Register) → ListsAreInOrder R → ListsAreInOrder S → R.net ≡ S.net → list_all is_own_item (shown c inside R commands) ≡ true
+      → shown c inside R commands ≡ shown c inside S (filter (is_own_command c) commands)
+
+  net_after : (R : Register) (q : Command) → ListsAreInOrder R → Register.net (after R q) ≡ R.net
+  net_after R q ordered = let kept = edited_all-network R (Answer.edits (answer R q)) ordered in kept.same_net
+
+  order_after : (R : Register) (q : Command) → ListsAreInOrder R → ListsAreInOrder (after R q)
+  order_after R q ordered = edited_all-in_order R (Answer.edits (answer R q)) ordered
+
+  module _ (q : Command) (rest : List Command) (later : ShowsAlone rest) (R S : Register) (R_order : ListsAreInOrder R) (S_order : ListsAreInOrder S) (net : R.net ≡ S.net) where
+    alone_others : is_own_command c q ≡ false → (marks : List Edit) → marks_of R.net inside (Answer.edits (answer R q)) ≡ marks
+        → list_all is_own_item (heard marks (shown c inside (after R q) rest)) ≡ true
+        → heard marks (shown c inside (after R q) rest) ≡ shown c inside S (filter (is_own_command c) rest)
+    alone_others is [] none all = later (after R q) S (order_after R q R_order) S_order (net_after R q R_order ∙ net) all
+    alone_others is (edit ∷ edits) are all = absurd (false≢true all)
+
+    asked_alike : (kind : Kind) → asked_row R kind ≡ asked_row S kind
+    asked_alike (Request section) = ap (λ (g : Grid). find (λ row. same_name section row.name) (Grid.sections g)) net
+    asked_alike _ = refl
+
+    alone_one : (b : Bool) → is_own_command c q ≡ b → list_all is_own_item (shown c inside R (q ∷ rest)) ≡ true
+        → shown c inside R (q ∷ rest) ≡ shown c inside S (filter (is_own_command c) (q ∷ rest))
+    alone_one true is all =
+        let here = shown_own c inside R q rest is in
+        let rest_own : list_all is_own_item (shown c inside (after R q) rest) ≡ true = ap (list_all is_own_item) (sym here) ∙ all in
+        let kept : filter (is_own_command c) (q ∷ rest) ≡ q ∷ filter (is_own_command c) rest =
+        ap (λ b. cond b (q ∷ filter (is_own_command c) rest) (filter (is_own_command c) rest)) is in
+        here
+        ∙ (λ i. Item.own q (asked_alike q.kind i)
+        ∷ later (after R q) (after S q) (order_after R q R_order) (order_after S q S_order) (net_after R q R_order ∙ net ∙ sym (net_after S q S_order)) rest_own i)
+        ∙ sym (shown_own c inside S q (filter (is_own_command c) rest) is)
+        ∙ ap (shown c inside S) (sym kept)
+    alone_one false is all =
+        let marks = marks_of R.net inside (Answer.edits (answer R q)) in
+        let here = shown_heard c inside R q rest is marks refl in
+        let kept : filter (is_own_command c) (q ∷ rest) ≡ filter (is_own_command c) rest =
+        ap (λ b. cond b (q ∷ filter (is_own_command c) rest) (filter (is_own_command c) rest)) is in
+        here ∙ alone_others is marks refl (ap (list_all is_own_item) (sym here) ∙ all) ∙ ap (shown c inside S) (sym kept)
+
+  shows_alone : (commands : List Command) → ShowsAlone commands
+  unfolding shown
+  shows_alone [] = λ R S R_order S_order net all. refl
+  shows_alone (q ∷ rest) = λ R S R_order S_order net. alone_one q rest (shows_alone rest) R S R_order S_order net (is_own_command c q) refl
+
+-- THE CONSEQUENCE
+pub own_alone : OwnCommandsAlone
+own_alone c inside R commands reached no_operator covered all =
+    let ordered = reached_lists_are_in_order R reached in
+    let end = same_shown c inside R R commands (filter (is_own_command c) commands) reached reached no_operator (agrees_with_itself c inside R) covered
+    (shows_alone c inside commands R R ordered ordered refl all) in
+    end.0

@@ -1,0 +1,243 @@
+-- The edits of commands about others spare a clearance.
+use Rattle.std.proofs.Common.{◌≡◌, ℕ, ◌+◌, Bool, true, false, not, List, [], ◌∷◌, ◌++◌, map, Option, Some, None, refl, sym, ◌∙◌, ap}
+use Rattle.std.specs.Prelude.{if◌then◌else◌}
+use Rattle.std.proofs.lemmas.Bool.{and_from, false_from_ne_true, not-true, not_from_false, true≢false}
+use Rattle.std.proofs.lemmas.List.Folds.{list_all-append}
+use Rattle.clr_net.specs.declared.point.Position.TheVariants.{Closed as Shut}
+use Rattle.clr_order.specs.Step.{Task}
+use Rattle.clr_order.specs.declared.action.Action.{Action}
+use Rattle.clr_order.specs.declared.action.Action.TheVariants as actions
+use Rattle.clr_order.specs.declared.step.StepState.{StepState}
+use Rattle.clr_order.specs.declared.step.StepState.TheVariants.{Waiting, Instructed, Repeated, Done}
+use Rattle.clr_rules.proofs.lists.FoundSteps.{present_step, step_is_active, step_is_closing}
+use Rattle.clr_rules.proofs.lists.NewNumbers.{new_is_another}
+use Rattle.clr_rules.proofs.edits.Passing.{all_pass, not_refused_true}
+use Rattle.clr_rules.proofs.lists.RoundSteps.{one_id, record_id}
+use Rattle.clr_rules.proofs.isolation.Sparing.{has_hold-same, sparing_edits_keep_outlook, sparing_edits_leave_alone}
+use Rattle.clr_rules.specs.Answer.{Answer, answer, concerned, first_refusal, known_of, numbered_for, settled}
+use Rattle.clr_rules.specs.Commands.{Known, checks, edits_of}
+use Rattle.clr_rules.specs.Changes.{done_edits, edits_by, hold_edits, new_steps, position_edits, put_steps, undone_edits, with_record, with_step}
+use Rattle.clr_rules.specs.Checks.{other_hand, refuse, where_some}
+use Rattle.clr_rules.specs.Command.{named_clearance}
+use Rattle.clr_rules.specs.Edits.{edited_all}
+use Rattle.clr_rules.specs.Footprint.{Frame, all_spare, both_or_neither, spares}
+use Rattle.clr_rules.specs.FrameLaws.{is_report, subject_of}
+use Rattle.clr_rules.specs.Good.{HandMatchesStep, IsGood, ListsAreInOrder}
+use Rattle.clr_rules.specs.GoodByPhase.{outlook_of}
+use Rattle.clr_rules.specs.Holds.{has_hold, hold_of, places_of}
+use Rattle.clr_rules.specs.Id.{Id, same_id, same_id_equiv}
+use Rattle.clr_rules.specs.Isolation.{HeldStayOpen, is_about_another, is_others}
+use Rattle.clr_rules.specs.Records.{greatest_number, is_switch_order, record_of}
+use Rattle.clr_rules.specs.Register.{Register}
+use Rattle.clr_rules.specs.Run.{after}
+use Rattle.clr_rules.specs.States.{hand_of, has_in_hand, is_hand}
+use Rattle.clr_rules.specs.Steps.{is_active, is_close, is_repeated, present, step_at}
+use Rattle.clr_rules.specs.declared.change.Edit.{Edit}
+use Rattle.clr_rules.specs.declared.change.Edit.TheVariants.{SetPosition, SetHand, TakeHold, PutRecord, PutStep}
+use Rattle.clr_rules.specs.declared.command.Command.{Command}
+use Rattle.clr_rules.specs.declared.command.Kind.{Kind}
+use Rattle.clr_rules.specs.declared.command.Kind.TheVariants as kinds
+use Rattle.clr_rules.specs.declared.hold_kind.HoldKind.TheVariants.{HeldOpen, Tested}
+use Rattle.clr_rules.specs.declared.record.Record.{Record}
+use Rattle.clr_rules.specs.declared.refusal.Refusal.{Refusal}
+use Rattle.clr_rules.specs.declared.refusal.Refusal.TheVariants.{InHand, StepState as WrongState}
+use Rattle.clr_rules.specs.declared.step_row.StepRow.{StepRow}
+
+-- ---- hands of another
+
+-- a point in the hand of one clearance is in no other's
+hand_of_one : (c d : Id) (hand : Option Id) → same_id c d ≡ false → is_hand d hand ≡ true → is_hand c hand ≡ false
+hand_of_one c d None differs had = refl
+hand_of_one c d (Some e) differs had = ap (same_id c) (sym (one_id d e had)) ∙ differs
+
+-- a point that is in no other hand than d's is not in c's
+no_other_hand : (c d : Id) (hand : Option Id) → same_id c d ≡ false → other_hand d hand ≡ None → is_hand c hand ≡ false
+no_other_hand c d None differs passed = refl
+no_other_hand c d (Some e) differs passed = hand_of_one c d (Some e) differs (not_refused_true (same_id d e) (InHand e) passed)
+
+-- what a check of a step says where the step is found
+check_of_found : (found : Option StepRow) (row : StepRow) (check : StepRow → Option Refusal) → found ≡ Some row → where_some found check ≡ None → check row ≡ None
+check_of_found found row check is passed = rw is at passed
+
+-- ---- lists of edits
+
+module _ (c : Id) (R : Register) where
+  -- a hand that is cleared or set to another spares c where the point is not in its hand
+  spares_hand : (p : List ℕ) (hand : Option Id) → has_in_hand R.states c p ≡ false → is_hand c hand ≡ false → spares c R (SetHand p hand) ≡ true
+  spares_hand p hand free others = ap (λ had. both_or_neither had (is_hand c hand)) free ∙ not_from_false _ others
+
+  steps_spare : (d : Id) (round n : ℕ) (tasks : List Task) → not (same_id c d) ≡ true → all_spare c R (put_steps (new_steps d round n tasks)) ≡ true
+  unfolding new_steps
+  steps_spare d round n [] others = refl
+  steps_spare d round n (t ∷ tasks) others = and_from _ _ others (steps_spare d round (n + 1) tasks others)
+
+  takes_spare : (d : Id) (places : List (List ℕ)) → not (same_id c d) ≡ true → all_spare c R (map (λ place. TakeHold (hold_of d Tested place)) places) ≡ true
+  takes_spare d [] others = refl
+  takes_spare d (place ∷ places) others = and_from _ _ others (takes_spare d places others)
+
+  -- where a record is found, it is d's
+  by_record : (d : Id) (edits : Record → List Edit) → not (same_id c d) ≡ true → ((r : Record) → not (same_id c r.id) ≡ true → all_spare c R (edits r) ≡ true)
+      → all_spare c R (with_record R d edits) ≡ true
+  by_record d edits others each = at (record_of R.records d) refl
+    where
+      at : (found : Option Record) → record_of R.records d ≡ found → all_spare c R (edits_by found edits) ≡ true
+      at None is = refl
+      at (Some r) is = each r (ap (λ id. not (same_id c id)) (record_id R.records d r is) ∙ others)
+
+  -- and where a step is found, it is d's too
+  by_step : (d : Id) (n : ℕ) (edits : Record → StepRow → List Edit) → not (same_id c d) ≡ true
+      → ((r : Record) (row : StepRow) → step_at (present R.steps d) n ≡ Some row → not (same_id c r.id) ≡ true → not (same_id c row.id) ≡ true
+      → all_spare c R (edits r row) ≡ true)
+      → all_spare c R (with_step R d n edits) ≡ true
+  by_step d n edits others each = by_record d (λ r. edits_by (step_at (present R.steps d) n) (edits r)) others (λ r own. at r own (step_at (present R.steps d) n) refl)
+    where
+      at : (r : Record) → not (same_id c r.id) ≡ true → (found : Option StepRow) → step_at (present R.steps d) n ≡ found
+          → all_spare c R (edits_by found (edits r)) ≡ true
+      at r own None is = refl
+      at r own (Some row) is =
+          let step = present_step R.steps d n row is in
+          each r row is own (ap (λ id. not (same_id c id)) (sym (one_id d row.id step.own)) ∙ others)
+
+  -- the edits of a step that is done
+  done_spares : (action : Action) (switching : Bool) (p : List ℕ) (r r2 : Record) (row : StepRow) → spares c R (SetHand p None) ≡ true
+      → (is_close action ≡ true → spares c R (SetPosition p Shut) ≡ true) → not (same_id c r.id) ≡ true → not (same_id c r2.id) ≡ true → not (same_id c row.id) ≡ true
+      → all_spare c R (position_edits action p ++ SetHand p None ∷ hold_edits switching r.id action p ++ PutRecord r2 ∷ PutStep row ∷ []) ≡ true
+  done_spares actions.Open true p r r2 row hand shut own kept step = and_from _ _ hand (and_from _ _ kept (and_from _ _ step refl))
+  done_spares actions.Open false p r r2 row hand shut own kept step = and_from _ _ hand (and_from _ _ own (and_from _ _ kept (and_from _ _ step refl)))
+  done_spares actions.Block switching p r r2 row hand shut own kept step = and_from _ _ hand (and_from _ _ own (and_from _ _ kept (and_from _ _ step refl)))
+  done_spares actions.Control switching p r r2 row hand shut own kept step = and_from _ _ hand (and_from _ _ own (and_from _ _ kept (and_from _ _ step refl)))
+  done_spares actions.Tag switching p r r2 row hand shut own kept step = and_from _ _ hand (and_from _ _ own (and_from _ _ kept (and_from _ _ step refl)))
+  done_spares actions.Untag switching p r r2 row hand shut own kept step = and_from _ _ hand (and_from _ _ own (and_from _ _ kept (and_from _ _ step refl)))
+  done_spares actions.Uncontrol switching p r r2 row hand shut own kept step = and_from _ _ hand (and_from _ _ own (and_from _ _ kept (and_from _ _ step refl)))
+  done_spares actions.Unblock switching p r r2 row hand shut own kept step = and_from _ _ hand (and_from _ _ own (and_from _ _ kept (and_from _ _ step refl)))
+  done_spares actions.Close switching p r r2 row hand shut own kept step =
+      and_from _ _ (shut refl) (and_from _ _ hand (and_from _ _ own (and_from _ _ kept (and_from _ _ step refl))))
+  done_spares actions.Leave switching p r r2 row hand shut own kept step = and_from _ _ hand (and_from _ _ own (and_from _ _ kept (and_from _ _ step refl)))
+
+active_from_repeated : (state : StepState) → is_repeated state ≡ true → is_active state ≡ true
+active_from_repeated Waiting h = cc
+active_from_repeated Instructed h = refl
+active_from_repeated Repeated h = refl
+active_from_repeated Done h = cc
+
+-- ---- reports, where the hands match the steps
+
+module _ (c : Id) (R : Register) (d : Id) (row : StepRow) (n : ℕ) (matches : HandMatchesStep R) (others : not (same_id c d) ≡ true)
+    (found : step_at (present R.steps d) n ≡ Some row) (repeated : is_repeated row.step.state ≡ true) where
+  reported_hand : has_in_hand R.states c row.step.point ≡ false
+  reported_hand =
+      let step = present_step R.steps d n row found in
+      let active = step_is_active R.steps d row step.there step.own (active_from_repeated row.step.state repeated) in
+      hand_of_one c d (hand_of R.states row.step.point) (not-true (same_id c d) others) (matches.hand d row.step.point ∙ active)
+
+  -- no other clearance holds a point that is being closed
+  reported_close : is_close row.step.action ≡ true → spares c R (SetPosition row.step.point Shut) ≡ true
+  reported_close closes =
+      let step = present_step R.steps d n row found in
+      let closing = step_is_closing R.steps d row step.there step.own (active_from_repeated row.step.state repeated) closes in
+      not_from_false _ (false_from_ne_true _ (λ held.
+      let (same, _) = matches.closing d row.step.point closing c HeldOpen refl held in
+      true≢false (sym (same_id_equiv.refl c) ∙ ap (same_id c) same ∙ not-true (same_id c d) others)))
+
+  report_spares : (at : ℕ) (done : Bool) (r : Record) → not (same_id c r.id) ≡ true → not (same_id c row.id) ≡ true
+      → all_spare c R (if done then done_edits R at r row else undone_edits at r row) ≡ true
+  report_spares at true r own step =
+      done_spares c R row.step.action (is_switch_order r) row.step.point r _ _ (spares_hand c R row.step.point None reported_hand refl) reported_close own own step
+  report_spares at false r own step =
+      and_from _ _ (spares_hand c R row.step.point None reported_hand refl) (and_from _ _ own (and_from _ _ step refl))
+
+-- ---- each kind of command
+
+module _ (c : Id) (R : Register) (k : Known) (by : List ℕ) (at : ℕ) where
+  -- where no check applies, all but the clearance that the command is about are spared
+  edits_spare : (kind : Kind) → (is_report kind ≡ true → HandMatchesStep R) → not (same_id c (concerned k.greatest by (named_clearance kind))) ≡ true
+      → first_refusal (checks k R by at kind) ≡ None → all_spare c R (edits_of k.greatest R by at kind) ≡ true
+  edits_spare (kinds.Request section) matches others passed = and_from _ _ others refl
+  edits_spare (kinds.Order d points tasks) matches others passed =
+      by_record c R d _ others (λ r own. and_from _ _ own (steps_spare c R d 1 1 tasks others))
+  edits_spare (kinds.Instruct d n) matches others passed = by_step c R d n _ others (λ r row found own step.
+      let free : other_hand d (hand_of R.states row.step.point) ≡ None =
+      check_of_found (step_at (present R.steps d) n) row (λ row. other_hand d (hand_of R.states row.step.point)) found
+      (all_pass (checks k R by at (kinds.Instruct d n)) passed).1.1.1.1.1.1.1.1.0 in
+      and_from _ _ (spares_hand c R row.step.point (Some d) (no_other_hand c d (hand_of R.states row.step.point) (not-true (same_id c d) others) free) (not-true (same_id c d) others))
+      (and_from _ _ own (and_from _ _ step refl)))
+  edits_spare (kinds.Repeat d n text) matches others passed =
+      by_step c R d n _ others (λ r row found own step. and_from _ _ own (and_from _ _ step refl))
+  edits_spare (kinds.Report d n done) matches others passed = by_step c R d n _ others (λ r row found own step.
+      let check : refuse (not (is_repeated row.step.state)) WrongState ≡ None =
+      check_of_found (step_at (present R.steps d) n) row (λ row. refuse (not (is_repeated row.step.state)) WrongState) found
+      (all_pass (checks k R by at (kinds.Report d n done)) passed).1.1.1.1.1.1.0 in
+      report_spares c R d row n (matches refl) others found (not_refused_true (is_repeated row.step.state) WrongState check) at done r own step)
+  edits_spare (kinds.Grant d) matches others passed = by_record c R d _ others (λ r own. and_from _ _ own refl)
+  edits_spare (kinds.Test d section true) matches others passed = by_record c R d _ others (λ r own. and_from _ _ others (and_from _ _ own refl))
+  edits_spare (kinds.Test d section false) matches others passed = by_record c R d _ others (λ r own. and_from _ _ others (and_from _ _ own refl))
+  edits_spare (kinds.Ground d section) matches others passed = by_record c R d _ others (λ r own. and_from _ _ others (and_from _ _ own refl))
+  edits_spare (kinds.Unground d section) matches others passed =
+      by_record c R d _ others (λ r own. and_from _ _ others (and_from _ _ others (and_from _ _ own refl)))
+  edits_spare (kinds.SignOn d crew) matches others passed = by_record c R d _ others (λ r own. and_from _ _ others (and_from _ _ own refl))
+  edits_spare (kinds.SignOff d crew) matches others passed = by_record c R d _ others (λ r own. and_from _ _ others (and_from _ _ own refl))
+  edits_spare (kinds.Transfer d to emergency) matches others passed = by_record c R d _ others (λ r own. and_from _ _ own refl)
+  edits_spare (kinds.Release d notified clear) matches others passed = by_record c R d _ others (λ r own.
+      list_all-append (spares c R) (map (λ place. TakeHold (hold_of d Tested place)) (places_of R.holds d Tested)) _
+      ∙ and_from _ _ (takes_spare c R d (places_of R.holds d Tested) others) (and_from _ _ own refl))
+  edits_spare (kinds.Cancel d) matches others passed = by_record c R d _ others (λ r own. and_from _ _ own refl)
+  edits_spare (kinds.Restore d tasks) matches others passed =
+      by_record c R d _ others (λ r own. and_from _ _ own (steps_spare c R d 2 1 tasks others))
+  edits_spare (kinds.Amend d n) matches others passed =
+      by_step c R d n _ others (λ r row found own step. and_from _ _ own (and_from _ _ step refl))
+  edits_spare (kinds.Switch tasks) matches others passed =
+      and_from _ _ others (steps_spare c R (concerned k.greatest by None) 1 1 tasks others)
+  edits_spare (kinds.Show d) matches others passed = refl
+
+-- a command about another is about another
+concerned_is_another : (c : Id) (R : Register) (by : List ℕ) (greatest : ℕ) (named : Option Id) → greatest ≡ greatest_number R.records (numbered_for by named)
+    → is_about_another c R by named ≡ true → not (same_id c (concerned greatest by named)) ≡ true
+concerned_is_another c R by greatest None is others = not_from_false _ (new_is_another c R by greatest is others)
+concerned_is_another c R by greatest (Some d) is others = others
+
+settled_spares : (c : Id) (R : Register) (q : Command) (found : Option Refusal) → first_refusal (checks (known_of R q) R q.caller q.moment q.kind) ≡ found
+    → (is_report q.kind ≡ true → HandMatchesStep R) → not (same_id c (subject_of R q)) ≡ true
+    → all_spare c R (Answer.edits (settled (known_of R q) R q found)) ≡ true
+settled_spares c R q None passed matches others = edits_spare c R (known_of R q) q.caller q.moment q.kind matches others passed
+settled_spares c R q (Some refusal) passed matches others = refl
+
+answers_spare : (R : Register) (c : Id) (q : Command) → (is_report q.kind ≡ true → HandMatchesStep R) → not (same_id c (subject_of R q)) ≡ true
+    → all_spare c R (Answer.edits (answer R q)) ≡ true
+answers_spare R c q matches others =
+    settled_spares c R q (first_refusal (checks (known_of R q) R q.caller q.moment q.kind)) refl matches others
+
+pub others_edits_spare : (R : Register) (c : Id) (q : Command) → (is_report q.kind ≡ true → HandMatchesStep R) → is_others c R q ≡ true
+    → all_spare c R (Answer.edits (answer R q)) ≡ true
+others_edits_spare R c q matches others =
+    answers_spare R c q matches (concerned_is_another c R q.caller (Known.greatest (known_of R q)) (named_clearance q.kind) refl others)
+
+-- ---- what is left alone
+
+-- where no check applies, the outlook of every clearance stays but that of the one that the command is about
+pub edits_keep_others : (R : Register) (k : Known) (by : List ℕ) (at : ℕ) (kind : Kind) → ListsAreInOrder R → HandMatchesStep R
+    → first_refusal (checks k R by at kind) ≡ None → (c : Id) → same_id c (concerned k.greatest by (named_clearance kind)) ≡ false
+    → outlook_of (edited_all (edits_of k.greatest R by at kind) R) c ≡ outlook_of R c
+edits_keep_others R k by at kind ordered matches passed c differs =
+    sparing_edits_keep_outlook c R (edits_of k.greatest R by at kind) ordered
+    (edits_spare c R k by at kind (λ _. matches) (not_from_false _ differs) passed)
+
+pub one_outlook_changes : (R : Register) (c : Id) (q : Command) → ListsAreInOrder R → HandMatchesStep R → same_id c (subject_of R q) ≡ false
+    → outlook_of (after R q) c ≡ outlook_of R c
+one_outlook_changes R c q ordered matches differs =
+    sparing_edits_keep_outlook c R (Answer.edits (answer R q)) ordered (answers_spare R c q (λ _. matches) (not_from_false _ differs))
+
+pub others_keep_outlook : (R : Register) (c : Id) (q : Command) → ListsAreInOrder R → HandMatchesStep R → is_others c R q ≡ true
+    → outlook_of (after R q) c ≡ outlook_of R c
+others_keep_outlook R c q ordered matches others =
+    sparing_edits_keep_outlook c R (Answer.edits (answer R q)) ordered (others_edits_spare R c q (λ _. matches) others)
+
+pub others_spare : (R : Register) (c : Id) (q : Command) → IsGood R → is_others c R q ≡ true → Frame c R (after R q)
+others_spare R c q good others =
+    sparing_edits_leave_alone c R (Answer.edits (answer R q)) good.in_order (others_edits_spare R c q (λ _. good.hand_matches_step) others)
+
+pub others_keep_held_open : (R : Register) (c : Id) (q : Command) → IsGood R → is_others c R q ≡ true → HeldStayOpen c (after R q)
+others_keep_held_open R c q good others p held =
+    let frame = others_spare R c q good others in
+    let held_before : has_hold R.holds c HeldOpen p ≡ true =
+    sym (has_hold-same R.holds (Register.holds (after R q)) c HeldOpen p frame.same_holds) ∙ held in
+    frame.closes_nothing p held_before (good.held_points_are_open.open_there c HeldOpen p refl held_before)

@@ -1,0 +1,194 @@
+-- Registers that agree near a clearance still do after commands of others.
+use Rattle.std.proofs.Common.{◌≡◌, ℕ, Bool, true, false, not, List, [], ◌∷◌, Option, Some, None, is_some, refl, sym, ◌∙◌, ap, subst}
+use Rattle.std.specs.List.{Contains}
+use Rattle.std.proofs.lemmas.Bool.{and_parts, both_ways, false≢true, false_from_ne_true, not-true, not-false, not_from_false, or_left, or_parts}
+use Rattle.std.proofs.lemmas.List.Elements.{All-contains_itself, All-nil, All-weaker}
+use Rattle.clr_csv.specs.declared.employee.StaffRow.{StaffRow}
+use Rattle.clr_net.specs.Name.{same_name}
+use Rattle.clr_net.proofs.Walks.{one_name}
+use Rattle.clr_shelf.specs.Lists.{list_all-contains}
+use Rattle.clr_rules.specs.Agreement.{Agree}
+use Rattle.clr_rules.specs.AgreementLaws.{is_about, is_new_of}
+use Rattle.clr_rules.specs.Answer.{Answer, answer, first_refusal, known_of, settled}
+use Rattle.clr_rules.specs.Commands.{Known, checks}
+use Rattle.clr_rules.specs.Checks.{employee, has_role, is_operator, refuse, where_some}
+use Rattle.clr_rules.specs.Command.{named_clearance}
+use Rattle.clr_rules.specs.Edits.{edited_all}
+use Rattle.clr_rules.specs.Footprint.{spares}
+use Rattle.clr_rules.specs.Good.{HandMatchesStep, ListsAreInOrder, has_record, is_operators}
+use Rattle.clr_rules.specs.Id.{Id, same_id}
+use Rattle.clr_rules.specs.Isolation.{AreAlike, is_about_another, is_others}
+use Rattle.clr_rules.specs.Register.{Register}
+use Rattle.clr_rules.specs.Run.{after}
+use Rattle.clr_rules.specs.Shown.{is_own_command, is_own_kind, marks_of}
+use Rattle.clr_rules.specs.StepLaws.{AreOfOthers}
+use Rattle.clr_rules.specs.declared.change.Edit.{Edit}
+use Rattle.clr_rules.specs.declared.change.Edit.TheVariants.{SetPosition, SetHand, PutHold, TakeHold, PutRecord, PutStep}
+use Rattle.clr_rules.specs.declared.command.Command.{Command}
+use Rattle.clr_rules.specs.declared.command.Kind.{Kind}
+use Rattle.clr_rules.specs.declared.command.Kind.TheVariants.{Request, Switch}
+use Rattle.clr_rules.specs.declared.record.Record.{Record}
+use Rattle.clr_rules.specs.declared.refusal.Refusal.{Refusal}
+use Rattle.clr_rules.specs.declared.refusal.Refusal.TheVariants.{UnknownCaller, WrongRole}
+use Rattle.clr_order.specs.Step.{Task}
+use Rattle.clr_rules.proofs.isolation.Agreement.{agrees_on, agrees_with_itself, same_edits_agree, same_marks_agree}
+use Rattle.clr_rules.proofs.isolation.OthersEdits.{others_edits_spare}
+use Rattle.clr_rules.proofs.edits.Passing.{all_pass, named_recorded, not_refused_true}
+use Rattle.clr_rules.proofs.lists.RoundSteps.{one_id, own_id}
+
+-- ---- who gives a command of others
+
+-- a caller who is known and has the role has it in the staff
+has_role_from : (found : Option StaffRow) → refuse (not (is_some found)) UnknownCaller ≡ None
+    → where_some found (λ row. refuse (not (is_operator row.role)) WrongRole) ≡ None → has_role is_operator found ≡ true
+has_role_from None known fit = absurd (false≢true (not_refused_true false UnknownCaller known))
+has_role_from (Some row) known fit = not_refused_true (is_operator row.role) WrongRole fit
+
+module _ (c : Id) (R : Register) (no_operator : is_operators R c.requester ≡ false) (k : Known) (by : List ℕ) (at : ℕ) where
+  -- who gives an accepted switch order is an operator, and so not the requester of the clearance
+  switcher_is_another : (tasks : List Task) → first_refusal (checks k R by at (Switch tasks)) ≡ None → same_name c.requester by ≡ false
+  switcher_is_another tasks passed =
+      let pass = all_pass (checks k R by at (Switch tasks)) passed in
+      let operator : is_operators R by ≡ true = has_role_from (employee R.staff by) pass.0 pass.1.0 in
+      false_from_ne_true (same_name c.requester by) (λ same.
+      both_ways (is_operators R c.requester) no_operator (ap (is_operators R) (one_name c.requester by same) ∙ operator))
+
+  -- who gives an accepted command of others that makes a new clearance is another than the requester
+  caller_is_another : (kind : Kind) → named_clearance kind ≡ None → is_own_kind c by kind None ≡ false → first_refusal (checks k R by at kind) ≡ None
+      → same_name c.requester by ≡ false
+  caller_is_another (Request section) none others passed = others
+  caller_is_another (Switch tasks) none others passed = switcher_is_another tasks passed
+  caller_is_another _ none others passed = cc
+
+  -- so an accepted command of others is about another clearance
+  about_another : (kind : Kind) (named : Option Id) → named_clearance kind ≡ named → is_own_kind c by kind named ≡ false → first_refusal (checks k R by at kind) ≡ None
+      → is_about_another c R by named ≡ true
+  about_another kind None is others passed = or_left _ _ (not_from_false _ (caller_is_another kind is others passed))
+  about_another kind (Some d) is others passed = not_from_false _ others
+
+  -- and a clearance of the requester that it is about has a record
+  has_record_there : (d : Id) → same_name c.requester d.requester ≡ true → (kind : Kind) (named : Option Id) → named_clearance kind ≡ named
+      → is_own_kind c by kind named ≡ false → first_refusal (checks k R by at kind) ≡ None → is_about_another d R by named ≡ false → has_record R.records d ≡ true
+  has_record_there d own kind None is others passed about =
+      let parts = or_parts (not (same_name d.requester by)) (has_record R.records d) about in
+      let caller : same_name d.requester by ≡ true = not-false (same_name d.requester by) parts.0 in
+      absurd (both_ways (same_name c.requester by) (caller_is_another kind is others passed)
+      (ap (λ (n : List ℕ). same_name n by) (one_name c.requester d.requester own) ∙ caller))
+  has_record_there d own kind (Some e) is others passed about =
+      ap (has_record R.records) (one_id d e (not-false (same_id d e) about)) ∙ named_recorded k R by at kind e passed is
+
+-- ---- the edits of a command of others
+
+spared_is_not_about : (c : Id) (R : Register) (edit : Edit) → spares c R edit ≡ true → is_about c edit ≡ false
+spared_is_not_about c R (SetPosition point position) spared = refl
+spared_is_not_about c R (SetHand point hand) spared = refl
+spared_is_not_about c R (PutHold h) spared = not-true (same_id c h.id) spared
+spared_is_not_about c R (TakeHold h) spared = not-true (same_id c h.id) spared
+spared_is_not_about c R (PutRecord r) spared = not-true (same_id c r.id) spared
+spared_is_not_about c R (PutStep row) spared = not-true (same_id c row.id) spared
+
+module _ (c : Id) (R : Register) (q : Command) (matches : HandMatchesStep R) (no_operator : is_operators R c.requester ≡ false)
+    (others : is_own_command c q ≡ false) (passed : first_refusal (checks (known_of R q) R q.caller q.moment q.kind) ≡ None) where
+  -- a record of the requester that is put was there: the command is about it
+  put_was_there : (r : Record) → Contains (Answer.edits (answer R q)) (PutRecord r) → same_name c.requester r.id.requester ≡ true → has_record R.records r.id ≡ true
+  put_was_there r there own = has_record_there c R no_operator (known_of R q) q.caller q.moment r.id own q.kind (named_clearance q.kind) refl others passed
+      (false_from_ne_true (is_others r.id R q) (λ another.
+      both_ways (same_id r.id r.id) (not-true (same_id r.id r.id)
+      (list_all-contains (spares r.id R) (Answer.edits (answer R q)) (PutRecord r) (others_edits_spare R r.id q (λ _. matches) another) there)) (own_id r.id)))
+
+  known_put : (r : Record) → Contains (Answer.edits (answer R q)) (PutRecord r) → is_new_of R.records c.requester (PutRecord r) ≡ false
+  known_put r there = false_from_ne_true (is_new_of R.records c.requester (PutRecord r)) (λ new.
+      let parts = and_parts (same_name c.requester r.id.requester) (not (has_record R.records r.id)) new in
+      both_ways (has_record R.records r.id) (not-true (has_record R.records r.id) parts.1) (put_was_there r there parts.0))
+
+  not_new : (edit : Edit) → Contains (Answer.edits (answer R q)) edit → is_new_of R.records c.requester edit ≡ false
+  not_new (SetPosition point position) there = refl
+  not_new (SetHand point hand) there = refl
+  not_new (PutHold h) there = refl
+  not_new (TakeHold h) there = refl
+  not_new (PutRecord r) there = known_put r there
+  not_new (PutStep row) there = refl
+
+  accepted_of_others : AreOfOthers c R q
+  accepted_of_others =
+      let another = about_another c R no_operator (known_of R q) q.caller q.moment q.kind (named_clearance q.kind) refl others passed in
+      let all = others_edits_spare R c q (λ _. matches) another in
+      record {
+        of_others = All-weaker (Contains (Answer.edits (answer R q))) (λ edit. is_about c edit ≡ false)
+            (λ edit there. spared_is_not_about c R edit (list_all-contains (spares c R) (Answer.edits (answer R q)) edit all there))
+            (Answer.edits (answer R q)) (All-contains_itself (Answer.edits (answer R q)));
+        no_new_number = All-weaker (Contains (Answer.edits (answer R q))) (λ edit. is_new_of R.records c.requester edit ≡ false) not_new
+            (Answer.edits (answer R q)) (All-contains_itself (Answer.edits (answer R q)));
+      }
+
+refused_of_others : (c : Id) (R : Register) (q : Command) → Answer.edits (answer R q) ≡ [] → AreOfOthers c R q
+refused_of_others c R q none = record {
+  of_others = rw none (All-nil (λ edit. is_about c edit ≡ false));
+  no_new_number = rw none (All-nil (λ edit. is_new_of R.records c.requester edit ≡ false));
+}
+
+pub others_edits : (R : Register) (c : Id) (q : Command) → HandMatchesStep R → is_operators R c.requester ≡ false → is_own_command c q ≡ false → AreOfOthers c R q
+others_edits R c q matches no_operator others = by (first_refusal (checks (known_of R q) R q.caller q.moment q.kind)) refl
+  where
+    by : (found : Option Refusal) → first_refusal (checks (known_of R q) R q.caller q.moment q.kind) ≡ found → AreOfOthers c R q
+    by None passed = accepted_of_others c R q matches no_operator others passed
+    by (Some refusal) refused = refused_of_others c R q (ap (λ found. Answer.edits (settled (known_of R q) R q found)) refused)
+
+-- ---- the steps
+
+-- the requester is an operator in neither
+same_staff : (R S : Register) (c : Id) (inside : List ℕ → Bool) → Agree c inside R S → R.staff ≡ S.staff
+same_staff R S c inside agree = ap (λ (P : Register). P.staff) agree.near
+
+module _ (c : Id) (inside : List ℕ → Bool) (R S : Register) (commands : List Command) (alike : AreAlike c inside R S commands) where
+  in_first : (q : Command) → is_own_command c q ≡ false → AreOfOthers c R q
+  in_first q others = others_edits R c q alike.first_good.hand_matches_step alike.no_operator others
+
+  in_second : (q : Command) → is_own_command c q ≡ false → AreOfOthers c S q
+  in_second q others = others_edits S c q alike.second_good.hand_matches_step
+      (ap (λ (staff : List StaffRow). has_role is_operator (employee staff c.requester)) (sym (same_staff R S c inside alike.agree)) ∙ alike.no_operator) others
+
+  -- one command of others on each side, with the same marks
+  pub both_step : (q p : Command) → is_own_command c q ≡ false → is_own_command c p ≡ false
+      → marks_of R.net inside (Answer.edits (answer R q)) ≡ marks_of S.net inside (Answer.edits (answer S p)) → Agree c inside (after R q) (after S p)
+  both_step q p q_others p_others marks =
+      let left = in_first q q_others in
+      let right = in_second p p_others in
+      same_marks_agree R S alike.first_good.in_order alike.second_good.in_order c inside (Answer.edits (answer R q)) (Answer.edits (answer S p))
+      left.of_others left.no_new_number right.of_others right.no_new_number marks alike.agree
+
+  -- one on one side, without marks
+  pub first_step : (q : Command) → is_own_command c q ≡ false → marks_of R.net inside (Answer.edits (answer R q)) ≡ [] → Agree c inside (after R q) S
+  unfolding edited_all
+  first_step q others none =
+      let left = in_first q others in
+      same_marks_agree R S alike.first_good.in_order alike.second_good.in_order c inside (Answer.edits (answer R q)) []
+      left.of_others left.no_new_number (All-nil (λ edit. is_about c edit ≡ false)) (All-nil (λ edit. is_new_of S.records c.requester edit ≡ false)) none alike.agree
+
+  pub second_step : (q : Command) → is_own_command c q ≡ false → marks_of S.net inside (Answer.edits (answer S q)) ≡ [] → Agree c inside R (after S q)
+  unfolding edited_all
+  second_step q others none =
+      let right = in_second q others in
+      same_marks_agree R S alike.first_good.in_order alike.second_good.in_order c inside [] (Answer.edits (answer S q))
+      (All-nil (λ edit. is_about c edit ≡ false)) (All-nil (λ edit. is_new_of R.records c.requester edit ≡ false)) right.of_others right.no_new_number (sym none) alike.agree
+
+pub others_step : (c : Id) (inside : List ℕ → Bool) (R S : Register) (q p : Command) → AreAlike c inside R S (q ∷ [])
+    → is_own_command c q ≡ false → is_own_command c p ≡ false
+    → marks_of R.net inside (Answer.edits (answer R q)) ≡ marks_of S.net inside (Answer.edits (answer S p))
+    → Agree c inside (after R q) (after S p)
+others_step c inside R S q p alike = both_step c inside R S (q ∷ []) alike q p
+
+pub lone_step : (c : Id) (inside : List ℕ → Bool) (R S : Register) (q : Command) → is_own_command c q ≡ false
+    → (AreAlike c inside R S (q ∷ []) → marks_of R.net inside (Answer.edits (answer R q)) ≡ [] → Agree c inside (after R q) S)
+    × (AreAlike c inside R S [] → marks_of S.net inside (Answer.edits (answer S q)) ≡ [] → Agree c inside R (after S q))
+lone_step c inside R S q others =
+    (λ alike. first_step c inside R S (q ∷ []) alike q others, λ alike. second_step c inside R S [] alike q others)
+
+-- registers that agree and answer alike agree again
+pub same_answers_agree : (R S : Register) (c : Id) (inside : List ℕ → Bool) (q : Command) → ListsAreInOrder R → ListsAreInOrder S
+    → answer R q ≡ answer S q → Agree c inside R S → Agree c inside (after R q) (after S q)
+same_answers_agree R S c inside q R_order S_order same agree =
+    agrees_on c inside (after R q) (edited_all (Answer.edits (answer R q)) S) (after S q)
+    (same_edits_agree R S R_order S_order c inside (Answer.edits (answer R q)) agree)
+    (subst (λ (edits : List Edit). Agree c inside (edited_all (Answer.edits (answer R q)) S) (edited_all edits S)) (ap (λ a. Answer.edits a) same)
+    (agrees_with_itself c inside (edited_all (Answer.edits (answer R q)) S)))

@@ -1,0 +1,83 @@
+-- Registers that agree near a clearance answer its own commands alike, and agree again.
+use Rattle.std.proofs.Common.{◌≡◌, ℕ, Bool, true, false, List, [], ◌∷◌, Option, Some, None, refl, sym, ◌∙◌, ap, subst}
+use Rattle.std.proofs.lemmas.Bool.{both_ways}
+use Rattle.clr_order.specs.Step.{Task}
+use Rattle.clr_rules.specs.Answer.{answer, first_refusal, known_of, settled}
+use Rattle.clr_rules.specs.Checks.{earlier, is_operator, unknown_caller, unknown_clearance, unsound_order, wrong_phase, wrong_role}
+use Rattle.clr_rules.specs.Fences.{order_fence}
+use Rattle.clr_rules.specs.Id.{Id}
+use Rattle.clr_rules.specs.Isolation.{AreAlike, OwnStep}
+use Rattle.clr_rules.specs.NearLaws.{is_order}
+use Rattle.clr_rules.specs.OwnLaws.{SameOwn}
+use Rattle.clr_rules.specs.Records.{is_requested, record_of}
+use Rattle.clr_rules.specs.Register.{Register}
+use Rattle.clr_rules.specs.Shown.{asked_row, found_phase_requested, is_own_command, is_own_kind}
+use Rattle.clr_rules.specs.Command.{named_clearance}
+use Rattle.clr_rules.specs.declared.command.Command.{Command}
+use Rattle.clr_rules.specs.declared.command.Kind.{Kind}
+use Rattle.clr_rules.specs.declared.command.Kind.TheVariants.{Order}
+use Rattle.clr_rules.specs.declared.refusal.Refusal.{Refusal}
+use Rattle.clr_rules.specs.declared.reply.Reply.TheVariants.{Refused}
+use Rattle.clr_rules.proofs.isolation.LookAlike.{look_alike}
+use Rattle.clr_rules.proofs.near.NewAnswers.{same_near_same_answer}
+use Rattle.clr_rules.proofs.isolation.OthersSteps.{same_answers_agree}
+use Rattle.clr_rules.proofs.near.OwnChecks.{caller, clearance, moment, phase, role}
+use Rattle.clr_rules.proofs.near.OwnParts.{agreeing_have_same}
+use Rattle.clr_rules.proofs.edits.Passing.{all_pass, first_stops, phase_fits, record_there}
+use Rattle.clr_rules.proofs.lists.RoundSteps.{one_id}
+
+-- ---- an order of a clearance that is not Requested is refused alike
+
+module _ (by : List ℕ) (at : ℕ) (c : Id) (points : List (List ℕ)) (tasks : List Task) where
+  abbrev ordered : Command
+  ordered = record { caller = by; moment = at; kind = Order c points tasks }
+
+  -- the checks before that of the order itself
+  abbrev early : Register → List (Option Refusal)
+  early T = unknown_caller T by ∷ wrong_role T by is_operator ∷ unknown_clearance T c ∷ earlier T c at ∷ wrong_phase T c is_requested ∷ []
+
+  -- one of these applies
+  too_late : (R : Register) → found_phase_requested (record_of R.records c) ≡ false → first_refusal (early R) ≡ None → ⊥
+  too_late R late h =
+      let passed = all_pass (early R) h in
+      let (r, read) = record_there R c passed.1.1.0 in
+      both_ways (found_phase_requested (record_of R.records c)) late (rw read (phase_fits R c r is_requested read passed.1.1.1.1.0))
+
+  refused : (T : Register) (refusal : Refusal) → first_refusal (early T) ≡ Some refusal → answer T ordered ≡ record { reply = Refused refusal; edits = [] }
+  refused T refusal h = ap (settled (known_of T ordered) T ordered)
+      (first_stops (early T) (unsound_order T (order_fence T c points) points tasks ∷ []) refusal h)
+
+  late_order : (R S : Register) → SameOwn c R S → found_phase_requested (record_of R.records c) ≡ false → answer R ordered ≡ answer S ordered
+  late_order R S same late = from (first_refusal (early R)) refl
+    where
+      same_early : early R ≡ early S
+      same_early = λ i. caller c R S same by i ∷ role c R S same by is_operator i ∷ clearance c R S same i ∷ moment c R S same at i ∷ phase c R S same is_requested i ∷ []
+
+      from : (o : Option Refusal) → first_refusal (early R) ≡ o → answer R ordered ≡ answer S ordered
+      from None h = absurd (too_late R late h)
+      from (Some refusal) h = refused R refusal h ∙ sym (refused S refusal (ap first_refusal (sym same_early) ∙ h))
+
+-- ---- each own command
+
+late_own : (c : Id) (R S : Register) → SameOwn c R S → found_phase_requested (record_of R.records c) ≡ false → (by : List ℕ) (at : ℕ) (kind : Kind)
+    → is_own_kind c by kind (named_clearance kind) ≡ true → is_order kind ≡ true
+    → answer R (record { caller = by; moment = at; kind = kind }) ≡ answer S (record { caller = by; moment = at; kind = kind })
+late_own c R S same late by at (Order d points tasks) own orders =
+    let meant = one_id c d own in
+    late_order by at d points tasks R S (subst (λ (e : Id). SameOwn e R S) meant same) (subst (λ (e : Id). found_phase_requested (record_of R.records e) ≡ false) meant late)
+late_own c R S same late by at _ own orders = cc orders
+
+module _ (c : Id) (inside : List ℕ → Bool) (R S : Register) (q : Command) (alike : AreAlike c inside R S (q ∷ []))
+    (own : is_own_command c q ≡ true) (asked : asked_row R q.kind ≡ asked_row S q.kind) where
+  by_near : (is_order q.kind ≡ true → found_phase_requested (record_of R.records c) ≡ true) → answer R q ≡ answer S q
+  by_near requested = same_near_same_answer R S q alike.first_good alike.second_good (look_alike c inside R S q alike own asked requested)
+
+  same_answer : (a : Bool) → is_order q.kind ≡ a → (b : Bool) → found_phase_requested (record_of R.records c) ≡ b → answer R q ≡ answer S q
+  same_answer false no_order b is = by_near (λ orders. absurd (both_ways (is_order q.kind) no_order orders))
+  same_answer true orders true requested = by_near (λ _. requested)
+  same_answer true orders false late = late_own c R S (agreeing_have_same c inside R S alike.agree) late q.caller q.moment q.kind own orders
+
+pub own_step : OwnStep
+own_step c inside R S q alike own asked =
+    let same = same_answer c inside R S q alike own asked (is_order q.kind) refl (found_phase_requested (record_of R.records c)) refl in
+    (same, same_answers_agree R S c inside q alike.first_good.in_order alike.second_good.in_order same alike.agree)

@@ -1,0 +1,58 @@
+-- A cancel keeps a good register good: what was ordered and holds something is released, and anything else is closed.
+use Rattle.std.proofs.Common.{◌≡◌, ℕ, Bool, true, false, cond, ◌&&◌, List, [], ◌∷◌, Option, Some, None, refl, sym, ◌∙◌, ap}
+use Rattle.std.proofs.lemmas.Bool.{false≢true, false_from_ne_true}
+use Rattle.clr_net.specs.Grid.{Grid}
+use Rattle.clr_net.proofs.Walks.{any_from}
+use Rattle.clr_rules.specs.Changes.{cancelled_phase}
+use Rattle.clr_rules.specs.GoodByPhase.{InPhase, Outlook, outlook_of}
+use Rattle.clr_rules.specs.Holds.{has_any_hold, has_hold, hold_of}
+use Rattle.clr_rules.specs.Id.{Id, same_id}
+use Rattle.clr_rules.proofs.good.Keeping.{KeepsGood}
+use Rattle.clr_rules.specs.Records.{is_cancellable, is_ordered}
+use Rattle.clr_rules.specs.Steps.{some_active, steps_of}
+use Rattle.clr_rules.specs.declared.change.Edit.TheVariants.{PutRecord}
+use Rattle.clr_rules.specs.declared.command.Kind.TheVariants.{Cancel}
+use Rattle.clr_rules.specs.declared.hold.Hold.{Hold}
+use Rattle.clr_rules.specs.declared.hold_kind.HoldKind.{HoldKind}
+use Rattle.clr_rules.specs.declared.phase.Phase.{Phase}
+use Rattle.clr_rules.specs.declared.phase.Phase.TheVariants.{Requested, Ordered, Granted, Released, Restoring, Switching, Closed}
+use Rattle.clr_rules.specs.declared.record.Record.{Record}
+use Rattle.clr_rules.specs.declared.refusal.Refusal.TheVariants.{StepState as WrongState}
+use Rattle.clr_rules.proofs.lists.HoldMembers.{hold_there}
+use Rattle.clr_rules.proofs.keeps.OneRecord.{found_edits, in_phase_of, record_alone}
+use Rattle.clr_rules.proofs.good.Keeping.{commands_keep}
+use Rattle.clr_rules.proofs.edits.Passing.{not_refused, phase_fits, record_there}
+use Rattle.clr_rules.proofs.lists.RoundSteps.{own_id, record_id}
+
+-- a clearance without any hold has none
+no_hold_at : (holds : List Hold) (c : Id) → has_any_hold holds c ≡ false → (kind : HoldKind) (place : List ℕ) → has_hold holds c kind place ≡ false
+unfolding has_any_hold
+no_hold_at holds c none kind place = false_from_ne_true (has_hold holds c kind place) (λ has.
+    false≢true (sym none ∙ any_from (λ (h : Hold). same_id c h.id) holds (hold_of c kind place) (hold_there holds c kind place has) (own_id c)))
+
+-- where no step is given out
+cancelled : (g : Grid) (phase : Phase) (work : Option (List ℕ)) (v : Outlook) (o : Option Record) (holds_some : Bool) → is_cancellable phase ≡ true → some_active v.steps ≡ false
+    → (holds_some ≡ false → (kind : HoldKind) (place : List ℕ) → v.has kind place ≡ false)
+    → InPhase g phase work v → InPhase g (cond (is_ordered phase && holds_some) Released Closed) work (record v { clearance = o })
+cancelled g Ordered (Some work) v o true fits rests none h = record { isolates = h.isolates; one_round = h.one_round; none_active = rests; as_put = h.as_put; no_work = h.no_work }
+cancelled g Ordered (Some work) v o false fits rests none h = record { none_active = rests; no_hold = none refl }
+cancelled g Requested (Some work) v o some fits rests none h = record { none_active = rests; no_hold = h.no_hold }
+cancelled g Switching None v o some fits rests none h = record { none_active = rests; no_hold = h.no_hold }
+cancelled g Ordered None v o some fits rests none h = absurd h
+cancelled g Requested None v o some fits rests none h = absurd h
+cancelled g Switching (Some work) v o some fits rests none h = absurd h
+cancelled g Granted work v o some fits rests none h = absurd (false≢true fits)
+cancelled g Released work v o some fits rests none h = absurd (false≢true fits)
+cancelled g Restoring work v o some fits rests none h = absurd (false≢true fits)
+cancelled g Closed work v o some fits rests none h = absurd (false≢true fits)
+
+pub cancels_keep : (c : Id) → KeepsGood (Cancel c)
+cancels_keep c = commands_keep (Cancel c) (λ R by at good passed.
+    let (r, found) = record_there R c passed.1.1.0 in
+    let fits = phase_fits R c r is_cancellable found passed.1.1.1.1.1.0 in
+    let rests = not_refused (some_active (steps_of R.steps c)) WrongState passed.1.1.1.1.1.1.0 in
+    let none : has_any_hold R.holds r.id ≡ false → (kind : HoldKind) (place : List ℕ) → has_hold R.holds c kind place ≡ false =
+    λ free. no_hold_at R.holds c (ap (has_any_hold R.holds) (sym (record_id R.records c r found)) ∙ free) in
+    found_edits R c r (λ r. PutRecord (record r { phase = cancelled_phase R r; last = at }) ∷ []) found
+    (record_alone R c r (record r { phase = cancelled_phase R r; last = at }) good found refl refl
+    (cancelled R.net r.phase r.work (outlook_of R c) (Some (record r { phase = cancelled_phase R r; last = at })) (has_any_hold R.holds r.id) fits rests none (in_phase_of R c r good found))))

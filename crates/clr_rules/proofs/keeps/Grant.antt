@@ -1,0 +1,25 @@
+-- A grant keeps a good register good.
+use Rattle.std.proofs.Common.{◌≡◌, true, [], ◌∷◌, Some, refl}
+use Rattle.clr_rules.specs.GoodByPhase.{of_round, outlook_of}
+use Rattle.clr_rules.specs.Id.{Id}
+use Rattle.clr_rules.proofs.good.Keeping.{KeepsGood}
+use Rattle.clr_rules.specs.Records.{is_ordered}
+use Rattle.clr_rules.specs.Steps.{all_done, steps_in, steps_of}
+use Rattle.clr_rules.specs.declared.change.Edit.TheVariants.{PutRecord}
+use Rattle.clr_rules.specs.declared.command.Kind.TheVariants.{Grant}
+use Rattle.clr_rules.specs.declared.phase.Phase.TheVariants.{Granted}
+use Rattle.clr_rules.specs.declared.refusal.Refusal.TheVariants.{StepsLeft}
+use Rattle.clr_rules.proofs.good.Keeping.{commands_keep}
+use Rattle.clr_rules.proofs.edits.Passing.{not_refused_true, phase_fits, record_there}
+use Rattle.clr_rules.proofs.good.PlaceFacts.{to_granted}
+use Rattle.clr_rules.proofs.lists.RoundSteps.{of_round_is}
+use Rattle.clr_rules.proofs.keeps.OneRecord.{found_edits, in_phase_of, record_alone}
+
+pub grants_keep : (c : Id) → KeepsGood (Grant c)
+grants_keep c = commands_keep (Grant c) (λ R by at good passed.
+    let (r, found) = record_there R c passed.1.1.0 in
+    let done : all_done (of_round (steps_of R.steps c) 1) ≡ true = rw (of_round_is R.steps c 1) (not_refused_true (all_done (steps_in R.steps c 1)) StepsLeft passed.1.1.1.1.1.0) in
+    found_edits R c r (λ r. PutRecord (record r { phase = Granted; last = at }) ∷ []) found
+    (record_alone R c r (record r { phase = Granted; last = at }) good found refl refl
+    (to_granted R.net r.phase r.work (outlook_of R c) (Some (record r { phase = Granted; last = at }))
+    (phase_fits R c r is_ordered found passed.1.1.1.1.0) done (in_phase_of R c r good found))))

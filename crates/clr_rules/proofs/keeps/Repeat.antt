@@ -1,0 +1,81 @@
+-- Commands that move a step on without an action: it is repeated, given out, or not done.
+use Rattle.std.proofs.Common.{◌≡◌, ℕ, Bool, true, not, ◌&&◌, List, [], ◌∷◌, ◌++◌, Some, None, refl, sym, ◌∙◌, ap, subst}
+use Rattle.clr_net.specs.Name.{same_name}
+use Rattle.clr_order.specs.declared.step.StepState.{StepState}
+use Rattle.clr_order.specs.declared.step.StepState.TheVariants.{Repeated}
+use Rattle.clr_rules.specs.Changes.{moved as moved_step}
+use Rattle.clr_rules.specs.Checks.{refuse, wrong_state}
+use Rattle.clr_rules.specs.Edits.{edited_all}
+use Rattle.clr_rules.specs.GoodByPhase.{IsGoodByPhase, IsInPlace, outlook_of, present_of}
+use Rattle.clr_rules.specs.Id.{Id}
+use Rattle.clr_rules.proofs.good.Keeping.{KeepsGood}
+use Rattle.clr_rules.specs.Records.{is_running, record_of}
+use Rattle.clr_rules.specs.Register.{Register}
+use Rattle.clr_rules.specs.Steps.{is_active, present, step_at, steps_of}
+use Rattle.clr_rules.specs.declared.change.Edit.{Edit}
+use Rattle.clr_rules.specs.declared.change.Edit.TheVariants.{PutRecord, PutStep}
+use Rattle.clr_rules.specs.declared.command.Kind.TheVariants.{Repeat}
+use Rattle.clr_rules.specs.declared.record.Record.{Record}
+use Rattle.clr_rules.specs.declared.refusal.Refusal.TheVariants.{StepState as WrongState}
+use Rattle.clr_rules.specs.declared.step_row.StepRow.{StepRow}
+use Rattle.clr_rules.proofs.good.Keeping.{commands_keep, keeps}
+use Rattle.clr_rules.proofs.keeps.OneRecord.{in_phase_of}
+use Rattle.clr_rules.proofs.edits.Passing.{check_of_found, not_refused_true, phase_fits, record_there}
+use Rattle.clr_rules.proofs.edits.PresentSteps.{FoundStep, IsPresent, active_midst, active_moves, found_step_edits, step_there}
+use Rattle.clr_rules.proofs.edits.PutRecords.{moved, quiet}
+use Rattle.clr_rules.proofs.edits.PutSteps.{StepPut, closes_at, closing_by, known_put, others_put, phase_by, place_by, put_step, step_put}
+use Rattle.clr_rules.proofs.lists.RoundSteps.{record_id}
+use Rattle.clr_rules.proofs.edits.StepMoves.{InMidst, phase_again, turns_again}
+use Rattle.clr_rules.proofs.lists.StepSplits.{any-swap}
+
+-- a check of the state of the step that was found
+pub state_fits : (R : Register) (c : Id) (n : ℕ) (s : FoundStep R c n) (fits : StepState → Bool) → wrong_state R c n fits ≡ None → fits s.row.step.state ≡ true
+state_fits R c n s fits passed = not_refused_true (fits s.row.step.state) WrongState
+    (check_of_found (step_at (present R.steps c) n) s.row (λ (row : StepRow). refuse (not (fits row.step.state)) WrongState) s.found passed)
+
+-- the steps go in turn, when they are split
+pub turns_split : (R : Register) (c : Id) (rows : List StepRow) → IsGoodByPhase R → steps_of R.steps c ≡ rows → IsInPlace R.net (record (outlook_of R c) { steps = rows })
+turns_split R c rows good is = subst (λ (steps : List StepRow). IsInPlace R.net (record (outlook_of R c) { steps = steps })) is (good.in_place c)
+
+repeat_keeps : (R : Register) (by : List ℕ) (at : ℕ) (c : Id) (r : Record) (row : StepRow) → IsGoodByPhase R → record_of R.records c ≡ Some r → is_running r.phase ≡ true
+    → IsPresent R c row → is_active row.step.state ≡ true → IsGoodByPhase (edited_all (PutRecord (record r { last = at }) ∷ PutStep (moved_step Repeated (Some by) row) ∷ []) R)
+unfolding edited_all
+repeat_keeps R by at c r row good found runs p active =
+    keeps R edits c good (moved R good c r (record r { last = at }) found (record_id R.records c r found) refl (edited_all edits R) refl
+    (quiet R (edited_all edits R) c (record r { last = at }) good (record {
+      same_states = refl;
+      point_holds = λ d kind p at_point has. has;
+      other_holds = λ d differs kind place. refl;
+      other_steps = others_put R good c row new p refl;
+      own_closing = λ q closing.
+          closing_by R.steps c q (s.before ++ row ∷ s.after) s.was ∙ sym (any-swap (closes_at q) s.before row new s.after (rw active refl))
+          ∙ sym (closing_by (put_step new R.steps) c q (s.before ++ new ∷ s.after) s.is) ∙ closing;
+      steps_known = known_put R good c row new p refl refl;
+    })
+    (place_by R c (Some (record r { last = at })) (steps_of (put_step new R.steps) c) (s.before ++ new ∷ s.after) (λ kind place. (outlook_of R c).has kind place) (λ q. (outlook_of R c).hand q) s.is (record {
+      in_turn = turns_again s.before s.after row new row.round mid refl (turns_split R c (s.before ++ row ∷ s.after) good s.was).in_turn;
+      hands = λ q. (turns_split R c (s.before ++ row ∷ s.after) good s.was).hands q
+          ∙ sym (any-swap (λ (row : StepRow). is_active row.step.state && same_name q row.step.point) s.before row new s.after (rw active refl));
+      phase = phase_again s.before s.after row new row.round mid refl refl (active_moves row.step.state active).1 refl R.net r.phase r.work
+          (outlook_of R c).clearance (Some (record r { last = at })) (outlook_of R c).has (outlook_of R c).hand (outlook_of R c).hand runs
+          (p.now ∙ ap present_of s.was) (phase_by R c r (s.before ++ row ∷ s.after) s.was (in_phase_of R c r good found));
+    }))))
+  where
+    new : StepRow
+    new = moved_step Repeated (Some by) row
+
+    edits : List Edit
+    edits = PutRecord (record r { last = at }) ∷ PutStep new ∷ []
+
+    s : StepPut R c row new
+    s = step_put R good c row new p refl
+
+    mid : InMidst s.before s.after row row.round
+    mid = active_midst R good c r found row p s.before s.after s.was active
+
+pub repeats_keep : (c : Id) (n : ℕ) (text : List ℕ) → KeepsGood (Repeat c n text)
+repeats_keep c n text = commands_keep (Repeat c n text) (λ R by at good passed.
+    let (r, found) = record_there R c passed.1.1.0 in
+    let s = step_there R c n passed.1.1.1.1.1.0 in
+    found_step_edits R c n r s.row (λ r row. PutRecord (record r { last = at }) ∷ PutStep (moved_step Repeated (Some by) row) ∷ []) found s.found
+    (repeat_keeps R by at c r s.row good found (phase_fits R c r is_running found passed.1.1.1.1.0) s.is_present (state_fits R c n s is_active passed.1.1.1.1.1.1.0)))

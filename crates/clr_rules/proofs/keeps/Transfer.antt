@@ -1,0 +1,18 @@
+-- A transfer keeps a good register good.
+use Rattle.std.proofs.Common.{ℕ, Bool, List, [], ◌∷◌, Some, refl}
+use Rattle.clr_rules.specs.GoodByPhase.{outlook_of}
+use Rattle.clr_rules.specs.Id.{Id}
+use Rattle.clr_rules.proofs.good.Keeping.{KeepsGood}
+use Rattle.clr_rules.specs.declared.change.Edit.TheVariants.{PutRecord}
+use Rattle.clr_rules.specs.declared.command.Kind.TheVariants.{Transfer}
+use Rattle.clr_rules.proofs.good.Keeping.{commands_keep}
+use Rattle.clr_rules.proofs.edits.Passing.{record_there}
+use Rattle.clr_rules.proofs.good.PlaceFacts.{phase_beside}
+use Rattle.clr_rules.proofs.keeps.OneRecord.{found_edits, in_phase_of, record_alone}
+
+pub transfers_keep : (c : Id) (to : List ℕ) (emergency : Bool) → KeepsGood (Transfer c to emergency)
+transfers_keep c to emergency = commands_keep (Transfer c to emergency) (λ R by at good passed.
+    let (r, found) = record_there R c passed.1.0 in
+    found_edits R c r (λ r. PutRecord (record r { holder = to; last = at }) ∷ []) found
+    (record_alone R c r (record r { holder = to; last = at }) good found refl refl
+    (phase_beside R.net r.phase r.work (outlook_of R c) (Some (record r { holder = to; last = at })) (λ p. (outlook_of R c).hand p) (in_phase_of R c r good found))))

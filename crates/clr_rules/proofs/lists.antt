@@ -1,0 +1,10 @@
+pub mod Filters
+pub mod FoundSteps
+pub mod Greatest
+pub mod HoldChanges
+pub mod HoldMembers
+pub mod NamedRows
+pub mod NewNumbers
+pub mod RoundSteps
+pub mod StateFacts
+pub mod StepSplits

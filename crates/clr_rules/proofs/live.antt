@@ -1,0 +1,3 @@
+pub mod DeadFences
+pub mod FenceCuts
+pub mod LiveSections

@@ -1,0 +1,13 @@
+pub mod GivenOut
+pub mod NearOrder
+pub mod NearParts
+pub mod NearTests
+pub mod NearWords
+pub mod NewAnswers
+pub mod OrderAnswers
+pub mod OwnAnswers
+pub mod OwnChecks
+pub mod OwnEdits
+pub mod OwnHoldsNear
+pub mod OwnParts
+pub mod OwnQuestions

@@ -1,0 +1,50 @@
+-- The near part keeps the order of the lists; a point of a network has one row.
+use Rattle.std.proofs.Common.{◌≡◌, ℕ, ◌<◌, [], length, get_or, sym, ◌∙◌, ap, arith}
+use Rattle.std.specs.List.{Contains}
+use Rattle.std.proofs.lemmas.Cmp.{nat_list_cmp_total}
+use Rattle.std.proofs.lemmas.List.{get_or-map, get_or_default, length-map}
+use Rattle.clr_net.specs.Grid.{Grid, IsNetwork, point_names}
+use Rattle.clr_net.specs.Index.{place_in}
+use Rattle.clr_net.specs.Name.{name_cmp}
+use Rattle.clr_net.specs.declared.point.PointRow.{PointRow}
+use Rattle.clr_net.proofs.FencePlaces.{place_at}
+use Rattle.clr_shelf.specs.KeyOrder.{in_key_order-filter}
+use Rattle.clr_net.specs.Names.{has_name}
+use Rattle.clr_rules.specs.Commands.{Known}
+use Rattle.clr_rules.specs.Answer.{known_of}
+use Rattle.clr_rules.specs.Command.{named_clearance}
+use Rattle.clr_rules.specs.Good.{ListsAreInOrder}
+use Rattle.clr_rules.specs.Hold.{hold_cmp, hold_cmp_total}
+use Rattle.clr_rules.specs.Holds.{hold_key, is_near_hold, is_own}
+use Rattle.clr_rules.specs.Id.{id_cmp, id_cmp_total}
+use Rattle.clr_rules.specs.Near.{is_beside, near_part}
+use Rattle.clr_rules.specs.Records.{record_key}
+use Rattle.clr_rules.specs.Register.{Register}
+use Rattle.clr_rules.specs.States.{state_key}
+use Rattle.clr_rules.specs.StepKey.{step_key, step_key_cmp, step_key_cmp_total}
+use Rattle.clr_rules.specs.declared.command.Command.{Command}
+use Rattle.clr_rules.specs.declared.point_state.PointState.{PointState}
+use Rattle.clr_rules.specs.declared.record.Record.{Record}
+use Rattle.clr_rules.specs.declared.step_row.StepRow.{StepRow}
+
+pub near_in_order : (R : Register) (q : Command) → ListsAreInOrder R → ListsAreInOrder (near_part R q)
+near_in_order R q ordered = record {
+  states = in_key_order-filter name_cmp state_key nat_list_cmp_total (λ (state : PointState). is_beside R (known_of R q) q.kind state.point) R.states ordered.states;
+  records = in_key_order-filter id_cmp record_key id_cmp_total (λ (r : Record). is_own (named_clearance q.kind) r.id) R.records ordered.records;
+  steps = in_key_order-filter step_key_cmp step_key step_key_cmp_total (λ (row : StepRow). is_own (named_clearance q.kind) row.id) R.steps ordered.steps;
+  holds = in_key_order-filter hold_cmp hold_key hold_cmp_total
+      (is_near_hold (has_name (Known.fence (known_of R q))) (is_beside R (known_of R q) q.kind) (named_clearance q.kind)) R.holds ordered.holds;
+}
+
+-- the place of a row of a network by its name
+place_of_row : (g : Grid) → IsNetwork g → (p : PointRow) (k : ℕ) → k < length g.points → get_or g.points k p ≡ p → place_in (point_names g.points) p.name ≡ k
+place_of_row g net p k within here =
+    let size : length (point_names g.points) ≡ length g.points = length-map g.points (λ (row : PointRow). row.name) in
+    let named : get_or (point_names g.points) k [] ≡ p.name =
+    get_or-map (λ (row : PointRow). row.name) g.points k p [] within ∙ ap (λ (row : PointRow). row.name) here in
+    ap (place_in (point_names g.points)) (sym named) ∙ place_at (point_names g.points) k net.points_rise (omega arith)
+
+pub one_row : (g : Grid) → IsNetwork g → (p q : PointRow) → Contains g.points p → Contains g.points q → p.name ≡ q.name → p ≡ q
+one_row g net p q (i, i_within, i_here) (j, j_within, j_here) same =
+    let places : i ≡ j = sym (place_of_row g net p i i_within i_here) ∙ ap (place_in (point_names g.points)) same ∙ place_of_row g net q j j_within j_here in
+    sym i_here ∙ get_or_default g.points i p q i_within ∙ ap (λ (k : ℕ). get_or g.points k q) places ∙ j_here
