@@ -3,7 +3,6 @@ use Rattle.std.proofs.Common.{◌≡◌, ℕ, zero, suc, ◌+◌, ◌≤◌, tru
 use Rattle.std.proofs.lemmas.Bool.Decides.{nat_tests}
 use Rattle.clr_shelf.specs.KeyOrder.{in_key_order-with_row}
 use Rattle.clr_shelf.specs.Rows.{in_key_order, with_row}
-use Rattle.clr_rules.proofs.lists.Greatest.{greatest-put}
 use Rattle.clr_rules.specs.Answer.{answer}
 use Rattle.clr_rules.specs.Changes.{new_record}
 use Rattle.clr_rules.specs.Edits.{edited_all}
@@ -16,6 +15,7 @@ use Rattle.clr_rules.specs.Worked.{JONES, L2, refused, worked_opening}
 use Rattle.clr_rules.specs.declared.phase.Phase.TheVariants.{Requested}
 use Rattle.clr_rules.specs.declared.record.Record.{Record}
 use Rattle.clr_rules.specs.declared.refusal.Refusal.TheVariants.{TooManyClearances}
+use Rattle.clr_rules.proofs.lists.Greatest.{greatest-put}
 
 -- the worked network with these records and nothing else
 abbrev holding : List Record → Register

@@ -6,6 +6,7 @@ use Rattle.clr_order.specs.Step.{Task}
 use Rattle.clr_order.specs.declared.action.Action.{Action}
 use Rattle.clr_order.specs.declared.step.StepState.{StepState}
 use Rattle.clr_order.specs.declared.step.StepState.TheVariants.{Waiting, Done}
+use Rattle.clr_order.specs.declared.action.Action.TheVariants as actions
 use Rattle.clr_shelf.specs.Rows.{with_row}
 use Rattle.clr_rules.specs.Holds.{has_any_hold, hold_of}
 use Rattle.clr_rules.specs.Id.{Id}
@@ -20,7 +21,6 @@ use Rattle.clr_rules.specs.declared.phase.Phase.{Phase}
 use Rattle.clr_rules.specs.declared.phase.Phase.TheVariants.{Released, Closed}
 use Rattle.clr_rules.specs.declared.record.Record.{Record}
 use Rattle.clr_rules.specs.declared.step_row.StepRow.{StepRow}
-use Rattle.clr_order.specs.declared.action.Action.TheVariants as actions
 
 -- the steps of a round, numbered from n, each Waiting and without a reader
 unfoldable pub new_steps : Id → ℕ → ℕ → List Task → List StepRow

@@ -1,8 +1,8 @@
 -- EXAMPLES OF CHANGES: each of the eighteen kinds of command accepted in the worked network, with its reply and all its edits.
 use Rattle.std.specs.Prelude.{◌≡◌, ℕ, true, false, List, [], ◌∷◌, ◌++◌, codes, Some, None}
 use Rattle.clr_net.specs.declared.point.Position.TheVariants.{Opened, Closed as Shut}
-use Rattle.clr_order.specs.declared.action.Action.TheVariants as actions
 use Rattle.clr_order.specs.declared.step.StepState.TheVariants.{Waiting, Instructed, Repeated, Done}
+use Rattle.clr_order.specs.declared.action.Action.TheVariants as actions
 use Rattle.clr_rules.specs.Answer.{Answer}
 use Rattle.clr_rules.specs.Holds.{hold_of}
 use Rattle.clr_rules.specs.Worked.{BOSS, C1, DALE, JONES, KIM, L2, L3, OPS, REED, S2, S3, S4, Saying, T1, accepted, answer_after, c1_is_off, c1_is_on, does, isolating_l2, isolating_l3, jones_1, kim_1, kim_asks, kim_has_both, kim_is_granted, l2_asked, l2_blocked, l2_granted, l2_grounded, l2_isolated, l2_ordered, l2_released, l2_restoring, l2_tested, ops_1, restoring_l2, s2_opened, s3_left, s3_opened, s3_unblocked, s4_blocked, says, step_is_repeated, step_runs}

@@ -1,8 +1,8 @@
 -- EXAMPLES OF NEIGHBOURS: two clearances whose fences overlap. JONES has L2, cut at S2 and S3; KIM has L2 and L3, cut at S2, S4 and T1.
 -- Each tests, grounds and releases for itself, and both hold S2.
 use Rattle.std.specs.Prelude.{◌≡◌, true, List, [], ◌∷◌, ◌++◌, codes, Some, None}
-use Rattle.clr_order.specs.declared.action.Action.TheVariants as actions
 use Rattle.clr_order.specs.declared.step.StepState.TheVariants.{Instructed}
+use Rattle.clr_order.specs.declared.action.Action.TheVariants as actions
 use Rattle.clr_rules.specs.Holds.{hold_of}
 use Rattle.clr_rules.specs.Worked.{C1, JONES, KIM, L2, L3, OPS, S2, S3, Saying, accepted, answer_after, does, jones_1, kim_1, kim_has_both, l2_granted, l2_released, ops_1, refused, restoring_l2, says, step_runs}
 use Rattle.clr_rules.specs.WorkedRows.{jones_card, jones_record, ops_card, ops_record, step_row}

@@ -11,9 +11,9 @@ use Rattle.clr_rules.specs.Holds.{hindering_hold, hold_of}
 use Rattle.clr_rules.specs.Register.{Register, opening}
 use Rattle.clr_rules.specs.Run.{after_all}
 use Rattle.clr_rules.specs.Worked.{BOSS, C1, JONES, KIM, L2, L3, OPS, REED, S2, S3, Saying, ZZ, accepted, answer_after, c1_is_on, kim_is_ordered, refused, does, from_moment, isolating_l2, jones_1, kim_1, l2_granted, ops_1, register_after, s2_opened, said_at, says, step_runs, worked_staff}
+use Rattle.clr_rules.specs.WorkedRows.{kim_card, kim_record}
 use Rattle.clr_rules.specs.declared.change.Edit.TheVariants.{SetHand, PutHold, PutRecord, TakeHold}
 use Rattle.clr_rules.specs.declared.phase.Phase.TheVariants.{Requested, Closed, Released}
-use Rattle.clr_rules.specs.WorkedRows.{kim_card, kim_record}
 use Rattle.clr_rules.specs.declared.command.Kind.TheVariants.{Request, Order, Instruct, Grant, Test, Ground as LayGround, Unground, SignOn, SignOff, Transfer, Release, Cancel, Restore, Switch}
 use Rattle.clr_rules.specs.declared.hold.Hold.{Hold}
 use Rattle.clr_rules.specs.declared.hold_kind.HoldKind.{HoldKind}

@@ -2,11 +2,11 @@
 -- same as IsGood, and a command that is about one clearance need only be shown to keep that clearance in its place.
 use Rattle.std.specs.Prelude.{◌≡◌, ℕ, Bool, true, false, ◌&&◌, ◌||◌, ◌==◌, if◌then◌else◌, IsTrue, List, [], ◌∷◌, length, filter, All, Option, None, Some}
 use Rattle.std.specs.List.{list_all, list_any, range_with_len}
-use Rattle.clr_csv.specs.Staff.{IsStaff}
 use Rattle.clr_net.specs.Grid.{Grid, IsNetwork, section_names}
 use Rattle.clr_net.specs.Name.{same_name}
 use Rattle.clr_net.specs.Names.{has_name}
 use Rattle.clr_net.specs.declared.point.Position.TheVariants.{Opened}
+use Rattle.clr_csv.specs.Staff.{IsStaff}
 use Rattle.clr_order.specs.Action.{is_switching}
 use Rattle.clr_order.specs.Isolating.{IsSoundOrder}
 use Rattle.clr_order.specs.Needed.{undoes}

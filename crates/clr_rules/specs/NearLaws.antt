@@ -4,13 +4,13 @@ use Rattle.clr_net.specs.Fence.{in_fence}
 use Rattle.clr_net.specs.Grid.{Grid, IsNetwork, section_names}
 use Rattle.clr_net.specs.declared.point.PointRow.{PointRow}
 use Rattle.clr_net.specs.declared.section.SectionRow.{SectionRow}
+use Rattle.clr_net.specs.Names.{has_name}
 use Rattle.clr_order.specs.Step.{Task, task_points}
 use Rattle.clr_rules.specs.Command.{named_clearance}
 use Rattle.clr_rules.specs.Good.{IsGood, ListsAreInOrder}
 use Rattle.clr_rules.specs.HoldKind.{is_point_kind}
 use Rattle.clr_rules.specs.Holds.{holds_of}
 use Rattle.clr_rules.specs.Fences.{clearance_fence, touching_names}
-use Rattle.clr_net.specs.Names.{has_name}
 use Rattle.clr_rules.specs.Id.{Id}
 use Rattle.clr_rules.specs.MarkLaws.{HasEndIn, StandsAmong}
 use Rattle.clr_rules.specs.Near.{Near, near_of, near_part}

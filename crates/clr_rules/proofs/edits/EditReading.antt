@@ -16,12 +16,12 @@ use Rattle.clr_rules.specs.Hold.{hold_cmp, hold_cmp_total}
 use Rattle.clr_rules.specs.Holds.{has_hold, hold_key, hold_of}
 use Rattle.clr_rules.specs.Id.{Id, id_cmp, id_cmp_total, same_id, same_id_ties}
 use Rattle.clr_rules.specs.Records.{record_key, record_of}
-use Rattle.clr_rules.proofs.lists.StateFacts.{state_of-change, state_of-same}
 use Rattle.clr_rules.specs.States.{change_state, state_key, state_of}
 use Rattle.clr_rules.specs.declared.hold.Hold.{Hold}
 use Rattle.clr_rules.specs.declared.hold_kind.HoldKind.{HoldKind}
 use Rattle.clr_rules.specs.declared.point_state.PointState.{PointState}
 use Rattle.clr_rules.specs.declared.record.Record.{Record}
+use Rattle.clr_rules.proofs.lists.StateFacts.{state_of-change, state_of-same}
 
 -- ---- records and holds
 

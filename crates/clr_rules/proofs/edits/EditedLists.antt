@@ -9,10 +9,10 @@ use Rattle.clr_rules.specs.Holds.{hold_key}
 use Rattle.clr_rules.specs.Id.{id_cmp, id_cmp_total}
 use Rattle.clr_rules.specs.Records.{record_key}
 use Rattle.clr_rules.specs.Register.{Register}
-use Rattle.clr_rules.proofs.lists.StateFacts.{in_key_order-change, state_keys-change}
 use Rattle.clr_rules.specs.StepKey.{step_key, step_key_cmp, step_key_cmp_total}
 use Rattle.clr_rules.specs.declared.change.Edit.{Edit}
 use Rattle.clr_rules.specs.declared.change.Edit.TheVariants.{SetPosition, SetHand, PutHold, TakeHold, PutRecord, PutStep}
+use Rattle.clr_rules.proofs.lists.StateFacts.{in_key_order-change, state_keys-change}
 
 -- an edit keeps the lists in order
 pub edited-in_order : (edit : Edit) (R : Register) → ListsAreInOrder R → ListsAreInOrder (edited edit R)

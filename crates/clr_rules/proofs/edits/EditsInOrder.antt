@@ -8,11 +8,10 @@ use Rattle.std.proofs.lemmas.Cmp.{nat_cmp_total, tied_itself}
 use Rattle.clr_order.specs.Step.{Task}
 use Rattle.clr_order.specs.Texts.{waiting_step}
 use Rattle.clr_order.specs.declared.action.Action.{Action}
-use Rattle.clr_order.specs.declared.action.Action.TheVariants as actions
 use Rattle.clr_order.specs.declared.step.Step.{Step}
+use Rattle.clr_order.specs.declared.action.Action.TheVariants as actions
 use Rattle.clr_shelf.specs.KeyOrder.{in_key_order-filter, in_key_order-first, in_key_order-rest}
 use Rattle.clr_shelf.specs.Rows.{in_key_order}
-use Rattle.clr_rules.proofs.lists.RoundSteps.{one_id}
 use Rattle.clr_rules.specs.Answer.{Answer, answer, first_refusal, known_of, settled}
 use Rattle.clr_rules.specs.Commands.{Known, checks, edits_of}
 use Rattle.clr_rules.specs.Changes.{done_edits, edits_by, hold_edits, new_record, new_steps, position_edits, put_steps, undone_edits}
@@ -28,7 +27,6 @@ use Rattle.clr_rules.specs.declared.change.Edit.{Edit}
 use Rattle.clr_rules.specs.declared.change.Edit.TheVariants.{SetHand, PutHold, TakeHold, PutRecord, PutStep}
 use Rattle.clr_rules.specs.declared.command.Command.{Command}
 use Rattle.clr_rules.specs.declared.command.Kind.{Kind}
-use Rattle.clr_rules.specs.declared.command.Kind.TheVariants as kinds
 use Rattle.clr_rules.specs.declared.hold.Hold.{Hold}
 use Rattle.clr_rules.specs.declared.hold_kind.HoldKind.{HoldKind}
 use Rattle.clr_rules.specs.declared.hold_kind.HoldKind.TheVariants.{HeldOpen, Block, Control, Tag, Tested, Ground, Crew}
@@ -36,6 +34,8 @@ use Rattle.clr_rules.specs.declared.phase.Phase.TheVariants.{Ordered, Restoring,
 use Rattle.clr_rules.specs.declared.record.Record.{Record}
 use Rattle.clr_rules.specs.declared.refusal.Refusal.{Refusal}
 use Rattle.clr_rules.specs.declared.step_row.StepRow.{StepRow}
+use Rattle.clr_rules.specs.declared.command.Kind.TheVariants as kinds
+use Rattle.clr_rules.proofs.lists.RoundSteps.{one_id}
 
 -- ---- new steps are numbered one after the other
 

@@ -14,7 +14,6 @@ use Rattle.clr_rules.specs.Good.{is_closing_at}
 use Rattle.clr_rules.specs.GoodByPhase.{InPhase, IsGoodByPhase, IsInPlace, outlook_of}
 use Rattle.clr_rules.specs.Id.{Id, same_id}
 use Rattle.clr_rules.specs.Register.{Register}
-use Rattle.clr_rules.proofs.lists.StateFacts.{hand_of-handed, hand_of-handed_other, handed, state_is_known}
 use Rattle.clr_rules.specs.States.{has_in_hand, is_hand, state_of}
 use Rattle.clr_rules.specs.StepKey.{step_key, step_key_cmp, step_key_cmp_total}
 use Rattle.clr_rules.specs.Steps.{is_active, is_close, steps_of}
@@ -23,6 +22,7 @@ use Rattle.clr_rules.specs.declared.point_state.PointState.{PointState}
 use Rattle.clr_rules.specs.declared.record.Record.{Record}
 use Rattle.clr_rules.specs.declared.step_row.StepKey.{StepKey}
 use Rattle.clr_rules.specs.declared.step_row.StepRow.{StepRow}
+use Rattle.clr_rules.proofs.lists.StateFacts.{hand_of-handed, hand_of-handed_other, handed, state_is_known}
 use Rattle.clr_rules.proofs.edits.PresentSteps.{IsPresent}
 use Rattle.clr_rules.proofs.lists.RoundSteps.{among_own, one_id, own_id}
 use Rattle.clr_rules.proofs.isolation.Sparing.{steps_of-others}

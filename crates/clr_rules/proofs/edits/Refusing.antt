@@ -1,8 +1,7 @@
 -- Which replies there are, and which of them have edits.
 use Rattle.std.proofs.Common.{◌≡◌, ℕ, Bool, true, false, List, [], ◌∷◌, Option, Some, None, is_some, refl, ap}
 use Rattle.std.specs.Prelude.{◌↔◌}
-use Rattle.clr_rules.proofs.lists.Greatest.{has_record-put}
-use Rattle.clr_rules.proofs.edits.Passing.{named_recorded}
+use Rattle.clr_shelf.specs.Reading.{row_of-with_row}
 use Rattle.clr_rules.specs.Answer.{Answer, answer, concerned, first_refusal, known_of, settled, told, told_after}
 use Rattle.clr_rules.specs.Commands.{Known, checks, edits_of}
 use Rattle.clr_rules.specs.Changes.{new_steps, put_steps}
@@ -14,18 +13,19 @@ use Rattle.clr_rules.specs.Id.{Id, id_cmp, id_cmp_total}
 use Rattle.clr_rules.specs.Records.{record_key, record_of}
 use Rattle.clr_rules.specs.Register.{Register}
 use Rattle.clr_rules.specs.Run.{after}
-use Rattle.clr_shelf.specs.Reading.{row_of-with_row}
 use Rattle.clr_rules.specs.declared.change.Edit.{Edit}
 use Rattle.clr_rules.specs.declared.change.Edit.TheVariants.{SetPosition, SetHand, PutHold, TakeHold, PutRecord, PutStep}
 use Rattle.clr_rules.specs.declared.command.Command.{Command}
 use Rattle.clr_rules.specs.declared.command.Kind.{Kind}
-use Rattle.clr_rules.specs.declared.command.Kind.TheVariants as kinds
 use Rattle.clr_rules.specs.declared.record.Record.{Record}
 use Rattle.clr_rules.specs.declared.refusal.Refusal.{Refusal}
 use Rattle.clr_rules.specs.declared.reply.Card.{Card}
 use Rattle.clr_rules.specs.declared.reply.Reply.{Reply}
 use Rattle.clr_rules.specs.declared.reply.Reply.TheVariants.{Accepted, Shown, Refused}
 use Rattle.clr_rules.specs.declared.reply.View.{View}
+use Rattle.clr_rules.specs.declared.command.Kind.TheVariants as kinds
+use Rattle.clr_rules.proofs.lists.Greatest.{has_record-put}
+use Rattle.clr_rules.proofs.edits.Passing.{named_recorded}
 
 -- ---- records stay
 

@@ -1,8 +1,8 @@
 -- Runs: what every command keeps, a run keeps; and a run that goes on where another ended.
 use Rattle.std.proofs.Common.{◌≡◌, ◌∙◌, suc, List, [], ◌∷◌, ◌++◌, length, refl, sym, ap, subst}
+use Rattle.clr_net.specs.Grid.{Grid, IsNetwork}
 use Rattle.clr_csv.specs.Staff.{IsStaff}
 use Rattle.clr_csv.specs.declared.employee.StaffRow.{StaffRow}
-use Rattle.clr_net.specs.Grid.{Grid, IsNetwork}
 use Rattle.clr_rules.specs.Answer.{Answer, answer}
 use Rattle.clr_rules.specs.Good.{ListsAreInOrder}
 use Rattle.clr_rules.specs.Register.{Register, opening}

@@ -15,12 +15,12 @@ use Rattle.clr_rules.specs.GoodByPhase.{IsGoodByPhase, IsInPlace, outlook_of}
 use Rattle.clr_rules.specs.HoldKind.{is_point_kind}
 use Rattle.clr_rules.specs.Holds.{has_hold}
 use Rattle.clr_rules.specs.Id.{Id, same_id}
-use Rattle.clr_rules.specs.declared.command.Command.{Command}
 use Rattle.clr_rules.specs.Records.{is_switch_order, numbers_of, record_of}
 use Rattle.clr_rules.specs.Register.{Register}
 use Rattle.clr_rules.specs.Run.{after}
 use Rattle.clr_rules.specs.States.{has_in_hand, position_of}
 use Rattle.clr_rules.specs.Steps.{steps_of}
+use Rattle.clr_rules.specs.declared.command.Command.{Command}
 use Rattle.clr_rules.specs.declared.change.Edit.{Edit}
 use Rattle.clr_rules.specs.declared.command.Kind.{Kind}
 use Rattle.clr_rules.specs.declared.hold_kind.HoldKind.{HoldKind}

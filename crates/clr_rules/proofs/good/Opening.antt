@@ -10,13 +10,13 @@ use Rattle.std.proofs.lemmas.List.{length-map}
 use Rattle.std.proofs.lemmas.List.Elements.{All-map, All-nil}
 use Rattle.std.proofs.lemmas.Map.Keys.{sorted_head, sorted_tail}
 use Rattle.std.proofs.lemmas.Option.{none-some}
-use Rattle.clr_csv.specs.Staff.{IsStaff}
-use Rattle.clr_csv.specs.declared.employee.StaffRow.{StaffRow}
 use Rattle.clr_net.specs.Grid.{Grid, IsNetwork, has_ends, has_one_section, point_names, section_names}
 use Rattle.clr_net.specs.Name.{name_cmp}
 use Rattle.clr_net.specs.Names.{has_name}
 use Rattle.clr_net.specs.declared.point.PointRow.{PointRow}
 use Rattle.clr_net.proofs.ListFacts.{map-map}
+use Rattle.clr_csv.specs.Staff.{IsStaff}
+use Rattle.clr_csv.specs.declared.employee.StaffRow.{StaffRow}
 use Rattle.clr_shelf.specs.Rows.{in_key_order, row_of}
 use Rattle.clr_rules.specs.RunLaws.{KeepsOpening}
 use Rattle.clr_rules.specs.Good.{IsGood, ListsAreInOrder, has_record, is_active_at, is_closing_at, is_known_work}
@@ -25,12 +25,12 @@ use Rattle.clr_rules.specs.Id.{Id}
 use Rattle.clr_rules.specs.Records.{record_of}
 use Rattle.clr_rules.specs.Register.{first_state, opening, unplaced, unplaced_net}
 use Rattle.clr_rules.specs.States.{hand_in, has_in_hand, is_hand, state_key, state_of}
-use Rattle.clr_rules.proofs.lists.StateFacts.{state_of-first, state_of-none}
 use Rattle.clr_rules.specs.Steps.{is_in_turn, is_waiting, steps_in, steps_of}
 use Rattle.clr_rules.specs.declared.hold.Hold.{Hold}
 use Rattle.clr_rules.specs.declared.hold_kind.HoldKind.{HoldKind}
 use Rattle.clr_rules.specs.declared.record.Record.{Record}
 use Rattle.clr_rules.specs.declared.step_row.StepRow.{StepRow}
+use Rattle.clr_rules.proofs.lists.StateFacts.{state_of-first, state_of-none}
 
 module _ {Key Row : Type 0} (compare : Key → Key → Ordering) (key_of : Row → Key) where
   all_above : (row : Row) (rest : List Row) → AllByRecursion (λ key. compare (key_of row) key ≡ Less) (map key_of rest)

@@ -2,21 +2,21 @@
 use Rattle.std.proofs.Common.{◌≡◌, refl, ℕ, Bool, true, false, nat_eq, List, Option, Some, None, Contains}
 use Rattle.std.proofs.lemmas.Bool.{both_ways, eq-eqb, false≢true, false_from_ne_true}
 use Rattle.std.proofs.lemmas.List.Elements.{All-contains}
+use Rattle.std.proofs.lemmas.List.Folds.{list_any_none}
 use Rattle.clr_net.specs.Grid.{Grid}
+use Rattle.clr_order.specs.declared.step.StepState.{StepState}
+use Rattle.clr_order.specs.declared.step.StepState.TheVariants.{Waiting, Instructed, Repeated, Done}
+use Rattle.clr_shelf.specs.Lists.{list_all-contains}
 use Rattle.clr_rules.specs.GoodByPhase.{ActiveInRound, InPhase, Outlook, of_round}
 use Rattle.clr_rules.specs.Records.{is_ordered}
 use Rattle.clr_rules.specs.Steps.{all_done, is_active, is_done, some_active}
-use Rattle.clr_order.specs.declared.step.StepState.{StepState}
-use Rattle.clr_order.specs.declared.step.StepState.TheVariants.{Waiting, Instructed, Repeated, Done}
 use Rattle.clr_rules.specs.declared.step_row.StepRow.{StepRow}
-use Rattle.clr_rules.proofs.lists.NamedRows.{Contains-filter}
-use Rattle.clr_rules.proofs.lists.RoundSteps.{All-from_each}
-use Rattle.clr_shelf.specs.Lists.{list_all-contains}
-use Rattle.std.proofs.lemmas.List.Folds.{list_any_none}
 use Rattle.clr_rules.specs.declared.hold_kind.HoldKind.TheVariants.{Tested, Ground, Crew}
 use Rattle.clr_rules.specs.declared.phase.Phase.{Phase}
 use Rattle.clr_rules.specs.declared.phase.Phase.TheVariants.{Requested, Ordered, Granted, Released, Restoring, Switching, Closed}
 use Rattle.clr_rules.specs.declared.record.Record.{Record}
+use Rattle.clr_rules.proofs.lists.NamedRows.{Contains-filter}
+use Rattle.clr_rules.proofs.lists.RoundSteps.{All-from_each}
 
 -- the phase of a clearance is a matter of its steps and holds
 pub phase_beside : (g : Grid) (phase : Phase) (work : Option (List ℕ)) (v : Outlook) (o : Option Record) (hand : List ℕ → Bool)

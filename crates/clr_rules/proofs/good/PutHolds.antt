@@ -18,10 +18,10 @@ use Rattle.clr_order.specs.Isolating.{IsSoundOrder, is_border_point, needed_at, 
 use Rattle.clr_order.specs.Needed.{needed}
 use Rattle.clr_order.specs.Step.{actions_at}
 use Rattle.clr_order.specs.declared.action.Action.{Action}
-use Rattle.clr_order.specs.declared.action.Action.TheVariants as actions
 use Rattle.clr_order.specs.declared.step.StepState.{StepState}
 use Rattle.clr_order.specs.declared.step.StepState.TheVariants.{Waiting, Instructed, Repeated, Done}
 use Rattle.clr_order.proofs.Finds.{found_passes}
+use Rattle.clr_order.specs.declared.action.Action.TheVariants as actions
 use Rattle.clr_shelf.specs.Lists.{Contains-cases, Contains-here, Contains-later}
 use Rattle.clr_rules.specs.Good.{put_by, puts}
 use Rattle.clr_rules.specs.GoodByPhase.{all_waiting, go_in_turn}

@@ -6,14 +6,9 @@ use Rattle.std.proofs.lemmas.List.Folds.{list_all-append}
 use Rattle.clr_net.specs.declared.point.Position.TheVariants.{Closed as Shut}
 use Rattle.clr_order.specs.Step.{Task}
 use Rattle.clr_order.specs.declared.action.Action.{Action}
-use Rattle.clr_order.specs.declared.action.Action.TheVariants as actions
 use Rattle.clr_order.specs.declared.step.StepState.{StepState}
 use Rattle.clr_order.specs.declared.step.StepState.TheVariants.{Waiting, Instructed, Repeated, Done}
-use Rattle.clr_rules.proofs.lists.FoundSteps.{present_step, step_is_active, step_is_closing}
-use Rattle.clr_rules.proofs.lists.NewNumbers.{new_is_another}
-use Rattle.clr_rules.proofs.edits.Passing.{all_pass, not_refused_true}
-use Rattle.clr_rules.proofs.lists.RoundSteps.{one_id, record_id}
-use Rattle.clr_rules.proofs.isolation.Sparing.{has_hold-same, sparing_edits_keep_outlook, sparing_edits_leave_alone}
+use Rattle.clr_order.specs.declared.action.Action.TheVariants as actions
 use Rattle.clr_rules.specs.Answer.{Answer, answer, concerned, first_refusal, known_of, numbered_for, settled}
 use Rattle.clr_rules.specs.Commands.{Known, checks, edits_of}
 use Rattle.clr_rules.specs.Changes.{done_edits, edits_by, hold_edits, new_steps, position_edits, put_steps, undone_edits, with_record, with_step}
@@ -36,12 +31,17 @@ use Rattle.clr_rules.specs.declared.change.Edit.{Edit}
 use Rattle.clr_rules.specs.declared.change.Edit.TheVariants.{SetPosition, SetHand, TakeHold, PutRecord, PutStep}
 use Rattle.clr_rules.specs.declared.command.Command.{Command}
 use Rattle.clr_rules.specs.declared.command.Kind.{Kind}
-use Rattle.clr_rules.specs.declared.command.Kind.TheVariants as kinds
 use Rattle.clr_rules.specs.declared.hold_kind.HoldKind.TheVariants.{HeldOpen, Tested}
 use Rattle.clr_rules.specs.declared.record.Record.{Record}
 use Rattle.clr_rules.specs.declared.refusal.Refusal.{Refusal}
 use Rattle.clr_rules.specs.declared.refusal.Refusal.TheVariants.{InHand, StepState as WrongState}
 use Rattle.clr_rules.specs.declared.step_row.StepRow.{StepRow}
+use Rattle.clr_rules.specs.declared.command.Kind.TheVariants as kinds
+use Rattle.clr_rules.proofs.lists.FoundSteps.{present_step, step_is_active, step_is_closing}
+use Rattle.clr_rules.proofs.lists.NewNumbers.{new_is_another}
+use Rattle.clr_rules.proofs.edits.Passing.{all_pass, not_refused_true}
+use Rattle.clr_rules.proofs.lists.RoundSteps.{one_id, record_id}
+use Rattle.clr_rules.proofs.isolation.Sparing.{has_hold-same, sparing_edits_keep_outlook, sparing_edits_leave_alone}
 
 -- ---- hands of another
 

@@ -3,9 +3,10 @@ use Rattle.std.proofs.Common.{◌≡◌, ℕ, Bool, true, false, not, List, [], 
 use Rattle.std.specs.List.{Contains}
 use Rattle.std.proofs.lemmas.Bool.{and_parts, both_ways, false≢true, false_from_ne_true, not-true, not-false, not_from_false, or_left, or_parts}
 use Rattle.std.proofs.lemmas.List.Elements.{All-contains_itself, All-nil, All-weaker}
-use Rattle.clr_csv.specs.declared.employee.StaffRow.{StaffRow}
 use Rattle.clr_net.specs.Name.{same_name}
 use Rattle.clr_net.proofs.Walks.{one_name}
+use Rattle.clr_csv.specs.declared.employee.StaffRow.{StaffRow}
+use Rattle.clr_order.specs.Step.{Task}
 use Rattle.clr_shelf.specs.Lists.{list_all-contains}
 use Rattle.clr_rules.specs.Agreement.{Agree}
 use Rattle.clr_rules.specs.AgreementLaws.{is_about, is_new_of}
@@ -30,7 +31,6 @@ use Rattle.clr_rules.specs.declared.command.Kind.TheVariants.{Request, Switch}
 use Rattle.clr_rules.specs.declared.record.Record.{Record}
 use Rattle.clr_rules.specs.declared.refusal.Refusal.{Refusal}
 use Rattle.clr_rules.specs.declared.refusal.Refusal.TheVariants.{UnknownCaller, WrongRole}
-use Rattle.clr_order.specs.Step.{Task}
 use Rattle.clr_rules.proofs.isolation.Agreement.{agrees_on, agrees_with_itself, same_edits_agree, same_marks_agree}
 use Rattle.clr_rules.proofs.isolation.OthersEdits.{others_edits_spare}
 use Rattle.clr_rules.proofs.edits.Passing.{all_pass, named_recorded, not_refused_true}

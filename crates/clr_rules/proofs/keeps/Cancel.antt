@@ -7,7 +7,6 @@ use Rattle.clr_rules.specs.Changes.{cancelled_phase}
 use Rattle.clr_rules.specs.GoodByPhase.{InPhase, Outlook, outlook_of}
 use Rattle.clr_rules.specs.Holds.{has_any_hold, has_hold, hold_of}
 use Rattle.clr_rules.specs.Id.{Id, same_id}
-use Rattle.clr_rules.proofs.good.Keeping.{KeepsGood}
 use Rattle.clr_rules.specs.Records.{is_cancellable, is_ordered}
 use Rattle.clr_rules.specs.Steps.{some_active, steps_of}
 use Rattle.clr_rules.specs.declared.change.Edit.TheVariants.{PutRecord}
@@ -18,9 +17,9 @@ use Rattle.clr_rules.specs.declared.phase.Phase.{Phase}
 use Rattle.clr_rules.specs.declared.phase.Phase.TheVariants.{Requested, Ordered, Granted, Released, Restoring, Switching, Closed}
 use Rattle.clr_rules.specs.declared.record.Record.{Record}
 use Rattle.clr_rules.specs.declared.refusal.Refusal.TheVariants.{StepState as WrongState}
+use Rattle.clr_rules.proofs.good.Keeping.{KeepsGood, commands_keep}
 use Rattle.clr_rules.proofs.lists.HoldMembers.{hold_there}
 use Rattle.clr_rules.proofs.keeps.OneRecord.{found_edits, in_phase_of, record_alone}
-use Rattle.clr_rules.proofs.good.Keeping.{commands_keep}
 use Rattle.clr_rules.proofs.edits.Passing.{not_refused, phase_fits, record_there}
 use Rattle.clr_rules.proofs.lists.RoundSteps.{own_id, record_id}
 

@@ -19,7 +19,6 @@ use Rattle.clr_rules.specs.Holds.{has_hold, hold_key, hold_of, same_kind}
 use Rattle.clr_rules.specs.Id.{Id, id_cmp, same_id, same_id_equiv}
 use Rattle.clr_rules.specs.Records.{record_key, record_of}
 use Rattle.clr_rules.specs.Register.{Register}
-use Rattle.clr_rules.proofs.lists.StateFacts.{hand_of-placed, handed, placed, position_of-handed, position_of-placed, position_of-placed_other, state_of-changed}
 use Rattle.clr_rules.specs.States.{has_in_hand, is_hand, position_of, state_of}
 use Rattle.clr_rules.specs.Steps.{is_active, is_close, steps_of}
 use Rattle.clr_rules.specs.declared.change.Edit.TheVariants.{PutHold, PutRecord, PutStep, SetHand, SetPosition, TakeHold}
@@ -29,6 +28,7 @@ use Rattle.clr_rules.specs.declared.hold_kind.HoldKind.TheVariants.{HeldOpen}
 use Rattle.clr_rules.specs.declared.point_state.PointState.{PointState}
 use Rattle.clr_rules.specs.declared.record.Record.{Record}
 use Rattle.clr_rules.specs.declared.step_row.StepRow.{StepRow}
+use Rattle.clr_rules.proofs.lists.StateFacts.{hand_of-placed, handed, placed, position_of-handed, position_of-placed, position_of-placed_other, state_of-changed}
 use Rattle.clr_rules.proofs.lists.HoldChanges.{kind_itself, others_hold_put, others_hold_taken, own_taken, was_or_put, was_there}
 use Rattle.clr_rules.proofs.good.Keeping.{keeps}
 use Rattle.clr_rules.proofs.keeps.Repeat.{turns_split}

@@ -2,14 +2,13 @@
 use Rattle.std.proofs.Common.{◌≡◌, true, [], ◌∷◌, Some, refl}
 use Rattle.clr_rules.specs.GoodByPhase.{of_round, outlook_of}
 use Rattle.clr_rules.specs.Id.{Id}
-use Rattle.clr_rules.proofs.good.Keeping.{KeepsGood}
 use Rattle.clr_rules.specs.Records.{is_ordered}
 use Rattle.clr_rules.specs.Steps.{all_done, steps_in, steps_of}
 use Rattle.clr_rules.specs.declared.change.Edit.TheVariants.{PutRecord}
 use Rattle.clr_rules.specs.declared.command.Kind.TheVariants.{Grant}
 use Rattle.clr_rules.specs.declared.phase.Phase.TheVariants.{Granted}
 use Rattle.clr_rules.specs.declared.refusal.Refusal.TheVariants.{StepsLeft}
-use Rattle.clr_rules.proofs.good.Keeping.{commands_keep}
+use Rattle.clr_rules.proofs.good.Keeping.{KeepsGood, commands_keep}
 use Rattle.clr_rules.proofs.edits.Passing.{not_refused_true, phase_fits, record_there}
 use Rattle.clr_rules.proofs.good.PlaceFacts.{to_granted}
 use Rattle.clr_rules.proofs.lists.RoundSteps.{of_round_is}

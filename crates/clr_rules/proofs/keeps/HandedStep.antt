@@ -13,7 +13,6 @@ use Rattle.clr_rules.specs.Holds.{has_hold}
 use Rattle.clr_rules.specs.Id.{Id, same_id}
 use Rattle.clr_rules.specs.Records.{is_running, record_of}
 use Rattle.clr_rules.specs.Register.{Register}
-use Rattle.clr_rules.proofs.lists.StateFacts.{handed, position_of-handed}
 use Rattle.clr_rules.specs.States.{has_in_hand, is_hand}
 use Rattle.clr_rules.specs.StepKey.{step_key}
 use Rattle.clr_rules.specs.Steps.{is_active, is_close, is_done, steps_of}
@@ -23,6 +22,7 @@ use Rattle.clr_rules.specs.declared.hold_kind.HoldKind.{HoldKind}
 use Rattle.clr_rules.specs.declared.hold_kind.HoldKind.TheVariants.{HeldOpen}
 use Rattle.clr_rules.specs.declared.record.Record.{Record}
 use Rattle.clr_rules.specs.declared.step_row.StepRow.{StepRow}
+use Rattle.clr_rules.proofs.lists.StateFacts.{handed, position_of-handed}
 use Rattle.clr_rules.proofs.good.Keeping.{keeps}
 use Rattle.clr_rules.proofs.keeps.OneRecord.{in_phase_of}
 use Rattle.clr_rules.proofs.keeps.Repeat.{turns_split}

@@ -8,7 +8,6 @@ use Rattle.clr_rules.specs.Changes.{moved as moved_step}
 use Rattle.clr_rules.specs.Checks.{held_by, other_hand}
 use Rattle.clr_rules.specs.Holds.{earlier_hold, first_hold, hindering_hold, hinders, hold_of, same_kind}
 use Rattle.clr_rules.specs.Id.{Id, same_id}
-use Rattle.clr_rules.proofs.good.Keeping.{KeepsGood}
 use Rattle.clr_rules.specs.Records.{is_running}
 use Rattle.clr_rules.specs.Register.{Register}
 use Rattle.clr_rules.specs.States.{hand_of, is_hand}
@@ -20,8 +19,8 @@ use Rattle.clr_rules.specs.declared.hold_kind.HoldKind.{HoldKind}
 use Rattle.clr_rules.specs.declared.hold_kind.HoldKind.TheVariants.{HeldOpen, Block}
 use Rattle.clr_rules.specs.declared.refusal.Refusal.TheVariants.{OutOfTurn}
 use Rattle.clr_rules.specs.declared.step_row.StepRow.{StepRow}
+use Rattle.clr_rules.proofs.good.Keeping.{KeepsGood, commands_keep}
 use Rattle.clr_rules.proofs.lists.HoldMembers.{hold_there}
-use Rattle.clr_rules.proofs.good.Keeping.{commands_keep}
 use Rattle.clr_rules.proofs.keeps.Repeat.{state_fits}
 use Rattle.clr_rules.proofs.lists.NamedRows.{Contains-filter}
 use Rattle.clr_rules.proofs.edits.Passing.{check_of_found, not_refused_true, phase_fits, record_there}

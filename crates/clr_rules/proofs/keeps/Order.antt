@@ -23,7 +23,6 @@ use Rattle.clr_rules.specs.Good.{put_by}
 use Rattle.clr_rules.specs.GoodByPhase.{InOrdered, InPhase, IsBare, IsGoodByPhase, Outlook, of_round, outlook_of}
 use Rattle.clr_rules.specs.Holds.{once}
 use Rattle.clr_rules.specs.Id.{Id}
-use Rattle.clr_rules.proofs.good.Keeping.{KeepsGood}
 use Rattle.clr_rules.specs.Records.{is_requested, record_of}
 use Rattle.clr_rules.specs.Register.{Register}
 use Rattle.clr_rules.specs.Steps.{is_active, points_of, steps_of, tasks_of}
@@ -33,9 +32,9 @@ use Rattle.clr_rules.specs.declared.phase.Phase.{Phase}
 use Rattle.clr_rules.specs.declared.phase.Phase.TheVariants.{Requested, Ordered, Granted, Released, Restoring, Switching, Closed}
 use Rattle.clr_rules.specs.declared.record.Record.{Record}
 use Rattle.clr_rules.specs.declared.step_row.StepRow.{StepRow}
+use Rattle.clr_rules.proofs.good.Keeping.{KeepsGood, Changed, commands_keep, keeps}
 use Rattle.clr_rules.proofs.lists.HoldChanges.{same_tests}
 use Rattle.clr_rules.proofs.live.FenceCuts.{has_name-once, in_fence_alike, in_fence_from_named, named_from_in_fence}
-use Rattle.clr_rules.proofs.good.Keeping.{Changed, commands_keep, keeps}
 use Rattle.clr_rules.proofs.keeps.OneRecord.{found_edits, in_phase_of}
 use Rattle.clr_rules.proofs.lists.NamedRows.{has_name-filter, has_name-row}
 use Rattle.clr_rules.proofs.edits.PassedOrders.{by_name, by_test, no_refusal}

@@ -11,7 +11,6 @@ use Rattle.clr_rules.specs.Hold.{hold_cmp}
 use Rattle.clr_rules.specs.HoldKind.{is_point_kind}
 use Rattle.clr_rules.specs.Holds.{has_hold, has_some_hold, hold_key, hold_of, places_of, same_kind}
 use Rattle.clr_rules.specs.Id.{Id, id_cmp, same_id, same_id_equiv}
-use Rattle.clr_rules.proofs.good.Keeping.{KeepsGood}
 use Rattle.clr_rules.specs.Records.{is_granted, record_key, record_of}
 use Rattle.clr_rules.specs.Register.{Register}
 use Rattle.clr_rules.specs.declared.change.Edit.{Edit}
@@ -23,11 +22,11 @@ use Rattle.clr_rules.specs.declared.hold_kind.HoldKind.TheVariants.{HeldOpen, Bl
 use Rattle.clr_rules.specs.declared.phase.Phase.TheVariants.{Released}
 use Rattle.clr_rules.specs.declared.record.Record.{Record}
 use Rattle.clr_rules.specs.declared.refusal.Refusal.TheVariants.{CrewsOn, Grounded}
+use Rattle.clr_rules.proofs.good.Keeping.{KeepsGood, Changed, commands_keep, keeps}
 use Rattle.clr_rules.proofs.lists.HoldChanges.{others_hold_taken, own_taken}
 use Rattle.clr_rules.proofs.lists.HoldMembers.{hold_there}
 use Rattle.clr_rules.proofs.keeps.OneRecord.{found_edits}
 use Rattle.clr_rules.proofs.keeps.Work.{GrantedWork, granted_work, has_some}
-use Rattle.clr_rules.proofs.good.Keeping.{Changed, commands_keep, keeps}
 use Rattle.clr_rules.proofs.lists.NamedRows.{Contains-filter, has_name-row}
 use Rattle.clr_rules.proofs.edits.Passing.{not_refused, phase_fits, record_there}
 use Rattle.clr_rules.proofs.edits.PutRecords.{moved, outlook_with, quiet}

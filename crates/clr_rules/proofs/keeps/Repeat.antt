@@ -8,7 +8,6 @@ use Rattle.clr_rules.specs.Checks.{refuse, wrong_state}
 use Rattle.clr_rules.specs.Edits.{edited_all}
 use Rattle.clr_rules.specs.GoodByPhase.{IsGoodByPhase, IsInPlace, outlook_of, present_of}
 use Rattle.clr_rules.specs.Id.{Id}
-use Rattle.clr_rules.proofs.good.Keeping.{KeepsGood}
 use Rattle.clr_rules.specs.Records.{is_running, record_of}
 use Rattle.clr_rules.specs.Register.{Register}
 use Rattle.clr_rules.specs.Steps.{is_active, present, step_at, steps_of}
@@ -18,7 +17,7 @@ use Rattle.clr_rules.specs.declared.command.Kind.TheVariants.{Repeat}
 use Rattle.clr_rules.specs.declared.record.Record.{Record}
 use Rattle.clr_rules.specs.declared.refusal.Refusal.TheVariants.{StepState as WrongState}
 use Rattle.clr_rules.specs.declared.step_row.StepRow.{StepRow}
-use Rattle.clr_rules.proofs.good.Keeping.{commands_keep, keeps}
+use Rattle.clr_rules.proofs.good.Keeping.{KeepsGood, commands_keep, keeps}
 use Rattle.clr_rules.proofs.keeps.OneRecord.{in_phase_of}
 use Rattle.clr_rules.proofs.edits.Passing.{check_of_found, not_refused_true, phase_fits, record_there}
 use Rattle.clr_rules.proofs.edits.PresentSteps.{FoundStep, IsPresent, active_midst, active_moves, found_step_edits, step_there}

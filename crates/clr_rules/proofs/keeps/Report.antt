@@ -7,9 +7,9 @@ use Rattle.clr_net.proofs.Walks.{same_itself}
 use Rattle.clr_order.specs.Action.{is_switching}
 use Rattle.clr_order.specs.Needed.{undoes}
 use Rattle.clr_order.specs.declared.action.Action.{Action}
-use Rattle.clr_order.specs.declared.action.Action.TheVariants as actions
 use Rattle.clr_order.specs.declared.step.StepState.TheVariants.{Waiting, Instructed, Repeated, Done}
 use Rattle.clr_order.specs.declared.step.StepState.{StepState}
+use Rattle.clr_order.specs.declared.action.Action.TheVariants as actions
 use Rattle.clr_shelf.specs.Rows.{with_row, without_row}
 use Rattle.clr_rules.specs.Changes.{done_edits, hold_edits, moved as moved_step, phase_after, position_edits, undone_edits}
 use Rattle.clr_rules.specs.Edits.{edited_all}
@@ -19,10 +19,8 @@ use Rattle.clr_rules.specs.Hold.{hold_cmp}
 use Rattle.clr_rules.specs.HoldKind.{is_point_kind}
 use Rattle.clr_rules.specs.Holds.{has_hold, hold_key, hold_of, same_kind}
 use Rattle.clr_rules.specs.Id.{Id}
-use Rattle.clr_rules.proofs.good.Keeping.{KeepsGood, commands_keep}
 use Rattle.clr_rules.specs.Records.{ends_with_steps, is_running, is_switch_order, lacks_work, record_of}
 use Rattle.clr_rules.specs.Register.{Register}
-use Rattle.clr_rules.proofs.lists.StateFacts.{handed, placed}
 use Rattle.clr_rules.specs.States.{hand_of, has_in_hand, position_of}
 use Rattle.clr_rules.specs.Steps.{all_done, is_active, is_close, is_done, is_repeated, is_some_step, present, steps_in, steps_of}
 use Rattle.clr_rules.specs.declared.change.Edit.{Edit}
@@ -36,6 +34,8 @@ use Rattle.clr_rules.specs.declared.phase.Phase.TheVariants.{Requested, Ordered,
 use Rattle.clr_rules.specs.declared.point_state.PointState.{PointState}
 use Rattle.clr_rules.specs.declared.record.Record.{Record}
 use Rattle.clr_rules.specs.declared.step_row.StepRow.{StepRow}
+use Rattle.clr_rules.proofs.good.Keeping.{KeepsGood, commands_keep}
+use Rattle.clr_rules.proofs.lists.StateFacts.{handed, placed}
 use Rattle.clr_rules.proofs.lists.HoldChanges.{is_there, own_put, own_taken}
 use Rattle.clr_rules.proofs.keeps.DoneMoves.{close_keeps, done_midst, done_put, in_own_hand, open_keeps, put_keeps, switch_open_keeps, take_keeps}
 use Rattle.clr_rules.proofs.keeps.DonePhases.{closed_done, none_taken, ordered_done, restored, restoring_done, switching_done, undone_here, undone_kind}

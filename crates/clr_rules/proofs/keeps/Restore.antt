@@ -24,7 +24,6 @@ use Rattle.clr_rules.specs.GoodByPhase.{InPhase, InReleased, InRestoring, IsGood
 use Rattle.clr_rules.specs.HoldKind.{is_point_kind}
 use Rattle.clr_rules.specs.Holds.{has_hold, held_among, held_at, once}
 use Rattle.clr_rules.specs.Id.{Id}
-use Rattle.clr_rules.proofs.good.Keeping.{KeepsGood}
 use Rattle.clr_rules.specs.Records.{is_released, record_of}
 use Rattle.clr_rules.specs.Register.{Register}
 use Rattle.clr_rules.specs.Steps.{is_active, is_some_step, points_of, some_active, steps_in, steps_of, tasks_of}
@@ -37,9 +36,9 @@ use Rattle.clr_rules.specs.declared.phase.Phase.{Phase}
 use Rattle.clr_rules.specs.declared.phase.Phase.TheVariants.{Requested, Ordered, Granted, Released, Restoring, Switching, Closed}
 use Rattle.clr_rules.specs.declared.record.Record.{Record}
 use Rattle.clr_rules.specs.declared.step_row.StepRow.{StepRow}
+use Rattle.clr_rules.proofs.good.Keeping.{KeepsGood, Changed, commands_keep, keeps}
 use Rattle.clr_rules.proofs.live.FenceCuts.{has_name-once}
 use Rattle.clr_rules.proofs.lists.Filters.{name_says, there_mapped}
-use Rattle.clr_rules.proofs.good.Keeping.{Changed, commands_keep, keeps}
 use Rattle.clr_rules.proofs.keeps.OneRecord.{found_edits, in_phase_of}
 use Rattle.clr_rules.proofs.lists.NamedRows.{has_name-filter, row_named}
 use Rattle.clr_rules.proofs.edits.NewRounds.{IsReady, new_tasks, new_wait, none_in_round, others_are, put_all, round_is, round_moved, round_put, with_round}

@@ -1,8 +1,7 @@
 -- A command that shows a clearance keeps a good register good.
 use Rattle.clr_rules.specs.Id.{Id}
-use Rattle.clr_rules.proofs.good.Keeping.{KeepsGood}
 use Rattle.clr_rules.specs.declared.command.Kind.TheVariants.{Show}
-use Rattle.clr_rules.proofs.good.Keeping.{commands_keep, no_edits}
+use Rattle.clr_rules.proofs.good.Keeping.{KeepsGood, commands_keep, no_edits}
 
 pub shows_keep : (c : Id) → KeepsGood (Show c)
 shows_keep c = commands_keep (Show c) (λ R by at good passed. no_edits R good)

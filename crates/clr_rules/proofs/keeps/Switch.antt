@@ -13,7 +13,6 @@ use Rattle.clr_rules.specs.Checks.{has_role, is_operator, wrong_switching}
 use Rattle.clr_rules.specs.Edits.{edited_all}
 use Rattle.clr_rules.specs.Good.{is_operators}
 use Rattle.clr_rules.specs.GoodByPhase.{IsBare, IsGoodByPhase, of_round, outlook_of, present_of}
-use Rattle.clr_rules.proofs.good.Keeping.{KeepsGood}
 use Rattle.clr_rules.specs.Records.{greatest_number}
 use Rattle.clr_rules.specs.Register.{Register}
 use Rattle.clr_rules.specs.Steps.{is_active, steps_of}
@@ -22,7 +21,7 @@ use Rattle.clr_rules.specs.declared.command.Kind.TheVariants.{Switch}
 use Rattle.clr_rules.specs.declared.phase.Phase.TheVariants.{Switching}
 use Rattle.clr_rules.specs.declared.record.Record.{Record}
 use Rattle.clr_rules.specs.declared.step_row.StepRow.{StepRow}
-use Rattle.clr_rules.proofs.good.Keeping.{Changed, commands_keep, keeps}
+use Rattle.clr_rules.proofs.good.Keeping.{KeepsGood, Changed, commands_keep, keeps}
 use Rattle.clr_rules.proofs.keeps.Request.{bare_before, caller_role}
 use Rattle.clr_rules.proofs.edits.NewRecords.{new_numbered, next_is_free}
 use Rattle.clr_rules.proofs.edits.NewRounds.{All-own, IsReady, none_in_round, others_are, put_all, round_moved, round_put, with_round}

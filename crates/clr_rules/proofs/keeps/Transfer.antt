@@ -2,10 +2,9 @@
 use Rattle.std.proofs.Common.{ℕ, Bool, List, [], ◌∷◌, Some, refl}
 use Rattle.clr_rules.specs.GoodByPhase.{outlook_of}
 use Rattle.clr_rules.specs.Id.{Id}
-use Rattle.clr_rules.proofs.good.Keeping.{KeepsGood}
 use Rattle.clr_rules.specs.declared.change.Edit.TheVariants.{PutRecord}
 use Rattle.clr_rules.specs.declared.command.Kind.TheVariants.{Transfer}
-use Rattle.clr_rules.proofs.good.Keeping.{commands_keep}
+use Rattle.clr_rules.proofs.good.Keeping.{KeepsGood, commands_keep}
 use Rattle.clr_rules.proofs.edits.Passing.{record_there}
 use Rattle.clr_rules.proofs.good.PlaceFacts.{phase_beside}
 use Rattle.clr_rules.proofs.keeps.OneRecord.{found_edits, in_phase_of, record_alone}

@@ -14,9 +14,10 @@ use Rattle.clr_rules.specs.Hold.{hold_cmp}
 use Rattle.clr_rules.specs.HoldKind.{is_point_kind}
 use Rattle.clr_rules.specs.Holds.{has_hold, has_some_hold, hold_key, hold_of, same_kind}
 use Rattle.clr_rules.specs.Id.{Id, id_cmp, same_id, same_id_equiv}
-use Rattle.clr_rules.proofs.good.Keeping.{KeepsGood}
 use Rattle.clr_rules.specs.Records.{is_granted, record_key, record_of}
 use Rattle.clr_rules.specs.Register.{Register}
+use Rattle.clr_rules.specs.Steps.{steps_of}
+use Rattle.clr_rules.specs.States.{has_in_hand}
 use Rattle.clr_rules.specs.declared.change.Edit.TheVariants.{PutHold, PutRecord, TakeHold}
 use Rattle.clr_rules.specs.declared.command.Kind.TheVariants.{Ground as GroundIt, SignOff, SignOn, Test, Unground}
 use Rattle.clr_rules.specs.declared.hold.Hold.{Hold}
@@ -27,11 +28,9 @@ use Rattle.clr_rules.specs.declared.phase.Phase.TheVariants.{Requested, Ordered,
 use Rattle.clr_rules.specs.declared.record.Record.{Record}
 use Rattle.clr_rules.specs.declared.refusal.Refusal.{Refusal}
 use Rattle.clr_rules.specs.declared.refusal.Refusal.TheVariants.{CrewsOn, NotGrounded, OutsideFence}
-use Rattle.clr_rules.specs.Steps.{steps_of}
-use Rattle.clr_rules.specs.States.{has_in_hand}
+use Rattle.clr_rules.proofs.good.Keeping.{KeepsGood, Changed, commands_keep, keeps}
 use Rattle.clr_rules.proofs.lists.HoldChanges.{is_there, kind_itself, one_kind, others_hold_put, others_hold_taken, own_put, own_taken, was_or_put, was_there}
 use Rattle.clr_rules.proofs.lists.HoldMembers.{hold_there}
-use Rattle.clr_rules.proofs.good.Keeping.{Changed, commands_keep, keeps}
 use Rattle.clr_rules.proofs.keeps.OneRecord.{found_edits, in_phase_of}
 use Rattle.clr_rules.proofs.edits.Passing.{check_of_found, not_refused, not_refused_true, phase_fits, record_there}
 use Rattle.clr_rules.proofs.edits.PutRecords.{moved, outlook_with, quiet}

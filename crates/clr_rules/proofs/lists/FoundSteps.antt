@@ -5,12 +5,12 @@ use Rattle.std.proofs.lemmas.Bool.{and_from, and_parts, eqb-true}
 use Rattle.std.proofs.lemmas.Option.{same_Some}
 use Rattle.clr_net.proofs.Walks.{any_from, same_itself}
 use Rattle.clr_net.specs.Name.{same_name}
-use Rattle.clr_rules.proofs.lists.NamedRows.{Contains-filter}
+use Rattle.clr_shelf.specs.Lists.{Contains-here, Contains-later}
 use Rattle.clr_rules.specs.Good.{is_active_at, is_closing_at}
 use Rattle.clr_rules.specs.Id.{Id, same_id}
 use Rattle.clr_rules.specs.Steps.{is_active, is_close, is_of_round, is_some_step, present, step_at, steps_in, steps_of}
 use Rattle.clr_rules.specs.declared.step_row.StepRow.{StepRow}
-use Rattle.clr_shelf.specs.Lists.{Contains-here, Contains-later}
+use Rattle.clr_rules.proofs.lists.NamedRows.{Contains-filter}
 
 -- what is found among those that a filter keeps
 pub found_among : {X : Type 0} (p q : X → Bool) (xs : List X) (x : X) → find p (filter q xs) ≡ Some x → Contains xs x × (q x ≡ true) × (p x ≡ true)

@@ -7,10 +7,8 @@ use Rattle.std.specs.declared.cmp.Ordering.TheVariants.{Less, Equal, Greater}
 use Rattle.std.proofs.lemmas.Bool.Decides.{nat_tests}
 use Rattle.std.proofs.lemmas.List.Elements.{Contains-get_or}
 use Rattle.clr_net.proofs.Walks.{one_name, same_itself}
-use Rattle.clr_shelf.specs.Lists.{Contains-here, Contains-later}
-use Rattle.clr_rules.proofs.lists.NewNumbers.{number_below_greatest}
-use Rattle.clr_rules.proofs.lists.Filters.{kept_there, mapped_from}
 use Rattle.clr_net.specs.Name.{same_name}
+use Rattle.clr_shelf.specs.Lists.{Contains-here, Contains-later}
 use Rattle.clr_shelf.specs.FirstRow.{keys-with_row, with_row-after, with_row-before, with_row-over}
 use Rattle.clr_shelf.specs.Groups.{filter-with_far, filter-with_inside}
 use Rattle.clr_shelf.specs.Keys.{equal}
@@ -21,6 +19,8 @@ use Rattle.clr_rules.specs.Good.{has_record}
 use Rattle.clr_rules.specs.Id.{Id, id_cmp, id_cmp_total, same_id_from_tie}
 use Rattle.clr_rules.specs.Records.{greater, greatest_number, numbers_of, record_key}
 use Rattle.clr_rules.specs.declared.record.Record.{Record}
+use Rattle.clr_rules.proofs.lists.NewNumbers.{number_below_greatest}
+use Rattle.clr_rules.proofs.lists.Filters.{kept_there, mapped_from}
 
 -- of three numbers the greatest, in either order
 pub greater_swap : (a n m : ℕ) → greater (greater a n) m ≡ greater (greater a m) n

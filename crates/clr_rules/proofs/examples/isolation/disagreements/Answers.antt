@@ -4,13 +4,13 @@ use Rattle.std.specs.Prelude.{◌==◌, Some}
 use Rattle.std.specs.List.{list_all, list_any}
 use Rattle.std.specs.Option.{is_some}
 use mathlib.Core.Bool.{true≢false}
-use Rattle.clr_csv.specs.declared.employee.StaffRow.{StaffRow}
 use Rattle.clr_net.specs.Grid.{Grid}
 use Rattle.clr_net.specs.declared.point.PointRow.{PointRow}
+use Rattle.clr_net.specs.Fence.{in_fence, reaches}
+use Rattle.clr_csv.specs.declared.employee.StaffRow.{StaffRow}
+use Rattle.clr_shelf.specs.Rows.{row_of, with_row, without_row}
 use Rattle.clr_rules.specs.Live.{is_shut}
 use Rattle.clr_rules.specs.Register.{Register}
-use Rattle.clr_rules.specs.declared.point_state.PointState.{PointState}
-use Rattle.clr_net.specs.Fence.{in_fence, reaches}
 use Rattle.clr_rules.specs.Changes.{new_steps}
 use Rattle.clr_rules.specs.Edits.{edited_all}
 use Rattle.clr_rules.specs.Fences.{touching_names}
@@ -19,7 +19,7 @@ use Rattle.clr_rules.specs.Records.{greatest_number}
 use Rattle.clr_rules.specs.Run.{after_all}
 use Rattle.clr_rules.specs.Shown.{covers, own_answers, shown}
 use Rattle.clr_rules.specs.Steps.{steps_in, steps_of}
-use Rattle.clr_shelf.specs.Rows.{row_of, with_row, without_row}
+use Rattle.clr_rules.specs.declared.point_state.PointState.{PointState}
 use Rattle.clr_rules.proofs.examples.isolation.disagreements.Goals as goal
 
 all_lockable : Register → Bool

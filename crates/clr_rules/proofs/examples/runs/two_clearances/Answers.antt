@@ -1,5 +1,6 @@
 use Rattle.std.specs.Prelude.{refl}
 use Rattle.clr_net.specs.Fence.{in_fence, reaches}
+use Rattle.clr_shelf.specs.Rows.{row_of, with_row, without_row}
 use Rattle.clr_rules.specs.Changes.{new_steps}
 use Rattle.clr_rules.specs.Edits.{edited_all}
 use Rattle.clr_rules.specs.Fences.{touching_names}
@@ -7,7 +8,6 @@ use Rattle.clr_rules.specs.Holds.{has_any_hold, has_some_hold, held_among, hinde
 use Rattle.clr_rules.specs.Records.{greatest_number}
 use Rattle.clr_rules.specs.Run.{after_all, replies}
 use Rattle.clr_rules.specs.Steps.{steps_in, steps_of}
-use Rattle.clr_shelf.specs.Rows.{row_of, with_row, without_row}
 use Rattle.clr_rules.proofs.examples.runs.two_clearances.Goals as goal
 
 pub returns : goal.returns

@@ -1,7 +1,7 @@
 use Rattle.clr_shelf.specs.Reading.{row_of-with}
+use Rattle.clr_rules.specs.StepKey.{step_key, step_key_cmp, step_key_cmp_total}
 use Rattle.clr_rules.proofs.edits.EditReading.{record_of-put}
 use Rattle.clr_rules.proofs.laws.edits.puts_replace.Goals as goal
-use Rattle.clr_rules.specs.StepKey.{step_key, step_key_cmp, step_key_cmp_total}
 
 pub returns-clause-record : goal.returns-clause-record
 returns-clause-record c = λ R r id. record_of-put r id R.records
