@@ -12,6 +12,8 @@ mod fences;
 #[cfg(test)]
 mod field;
 #[cfg(test)]
+mod ids;
+#[cfg(test)]
 mod networks;
 #[cfg(test)]
 mod orders;
