@@ -3,3 +3,4 @@ pub mod Words
 pub mod Tables
 pub mod TableEdits
 pub mod RowsRead
+pub mod TableLaws

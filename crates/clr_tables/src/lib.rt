@@ -1,6 +1,7 @@
 //! The tables of a register: what stands in a database, as definitions, and the words in it.
 #![tactic(auto)]
 
+pub mod laws;
 mod table_name;
 mod words;
 

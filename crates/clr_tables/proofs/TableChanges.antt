@@ -1,0 +1,119 @@
+-- The tables of the edited register are the edited tables.
+use Rattle.std.proofs.Common.{◌≡◌, ℕ, Bool, true, false, cond, List, [], ◌∷◌, map, take, Option, Some, None, is_some, All, Contains, refl, sym, ◌∙◌, ap, subst}
+use Rattle.std.specs.Ordering.{is_eq}
+use Rattle.std.specs.Prelude.{slice_set}
+use Rattle.std.specs.Cmp.Lexicographic.{texts_ties}
+use Rattle.std.proofs.lemmas.Cmp.{nat_list_eq_equiv}
+use Rattle.std.proofs.lemmas.List.Elements.{All-head, All-tail, All-weaker}
+use Rattle.sqlite.specs.Order.{Row, column, row_cmp}
+use Rattle.sqlite.specs.declared.types.Value.{Value}
+use Rattle.sqlite.specs.declared.types.Value.TheVariants.{Text}
+use Rattle.clr_net.specs.Grid.{Grid, point_names}
+use Rattle.clr_net.specs.Name.{name_cmp, same_name}
+use Rattle.clr_net.specs.Names.{has_name}
+use Rattle.clr_net.specs.declared.point.PointRow.{PointRow}
+use Rattle.clr_net.specs.declared.point.Position.{Position}
+use Rattle.clr_shelf.specs.Lists.{Contains-here, Contains-later}
+use Rattle.clr_rules.specs.EditLaws.{changed_where}
+use Rattle.clr_rules.specs.Edits.{edited, edited_all}
+use Rattle.clr_rules.specs.Good.{ListsAreInOrder}
+use Rattle.clr_rules.specs.Id.{Id}
+use Rattle.clr_rules.specs.Register.{Register}
+use Rattle.clr_rules.specs.StateFacts.{state_is_known, state_there}
+use Rattle.clr_rules.specs.States.{change_state, state_key, state_of}
+use Rattle.clr_rules.specs.declared.change.Edit.{Edit}
+use Rattle.clr_rules.specs.declared.change.Edit.TheVariants.{SetPosition, SetHand, PutHold, TakeHold, PutRecord, PutStep}
+use Rattle.clr_rules.specs.declared.point_state.PointState.{PointState}
+use Rattle.clr_rules.proofs.EditReading.{state_of-changed}
+use Rattle.clr_rules.proofs.EditedLists.{edited-in_order, edited_all-network}
+use Rattle.clr_rules.proofs.NamedRows.{has_name-row}
+use Rattle.clr_rules.proofs.RoundSteps.{All-from_each}
+use Rattle.clr_tables.specs.TableEdits.{changed_point, handed_row, placed_row, table_edited, tables_edited}
+use Rattle.clr_tables.specs.TableLaws.{StatesAreThePoints, TablesFollowEdits}
+use Rattle.clr_tables.specs.Tables.{Tables, clearance_row, flag_value, hand_values, hold_row, point_row, position_value, state_at, step_row, tables_of}
+use Rattle.clr_tables.proofs.TableKeys.{clearance_put, hold_put, hold_taken, name_row_cmp, step_put}
+
+-- ---- points
+
+-- each point of a list has a state
+abbrev pub HaveStates : List PointState → List PointRow → Type 0
+HaveStates states points = All (λ p. is_some (state_of states p.name) ≡ true) points
+
+pub have_states : (R : Register) → StatesAreThePoints R → HaveStates R.states (Grid.points R.net)
+have_states R known = All-from_each (λ (p : PointRow). is_some (state_of R.states p.name) ≡ true) (Grid.points R.net) (λ p there.
+    state_is_known R.states p.name ∙ ap (λ names. has_name names p.name) known ∙ has_name-row (λ (p : PointRow). p.name) (Grid.points R.net) p there)
+
+-- the state of a point that has one
+pub state_at-found : (states : List PointState) (p : PointRow) (state : PointState) → state_of states p.name ≡ Some state → state_at states p ≡ state
+state_at-found states p state found = rw found refl
+
+abbrev point_rows : List PointState → List PointRow → List Row
+point_rows states points = map (λ p. point_row p (state_at states p)) points
+
+-- the columns of the hand, whatever stood there
+handed_columns : (a b c : Value) (d e f : Value) (old new : Option Id)
+    → slice_set (slice_set (a ∷ b ∷ c ∷ d ∷ e ∷ f ∷ hand_values old) 6 (column (hand_values new) 0)) 7 (column (hand_values new) 1) ≡ a ∷ b ∷ c ∷ d ∷ e ∷ f ∷ hand_values new
+handed_columns a b c d e f None None = refl
+handed_columns a b c d e f None (Some new) = refl
+handed_columns a b c d e f (Some old) None = refl
+handed_columns a b c d e f (Some old) (Some new) = refl
+
+-- a state that changes, and its row
+module _ (change : PointState → PointState) (row_change : Row → Row) (stays : (state : PointState) → state_key (change state) ≡ state_key state)
+    (as_row : (p : PointRow) (state : PointState) → point_row p (change state) ≡ row_change (point_row p state)) (states : List PointState) (point : List ℕ) where
+  one_point : (p : PointRow) → is_some (state_of states p.name) ≡ true
+      → point_row p (state_at (change_state states point change) p)
+      ≡ cond (is_eq (row_cmp (take 1 (point_row p (state_at states p))) (Text point ∷ []))) (row_change (point_row p (state_at states p))) (point_row p (state_at states p))
+  one_point p has =
+      let (state, found) = state_there (state_of states p.name) has in
+      let before : state_at states p ≡ state = state_at-found states p state found in
+      let tested : is_eq (row_cmp (take 1 (point_row p (state_at states p))) (Text point ∷ [])) ≡ same_name point p.name =
+      ap is_eq (name_row_cmp p.name point) ∙ sym (texts_ties p.name point) ∙ nat_list_eq_equiv.symm p.name point in
+      let read : state_of (change_state states point change) p.name ≡ changed_where (same_name point p.name) change (Some state) =
+      state_of-changed change stays point p.name states ∙ ap (changed_where (same_name point p.name) change) found in
+      rw (tested, before) (at state (same_name point p.name) read)
+    where
+      at : (state : PointState) (b : Bool) → state_of (change_state states point change) p.name ≡ changed_where b change (Some state)
+          → point_row p (state_at (change_state states point change) p) ≡ cond b (row_change (point_row p state)) (point_row p state)
+      at state true read = ap (point_row p) (state_at-found (change_state states point change) p (change state) read) ∙ as_row p state
+      at state false read = ap (point_row p) (state_at-found (change_state states point change) p state read)
+
+  all_points : (points : List PointRow) → HaveStates states points
+      → point_rows (change_state states point change) points ≡ changed_point point row_change (point_rows states points)
+  all_points [] have = refl
+  all_points (p ∷ points) have =
+      let first = one_point p (All-head (λ (p : PointRow). is_some (state_of states p.name) ≡ true) p points have) in
+      let rest = all_points points (All-tail (λ (p : PointRow). is_some (state_of states p.name) ≡ true) p points have) in
+      λ i. first i ∷ rest i
+
+placed_points : (position : Position) (states : List PointState) (point : List ℕ) (points : List PointRow) → HaveStates states points
+    → point_rows (change_state states point (λ state. record state { position = position })) points ≡ changed_point point (placed_row position) (point_rows states points)
+placed_points position = all_points (λ state. record state { position = position }) (placed_row position) (λ state. refl) (λ p state. refl)
+
+handed_points : (hand : Option Id) (states : List PointState) (point : List ℕ) (points : List PointRow) → HaveStates states points
+    → point_rows (change_state states point (λ state. record state { hand = hand })) points ≡ changed_point point (handed_row hand) (point_rows states points)
+handed_points hand = all_points (λ state. record state { hand = hand }) (handed_row hand) (λ state. refl) (λ p state.
+    sym (handed_columns (Text p.name) (Text p.from_end) (Text p.to_end) (flag_value p.lockable) (flag_value p.remote) (position_value state.position) state.hand hand))
+
+-- ---- one edit, and all
+
+pub table_follows : (edit : Edit) (R : Register) → StatesAreThePoints R → tables_of (edited edit R) ≡ table_edited edit (tables_of R)
+table_follows (SetPosition point position) R known = λ i. record (tables_of R) { points = placed_points position R.states point (Grid.points R.net) (have_states R known) i }
+table_follows (SetHand point hand) R known = λ i. record (tables_of R) { points = handed_points hand R.states point (Grid.points R.net) (have_states R known) i }
+table_follows (PutHold h) R known = λ i. record (tables_of R) { holds = hold_put h R.holds i }
+table_follows (TakeHold h) R known = λ i. record (tables_of R) { holds = hold_taken h R.holds i }
+table_follows (PutRecord r) R known = λ i. record (tables_of R) { clearances = clearance_put r R.records i }
+table_follows (PutStep row) R known = λ i. record (tables_of R) { steps = step_put row R.steps i }
+
+-- an edit leaves which points have states
+pub states_stay : (edit : Edit) (R : Register) → ListsAreInOrder R → StatesAreThePoints R → StatesAreThePoints (edited edit R)
+unfolding edited_all
+states_stay edit R ordered known =
+    let same = edited_all-network R (edit ∷ []) ordered in
+    same.same_points ∙ known ∙ ap (λ (g : Grid). point_names g.points) (sym same.same_net)
+
+pub tables_follow_edits : TablesFollowEdits
+unfolding edited_all tables_edited
+tables_follow_edits R [] ordered known = refl
+tables_follow_edits R (edit ∷ edits) ordered known =
+    tables_follow_edits (edited edit R) edits (edited-in_order edit R ordered) (states_stay edit R ordered known) ∙ ap (tables_edited edits) (table_follows edit R known)
