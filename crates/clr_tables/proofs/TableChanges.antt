@@ -1,36 +1,35 @@
 -- The tables of the edited register are the edited tables.
-use Rattle.std.proofs.Common.{◌≡◌, ℕ, Bool, true, false, cond, List, [], ◌∷◌, map, take, Option, Some, None, is_some, All, Contains, refl, sym, ◌∙◌, ap, subst}
+use Rattle.std.proofs.Common.{◌≡◌, ℕ, Bool, true, false, cond, List, [], ◌∷◌, map, take, Option, Some, None, is_some, All, refl, sym, ◌∙◌, ap}
 use Rattle.std.specs.Ordering.{is_eq}
 use Rattle.std.specs.Prelude.{slice_set}
 use Rattle.std.specs.Cmp.Lexicographic.{texts_ties}
 use Rattle.std.proofs.lemmas.Cmp.{nat_list_eq_equiv}
-use Rattle.std.proofs.lemmas.List.Elements.{All-head, All-tail, All-weaker}
+use Rattle.std.proofs.lemmas.List.Elements.{All-head, All-tail}
 use Rattle.sqlite.specs.Order.{Row, column, row_cmp}
 use Rattle.sqlite.specs.declared.types.Value.{Value}
 use Rattle.sqlite.specs.declared.types.Value.TheVariants.{Text}
 use Rattle.clr_net.specs.Grid.{Grid, point_names}
-use Rattle.clr_net.specs.Name.{name_cmp, same_name}
+use Rattle.clr_net.specs.Name.{same_name}
 use Rattle.clr_net.specs.Names.{has_name}
 use Rattle.clr_net.specs.declared.point.PointRow.{PointRow}
 use Rattle.clr_net.specs.declared.point.Position.{Position}
-use Rattle.clr_shelf.specs.Lists.{Contains-here, Contains-later}
 use Rattle.clr_rules.specs.EditLaws.{changed_where}
 use Rattle.clr_rules.specs.Edits.{edited, edited_all}
 use Rattle.clr_rules.specs.Good.{ListsAreInOrder}
 use Rattle.clr_rules.specs.Id.{Id}
 use Rattle.clr_rules.specs.Register.{Register}
-use Rattle.clr_rules.specs.StateFacts.{state_is_known, state_there}
+use Rattle.clr_rules.proofs.lists.StateFacts.{state_is_known, state_there}
 use Rattle.clr_rules.specs.States.{change_state, state_key, state_of}
 use Rattle.clr_rules.specs.declared.change.Edit.{Edit}
 use Rattle.clr_rules.specs.declared.change.Edit.TheVariants.{SetPosition, SetHand, PutHold, TakeHold, PutRecord, PutStep}
 use Rattle.clr_rules.specs.declared.point_state.PointState.{PointState}
-use Rattle.clr_rules.proofs.EditReading.{state_of-changed}
-use Rattle.clr_rules.proofs.EditedLists.{edited-in_order, edited_all-network}
-use Rattle.clr_rules.proofs.NamedRows.{has_name-row}
-use Rattle.clr_rules.proofs.RoundSteps.{All-from_each}
+use Rattle.clr_rules.proofs.edits.EditReading.{state_of-changed}
+use Rattle.clr_rules.proofs.edits.EditedLists.{edited-in_order, edited_all-network}
+use Rattle.clr_rules.proofs.lists.NamedRows.{has_name-row}
+use Rattle.clr_rules.proofs.lists.RoundSteps.{All-from_each}
 use Rattle.clr_tables.specs.TableEdits.{changed_point, handed_row, placed_row, table_edited, tables_edited}
 use Rattle.clr_tables.specs.TableLaws.{StatesAreThePoints, TablesFollowEdits}
-use Rattle.clr_tables.specs.Tables.{Tables, clearance_row, flag_value, hand_values, hold_row, point_row, position_value, state_at, step_row, tables_of}
+use Rattle.clr_tables.specs.Tables.{flag_value, hand_values, point_row, position_value, state_at, tables_of}
 use Rattle.clr_tables.proofs.TableKeys.{clearance_put, hold_put, hold_taken, name_row_cmp, step_put}
 
 -- ---- points
