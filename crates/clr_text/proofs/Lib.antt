@@ -1,0 +1,2 @@
+pub mod MembersFacts
+pub mod ListsRead

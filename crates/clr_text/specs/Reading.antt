@@ -1,0 +1,76 @@
+-- WHICH COMMAND A TEXT IS, or the first of its faults.
+use Rattle.std.specs.Prelude.{ℕ, ◌&&◌, Bool, true, List, [], ◌∷◌, Result, Ok, Err, Option, None, is_some, if◌then◌else◌}
+use Rattle.std.specs.List.{list_any}
+use Rattle.std.specs.Option.{ok_or}
+use Rattle.std.specs.Str.{bytes_eq, is_utf8}
+use Rattle.serde_json.specs.Data.{Data, Members, member, no_members}
+use Rattle.serde_json.specs.Find.{as_object, as_str}
+use Rattle.serde_json.specs.Read.{read}
+use Rattle.clr_rules.specs.declared.command.Command.{Command}
+use Rattle.clr_text.specs.Answers.{◌>>=◌}
+use Rattle.clr_text.specs.CommandKeys.{keys_of, word_named}
+use Rattle.clr_text.specs.Keys.{key_text}
+use Rattle.clr_text.specs.Kinds.{kind_in}
+use Rattle.clr_text.specs.Values.{moment_at, name_at, value_at}
+use Rattle.clr_text.specs.declared.fault.TextFault.{TextFault}
+use Rattle.clr_text.specs.declared.fault.TextFault.TheVariants.{BadValue, MissingKey, NotJson, NotObject, UnknownCommand, UnknownKey}
+use Rattle.clr_text.specs.declared.key.Key.{Key}
+use Rattle.clr_text.specs.declared.key.Key.TheVariants.{By, Do}
+use Rattle.clr_text.specs.declared.word.Word.{Word}
+use Rattle.clr_text.specs.declared.word.Word.TheVariants as word
+
+-- the value of a text: UTF-8, and one JSON value with blanks round it. Of a key that stands twice the last value stays
+unfoldable pub value_of : List ℕ → Option Data
+value_of bytes = if is_utf8 bytes then read bytes else None
+
+-- the text at `do`
+abbrev pub text_at_do : Data → Result (List ℕ) TextFault
+text_at_do d = ok_or (value_at Do d) (MissingKey Do) >>= λ v. ok_or (as_str v) (BadValue Do)
+
+-- which command it is
+abbrev pub word_in : Data → Result Word TextFault
+word_in d = text_at_do d >>= λ text. ok_or (word_named text) UnknownCommand
+
+-- the text is one of these keys
+abbrev pub is_key_of : List Key → List ℕ → Bool
+is_key_of keys text = list_any (λ key. bytes_eq text (key_text key)) keys
+
+-- each key of an object passes a test
+abbrev pub all_keys : (List ℕ → Bool) → Members → Bool
+all_keys test no_members = true
+all_keys test (member key d others) = test key && all_keys test others
+
+-- the keys, unless the object has others
+abbrev pub no_others : List Key → Members → Result (List Key) TextFault
+no_others keys members = if all_keys (is_key_of keys) members then Ok keys else Err UnknownKey
+
+-- the first of the keys that the object lacks
+unfoldable pub none_missing : List Key → Data → Result Bool TextFault
+none_missing [] d = Ok true
+none_missing (key ∷ keys) d = if is_some (value_at key d) then none_missing keys d else Err (MissingKey key)
+
+-- the moment of a command: `show` has none, and stands at 0
+abbrev pub moment_of : Word → Data → Result ℕ TextFault
+moment_of word.Show d = Ok 0
+moment_of _ d = moment_at d
+
+-- the command of the values, or the first key whose value does not fit
+unfoldable pub values_in : Word → Data → Result Command TextFault
+values_in w d = do
+  at ← moment_of w d
+  by ← name_at By d
+  kind ← kind_in w d
+  Ok (record { caller = by; moment = at; kind = kind })
+
+-- the command of a JSON value, or the first of its faults: it is no object; it names no command; it has a key that the command does
+-- not have; it lacks a key; a value does not fit
+unfoldable pub command_in : Data → Result Command TextFault
+command_in d = do
+  members ← ok_or (as_object d) NotObject
+  w ← word_in d
+  keys ← no_others (keys_of w) members
+  all ← none_missing keys d
+  values_in w d
+
+unfoldable pub read_command : List ℕ → Result Command TextFault
+read_command bytes = ok_or (value_of bytes) NotJson >>= command_in

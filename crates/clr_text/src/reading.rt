@@ -1,0 +1,142 @@
+//! From a text to a command.
+ghost use Rattle.std.specs.Prelude.{◌≡◌, Ok, string_bytes};
+ghost use Rattle.std.specs.BTreeMap.{keys};
+ghost use Rattle.std.specs.List.{list_all};
+ghost use Rattle.std.specs.Option.{ok_or};
+ghost use Rattle.serde_json.specs.View.{members_view, view};
+ghost use Rattle.clr_text.specs.Answers.{Gives, GivesAs};
+ghost use Rattle.clr_text.specs.Reading.{all_keys, command_in, is_key_of, moment_of, none_missing, read_command, text_at_do, value_of, values_in, word_in};
+
+use crate::fault::TextFault;
+use crate::key::Key;
+use crate::kinds::kind_in;
+use crate::values::{moment_at, name_at};
+use crate::word::Word;
+use clr_rules::{Command, Moment};
+use serde_json::{Map, Value};
+use std::alloc::Global;
+
+/// Reads a command from one JSON object, as `{"at":100,"by":"JONES","do":"request","section":"L2"}`.
+///
+/// Blanks may stand round it and in it; of a key that stands twice the last value counts. A number that is written with
+/// a point or an exponent, `-0`, and one beyond 64 bits are no whole numbers; one too large for a float is no JSON, and
+/// so is a value that nests deeper than 127 levels. `show` states no moment; its command has 0.
+#[tactic(auto, unfolding(crate::specs::Reading::read_command))]
+pub fn command_of(alloc: Global, bytes: &[u8]) -> Result<Command, TextFault>
+    ensures { Gives result (read_command bytes.now) }
+{
+    let value = value_in(alloc, bytes)?;
+    command_in(alloc, &value)
+}
+
+/// The JSON value of a text.
+#[tactic(auto, unfolding(crate::specs::Reading::value_of))]
+fn value_in(alloc: Global, bytes: &[u8]) -> Result<Value, TextFault>
+    ensures { GivesAs view result (ok_or (value_of bytes.now) TextFault.NotJson) }
+{
+    match Value::from_slice(alloc, bytes) {
+        Ok(value) => Ok(value),
+        Err(error) => {
+            if error.is_memory() {
+                return Err(TextFault::NoMemory);
+            }
+            Err(TextFault::NotJson)
+        }
+    }
+}
+
+/// The command of a JSON value.
+#[tactic(auto, unfolding(crate::specs::Reading::command_in))]
+fn command_in(alloc: Global, value: &Value) -> Result<Command, TextFault>
+    ensures { Gives result (command_in (view value.now)) }
+{
+    let Some(members) = value.as_object() else {
+        return Err(TextFault::NotObject);
+    };
+    let word = word_in(value)?;
+    let keys = word.keys();
+    if !has_no_others(keys, members) {
+        return Err(TextFault::UnknownKey);
+    }
+    none_missing(keys, value)?;
+    values_in(alloc, word, value)
+}
+
+/// Which command a value names.
+fn word_in(value: &Value) -> Result<Word, TextFault>
+    ensures { Gives result (word_in (view value.now)) }
+{
+    Word::named(text_at_do(value)?).ok_or(TextFault::UnknownCommand)
+}
+
+/// The text at `do`.
+fn text_at_do(value: &Value) -> Result<&str, TextFault>
+    ensures { GivesAs (λ text. text.now) result (text_at_do (view value.now)) }
+{
+    match value.get(Key::Do.text()) {
+        None => Err(TextFault::MissingKey(Key::Do)),
+        Some(found) => match found.as_str() {
+            Some(text) => Ok(text),
+            None => Err(TextFault::BadValue(Key::Do)),
+        },
+    }
+}
+
+/// Whether a text is one of these keys.
+fn is_key_of(keys: &[Key], text: &str) -> bool
+    ensures { result ≡ is_key_of keys.now text.now }
+{
+    keys.iter().any(|key| text == key.text())
+}
+
+/// Whether an object has these keys alone.
+fn has_no_others(keys: &[Key], members: &Map<String, Value>) -> bool
+    ensures { result ≡ all_keys (is_key_of keys.now) (members_view members.now.entries) }
+{
+    all_known(keys, members)
+}
+
+/// The same, of the keys as the map lists them.
+fn all_known(known: &[Key], members: &Map<String, Value>) -> bool
+    ensures { result ≡ list_all (λ key. is_key_of known.now (string_bytes key)) (keys members.now) }
+{
+    members.keys().all(|text| is_key_of(known, text.as_str()))
+}
+
+/// Looks for the first of the keys that an object lacks.
+#[tactic(auto, unfolding(crate::specs::Reading::none_missing))]
+fn none_missing(keys: &[Key], value: &Value) -> Result<bool, TextFault>
+    ensures { Gives result (none_missing keys.now (view value.now)) }
+{
+    for key in keys {
+        if value.get(key.text()).is_none() {
+            return Err(TextFault::MissingKey(*key));
+        }
+    }
+    Ok(true)
+}
+
+/// The command of this word, of an object that has its keys.
+#[tactic(auto, unfolding(crate::specs::Reading::values_in))]
+fn values_in(alloc: Global, word: Word, value: &Value) -> Result<Command, TextFault>
+    ensures { Gives result (values_in word (view value.now)) }
+{
+    let moment = moment_of(word, value)?;
+    let caller = name_at(value, Key::By)?;
+    let kind = kind_in(alloc, word, value)?;
+    Ok(Command {
+        caller,
+        moment,
+        kind,
+    })
+}
+
+/// The moment of a command: `show` has none, and stands at 0.
+fn moment_of(word: Word, value: &Value) -> Result<Moment, TextFault>
+    ensures { Gives result (moment_of word (view value.now)) }
+{
+    if word == Word::Show {
+        return Moment::new(0).ok_or(TextFault::BadValue(Key::At));
+    }
+    moment_at(value)
+}
