@@ -1,2 +1,3 @@
 pub mod MembersFacts
 pub mod ListsRead
+pub mod NoFloats

@@ -2,12 +2,18 @@
 #![tactic(auto)]
 
 mod fault;
+mod fault_texts;
+mod json;
 mod key;
 mod kinds;
 mod reading;
+mod refusal_text;
+mod replies;
 mod values;
 mod word;
 
 pub use fault::TextFault;
+pub use fault_texts::fault_text;
 pub use key::Key;
 pub use reading::command_of;
+pub use replies::reply_text;

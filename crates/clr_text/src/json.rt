@@ -1,0 +1,102 @@
+//! Names, clearances, holds, points and steps as JSON values.
+ghost use Rattle.std.specs.Prelude.{◌≡◌, IfOk};
+ghost use Rattle.serde_json.specs.Data.{Data};
+ghost use Rattle.serde_json.specs.View.{view};
+ghost use Rattle.clr_text.specs.Json.{hold_data, id_data, list_data, name_data, optional_data, point_data, position_text, step_data};
+
+use clr_net::{Name, Position};
+use clr_order::{Step, step_text};
+use clr_rules::{ClearanceId, Hold, PointState};
+use serde_json::{Value, json};
+use std::alloc::{AllocError, Global};
+
+/// What is written as a JSON value.
+pub(crate) trait ToJson {
+    ghost json_data: { Self → Data };
+
+    /// The JSON value of it.
+    fn to_json(&self, alloc: Global) -> Result<Value, AllocError>
+        ensures { IfOk result (λ value. view value ≡ json_data self.now) };
+}
+
+/// A list of these.
+pub(crate) fn list_value<T: ToJson>(alloc: Global, items: &[T]) -> Result<Value, AllocError>
+    ensures { IfOk result (λ value. view value ≡ list_data T.json_data items.now) }
+{
+    let mut list = Vec::new(alloc);
+    for item in items {
+        list.push(item.to_json(alloc)?)?;
+    }
+    Ok(Value::Array(list))
+}
+
+/// What there is, or null.
+pub(crate) fn optional_value<T: ToJson>(
+    alloc: Global,
+    item: &Option<T>,
+) -> Result<Value, AllocError>
+    ensures { IfOk result (λ value. view value ≡ optional_data T.json_data item.now) }
+{
+    match item {
+        Some(item) => item.to_json(alloc),
+        None => Ok(Value::Null),
+    }
+}
+
+impl ToJson for Name {
+    ghost json_data = { name_data };
+
+    fn to_json(&self, alloc: Global) -> Result<Value, AllocError> {
+        Value::try_from_str(alloc, self.as_str())
+    }
+}
+
+impl ToJson for ClearanceId {
+    ghost json_data = { id_data };
+
+    fn to_json(&self, alloc: Global) -> Result<Value, AllocError> {
+        let id = *self;
+        let text = format!(in alloc; "{id}")?;
+        Ok(Value::String(text))
+    }
+}
+
+impl ToJson for Hold {
+    ghost json_data = { hold_data };
+
+    fn to_json(&self, alloc: Global) -> Result<Value, AllocError> {
+        let by = self.id.to_json(alloc)?;
+        let place = self.place.to_json(alloc)?;
+        json!(in alloc; {"by": by, "kind": self.kind.text(), "place": place})
+    }
+}
+
+impl ToJson for PointState {
+    ghost json_data = { point_data };
+
+    fn to_json(&self, alloc: Global) -> Result<Value, AllocError> {
+        let hand = optional_value(alloc, &self.hand)?;
+        let point = self.point.to_json(alloc)?;
+        json!(in alloc; {"hand": hand, "point": point, "position": position_text(self.position)})
+    }
+}
+
+impl ToJson for Step {
+    ghost json_data = { step_data };
+
+    fn to_json(&self, alloc: Global) -> Result<Value, AllocError> {
+        let reader = optional_value(alloc, &self.reader)?;
+        let text = step_text(alloc, self)?;
+        json!(in alloc; {"reader": reader, "state": self.state.text(), "text": text})
+    }
+}
+
+/// The position of a point as a text.
+fn position_text(position: Position) -> &'static str
+    ensures { result.now ≡ position_text position }
+{
+    match position {
+        Position::Opened => "open",
+        Position::Closed => "closed",
+    }
+}

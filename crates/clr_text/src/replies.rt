@@ -1,0 +1,79 @@
+//! Replies as JSON.
+ghost use Rattle.std.specs.Prelude.{◌≡◌, IfOk, string_bytes};
+ghost use Rattle.serde_json.specs.View.{view};
+ghost use Rattle.clr_text.specs.Replies.{card_data, reply_data, reply_text, view_data};
+
+use crate::json::{ToJson, list_value, optional_value};
+use crate::refusal_text::refusal_value;
+use clr_rules::{Card, Reply, View};
+use serde_json::{Value, json};
+use std::alloc::{AllocError, Global};
+
+/// The text of a reply: one JSON object without blanks and without a line feed, the keys of each object in the order of
+/// their bytes.
+pub fn reply_text(alloc: Global, reply: &Reply) -> Result<String, AllocError>
+    ensures { IfOk result (λ text. string_bytes text ≡ reply_text reply.now) }
+{
+    let value = reply_value(alloc, reply)?;
+    value.to_string(alloc)
+}
+
+fn reply_value(alloc: Global, reply: &Reply) -> Result<Value, AllocError>
+    ensures { IfOk result (λ value. view value ≡ reply_data reply.now) }
+{
+    match reply {
+        Reply::Accepted(card) => accepted(alloc, card),
+        Reply::Shown(view) => shown(alloc, view),
+        Reply::Refused(refusal) => refusal_value(alloc, refusal),
+    }
+}
+
+fn accepted(alloc: Global, card: &Card) -> Result<Value, AllocError>
+    ensures { IfOk result (λ value. view value ≡ reply_data (Reply.Accepted card.now)) }
+{
+    let card = card_value(alloc, card)?;
+    json!(in alloc; {"card": card, "reply": "accepted"})
+}
+
+fn shown(alloc: Global, shown: &View) -> Result<Value, AllocError>
+    ensures { IfOk result (λ value. view value ≡ reply_data (Reply.Shown shown.now)) }
+{
+    let shown = view_value(alloc, shown)?;
+    json!(in alloc; {"reply": "shown", "view": shown})
+}
+
+fn card_value(alloc: Global, card: &Card) -> Result<Value, AllocError>
+    ensures { IfOk result (λ value. view value ≡ card_data card.now) }
+{
+    let clearance = card.clearance.to_json(alloc)?;
+    let holder = card.holder.to_json(alloc)?;
+    json!(in alloc; {
+        "clearance": clearance,
+        "done": card.done,
+        "holder": holder,
+        "phase": card.phase.text(),
+        "round": card.round,
+        "steps": card.steps
+    })
+}
+
+fn view_value(alloc: Global, shown: &View) -> Result<Value, AllocError>
+    ensures { IfOk result (λ value. view value ≡ view_data shown.now) }
+{
+    let card = card_value(alloc, &shown.card)?;
+    let crews = list_value(alloc, shown.crews.as_slice())?;
+    let fence = list_value(alloc, shown.fence.as_slice())?;
+    let holds = list_value(alloc, shown.holds.as_slice())?;
+    let points = list_value(alloc, shown.points.as_slice())?;
+    let steps = list_value(alloc, shown.steps.as_slice())?;
+    let work = optional_value(alloc, &shown.work)?;
+    json!(in alloc; {
+        "card": card,
+        "crews": crews,
+        "fence": fence,
+        "holds": holds,
+        "points": points,
+        "steps": steps,
+        "work": work
+    })
+}
