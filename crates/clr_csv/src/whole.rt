@@ -59,6 +59,8 @@ pub fn write_whole<W: CountedWrite>(writer: &mut W, bytes: &[u8]) -> Result<(), 
     ensures front { IfErr result (λ count.
         Appends (W.contents writer.old) (W.contents writer.new) (take count bytes.now)) }
     ensures part { IfErr result (λ count. count < length bytes.now) }
+    ensures count { Rose (W.failure_count writer.old) (W.failure_count writer.new)
+        ⊎ (W.failure_count writer.new ≡ W.failure_count writer.old) }
     ensures cause { OnErr result (Rose (W.failure_count writer.old) (W.failure_count writer.new)
         ⊎ (W.stalled writer.new ≡ true)) }
 {

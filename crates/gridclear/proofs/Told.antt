@@ -1,21 +1,21 @@
 -- What is told of an outcome is what every outcome keeps to.
-use Rattle.std.proofs.Common.{ℕ, List, Option, Result, Ok, Err, arith, inl, inr}
-use Rattle.gridclear.specs.Outcome.{IsTold, Tells}
+use Rattle.std.proofs.Common.{ℕ, Result, Ok, Err, arith, inl, inr, refl}
+use Rattle.gridclear.specs.Outcome.{IsTold, Stream, Tells}
 use Rattle.gridclear.specs.declared.fault.Fault.{Fault}
 use Rattle.gridclear.specs.declared.fault.Fault.TheVariants.{Output}
 use Rattle.gridclear.specs.declared.outcome.Outcome.{Outcome}
 use Rattle.gridclear.specs.declared.outcome.Outcome.TheVariants.{Answer, Unread}
 
-pub IsTold-from_tells : (told : Result Outcome Fault) (status : ℕ) (output output' errors errors' : Option (List ℕ)) → Tells told status output output' errors errors' → IsTold status output output' errors errors'
+pub IsTold-from_tells : (told : Result Outcome Fault) (status : ℕ) (output output' errors errors' : Stream) → Tells told status output output' errors errors' → IsTold status output output' errors errors'
 IsTold-from_tells (Ok (Answer text)) status output output' errors errors' tells = elim tells [
   | inl written ↦
-      let (zero, appended, kept) = written in
-      record { statuses = omega (arith, zero); answered = λ _. kept; faulted = λ one. absurd (omega (arith, zero, one)); unread = λ two. absurd (omega (arith, zero, two)) }
+      let (zero, out, same) = written in
+      record { statuses = omega (arith, zero); answered = λ _. (out.1, same); faulted = λ one. absurd (omega (arith, zero, one)); unread = λ two. absurd (omega (arith, zero, two)) }
   | inr failed ↦
-      let (one, line) = failed in
-      record { statuses = omega (arith, one); answered = λ zero. absurd (omega (arith, zero, one)); faulted = λ _. (Output, line); unread = λ two. absurd (omega (arith, one, two)) }
+      let (one, cut, line) = failed in
+      record { statuses = omega (arith, one); answered = λ zero. absurd (omega (arith, zero, one)); faulted = λ _. (Output, line, inl (refl, cut.1)); unread = λ two. absurd (omega (arith, one, two)) }
 ]
-IsTold-from_tells (Ok (Unread text)) status output output' errors errors' (two, kept, line) =
-    record { statuses = omega (arith, two); answered = λ zero. absurd (omega (arith, zero, two)); faulted = λ one. absurd (omega (arith, one, two)); unread = λ _. kept }
-IsTold-from_tells (Err fault) status output output' errors errors' (one, kept, line) =
-    record { statuses = omega (arith, one); answered = λ zero. absurd (omega (arith, zero, one)); faulted = λ _. (fault, line); unread = λ two. absurd (omega (arith, one, two)) }
+IsTold-from_tells (Ok (Unread text)) status output output' errors errors' (two, same, line) =
+    record { statuses = omega (arith, two); answered = λ zero. absurd (omega (arith, zero, two)); faulted = λ one. absurd (omega (arith, one, two)); unread = λ _. same }
+IsTold-from_tells (Err fault) status output output' errors errors' (one, same, line) =
+    record { statuses = omega (arith, one); answered = λ zero. absurd (omega (arith, zero, one)); faulted = λ _. (fault, line, inr same); unread = λ two. absurd (omega (arith, one, two)) }

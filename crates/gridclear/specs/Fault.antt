@@ -1,6 +1,6 @@
--- The line that each fault prints: `fault: `, what it is about, a blank, the fault's name, and where it is.
--- Want of memory is about memory, whatever answered it.
-use Rattle.std.specs.Prelude.{◌≡◌, ℕ, List, ◌++◌, codes, decimal}
+-- The line that each fault prints: `fault: `, what it is about, a blank, the fault's name, and where it is or what it
+-- names. Want of memory is about memory, whatever answered it.
+use Rattle.std.specs.Prelude.{◌≡◌, ℕ, List, [], ◌++◌, codes, decimal}
 use Rattle.clr_net.specs.declared.name.NameFault.{NameFault}
 use Rattle.clr_net.specs.declared.name.NameFault.TheVariants as name
 use Rattle.clr_net.specs.declared.net_fault.NetFault.{NetFault}
@@ -11,19 +11,10 @@ use Rattle.clr_csv.specs.declared.staff_fault.StaffFault.{StaffFault}
 use Rattle.clr_csv.specs.declared.staff_fault.StaffFault.TheVariants as staff
 use Rattle.gridclear.specs.declared.fault.ImportFile.{ImportFile}
 use Rattle.gridclear.specs.declared.fault.ImportFile.TheVariants.{Sections, Points, Staff}
+use Rattle.gridclear.specs.declared.fault.Detail.{Detail}
+use Rattle.gridclear.specs.declared.fault.Detail.TheVariants as detail
 use Rattle.gridclear.specs.declared.fault.Fault.{Fault}
 use Rattle.gridclear.specs.declared.fault.Fault.TheVariants as fault
-
--- a fault with its row, counted from 1 after the header
-abbrev pub in_row : List ℕ → ℕ → List ℕ
-in_row words row = words ++ (codes " row " ++ decimal row)
-
--- a fault with its row and its column, counted from 1
-abbrev pub in_field : List ℕ → ℕ → ℕ → List ℕ
-in_field words row column = words ++ (codes " row " ++ (decimal row ++ (codes " column " ++ decimal column)))
-
-abbrev pub memory_words : List ℕ
-memory_words = codes "memory NoMemory"
 
 -- what the line calls a file
 abbrev pub file_text : ImportFile → List ℕ
@@ -31,50 +22,104 @@ file_text Sections = codes "sections"
 file_text Points = codes "points"
 file_text Staff = codes "staff"
 
-abbrev pub file_words : ImportFile → CsvFault → List ℕ
-file_words file csv.ReadFailed = file_text file ++ codes " ReadFailed"
-file_words file csv.TooLong = file_text file ++ codes " TooLong"
-file_words file csv.Header = file_text file ++ codes " Header"
-file_words file (csv.NotText row) = file_text file ++ in_row (codes " NotText") row
-file_words file (csv.FieldCount row) = file_text file ++ in_row (codes " FieldCount") row
-file_words file (csv.BadName row column) = file_text file ++ in_field (codes " BadName") row column
-file_words file (csv.BadWord row column) = file_text file ++ in_field (codes " BadWord") row column
-file_words file csv.NoMemory = memory_words
+-- what a fault is about
+abbrev pub subject_of : Fault → List ℕ
+subject_of fault.Memory = codes "memory"
+subject_of (fault.File file cause) = file_text file
+subject_of (fault.Network cause) = codes "network"
+subject_of (fault.Staff cause) = codes "staff"
+subject_of (fault.Name cause) = codes "name"
+subject_of (fault.UnknownSection section) = codes "network"
+subject_of (fault.UnknownPoint point) = codes "network"
+subject_of fault.Output = codes "output"
 
-abbrev pub network_words : NetFault → List ℕ
-network_words net.NoSections = codes "network NoSections"
-network_words net.TooLarge = codes "network TooLarge"
-network_words (net.SectionTwice row) = in_row (codes "network SectionTwice") row
-network_words (net.PointTwice row) = in_row (codes "network PointTwice") row
-network_words (net.UnknownEnd row) = in_row (codes "network UnknownEnd") row
-network_words (net.SameEnds row) = in_row (codes "network SameEnds") row
-network_words net.NoMemory = memory_words
+abbrev pub file_fault_name : CsvFault → List ℕ
+file_fault_name csv.ReadFailed = codes "ReadFailed"
+file_fault_name csv.TooLong = codes "TooLong"
+file_fault_name csv.Header = codes "Header"
+file_fault_name (csv.NotText row) = codes "NotText"
+file_fault_name (csv.FieldCount row) = codes "FieldCount"
+file_fault_name (csv.BadName row column) = codes "BadName"
+file_fault_name (csv.BadWord row column) = codes "BadWord"
+file_fault_name csv.NoMemory = codes "NoMemory"
 
-abbrev pub staff_words : StaffFault → List ℕ
-staff_words (staff.Twice row) = in_row (codes "staff Twice") row
-staff_words (staff.UnknownSupervisor row) = in_row (codes "staff UnknownSupervisor") row
-staff_words (staff.OwnSupervisor row) = in_row (codes "staff OwnSupervisor") row
-staff_words staff.TooMany = codes "staff TooMany"
-staff_words staff.NoMemory = memory_words
+abbrev pub network_fault_name : NetFault → List ℕ
+network_fault_name net.NoSections = codes "NoSections"
+network_fault_name net.TooLarge = codes "TooLarge"
+network_fault_name (net.SectionTwice row) = codes "SectionTwice"
+network_fault_name (net.PointTwice row) = codes "PointTwice"
+network_fault_name (net.UnknownEnd row) = codes "UnknownEnd"
+network_fault_name (net.SameEnds row) = codes "SameEnds"
+network_fault_name net.NoMemory = codes "NoMemory"
 
-abbrev pub name_words : NameFault → List ℕ
-name_words name.Empty = codes "name Empty"
-name_words name.TooLong = codes "name TooLong"
-name_words (name.BadByte place) = codes "name BadByte place " ++ decimal place
-name_words name.NoMemory = memory_words
+abbrev pub staff_fault_name : StaffFault → List ℕ
+staff_fault_name (staff.Twice row) = codes "Twice"
+staff_fault_name (staff.UnknownSupervisor row) = codes "UnknownSupervisor"
+staff_fault_name (staff.OwnSupervisor row) = codes "OwnSupervisor"
+staff_fault_name staff.TooMany = codes "TooMany"
+staff_fault_name staff.NoMemory = codes "NoMemory"
 
-abbrev pub fault_words : Fault → List ℕ
-fault_words fault.Memory = memory_words
-fault_words (fault.File file cause) = file_words file cause
-fault_words (fault.Network cause) = network_words cause
-fault_words (fault.Staff cause) = staff_words cause
-fault_words (fault.Name cause) = name_words cause
-fault_words (fault.UnknownSection section) = codes "network UnknownSection " ++ section
-fault_words (fault.UnknownPoint point) = codes "network UnknownPoint " ++ point
-fault_words fault.Output = codes "output WriteFailed"
+abbrev pub name_fault_name : NameFault → List ℕ
+name_fault_name name.Empty = codes "Empty"
+name_fault_name name.TooLong = codes "TooLong"
+name_fault_name (name.BadByte place) = codes "BadByte"
+name_fault_name name.NoMemory = codes "NoMemory"
+
+-- the fault's name
+abbrev pub name_of : Fault → List ℕ
+name_of fault.Memory = codes "NoMemory"
+name_of (fault.File file cause) = file_fault_name cause
+name_of (fault.Network cause) = network_fault_name cause
+name_of (fault.Staff cause) = staff_fault_name cause
+name_of (fault.Name cause) = name_fault_name cause
+name_of (fault.UnknownSection section) = codes "UnknownSection"
+name_of (fault.UnknownPoint point) = codes "UnknownPoint"
+name_of fault.Output = codes "WriteFailed"
+
+abbrev pub file_fault_detail : CsvFault → Detail
+file_fault_detail (csv.NotText row) = detail.Row row
+file_fault_detail (csv.FieldCount row) = detail.Row row
+file_fault_detail (csv.BadName row column) = detail.Field row column
+file_fault_detail (csv.BadWord row column) = detail.Field row column
+file_fault_detail cause = detail.Nothing
+
+abbrev pub network_fault_detail : NetFault → Detail
+network_fault_detail (net.SectionTwice row) = detail.Row row
+network_fault_detail (net.PointTwice row) = detail.Row row
+network_fault_detail (net.UnknownEnd row) = detail.Row row
+network_fault_detail (net.SameEnds row) = detail.Row row
+network_fault_detail cause = detail.Nothing
+
+abbrev pub staff_fault_detail : StaffFault → Detail
+staff_fault_detail (staff.Twice row) = detail.Row row
+staff_fault_detail (staff.UnknownSupervisor row) = detail.Row row
+staff_fault_detail (staff.OwnSupervisor row) = detail.Row row
+staff_fault_detail cause = detail.Nothing
+
+abbrev pub name_fault_detail : NameFault → Detail
+name_fault_detail (name.BadByte place) = detail.Place place
+name_fault_detail cause = detail.Nothing
+
+-- where a fault is, or what it names
+abbrev pub detail_of : Fault → Detail
+detail_of (fault.File file cause) = file_fault_detail cause
+detail_of (fault.Network cause) = network_fault_detail cause
+detail_of (fault.Staff cause) = staff_fault_detail cause
+detail_of (fault.Name cause) = name_fault_detail cause
+detail_of (fault.UnknownSection section) = detail.Named section
+detail_of (fault.UnknownPoint point) = detail.Named point
+detail_of cause = detail.Nothing
+
+-- how a line says it: rows and columns count from 1, under the header; places in a name from 0
+abbrev pub detail_text : Detail → List ℕ
+detail_text detail.Nothing = []
+detail_text (detail.Row row) = codes " row " ++ decimal row
+detail_text (detail.Field row column) = (codes " row " ++ decimal row) ++ (codes " column " ++ decimal column)
+detail_text (detail.Place place) = codes " place " ++ decimal place
+detail_text (detail.Named found) = codes " " ++ found
 
 abbrev pub fault_line : Fault → List ℕ
-fault_line cause = codes "fault: " ++ fault_words cause
+fault_line cause = codes "fault: " ++ (subject_of cause ++ (codes " " ++ (name_of cause ++ detail_text (detail_of cause))))
 
 -- The fault that a cause becomes. Want of memory is one fault, whatever answered it.
 abbrev pub of_file : ImportFile → CsvFault → Fault

@@ -1,8 +1,9 @@
 -- How an outcome is told: the status, and what is written where.
-use Rattle.std.specs.Prelude.{ℕ, ◌≡◌, ◌≤◌, ◌⊎◌, List, [], ◌∷◌, ◌++◌, Option, Result, Ok, Err, string_bytes}
+use Rattle.std.specs.Prelude.{ℕ, Bool, true, ◌≡◌, ◌≤◌, ◌⊎◌, List, [], ◌∷◌, ◌++◌, Option, Result, Ok, Err, string_bytes}
 use Rattle.clap.specs.Words.{IsAmong, Kinds}
 use Rattle.clap.specs.declared.error.kind.ErrorKind.TheVariants.{DisplayHelp, DisplayVersion}
-use Rattle.std.specs.Io.KnownBytes.{Appends, Keeps}
+use Rattle.std.specs.Io.KnownBytes.{Appends}
+use Rattle.clr_csv.specs.Failures.{Rose}
 use Rattle.gridclear.specs.declared.outcome.Outcome.{Outcome}
 use Rattle.gridclear.specs.declared.outcome.Outcome.TheVariants.{Answer, Unread}
 use Rattle.gridclear.specs.declared.fault.Fault.{Fault}
@@ -13,27 +14,55 @@ use Rattle.gridclear.specs.Fault.{fault_line}
 abbrev pub told_line : Fault → List ℕ
 told_line fault = fault_line fault ++ 10 ∷ []
 
--- Known bytes grow by a front of a text: the whole of it, or what was written before a write failed.
+-- What is known of a writer: the bytes that it holds, where they are known; how many of its calls have failed; whether
+-- its last write took no byte; and whether nothing was written since it was flushed.
+pub record Stream : Type 0 where
+  pub contents : Option (List ℕ)
+  pub failures : ℕ
+  pub stalled : Bool
+  pub flushed : Bool
+
+abbrev pub stream : Option (List ℕ) → ℕ → Bool → Bool → Stream
+stream contents failures stalled flushed = record { contents = contents; failures = failures; stalled = stalled; flushed = flushed }
+
+-- the writer failed, or took no byte
+abbrev pub HasFailed : Stream → Stream → Type 0
+HasFailed old new = Rose old.failures new.failures ⊎ (new.stalled ≡ true)
+
+-- Known bytes grow by a front of a text.
 abbrev pub AppendsFront : Option (List ℕ) → Option (List ℕ) → List ℕ → Type 0
 AppendsFront old new text = (front : List ℕ) × (rest : List ℕ) × (text ≡ front ++ rest) × Appends old new front
 
--- The status, and what the two writers hold before and after, where that is known. An answer goes out whole and
--- alone, or its writing is a fault; after any other outcome nothing went to the output. To the errors goes the line of the
--- fault, or why words do not parse, as far as it can be written.
-abbrev pub Tells : Result Outcome Fault → ℕ → Option (List ℕ) → Option (List ℕ) → Option (List ℕ) → Option (List ℕ) → Type 0
-Tells (Ok (Answer text)) status output output' errors errors' =
-    ((status ≡ 0) × Appends output output' (string_bytes text) × Keeps errors errors')
-    ⊎ ((status ≡ 1) × AppendsFront errors errors' (told_line Output))
-Tells (Ok (Unread text)) status output output' errors errors' = (status ≡ 2) × Keeps output output' × AppendsFront errors errors' (string_bytes text)
-Tells (Err fault) status output output' errors errors' = (status ≡ 1) × Keeps output output' × AppendsFront errors errors' (told_line fault)
+-- a text went out whole, and was flushed
+abbrev pub WentOut : Stream → Stream → List ℕ → Type 0
+WentOut old new text = Appends old.contents new.contents text × (new.flushed ≡ true)
 
--- What every outcome keeps to: the status is 0, 1 or 2; at 0 nothing went to the errors, at 1 nothing but the line of a
--- fault, and at 2 nothing to the output.
-pub record IsTold (status : ℕ) (output output' errors errors' : Option (List ℕ)) : Type 0 where
+-- a front of a text went out, and the writer failed
+abbrev pub IsCut : Stream → Stream → List ℕ → Type 0
+IsCut old new text = AppendsFront old.contents new.contents text × HasFailed old new
+
+-- a text went out whole, unless the writer failed
+abbrev pub Sends : Stream → Stream → List ℕ → Type 0
+Sends old new text = WentOut old new text ⊎ IsCut old new text
+
+-- The status, and the two writers before and after. An answer goes out whole and alone, or its writing is a fault, for which the
+-- output has failed; after any other outcome nothing went to the output. To the errors goes the line of the fault, or
+-- why words do not parse, whole unless the errors' writer failed.
+abbrev pub Tells : Result Outcome Fault → ℕ → Stream → Stream → Stream → Stream → Type 0
+Tells (Ok (Answer text)) status output output' errors errors' =
+    ((status ≡ 0) × WentOut output output' (string_bytes text) × (errors' ≡ errors))
+    ⊎ ((status ≡ 1) × IsCut output output' (string_bytes text) × Sends errors errors' (told_line Output))
+Tells (Ok (Unread text)) status output output' errors errors' = (status ≡ 2) × (output' ≡ output) × Sends errors errors' (string_bytes text)
+Tells (Err fault) status output output' errors errors' = (status ≡ 1) × (output' ≡ output) × Sends errors errors' (told_line fault)
+
+-- What every outcome keeps to: the status is 0, 1 or 2; at 0 what was written was flushed, and nothing went to the errors; at 1
+-- the line of a fault did, that of a failed write only where the output failed; at 2 nothing went to the output.
+pub record IsTold (status : ℕ) (output output' errors errors' : Stream) : Type 0 where
   pub statuses : status ≤ 2
-  pub answered : status ≡ 0 → Keeps errors errors'
-  pub faulted : status ≡ 1 → (fault : Fault) × AppendsFront errors errors' (told_line fault)
-  pub unread : status ≡ 2 → Keeps output output'
+  pub answered : status ≡ 0 → (output'.flushed ≡ true) × (errors' ≡ errors)
+  pub faulted : status ≡ 1 → (fault : Fault) × Sends errors errors' (told_line fault)
+      × (((fault ≡ Output) × HasFailed output output') ⊎ (output' ≡ output))
+  pub unread : status ≡ 2 → output' ≡ output
 
 -- an answer, or help that was asked for
 abbrev pub IsAnswer : Outcome → Type 0

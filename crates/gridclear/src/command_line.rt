@@ -1,20 +1,21 @@
-ghost use Rattle.std.specs.Prelude.{◌≡◌, ◌≢◌, ◌⊎◌, [], Err, IfErr, IfOk, map};
+//! Whole command lines: from the words to the exit status.
+ghost use Rattle.std.specs.Prelude.{◌≡◌, ◌≢◌, ◌⊎◌, [], Err, IfErr, IfOk, codes, map};
 ghost use Rattle.std.specs.IoError.{error_kind};
 ghost use Rattle.std.specs.declared.io.ErrorKind.TheVariants as io_kind;
 ghost use Rattle.clap.specs.Words.{fault_of, kind_of};
-ghost use Rattle.gridclear.specs.Outcome.{AppendsFront, IsAnswer, IsTold, IsUnread, MayAnswer, told_line};
+ghost use Rattle.gridclear.specs.Outcome.{IsAnswer, IsTold, IsUnread, MayAnswer, Sends, stream, told_line};
 ghost use Rattle.gridclear.specs.Syntax.{gridclear};
 
 use crate::fault::Fault;
 use crate::fence::fence;
 use crate::init::init;
-use crate::outcome::{Outcome, tell};
+use crate::outcome::{Outcome, tell, tell_fault, write_out};
 use crate::syntax;
 use clap::error::ErrorKind;
+use clr_csv::{CountedRead, CountedWrite};
 use std::alloc::Global;
 use std::convert::AsStr;
 use std::io;
-use std::io::{Read, Write};
 use std::rt::Files;
 
 /// Does what the words ask, of which the first is the program's name. The answer, and help that is
@@ -30,27 +31,44 @@ pub fn command_line<R, S, I, W, E>(
 where
     R: Files + AllocGlobal,
     S: AsStr,
-    I: Read,
-    W: Write,
-    E: Write,
-    ensures told { IsTold result (W.contents output.old) (W.contents output.new)
-        (E.contents errors.old) (E.contents errors.new) }
+    I: CountedRead,
+    W: CountedWrite,
+    E: CountedWrite,
+    ensures told { IsTold result
+        (stream (W.contents output.old) (W.failure_count output.old) (W.stalled output.old)
+        (W.flushed output.old))
+        (stream (W.contents output.new) (W.failure_count output.new) (W.stalled output.new)
+        (W.flushed output.new))
+        (stream (E.contents errors.old) (E.failure_count errors.old) (E.stalled errors.old)
+        (E.flushed errors.old))
+        (stream (E.contents errors.new) (E.failure_count errors.new) (E.stalled errors.new)
+        (E.flushed errors.new)) }
     ensures words { result ≡ 0 → MayAnswer (fault_of gridclear (map S.text words.now)) }
 {
     tell(answer(rt, words), output, errors)
 }
 
 /// Tells why the arguments of the program could not be had: one is no text, or memory ran out.
-pub fn no_words<E: Write>(cause: &io::Error, errors: &mut E) -> u8
+pub fn no_words<E: CountedWrite>(cause: &io::Error, errors: &mut E) -> u8
     ensures memory { error_kind cause.now ≡ io_kind.OutOfMemory → result ≡ 1 }
-    ensures line { error_kind cause.now ≡ io_kind.OutOfMemory
-        → AppendsFront (E.contents errors.old) (E.contents errors.new) (told_line Fault.Memory) }
     ensures no_text { error_kind cause.now ≢ io_kind.OutOfMemory → result ≡ 2 }
+    ensures memory_line { error_kind cause.now ≡ io_kind.OutOfMemory → Sends
+        (stream (E.contents errors.old) (E.failure_count errors.old) (E.stalled errors.old)
+        (E.flushed errors.old))
+        (stream (E.contents errors.new) (E.failure_count errors.new) (E.stalled errors.new)
+        (E.flushed errors.new))
+        (told_line Fault.Memory) }
+    ensures no_text_line { error_kind cause.now ≢ io_kind.OutOfMemory → Sends
+        (stream (E.contents errors.old) (E.failure_count errors.old) (E.stalled errors.old)
+        (E.flushed errors.old))
+        (stream (E.contents errors.new) (E.failure_count errors.new) (E.stalled errors.new)
+        (E.flushed errors.new))
+        (codes "error: an argument is not UTF-8 text\n") }
 {
     match cause.kind() {
-        io::ErrorKind::OutOfMemory => tell(Err(Fault::Memory), &mut io::sink(), errors),
+        io::ErrorKind::OutOfMemory => tell_fault(Fault::Memory, errors),
         _ => {
-            let _ = errors.write_all(b"error: an argument is not UTF-8 text\n");
+            let _ = write_out("error: an argument is not UTF-8 text\n", errors);
             2
         }
     }

@@ -1,11 +1,10 @@
-ghost use Rattle.std.specs.Prelude.{◌≡◌, Some};
-ghost use Rattle.std.specs.Fmt.{DisplaysOnOk};
-ghost use Rattle.gridclear.specs.Fault.{fault_line, file_text, file_words, name_words, network_words, staff_words};
+//! What ends a command before it has its answer.
+ghost use Rattle.std.specs.Prelude.{◌≡◌, ◌≤◌, length};
+ghost use Rattle.gridclear.specs.Fault.{file_fault_detail, file_fault_name, file_text, name_fault_detail, name_fault_name, network_fault_detail, network_fault_name, staff_fault_detail, staff_fault_name};
 
 use clr_csv::{CsvFault, StaffFault};
 use clr_net::{Name, NameFault, NetFault};
 use std::alloc::{AllocError, AllocFailed};
-use std::fmt;
 
 /// One of the files that a network and its staff are read from.
 #[derive(Clone, Copy, Debug, PartialEq, Eq)]
@@ -21,7 +20,8 @@ pub enum ImportFile {
 impl ImportFile {
     /// How a fault line calls the file.
     pub fn as_str(self) -> &'static str
-        ensures { result.now ≡ file_text self }
+        ensures text { result.now ≡ file_text self }
+        ensures short { length result.now ≤ 8 }
     {
         match self {
             ImportFile::Sections => "sections",
@@ -31,8 +31,8 @@ impl ImportFile {
     }
 }
 
-/// What ends a command before it has its answer. Its `Display` is the line on standard error,
-/// without the line feed.
+/// What ends a command before it has its answer. Its line on standard error is made of `subject`,
+/// `name` and `detail`.
 #[derive(Clone, Copy, Debug, PartialEq, Eq)]
 pub enum Fault {
     /// Memory ran out, whatever answered it.
@@ -126,77 +126,166 @@ impl Fault {
     }
 }
 
-impl fmt::Display for Fault {
-    ghost output = { λ fault. Some (fault_line fault) };
+/// Where a fault is, or what it names.
+#[derive(Clone, Copy, Debug, PartialEq, Eq)]
+pub enum Detail {
+    /// The line says no more.
+    Nothing,
+    /// A row, counted from 1 under the header.
+    Row(usize),
+    /// A row and a column, each counted from 1.
+    Field(usize, usize),
+    /// The place of a byte in an argument, counted from 0.
+    Place(usize),
+    /// The section or the point that the network lacks.
+    Named(Name),
+}
 
-    fn fmt<W: fmt::Write>(&self, f: &mut fmt::Formatter<W>) -> fmt::Result {
-        f.write_str("fault: ")?;
+impl Fault {
+    ghost use Rattle.gridclear.specs.Fault.{detail_of, name_of, subject_of};
+
+    /// What the fault is about, with which its line begins.
+    pub fn subject(&self) -> &'static str
+        ensures text { result.now ≡ subject_of self.now }
+        ensures short { length result.now ≤ 8 }
+    {
         match *self {
-            Fault::Memory => f.write_str("memory NoMemory"),
-            Fault::File(file, fault) => write_file_words(f, file, fault),
-            Fault::Network(fault) => write_network_words(f, fault),
-            Fault::Staff(fault) => write_staff_words(f, fault),
-            Fault::Name(fault) => write_name_words(f, fault),
-            Fault::UnknownSection(name) => write!(f, "network UnknownSection {name}"),
-            Fault::UnknownPoint(name) => write!(f, "network UnknownPoint {name}"),
-            Fault::Output => f.write_str("output WriteFailed"),
+            Fault::Memory => "memory",
+            Fault::File(file, _) => file.as_str(),
+            Fault::Network(_) | Fault::UnknownSection(_) | Fault::UnknownPoint(_) => "network",
+            Fault::Staff(_) => "staff",
+            Fault::Name(_) => "name",
+            Fault::Output => "output",
+        }
+    }
+
+    /// The fault's name in its line.
+    pub fn name(&self) -> &'static str
+        ensures text { result.now ≡ name_of self.now }
+        ensures short { length result.now ≤ 17 }
+    {
+        match *self {
+            Fault::Memory => "NoMemory",
+            Fault::File(_, fault) => file_fault_name(fault),
+            Fault::Network(fault) => network_fault_name(fault),
+            Fault::Staff(fault) => staff_fault_name(fault),
+            Fault::Name(fault) => name_fault_name(fault),
+            Fault::UnknownSection(_) => "UnknownSection",
+            Fault::UnknownPoint(_) => "UnknownPoint",
+            Fault::Output => "WriteFailed",
+        }
+    }
+
+    /// Where the fault is, or what it names.
+    pub fn detail(&self) -> Detail
+        ensures { result ≡ detail_of self.now }
+    {
+        match *self {
+            Fault::Memory | Fault::Output => Detail::Nothing,
+            Fault::File(_, fault) => file_fault_detail(fault),
+            Fault::Network(fault) => network_fault_detail(fault),
+            Fault::Staff(fault) => staff_fault_detail(fault),
+            Fault::Name(fault) => name_fault_detail(fault),
+            Fault::UnknownSection(name) | Fault::UnknownPoint(name) => Detail::Named(name),
         }
     }
 }
 
-fn write_file_words<W: fmt::Write>(
-    f: &mut fmt::Formatter<W>,
-    file: ImportFile,
-    fault: CsvFault,
-) -> fmt::Result
-    ensures { DisplaysOnOk W.write_str_gives f.old result (Some (file_words file fault)) f.new }
+fn file_fault_name(fault: CsvFault) -> &'static str
+    ensures text { result.now ≡ file_fault_name fault }
+    ensures short { length result.now ≤ 17 }
 {
-    let file = file.as_str();
     match fault {
-        CsvFault::ReadFailed => write!(f, "{file} ReadFailed"),
-        CsvFault::TooLong => write!(f, "{file} TooLong"),
-        CsvFault::Header => write!(f, "{file} Header"),
-        CsvFault::NotText(row) => write!(f, "{file} NotText row {row}"),
-        CsvFault::FieldCount(row) => write!(f, "{file} FieldCount row {row}"),
-        CsvFault::BadName(row, column) => write!(f, "{file} BadName row {row} column {column}"),
-        CsvFault::BadWord(row, column) => write!(f, "{file} BadWord row {row} column {column}"),
-        CsvFault::NoMemory => f.write_str("memory NoMemory"),
+        CsvFault::ReadFailed => "ReadFailed",
+        CsvFault::TooLong => "TooLong",
+        CsvFault::Header => "Header",
+        CsvFault::NotText(_) => "NotText",
+        CsvFault::FieldCount(_) => "FieldCount",
+        CsvFault::BadName(..) => "BadName",
+        CsvFault::BadWord(..) => "BadWord",
+        CsvFault::NoMemory => "NoMemory",
     }
 }
 
-fn write_network_words<W: fmt::Write>(f: &mut fmt::Formatter<W>, fault: NetFault) -> fmt::Result
-    ensures { DisplaysOnOk W.write_str_gives f.old result (Some (network_words fault)) f.new }
+fn file_fault_detail(fault: CsvFault) -> Detail
+    ensures { result ≡ file_fault_detail fault }
 {
     match fault {
-        NetFault::NoSections => f.write_str("network NoSections"),
-        NetFault::TooLarge => f.write_str("network TooLarge"),
-        NetFault::SectionTwice(row) => write!(f, "network SectionTwice row {row}"),
-        NetFault::PointTwice(row) => write!(f, "network PointTwice row {row}"),
-        NetFault::UnknownEnd(row) => write!(f, "network UnknownEnd row {row}"),
-        NetFault::SameEnds(row) => write!(f, "network SameEnds row {row}"),
-        NetFault::NoMemory => f.write_str("memory NoMemory"),
+        CsvFault::NotText(row) | CsvFault::FieldCount(row) => Detail::Row(row),
+        CsvFault::BadName(row, column) | CsvFault::BadWord(row, column) => {
+            Detail::Field(row, column)
+        }
+        CsvFault::ReadFailed | CsvFault::TooLong | CsvFault::Header | CsvFault::NoMemory => {
+            Detail::Nothing
+        }
     }
 }
 
-fn write_staff_words<W: fmt::Write>(f: &mut fmt::Formatter<W>, fault: StaffFault) -> fmt::Result
-    ensures { DisplaysOnOk W.write_str_gives f.old result (Some (staff_words fault)) f.new }
+fn network_fault_name(fault: NetFault) -> &'static str
+    ensures text { result.now ≡ network_fault_name fault }
+    ensures short { length result.now ≤ 17 }
 {
     match fault {
-        StaffFault::Twice(row) => write!(f, "staff Twice row {row}"),
-        StaffFault::UnknownSupervisor(row) => write!(f, "staff UnknownSupervisor row {row}"),
-        StaffFault::OwnSupervisor(row) => write!(f, "staff OwnSupervisor row {row}"),
-        StaffFault::TooMany => f.write_str("staff TooMany"),
-        StaffFault::NoMemory => f.write_str("memory NoMemory"),
+        NetFault::NoSections => "NoSections",
+        NetFault::TooLarge => "TooLarge",
+        NetFault::SectionTwice(_) => "SectionTwice",
+        NetFault::PointTwice(_) => "PointTwice",
+        NetFault::UnknownEnd(_) => "UnknownEnd",
+        NetFault::SameEnds(_) => "SameEnds",
+        NetFault::NoMemory => "NoMemory",
     }
 }
 
-fn write_name_words<W: fmt::Write>(f: &mut fmt::Formatter<W>, fault: NameFault) -> fmt::Result
-    ensures { DisplaysOnOk W.write_str_gives f.old result (Some (name_words fault)) f.new }
+fn network_fault_detail(fault: NetFault) -> Detail
+    ensures { result ≡ network_fault_detail fault }
 {
     match fault {
-        NameFault::Empty => f.write_str("name Empty"),
-        NameFault::TooLong => f.write_str("name TooLong"),
-        NameFault::BadByte(place) => write!(f, "name BadByte place {place}"),
-        NameFault::NoMemory => f.write_str("memory NoMemory"),
+        NetFault::SectionTwice(row) | NetFault::PointTwice(row) => Detail::Row(row),
+        NetFault::UnknownEnd(row) | NetFault::SameEnds(row) => Detail::Row(row),
+        NetFault::NoSections | NetFault::TooLarge | NetFault::NoMemory => Detail::Nothing,
+    }
+}
+
+fn staff_fault_name(fault: StaffFault) -> &'static str
+    ensures text { result.now ≡ staff_fault_name fault }
+    ensures short { length result.now ≤ 17 }
+{
+    match fault {
+        StaffFault::Twice(_) => "Twice",
+        StaffFault::UnknownSupervisor(_) => "UnknownSupervisor",
+        StaffFault::OwnSupervisor(_) => "OwnSupervisor",
+        StaffFault::TooMany => "TooMany",
+        StaffFault::NoMemory => "NoMemory",
+    }
+}
+
+fn staff_fault_detail(fault: StaffFault) -> Detail
+    ensures { result ≡ staff_fault_detail fault }
+{
+    match fault {
+        StaffFault::Twice(row) => Detail::Row(row),
+        StaffFault::UnknownSupervisor(row) | StaffFault::OwnSupervisor(row) => Detail::Row(row),
+        StaffFault::TooMany | StaffFault::NoMemory => Detail::Nothing,
+    }
+}
+
+fn name_fault_name(fault: NameFault) -> &'static str
+    ensures text { result.now ≡ name_fault_name fault }
+    ensures short { length result.now ≤ 17 }
+{
+    match fault {
+        NameFault::Empty => "Empty",
+        NameFault::TooLong => "TooLong",
+        NameFault::BadByte(_) => "BadByte",
+        NameFault::NoMemory => "NoMemory",
+    }
+}
+
+fn name_fault_detail(fault: NameFault) -> Detail
+    ensures { result ≡ name_fault_detail fault }
+{
+    match fault {
+        NameFault::BadByte(place) => Detail::Place(place),
+        NameFault::Empty | NameFault::TooLong | NameFault::NoMemory => Detail::Nothing,
     }
 }

@@ -6,21 +6,23 @@ mod fault;
 mod fence;
 mod files;
 mod init;
+mod line;
 mod outcome;
 mod syntax;
 mod words;
 
+use clr_csv::Counted;
 use std::process::ExitCode;
 use std::{env, io};
 
 fn main(rt: HostRuntime) -> ExitCode {
-    let mut errors = rt.stderr();
+    let mut errors = Counted::new(rt.stderr());
     let status = match gather(&rt) {
         Ok(words) => command_line::command_line(
             &rt,
             words.as_slice(),
-            &mut rt.stdin(),
-            &mut rt.stdout(),
+            &mut Counted::new(rt.stdin()),
+            &mut Counted::new(rt.stdout()),
             &mut errors,
         ),
         Err(cause) => command_line::no_words(&cause, &mut errors),

@@ -1,15 +1,10 @@
 //! What a command line comes to, and how it is told.
-ghost use Rattle.std.specs.Prelude.{◌≡◌, OnOk};
-ghost use Rattle.std.specs.Io.KnownBytes.{Appends};
-ghost use Rattle.gridclear.specs.Outcome.{AppendsFront, Tells, told_line};
+ghost use Rattle.std.specs.Prelude.{◌≡◌, IfErr, OnErr, OnOk};
+ghost use Rattle.gridclear.specs.Outcome.{IsCut, Sends, Tells, WentOut, stream, told_line};
 
 use crate::fault::Fault;
-use std::fmt::InlineText;
-use std::io::Write;
-use std::{fmt, io};
-
-/// Room for the line of each fault.
-const LINE_BYTES: usize = 128;
+use crate::line::line_of;
+use clr_csv::{CountedWrite, write_whole};
 
 /// What words come to that meet no fault.
 #[derive(Debug, Drop)]
@@ -23,62 +18,70 @@ pub enum Outcome {
 /// Writes what words came to where it belongs, and returns the exit status: an answer to `output`,
 /// 0; a fault to `errors`, 1; why words do not parse to `errors`, 2. An answer that cannot be
 /// written is a fault. What cannot be written to `errors` is lost.
-pub fn tell<W: Write, E: Write>(told: Result<Outcome, Fault>, output: &mut W, errors: &mut E) -> u8
-    ensures { Tells told result (W.contents output.old) (W.contents output.new)
-        (E.contents errors.old) (E.contents errors.new) }
+pub fn tell<W: CountedWrite, E: CountedWrite>(
+    told: Result<Outcome, Fault>,
+    output: &mut W,
+    errors: &mut E,
+) -> u8
+    ensures { Tells told result
+        (stream (W.contents output.old) (W.failure_count output.old) (W.stalled output.old)
+        (W.flushed output.old))
+        (stream (W.contents output.new) (W.failure_count output.new) (W.stalled output.new)
+        (W.flushed output.new))
+        (stream (E.contents errors.old) (E.failure_count errors.old) (E.stalled errors.old)
+        (E.flushed errors.old))
+        (stream (E.contents errors.new) (E.failure_count errors.new) (E.stalled errors.new)
+        (E.flushed errors.new)) }
 {
     match told {
-        Ok(Outcome::Answer(text)) => match print(text.as_str(), output) {
+        Ok(Outcome::Answer(text)) => match write_out(text.as_str(), output) {
             Ok(()) => 0,
             Err(_) => tell_fault(Fault::Output, errors),
         },
         Ok(Outcome::Unread(text)) => {
-            write_front(text.as_str(), errors);
+            let _ = write_out(text.as_str(), errors);
             2
         }
         Err(fault) => tell_fault(fault, errors),
     }
 }
 
-/// Writes a text whole.
-fn print<W: Write>(text: &str, output: &mut W) -> io::Result<()>
-    ensures { OnOk result (Appends (W.contents output.old) (W.contents output.new) text.now) }
-{
-    output.write_all(text.as_bytes())?;
-    output.flush()?;
-    Ok(())
-}
-
 /// Writes the line of a fault, and returns the status after it. It takes no memory.
-fn tell_fault<E: Write>(fault: Fault, errors: &mut E) -> u8
+pub fn tell_fault<E: CountedWrite>(fault: Fault, errors: &mut E) -> u8
     ensures status { result ≡ 1 }
-    ensures line { AppendsFront (E.contents errors.old) (E.contents errors.new) (told_line fault) }
+    ensures line { Sends
+        (stream (E.contents errors.old) (E.failure_count errors.old) (E.stalled errors.old)
+        (E.flushed errors.old))
+        (stream (E.contents errors.new) (E.failure_count errors.new) (E.stalled errors.new)
+        (E.flushed errors.new))
+        (told_line fault) }
 {
-    let mut line = InlineText::<LINE_BYTES>::new();
-    let written = fmt::Write::write_fmt(&mut line, format_args!("{fault}\n"));
-    if written.is_ok() {
-        write_front(line.as_str(), errors);
-    }
+    let line = line_of(&fault);
+    let _ = write_out(line.as_str(), errors);
     1
 }
 
-/// Writes a text as far as it can be written.
-fn write_front<E: Write>(text: &str, errors: &mut E)
-    ensures { AppendsFront (E.contents errors.old) (E.contents errors.new) text.now }
+/// Writes a text whole, and flushes it.
+pub fn write_out<W: CountedWrite>(text: &str, writer: &mut W) -> Result<(), Fault>
+    ensures whole { OnOk result (WentOut
+        (stream (W.contents writer.old) (W.failure_count writer.old) (W.stalled writer.old)
+        (W.flushed writer.old))
+        (stream (W.contents writer.new) (W.failure_count writer.new) (W.stalled writer.new)
+        (W.flushed writer.new))
+        text.now) }
+    ensures cut { OnErr result (IsCut
+        (stream (W.contents writer.old) (W.failure_count writer.old) (W.stalled writer.old)
+        (W.flushed writer.old))
+        (stream (W.contents writer.new) (W.failure_count writer.new) (W.stalled writer.new)
+        (W.flushed writer.new))
+        text.now) }
+    ensures fault { IfErr result (λ fault. fault ≡ Fault.Output) }
 {
-    let mut rest = text.as_bytes();
-    for _ in 0..u64::MAX {
-        if rest.is_empty() {
-            return;
-        }
-        match errors.write(rest) {
-            Ok(0) => return,
-            Ok(count) => rest = &rest[count..],
-            Err(error) => {
-                if error.kind() != io::ErrorKind::Interrupted {
-                    return;
-                }
-            }
-        }
+    match write_whole(writer, text.as_bytes()) {
+        Ok(()) => match writer.flush_counted() {
+            Ok(()) => Ok(()),
+            Err(_) => Err(Fault::Output),
+        },
+        Err(_) => Err(Fault::Output),
     }
 }

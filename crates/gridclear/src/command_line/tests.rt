@@ -1,5 +1,6 @@
 //! Whole command lines, over files of their own and writers in memory.
 use super::command_line;
+use clr_csv::Counted;
 use std::env::Env;
 use std::io::Write;
 use std::rt::Files;
@@ -79,17 +80,18 @@ fn errors_told(status: u8, errors: Vec<u8>) -> Result<String, Fail> {
 }
 
 fn run_words<R: Files + AllocGlobal>(rt: &R, words: &[&str]) -> Result<Run, Fail> {
-    let mut output = Vec::new(rt.alloc());
-    let mut errors = Vec::new(rt.alloc());
-    let status = command_line(rt, words, &mut io::empty(), &mut output, &mut errors);
-    let errors = errors_told(status, errors)?;
+    let mut output = Counted::new(Vec::new(rt.alloc()));
+    let mut errors = Counted::new(Vec::new(rt.alloc()));
+    let mut input = Counted::new(io::empty());
+    let status = command_line(rt, words, &mut input, &mut output, &mut errors);
+    let errors = errors_told(status, errors.into_inner())?;
     // The output is memory, and fails for want of memory alone.
     if errors.as_str() == "fault: output WriteFailed\n" {
         return Err(Fail::new("memory ran out"));
     }
     Ok(Run {
         status,
-        output: String::from_utf8(output)?,
+        output: String::from_utf8(output.into_inner())?,
         errors,
     })
 }
@@ -264,6 +266,30 @@ fn one_section_too_many(rt: HostRuntime) -> Result<(), Fail> {
     Ok(())
 }
 
+#[test]
+fn long_fault_lines(rt: HostRuntime) -> Result<(), Fail> {
+    let tables = new_tables(&rt, process::id(rt.process()))?;
+    write_tables(&rt, &tables, SECTIONS, POINTS)?;
+    let unknown = run_fence(&rt, &tables, &["ABCDEFGHIJKLMNOPQRSTUVWX"])?;
+    assert_eq!(rt;
+        unknown.errors.as_str(),
+        "fault: network UnknownSection ABCDEFGHIJKLMNOPQRSTUVWX\n"
+    );
+    let mut sections = String::from_str(rt.alloc(), "section,source\n")?;
+    for number in 1..10001 {
+        writeln!(sections, "C{number:05},no")?;
+    }
+    sections.push_str("L1,perhaps\n")?;
+    write_tables(&rt, &tables, sections.as_str(), POINT_HEADER)?;
+    let far = run_fence(&rt, &tables, &["L1"])?;
+    assert_eq!(rt;
+        far.errors.as_str(),
+        "fault: sections BadWord row 10001 column 2\n"
+    );
+    remove_tables(&rt, &tables)?;
+    Ok(())
+}
+
 /// Runs `init` over the worked network and a staff file of this text, with further words.
 fn run_init<R: Files + AllocGlobal>(
     rt: &R,
@@ -403,19 +429,15 @@ impl Write for Slow {
 
 #[test]
 fn answer_that_cannot_be_written(rt: HostRuntime) -> Result<(), Fail> {
-    let mut errors = Slow {
+    let mut output = Counted::new(Broken);
+    let mut errors = Counted::new(Slow {
         bytes: Vec::new(rt.alloc()),
         was_interrupted: false,
-    };
+    });
     let words = ["gridclear", "--help"];
-    let status = command_line(
-        &rt,
-        words.as_slice(),
-        &mut io::empty(),
-        &mut Broken,
-        &mut errors,
-    );
-    let errors = errors_told(status, errors.bytes)?;
+    let mut input = Counted::new(io::empty());
+    let status = command_line(&rt, words.as_slice(), &mut input, &mut output, &mut errors);
+    let errors = errors_told(status, errors.into_inner().bytes)?;
     assert_eq!(rt; status, 1);
     assert_eq!(rt; errors.as_str(), "fault: output WriteFailed\n");
     Ok(())
