@@ -9,7 +9,7 @@ use Rattle.clr_rules.specs.Changes.{new_steps}
 use Rattle.clr_rules.specs.Id.{Id}
 use Rattle.clr_rules.specs.StepKey.{same_step_key, step_key, step_key_cmp}
 use Rattle.clr_rules.specs.declared.step_row.StepRow.{StepRow}
-use Rattle.clr_book.specs.PutSteps.{each_once, has_key_of, is_put}
+use Rattle.clr_book.specs.Card.{each_once, has_key_of, is_put}
 
 abbrev numbered : Id → ℕ → ℕ → Task → StepRow
 numbered c round n t = record { id = c; round = round; ordinal = n; step = record { action = t.action; point = t.point; state = Waiting; reader = None } }

@@ -15,7 +15,7 @@ use Rattle.clr_order.specs.declared.order_fault.OrderFault.{OrderFault}
 use Rattle.clr_rules.specs.Fences.{rows_of_fence, touches}
 use Rattle.clr_rules.specs.Refusals.{order_refusal}
 use Rattle.clr_rules.specs.Register.{unplaced}
-use Rattle.clr_book.specs.OrderChecks.{refusal_of}
+use Rattle.clr_book.specs.Orders.{refusal_of}
 
 -- what is told of a first refusal is that refusal
 pub told : (fault : Option OrderFault) → refusal_of (answer_of fault) ≡ order_refusal fault

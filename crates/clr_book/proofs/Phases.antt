@@ -9,9 +9,9 @@ use Rattle.clr_rules.specs.Steps.{all_done, is_done, present}
 use Rattle.clr_rules.specs.declared.phase.Phase.TheVariants.{Closed}
 use Rattle.clr_rules.specs.declared.record.Record.{Record}
 use Rattle.clr_rules.specs.declared.step_row.StepRow.{StepRow}
-use Rattle.clr_book.proofs.Counting.{counted_all, not_counted}
-use Rattle.clr_book.specs.PutSteps.{progress_of}
-use Rattle.clr_book.specs.declared.progress.Progress.{Progress}
+use Rattle.clr_book.proofs.StepCounts.{counted_all, not_counted}
+use Rattle.clr_book.specs.Card.{progress_of}
+use Rattle.clr_book.specs.declared.card.Progress.{Progress}
 
 by_tests : (steps : List StepRow) (r : Record) (row : StepRow) (ends all : Bool) → ends_with_steps r.phase ≡ ends
     → all_done (present (with_row step_key_cmp step_key row steps) r.id) ≡ all → phase_after steps r row ≡ cond (ends && all) Closed r.phase

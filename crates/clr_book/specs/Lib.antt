@@ -1,14 +1,15 @@
-pub mod Shelved
-pub mod OrderChecks
-pub mod Wanted
-pub mod PutSteps
-pub mod Decided
+pub mod Book
+pub mod Orders
+pub mod Card
+pub mod Decision
+pub mod Effect
 -- The definitions of the register's rules, passed on: whoever stands on clr_book names them here.
 pub use Rattle.clr_rules.specs.Agreement
 pub use Rattle.clr_rules.specs.Answer
 pub use Rattle.clr_rules.specs.Changes
 pub use Rattle.clr_rules.specs.Checks
 pub use Rattle.clr_rules.specs.Command
+pub use Rattle.clr_rules.specs.Commands
 pub use Rattle.clr_rules.specs.Edits
 pub use Rattle.clr_rules.specs.Fences
 pub use Rattle.clr_rules.specs.Footprint

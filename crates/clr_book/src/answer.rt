@@ -1,9 +1,9 @@
 //! The book's answer to a command.
-ghost use Rattle.std.specs.Prelude.{◌≡◌, true, IfOk};
+ghost use Rattle.std.specs.Prelude.{◌≡◌, IfOk};
 ghost use Rattle.clr_rules.specs.Answer.{answer, answer_with};
 ghost use Rattle.clr_rules.specs.Good.{IsGood};
 ghost use Rattle.clr_rules.specs.Near.{Near, near_of};
-ghost use Rattle.clr_book.specs.Decided.{answered, is_written};
+ghost use Rattle.clr_book.specs.Decision.{answered};
 
 use crate::book::Book;
 use crate::decision::Decision;
@@ -16,7 +16,6 @@ impl<P: Shelf<PointState>, C: Shelf<Record>, T: Shelf<StepRow>, H: Shelf<Hold>> 
     /// What the book answers to a command, and what the command would change; the book of every register that is reached is good.
     /// The book stays as it is: room for the change is made by `reserve`, and the change by `apply`.
     pub fn answer(&self, command: &Command) -> Result<Decision, AllocError>
-        requires { is_written command.now.kind ≡ true }
         ensures lent { IfOk result (λ d. answer_with (Near.known (near_of self.now.register command.now)) (Near.rows (near_of self.now.register command.now)) command.now ≡ answered d) }
         ensures whole { IsGood self.now.register → IfOk result (λ d. answer self.now.register command.now ≡ answered d) }
     {

@@ -6,10 +6,13 @@ ghost use Rattle.clr_rules.specs.Records.{record_of};
 ghost use Rattle.clr_rules.specs.Register.{Register, opening, unplaced_net};
 ghost use Rattle.clr_rules.specs.States.{state_of};
 ghost use Rattle.clr_rules.specs.Steps.{steps_of};
-ghost use Rattle.clr_book.specs.Shelved.{Fits, Room, Shelved, need_of, needs};
+ghost use Rattle.clr_book.specs.Book.{Fits, Room, Shelved, need_of, needs};
 
-use crate::room::puts_of;
-use crate::shelves::all_rows;
+pub(crate) mod room;
+pub(crate) mod rows;
+
+use crate::book::room::puts_of;
+use crate::book::rows::all_rows;
 use crate::states::{opening_states, set_hand, set_position};
 use clr_csv::Staff;
 use clr_net::{Name, Network};
@@ -33,7 +36,7 @@ pub struct Book<P: Shelf<PointState>, C: Shelf<Record>, T: Shelf<StepRow>, H: Sh
 impl<P: Shelf<PointState>, C: Shelf<Record>, T: Shelf<StepRow>, H: Shelf<Hold>> Model
     for Book<P, C, T, H> {
     ghost use Rattle.clr_rules.specs.Register.{Register, unplaced_net};
-    ghost use Rattle.clr_book.specs.Shelved.{Room, Shelved};
+    ghost use Rattle.clr_book.specs.Book.{Room, Shelved};
 
     ghost Value = { Shelved };
 

@@ -1,15 +1,12 @@
 //! What is decided: a reply, and what changes.
-ghost use Rattle.std.specs.Prelude.{◌≡◌, true, [], ◌∷◌, ◌++◌, IfOk};
-ghost use Rattle.clr_rules.specs.Edits.{edited_all};
-ghost use Rattle.clr_rules.specs.Register.{Register};
-ghost use Rattle.clr_rules.specs.Changes.{put_steps};
-ghost use Rattle.clr_rules.specs.declared.change.Edit.TheVariants.{PutRecord};
+ghost use Rattle.std.specs.Prelude.{◌≡◌, [], IfOk};
 ghost use Rattle.clr_rules.specs.declared.reply.Reply.TheVariants as replies;
-ghost use Rattle.clr_book.specs.Decided.{accepted_with, answered, ended};
-ghost use Rattle.clr_book.specs.PutSteps.{each_once};
+ghost use Rattle.clr_book.specs.Decision.{accepted_with, answered, ended};
+ghost use Rattle.clr_book.specs.Effect.{IsOf};
 
+use crate::card::{card_with, progress_with};
+use crate::effect::Effect;
 use crate::near::Near;
-use crate::progress::{card_with, progress_with};
 use clr_rules::{Change, Edit, Edits, Record, Refusal, Reply, StepRow, View};
 use std::alloc::{AllocError, Global};
 
@@ -56,21 +53,14 @@ fn end(edits: Vec<Edit>, clearance: Record, steps: &[StepRow]) -> Result<Vec<Edi
     Ok(all)
 }
 
-/// The decision to put a record and some steps of it, after edits that leave all steps as they are. The reply is the
-/// record's card, as it is then.
-pub(crate) fn accept(
-    near: &Near,
-    edits: Vec<Edit>,
-    clearance: Record,
-    steps: &[StepRow],
-) -> Result<Decision, AllocError>
-    requires once { each_once steps.now ≡ true }
-    requires elsewhere { Register.steps (edited_all edits.items near.now.rows) ≡ near.now.rows.steps }
-    ensures { IfOk result (λ d. answered d ≡ accepted_with near.now.rows edits.items clearance steps.now) }
+/// The decision to carry a command out. The reply is the card of its record, as it is then.
+pub(crate) fn accept(near: &Near, effect: Effect) -> Result<Decision, AllocError>
+    requires { IsOf effect.clearance.id effect }
+    ensures { IfOk result (λ d. answered d ≡ accepted_with near.now.rows effect.lead.items effect.clearance effect.steps.items) }
 {
-    let progress = progress_with(near, steps, clearance.id);
-    let card = card_with(&clearance, progress);
-    let all = end(edits, clearance, steps)?;
+    let progress = progress_with(near, &effect.steps, effect.clearance.id);
+    let card = card_with(&effect.clearance, progress);
+    let all = end(effect.lead, effect.clearance, &effect.steps)?;
     Ok(Decision {
         reply: Reply::Accepted(card),
         change: Change {

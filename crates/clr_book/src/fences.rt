@@ -4,16 +4,9 @@ ghost use Rattle.clr_net.specs.Names.{has_name};
 ghost use Rattle.clr_rules.specs.Fences.{touches};
 ghost use Rattle.clr_rules.specs.Holds.{is_near_hold, is_own};
 
-use clr_net::{Name, PointRow};
+use clr_net::{Name, PointRow, has_name};
 use clr_rules::{ClearanceId, Hold, HoldKind};
 use std::alloc::{AllocError, Global};
-
-/// Whether a name is among these.
-pub(crate) fn has_name(names: &[Name], name: Name) -> bool
-    ensures { result ≡ has_name names.now name }
-{
-    names.iter().any(|other| name == *other)
-}
 
 /// Whether a point has an end among these sections.
 pub(crate) fn touches(fence: &[Name], point: &PointRow) -> bool

@@ -1,70 +1,176 @@
-//! What each kind of command is answered.
-ghost use Rattle.std.specs.Prelude.{◌≡◌, true, IfOk};
-ghost use Rattle.clr_rules.specs.Answer.{answer, answer_with};
+//! The answer to each kind of command: its checks, then what it changes.
+ghost use Rattle.std.specs.Prelude.{◌≡◌, false, IfOk, None};
+ghost use Rattle.clr_rules.specs.Answer.{answer, answer_with, concerned, first_refusal};
+ghost use Rattle.clr_rules.specs.Commands.{checks, edits_of};
+ghost use Rattle.clr_rules.specs.Command.{named_clearance};
 ghost use Rattle.clr_rules.specs.Good.{IsGood};
 ghost use Rattle.clr_rules.specs.Near.{near_of};
 ghost use Rattle.clr_rules.specs.Register.{Register};
-ghost use Rattle.clr_book.specs.Decided.{answered, is_written};
+ghost use Rattle.clr_book.specs.Decision.{answered, is_question};
+ghost use Rattle.clr_book.specs.Effect.{IsOf, edits_in};
 
+mod amend;
+mod cancel;
 mod grant;
+mod ground;
 mod instruct;
 mod moved;
+mod new_record;
 mod new_steps;
 mod order;
+mod release;
 mod repeat;
 mod report;
 mod request;
+mod restore;
 mod show;
+mod sign_off;
+mod sign_on;
+mod switch;
+mod test;
+mod transfer;
+mod unground;
 
-use crate::decision::Decision;
-use crate::kinds::grant::decide_grant;
-use crate::kinds::instruct::decide_instruct;
-use crate::kinds::order::decide_order;
-use crate::kinds::repeat::decide_repeat;
-use crate::kinds::report::decide_report;
-use crate::kinds::request::decide_request;
-use crate::kinds::show::decide_show;
+use crate::decision::{Decision, accept, refused, shown};
+use crate::effect::Effect;
 use crate::near::Near;
-use clr_rules::{Command, Kind};
+use clr_rules::{Command, Kind, Refusal};
 use std::alloc::AllocError;
 
 /// What a command is answered, and what it changes. Of a good register the near part is enough.
 pub fn decide(near: &Near, command: &Command) -> Result<Decision, AllocError>
-    requires written { is_written command.now.kind ≡ true }
     ensures lent { IfOk result (λ d. answer_with near.now.known near.now.rows command.now ≡ answered d) }
     ensures whole { (R : Register) → IsGood R → near_of R command.now ≡ near.now → IfOk result (λ d. answer R command.now ≡ answered d) }
 {
-    let decision = decide_kind(near, command)?;
+    let decision = decision_of(near, command)?;
     Ok(decision)
 }
 
-fn decide_kind(near: &Near, command: &Command) -> Result<Decision, AllocError>
-    requires { is_written command.now.kind ≡ true }
+/// The checks refuse a command, or it is shown what it asks for, or it is carried out.
+fn decision_of(near: &Near, command: &Command) -> Result<Decision, AllocError>
     ensures { IfOk result (λ d. answer_with near.now.known near.now.rows command.now ≡ answered d) }
 {
+    if let Some(refusal) = refusal_of(near, command)? {
+        return Ok(refused(near.alloc, refusal));
+    }
+    if let Kind::Show { clearance } = &command.kind {
+        let view = show::view(near, command.caller, command.moment, *clearance)?;
+        return Ok(shown(near.alloc, view));
+    }
+    let effect = effect_of(near, command)?;
+    let decision = accept(near, effect)?;
+    Ok(decision)
+}
+
+/// The first check of a command that refuses it.
+fn refusal_of(near: &Near, command: &Command) -> Result<Option<Refusal>, AllocError>
+    ensures { IfOk result (λ refusal. refusal ≡ first_refusal (checks near.now.known near.now.rows command.now.caller command.now.moment command.now.kind)) }
+{
     let (by, at) = (command.caller, command.moment);
-    match &command.kind {
-        Kind::Request { section } => Ok(decide_request(near, by, at, *section)?),
+    let refusal = match &command.kind {
+        Kind::Request { section } => request::refusal_of(near, by, at, *section),
         Kind::Order {
             clearance,
             points,
             steps,
-        } => { Ok(decide_order(near, by, at, *clearance, points.as_slice(), steps)?) }
-        Kind::Instruct { clearance, step } => {
-            Ok(decide_instruct(near, by, at, *clearance, *step)?)
-        }
+        } => { order::refusal_of(near, by, at, *clearance, points.as_slice(), steps)? }
+        Kind::Instruct { clearance, step } => instruct::refusal_of(near, by, at, *clearance, *step),
         Kind::Repeat {
             clearance,
             step,
             text,
-        } => { Ok(decide_repeat(near, by, at, *clearance, *step, text)?) }
+        } => { repeat::refusal_of(near, by, at, *clearance, *step, text)? }
+        Kind::Report {
+            clearance,
+            step,
+            ..
+        } => report::refusal_of(near, by, at, *clearance, *step),
+        Kind::Grant { clearance } => grant::refusal_of(near, by, at, *clearance),
+        Kind::Test {
+            clearance,
+            section,
+            dead,
+        } => { test::refusal_of(near, by, at, *clearance, *section, *dead) }
+        Kind::Ground { clearance, section } => ground::refusal_of(
+            near, by, at, *clearance, *section,
+        ),
+        Kind::Unground { clearance, section } => unground::refusal_of(
+            near, by, at, *clearance, *section,
+        ),
+        Kind::SignOn { clearance, crew } => sign_on::refusal_of(near, by, at, *clearance, *crew),
+        Kind::SignOff { clearance, crew } => sign_off::refusal_of(near, by, at, *clearance, *crew),
+        Kind::Transfer {
+            clearance,
+            to,
+            emergency,
+        } => { transfer::refusal_of(near, by, at, *clearance, *to, *emergency) }
+        Kind::Release {
+            clearance,
+            notified,
+            clear,
+        } => { release::refusal_of(near, by, at, *clearance, *notified, *clear) }
+        Kind::Cancel { clearance } => cancel::refusal_of(near, by, at, *clearance),
+        Kind::Restore { clearance, steps } => restore::refusal_of(near, by, at, *clearance, steps)?,
+        Kind::Amend { clearance, step } => amend::refusal_of(near, by, at, *clearance, *step),
+        Kind::Switch { steps } => switch::refusal_of(near, by, at, steps),
+        Kind::Show { clearance } => show::refusal_of(near, by, at, *clearance),
+    };
+    Ok(refusal)
+}
+
+/// What a command changes that no check refuses.
+fn effect_of(near: &Near, command: &Command) -> Result<Effect, AllocError>
+    requires passes { first_refusal (checks near.now.known near.now.rows command.now.caller command.now.moment command.now.kind) ≡ None }
+    requires changes { is_question command.now.kind ≡ false }
+    ensures edits { IfOk result (λ effect. edits_of near.now.known.greatest near.now.rows command.now.caller command.now.moment command.now.kind ≡ edits_in effect) }
+    ensures of { IfOk result (IsOf (concerned near.now.known.greatest command.now.caller (named_clearance command.now.kind))) }
+{
+    let (by, at) = (command.caller, command.moment);
+    let effect = match &command.kind {
+        Kind::Request { section } => request::effect(near, by, at, *section),
+        Kind::Order {
+            clearance,
+            points,
+            steps,
+        } => { order::effect(near, by, at, *clearance, points.as_slice(), steps)? }
+        Kind::Instruct { clearance, step } => instruct::effect(near, by, at, *clearance, *step)?,
+        Kind::Repeat {
+            clearance,
+            step,
+            text,
+        } => { repeat::effect(near, by, at, *clearance, *step, text)? }
         Kind::Report {
             clearance,
             step,
             done,
-        } => { Ok(decide_report(near, by, at, *clearance, *step, *done)?) }
-        Kind::Grant { clearance } => Ok(decide_grant(near, by, at, *clearance)?),
-        Kind::Show { clearance } => Ok(decide_show(near, by, at, *clearance)?),
-        _ => unreachable!(),
-    }
+        } => { report::effect(near, by, at, *clearance, *step, *done)? }
+        Kind::Grant { clearance } => grant::effect(near, by, at, *clearance),
+        Kind::Test {
+            clearance,
+            section,
+            dead,
+        } => { test::effect(near, by, at, *clearance, *section, *dead)? }
+        Kind::Ground { clearance, section } => ground::effect(near, by, at, *clearance, *section)?,
+        Kind::Unground { clearance, section } => unground::effect(
+            near, by, at, *clearance, *section,
+        )?,
+        Kind::SignOn { clearance, crew } => sign_on::effect(near, by, at, *clearance, *crew)?,
+        Kind::SignOff { clearance, crew } => sign_off::effect(near, by, at, *clearance, *crew)?,
+        Kind::Transfer {
+            clearance,
+            to,
+            emergency,
+        } => { transfer::effect(near, by, at, *clearance, *to, *emergency) }
+        Kind::Release {
+            clearance,
+            notified,
+            clear,
+        } => { release::effect(near, by, at, *clearance, *notified, *clear)? }
+        Kind::Cancel { clearance } => cancel::effect(near, by, at, *clearance),
+        Kind::Restore { clearance, steps } => restore::effect(near, by, at, *clearance, steps)?,
+        Kind::Amend { clearance, step } => amend::effect(near, by, at, *clearance, *step)?,
+        Kind::Switch { steps } => switch::effect(near, by, at, steps)?,
+        Kind::Show { .. } => unreachable!(),
+    };
+    Ok(effect)
 }

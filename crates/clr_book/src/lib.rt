@@ -2,19 +2,14 @@
 #![tactic(auto)]
 
 mod answer;
-mod beside;
 mod book;
+mod card;
+mod checks;
 mod decision;
+mod effect;
 mod fences;
 mod kinds;
-mod known;
-mod lend;
 mod near;
-mod orders;
-mod progress;
-mod questions;
-mod room;
-mod shelves;
 mod states;
 mod view;
 

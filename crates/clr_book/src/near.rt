@@ -1,4 +1,8 @@
 //! What a command looks at: rows of the book, and what is known of it beside them.
+mod fence;
+mod points;
+mod rows;
+
 use clr_csv::Staff;
 use clr_net::{Name, PointRow, SectionRow};
 use clr_rules::{Hold, PointState, Record, StepRow};
@@ -6,6 +10,9 @@ use std::alloc::Global;
 use std::marker::Model;
 
 /// What is lent to a decision: rows, each list in the order of its keys, and the greatest number of the requester.
+///
+/// Every field but the allocator stands in its view. A field that the view left out could lend any row, and no clause
+/// would tell; so each field that comes is to be shown there.
 ///
 /// Numbers go up to 9,999, so that there is one more for a new clearance wherever the caller has not used them all.
 #[derive(Drop)]

@@ -8,11 +8,12 @@ ghost use Rattle.clr_rules.specs.Register.{unplaced};
 ghost use Rattle.clr_rules.specs.Steps.{present, steps_in};
 ghost use Rattle.clr_rules.specs.declared.hold_kind.HoldKind.TheVariants as hold_kinds;
 
-use crate::fences::{has_name, is_near_hold, touches};
+use crate::card::{card_with, progress_with};
+use crate::checks::steps::last_round;
+use crate::checks::work::places_of;
+use crate::fences::{is_near_hold, touches};
 use crate::near::Near;
-use crate::progress::{card_with, progress_with};
-use crate::questions::steps::{is_of_round, last_round};
-use clr_net::{Name, PointRow};
+use clr_net::{Name, PointRow, has_name};
 use clr_order::Step;
 use clr_rules::{
     Card, ClearanceId, Hold, HoldKind, Holds, Names, PointState, PointStates, Record, Steps, View,
@@ -40,20 +41,6 @@ fn touching_names(near: &Near, fence: &[Name]) -> Result<Vec<Name>, AllocError>
     Ok(names)
 }
 
-/// The crews that are signed on to a clearance.
-#[tactic(auto, unfolding(clr_rules::specs::Holds::places_of))]
-fn crews(near: &Near, id: ClearanceId) -> Result<Vec<Name>, AllocError>
-    ensures { IfOk result (λ names. names.items ≡ places_of near.now.rows.holds id hold_kinds.Crew) }
-{
-    let mut names = Vec::new(near.alloc);
-    for hold in &near.holds {
-        if id == hold.id && HoldKind::Crew.compare_own(hold.kind).is_eq() {
-            names.push(hold.place)?;
-        }
-    }
-    Ok(names)
-}
-
 /// The states of the points that touch the fence.
 fn touching_states(near: &Near, touching: &[Name]) -> Result<Vec<PointState>, AllocError>
     ensures { IfOk result (λ states. states.items ≡ filter (λ state. has_name touching.now state.point) near.now.rows.states) }
@@ -74,7 +61,7 @@ fn steps_in(near: &Near, id: ClearanceId, round: u8) -> Result<Vec<Step>, AllocE
 {
     let mut steps = Vec::new(near.alloc);
     for row in &near.steps {
-        if is_of_round(row, id, round) {
+        if row.is_of_round(id, round) {
             steps.push(row.step)?;
         }
     }
@@ -148,7 +135,7 @@ pub(crate) fn view_of(near: &Near, clearance: &Record) -> Result<View, AllocErro
 {
     let fence = fence_names(near)?;
     let touching = touching_names(near, &fence)?;
-    let crews = crews(near, clearance.id)?;
+    let crews = places_of(near, clearance.id, HoldKind::Crew)?;
     let near_holds = holds_at(near, &fence, &touching)?;
     let holds = in_kind_order(near.alloc, &near_holds)?;
     let points = touching_states(near, &touching)?;

@@ -1,5 +1,6 @@
 ghost use Rattle.std.specs.Prelude.{◌≡◌, Some};
 ghost use Rattle.clr_rules.specs.Phase.{phase_named, phase_text};
+ghost use Rattle.clr_rules.specs.Records.{ends_with_steps, is_cancellable, is_fenced, is_granted, is_ordered, is_released, is_requested, is_restoring, is_running, is_transferable};
 
 use std::fmt;
 
@@ -61,6 +62,71 @@ impl Phase {
             .iter()
             .copied()
             .find(|phase| phase.text() == text)
+    }
+
+    pub fn is_requested(self) -> bool
+        ensures { result ≡ is_requested self }
+    {
+        matches!(self, Phase::Requested)
+    }
+
+    pub fn is_ordered(self) -> bool
+        ensures { result ≡ is_ordered self }
+    {
+        matches!(self, Phase::Ordered)
+    }
+
+    pub fn is_granted(self) -> bool
+        ensures { result ≡ is_granted self }
+    {
+        matches!(self, Phase::Granted)
+    }
+
+    pub fn is_released(self) -> bool
+        ensures { result ≡ is_released self }
+    {
+        matches!(self, Phase::Released)
+    }
+
+    pub fn is_restoring(self) -> bool
+        ensures { result ≡ is_restoring self }
+    {
+        matches!(self, Phase::Restoring)
+    }
+
+    /// Whether steps are given out, repeated and reported.
+    pub fn is_running(self) -> bool
+        ensures { result ≡ is_running self }
+    {
+        matches!(self, Phase::Ordered | Phase::Restoring | Phase::Switching)
+    }
+
+    /// Whether a clearance on a work section has a fence.
+    pub fn is_fenced(self) -> bool
+        ensures { result ≡ is_fenced self }
+    {
+        !matches!(self, Phase::Requested | Phase::Closed)
+    }
+
+    /// Whether the phase ends with the last step of its order.
+    pub fn ends_with_steps(self) -> bool
+        ensures { result ≡ ends_with_steps self }
+    {
+        matches!(self, Phase::Restoring | Phase::Switching)
+    }
+
+    /// Whether the holder may hand the clearance on: it is asked for, and not yet released.
+    pub fn is_transferable(self) -> bool
+        ensures { result ≡ is_transferable self }
+    {
+        matches!(self, Phase::Requested | Phase::Ordered | Phase::Granted)
+    }
+
+    /// Whether the holder may give it up: it was not granted.
+    pub fn is_cancellable(self) -> bool
+        ensures { result ≡ is_cancellable self }
+    {
+        matches!(self, Phase::Requested | Phase::Ordered | Phase::Switching)
     }
 }
 

@@ -1,5 +1,7 @@
+ghost use Rattle.std.specs.Prelude.{◌≡◌};
 ghost use Rattle.clr_net.specs.Name.{same_name};
 ghost use Rattle.clr_rules.specs.Id.{id_cmp, id_cmp_total, same_id_from_tie};
+ghost use Rattle.clr_rules.specs.Records.{is_switch_order};
 
 use crate::clearance_id::ClearanceId;
 use crate::moment::Moment;
@@ -21,6 +23,15 @@ pub struct Record {
     pub phase: Phase,
     /// The moment of the last command that was accepted about it, `show` aside.
     pub last: Moment,
+}
+
+impl Record {
+    /// Whether it is a switch order's.
+    pub fn is_switch_order(&self) -> bool
+        ensures { result ≡ is_switch_order self.now }
+    {
+        self.work.is_none()
+    }
 }
 
 impl Row for Record {

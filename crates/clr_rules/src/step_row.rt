@@ -1,5 +1,8 @@
+ghost use Rattle.std.specs.Prelude.{◌≡◌};
+ghost use Rattle.clr_rules.specs.Steps.{is_active, is_done, is_of_round, is_repeated, is_waiting};
+
 use crate::clearance_id::ClearanceId;
-use clr_order::Step;
+use clr_order::{Step, StepState};
 use clr_shelf::Row;
 use std::cmp::Ordering;
 
@@ -22,6 +25,40 @@ pub struct StepRow {
     /// The step's place in its round, counted from 1. Steps are done in this order: 29 CFR 1910.269(m)(2)(i).
     pub ordinal: u16,
     pub step: Step,
+}
+
+impl StepRow {
+    /// Whether it is a step of a clearance in a round.
+    pub fn is_of_round(&self, id: ClearanceId, round: u8) -> bool
+        ensures { result ≡ is_of_round id round self.now }
+    {
+        id == self.id && self.round == round
+    }
+
+    pub fn is_waiting(&self) -> bool
+        ensures { result ≡ is_waiting self.now.step.state }
+    {
+        matches!(self.step.state, StepState::Waiting)
+    }
+
+    /// Whether it was given out, and is not reported yet.
+    pub fn is_active(&self) -> bool
+        ensures { result ≡ is_active self.now.step.state }
+    {
+        matches!(self.step.state, StepState::Instructed | StepState::Repeated)
+    }
+
+    pub fn is_repeated(&self) -> bool
+        ensures { result ≡ is_repeated self.now.step.state }
+    {
+        matches!(self.step.state, StepState::Repeated)
+    }
+
+    pub fn is_done(&self) -> bool
+        ensures { result ≡ is_done self.now.step.state }
+    {
+        matches!(self.step.state, StepState::Done)
+    }
 }
 
 impl Row for StepRow {

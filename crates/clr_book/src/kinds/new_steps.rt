@@ -1,14 +1,30 @@
 //! The steps of a new round.
-ghost use Rattle.std.specs.Prelude.{◌≡◌, ◌≤◌, IfOk, length};
+ghost use Rattle.std.specs.Prelude.{◌≡◌, ◌≤◌, true, IfOk, length};
 ghost use Rattle.clr_rules.specs.Changes.{new_steps};
+ghost use Rattle.clr_book.specs.Card.{each_once};
 
 use clr_order::{Step, StepState};
 use clr_rules::{ClearanceId, StepRow, Tasks};
 use std::alloc::{AllocError, Global};
 
 /// The steps of a round, numbered from 1, each waiting and without a reader.
-#[tactic(auto, unfolding(clr_rules::specs::Changes::new_steps))]
 pub(crate) fn new_steps(
+    alloc: Global,
+    id: ClearanceId,
+    round: u8,
+    tasks: &Tasks,
+) -> Result<Vec<StepRow>, AllocError>
+    requires { length tasks.now ≤ 256 }
+    ensures rows { IfOk result (λ rows. rows.items ≡ new_steps id round 1 tasks.now) }
+    ensures once { IfOk result (λ rows. each_once rows.items ≡ true) }
+{
+    let rows = numbered(alloc, id, round, tasks)?;
+    Ok(rows)
+}
+
+/// The steps of a round, numbered from 1.
+#[tactic(auto, unfolding(clr_rules::specs::Changes::new_steps))]
+fn numbered(
     alloc: Global,
     id: ClearanceId,
     round: u8,

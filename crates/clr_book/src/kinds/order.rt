@@ -1,22 +1,22 @@
-//! An operator writes the isolating order of a clearance: 29 CFR 1910.269(m)(3)(ii), (iii).
-ghost use Rattle.std.specs.Prelude.{◌≡◌, ◌∷◌, [], IfOk};
-ghost use Rattle.clr_rules.specs.Answer.{answer_with, first_refusal};
-ghost use Rattle.clr_rules.specs.Commands.{checks};
+//! An operator writes the isolating steps of a clearance: 29 CFR 1910.269(m)(3)(ii), (iii).
+ghost use Rattle.std.specs.Prelude.{◌≡◌, IfOk, None};
+ghost use Rattle.clr_rules.specs.Answer.{first_refusal};
+ghost use Rattle.clr_rules.specs.Commands.{checks, edits_of};
 ghost use Rattle.clr_rules.specs.declared.command.Kind.TheVariants as kinds;
-ghost use Rattle.clr_book.specs.Decided.{answered};
+ghost use Rattle.clr_book.specs.Effect.{IsOf, edits_in};
 
-use crate::decision::{Decision, accept, refused};
+use crate::checks::callers::{not_operator, unknown_caller};
+use crate::checks::clearances::{earlier, not_requested, record, unknown_clearance};
+use crate::checks::first_of;
+use crate::checks::orders::unsound_order;
+use crate::effect::Effect;
 use crate::kinds::new_steps::new_steps;
 use crate::near::Near;
-use crate::orders::unsound_order;
-use crate::questions::callers::{Players, unknown_caller, wrong_role};
-use crate::questions::clearances::{Phases, earlier, record, unknown_clearance, wrong_phase};
-use crate::questions::first::first_of;
 use clr_net::Name;
 use clr_rules::{ClearanceId, Moment, Phase, Record, Refusal, Tasks};
 use std::alloc::AllocError;
 
-fn refusal_of(
+pub(crate) fn refusal_of(
     near: &Near,
     by: Name,
     at: Moment,
@@ -29,37 +29,40 @@ fn refusal_of(
     let unsound = unsound_order(near, points, tasks.as_slice())?;
     let refusal = first_of(&[
         unknown_caller(near, by),
-        wrong_role(near, by, Players::Operators),
+        not_operator(near, by),
         unknown_clearance(near, id),
         earlier(near, id, at),
-        wrong_phase(near, id, Phases::Requested),
+        not_requested(near, id),
         unsound,
     ]);
     Ok(refusal)
 }
 
-pub(crate) fn decide_order(
+pub(crate) fn effect(
     near: &Near,
     by: Name,
     at: Moment,
     id: ClearanceId,
     points: &[Name],
     tasks: &Tasks,
-) -> Result<Decision, AllocError>
-    ensures { IfOk result (λ d. answer_with near.now.known near.now.rows (record { caller = by; moment = at; kind = kinds.Order id points.now tasks.now }) ≡ answered d) }
+) -> Result<Effect, AllocError>
+    requires { first_refusal (checks near.now.known near.now.rows by at (kinds.Order id points.now tasks.now)) ≡ None }
+    ensures edits { IfOk result (λ effect. edits_of near.now.known.greatest near.now.rows by at (kinds.Order id points.now tasks.now) ≡ edits_in effect) }
+    ensures of { IfOk result (IsOf id) }
 {
-    if let Some(refusal) = refusal_of(near, by, at, id, points, tasks)? {
-        return Ok(refused(near.alloc, refusal));
-    }
     let Some(found) = record(near, id) else {
         unreachable!()
     };
-    let rows = new_steps(near.alloc, id, 1, tasks)?;
-    let ordered = Record {
+    let clearance = Record {
         phase: Phase::Ordered,
         last: at,
         ..*found
     };
-    let decision = accept(near, Vec::new(near.alloc), ordered, &rows)?;
-    Ok(decision)
+    let lead = Vec::new(near.alloc);
+    let steps = new_steps(near.alloc, id, 1, tasks)?;
+    Ok(Effect {
+        lead,
+        clearance,
+        steps,
+    })
 }

@@ -1,41 +1,45 @@
 //! The reader of a step reports that it was done, or that it was not.
 ghost use Rattle.std.specs.Prelude.{◌≡◌, ◌++◌, true, IfOk, [], ◌∷◌, None};
-ghost use Rattle.clr_rules.specs.Answer.{answer_with, first_refusal};
-ghost use Rattle.clr_rules.specs.Commands.{checks};
-ghost use Rattle.clr_rules.specs.Changes.{hold_edits, moved, phase_after, position_edits};
-ghost use Rattle.clr_rules.specs.Records.{ends_with_steps, is_switch_order};
-ghost use Rattle.clr_order.specs.declared.step.StepState.TheVariants.{Done, Waiting};
-ghost use Rattle.clr_rules.specs.declared.change.Edit.TheVariants.{SetHand};
+ghost use Rattle.clr_rules.specs.Answer.{first_refusal};
+ghost use Rattle.clr_rules.specs.Commands.{checks, edits_of};
+ghost use Rattle.clr_rules.specs.Changes.{done_edits, hold_edits, moved, phase_after, position_edits, undone_edits};
+ghost use Rattle.clr_rules.specs.Records.{is_switch_order};
+ghost use Rattle.clr_order.specs.declared.step.StepState.TheVariants.{Done};
 ghost use Rattle.clr_rules.specs.declared.command.Kind.TheVariants as kinds;
-ghost use Rattle.clr_book.specs.Decided.{accepted_with, answered, done_lead, done_record, one_edit};
+ghost use Rattle.clr_book.specs.Decision.{done_lead, one_edit};
+ghost use Rattle.clr_book.specs.Effect.{IsOf, edits_in};
 
-use crate::decision::{Decision, accept, refused};
+use crate::card::progress_with;
+use crate::checks::callers::{not_field, unknown_caller};
+use crate::checks::clearances::{earlier, not_running, record, unknown_clearance};
+use crate::checks::first_of;
+use crate::checks::steps::{no_step, not_repeated, step, wrong_reporter};
+use crate::effect::Effect;
 use crate::kinds::moved::moved;
 use crate::near::Near;
-use crate::progress::progress_with;
-use crate::questions::callers::{Players, unknown_caller, wrong_role};
-use crate::questions::clearances::{
-    Phases, earlier, is_switch_order, record, unknown_clearance, wrong_phase,
-};
-use crate::questions::first::first_of;
-use crate::questions::steps::{States, no_step, step, wrong_reporter, wrong_state};
 use clr_net::{Name, Position};
 use clr_order::{Action, StepState};
 use clr_rules::{ClearanceId, Edit, Hold, HoldKind, Moment, Phase, Record, Refusal, StepRow};
 use std::alloc::{AllocError, Global};
 
 /// The checks of a report are the same, whether it says that the step was done or that it was not.
-fn refusal_of(near: &Near, by: Name, at: Moment, id: ClearanceId, number: u16) -> Option<Refusal>
+pub(crate) fn refusal_of(
+    near: &Near,
+    by: Name,
+    at: Moment,
+    id: ClearanceId,
+    number: u16,
+) -> Option<Refusal>
     ensures { result ≡ first_refusal (checks near.now.known near.now.rows by at (kinds.Report id number true)) }
 {
     first_of(&[
         unknown_caller(near, by),
-        wrong_role(near, by, Players::Field),
+        not_field(near, by),
         unknown_clearance(near, id),
         earlier(near, id, at),
-        wrong_phase(near, id, Phases::Running),
+        not_running(near, id),
         no_step(near, id, number),
-        wrong_state(near, id, number, States::Repeated),
+        not_repeated(near, id, number),
         wrong_reporter(near, id, number, by),
     ])
 }
@@ -91,7 +95,7 @@ fn first_edits(alloc: Global, row: &StepRow) -> Result<Vec<Edit>, AllocError>
 fn with_hold(edits: Vec<Edit>, clearance: &Record, row: &StepRow) -> Result<Vec<Edit>, AllocError>
     ensures { IfOk result (λ all. all.items ≡ edits.items ++ hold_edits (is_switch_order clearance.now) clearance.now.id row.now.step.action row.now.step.point) }
 {
-    let switching = is_switch_order(clearance);
+    let switching = clearance.is_switch_order();
     let mut all = edits;
     match hold_edit(switching, clearance.id, row.step.action, row.step.point) {
         Some(edit) => {
@@ -115,18 +119,18 @@ fn point_edits(alloc: Global, clearance: &Record, row: &StepRow) -> Result<Vec<E
     Ok(all)
 }
 
-/// Whether a phase ends with the last step of its order.
-fn ends_with_steps(phase: Phase) -> bool
-    ensures { result ≡ ends_with_steps phase }
+/// A step that was done.
+fn done(row: &StepRow) -> StepRow
+    ensures { result ≡ moved Done row.now.step.reader row.now }
 {
-    matches!(phase, Phase::Restoring | Phase::Switching)
+    moved(row, StepState::Done, row.step.reader)
 }
 
 /// The phase after a step is done.
 fn phase_after(near: &Near, clearance: &Record, done: StepRow) -> Phase
     ensures { result ≡ phase_after near.now.rows.steps clearance.now done }
 {
-    if !ends_with_steps(clearance.phase) {
+    if !clearance.phase.ends_with_steps() {
         return clearance.phase;
     }
     let progress = progress_with(near, &[done], clearance.id);
@@ -136,63 +140,70 @@ fn phase_after(near: &Near, clearance: &Record, done: StepRow) -> Phase
     clearance.phase
 }
 
-fn decide_done(
+/// What changes where the step was done.
+fn done_effect(
     near: &Near,
     at: Moment,
     clearance: &Record,
     row: &StepRow,
-) -> Result<Decision, AllocError>
-    ensures { IfOk result (λ d. accepted_with near.now.rows (done_lead clearance.now row.now) (done_record near.now.rows at clearance.now row.now) (moved Done row.now.step.reader row.now ∷ []) ≡ answered d) }
+) -> Result<Effect, AllocError>
+    ensures edits { IfOk result (λ effect. done_edits near.now.rows at clearance.now row.now ≡ edits_in effect) }
+    ensures of { IfOk result (IsOf clearance.now.id) }
 {
-    let done = moved(row, StepState::Done, row.step.reader);
-    let ended = Record {
-        phase: phase_after(near, clearance, done),
+    let after = Record {
+        phase: phase_after(near, clearance, done(row)),
         last: at,
         ..*clearance
     };
-    let decision = accept(
-        near,
-        point_edits(near.alloc, clearance, row)?,
-        ended,
-        &[done],
-    )?;
-    Ok(decision)
+    let lead = point_edits(near.alloc, clearance, row)?;
+    let steps = vec![in near.alloc; done(row)]?;
+    Ok(Effect {
+        lead,
+        clearance: after,
+        steps,
+    })
 }
 
-fn decide_undone(
-    near: &Near,
+/// What changes where the step was not done: it waits again.
+fn undone_effect(
+    alloc: Global,
     at: Moment,
     clearance: &Record,
     row: &StepRow,
-) -> Result<Decision, AllocError>
-    ensures { IfOk result (λ d. accepted_with near.now.rows (SetHand row.now.step.point None ∷ []) (record clearance.now { last = at }) (moved Waiting None row.now ∷ []) ≡ answered d) }
+) -> Result<Effect, AllocError>
+    ensures edits { IfOk result (λ effect. undone_edits at clearance.now row.now ≡ edits_in effect) }
+    ensures of { IfOk result (IsOf clearance.now.id) }
 {
-    let waiting = moved(row, StepState::Waiting, None);
     let freed = Edit::SetHand {
         point: row.step.point,
         hand: None,
     };
-    let dated = Record {
+    let waiting = moved(row, StepState::Waiting, None);
+    let after = Record {
         last: at,
         ..*clearance
     };
-    let decision = accept(near, vec![in near.alloc; freed]?, dated, &[waiting])?;
-    Ok(decision)
+    let lead = vec![in alloc; freed]?;
+    let steps = vec![in alloc; waiting]?;
+    Ok(Effect {
+        lead,
+        clearance: after,
+        steps,
+    })
 }
 
-pub(crate) fn decide_report(
+pub(crate) fn effect(
     near: &Near,
     by: Name,
     at: Moment,
     id: ClearanceId,
     number: u16,
     done: bool,
-) -> Result<Decision, AllocError>
-    ensures { IfOk result (λ d. answer_with near.now.known near.now.rows (record { caller = by; moment = at; kind = kinds.Report id number done }) ≡ answered d) }
+) -> Result<Effect, AllocError>
+    requires { first_refusal (checks near.now.known near.now.rows by at (kinds.Report id number done)) ≡ None }
+    ensures edits { IfOk result (λ effect. edits_of near.now.known.greatest near.now.rows by at (kinds.Report id number done) ≡ edits_in effect) }
+    ensures of { IfOk result (IsOf id) }
 {
-    if let Some(refusal) = refusal_of(near, by, at, id, number) {
-        return Ok(refused(near.alloc, refusal));
-    }
     let Some(found) = record(near, id) else {
         unreachable!()
     };
@@ -200,9 +211,9 @@ pub(crate) fn decide_report(
         unreachable!()
     };
     if done {
-        let decision = decide_done(near, at, found, row)?;
-        return Ok(decision);
+        let effect = done_effect(near, at, found, row)?;
+        return Ok(effect);
     }
-    let decision = decide_undone(near, at, found, row)?;
-    Ok(decision)
+    let effect = undone_effect(near.alloc, at, found, row)?;
+    Ok(effect)
 }

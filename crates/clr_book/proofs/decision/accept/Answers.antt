@@ -1,8 +1,18 @@
-use Rattle.std.proofs.Common.{◌∙◌}
-use Rattle.clr_book.proofs.PuttingSteps.{card_is}
+use Rattle.std.proofs.Common.{◌∙◌, List, ap}
+use Rattle.clr_rules.specs.declared.step_row.StepRow.{StepRow}
+use Rattle.clr_book.specs.Card.{progress_of, put_all}
+use Rattle.clr_book.specs.Decision.{ended}
+use Rattle.clr_book.proofs.CardFacts.{card_is}
+use Rattle.clr_book.proofs.DecisionFacts.{steps_stay}
 use Rattle.clr_book.proofs.decision.accept.Goals as goal
 
 pub returns : goal.returns
 returns c =
-    card_is c.args.near.now.rows c.args.edits.items c.args.clearance c.args.steps.now c.progress_with-progress.result c.new.result c.card_with-card.result c.requires.elsewhere
-    c.progress_with-progress.ensures (c.new.ensures ∙ c.in_ok-all.ensures) c.card_with-card.ensures
+    let R = c.args.near.now.rows in
+    let e = c.args.effect in
+    let r = e.clearance in
+    card_is R e.lead.items r e.steps.items c.progress_with-progress.result c.new.result c.card_with-card.result
+    (steps_stay e.lead.items R c.requires.lead)
+    (c.progress_with-progress.ensures ∙ ap (λ (rows : List StepRow). progress_of (put_all rows R.steps) r.id) c.deref.ensures.value)
+    (c.new.ensures ∙ c.in_ok-all.ensures ∙ ap (ended e.lead.items r) c.deref-2.ensures.value)
+    c.card_with-card.ensures

@@ -1,6 +1,6 @@
 use Rattle.std.proofs.Common.{◌≡◌, ◌++◌, drop}
 use Rattle.clr_rules.specs.Changes.{put_steps}
-use Rattle.clr_book.specs.Decided.{ended}
+use Rattle.clr_book.specs.Decision.{ended}
 use Rattle.clr_book.proofs.decision.end.Given as goal
 
 abbrev pub invariant-loop-row : goal.invariant-loop-row

@@ -4,7 +4,6 @@ use Rattle.clr_rules.specs.Near.{Near}
 use Rattle.clr_rules.proofs.near.NewAnswers.{near_is_enough}
 use Rattle.clr_book.proofs.kinds.decide.Goals as goal
 
--- src/kinds.rt:32:1
 pub returns-clause-whole : goal.returns-clause-whole
 returns-clause-whole c R good lent =
     near_is_enough R c.args.command.now good ∙ ap (λ (near : Near). answer_with near.known near.rows c.args.command.now) lent ∙ c.in_ok-decision.ensures

@@ -2,11 +2,10 @@ use Rattle.std.proofs.Common.{◌≡◌, ◌∙◌, ◌+◌, ◌∷◌, sym, ap,
 use Rattle.std.proofs.lemmas.List.{drop_all}
 use Rattle.clr_rules.specs.Edits.{edited_all}
 use Rattle.clr_rules.specs.declared.change.Edit.{Edit}
-use Rattle.clr_book.specs.Shelved.{Fits, needs}
-use Rattle.clr_book.proofs.Steps.{drop_step, edit_step, edits_end}
+use Rattle.clr_book.specs.Book.{Fits, needs}
+use Rattle.clr_book.proofs.BookEdits.{drop_step, edit_step, edits_end}
 use Rattle.clr_book.proofs.book.Book.apply.Goals as goal
 
--- src/book.rt:112:9
 pub loop-edit-preserved : goal.loop-edit-preserved
 loop-edit-preserved g c =
     let edits = c.args.change.edits in
@@ -18,7 +17,6 @@ loop-edit-preserved g c =
     (subst (λ (left : List Edit). Fits (needs left) c.loop-edit.self.room) step c.loop-edit.invariant.0) c.make.ensures.room c.make.ensures.register in
     (made.0, c.make.ensures.network ∙ c.loop-edit.invariant.1, made.1 ∙ ap (λ left. edited_all left c.loop-edit.self.register) (sym step) ∙ c.loop-edit.invariant.2)
 
--- src/book.rt:108:5
 pub returns-clause-register : goal.returns-clause-register
 returns-clause-register g c =
     let edits = c.args.change.edits in

@@ -1,6 +1,6 @@
 use Rattle.std.proofs.Common.{◌≡◌, drop}
 use Rattle.clr_rules.specs.Edits.{edited_all}
-use Rattle.clr_book.specs.Shelved.{Fits, needs}
+use Rattle.clr_book.specs.Book.{Fits, needs}
 use Rattle.clr_book.proofs.book.Book.apply.Given as goal
 
 -- the edits that are left fit the room, and end where all edits would have

@@ -8,13 +8,12 @@ use Rattle.clr_rules.specs.Holds.{is_near_hold, is_own}
 use Rattle.clr_rules.specs.Id.{Id}
 use Rattle.clr_rules.specs.Near.{is_asked, is_beside, near_part}
 use Rattle.clr_rules.specs.Register.{unplaced}
-use Rattle.clr_book.specs.Shelved.{Shelved}
-use Rattle.clr_book.proofs.Lending.{beside_lent, lent_whole, unplaced_shown}
+use Rattle.clr_book.specs.Book.{Shelved}
+use Rattle.clr_book.proofs.NearFacts.{beside_lent, lent_whole, unplaced_shown}
 use Rattle.clr_book.proofs.OrderPositions.{unplaced_kept}
 use Rattle.clr_book.proofs.SortedRows.{rising-filter}
 use Rattle.clr_book.proofs.book.Book.near.Goals as goal
 
--- src/lend.rt:22:5
 pub returns : goal.returns
 returns g c =
     let R = c.args.self.now.register in
@@ -39,7 +38,6 @@ returns g c =
     (c.in_ok-own_steps.ensures ∙ ap (λ (o : Option Id). filter (λ row. is_own o row.id) R.steps) own)
     (c.in_ok-holds_near.ensures ∙ (λ i. filter (is_near_hold (has_name ((c.deref-5.ensures.value ∙ fence) i)) (at_holds i) (own i)) R.holds))
 
--- src/lend.rt:38:12
 pub invariant_of-near : goal.invariant_of-near
 invariant_of-near g c =
     let R = c.args.self.now.register in

@@ -4,11 +4,10 @@ use Rattle.clr_rules.specs.Holds.{is_own}
 use Rattle.clr_rules.specs.Id.{same_id}
 use Rattle.clr_rules.specs.declared.record.Record.{Record}
 use Rattle.clr_rules.proofs.lists.Filters.{filter-nothing}
-use Rattle.clr_book.specs.Shelved.{Shelved}
-use Rattle.clr_book.proofs.Lending.{own_of_requester}
+use Rattle.clr_book.specs.Book.{Shelved}
+use Rattle.clr_book.proofs.NearFacts.{own_of_requester}
 use Rattle.clr_book.proofs.book.Book.own_records.Goals as goal
 
--- src/lend.rt:57:5
 pub returns : goal.returns
 returns g c =
     let id = c.in-Some.id in
@@ -17,7 +16,6 @@ returns g c =
     (c.in_ok-found.ensures ∙ ap (filter (λ (r : Record). same_id id r.id)) rows ∙ own_of_requester id (g.C.Shelf.rows c.self.inside.records)
     ∙ ap (λ (v : Shelved). filter (λ r. same_id id r.id) v.register.records) c.self.view_is)
 
--- src/lend.rt:60:13
 pub returns-in-None : goal.returns-in-None
 returns-in-None g c =
     rw c.in-None.is

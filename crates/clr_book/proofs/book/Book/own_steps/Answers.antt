@@ -4,7 +4,6 @@ use Rattle.clr_rules.specs.declared.step_row.StepRow.{StepRow}
 use Rattle.clr_rules.proofs.lists.Filters.{filter-nothing}
 use Rattle.clr_book.proofs.book.Book.own_steps.Goals as goal
 
--- src/lend.rt:71:5
 pub returns-in-None : goal.returns-in-None
 returns-in-None g c =
     rw c.in-None.is

@@ -3,11 +3,10 @@ use Rattle.clr_net.specs.Grid.{point_names}
 use Rattle.clr_net.specs.Names.{has_name}
 use Rattle.clr_net.specs.declared.point.PointRow.{PointRow}
 use Rattle.clr_rules.specs.Fences.{touches, touching_names}
-use Rattle.clr_book.specs.Shelved.{Shelved}
-use Rattle.clr_book.proofs.Lending.{touching_are}
+use Rattle.clr_book.specs.Book.{Shelved}
+use Rattle.clr_book.proofs.NearFacts.{touching_are}
 use Rattle.clr_book.proofs.book.Book.points_beside.Goals as goal
 
--- src/beside.rt:19:5
 pub returns : goal.returns
 returns g c =
     let inside = has_name c.args.fence.now in

@@ -4,11 +4,10 @@ use Rattle.clr_rules.specs.Records.{is_fenced}
 use Rattle.clr_rules.specs.Register.{unplaced_net}
 use Rattle.clr_rules.specs.Steps.{points_of, steps_in}
 use Rattle.clr_rules.specs.declared.step_row.StepRow.{StepRow}
-use Rattle.clr_book.specs.Shelved.{Shelved}
-use Rattle.clr_book.proofs.Lending.{first_points_are}
+use Rattle.clr_book.specs.Book.{Shelved}
+use Rattle.clr_book.proofs.NearFacts.{first_points_are}
 use Rattle.clr_book.proofs.book.Book.record_fence.Goals as goal
 
--- src/lend.rt:69:5
 pub returns : goal.returns
 returns g c =
     let id = c.args.clearance.now.id in

@@ -1,9 +1,8 @@
 use Rattle.std.proofs.Common.{subst}
 use Rattle.clr_rules.specs.Good.{ListsAreInOrder}
-use Rattle.clr_book.specs.Shelved.{Shelved}
+use Rattle.clr_book.specs.Book.{Shelved}
 use Rattle.clr_book.proofs.book.Book.stands_in_order.Goals as goal
 
--- src/book.rt:79:5
 pub returns : goal.returns
 returns g c =
     subst (λ (v : Shelved). ListsAreInOrder v.register) c.self.view_is

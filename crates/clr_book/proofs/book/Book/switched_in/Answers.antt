@@ -3,11 +3,10 @@ use Rattle.std.specs.Option.{option_copied}
 use Rattle.clr_rules.specs.Id.{same_id}
 use Rattle.clr_rules.specs.Records.{is_switch_order, record_of}
 use Rattle.clr_rules.specs.declared.step_row.StepRow.{StepRow}
-use Rattle.clr_book.specs.Shelved.{Shelved}
-use Rattle.clr_book.proofs.Lending.{points_shown, switched_found}
+use Rattle.clr_book.specs.Book.{Shelved}
+use Rattle.clr_book.proofs.NearFacts.{points_shown, switched_found}
 use Rattle.clr_book.proofs.book.Book.switched_in.Goals as goal
 
--- src/beside.rt:40:5
 pub returns : goal.returns
 returns g c =
     let R = c.args.self.now.register in

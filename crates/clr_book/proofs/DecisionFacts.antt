@@ -1,0 +1,95 @@
+-- What a command is answered: its refusal, what it asks for, or the card after its edits.
+use Rattle.std.proofs.Common.{◌≡◌, ℕ, ◌+◌, Bool, true, false, ◌&&◌, List, [], ◌∷◌, ◌++◌, Some, None, Option, refl, sym, ◌∙◌, ap}
+use Rattle.std.proofs.lemmas.Bool.{and_parts}
+use Rattle.std.specs.List.{list_all}
+use Rattle.clr_rules.specs.Answer.{Answer, answer_with, card_of, concerned, first_refusal, settled, told, told_after}
+use Rattle.clr_rules.specs.Commands.{Known, checks}
+use Rattle.clr_rules.specs.Commands.{edits_of}
+use Rattle.clr_rules.specs.Command.{named_clearance}
+use Rattle.clr_rules.specs.Edits.{edited, edited_all}
+use Rattle.clr_rules.specs.Id.{Id}
+use Rattle.clr_rules.specs.Records.{record_of}
+use Rattle.clr_rules.specs.Register.{Register}
+use Rattle.clr_rules.specs.declared.change.Edit.{Edit}
+use Rattle.clr_rules.specs.declared.change.Edit.TheVariants.{SetPosition, SetHand, PutHold, TakeHold, PutRecord, PutStep}
+use Rattle.clr_rules.specs.declared.command.Command.{Command}
+use Rattle.clr_rules.specs.declared.command.Kind.{Kind}
+use Rattle.clr_rules.specs.declared.command.Kind.TheVariants.{Request, Order, Instruct, Repeat, Report, Grant, Test, Ground, Unground, SignOn, SignOff, Transfer, Release, Cancel, Restore, Amend, Switch, Show}
+use Rattle.clr_rules.specs.declared.record.Record.{Record}
+use Rattle.clr_rules.specs.declared.refusal.Refusal.{Refusal}
+use Rattle.clr_rules.specs.declared.reply.Reply.{Reply}
+use Rattle.clr_rules.specs.declared.reply.Reply.TheVariants.{Accepted, Refused}
+use Rattle.clr_rules.specs.declared.step_row.StepRow.{StepRow}
+use Rattle.clr_book.specs.Decision.{accepted_with, ended, is_question}
+use Rattle.clr_book.specs.Effect.{leaves_rows}
+use Rattle.clr_book.proofs.CardFacts.{answer_of, record_after}
+
+-- the answer that a first refusal gives, or none
+pub settled_by : (k : Known) (R : Register) (q : Command) (refusal : Option Refusal) → first_refusal (checks k R q.caller q.moment q.kind) ≡ refusal
+    → answer_with k R q ≡ settled k R q refusal
+settled_by k R q refusal is = ap (settled k R q) is
+
+-- a command that does not only ask is told the card
+tells_card : (k : Known) (S : Register) (kind : Kind) (r : Record) → is_question kind ≡ false → told k S kind (Some r) ≡ Accepted (card_of S r)
+tells_card k S (Request section) r changes = refl
+tells_card k S (Order c points tasks) r changes = refl
+tells_card k S (Instruct c n) r changes = refl
+tells_card k S (Repeat c n text) r changes = refl
+tells_card k S (Report c n done) r changes = refl
+tells_card k S (Grant c) r changes = refl
+tells_card k S (Test c section dead) r changes = refl
+tells_card k S (Ground c section) r changes = refl
+tells_card k S (Unground c section) r changes = refl
+tells_card k S (SignOn c crew) r changes = refl
+tells_card k S (SignOff c crew) r changes = refl
+tells_card k S (Transfer c to emergency) r changes = refl
+tells_card k S (Release c notified clear) r changes = refl
+tells_card k S (Cancel c) r changes = refl
+tells_card k S (Restore c tasks) r changes = refl
+tells_card k S (Amend c n) r changes = refl
+tells_card k S (Switch tasks) r changes = refl
+tells_card k S (Show c) r changes = cc changes
+
+-- where its edits end with the record that the command is about, that is the card that is told
+pub accepted : (k : Known) (R : Register) (q : Command) (lead : List Edit) (r : Record) (rows : List StepRow)
+    → first_refusal (checks k R q.caller q.moment q.kind) ≡ None → is_question q.kind ≡ false
+    → edits_of k.greatest R q.caller q.moment q.kind ≡ ended lead r rows
+    → r.id ≡ concerned k.greatest q.caller (named_clearance q.kind)
+    → answer_with k R q ≡ accepted_with R lead r rows
+accepted k R q lead r rows passes changes made own =
+    let S = edited_all (ended lead r rows) R in
+    let told_with : List Edit → Answer = λ edits. answer_of (told_after k (edited_all edits R) q.caller q.kind) edits in
+    let found : record_of S.records (concerned k.greatest q.caller (named_clearance q.kind)) ≡ Some r = ap (record_of S.records) (sym own) ∙ record_after lead r rows R in
+    ap (settled k R q) passes ∙ ap told_with made
+    ∙ ap (λ reply. answer_of reply (ended lead r rows)) (ap (told k S q.kind) found ∙ tells_card k S q.kind r changes)
+
+no_edits : (R : Register) → edited_all [] R ≡ R
+unfolding edited_all
+no_edits R = refl
+
+-- one that asks is told of the register as it is
+pub asked : (k : Known) (R : Register) (q : Command) (c : Id) (reply : Reply) → q.kind ≡ Show c → first_refusal (checks k R q.caller q.moment q.kind) ≡ None
+    → told k R (Show c) (record_of R.records c) ≡ reply
+    → answer_with k R q ≡ answer_of reply []
+asked k R q c reply is passes tells =
+    let told_now : Register → Kind → Answer = λ S kind. answer_of (told_after k S q.caller kind) (edits_of k.greatest R q.caller q.moment kind) in
+    ap (settled k R q) passes
+    ∙ ap (λ kind. answer_of (told_after k (edited_all (edits_of k.greatest R q.caller q.moment kind) R) q.caller kind) (edits_of k.greatest R q.caller q.moment kind)) is
+    ∙ ap (λ S. answer_of (told_after k S q.caller (Show c)) []) (no_edits R)
+    ∙ ap (λ reply. answer_of reply []) tells
+
+-- edits of points and holds leave all steps as they are
+stays : (edit : Edit) (R : Register) → leaves_rows edit ≡ true → Register.steps (edited edit R) ≡ R.steps
+stays (SetPosition point position) R leaves = refl
+stays (SetHand point hand) R leaves = refl
+stays (PutHold h) R leaves = refl
+stays (TakeHold h) R leaves = refl
+stays (PutRecord r) R leaves = cc
+stays (PutStep row) R leaves = cc
+
+pub steps_stay : (lead : List Edit) (R : Register) → list_all leaves_rows lead ≡ true → Register.steps (edited_all lead R) ≡ R.steps
+unfolding edited_all
+steps_stay [] R leaves = refl
+steps_stay (edit ∷ lead) R leaves =
+    let (first, rest) = and_parts (leaves_rows edit) (list_all leaves_rows lead) leaves in
+    steps_stay lead (edited edit R) rest ∙ stays edit R first

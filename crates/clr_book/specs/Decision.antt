@@ -1,0 +1,42 @@
+-- What is decided, as an answer.
+use Rattle.std.specs.Prelude.{ℕ, Bool, true, false, List, [], ◌∷◌, ◌++◌, Option, None, Some}
+use Rattle.clr_rules.specs.Answer.{Answer, card_of}
+use Rattle.clr_rules.specs.Changes.{hold_edits, moved, phase_after, position_edits, put_steps}
+use Rattle.clr_rules.specs.Records.{is_switch_order}
+use Rattle.clr_order.specs.declared.step.StepState.TheVariants.{Done}
+use Rattle.clr_rules.specs.Edits.{edited_all}
+use Rattle.clr_rules.specs.Register.{Register}
+use Rattle.clr_rules.specs.declared.change.Edit.{Edit}
+use Rattle.clr_rules.specs.declared.change.Edit.TheVariants.{PutRecord, SetHand}
+use Rattle.clr_rules.specs.declared.command.Kind.{Kind}
+use Rattle.clr_rules.specs.declared.command.Kind.TheVariants.{Show}
+use Rattle.clr_rules.specs.declared.record.Record.{Record}
+use Rattle.clr_rules.specs.declared.reply.Reply.TheVariants.{Accepted}
+use Rattle.clr_rules.specs.declared.step_row.StepRow.{StepRow}
+use Rattle.clr_book.specs.declared.decision.Decision.{Decision}
+
+abbrev pub answered : Decision → Answer
+answered d = record { reply = d.reply; edits = d.change.edits }
+
+-- the edits that end with a record and steps of it
+abbrev pub ended : List Edit → Record → List StepRow → List Edit
+ended lead r rows = lead ++ PutRecord r ∷ put_steps rows
+
+-- the answer by the card of a record that is put, after other edits, and steps of it
+abbrev pub accepted_with : Register → List Edit → Record → List StepRow → Answer
+accepted_with R lead r rows = record { reply = Accepted (card_of (edited_all (ended lead r rows) R) r); edits = ended lead r rows }
+
+-- an edit, where there is one
+abbrev pub one_edit : Option Edit → List Edit
+one_edit None = []
+one_edit (Some edit) = edit ∷ []
+
+-- what a step that was done changes at its point
+abbrev pub done_lead : Record → StepRow → List Edit
+done_lead r row =
+    position_edits row.step.action row.step.point ++ SetHand row.step.point None ∷ hold_edits (is_switch_order r) r.id row.step.action row.step.point
+
+-- whether a command only asks
+abbrev pub is_question : Kind → Bool
+is_question (Show c) = true
+is_question _ = false

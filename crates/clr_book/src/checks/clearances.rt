@@ -1,0 +1,189 @@
+//! Checks of the clearance that is named.
+ghost use Rattle.std.specs.Prelude.{◌≡◌, ◌≤◌, IfSome, option_copied};
+ghost use Rattle.clr_rules.specs.Checks.{bad_transfer, earlier, is_charge, is_in_charge, is_supervisor, may_not_transfer, not_holder, too_many_clearances, unknown_clearance, unknown_section, wrong_phase};
+ghost use Rattle.clr_rules.specs.Checks.{employee};
+ghost use Rattle.clr_rules.specs.Records.{is_cancellable, is_granted, is_ordered, is_released, is_requested, is_restoring, is_running, is_transferable, record_of};
+
+use crate::checks::refuse;
+use crate::checks::rows::find_row;
+use crate::near::Near;
+use clr_csv::Role;
+use clr_net::Name;
+use clr_rules::{ClearanceId, MAX_CLEARANCE_NUMBER, Moment, Record, Refusal};
+
+/// The record of a clearance.
+pub(crate) fn record<'a>(near: &Near<'a>, id: ClearanceId) -> Option<&'a Record>
+    ensures row { option_copied result ≡ record_of near.now.rows.records id }
+    ensures own { IfSome result (λ r. r.now.id ≡ id) }
+{
+    find_row(&near.records, &id)
+}
+
+/// Whether the network lacks the section that is asked for.
+pub(crate) fn unknown_section(near: &Near, section: Name) -> Option<Refusal>
+    ensures { result ≡ unknown_section near.now.rows section }
+{
+    for row in &near.sections {
+        if section == row.name {
+            return None;
+        }
+    }
+    Some(Refusal::UnknownSection)
+}
+
+/// The greatest number of the requester's clearances.
+pub(crate) fn greatest(near: &Near) -> u16
+    ensures value { result ≡ near.now.known.greatest }
+    ensures range { result ≤ 9999 }
+{
+    near.greatest
+}
+
+/// Whether the last number was given.
+pub(crate) fn too_many_clearances(near: &Near) -> Option<Refusal>
+    ensures { result ≡ too_many_clearances near.now.known.greatest }
+{
+    refuse(
+        near.greatest == MAX_CLEARANCE_NUMBER,
+        Refusal::TooManyClearances,
+    )
+}
+
+/// Whether there is no such clearance.
+pub(crate) fn unknown_clearance(near: &Near, id: ClearanceId) -> Option<Refusal>
+    ensures { result ≡ unknown_clearance near.now.rows id }
+{
+    match record(near, id) {
+        Some(_) => None,
+        None => Some(Refusal::UnknownClearance),
+    }
+}
+
+/// Whether the caller is not the employee in charge.
+pub(crate) fn not_holder(near: &Near, id: ClearanceId, by: Name) -> Option<Refusal>
+    ensures { result ≡ not_holder near.now.rows id by }
+{
+    let record = record(near, id)?;
+    refuse(by != record.holder, Refusal::NotHolder)
+}
+
+/// Whether a caller is the supervisor of an employee.
+fn is_supervisor(near: &Near, of: Name, by: Name) -> bool
+    ensures { result ≡ is_supervisor (employee near.now.rows.staff of) by }
+{
+    let Some(row) = near.staff.find(&of) else {
+        return false;
+    };
+    match row.supervisor {
+        Some(supervisor) => by == supervisor,
+        None => false,
+    }
+}
+
+/// Whether the caller is neither the employee in charge nor, in an emergency, that employee's supervisor.
+pub(crate) fn may_not_transfer(
+    near: &Near,
+    id: ClearanceId,
+    by: Name,
+    emergency: bool,
+) -> Option<Refusal>
+    ensures { result ≡ may_not_transfer near.now.rows id by emergency }
+{
+    let record = record(near, id)?;
+    let supervises = is_supervisor(near, record.holder, by);
+    refuse(
+        !(by == record.holder || (emergency && supervises)),
+        Refusal::NotHolder,
+    )
+}
+
+/// Whether an employee may be in charge.
+fn is_in_charge(near: &Near, name: Name) -> bool
+    ensures { result ≡ is_in_charge (employee near.now.rows.staff name) }
+{
+    match near.staff.find(&name) {
+        Some(row) => matches!(row.role, Role::Charge),
+        None => false,
+    }
+}
+
+/// Whether a clearance cannot go to this employee, who may not be in charge or has it already.
+pub(crate) fn bad_transfer(near: &Near, id: ClearanceId, to: Name) -> Option<Refusal>
+    ensures { result ≡ bad_transfer near.now.rows id to }
+{
+    let record = record(near, id)?;
+    let in_charge = is_in_charge(near, to);
+    refuse(!in_charge || to == record.holder, Refusal::BadTransfer)
+}
+
+/// Whether something later is written down of the clearance.
+pub(crate) fn earlier(near: &Near, id: ClearanceId, at: Moment) -> Option<Refusal>
+    ensures { result ≡ earlier near.now.rows id at }
+{
+    let record = record(near, id)?;
+    refuse(at < record.last, Refusal::Earlier)
+}
+
+/// Whether the clearance was ordered already.
+pub(crate) fn not_requested(near: &Near, id: ClearanceId) -> Option<Refusal>
+    ensures { result ≡ wrong_phase near.now.rows id is_requested }
+{
+    let record = record(near, id)?;
+    refuse(!record.phase.is_requested(), Refusal::WrongPhase)
+}
+
+/// Whether the clearance has no order that waits for its grant.
+pub(crate) fn not_ordered(near: &Near, id: ClearanceId) -> Option<Refusal>
+    ensures { result ≡ wrong_phase near.now.rows id is_ordered }
+{
+    let record = record(near, id)?;
+    refuse(!record.phase.is_ordered(), Refusal::WrongPhase)
+}
+
+/// Whether no steps of the clearance are being done.
+pub(crate) fn not_running(near: &Near, id: ClearanceId) -> Option<Refusal>
+    ensures { result ≡ wrong_phase near.now.rows id is_running }
+{
+    let record = record(near, id)?;
+    refuse(!record.phase.is_running(), Refusal::WrongPhase)
+}
+
+/// Whether the clearance is not granted, or was given back.
+pub(crate) fn not_granted(near: &Near, id: ClearanceId) -> Option<Refusal>
+    ensures { result ≡ wrong_phase near.now.rows id is_granted }
+{
+    let record = record(near, id)?;
+    refuse(!record.phase.is_granted(), Refusal::WrongPhase)
+}
+
+/// Whether the clearance was not given back, or is being restored.
+pub(crate) fn not_released(near: &Near, id: ClearanceId) -> Option<Refusal>
+    ensures { result ≡ wrong_phase near.now.rows id is_released }
+{
+    let record = record(near, id)?;
+    refuse(!record.phase.is_released(), Refusal::WrongPhase)
+}
+
+/// Whether no restoring steps of the clearance are being done.
+pub(crate) fn not_restoring(near: &Near, id: ClearanceId) -> Option<Refusal>
+    ensures { result ≡ wrong_phase near.now.rows id is_restoring }
+{
+    let record = record(near, id)?;
+    refuse(!record.phase.is_restoring(), Refusal::WrongPhase)
+}
+
+/// Whether the clearance is in a phase in which nobody may hand it on.
+pub(crate) fn not_transferable(near: &Near, id: ClearanceId) -> Option<Refusal>
+    ensures { result ≡ wrong_phase near.now.rows id is_transferable }
+{
+    let record = record(near, id)?;
+    refuse(!record.phase.is_transferable(), Refusal::WrongPhase)
+}
+
+/// Whether the clearance is in a phase in which nobody may give it up.
+pub(crate) fn not_cancellable(near: &Near, id: ClearanceId) -> Option<Refusal>
+    ensures { result ≡ wrong_phase near.now.rows id is_cancellable }
+{
+    let record = record(near, id)?;
+    refuse(!record.phase.is_cancellable(), Refusal::WrongPhase)
+}

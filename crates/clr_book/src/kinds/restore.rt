@@ -1,0 +1,66 @@
+//! An operator writes the restoring steps: 29 CFR 1910.269(m)(3)(xii), (xiii).
+ghost use Rattle.std.specs.Prelude.{◌≡◌, IfOk, None};
+ghost use Rattle.clr_rules.specs.Answer.{first_refusal};
+ghost use Rattle.clr_rules.specs.Commands.{checks, edits_of};
+ghost use Rattle.clr_rules.specs.declared.command.Kind.TheVariants as kinds;
+ghost use Rattle.clr_book.specs.Effect.{IsOf, edits_in};
+
+use crate::checks::callers::{not_operator, unknown_caller};
+use crate::checks::clearances::{earlier, not_released, record, unknown_clearance};
+use crate::checks::first_of;
+use crate::checks::orders::wrong_restoring;
+use crate::effect::Effect;
+use crate::kinds::new_steps::new_steps;
+use crate::near::Near;
+use clr_net::Name;
+use clr_rules::{ClearanceId, Moment, Phase, Record, Refusal, Tasks};
+use std::alloc::AllocError;
+
+pub(crate) fn refusal_of(
+    near: &Near,
+    by: Name,
+    at: Moment,
+    id: ClearanceId,
+    tasks: &Tasks,
+) -> Result<Option<Refusal>, AllocError>
+    ensures { IfOk result (λ refusal. refusal ≡ first_refusal (checks near.now.known near.now.rows by at (kinds.Restore id tasks.now))) }
+{
+    let wrong = wrong_restoring(near, id, tasks.as_slice())?;
+    let refusal = first_of(&[
+        unknown_caller(near, by),
+        not_operator(near, by),
+        unknown_clearance(near, id),
+        earlier(near, id, at),
+        not_released(near, id),
+        wrong,
+    ]);
+    Ok(refusal)
+}
+
+pub(crate) fn effect(
+    near: &Near,
+    by: Name,
+    at: Moment,
+    id: ClearanceId,
+    tasks: &Tasks,
+) -> Result<Effect, AllocError>
+    requires { first_refusal (checks near.now.known near.now.rows by at (kinds.Restore id tasks.now)) ≡ None }
+    ensures edits { IfOk result (λ effect. edits_of near.now.known.greatest near.now.rows by at (kinds.Restore id tasks.now) ≡ edits_in effect) }
+    ensures of { IfOk result (IsOf id) }
+{
+    let Some(found) = record(near, id) else {
+        unreachable!()
+    };
+    let clearance = Record {
+        phase: Phase::Restoring,
+        last: at,
+        ..*found
+    };
+    let lead = Vec::new(near.alloc);
+    let steps = new_steps(near.alloc, id, 2, tasks)?;
+    Ok(Effect {
+        lead,
+        clearance,
+        steps,
+    })
+}

@@ -1,0 +1,45 @@
+//! An operator makes a switch order: points are opened and closed, and nothing is held.
+ghost use Rattle.std.specs.Prelude.{◌≡◌, ◌+◌, IfOk, None};
+ghost use Rattle.clr_rules.specs.Answer.{first_refusal};
+ghost use Rattle.clr_rules.specs.Commands.{checks, edits_of};
+ghost use Rattle.clr_rules.specs.declared.command.Kind.TheVariants as kinds;
+ghost use Rattle.clr_book.specs.Effect.{IsOf, edits_in};
+
+use crate::checks::callers::{not_operator, unknown_caller};
+use crate::checks::clearances::too_many_clearances;
+use crate::checks::first_of;
+use crate::checks::orders::wrong_switching;
+use crate::effect::Effect;
+use crate::kinds::new_record::new_record;
+use crate::kinds::new_steps::new_steps;
+use crate::near::Near;
+use clr_net::Name;
+use clr_rules::{Moment, Phase, Refusal, Tasks};
+use std::alloc::AllocError;
+
+pub(crate) fn refusal_of(near: &Near, by: Name, at: Moment, tasks: &Tasks) -> Option<Refusal>
+    ensures { result ≡ first_refusal (checks near.now.known near.now.rows by at (kinds.Switch tasks.now)) }
+{
+    let wrong = wrong_switching(near, tasks.as_slice());
+    first_of(&[
+        unknown_caller(near, by),
+        not_operator(near, by),
+        too_many_clearances(near),
+        wrong,
+    ])
+}
+
+pub(crate) fn effect(near: &Near, by: Name, at: Moment, tasks: &Tasks) -> Result<Effect, AllocError>
+    requires { first_refusal (checks near.now.known near.now.rows by at (kinds.Switch tasks.now)) ≡ None }
+    ensures edits { IfOk result (λ effect. edits_of near.now.known.greatest near.now.rows by at (kinds.Switch tasks.now) ≡ edits_in effect) }
+    ensures of { IfOk result (IsOf (record { requester = by; number = near.now.known.greatest + 1 })) }
+{
+    let clearance = new_record(near, by, at, None, Phase::Switching);
+    let lead = Vec::new(near.alloc);
+    let steps = new_steps(near.alloc, clearance.id, 1, tasks)?;
+    Ok(Effect {
+        lead,
+        clearance,
+        steps,
+    })
+}

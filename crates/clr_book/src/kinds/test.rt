@@ -1,0 +1,82 @@
+//! The holder tells that a section was tested, and is dead or is not: 29 CFR 1910.269(m)(3)(vi).
+ghost use Rattle.std.specs.Prelude.{◌≡◌, IfOk, None};
+ghost use Rattle.clr_rules.specs.Answer.{first_refusal};
+ghost use Rattle.clr_rules.specs.Commands.{checks, edits_of};
+ghost use Rattle.clr_rules.specs.declared.command.Kind.TheVariants as kinds;
+ghost use Rattle.clr_book.specs.Effect.{IsOf, edits_in};
+ghost use Rattle.std.specs.Prelude.{if◌then◌else◌};
+ghost use Rattle.clr_rules.specs.Holds.{hold_of};
+ghost use Rattle.clr_rules.specs.declared.change.Edit.TheVariants.{PutHold, TakeHold};
+ghost use Rattle.clr_rules.specs.declared.hold_kind.HoldKind.TheVariants.{Tested};
+
+use crate::checks::callers::{not_charge, unknown_caller};
+use crate::checks::clearances::{earlier, not_granted, not_holder, record, unknown_clearance};
+use crate::checks::first_of;
+use crate::checks::work::outside_fence;
+use crate::effect::Effect;
+use crate::near::Near;
+use clr_net::Name;
+use clr_rules::{ClearanceId, Edit, Hold, HoldKind, Moment, Record, Refusal};
+use std::alloc::AllocError;
+
+pub(crate) fn refusal_of(
+    near: &Near,
+    by: Name,
+    at: Moment,
+    id: ClearanceId,
+    section: Name,
+    dead: bool,
+) -> Option<Refusal>
+    ensures { result ≡ first_refusal (checks near.now.known near.now.rows by at (kinds.Test id section dead)) }
+{
+    first_of(&[
+        unknown_caller(near, by),
+        not_charge(near, by),
+        unknown_clearance(near, id),
+        not_holder(near, id, by),
+        earlier(near, id, at),
+        not_granted(near, id),
+        outside_fence(near, section),
+    ])
+}
+
+/// A dead section's test is put down, another's is taken.
+fn tested(id: ClearanceId, section: Name, dead: bool) -> Edit
+    ensures { result ≡ (if dead then PutHold (hold_of id Tested section) else TakeHold (hold_of id Tested section)) }
+{
+    let hold = Hold {
+        kind: HoldKind::Tested,
+        place: section,
+        id,
+    };
+    if dead {
+        Edit::PutHold(hold)
+    } else {
+        Edit::TakeHold(hold)
+    }
+}
+
+pub(crate) fn effect(
+    near: &Near,
+    by: Name,
+    at: Moment,
+    id: ClearanceId,
+    section: Name,
+    dead: bool,
+) -> Result<Effect, AllocError>
+    requires { first_refusal (checks near.now.known near.now.rows by at (kinds.Test id section dead)) ≡ None }
+    ensures edits { IfOk result (λ effect. edits_of near.now.known.greatest near.now.rows by at (kinds.Test id section dead) ≡ edits_in effect) }
+    ensures of { IfOk result (IsOf id) }
+{
+    let Some(found) = record(near, id) else {
+        unreachable!()
+    };
+    let clearance = Record { last: at, ..*found };
+    let steps = Vec::new(near.alloc);
+    let lead = vec![in near.alloc; tested(id, section, dead)]?;
+    Ok(Effect {
+        lead,
+        clearance,
+        steps,
+    })
+}
