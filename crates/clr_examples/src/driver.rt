@@ -1,7 +1,4 @@
 //! What drives a book over lists in the examples: commands with their moments, and the cards that they are answered.
-ghost use Rattle.std.specs.Prelude.{◌≡◌, true};
-ghost use Rattle.clr_book.specs.Decided.{is_written};
-
 use crate::books::{ListBook, opening_book};
 use crate::worked::names;
 use clr_book::{Card, ClearanceId, Command, Kind, Moment, Names, Phase, Reply, Tasks, Text};
@@ -29,9 +26,7 @@ pub(crate) const ISOLATE_L3: [&str; 9] = [
 ];
 
 /// What a command is answered. Its change is made.
-pub(crate) fn say(book: &mut ListBook, by: &str, at: u64, kind: Kind) -> Result<Reply, Fail>
-    requires { is_written kind ≡ true }
-{
+pub(crate) fn say(book: &mut ListBook, by: &str, at: u64, kind: Kind) -> Result<Reply, Fail> {
     let command = Command {
         caller: Name::read(by)?,
         moment: Moment::new(at).ok_or("a moment")?,
