@@ -1,23 +1,21 @@
 -- The record and the steps after edits that end with them.
-use Rattle.std.proofs.Common.{◌≡◌, ℕ, Bool, true, false, Option, None, List, [], ◌∷◌, ◌++◌, Some, refl, sym, ◌∙◌, ap}
+use Rattle.std.proofs.Common.{◌≡◌, List, [], ◌∷◌, ◌++◌, Some, refl, sym, ◌∙◌, ap}
 use Rattle.clr_shelf.specs.Reading.{row_of-with_row}
 use Rattle.clr_shelf.specs.Rows.{with_row}
-use Rattle.clr_order.specs.declared.action.Action.{Action}
-use Rattle.clr_order.specs.declared.action.Action.TheVariants as actions
 use Rattle.clr_rules.specs.Answer.{Answer, card_of}
-use Rattle.clr_rules.specs.Changes.{hold_edits, position_edits, put_steps}
+use Rattle.clr_rules.specs.Changes.{put_steps}
 use Rattle.clr_rules.specs.Edits.{edited, edited_all}
-use Rattle.clr_rules.specs.Id.{Id, id_cmp, id_cmp_total}
-use Rattle.clr_rules.specs.Records.{is_switch_order, record_key, record_of}
+use Rattle.clr_rules.specs.Id.{id_cmp, id_cmp_total}
+use Rattle.clr_rules.specs.Records.{record_key, record_of}
 use Rattle.clr_rules.specs.Register.{Register}
 use Rattle.clr_rules.specs.declared.change.Edit.{Edit}
-use Rattle.clr_rules.specs.declared.change.Edit.TheVariants.{PutRecord, PutStep, SetHand}
+use Rattle.clr_rules.specs.declared.change.Edit.TheVariants.{PutRecord, PutStep}
 use Rattle.clr_rules.specs.declared.record.Record.{Record}
 use Rattle.clr_rules.specs.declared.reply.Card.{Card}
 use Rattle.clr_rules.specs.declared.reply.Reply.{Reply}
 use Rattle.clr_rules.specs.declared.reply.Reply.TheVariants.{Accepted}
 use Rattle.clr_rules.specs.declared.step_row.StepRow.{StepRow}
-use Rattle.clr_book.specs.Decision.{accepted_with, done_lead, ended}
+use Rattle.clr_book.specs.Decision.{accepted_with, ended}
 use Rattle.clr_book.specs.Card.{progress_of, put_all}
 use Rattle.clr_book.specs.declared.card.Progress.{Progress}
 

@@ -1,5 +1,5 @@
 -- What a command is answered: its refusal, what it asks for, or the card after its edits.
-use Rattle.std.proofs.Common.{◌≡◌, ℕ, ◌+◌, Bool, true, false, ◌&&◌, List, [], ◌∷◌, ◌++◌, Some, None, Option, refl, sym, ◌∙◌, ap}
+use Rattle.std.proofs.Common.{◌≡◌, true, false, List, [], ◌∷◌, Some, None, Option, refl, sym, ◌∙◌, ap}
 use Rattle.std.proofs.lemmas.Bool.{and_parts}
 use Rattle.std.specs.List.{list_all}
 use Rattle.clr_rules.specs.Answer.{Answer, answer_with, card_of, concerned, first_refusal, settled, told, told_after}
@@ -18,7 +18,7 @@ use Rattle.clr_rules.specs.declared.command.Kind.TheVariants.{Request, Order, In
 use Rattle.clr_rules.specs.declared.record.Record.{Record}
 use Rattle.clr_rules.specs.declared.refusal.Refusal.{Refusal}
 use Rattle.clr_rules.specs.declared.reply.Reply.{Reply}
-use Rattle.clr_rules.specs.declared.reply.Reply.TheVariants.{Accepted, Refused}
+use Rattle.clr_rules.specs.declared.reply.Reply.TheVariants.{Accepted}
 use Rattle.clr_rules.specs.declared.step_row.StepRow.{StepRow}
 use Rattle.clr_book.specs.Decision.{accepted_with, ended, is_question}
 use Rattle.clr_book.specs.Effect.{leaves_rows}

@@ -1,9 +1,8 @@
 -- What is decided, as an answer.
-use Rattle.std.specs.Prelude.{ℕ, Bool, true, false, List, [], ◌∷◌, ◌++◌, Option, None, Some}
+use Rattle.std.specs.Prelude.{Bool, true, false, List, [], ◌∷◌, ◌++◌, Option, None, Some}
 use Rattle.clr_rules.specs.Answer.{Answer, card_of}
-use Rattle.clr_rules.specs.Changes.{hold_edits, moved, phase_after, position_edits, put_steps}
+use Rattle.clr_rules.specs.Changes.{hold_edits, position_edits, put_steps}
 use Rattle.clr_rules.specs.Records.{is_switch_order}
-use Rattle.clr_order.specs.declared.step.StepState.TheVariants.{Done}
 use Rattle.clr_rules.specs.Edits.{edited_all}
 use Rattle.clr_rules.specs.Register.{Register}
 use Rattle.clr_rules.specs.declared.change.Edit.{Edit}

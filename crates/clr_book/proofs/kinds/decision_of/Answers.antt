@@ -1,6 +1,4 @@
-use Rattle.std.proofs.Common.{◌≡◌, ◌∙◌, false, None, rules, sym}
-use Rattle.clr_rules.specs.Answer.{first_refusal}
-use Rattle.clr_rules.specs.Commands.{checks}
+use Rattle.std.proofs.Common.{◌≡◌, ◌∙◌, false, rules, sym}
 use Rattle.clr_rules.specs.declared.reply.Reply.TheVariants.{Shown}
 use Rattle.clr_book.specs.Decision.{is_question}
 use Rattle.clr_book.proofs.DecisionFacts.{accepted, asked}

@@ -1,4 +1,4 @@
-use Rattle.std.proofs.Common.{◌≡◌, ◌∙◌, ◌++◌, ℕ, [], ◌∷◌, List, Vec, Global, ap, arith, length, sym}
+use Rattle.std.proofs.Common.{◌≡◌, ◌∙◌, ◌++◌, ℕ, [], ◌∷◌, List, Vec, Global, ap, arith, sym}
 use Rattle.clr_net.specs.Names.{has_name}
 use Rattle.clr_net.specs.declared.name.Name.{Name}
 use Rattle.clr_rules.specs.Holds.{once}
