@@ -4,3 +4,4 @@ pub mod Tables
 pub mod TableEdits
 pub mod RowsRead
 pub mod TableLaws
+pub mod TypedRows

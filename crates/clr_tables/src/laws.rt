@@ -1,7 +1,18 @@
 //! Laws of the definitions: the contract of each function is the law, and its body is empty.
-ghost use Rattle.clr_tables.specs.TableLaws.{TablesFollowEdits};
+ghost use Rattle.clr_tables.specs.TableLaws.{SameTablesSameRegister, TablesAreRead, TablesFollowEdits, TablesReadAsNoOthers};
+
+/// Good registers that have the same tables are the same.
+pub fn same_tables_same_register()
+    ensures { SameTablesSameRegister }
+{}
 
 /// The tables of the edited register are the edited tables.
 pub fn tables_follow_edits()
     ensures { TablesFollowEdits }
+{}
+
+/// The tables of a register read as its rows, where each value is of its type, and as no others.
+pub fn tables_are_read()
+    ensures rows { TablesAreRead }
+    ensures no_others { TablesReadAsNoOthers }
 {}
