@@ -22,6 +22,7 @@ use Rattle.clr_rules.specs.declared.reply.Reply.TheVariants.{Accepted}
 use Rattle.clr_rules.specs.declared.step_row.StepRow.{StepRow}
 use Rattle.clr_book.specs.Decision.{accepted_with, ended, is_question}
 use Rattle.clr_book.specs.Effect.{leaves_rows}
+use Rattle.clr_book.proofs.BookEdits.{edits_end}
 use Rattle.clr_book.proofs.CardFacts.{answer_of, record_after}
 
 -- the answer that a first refusal gives, or none
@@ -63,10 +64,6 @@ accepted k R q lead r rows passes changes made own =
     ap (settled k R q) passes ∙ ap told_with made
     ∙ ap (λ reply. answer_of reply (ended lead r rows)) (ap (told k S q.kind) found ∙ tells_card k S q.kind r changes)
 
-no_edits : (R : Register) → edited_all [] R ≡ R
-unfolding edited_all
-no_edits R = refl
-
 -- one that asks is told of the register as it is
 pub asked : (k : Known) (R : Register) (q : Command) (c : Id) (reply : Reply) → q.kind ≡ Show c → first_refusal (checks k R q.caller q.moment q.kind) ≡ None
     → told k R (Show c) (record_of R.records c) ≡ reply
@@ -75,7 +72,7 @@ asked k R q c reply is passes tells =
     let told_now : Register → Kind → Answer = λ S kind. answer_of (told_after k S q.caller kind) (edits_of k.greatest R q.caller q.moment kind) in
     ap (settled k R q) passes
     ∙ ap (λ kind. answer_of (told_after k (edited_all (edits_of k.greatest R q.caller q.moment kind) R) q.caller kind) (edits_of k.greatest R q.caller q.moment kind)) is
-    ∙ ap (λ S. answer_of (told_after k S q.caller (Show c)) []) (no_edits R)
+    ∙ ap (λ S. answer_of (told_after k S q.caller (Show c)) []) (edits_end R)
     ∙ ap (λ reply. answer_of reply []) tells
 
 -- edits of points and holds leave all steps as they are

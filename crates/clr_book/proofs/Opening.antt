@@ -1,4 +1,4 @@
--- The states of points that stand in the order of their names are in key order.
+-- The states of points that stand in the order of their names are in key order; an opening register is reached.
 use Rattle.std.proofs.Common.{◌≡◌, ℕ, true, List, [], ◌∷◌, map, refl, All}
 use Rattle.std.specs.List.{list_all}
 use Rattle.std.specs.List.Sorted.{IsStrictlySortedBy}
@@ -7,12 +7,15 @@ use Rattle.std.specs.declared.cmp.Ordering.TheVariants.{Less}
 use Rattle.std.proofs.lemmas.List.Elements.{All-head, All-tail}
 use Rattle.std.proofs.lemmas.Map.Keys.{sorted_tail}
 use Rattle.std.proofs.lemmas.Map.Views.{All-after_first}
-use Rattle.clr_net.specs.Grid.{point_names}
+use Rattle.clr_csv.specs.Staff.{IsStaff}
+use Rattle.clr_csv.specs.declared.employee.StaffRow.{StaffRow}
+use Rattle.clr_net.specs.Grid.{Grid, IsNetwork, point_names}
 use Rattle.clr_net.specs.Name.{name_cmp}
 use Rattle.clr_net.specs.declared.point.PointRow.{PointRow}
 use Rattle.clr_shelf.specs.Rows.{in_key_order}
-use Rattle.clr_rules.specs.Register.{first_state}
+use Rattle.clr_rules.specs.Register.{Register, first_state, opening}
 use Rattle.clr_rules.specs.States.{state_key}
+use Rattle.clr_rules.specs.Run.{IsReached, after_all}
 
 above_all : (name : List ℕ) (points : List PointRow) → All (λ other. name_cmp name other ≡ Less) (point_names points)
     → list_all (λ next. is_lt (name_cmp name (state_key next))) (map first_state points) ≡ true
@@ -25,3 +28,8 @@ pub states_in_order : (points : List PointRow) → IsStrictlySortedBy name_cmp (
 states_in_order [] rising = refl
 states_in_order (point ∷ points) rising =
     rw (above_all point.name points (All-after_first name_cmp point.name (point_names points) rising)) (states_in_order points (sorted_tail name_cmp point.name (point_names points) rising))
+
+-- an opening register is reached before the first command
+pub reached_at_once : (R : Register) (g : Grid) (staff : List StaffRow) → IsNetwork g → IsStaff staff → R ≡ opening g staff → IsReached R
+unfolding after_all
+reached_at_once R g staff net known is = record { net = g; staff = staff; commands = []; is_network = net; is_staff = known; reached = is }

@@ -1,5 +1,5 @@
 -- What is decided, as an answer.
-use Rattle.std.specs.Prelude.{Bool, true, false, List, [], ◌∷◌, ◌++◌, Option, None, Some}
+use Rattle.std.specs.Prelude.{◌≡◌, Bool, true, false, List, [], ◌∷◌, ◌++◌, Option, None, Some}
 use Rattle.clr_rules.specs.Answer.{Answer, card_of}
 use Rattle.clr_rules.specs.Changes.{hold_edits, position_edits, put_steps}
 use Rattle.clr_rules.specs.Records.{is_switch_order}
@@ -10,6 +10,7 @@ use Rattle.clr_rules.specs.declared.change.Edit.TheVariants.{PutRecord, SetHand}
 use Rattle.clr_rules.specs.declared.command.Kind.{Kind}
 use Rattle.clr_rules.specs.declared.command.Kind.TheVariants.{Show}
 use Rattle.clr_rules.specs.declared.record.Record.{Record}
+use Rattle.clr_rules.specs.declared.reply.Reply.{Reply}
 use Rattle.clr_rules.specs.declared.reply.Reply.TheVariants.{Accepted}
 use Rattle.clr_rules.specs.declared.step_row.StepRow.{StepRow}
 use Rattle.clr_book.specs.declared.decision.Decision.{Decision}
@@ -34,6 +35,14 @@ one_edit (Some edit) = edit ∷ []
 abbrev pub done_lead : Record → StepRow → List Edit
 done_lead r row =
     position_edits row.step.action row.step.point ++ SetHand row.step.point None ∷ hold_edits (is_switch_order r) r.id row.step.action row.step.point
+
+abbrev pub is_accepted : Reply → Bool
+is_accepted (Accepted card) = true
+is_accepted _ = false
+
+-- a command that is refused, or is shown what it asks for, changes nothing
+abbrev pub ChangesIfAccepted : Decision → Type 0
+ChangesIfAccepted d = is_accepted d.reply ≡ false → d.change.edits ≡ []
 
 -- whether a command only asks
 abbrev pub is_question : Kind → Bool

@@ -1,14 +1,15 @@
 //! The book's answer to a command.
-ghost use Rattle.std.specs.Prelude.{◌≡◌, IfOk};
-ghost use Rattle.clr_rules.specs.Answer.{answer, answer_with};
+ghost use Rattle.std.specs.Prelude.{◌≡◌, false, IfOk, OnErr};
+ghost use Rattle.clr_rules.specs.Answer.{Answer, answer, answer_with};
 ghost use Rattle.clr_rules.specs.Good.{IsGood};
 ghost use Rattle.clr_rules.specs.Near.{Near, near_of};
-ghost use Rattle.clr_book.specs.Decision.{answered};
+ghost use Rattle.clr_rules.specs.Run.{after};
+ghost use Rattle.clr_book.specs.Decision.{ChangesIfAccepted, answered, is_accepted};
 
 use crate::book::Book;
 use crate::decision::Decision;
 use crate::kinds::decide;
-use clr_rules::{Command, Hold, PointState, Record, StepRow};
+use clr_rules::{Command, Hold, PointState, Record, Reply, StepRow};
 use clr_shelf::Shelf;
 use std::alloc::AllocError;
 
@@ -16,11 +17,34 @@ impl<P: Shelf<PointState>, C: Shelf<Record>, T: Shelf<StepRow>, H: Shelf<Hold>> 
     /// What the book answers to a command, and what the command would change; the book of every register that is reached is good.
     /// The book stays as it is: room for the change is made by `reserve`, and the change by `apply`.
     pub fn answer(&self, command: &Command) -> Result<Decision, AllocError>
-        ensures lent { IfOk result (λ d. answer_with (Near.known (near_of self.now.register command.now)) (Near.rows (near_of self.now.register command.now)) command.now ≡ answered d) }
-        ensures whole { IsGood self.now.register → IfOk result (λ d. answer self.now.register command.now ≡ answered d) }
+        ensures lent { IfOk result (λ d.
+            answer_with (Near.known (near_of self.now.register command.now)) (Near.rows (near_of self.now.register command.now)) command.now
+            ≡ answered d) }
+        ensures whole { IsGood self.now.register
+            → IfOk result (λ d. answer self.now.register command.now ≡ answered d) }
+        ensures nothing { IfOk result ChangesIfAccepted }
     {
         let near = self.near(command)?;
         let decision = decide(&near, command)?;
         Ok(decision)
+    }
+
+    /// Answers a command and makes its change, as one does who keeps no tables of the book.
+    ///
+    /// Where memory is refused the book stays as it is.
+    pub fn answer_and_apply(&mut self, command: &Command) -> Result<Reply, AllocError>
+        ensures good { IsGood self.old.register → IsGood self.new.register }
+        ensures whole { IsGood self.old.register → IfOk result (λ reply.
+            (Answer.reply (answer self.old.register command.now) ≡ reply)
+            × (after self.old.register command.now ≡ self.new.register)) }
+        ensures nothing { IfOk result (λ reply.
+            is_accepted reply ≡ false → self.new.register ≡ self.old.register) }
+        ensures refused { OnErr result (self.new.register ≡ self.old.register) }
+        ensures network { self.new.network ≡ self.old.network }
+    {
+        let decision = self.answer(command)?;
+        self.reserve(&decision.change)?;
+        self.apply(decision.change);
+        Ok(decision.reply)
     }
 }

@@ -4,6 +4,7 @@ ghost use Rattle.clr_rules.specs.Edits.{edited, edited_all};
 ghost use Rattle.clr_rules.specs.Good.{ListsAreInOrder};
 ghost use Rattle.clr_rules.specs.Records.{record_of};
 ghost use Rattle.clr_rules.specs.Register.{Register, opening, unplaced_net};
+ghost use Rattle.clr_rules.specs.Run.{IsReached};
 ghost use Rattle.clr_rules.specs.States.{state_of};
 ghost use Rattle.clr_rules.specs.Steps.{steps_of};
 ghost use Rattle.clr_book.specs.Book.{Fits, Room, Shelved, need_of, needs};
@@ -59,7 +60,10 @@ impl<P: Shelf<PointState>, C: Shelf<Record>, T: Shelf<StepRow>, H: Shelf<Hold>> 
     pub fn opening(alloc: Global, network: Network, staff: Staff) -> Result<Self, AllocError>
         ensures register { IfOk result (λ book. book.register ≡ opening network staff) }
         ensures network { IfOk result (λ book. book.network ≡ network) }
+        ensures reached { IfOk result (λ book. IsReached book.register) }
     {
+        network.is_network();
+        staff.is_staff();
         let states = opening_states(alloc, network.points())?;
         Ok(Book {
             alloc,

@@ -1,7 +1,7 @@
 //! What is decided: a reply, and what changes.
 ghost use Rattle.std.specs.Prelude.{◌≡◌, [], IfOk};
 ghost use Rattle.clr_rules.specs.declared.reply.Reply.TheVariants as replies;
-ghost use Rattle.clr_book.specs.Decision.{accepted_with, answered, ended};
+ghost use Rattle.clr_book.specs.Decision.{ChangesIfAccepted, accepted_with, answered, ended};
 ghost use Rattle.clr_book.specs.Effect.{IsOf};
 
 use crate::card::{card_with, progress_with};
@@ -19,7 +19,8 @@ pub struct Decision {
 
 /// The decision to refuse, which changes nothing.
 pub(crate) fn refused(alloc: Global, refusal: Refusal) -> Decision
-    ensures { answered result ≡ record { reply = replies.Refused refusal; edits = [] } }
+    ensures answer { answered result ≡ record { reply = replies.Refused refusal; edits = [] } }
+    ensures nothing { ChangesIfAccepted result }
 {
     Decision {
         reply: Reply::Refused(refusal),
@@ -31,7 +32,8 @@ pub(crate) fn refused(alloc: Global, refusal: Refusal) -> Decision
 
 /// The decision to show a clearance, which changes nothing.
 pub(crate) fn shown(alloc: Global, view: View) -> Decision
-    ensures { answered result ≡ record { reply = replies.Shown view; edits = [] } }
+    ensures answer { answered result ≡ record { reply = replies.Shown view; edits = [] } }
+    ensures nothing { ChangesIfAccepted result }
 {
     Decision {
         reply: Reply::Shown(view),
@@ -56,7 +58,9 @@ fn end(edits: Vec<Edit>, clearance: Record, steps: &[StepRow]) -> Result<Vec<Edi
 /// The decision to carry a command out. The reply is the card of its record, as it is then.
 pub(crate) fn accept(near: &Near, effect: Effect) -> Result<Decision, AllocError>
     requires { IsOf effect.clearance.id effect }
-    ensures { IfOk result (λ d. answered d ≡ accepted_with near.now.rows effect.lead.items effect.clearance effect.steps.items) }
+    ensures answer { IfOk result (λ d. answered d
+        ≡ accepted_with near.now.rows effect.lead.items effect.clearance effect.steps.items) }
+    ensures something { IfOk result ChangesIfAccepted }
 {
     let progress = progress_with(near, &effect.steps, effect.clearance.id);
     let card = card_with(&effect.clearance, progress);

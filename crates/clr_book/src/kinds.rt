@@ -6,7 +6,7 @@ ghost use Rattle.clr_rules.specs.Command.{named_clearance};
 ghost use Rattle.clr_rules.specs.Good.{IsGood};
 ghost use Rattle.clr_rules.specs.Near.{near_of};
 ghost use Rattle.clr_rules.specs.Register.{Register};
-ghost use Rattle.clr_book.specs.Decision.{answered, is_question};
+ghost use Rattle.clr_book.specs.Decision.{ChangesIfAccepted, answered, is_question};
 ghost use Rattle.clr_book.specs.Effect.{IsOf, edits_in};
 
 mod amend;
@@ -39,8 +39,11 @@ use std::alloc::AllocError;
 
 /// What a command is answered, and what it changes. Of a good register the near part is enough.
 pub fn decide(near: &Near, command: &Command) -> Result<Decision, AllocError>
-    ensures lent { IfOk result (λ d. answer_with near.now.known near.now.rows command.now ≡ answered d) }
-    ensures whole { (R : Register) → IsGood R → near_of R command.now ≡ near.now → IfOk result (λ d. answer R command.now ≡ answered d) }
+    ensures lent { IfOk result (λ d.
+        answer_with near.now.known near.now.rows command.now ≡ answered d) }
+    ensures whole { (R : Register) → IsGood R → near_of R command.now ≡ near.now
+        → IfOk result (λ d. answer R command.now ≡ answered d) }
+    ensures nothing { IfOk result ChangesIfAccepted }
 {
     let decision = decision_of(near, command)?;
     Ok(decision)
@@ -48,7 +51,9 @@ pub fn decide(near: &Near, command: &Command) -> Result<Decision, AllocError>
 
 /// The checks refuse a command, or it is shown what it asks for, or it is carried out.
 fn decision_of(near: &Near, command: &Command) -> Result<Decision, AllocError>
-    ensures { IfOk result (λ d. answer_with near.now.known near.now.rows command.now ≡ answered d) }
+    ensures answer { IfOk result (λ d.
+        answer_with near.now.known near.now.rows command.now ≡ answered d) }
+    ensures nothing { IfOk result ChangesIfAccepted }
 {
     if let Some(refusal) = refusal_of(near, command)? {
         return Ok(refused(near.alloc, refusal));

@@ -6,8 +6,8 @@ use Rattle.clr_book.proofs.CardFacts.{card_is}
 use Rattle.clr_book.proofs.DecisionFacts.{steps_stay}
 use Rattle.clr_book.proofs.decision.accept.Goals as goal
 
-pub returns : goal.returns
-returns c =
+pub returns-clause-answer : goal.returns-clause-answer
+returns-clause-answer c =
     let R = c.args.near.now.rows in
     let e = c.args.effect in
     let r = e.clearance in

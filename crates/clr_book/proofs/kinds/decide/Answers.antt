@@ -6,4 +6,4 @@ use Rattle.clr_book.proofs.kinds.decide.Goals as goal
 
 pub returns-clause-whole : goal.returns-clause-whole
 returns-clause-whole c R good lent =
-    near_is_enough R c.args.command.now good ∙ ap (λ (near : Near). answer_with near.known near.rows c.args.command.now) lent ∙ c.in_ok-decision.ensures
+    near_is_enough R c.args.command.now good ∙ ap (λ (near : Near). answer_with near.known near.rows c.args.command.now) lent ∙ c.in_ok-decision.ensures.answer

@@ -4,18 +4,18 @@ use Rattle.clr_book.specs.Decision.{is_question}
 use Rattle.clr_book.proofs.DecisionFacts.{accepted, asked}
 use Rattle.clr_book.proofs.kinds.decision_of.Goals as goal
 
-pub returns-in-Show : goal.returns-in-Show
-returns-in-Show c =
+pub returns-in-Show-clause-answer : goal.returns-in-Show-clause-answer
+returns-in-Show-clause-answer c =
     asked c.args.near.now.known c.args.near.now.rows c.args.command.now c.in-Show.clearance (Shown c.in_ok-view.view) c.in-Show.is
     (sym c.in_ok-refusal.ensures ∙ c.in_default.is) c.in_ok-view.ensures
-    ∙ sym c.shown.ensures
+    ∙ sym c.shown.ensures.answer
 
-pub returns : goal.returns
-returns c =
+pub returns-clause-answer : goal.returns-clause-answer
+returns-clause-answer c =
     let k = c.args.near.now.known in
     let R = c.args.near.now.rows in
     let q = c.args.command.now in
     let e = c.in_ok-effect.effect in
     let changes : is_question q.kind ≡ false = search rules in
     accepted k R q e.lead.items e.clearance e.steps.items (sym c.in_ok-refusal.ensures ∙ c.in_default.is) changes c.in_ok-effect.ensures.edits c.in_ok-effect.ensures.of.own
-    ∙ sym c.in_ok-decision.ensures
+    ∙ sym c.in_ok-decision.ensures.answer
