@@ -5,3 +5,4 @@ pub mod RowsBack
 pub mod PointStates
 pub mod TablesRead
 pub mod SameTables
+pub mod TypedEdits
