@@ -6,5 +6,6 @@ pub mod near
 pub mod isolation
 pub mod live
 pub mod IdTexts
+pub mod TextInPlace
 pub mod ManyRequests
 pub mod ReachedExamples

@@ -4,17 +4,22 @@ ghost use Rattle.std.specs.Cmp.{partial_equiv_from_equiv, partial_order_from_agr
 ghost use Rattle.std.specs.List.{after_first, before_first, list_all};
 ghost use Rattle.std.specs.Ordering.{as_partial_cmp};
 ghost use Rattle.std.specs.Char.{is_ascii_digit};
+ghost use Rattle.std.specs.Fmt.{padded};
 ghost use Rattle.clr_rules.specs.Id.{Id, id_cmp, id_cmp_total, id_text, is_id, new_id, same_id, same_id_equiv, same_id_ties};
 ghost use Rattle.clr_rules.specs.IdText.{is_numeral, is_slash, read_id, read_number};
 
 use clr_net::Name;
 use std::cmp::Ordering;
 use std::fmt;
+use std::fmt::InlineText;
 use std::marker::Model;
 use thiserror::Error;
 
 /// The greatest number of a clearance.
 pub const MAX_CLEARANCE_NUMBER: u16 = 9999;
+
+/// The most bytes of a clearance as a text: a name of 24, a slash, and four digits.
+const MAX_ID_LEN: usize = 29;
 
 /// Why a text names no clearance.
 #[derive(Clone, Copy, Debug, PartialEq, Eq, Error)]
@@ -181,9 +186,13 @@ impl Ord for ClearanceId {
 impl fmt::Display for ClearanceId {
     ghost output = { λ id. Some (id_text id) };
 
+    ghost styled_output = { λ id spec. Some (padded spec (id_text id)) };
+
     fn fmt<W: fmt::Write>(&self, f: &mut fmt::Formatter<W>) -> fmt::Result {
         let (requester, number) = (self.requester, self.number);
-        write!(f, "{requester}/{number}")
+        let mut text = InlineText::<MAX_ID_LEN>::new();
+        fmt::Write::write_fmt(&mut text, format_args!("{requester}/{number}"))?;
+        f.pad(text.as_str())
     }
 }
 

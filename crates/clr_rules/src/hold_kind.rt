@@ -1,4 +1,5 @@
 ghost use Rattle.std.specs.Prelude.{◌≡◌, Some};
+ghost use Rattle.std.specs.Fmt.{padded};
 ghost use Rattle.clr_rules.specs.HoldKind.{hold_kind_named, hold_kind_text, is_crew, is_point_kind, is_section_kind, kind_cmp, kind_place, kind_text_cmp};
 
 use std::cmp::Ordering;
@@ -126,6 +127,8 @@ impl HoldKind {
 
 impl fmt::Display for HoldKind {
     ghost output = { λ kind. Some (hold_kind_text kind) };
+
+    ghost styled_output = { λ kind spec. Some (padded spec (hold_kind_text kind)) };
 
     fn fmt<W: fmt::Write>(&self, f: &mut fmt::Formatter<W>) -> fmt::Result {
         f.pad(self.text())

@@ -1,4 +1,5 @@
 ghost use Rattle.std.specs.Prelude.{◌≡◌, Some};
+ghost use Rattle.std.specs.Fmt.{padded};
 ghost use Rattle.clr_rules.specs.Phase.{phase_named, phase_text};
 ghost use Rattle.clr_rules.specs.Records.{ends_with_steps, is_cancellable, is_fenced, is_granted, is_ordered, is_released, is_requested, is_restoring, is_running, is_transferable};
 
@@ -132,6 +133,8 @@ impl Phase {
 
 impl fmt::Display for Phase {
     ghost output = { λ phase. Some (phase_text phase) };
+
+    ghost styled_output = { λ phase spec. Some (padded spec (phase_text phase)) };
 
     fn fmt<W: fmt::Write>(&self, f: &mut fmt::Formatter<W>) -> fmt::Result {
         f.pad(self.text())
