@@ -1,5 +1,6 @@
 -- What the definitions of orders and of the texts of steps mean, as laws.
 use Rattle.std.specs.Prelude.{◌≡◌, ◌≢◌, ◌↔◌, ℕ, Bool, true, false, IsTrue, List, [], filter, All, Contains, None, Some, Ok}
+use Rattle.std.specs.List.{list_any}
 use Rattle.std.specs.List.Sorted.{IsStrictlySortedBy}
 use Rattle.std.specs.declared.cmp.Ordering.TheVariants.{Greater}
 use Rattle.clr_net.specs.Fence.{FenceRows, fence_of}
@@ -9,6 +10,7 @@ use Rattle.clr_net.specs.Names.{has_name}
 use Rattle.clr_net.specs.Walk.{Walk}
 use Rattle.clr_net.specs.declared.point.PointRow.{PointRow}
 use Rattle.clr_net.specs.declared.section.SectionRow.{SectionRow}
+use Rattle.clr_order.specs.Action.{same_action}
 use Rattle.clr_order.specs.Isolating.{IsSoundOrder, isolating_fault, source_inside}
 use Rattle.clr_order.specs.Needed.{Undoes, needed, undoes}
 use Rattle.clr_order.specs.Restoring.{IsRestoring, restoring_fault}
@@ -16,6 +18,7 @@ use Rattle.clr_order.specs.Step.{Task, actions_at, same_actions, task}
 use Rattle.clr_order.specs.Switching.{IsSwitching, switching_fault}
 use Rattle.clr_order.specs.Texts.{read_step_text, step_text, waiting_step}
 use Rattle.clr_order.specs.declared.action.Action.{Action}
+use Rattle.clr_order.specs.declared.action.Action.TheVariants.{Open, Block, Control, Tag}
 use Rattle.clr_order.specs.declared.held.Held.{Held}
 use Rattle.clr_order.specs.declared.step.Step.{Step}
 
@@ -46,6 +49,16 @@ abbrev pub SoundOrdersIsolate : Type 0
 SoundOrdersIsolate = (g : Grid) → IsNetwork g → (work : List ℕ) (points : List (List ℕ)) (tasks : List Task)
     → IsTrue (has_name (section_names g.sections) work) → IsSoundOrder g work points tasks
     → (source : SectionRow) → Contains g.sections source → source.source ≡ true → Walk g.points (safe_points g tasks) work source.name → ⊥
+
+-- whether an action is among those that a point needs
+abbrev pub needs : PointRow → Action → Bool
+needs point action = list_any (same_action action) (needed point)
+
+-- each point is opened and tagged, made inoperable where its design permits that, and tagged at its control where it is
+-- controlled from afar
+abbrev pub EachPointIsMadeSafe : Type 0
+EachPointIsMadeSafe = (point : PointRow) → (needs point Open ≡ true) × (needs point Tag ≡ true)
+    × (needs point Block ≡ point.lockable) × (needs point Control ≡ point.remote)
 
 -- the source that is named has the least name of the sources inside the fence
 abbrev pub LeastSourceIsNamed : Type 0

@@ -1,5 +1,5 @@
 //! Laws of the definitions: the contract of each function is the law, and its body is empty.
-ghost use Rattle.clr_order.specs.Laws.{LeastSourceIsNamed, NothingIsUndone, OnlyStepTextsAreRead, RestoringOrdersAreAccepted, SoundOrdersAreAccepted, SoundOrdersIsolate, StepTextsAreRead, SwitchingOrdersAreAccepted, UndoingIsTested};
+ghost use Rattle.clr_order.specs.Laws.{EachPointIsMadeSafe, LeastSourceIsNamed, NothingIsUndone, OnlyStepTextsAreRead, RestoringOrdersAreAccepted, SoundOrdersAreAccepted, SoundOrdersIsolate, StepTextsAreRead, SwitchingOrdersAreAccepted, UndoingIsTested};
 
 /// No refusal of an isolating order applies exactly where the order is sound, over the fence that the network has when it
 /// is cut at the points of the order.
@@ -11,6 +11,12 @@ pub fn sound_orders_are_accepted()
 /// their design permits it, and tags.
 pub fn sound_orders_isolate()
     ensures { SoundOrdersIsolate }
+{}
+
+/// Each point of an isolating order is opened and tagged, made inoperable where its design permits that, and tagged at its
+/// control where it is controlled from afar: 29 CFR 1910.269(m)(3)(ii), (iii).
+pub fn each_point_is_made_safe()
+    ensures { EachPointIsMadeSafe }
 {}
 
 /// Of the sources inside a fence the one with the least name is named.
