@@ -150,6 +150,10 @@ put_by rows kind p = list_any (λ row. (is_done row.step.state && puts row.step.
 abbrev pub left : List StepRow → List StepRow
 left rows = filter (λ row. not (is_done row.step.state)) rows
 
+-- what the second round has still to do at a point
+abbrev pub still_to_do : List StepRow → Id → List ℕ → List Action
+still_to_do steps c p = actions_at (tasks_of (left (steps_in steps c 2))) p
+
 -- HOLDS ARE WHAT THE DONE STEPS PUT: holds at points belong to Ordered, Granted, Released and Restoring records, and stand at points of
 -- their first round; in the first three phases they are exactly what the Done steps of that round put; in Restoring the steps that are left
 -- in the second round undo what is held at each held point, and stand at no other point
@@ -161,7 +165,7 @@ pub record HoldsAreWhatDoneStepsPut (R : Register) : Type 0 where
   pub as_put : (c : Id) (r : Record) → record_of R.records c ≡ Some r → is_standing r.phase ≡ true → is_restoring r.phase ≡ false
       → (kind : HoldKind) (p : List ℕ) → is_point_kind kind ≡ true → has_hold R.holds c kind p ≡ put_by (steps_in R.steps c 1) kind p
   pub undone : (c : Id) (r : Record) → record_of R.records c ≡ Some r → is_restoring r.phase ≡ true
-      → (p : List ℕ) → has_hold R.holds c HeldOpen p ≡ true → Undoes (held_at R.holds c p) (actions_at (tasks_of (left (steps_in R.steps c 2))) p)
+      → (p : List ℕ) → has_hold R.holds c HeldOpen p ≡ true → Undoes (held_at R.holds c p) (still_to_do R.steps c p)
   pub nowhere_else : (c : Id) (r : Record) → record_of R.records c ≡ Some r → is_restoring r.phase ≡ true
       → All (λ row. has_hold R.holds c HeldOpen row.step.point ≡ true) (left (steps_in R.steps c 2))
 

@@ -16,6 +16,7 @@ pub mod Fences
 pub mod Refusals
 pub mod Checks
 pub mod Edits
+pub mod Prelude
 pub mod Changes
 pub mod Commands
 pub mod Answer

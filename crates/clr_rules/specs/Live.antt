@@ -9,6 +9,7 @@ use Rattle.clr_net.specs.declared.section.SectionRow.{SectionRow}
 use Rattle.clr_rules.specs.States.{position_of}
 use Rattle.clr_rules.specs.declared.point_state.PointState.{PointState}
 
+-- a point without a state feeds nothing; in a good register each point of the network has one
 abbrev pub is_shut : Option Position → Bool
 is_shut None = false
 is_shut (Some Opened) = false

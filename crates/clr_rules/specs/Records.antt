@@ -43,7 +43,7 @@ is_running Granted = false
 is_running Released = false
 is_running Closed = false
 
--- phases in which a clearance has a fence
+-- phases in which the fence of a work section is looked for; a switch order is in the midst of its steps too, and has no work section
 abbrev pub is_fenced : Phase → Bool
 is_fenced Requested = false
 is_fenced Closed = false

@@ -32,6 +32,7 @@ is_hand c (Some d) = same_id c d
 abbrev pub has_in_hand : List PointState → Id → List ℕ → Bool
 has_in_hand states c p = is_hand c (hand_of states p)
 
+-- not reached without a state: each point of a step has one
 abbrev pub changed_state : Option PointState → (PointState → PointState) → List PointState → List PointState
 changed_state None change states = states
 changed_state (Some state) change states = with_row name_cmp state_key (change state) states

@@ -11,19 +11,12 @@ use Rattle.clr_shelf.specs.Groups.{filter-with_inside, filter-without_row}
 use Rattle.clr_shelf.specs.Rows.{in_key_order, with_row, without_row}
 use Rattle.clr_rules.specs.Agreement.{Agree, part_near}
 use Rattle.clr_rules.specs.AgreementLaws.{LeavesAlone, concerning, concerns, is_about, is_new_of}
-use Rattle.clr_rules.specs.Edits.{edited, edited_all}
+use Rattle.clr_rules.specs.Prelude.{Edit, SetPosition, SetHand, PutHold, TakeHold, PutRecord, PutStep, Hold, Record, Id, id_cmp, same_id, Register, greatest_number, record_key, hold_cmp, hold_cmp_total, hold_key, holds_of, edited}
+use Rattle.clr_rules.specs.Prelude.{edited_all}
 use Rattle.clr_rules.specs.Fences.{touches, touching_names}
 use Rattle.clr_rules.specs.Good.{ListsAreInOrder, has_record}
-use Rattle.clr_rules.specs.Hold.{hold_cmp, hold_cmp_total}
-use Rattle.clr_rules.specs.Holds.{hold_key, holds_of}
-use Rattle.clr_rules.specs.Id.{Id, id_cmp, same_id}
-use Rattle.clr_rules.specs.Records.{greater, greatest_number, record_key}
-use Rattle.clr_rules.specs.Register.{Register}
+use Rattle.clr_rules.specs.Records.{greater}
 use Rattle.clr_rules.specs.Shown.{is_mark, marks_of}
-use Rattle.clr_rules.specs.declared.change.Edit.{Edit}
-use Rattle.clr_rules.specs.declared.change.Edit.TheVariants.{SetPosition, SetHand, PutHold, TakeHold, PutRecord, PutStep}
-use Rattle.clr_rules.specs.declared.hold.Hold.{Hold}
-use Rattle.clr_rules.specs.declared.record.Record.{Record}
 use Rattle.clr_rules.proofs.edits.EditedLists.{edited-in_order}
 use Rattle.clr_rules.proofs.lists.Greatest.{greatest-put, greatest-put_over}
 use Rattle.clr_rules.proofs.lists.Filters.{filter-kept, filter-no_member, name_says, there_mapped}

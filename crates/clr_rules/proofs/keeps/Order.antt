@@ -17,21 +17,12 @@ use Rattle.clr_order.proofs.SoundOrders.{sound_from_no_fault}
 use Rattle.clr_order.proofs.Steps.{once_from}
 use Rattle.clr_rules.specs.Changes.{new_steps, put_steps}
 use Rattle.clr_rules.specs.Checks.{unsound_order}
-use Rattle.clr_rules.specs.Edits.{edited_all}
+use Rattle.clr_rules.specs.Prelude.{PutRecord, Phase, Requested, Ordered, Granted, Released, Restoring, Switching, Closed, Record, StepRow, Id, Register, record_of, is_active, points_of, steps_of, tasks_of, once, edited_all}
 use Rattle.clr_rules.specs.Fences.{found_order_fence, order_fence, rows_of_fence, work_fence}
 use Rattle.clr_rules.specs.Good.{put_by}
 use Rattle.clr_rules.specs.GoodByPhase.{InOrdered, InPhase, IsBare, IsGoodByPhase, Outlook, of_round, outlook_of}
-use Rattle.clr_rules.specs.Holds.{once}
-use Rattle.clr_rules.specs.Id.{Id}
-use Rattle.clr_rules.specs.Records.{is_requested, record_of}
-use Rattle.clr_rules.specs.Register.{Register}
-use Rattle.clr_rules.specs.Steps.{is_active, points_of, steps_of, tasks_of}
-use Rattle.clr_rules.specs.declared.change.Edit.TheVariants.{PutRecord}
+use Rattle.clr_rules.specs.Records.{is_requested}
 use Rattle.clr_rules.specs.declared.command.Kind.TheVariants.{Order}
-use Rattle.clr_rules.specs.declared.phase.Phase.{Phase}
-use Rattle.clr_rules.specs.declared.phase.Phase.TheVariants.{Requested, Ordered, Granted, Released, Restoring, Switching, Closed}
-use Rattle.clr_rules.specs.declared.record.Record.{Record}
-use Rattle.clr_rules.specs.declared.step_row.StepRow.{StepRow}
 use Rattle.clr_rules.proofs.good.Keeping.{KeepsGood, Changed, commands_keep, keeps}
 use Rattle.clr_rules.proofs.lists.HoldChanges.{same_tests}
 use Rattle.clr_rules.proofs.live.FenceCuts.{has_name-once, in_fence_alike, in_fence_from_named, named_from_in_fence}
