@@ -5,15 +5,11 @@ use Rattle.clr_shelf.specs.KeyOrder.{in_key_order-with_row}
 use Rattle.clr_shelf.specs.Rows.{in_key_order, with_row}
 use Rattle.clr_rules.specs.Answer.{answer}
 use Rattle.clr_rules.specs.Changes.{new_record}
-use Rattle.clr_rules.specs.Edits.{edited_all}
+use Rattle.clr_rules.specs.Prelude.{Requested, Record, id_cmp, id_cmp_total, Register, greatest_number, record_key, edited_all}
 use Rattle.clr_rules.specs.ExamplesOfRefusals.{NumbersEnd, jones_requests, times}
-use Rattle.clr_rules.specs.Id.{id_cmp, id_cmp_total}
-use Rattle.clr_rules.specs.Records.{greater, greatest_number, record_key}
-use Rattle.clr_rules.specs.Register.{Register}
+use Rattle.clr_rules.specs.Records.{greater}
 use Rattle.clr_rules.specs.Run.{after, after_all}
 use Rattle.clr_rules.specs.Worked.{JONES, L2, refused, worked_opening}
-use Rattle.clr_rules.specs.declared.phase.Phase.TheVariants.{Requested}
-use Rattle.clr_rules.specs.declared.record.Record.{Record}
 use Rattle.clr_rules.specs.declared.refusal.Refusal.TheVariants.{TooManyClearances}
 use Rattle.clr_rules.proofs.lists.Greatest.{greatest-put}
 

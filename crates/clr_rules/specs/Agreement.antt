@@ -2,11 +2,8 @@
 use Rattle.std.specs.Prelude.{◌≡◌, ℕ, Bool, List, Some}
 use Rattle.clr_net.specs.Names.{has_name}
 use Rattle.clr_rules.specs.Fences.{touching_names}
-use Rattle.clr_rules.specs.Holds.{holds_of}
-use Rattle.clr_rules.specs.Id.{Id}
+use Rattle.clr_rules.specs.Prelude.{Id, Register, greatest_number, holds_of}
 use Rattle.clr_rules.specs.Near.{part}
-use Rattle.clr_rules.specs.Records.{greatest_number}
-use Rattle.clr_rules.specs.Register.{Register}
 
 -- what stands near a clearance: the staff; the clearance's record and steps; the rows of the sections inside; the rows, positions and
 -- hands of all points with an end inside; all holds at these sections and points; the clearance's crews

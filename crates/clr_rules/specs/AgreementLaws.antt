@@ -4,16 +4,11 @@ use Rattle.clr_net.specs.Grid.{Grid}
 use Rattle.clr_net.specs.Name.{same_name}
 use Rattle.clr_net.specs.Names.{has_name}
 use Rattle.clr_rules.specs.Agreement.{Agree, part_near}
-use Rattle.clr_rules.specs.Edits.{edited, edited_all}
+use Rattle.clr_rules.specs.Prelude.{Edit, SetPosition, SetHand, PutHold, TakeHold, PutRecord, PutStep, Record, Id, same_id, Register, edited, edited_all}
 use Rattle.clr_rules.specs.Fences.{touching_names}
 use Rattle.clr_rules.specs.Good.{ListsAreInOrder, has_record}
 use Rattle.clr_rules.specs.Holds.{is_near_hold}
-use Rattle.clr_rules.specs.Id.{Id, same_id}
-use Rattle.clr_rules.specs.Register.{Register}
 use Rattle.clr_rules.specs.Shown.{is_mark, marks_of}
-use Rattle.clr_rules.specs.declared.change.Edit.{Edit}
-use Rattle.clr_rules.specs.declared.change.Edit.TheVariants.{SetPosition, SetHand, PutHold, TakeHold, PutRecord, PutStep}
-use Rattle.clr_rules.specs.declared.record.Record.{Record}
 
 -- agreement is reflexive, symmetric and transitive
 abbrev pub EachAgreesWithItself : Type 0

@@ -5,23 +5,12 @@ use Rattle.std.specs.List.{count_by}
 use Rattle.clr_net.specs.Names.{has_name}
 use Rattle.clr_rules.specs.Commands.{edits_of, Known, checks}
 use Rattle.clr_rules.specs.Command.{named_clearance}
-use Rattle.clr_rules.specs.Edits.{edited_all}
+use Rattle.clr_rules.specs.Prelude.{Edit, Command, Kind, Crew, Record, Refusal, Reply, Id, Register, greatest_number, record_of, is_done, present, present_round, places_of, edited_all}
 use Rattle.clr_rules.specs.Fences.{clearance_fence, order_fence, touching_names}
-use Rattle.clr_rules.specs.Holds.{is_near_hold, in_kind_order, places_of}
-use Rattle.clr_rules.specs.Id.{Id}
-use Rattle.clr_rules.specs.Records.{greatest_number, record_of}
-use Rattle.clr_rules.specs.Register.{Register}
-use Rattle.clr_rules.specs.Steps.{is_done, present, present_round}
-use Rattle.clr_rules.specs.declared.change.Edit.{Edit}
-use Rattle.clr_rules.specs.declared.command.Command.{Command}
-use Rattle.clr_rules.specs.declared.command.Kind.{Kind}
+use Rattle.clr_rules.specs.Holds.{is_near_hold, in_kind_order}
 use Rattle.clr_rules.specs.declared.command.Kind.TheVariants.{Order, Show}
-use Rattle.clr_rules.specs.declared.hold_kind.HoldKind.TheVariants.{Crew}
-use Rattle.clr_rules.specs.declared.record.Record.{Record}
-use Rattle.clr_rules.specs.declared.refusal.Refusal.{Refusal}
 use Rattle.clr_rules.specs.declared.refusal.Refusal.TheVariants.{UnknownClearance}
 use Rattle.clr_rules.specs.declared.reply.Card.{Card}
-use Rattle.clr_rules.specs.declared.reply.Reply.{Reply}
 use Rattle.clr_rules.specs.declared.reply.Reply.TheVariants.{Accepted, Shown, Refused}
 use Rattle.clr_rules.specs.declared.reply.View.{View}
 

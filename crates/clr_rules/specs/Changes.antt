@@ -8,19 +8,9 @@ use Rattle.clr_order.specs.declared.step.StepState.{StepState}
 use Rattle.clr_order.specs.declared.step.StepState.TheVariants.{Waiting, Done}
 use Rattle.clr_order.specs.declared.action.Action.TheVariants as actions
 use Rattle.clr_shelf.specs.Rows.{with_row}
-use Rattle.clr_rules.specs.Holds.{has_any_hold, hold_of}
-use Rattle.clr_rules.specs.Id.{Id}
-use Rattle.clr_rules.specs.Records.{ends_with_steps, is_ordered, is_switch_order, record_of}
-use Rattle.clr_rules.specs.Register.{Register}
-use Rattle.clr_rules.specs.StepKey.{step_key, step_key_cmp}
-use Rattle.clr_rules.specs.Steps.{all_done, present, step_at}
-use Rattle.clr_rules.specs.declared.change.Edit.{Edit}
-use Rattle.clr_rules.specs.declared.change.Edit.TheVariants.{SetPosition, SetHand, PutHold, TakeHold, PutRecord, PutStep}
-use Rattle.clr_rules.specs.declared.hold_kind.HoldKind.TheVariants.{HeldOpen, Block, Control, Tag}
-use Rattle.clr_rules.specs.declared.phase.Phase.{Phase}
-use Rattle.clr_rules.specs.declared.phase.Phase.TheVariants.{Released, Closed}
-use Rattle.clr_rules.specs.declared.record.Record.{Record}
-use Rattle.clr_rules.specs.declared.step_row.StepRow.{StepRow}
+use Rattle.clr_rules.specs.Prelude.{Edit, SetPosition, SetHand, PutHold, TakeHold, PutRecord, PutStep, HeldOpen, Block, Control, Tag, Phase, Released, Closed, Record, StepRow, Id, Register, record_of, is_ordered, step_key, step_key_cmp}
+use Rattle.clr_rules.specs.Prelude.{all_done, present, step_at, has_any_hold, hold_of}
+use Rattle.clr_rules.specs.Records.{ends_with_steps, is_switch_order}
 
 -- the steps of a round, numbered from n, each Waiting and without a reader
 unfoldable pub new_steps : Id → ℕ → ℕ → List Task → List StepRow

@@ -18,19 +18,11 @@ use Rattle.clr_order.specs.Switching.{switching_fault}
 use Rattle.clr_order.specs.Texts.{step_text}
 use Rattle.clr_order.specs.declared.step.StepState.{StepState}
 use Rattle.clr_rules.specs.Fences.{rows_of_fence}
-use Rattle.clr_rules.specs.Holds.{has_hold, has_some_hold, held_among, hindering_hold}
-use Rattle.clr_rules.specs.Id.{Id, same_id}
-use Rattle.clr_rules.specs.Records.{record_of}
+use Rattle.clr_rules.specs.Prelude.{Hold, Tested, Ground, Crew, Phase, Refusal, StepRow, Id, same_id, Register, hand_of, record_of, all_done, is_waiting, points_of, present, step_at, steps_in, steps_of, has_hold, has_some_hold}
+use Rattle.clr_rules.specs.Holds.{held_among, hindering_hold}
 use Rattle.clr_rules.specs.Refusals.{order_refusal}
-use Rattle.clr_rules.specs.Register.{Register}
-use Rattle.clr_rules.specs.States.{hand_of}
-use Rattle.clr_rules.specs.Steps.{all_done, is_close, is_in_turn, is_waiting, points_of, present, some_active, step_at, steps_in, steps_of}
-use Rattle.clr_rules.specs.declared.hold.Hold.{Hold}
-use Rattle.clr_rules.specs.declared.hold_kind.HoldKind.TheVariants.{Tested, Ground, Crew}
-use Rattle.clr_rules.specs.declared.phase.Phase.{Phase}
-use Rattle.clr_rules.specs.declared.refusal.Refusal.{Refusal}
+use Rattle.clr_rules.specs.Steps.{is_close, is_in_turn, some_active}
 use Rattle.clr_rules.specs.declared.refusal.Refusal.TheVariants.{UnknownCaller, WrongRole, UnknownSection, TooManyClearances, UnknownClearance, NotHolder, Earlier, WrongPhase, NoStep, OutOfTurn, StepState as WrongState, InHand, Held, RepeatDiffers, WrongReporter, StepsLeft, OutsideFence, NotTested, Grounded, NotGrounded, CrewsOn, CrewState, BadTransfer, NotAttested}
-use Rattle.clr_rules.specs.declared.step_row.StepRow.{StepRow}
 
 -- a refusal where a test says so
 abbrev pub refuse : Bool → Refusal → Option Refusal

@@ -1,7 +1,6 @@
 -- Commands. A variant of Kind takes its fields in the order in which they are declared.
 use Rattle.std.specs.Prelude.{Option, Some, None}
-use Rattle.clr_rules.specs.Id.{Id}
-use Rattle.clr_rules.specs.declared.command.Kind.{Kind}
+use Rattle.clr_rules.specs.Prelude.{Kind, Id}
 use Rattle.clr_rules.specs.declared.command.Kind.TheVariants.{Request, Order, Instruct, Repeat, Report, Grant, Test, Ground, Unground, SignOn, SignOff, Transfer, Release, Cancel, Restore, Amend, Switch, Show}
 
 -- the clearance that a command names: a request and a switch order make a new one, and name none

@@ -5,17 +5,10 @@ use Rattle.clr_order.specs.declared.step.StepState.TheVariants.{Instructed, Repe
 use Rattle.clr_order.specs.declared.action.Action.TheVariants as actions
 use Rattle.clr_rules.specs.Changes.{cancelled_phase, done_edits, undone_edits, moved, new_record, new_steps, put_steps, with_record, with_step}
 use Rattle.clr_rules.specs.Checks.{bad_transfer, crew_is_off, crew_is_on, crews_on, crews_on_work, earlier, grounded, grounded_there, held, in_hand, is_charge, is_charge_or_operator, is_field, is_operator, may_not_transfer, no_step, not_a_waiting_close, not_attested, not_grounded, not_holder, not_tested, at_work, out_of_turn, outside_fence, repeat_differs, step_given_out, steps_left, too_many_clearances, unknown_caller, unknown_clearance, unknown_section, unsound_order, wrong_phase, wrong_reporter, wrong_restoring, wrong_role, wrong_state, wrong_switching}
-use Rattle.clr_rules.specs.Holds.{places_of, hold_of}
-use Rattle.clr_rules.specs.Records.{is_cancellable, is_granted, is_ordered, is_released, is_requested, is_restoring, is_running, is_transferable}
-use Rattle.clr_rules.specs.Register.{Register}
-use Rattle.clr_rules.specs.Steps.{is_active, is_repeated, is_waiting}
-use Rattle.clr_rules.specs.declared.change.Edit.TheVariants.{SetHand, PutHold, TakeHold, PutRecord, PutStep}
-use Rattle.clr_rules.specs.declared.change.Edit.{Edit}
-use Rattle.clr_rules.specs.declared.command.Kind.{Kind}
-use Rattle.clr_rules.specs.declared.hold_kind.HoldKind.TheVariants.{Crew, Tested, Ground}
-use Rattle.clr_rules.specs.declared.phase.Phase.TheVariants.{Requested, Ordered, Granted, Released, Restoring, Switching}
-use Rattle.clr_rules.specs.declared.refusal.Refusal.{Refusal}
-use Rattle.clr_rules.specs.declared.step_row.StepRow.{StepRow}
+use Rattle.clr_rules.specs.Prelude.{Edit, SetHand, PutHold, TakeHold, PutRecord, PutStep, Kind, Tested, Ground, Crew, Requested, Ordered, Granted, Released, Restoring, Switching, Refusal, StepRow, Register, is_running, is_granted}
+use Rattle.clr_rules.specs.Prelude.{is_restoring, is_ordered, is_active, is_waiting, hold_of, places_of}
+use Rattle.clr_rules.specs.Records.{is_cancellable, is_released, is_requested, is_transferable}
+use Rattle.clr_rules.specs.Steps.{is_repeated}
 use Rattle.clr_rules.specs.declared.command.Kind.TheVariants as kinds
 
 -- what is known of the register beside its rows: the greatest number of the clearance's requester, or of the caller, and the

@@ -9,29 +9,14 @@ use Rattle.clr_net.specs.declared.point.Position.{Position}
 use Rattle.clr_shelf.specs.Rows.{row_of}
 use Rattle.clr_rules.specs.Answer.{Answer, answer, first_refusal, known_of}
 use Rattle.clr_rules.specs.Commands.{checks}
-use Rattle.clr_rules.specs.Edits.{edited, edited_all}
+use Rattle.clr_rules.specs.Prelude.{Edit, SetPosition, SetHand, PutHold, TakeHold, PutRecord, PutStep, Command, Hold, HoldKind, PointState, Record, Refusal, StepRow, Id, id_cmp, same_id, Register, state_key, state_of, record_key}
+use Rattle.clr_rules.specs.Prelude.{record_of, step_key, step_key_cmp, hold_cmp, has_hold, hold_key, hold_of, edited, edited_all}
 use Rattle.clr_rules.specs.Good.{ListsAreInOrder}
-use Rattle.clr_rules.specs.Hold.{hold_cmp}
-use Rattle.clr_rules.specs.Holds.{has_hold, hold_key, hold_of}
-use Rattle.clr_rules.specs.Id.{Id, id_cmp, same_id}
-use Rattle.clr_rules.specs.Records.{record_key, record_of}
-use Rattle.clr_rules.specs.Register.{Register}
 use Rattle.clr_rules.specs.Run.{after}
-use Rattle.clr_rules.specs.States.{state_key, state_of}
-use Rattle.clr_rules.specs.StepKey.{step_key, step_key_cmp}
-use Rattle.clr_rules.specs.declared.change.Edit.{Edit}
-use Rattle.clr_rules.specs.declared.change.Edit.TheVariants.{SetPosition, SetHand, PutHold, TakeHold, PutRecord, PutStep}
-use Rattle.clr_rules.specs.declared.command.Command.{Command}
-use Rattle.clr_rules.specs.declared.hold.Hold.{Hold}
-use Rattle.clr_rules.specs.declared.hold_kind.HoldKind.{HoldKind}
-use Rattle.clr_rules.specs.declared.point_state.PointState.{PointState}
-use Rattle.clr_rules.specs.declared.record.Record.{Record}
-use Rattle.clr_rules.specs.declared.refusal.Refusal.{Refusal}
 use Rattle.clr_rules.specs.declared.reply.Card.{Card}
 use Rattle.clr_rules.specs.declared.reply.Reply.TheVariants.{Accepted, Shown, Refused}
 use Rattle.clr_rules.specs.declared.reply.View.{View}
 use Rattle.clr_rules.specs.declared.step_row.StepKey.{StepKey}
-use Rattle.clr_rules.specs.declared.step_row.StepRow.{StepRow}
 
 -- A RECORD THAT IS PUT is read for its clearance, and for every other clearance what was read before
 abbrev pub PutRecordReplaces : Type 0

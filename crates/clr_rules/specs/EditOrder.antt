@@ -7,13 +7,7 @@ use Rattle.clr_net.specs.Name.{name_cmp}
 use Rattle.clr_shelf.specs.Rows.{in_key_order}
 use Rattle.clr_rules.specs.Answer.{Answer, answer}
 use Rattle.clr_rules.specs.Good.{ListsAreInOrder}
-use Rattle.clr_rules.specs.Hold.{hold_cmp}
-use Rattle.clr_rules.specs.Id.{id_cmp}
-use Rattle.clr_rules.specs.Register.{Register}
-use Rattle.clr_rules.specs.StepKey.{step_key, step_key_cmp}
-use Rattle.clr_rules.specs.declared.change.Edit.{Edit}
-use Rattle.clr_rules.specs.declared.change.Edit.TheVariants.{SetPosition, SetHand, PutHold, TakeHold, PutRecord, PutStep}
-use Rattle.clr_rules.specs.declared.command.Command.{Command}
+use Rattle.clr_rules.specs.Prelude.{Edit, SetPosition, SetHand, PutHold, TakeHold, PutRecord, PutStep, Command, id_cmp, Register, step_key, step_key_cmp, hold_cmp}
 
 -- the place of an edit's kind; putting and taking a hold are one kind
 abbrev pub edit_rank : Edit → ℕ

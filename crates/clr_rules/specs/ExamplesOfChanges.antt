@@ -4,14 +4,10 @@ use Rattle.clr_net.specs.declared.point.Position.TheVariants.{Opened, Closed as 
 use Rattle.clr_order.specs.declared.step.StepState.TheVariants.{Waiting, Instructed, Repeated, Done}
 use Rattle.clr_order.specs.declared.action.Action.TheVariants as actions
 use Rattle.clr_rules.specs.Answer.{Answer}
-use Rattle.clr_rules.specs.Holds.{hold_of}
+use Rattle.clr_rules.specs.Prelude.{SetPosition, SetHand, PutHold, TakeHold, PutRecord, PutStep, HeldOpen, Block, Control, Tag, Tested, Ground, Crew, Requested, Ordered, Granted, Released, Restoring, Switching, Closed, Record, hold_of}
 use Rattle.clr_rules.specs.Worked.{BOSS, C1, DALE, JONES, KIM, L2, L3, OPS, REED, S2, S3, S4, Saying, T1, accepted, answer_after, c1_is_off, c1_is_on, does, isolating_l2, isolating_l3, jones_1, kim_1, kim_asks, kim_has_both, kim_is_granted, l2_asked, l2_blocked, l2_granted, l2_grounded, l2_isolated, l2_ordered, l2_released, l2_restoring, l2_tested, ops_1, restoring_l2, s2_opened, s3_left, s3_opened, s3_unblocked, s4_blocked, says, step_is_repeated, step_runs}
 use Rattle.clr_rules.specs.WorkedRows.{jones_card, jones_record, kim_card, kim_record, ops_card, ops_record, seen, step_row}
-use Rattle.clr_rules.specs.declared.change.Edit.TheVariants.{SetPosition, SetHand, PutHold, TakeHold, PutRecord, PutStep}
 use Rattle.clr_rules.specs.declared.command.Kind.TheVariants.{Request, Order, Instruct, Repeat, Report, Grant, Test, Ground as LayGround, Unground, SignOn, SignOff, Transfer, Release, Cancel, Restore, Amend, Switch, Show}
-use Rattle.clr_rules.specs.declared.hold_kind.HoldKind.TheVariants.{HeldOpen, Block, Control, Tag, Tested, Ground, Crew}
-use Rattle.clr_rules.specs.declared.phase.Phase.TheVariants.{Requested, Ordered, Granted, Released, Restoring, Switching, Closed}
-use Rattle.clr_rules.specs.declared.record.Record.{Record}
 use Rattle.clr_rules.specs.declared.reply.Card.{Card}
 use Rattle.clr_rules.specs.declared.reply.Reply.TheVariants.{Accepted, Shown}
 

@@ -13,19 +13,13 @@ use Rattle.clr_order.specs.declared.action.Action.TheVariants as actions
 use Rattle.clr_order.specs.declared.step.StepState.TheVariants.{Waiting}
 use Rattle.clr_rules.specs.Agreement.{Agree, part_near}
 use Rattle.clr_rules.specs.Good.{is_operators}
-use Rattle.clr_rules.specs.Holds.{has_hold}
-use Rattle.clr_rules.specs.Register.{Register, opening}
+use Rattle.clr_rules.specs.Prelude.{SetPosition, SetHand, Command, Tag, Closed, StepRow, Register, steps_of, has_hold}
+use Rattle.clr_rules.specs.Register.{opening}
 use Rattle.clr_rules.specs.Run.{IsReached, after_all}
 use Rattle.clr_rules.specs.Shown.{covers, marks, own, own_answers, shown}
-use Rattle.clr_rules.specs.Steps.{steps_of}
 use Rattle.clr_rules.specs.Worked.{BOSS, DALE, JONES, KIM, L1, L2, L3, OPS, REED, S2, S3, S4, Saying, T1, does, from_moment, isolating_l2_and_l3, jones_1, jones_works_and_releases, kim_1, kim_asks, l2_asked, l2_granted, l2_is_restored, ops_1, said_at, says, step_runs, worked_opening, worked_staff}
 use Rattle.clr_rules.specs.WorkedRows.{done_step, jones_record}
-use Rattle.clr_rules.specs.declared.change.Edit.TheVariants.{SetPosition, SetHand}
-use Rattle.clr_rules.specs.declared.command.Command.{Command}
 use Rattle.clr_rules.specs.declared.command.Kind.TheVariants.{Request, Order, Switch}
-use Rattle.clr_rules.specs.declared.hold_kind.HoldKind.TheVariants.{Tag}
-use Rattle.clr_rules.specs.declared.phase.Phase.TheVariants.{Closed}
-use Rattle.clr_rules.specs.declared.step_row.StepRow.{StepRow}
 
 -- THE TWO REGISTERS
 

@@ -3,13 +3,11 @@
 use Rattle.std.specs.Prelude.{◌≡◌, ℕ, true, false, List, [], ◌∷◌, ◌++◌, codes, None}
 use Rattle.clr_net.specs.declared.point.Position.TheVariants.{Opened, Closed as Shut}
 use Rattle.clr_order.specs.declared.action.Action.TheVariants as actions
-use Rattle.clr_rules.specs.Holds.{hold_of}
+use Rattle.clr_rules.specs.Prelude.{HeldOpen, Block, Tag, Tested, Ground, Crew, Requested, Granted, hold_of}
 use Rattle.clr_rules.specs.Near.{near_of}
 use Rattle.clr_rules.specs.Worked.{C1, H, KIM, L1, L2, L3, OPS, S2, S3, S4, Saying, T1, c1_is_on, does, isolating_l3, jones_1, kim_1, kim_asks, kim_is_granted, l2_granted, register_after, said_at, says, worked_staff}
 use Rattle.clr_rules.specs.WorkedRows.{done_step, jones_record, kim_record}
 use Rattle.clr_rules.specs.declared.command.Kind.TheVariants.{Request, Order, Test, Ground as LayGround, SignOn, Switch, Show}
-use Rattle.clr_rules.specs.declared.hold_kind.HoldKind.TheVariants.{HeldOpen, Block, Tag, Tested, Ground, Crew}
-use Rattle.clr_rules.specs.declared.phase.Phase.TheVariants.{Requested, Granted}
 
 abbrev pub C2 : List ℕ
 C2 = codes "C2"

@@ -3,21 +3,16 @@ use Rattle.std.specs.Prelude.{◌≡◌, ℕ, false, true, List, [], ◌∷◌, 
 use Rattle.clr_net.specs.declared.point.Position.TheVariants.{Closed as Shut}
 use Rattle.clr_order.specs.declared.action.Action.TheVariants as actions
 use Rattle.clr_rules.specs.Answer.{Answer, answer}
-use Rattle.clr_rules.specs.Edits.{edited_all}
+use Rattle.clr_rules.specs.Prelude.{SetHand, PutHold, TakeHold, PutRecord, Hold, HoldKind, HeldOpen, Block, Control, Tag, Tested, Ground, Crew, Requested, Released, Closed, Register, hold_of, edited_all}
 use Rattle.clr_rules.specs.ExamplesOfChanges.{both_tested}
 use Rattle.clr_rules.specs.ExamplesOfPhases.{refusal_in, refused_after}
 use Rattle.clr_rules.specs.ExamplesOfSequence.{tells}
-use Rattle.clr_rules.specs.Holds.{hindering_hold, hold_of}
-use Rattle.clr_rules.specs.Register.{Register, opening}
+use Rattle.clr_rules.specs.Holds.{hindering_hold}
+use Rattle.clr_rules.specs.Register.{opening}
 use Rattle.clr_rules.specs.Run.{after_all}
 use Rattle.clr_rules.specs.Worked.{BOSS, C1, JONES, KIM, L2, L3, OPS, REED, S2, S3, Saying, ZZ, accepted, answer_after, c1_is_on, kim_is_ordered, refused, does, from_moment, isolating_l2, jones_1, kim_1, l2_granted, ops_1, register_after, s2_opened, said_at, says, step_runs, worked_staff}
 use Rattle.clr_rules.specs.WorkedRows.{kim_card, kim_record}
-use Rattle.clr_rules.specs.declared.change.Edit.TheVariants.{SetHand, PutHold, PutRecord, TakeHold}
-use Rattle.clr_rules.specs.declared.phase.Phase.TheVariants.{Requested, Closed, Released}
 use Rattle.clr_rules.specs.declared.command.Kind.TheVariants.{Request, Order, Instruct, Grant, Test, Ground as LayGround, Unground, SignOn, SignOff, Transfer, Release, Cancel, Restore, Switch}
-use Rattle.clr_rules.specs.declared.hold.Hold.{Hold}
-use Rattle.clr_rules.specs.declared.hold_kind.HoldKind.{HoldKind}
-use Rattle.clr_rules.specs.declared.hold_kind.HoldKind.TheVariants.{HeldOpen, Block, Control, Tag, Tested, Ground, Crew}
 use Rattle.clr_rules.specs.declared.refusal.Refusal.TheVariants.{NotHolder, NotTested, Grounded, NotGrounded, CrewsOn, CrewState, BadTransfer, Held}
 
 -- KIM has a clearance on L2 as well, at the same points

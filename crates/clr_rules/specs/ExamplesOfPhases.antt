@@ -3,11 +3,9 @@ use Rattle.std.specs.Prelude.{◌≡◌, false, true, List, [], ◌∷◌, ◌++
 use Rattle.clr_order.specs.declared.action.Action.TheVariants as actions
 use Rattle.clr_rules.specs.Answer.{Answer}
 use Rattle.clr_rules.specs.Worked.{C1, JONES, KIM, L2, OPS, REED, S2, S3, S4, Saying, answer_after, c1_is_on, does, isolating_l2, jones_1, kim_1, l2_asked, l2_granted, l2_grounded, l2_isolated, l2_ordered, l2_released, l2_restoring, l2_tested, ops_1, restoring_l2, s2_opened, s3_unblocked, says, step_is_repeated, step_runs}
-use Rattle.clr_rules.specs.declared.command.Kind.{Kind}
+use Rattle.clr_rules.specs.Prelude.{Kind, Refusal, Reply}
 use Rattle.clr_rules.specs.declared.command.Kind.TheVariants.{Request, Order, Instruct, Repeat, Report, Grant, Test, Ground, Unground, SignOn, SignOff, Transfer, Release, Cancel, Restore, Amend, Switch, Show}
-use Rattle.clr_rules.specs.declared.refusal.Refusal.{Refusal}
 use Rattle.clr_rules.specs.declared.refusal.Refusal.TheVariants.{WrongRole, NotHolder, WrongPhase, StepState, StepsLeft, NotTested, NotGrounded, CrewState}
-use Rattle.clr_rules.specs.declared.reply.Reply.{Reply}
 use Rattle.clr_rules.specs.declared.reply.Reply.TheVariants.{Accepted, Shown, Refused}
 
 -- what a reply refuses for, if it does

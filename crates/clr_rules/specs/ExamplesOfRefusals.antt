@@ -3,12 +3,11 @@
 use Rattle.std.specs.Prelude.{◌≡◌, ℕ, zero, suc, false, true, List, [], ◌∷◌, ◌++◌, replicate, codes}
 use Rattle.clr_order.specs.declared.action.Action.TheVariants as actions
 use Rattle.clr_rules.specs.Answer.{answer}
-use Rattle.clr_rules.specs.Register.{Register, opening}
+use Rattle.clr_rules.specs.Prelude.{Command, HeldOpen, Register}
+use Rattle.clr_rules.specs.Register.{opening}
 use Rattle.clr_rules.specs.Run.{after_all}
 use Rattle.clr_rules.specs.Worked.{C1, DALE, H, JONES, BOSS, KIM, L1, L2, L3, OPS, REED, S1, S2, S3, S4, Saying, T1, ZZ, answer_after, c1_is_off, c1_is_on, does, from_moment, isolating_l2, isolating_l3, jones_1, kim_1, kim_asks, l2_asked, l2_granted, l2_ordered, l2_released, l2_tested, l2_ungrounded, ops_1, refused, register_after, s2_opened, s2_tagged, said_at, says, s3_unblocked, step_is_repeated, worked_opening, worked_staff}
-use Rattle.clr_rules.specs.declared.command.Command.{Command}
 use Rattle.clr_rules.specs.declared.command.Kind.TheVariants.{Request, Order, Instruct, Repeat, Report, Grant, Test, Ground, Unground, SignOn, Transfer, Release, Cancel, Restore, Switch, Show}
-use Rattle.clr_rules.specs.declared.hold_kind.HoldKind.TheVariants.{HeldOpen}
 use Rattle.clr_rules.specs.declared.refusal.Refusal.TheVariants.{UnknownCaller, WrongRole, UnknownSection, TooManyClearances, UnknownClearance, NotHolder, Earlier, WrongPhase, EmptyOrder, LongOrder, PointTwice, SourceInside, NotOnFence, StepsWrong, UnknownPoint, NoStep, OutOfTurn, StepState, InHand, Held, RepeatDiffers, WrongReporter, StepsLeft, OutsideFence, NotTested, Grounded, NotGrounded, CrewsOn, CrewState, BadTransfer, NotAttested}
 
 -- THE CALLER

@@ -4,20 +4,13 @@ use Rattle.clr_net.specs.declared.point.Position.TheVariants.{Opened, Closed as 
 use Rattle.clr_order.specs.declared.step.StepState.TheVariants.{Done}
 use Rattle.clr_order.specs.declared.action.Action.TheVariants as actions
 use Rattle.clr_rules.specs.Fences.{clearance_fence}
-use Rattle.clr_rules.specs.Holds.{hold_of}
-use Rattle.clr_rules.specs.Id.{Id}
-use Rattle.clr_rules.specs.Register.{Register}
+use Rattle.clr_rules.specs.Prelude.{HeldOpen, Block, Tag, Tested, Ground as Grounding, Phase, Requested, Ordered, Granted, Released, Restoring, Switching, Closed, Reply, Id, Register, hand_of, hold_of}
 use Rattle.clr_rules.specs.Run.{replies}
-use Rattle.clr_rules.specs.States.{hand_of}
 use Rattle.clr_rules.specs.Worked.{BOSS, C1, DALE, G, H, JONES, KIM, L1, L2, L3, OPS, REED, S1, S2, S3, S4, Saying, T1, ZZ, does, from_moment, jones_1, kim_1, kim_releases, c1_is_on, l2_granted, l2_is_restored, l2_ordered, ops_1, register_after, restoring_l3, s2_opened, says, step_runs, jones_works_and_releases, worked_staff}
 use Rattle.clr_rules.specs.WorkedRows.{done_step, jones_card, jones_record, kim_card, ops_card, seen}
 use Rattle.clr_rules.specs.declared.command.Kind.TheVariants.{Instruct, Repeat, Report, Test, Ground, Unground, SignOn, SignOff, Transfer, Release, Cancel, Restore, Amend, Switch}
-use Rattle.clr_rules.specs.declared.hold_kind.HoldKind.TheVariants.{HeldOpen, Block, Tag, Tested, Ground as Grounding}
-use Rattle.clr_rules.specs.declared.phase.Phase.{Phase}
-use Rattle.clr_rules.specs.declared.phase.Phase.TheVariants.{Requested, Ordered, Granted, Released, Restoring, Switching, Closed}
 use Rattle.clr_rules.specs.declared.refusal.Refusal.TheVariants.{NotHolder, WrongPhase, EmptyOrder, StepsWrong, NoStep, OutOfTurn, StepState, InHand, Held, RepeatDiffers, WrongReporter, OutsideFence, NotTested, Grounded, NotGrounded, CrewsOn, CrewState, BadTransfer, NotAttested}
 use Rattle.clr_rules.specs.declared.reply.Card.{Card}
-use Rattle.clr_rules.specs.declared.reply.Reply.{Reply}
 use Rattle.clr_rules.specs.declared.reply.Reply.TheVariants.{Accepted, Shown, Refused}
 use Rattle.clr_rules.specs.declared.reply.View.{View}
 

@@ -3,12 +3,9 @@
 use Rattle.std.specs.Prelude.{◌≡◌, ℕ, false, true, List, [], ◌∷◌, ◌++◌, codes, Some}
 use Rattle.clr_order.specs.declared.action.Action.TheVariants as actions
 use Rattle.clr_rules.specs.Answer.{answer}
-use Rattle.clr_rules.specs.Register.{Register}
+use Rattle.clr_rules.specs.Prelude.{HeldOpen, Requested, Refusal, Register}
 use Rattle.clr_rules.specs.Worked.{C1, JONES, KIM, L2, L3, OPS, REED, S2, S3, Saying, ZZ, answer_after, c1_is_off, c1_is_on, does, jones_1, kim_1, l2_asked, l2_granted, l2_grounded, l2_ordered, l2_released, l2_restoring, l2_tested, ops_1, refused, register_after, s2_opened, s2_tagged, s3_unblocked, said_at, says, step_is_repeated, worked_opening}
 use Rattle.clr_rules.specs.declared.command.Kind.TheVariants.{Request, Order, Instruct, Repeat, Report, Grant, Test, Ground, Unground, SignOn, SignOff, Transfer, Release, Cancel, Restore, Amend, Switch, Show}
-use Rattle.clr_rules.specs.declared.hold_kind.HoldKind.TheVariants.{HeldOpen}
-use Rattle.clr_rules.specs.declared.phase.Phase.TheVariants.{Requested}
-use Rattle.clr_rules.specs.declared.refusal.Refusal.{Refusal}
 use Rattle.clr_rules.specs.declared.refusal.Refusal.TheVariants.{UnknownCaller, WrongRole, UnknownSection, TooManyClearances, UnknownClearance, NotHolder, Earlier, WrongPhase, EmptyOrder, NoStep, OutOfTurn, StepState, InHand, Held, RepeatDiffers, WrongReporter, StepsLeft, OutsideFence, NotTested, Grounded, NotGrounded, CrewsOn, CrewState, BadTransfer, NotAttested}
 
 -- after all this was said, what is said next is refused

@@ -5,20 +5,14 @@ use Rattle.clr_net.specs.declared.point.Position.TheVariants.{Opened, Closed as 
 use Rattle.clr_order.specs.declared.step.StepState.TheVariants.{Waiting}
 use Rattle.clr_order.specs.declared.action.Action.TheVariants as actions
 use Rattle.clr_rules.specs.Agreement.{part_near}
-use Rattle.clr_rules.specs.Edits.{edited_all}
+use Rattle.clr_rules.specs.Prelude.{SetPosition, SetHand, PutHold, TakeHold, PutRecord, PutStep, HeldOpen, Block, Tag, Tested, Ground, Crew, Ordered, Granted, Closed, Id, Register, hold_of, edited_all}
 use Rattle.clr_rules.specs.ExamplesOfIsolation.{in_l2, register_one, with_s4_switched}
 use Rattle.clr_rules.specs.ExamplesOfNearParts.{both_at_work}
-use Rattle.clr_rules.specs.Holds.{hold_of}
-use Rattle.clr_rules.specs.Id.{Id}
 use Rattle.clr_rules.specs.Near.{Near, near_of}
-use Rattle.clr_rules.specs.Register.{Register}
 use Rattle.clr_rules.specs.Shown.{covers, is_own_command, marks_of, own, own_answers, shown}
 use Rattle.clr_rules.specs.Worked.{C1, JONES, KIM, L1, L2, L3, OPS, S1, S2, S3, S4, Saying, T1, ZZ, does, from_moment, isolating_l2_and_l3, jones_1, kim_1, kim_asks, l2_asked, l2_ordered, ops_1, register_after, said_at, says, worked_net, worked_staff}
 use Rattle.clr_rules.specs.WorkedRows.{done_step, jones_record, step_row}
-use Rattle.clr_rules.specs.declared.change.Edit.TheVariants.{SetPosition, SetHand, PutHold, TakeHold, PutRecord, PutStep}
 use Rattle.clr_rules.specs.declared.command.Kind.TheVariants.{Request, Order, Instruct, Cancel, Switch, Show}
-use Rattle.clr_rules.specs.declared.hold_kind.HoldKind.TheVariants.{HeldOpen, Block, Tag, Tested, Ground, Crew}
-use Rattle.clr_rules.specs.declared.phase.Phase.TheVariants.{Ordered, Granted, Closed}
 
 abbrev pub jones_2 : Id
 jones_2 = record { requester = JONES; number = 2 }

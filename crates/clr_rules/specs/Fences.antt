@@ -4,12 +4,8 @@ use Rattle.clr_net.specs.Fence.{FenceRows, fence_of}
 use Rattle.clr_net.specs.Grid.{Grid, point_names, section_names}
 use Rattle.clr_net.specs.Names.{has_name}
 use Rattle.clr_net.specs.declared.point.PointRow.{PointRow}
-use Rattle.clr_rules.specs.Id.{Id}
-use Rattle.clr_rules.specs.Records.{is_fenced, record_of}
-use Rattle.clr_rules.specs.Register.{Register}
-use Rattle.clr_rules.specs.Steps.{points_of, steps_in}
-use Rattle.clr_rules.specs.declared.record.Record.{Record}
-use Rattle.clr_rules.specs.declared.step_row.StepRow.{StepRow}
+use Rattle.clr_rules.specs.Prelude.{Record, StepRow, Id, Register, record_of, points_of, steps_in}
+use Rattle.clr_rules.specs.Records.{is_fenced}
 
 -- the sections of the fence of a work section that is cut at these points; a switch order has no work section, and no fence
 abbrev pub work_fence : Grid → Option (List ℕ) → List (List ℕ) → List (List ℕ)

@@ -3,17 +3,12 @@ use Rattle.std.specs.Prelude.{◌≡◌, Bool, true, false, List}
 use Rattle.clr_rules.specs.Answer.{Answer, answer, concerned, known_of}
 use Rattle.clr_rules.specs.Commands.{Known}
 use Rattle.clr_rules.specs.Command.{named_clearance}
-use Rattle.clr_rules.specs.Edits.{edited_all}
+use Rattle.clr_rules.specs.Prelude.{Edit, Command, Kind, Id, same_id, Register, edited_all}
 use Rattle.clr_rules.specs.Footprint.{all_spare}
 use Rattle.clr_rules.specs.Good.{HandMatchesStep, IsGood, ListsAreInOrder}
 use Rattle.clr_rules.specs.GoodByPhase.{outlook_of}
-use Rattle.clr_rules.specs.Id.{Id, same_id}
 use Rattle.clr_rules.specs.Isolation.{HeldStayOpen, is_others}
-use Rattle.clr_rules.specs.Register.{Register}
 use Rattle.clr_rules.specs.Run.{after}
-use Rattle.clr_rules.specs.declared.change.Edit.{Edit}
-use Rattle.clr_rules.specs.declared.command.Command.{Command}
-use Rattle.clr_rules.specs.declared.command.Kind.{Kind}
 use Rattle.clr_rules.specs.declared.command.Kind.TheVariants.{Report}
 
 abbrev pub is_report : Kind → Bool

@@ -18,21 +18,13 @@ use Rattle.clr_order.specs.declared.action.Action.TheVariants as actions
 use Rattle.clr_shelf.specs.Rows.{in_key_order}
 use Rattle.clr_rules.specs.Checks.{employee, has_role, is_operator}
 use Rattle.clr_rules.specs.Fences.{clearance_fence}
-use Rattle.clr_rules.specs.Hold.{hold_cmp}
-use Rattle.clr_rules.specs.HoldKind.{is_point_kind}
-use Rattle.clr_rules.specs.Holds.{has_hold, held_at, hold_key, once}
-use Rattle.clr_rules.specs.Id.{Id, id_cmp}
+use Rattle.clr_rules.specs.Prelude.{Hold, HoldKind, HeldOpen, Block, Control, Tag, Tested, Ground, Crew, Record, StepRow, Id, id_cmp, Register, has_in_hand, position_of, state_key, record_key, record_of, is_running, is_standing}
+use Rattle.clr_rules.specs.Prelude.{is_granted, is_restoring, step_key, step_key_cmp, all_done, is_active, is_done, is_some_step, is_waiting, points_of, present_round, steps_in, steps_of, tasks_of, hold_cmp, is_point_kind, has_hold}
+use Rattle.clr_rules.specs.Prelude.{held_at, hold_key, once}
 use Rattle.clr_rules.specs.Live.{is_live}
-use Rattle.clr_rules.specs.Records.{is_closed, is_granted, is_in_switching, is_requested, is_restoring, is_running, is_standing, is_switch_order, numbers_of, record_key, record_of}
-use Rattle.clr_rules.specs.Register.{Register, unplaced_net}
-use Rattle.clr_rules.specs.States.{has_in_hand, position_of, state_key}
-use Rattle.clr_rules.specs.StepKey.{step_key, step_key_cmp}
-use Rattle.clr_rules.specs.Steps.{all_done, is_active, is_close, is_done, is_in_turn, is_some_step, is_waiting, points_of, present_round, steps_in, steps_of, tasks_of}
-use Rattle.clr_rules.specs.declared.hold.Hold.{Hold}
-use Rattle.clr_rules.specs.declared.hold_kind.HoldKind.{HoldKind}
-use Rattle.clr_rules.specs.declared.hold_kind.HoldKind.TheVariants.{HeldOpen, Block, Control, Tag, Tested, Ground, Crew}
-use Rattle.clr_rules.specs.declared.record.Record.{Record}
-use Rattle.clr_rules.specs.declared.step_row.StepRow.{StepRow}
+use Rattle.clr_rules.specs.Records.{is_closed, is_in_switching, is_requested, is_switch_order, numbers_of}
+use Rattle.clr_rules.specs.Register.{unplaced_net}
+use Rattle.clr_rules.specs.Steps.{is_close, is_in_turn}
 
 -- HELD POINTS ARE OPEN: a point with a HeldOpen, Block, Control or Tag is open, and the last three stand only beside a HeldOpen of
 -- the same clearance

@@ -13,19 +13,10 @@ use Rattle.clr_order.specs.Needed.{undoes}
 use Rattle.clr_order.specs.Step.{actions_at}
 use Rattle.clr_rules.specs.Fences.{work_fence}
 use Rattle.clr_rules.specs.Good.{ListsAreInOrder, NetworkIsUnplaced, PointsAreKnown, is_closing_at, is_known_work, is_operators, left, put_by}
-use Rattle.clr_rules.specs.HoldKind.{is_point_kind}
-use Rattle.clr_rules.specs.Holds.{has_hold, once}
-use Rattle.clr_rules.specs.Id.{Id}
-use Rattle.clr_rules.specs.Records.{is_switch_order, numbers_of, record_of}
-use Rattle.clr_rules.specs.Register.{Register}
-use Rattle.clr_rules.specs.States.{has_in_hand, position_of}
-use Rattle.clr_rules.specs.Steps.{all_done, is_active, is_done, is_some_step, is_waiting, points_of, some_active, steps_of, tasks_of}
-use Rattle.clr_rules.specs.declared.hold_kind.HoldKind.{HoldKind}
-use Rattle.clr_rules.specs.declared.hold_kind.HoldKind.TheVariants.{HeldOpen, Block, Control, Tag, Tested, Ground, Crew}
-use Rattle.clr_rules.specs.declared.phase.Phase.{Phase}
-use Rattle.clr_rules.specs.declared.phase.Phase.TheVariants.{Requested, Ordered, Granted, Released, Restoring, Switching, Closed}
-use Rattle.clr_rules.specs.declared.record.Record.{Record}
-use Rattle.clr_rules.specs.declared.step_row.StepRow.{StepRow}
+use Rattle.clr_rules.specs.Prelude.{HoldKind, HeldOpen, Block, Control, Tag, Tested, Ground, Crew, Phase, Requested, Ordered, Granted, Released, Restoring, Switching, Closed, Record, StepRow, Id, Register, has_in_hand, position_of}
+use Rattle.clr_rules.specs.Prelude.{record_of, all_done, is_active, is_done, is_some_step, is_waiting, points_of, steps_of, tasks_of, is_point_kind, has_hold, once}
+use Rattle.clr_rules.specs.Records.{is_switch_order, numbers_of}
+use Rattle.clr_rules.specs.Steps.{some_active}
 
 -- WHAT THE REGISTER HAS OF ONE CLEARANCE: its record, its steps in all rounds, whether it has a hold of a kind at a place, and whether it
 -- has a point in hand

@@ -12,15 +12,11 @@ use Rattle.clr_rules.specs.Command.{named_clearance}
 use Rattle.clr_rules.specs.Fences.{touches}
 use Rattle.clr_rules.specs.Footprint.{Frame}
 use Rattle.clr_rules.specs.Good.{IsGood, has_record, is_operators}
-use Rattle.clr_rules.specs.Holds.{has_hold}
-use Rattle.clr_rules.specs.Id.{Id, same_id}
+use Rattle.clr_rules.specs.Prelude.{Command, HeldOpen, Id, same_id, Register, position_of, has_hold}
 use Rattle.clr_rules.specs.Near.{near_of}
-use Rattle.clr_rules.specs.Register.{Register, unplaced}
+use Rattle.clr_rules.specs.Register.{unplaced}
 use Rattle.clr_rules.specs.Run.{IsReached, after, after_all}
 use Rattle.clr_rules.specs.Shown.{Item, asked_row, covers, is_own_command, marks_of, own_answers, shown}
-use Rattle.clr_rules.specs.States.{position_of}
-use Rattle.clr_rules.specs.declared.command.Command.{Command}
-use Rattle.clr_rules.specs.declared.hold_kind.HoldKind.TheVariants.{HeldOpen}
 
 -- the sections of a set, and the points with an end in it, have the same rows in two networks, the points' positions aside
 pub record SameRowsAt (inside : List ℕ → Bool) (g h : Grid) : Type 0 where

@@ -1,8 +1,7 @@
 -- Commands keep a good register good.
 use Rattle.clr_rules.specs.Good.{IsGood}
-use Rattle.clr_rules.specs.Register.{Register}
+use Rattle.clr_rules.specs.Prelude.{Command, Register}
 use Rattle.clr_rules.specs.Run.{IsReached, after}
-use Rattle.clr_rules.specs.declared.command.Command.{Command}
 
 -- EVERY COMMAND KEEPS A GOOD REGISTER GOOD, whatever its kind, and whether it is accepted, shown or refused
 abbrev pub CommandsKeepGood : Type 0

@@ -6,8 +6,7 @@ use Rattle.clr_net.specs.Grid.{Grid, point_names}
 use Rattle.clr_net.specs.declared.point.Position.{Position}
 use Rattle.clr_net.specs.declared.point.Position.TheVariants.{Opened, Closed}
 use Rattle.clr_net.specs.declared.section.SectionRow.{SectionRow}
-use Rattle.clr_rules.specs.States.{position_of}
-use Rattle.clr_rules.specs.declared.point_state.PointState.{PointState}
+use Rattle.clr_rules.specs.Prelude.{PointState, position_of}
 
 -- a point without a state feeds nothing; in a good register each point of the network has one
 abbrev pub is_shut : Option Position → Bool

@@ -2,11 +2,8 @@
 use Rattle.std.specs.Prelude.{◌≡◌, ◌↔◌, ◌⊎◌, ℕ, Bool, IsTrue, List, Contains}
 use Rattle.clr_net.specs.Grid.{Grid}
 use Rattle.clr_net.specs.declared.point.PointRow.{PointRow}
-use Rattle.clr_rules.specs.HoldKind.{is_point_kind, is_section_kind}
+use Rattle.clr_rules.specs.Prelude.{Edit, SetPosition, SetHand, PutHold, TakeHold, PutRecord, PutStep, Hold, is_point_kind, is_section_kind}
 use Rattle.clr_rules.specs.Shown.{is_mark}
-use Rattle.clr_rules.specs.declared.change.Edit.{Edit}
-use Rattle.clr_rules.specs.declared.change.Edit.TheVariants.{SetPosition, SetHand, PutHold, TakeHold, PutRecord, PutStep}
-use Rattle.clr_rules.specs.declared.hold.Hold.{Hold}
 
 -- a point of this name has an end among these sections
 pub record HasEndIn (g : Grid) (Among : List ℕ → Type 0) (point : List ℕ) : Type 0 where

@@ -8,14 +8,9 @@ use Rattle.clr_rules.specs.Answer.{known_of}
 use Rattle.clr_rules.specs.Command.{named_clearance}
 use Rattle.clr_rules.specs.Fences.{touching_names}
 use Rattle.clr_rules.specs.Holds.{is_near_hold, is_own}
-use Rattle.clr_rules.specs.Id.{Id}
-use Rattle.clr_rules.specs.Records.{is_switch_order, record_of}
-use Rattle.clr_rules.specs.Register.{Register}
-use Rattle.clr_rules.specs.Steps.{points_of, steps_of}
-use Rattle.clr_rules.specs.declared.command.Command.{Command}
-use Rattle.clr_rules.specs.declared.command.Kind.{Kind}
+use Rattle.clr_rules.specs.Prelude.{Command, Kind, Record, Id, Register, record_of, points_of, steps_of}
+use Rattle.clr_rules.specs.Records.{is_switch_order}
 use Rattle.clr_rules.specs.declared.command.Kind.TheVariants.{Request, Switch}
-use Rattle.clr_rules.specs.declared.record.Record.{Record}
 
 -- a part of a register: the staff; the rows of the listed sections; the rows, positions and hands of the points; the holds at these
 -- points and at the sections inside; of the clearance, if one is meant, its record, its steps and its crews

@@ -8,23 +8,12 @@ use Rattle.clr_net.specs.Names.{has_name}
 use Rattle.clr_order.specs.Step.{Task, task_points}
 use Rattle.clr_rules.specs.Command.{named_clearance}
 use Rattle.clr_rules.specs.Good.{IsGood, ListsAreInOrder}
-use Rattle.clr_rules.specs.HoldKind.{is_point_kind}
-use Rattle.clr_rules.specs.Holds.{holds_of}
+use Rattle.clr_rules.specs.Prelude.{Command, Kind, Hold, Crew, PointState, Record, StepRow, Id, Register, greatest_number, record_of, is_standing, points_of, steps_in, is_point_kind, holds_of}
 use Rattle.clr_rules.specs.Fences.{clearance_fence, touching_names}
-use Rattle.clr_rules.specs.Id.{Id}
 use Rattle.clr_rules.specs.MarkLaws.{HasEndIn, StandsAmong}
 use Rattle.clr_rules.specs.Near.{Near, near_of, near_part}
-use Rattle.clr_rules.specs.Records.{greatest_number, is_fenced, is_standing, record_of}
-use Rattle.clr_rules.specs.Register.{Register}
-use Rattle.clr_rules.specs.Steps.{points_of, steps_in}
-use Rattle.clr_rules.specs.declared.command.Command.{Command}
-use Rattle.clr_rules.specs.declared.command.Kind.{Kind}
+use Rattle.clr_rules.specs.Records.{is_fenced}
 use Rattle.clr_rules.specs.declared.command.Kind.TheVariants.{Request, Order, Switch}
-use Rattle.clr_rules.specs.declared.hold.Hold.{Hold}
-use Rattle.clr_rules.specs.declared.hold_kind.HoldKind.TheVariants.{Crew}
-use Rattle.clr_rules.specs.declared.point_state.PointState.{PointState}
-use Rattle.clr_rules.specs.declared.record.Record.{Record}
-use Rattle.clr_rules.specs.declared.step_row.StepRow.{StepRow}
 
 -- ---- the words
 

@@ -3,19 +3,11 @@ use Rattle.std.specs.Prelude.{◌≡◌, ℕ, Bool, true, false, List, Some}
 use Rattle.clr_rules.specs.Agreement.{Agree}
 use Rattle.clr_rules.specs.Commands.{Known, checks, edits_of}
 use Rattle.clr_rules.specs.Answer.{answer, answer_with, known_of}
-use Rattle.clr_rules.specs.Edits.{edited_all}
+use Rattle.clr_rules.specs.Prelude.{Edit, Command, Kind, Id, Register, record_of, steps_of, holds_of, edited_all}
 use Rattle.clr_rules.specs.Command.{named_clearance}
 use Rattle.clr_rules.specs.Good.{IsGood, ListsAreInOrder}
-use Rattle.clr_rules.specs.Holds.{holds_of}
-use Rattle.clr_rules.specs.Id.{Id}
 use Rattle.clr_rules.specs.Near.{near_part}
 use Rattle.clr_rules.specs.NearLaws.{is_order}
-use Rattle.clr_rules.specs.Records.{record_of}
-use Rattle.clr_rules.specs.Register.{Register}
-use Rattle.clr_rules.specs.Steps.{steps_of}
-use Rattle.clr_rules.specs.declared.change.Edit.{Edit}
-use Rattle.clr_rules.specs.declared.command.Command.{Command}
-use Rattle.clr_rules.specs.declared.command.Kind.{Kind}
 use Rattle.clr_rules.specs.declared.command.Kind.TheVariants.{Instruct}
 
 -- two registers have the same staff, and the same of a clearance: its record, its steps and its holds

@@ -1,8 +1,7 @@
 -- The texts of phases.
 use Rattle.std.specs.Prelude.{ℕ, List, [], ◌∷◌, codes, find, Option}
 use Rattle.std.specs.Str.{bytes_eq}
-use Rattle.clr_rules.specs.declared.phase.Phase.{Phase}
-use Rattle.clr_rules.specs.declared.phase.Phase.TheVariants.{Requested, Ordered, Granted, Released, Restoring, Switching, Closed}
+use Rattle.clr_rules.specs.Prelude.{Phase, Requested, Ordered, Granted, Released, Restoring, Switching, Closed}
 
 abbrev pub phase_text : Phase → List ℕ
 phase_text Requested = codes "Requested"

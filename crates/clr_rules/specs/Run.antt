@@ -4,10 +4,8 @@ use Rattle.clr_net.specs.Grid.{Grid, IsNetwork}
 use Rattle.clr_csv.specs.Staff.{IsStaff}
 use Rattle.clr_csv.specs.declared.employee.StaffRow.{StaffRow}
 use Rattle.clr_rules.specs.Answer.{Answer, answer}
-use Rattle.clr_rules.specs.Edits.{edited_all}
-use Rattle.clr_rules.specs.Register.{Register, opening}
-use Rattle.clr_rules.specs.declared.command.Command.{Command}
-use Rattle.clr_rules.specs.declared.reply.Reply.{Reply}
+use Rattle.clr_rules.specs.Prelude.{Command, Reply, Register, edited_all}
+use Rattle.clr_rules.specs.Register.{opening}
 
 -- the register after a command
 abbrev pub after : Register → Command → Register

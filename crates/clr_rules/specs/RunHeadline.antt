@@ -5,13 +5,10 @@ use Rattle.clr_rules.specs.Agreement.{Agree}
 use Rattle.clr_rules.specs.Answer.{Answer}
 use Rattle.clr_rules.specs.Footprint.{Frame}
 use Rattle.clr_rules.specs.Good.{is_operators}
-use Rattle.clr_rules.specs.Id.{Id}
+use Rattle.clr_rules.specs.Prelude.{Command, Reply, Id, Register}
 use Rattle.clr_rules.specs.Isolation.{HeldStayOpen, is_others, is_own_item}
-use Rattle.clr_rules.specs.Register.{Register}
 use Rattle.clr_rules.specs.Run.{IsReached, after, after_all, replies}
 use Rattle.clr_rules.specs.Shown.{covers, is_own_command, own_answers, shown}
-use Rattle.clr_rules.specs.declared.command.Command.{Command}
-use Rattle.clr_rules.specs.declared.reply.Reply.{Reply}
 
 -- the commands that have a reply: a run that stops leaves the later ones without
 abbrev pub with_reply : List Command → List Reply → List Command

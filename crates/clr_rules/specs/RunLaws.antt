@@ -4,10 +4,9 @@ use Rattle.clr_csv.specs.Staff.{IsStaff}
 use Rattle.clr_csv.specs.declared.employee.StaffRow.{StaffRow}
 use Rattle.clr_net.specs.Grid.{Grid, IsNetwork, point_names}
 use Rattle.clr_rules.specs.Good.{ListsAreInOrder}
-use Rattle.clr_rules.specs.Register.{Register, opening, unplaced_net}
+use Rattle.clr_rules.specs.Prelude.{Command, Register, state_key}
+use Rattle.clr_rules.specs.Register.{opening, unplaced_net}
 use Rattle.clr_rules.specs.Run.{IsReached, after_all, replies}
-use Rattle.clr_rules.specs.States.{state_key}
-use Rattle.clr_rules.specs.declared.command.Command.{Command}
 
 -- in a reached register each list is in key order, one row a key
 abbrev pub ReachedListsAreInOrder : Type 0

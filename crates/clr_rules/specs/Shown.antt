@@ -9,16 +9,10 @@ use Rattle.clr_rules.specs.Answer.{Answer, answer}
 use Rattle.clr_rules.specs.Command.{named_clearance}
 use Rattle.clr_rules.specs.Fences.{clearance_fence, order_fence, touching_names}
 use Rattle.clr_rules.specs.Holds.{is_near_hold}
-use Rattle.clr_rules.specs.Id.{Id, same_id}
-use Rattle.clr_rules.specs.Records.{is_requested, record_of}
-use Rattle.clr_rules.specs.Register.{Register}
+use Rattle.clr_rules.specs.Prelude.{Edit, SetPosition, SetHand, PutHold, TakeHold, PutRecord, PutStep, Command, Kind, Record, Id, same_id, Register, record_of}
+use Rattle.clr_rules.specs.Records.{is_requested}
 use Rattle.clr_rules.specs.Run.{after}
-use Rattle.clr_rules.specs.declared.change.Edit.{Edit}
-use Rattle.clr_rules.specs.declared.change.Edit.TheVariants.{SetPosition, SetHand, PutHold, TakeHold, PutRecord, PutStep}
-use Rattle.clr_rules.specs.declared.command.Command.{Command}
-use Rattle.clr_rules.specs.declared.command.Kind.{Kind}
 use Rattle.clr_rules.specs.declared.command.Kind.TheVariants.{Request, Order}
-use Rattle.clr_rules.specs.declared.record.Record.{Record}
 
 -- whether a command that names no clearance is a request of this requester
 abbrev pub is_request_of : List ℕ → List ℕ → Kind → Bool

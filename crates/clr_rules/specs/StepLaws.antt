@@ -4,15 +4,12 @@ use Rattle.clr_rules.specs.Agreement.{Agree}
 use Rattle.clr_rules.specs.AgreementLaws.{is_about, is_new_of}
 use Rattle.clr_rules.specs.Answer.{Answer, answer}
 use Rattle.clr_rules.specs.Good.{HandMatchesStep, ListsAreInOrder, is_operators}
-use Rattle.clr_rules.specs.Id.{Id}
+use Rattle.clr_rules.specs.Prelude.{Command, Id, Register, record_of}
 use Rattle.clr_rules.specs.Isolation.{AreAlike}
 use Rattle.clr_rules.specs.Near.{near_of}
 use Rattle.clr_rules.specs.NearLaws.{is_order}
-use Rattle.clr_rules.specs.Records.{record_of}
-use Rattle.clr_rules.specs.Register.{Register}
 use Rattle.clr_rules.specs.Run.{after}
 use Rattle.clr_rules.specs.Shown.{asked_row, found_phase_requested, is_own_command}
-use Rattle.clr_rules.specs.declared.command.Command.{Command}
 
 -- THE EDITS OF A COMMAND OF OTHERS are not about the clearance, and give its requester no new clearance. The requester is no operator
 pub record AreOfOthers (c : Id) (R : Register) (q : Command) : Type 0 where

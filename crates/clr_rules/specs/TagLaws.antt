@@ -4,18 +4,9 @@ use Rattle.std.specs.Prelude.{◌≡◌, ℕ, true, false, List, Some}
 use Rattle.std.proofs.Common.{◌⊎◌}
 use Rattle.clr_order.specs.declared.action.Action.TheVariants.{Untag}
 use Rattle.clr_rules.specs.Good.{IsGood}
-use Rattle.clr_rules.specs.Holds.{has_any_hold, has_hold}
-use Rattle.clr_rules.specs.Id.{Id}
-use Rattle.clr_rules.specs.Records.{record_of}
-use Rattle.clr_rules.specs.Register.{Register}
+use Rattle.clr_rules.specs.Prelude.{Command, Tag, Ordered, Granted, Released, Restoring, Record, StepRow, Id, Register, record_of, present, step_at, has_any_hold, has_hold}
 use Rattle.clr_rules.specs.Run.{after}
-use Rattle.clr_rules.specs.Steps.{present, step_at}
-use Rattle.clr_rules.specs.declared.command.Command.{Command}
 use Rattle.clr_rules.specs.declared.command.Kind.TheVariants.{Cancel, Release, Report}
-use Rattle.clr_rules.specs.declared.hold_kind.HoldKind.TheVariants.{Tag}
-use Rattle.clr_rules.specs.declared.phase.Phase.TheVariants.{Granted, Ordered, Released, Restoring}
-use Rattle.clr_rules.specs.declared.record.Record.{Record}
-use Rattle.clr_rules.specs.declared.step_row.StepRow.{StepRow}
 
 -- a command that reports an Untag of a clearance at a point done, while the clearance is Restoring
 pub record IsUntag (R : Register) (c : Id) (p : List ℕ) (q : Command) : Type 0 where

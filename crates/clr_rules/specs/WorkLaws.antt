@@ -7,18 +7,10 @@ use Rattle.clr_net.specs.declared.point.Position.TheVariants.{Opened}
 use Rattle.clr_net.specs.declared.section.SectionRow.{SectionRow}
 use Rattle.clr_rules.specs.Fences.{clearance_fence}
 use Rattle.clr_rules.specs.Good.{IsFullyHeld, IsGood}
-use Rattle.clr_rules.specs.Holds.{has_hold}
-use Rattle.clr_rules.specs.Id.{Id}
+use Rattle.clr_rules.specs.Prelude.{Command, Ground, Crew, Record, Id, Register, position_of, record_of, is_granted, points_of, steps_in, has_hold}
 use Rattle.clr_rules.specs.Live.{is_live}
 use Rattle.clr_rules.specs.LiveLaws.{ClosedWalk}
-use Rattle.clr_rules.specs.Records.{is_granted, record_of}
-use Rattle.clr_rules.specs.Register.{Register}
 use Rattle.clr_rules.specs.Run.{after}
-use Rattle.clr_rules.specs.States.{position_of}
-use Rattle.clr_rules.specs.Steps.{points_of, steps_in}
-use Rattle.clr_rules.specs.declared.command.Command.{Command}
-use Rattle.clr_rules.specs.declared.hold_kind.HoldKind.TheVariants.{Ground, Crew}
-use Rattle.clr_rules.specs.declared.record.Record.{Record}
 
 -- while a clearance is granted, no section of its fence is live
 abbrev pub GrantedFencesStayDead : Type 0

@@ -4,12 +4,9 @@ use Rattle.clr_order.specs.Step.{Task}
 use Rattle.clr_order.specs.declared.step.Step.{Step}
 use Rattle.clr_order.specs.declared.step.StepState.{StepState}
 use Rattle.clr_order.specs.declared.step.StepState.TheVariants.{Done}
-use Rattle.clr_rules.specs.Id.{Id}
+use Rattle.clr_rules.specs.Prelude.{Phase, Record, StepRow, Id}
 use Rattle.clr_rules.specs.Worked.{JONES, KIM, L2, L3, OPS, REED, jones_1, kim_1, ops_1}
-use Rattle.clr_rules.specs.declared.phase.Phase.{Phase}
-use Rattle.clr_rules.specs.declared.record.Record.{Record}
 use Rattle.clr_rules.specs.declared.reply.Card.{Card}
-use Rattle.clr_rules.specs.declared.step_row.StepRow.{StepRow}
 
 -- the record of JONES/1 in a phase, with the moment of its last command; and that of KIM/1, and of OPS/1, which has no work section
 abbrev pub jones_record : Phase → ℕ → Record

@@ -12,15 +12,9 @@ use Rattle.clr_shelf.specs.Members.{Contains-with_other, Contains-with_row, Cont
 use Rattle.clr_shelf.specs.Reading.{row_of-tied, row_of-with, row_of-with_row, row_of-without, row_of-without_row}
 use Rattle.clr_shelf.specs.Rows.{in_key_order, row_of, with_row, without_row}
 use Rattle.clr_rules.specs.EditLaws.{HasRowPut, HasRowTaken, changed_where, is_hold}
-use Rattle.clr_rules.specs.Hold.{hold_cmp, hold_cmp_total}
-use Rattle.clr_rules.specs.Holds.{has_hold, hold_key, hold_of}
-use Rattle.clr_rules.specs.Id.{Id, id_cmp, id_cmp_total, same_id, same_id_ties}
-use Rattle.clr_rules.specs.Records.{record_key, record_of}
-use Rattle.clr_rules.specs.States.{change_state, state_key, state_of}
-use Rattle.clr_rules.specs.declared.hold.Hold.{Hold}
-use Rattle.clr_rules.specs.declared.hold_kind.HoldKind.{HoldKind}
-use Rattle.clr_rules.specs.declared.point_state.PointState.{PointState}
-use Rattle.clr_rules.specs.declared.record.Record.{Record}
+use Rattle.clr_rules.specs.Prelude.{Hold, HoldKind, PointState, Record, Id, id_cmp, id_cmp_total, same_id, state_key, state_of, record_key, record_of, hold_cmp, hold_cmp_total, has_hold, hold_key, hold_of}
+use Rattle.clr_rules.specs.Id.{same_id_ties}
+use Rattle.clr_rules.specs.States.{change_state}
 use Rattle.clr_rules.proofs.lists.StateFacts.{state_of-change, state_of-same}
 
 -- ---- records and holds

@@ -2,16 +2,9 @@
 use Rattle.std.proofs.Common.{List, [], ◌∷◌, refl, ◌∙◌}
 use Rattle.clr_shelf.specs.KeyOrder.{in_key_order-with_row, in_key_order-without_row}
 use Rattle.clr_rules.specs.EditLaws.{KeepsNetwork}
-use Rattle.clr_rules.specs.Edits.{edited, edited_all}
+use Rattle.clr_rules.specs.Prelude.{Edit, SetPosition, SetHand, PutHold, TakeHold, PutRecord, PutStep, id_cmp, id_cmp_total, Register, record_key, step_key, step_key_cmp, step_key_cmp_total, hold_cmp, hold_cmp_total, hold_key, edited}
+use Rattle.clr_rules.specs.Prelude.{edited_all}
 use Rattle.clr_rules.specs.Good.{ListsAreInOrder}
-use Rattle.clr_rules.specs.Hold.{hold_cmp, hold_cmp_total}
-use Rattle.clr_rules.specs.Holds.{hold_key}
-use Rattle.clr_rules.specs.Id.{id_cmp, id_cmp_total}
-use Rattle.clr_rules.specs.Records.{record_key}
-use Rattle.clr_rules.specs.Register.{Register}
-use Rattle.clr_rules.specs.StepKey.{step_key, step_key_cmp, step_key_cmp_total}
-use Rattle.clr_rules.specs.declared.change.Edit.{Edit}
-use Rattle.clr_rules.specs.declared.change.Edit.TheVariants.{SetPosition, SetHand, PutHold, TakeHold, PutRecord, PutStep}
 use Rattle.clr_rules.proofs.lists.StateFacts.{in_key_order-change, state_keys-change}
 
 -- an edit keeps the lists in order

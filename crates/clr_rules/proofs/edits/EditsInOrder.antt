@@ -17,23 +17,9 @@ use Rattle.clr_rules.specs.Commands.{Known, checks, edits_of}
 use Rattle.clr_rules.specs.Changes.{done_edits, edits_by, hold_edits, new_record, new_steps, position_edits, put_steps, undone_edits}
 use Rattle.clr_rules.specs.EditOrder.{are_in_order, edit_cmp}
 use Rattle.clr_rules.specs.Good.{ListsAreInOrder}
-use Rattle.clr_rules.specs.Hold.{hold_cmp, hold_cmp_total}
-use Rattle.clr_rules.specs.Holds.{hold_key, hold_of, places_of, same_kind}
-use Rattle.clr_rules.specs.Id.{Id, id_cmp, id_cmp_total, same_id}
-use Rattle.clr_rules.specs.Records.{is_switch_order, record_of}
-use Rattle.clr_rules.specs.Register.{Register}
-use Rattle.clr_rules.specs.Steps.{present, step_at}
-use Rattle.clr_rules.specs.declared.change.Edit.{Edit}
-use Rattle.clr_rules.specs.declared.change.Edit.TheVariants.{SetHand, PutHold, TakeHold, PutRecord, PutStep}
-use Rattle.clr_rules.specs.declared.command.Command.{Command}
-use Rattle.clr_rules.specs.declared.command.Kind.{Kind}
-use Rattle.clr_rules.specs.declared.hold.Hold.{Hold}
-use Rattle.clr_rules.specs.declared.hold_kind.HoldKind.{HoldKind}
-use Rattle.clr_rules.specs.declared.hold_kind.HoldKind.TheVariants.{HeldOpen, Block, Control, Tag, Tested, Ground, Crew}
-use Rattle.clr_rules.specs.declared.phase.Phase.TheVariants.{Ordered, Restoring, Switching}
-use Rattle.clr_rules.specs.declared.record.Record.{Record}
-use Rattle.clr_rules.specs.declared.refusal.Refusal.{Refusal}
-use Rattle.clr_rules.specs.declared.step_row.StepRow.{StepRow}
+use Rattle.clr_rules.specs.Prelude.{Edit, SetHand, PutHold, TakeHold, PutRecord, PutStep, Command, Kind, Hold, HoldKind, HeldOpen, Block, Control, Tag, Tested, Ground, Crew, Ordered, Restoring, Switching, Record, Refusal, StepRow, Id}
+use Rattle.clr_rules.specs.Prelude.{id_cmp, id_cmp_total, same_id, Register, record_of, present, step_at, hold_cmp, hold_cmp_total, hold_key, hold_of, places_of, same_kind}
+use Rattle.clr_rules.specs.Records.{is_switch_order}
 use Rattle.clr_rules.specs.declared.command.Kind.TheVariants as kinds
 use Rattle.clr_rules.proofs.lists.RoundSteps.{one_id}
 

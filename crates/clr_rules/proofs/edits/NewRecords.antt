@@ -15,10 +15,9 @@ use Rattle.clr_shelf.specs.Lists.{Contains-cases, Contains-here, Contains-later,
 use Rattle.clr_shelf.specs.Members.{member-row_of}
 use Rattle.clr_shelf.specs.Rows.{with_row}
 use Rattle.clr_rules.specs.GoodByPhase.{IsGoodByPhase}
-use Rattle.clr_rules.specs.Id.{Id, id_cmp, id_cmp_total, same_id_from_tie}
-use Rattle.clr_rules.specs.Records.{greater, greatest_number, numbers_of, record_key, record_of}
-use Rattle.clr_rules.specs.Register.{Register}
-use Rattle.clr_rules.specs.declared.record.Record.{Record}
+use Rattle.clr_rules.specs.Prelude.{Record, Id, id_cmp, id_cmp_total, Register, greatest_number, record_key, record_of}
+use Rattle.clr_rules.specs.Id.{same_id_from_tie}
+use Rattle.clr_rules.specs.Records.{greater, numbers_of}
 use Rattle.clr_rules.proofs.lists.Filters.{there_mapped}
 use Rattle.clr_rules.proofs.lists.NamedRows.{Contains-filter}
 use Rattle.clr_rules.proofs.lists.RoundSteps.{record_id}

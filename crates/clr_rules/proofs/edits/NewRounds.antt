@@ -20,18 +20,12 @@ use Rattle.clr_shelf.specs.Keys.{equal}
 use Rattle.clr_shelf.specs.Lists.{Contains-here, Contains-later}
 use Rattle.clr_shelf.specs.Rows.{in_key_order, with_row}
 use Rattle.clr_rules.specs.Changes.{new_steps, put_steps}
-use Rattle.clr_rules.specs.Edits.{edited_all}
+use Rattle.clr_rules.specs.Prelude.{PutRecord, Record, StepRow, Id, id_cmp, id_cmp_total, same_id, Register, record_key, step_key, step_key_cmp, step_key_cmp_total, is_active, steps_in, steps_of, tasks_of, edited_all}
 use Rattle.clr_rules.specs.Good.{is_closing_at}
 use Rattle.clr_rules.specs.GoodByPhase.{ActiveInRound, InPhase, IsGoodByPhase, active_at, all_waiting, go_in_turn, of_round}
-use Rattle.clr_rules.specs.Id.{Id, id_cmp, id_cmp_total, same_id}
-use Rattle.clr_rules.specs.Records.{record_key}
-use Rattle.clr_rules.specs.Register.{Register}
-use Rattle.clr_rules.specs.StepKey.{same_step_key, step_key, step_key_cmp, step_key_cmp_total}
-use Rattle.clr_rules.specs.Steps.{is_active, is_of_round, steps_in, steps_of, tasks_of}
-use Rattle.clr_rules.specs.declared.change.Edit.TheVariants.{PutRecord}
-use Rattle.clr_rules.specs.declared.record.Record.{Record}
+use Rattle.clr_rules.specs.StepKey.{same_step_key}
+use Rattle.clr_rules.specs.Steps.{is_of_round}
 use Rattle.clr_rules.specs.declared.step_row.StepKey.{StepKey}
-use Rattle.clr_rules.specs.declared.step_row.StepRow.{StepRow}
 use Rattle.clr_rules.proofs.edits.PutRecords.{Moved, outlook_with, quiet}
 use Rattle.clr_rules.proofs.edits.PutSteps.{closes_at, closing_by, own_steps, put_step}
 use Rattle.clr_rules.proofs.lists.RoundSteps.{All-from_each, of_round_is, of_the_round, own_id}

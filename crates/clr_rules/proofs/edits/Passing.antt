@@ -6,15 +6,9 @@ use Rattle.clr_rules.specs.Answer.{first_refusal}
 use Rattle.clr_rules.specs.Checks.{refuse, unknown_clearance, where_some, wrong_phase}
 use Rattle.clr_rules.specs.Command.{named_clearance}
 use Rattle.clr_rules.specs.Good.{has_record}
-use Rattle.clr_rules.specs.Id.{Id}
-use Rattle.clr_rules.specs.Register.{Register}
-use Rattle.clr_rules.specs.Records.{record_of}
-use Rattle.clr_rules.specs.declared.command.Kind.{Kind}
+use Rattle.clr_rules.specs.Prelude.{Kind, Phase, Record, Refusal, Id, Register, record_of}
 use Rattle.clr_rules.specs.declared.command.Kind.TheVariants.{Request, Order, Instruct, Repeat, Report, Grant, Test, Ground, Unground, SignOn, SignOff, Transfer, Release, Cancel, Restore, Amend, Switch, Show}
-use Rattle.clr_rules.specs.declared.refusal.Refusal.{Refusal}
 use Rattle.clr_rules.specs.declared.refusal.Refusal.TheVariants.{UnknownClearance, WrongPhase}
-use Rattle.clr_rules.specs.declared.phase.Phase.{Phase}
-use Rattle.clr_rules.specs.declared.record.Record.{Record}
 
 -- each of these checks says nothing
 abbrev pub Pass : List (Option Refusal) → Type 0

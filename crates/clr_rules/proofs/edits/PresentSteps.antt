@@ -7,16 +7,10 @@ use Rattle.clr_order.specs.declared.step.StepState.{StepState}
 use Rattle.clr_order.specs.declared.step.StepState.TheVariants.{Waiting, Instructed, Repeated, Done}
 use Rattle.clr_rules.specs.Changes.{edits_by, with_step}
 use Rattle.clr_rules.specs.Checks.{no_step}
-use Rattle.clr_rules.specs.Edits.{edited_all}
+use Rattle.clr_rules.specs.Prelude.{Edit, Record, StepRow, Id, Register, record_of, is_running, all_done, is_active, is_done, is_some_step, is_waiting, present, present_round, step_at, steps_in, steps_of, edited_all}
 use Rattle.clr_rules.specs.GoodByPhase.{ActiveInRound, IsGoodByPhase, go_in_turn, of_round, outlook_of, present_of}
-use Rattle.clr_rules.specs.Id.{Id}
-use Rattle.clr_rules.specs.Records.{is_running, record_of}
-use Rattle.clr_rules.specs.Register.{Register}
-use Rattle.clr_rules.specs.Steps.{all_done, is_active, is_done, is_in_turn, is_of_round, is_some_step, is_waiting, present, present_round, step_at, steps_in, steps_of}
-use Rattle.clr_rules.specs.declared.change.Edit.{Edit}
-use Rattle.clr_rules.specs.declared.record.Record.{Record}
+use Rattle.clr_rules.specs.Steps.{is_in_turn, is_of_round}
 use Rattle.clr_rules.specs.declared.refusal.Refusal.TheVariants.{NoStep}
-use Rattle.clr_rules.specs.declared.step_row.StepRow.{StepRow}
 use Rattle.clr_rules.proofs.keeps.OneRecord.{in_phase_of}
 use Rattle.clr_rules.proofs.edits.Passing.{not_refused_true}
 use Rattle.clr_rules.proofs.good.PhaseFacts.{step_facts}

@@ -13,18 +13,10 @@ use Rattle.clr_shelf.specs.Members.{member-row_of}
 use Rattle.clr_shelf.specs.Rows.{with_row}
 use Rattle.clr_rules.specs.Good.{has_record, is_closing_at, is_known_work, is_operators}
 use Rattle.clr_rules.specs.GoodByPhase.{IsGoodByPhase, IsInPlace, Outlook, outlook_of}
-use Rattle.clr_rules.specs.HoldKind.{is_point_kind}
-use Rattle.clr_rules.specs.Holds.{has_hold}
-use Rattle.clr_rules.specs.Id.{Id, id_cmp, id_cmp_total, same_id, same_id_from_tie}
-use Rattle.clr_rules.specs.Records.{is_switch_order, lacks_work, numbers_of, record_key, record_of}
-use Rattle.clr_rules.specs.Register.{Register}
-use Rattle.clr_rules.specs.States.{has_in_hand, position_of}
-use Rattle.clr_rules.specs.Steps.{is_active, is_close, steps_of}
-use Rattle.clr_rules.specs.declared.hold_kind.HoldKind.{HoldKind}
-use Rattle.clr_rules.specs.declared.hold_kind.HoldKind.TheVariants.{HeldOpen}
-use Rattle.clr_rules.specs.declared.point_state.PointState.{PointState}
-use Rattle.clr_rules.specs.declared.record.Record.{Record}
-use Rattle.clr_rules.specs.declared.step_row.StepRow.{StepRow}
+use Rattle.clr_rules.specs.Prelude.{HoldKind, HeldOpen, PointState, Record, StepRow, Id, id_cmp, id_cmp_total, same_id, Register, has_in_hand, position_of, record_key, record_of, is_active, steps_of, is_point_kind, has_hold}
+use Rattle.clr_rules.specs.Id.{same_id_from_tie}
+use Rattle.clr_rules.specs.Records.{is_switch_order, lacks_work, numbers_of}
+use Rattle.clr_rules.specs.Steps.{is_close}
 use Rattle.clr_rules.proofs.edits.EditReading.{record_of-put}
 use Rattle.clr_rules.proofs.lists.Greatest.{numbers_by_ids}
 use Rattle.clr_rules.proofs.good.Keeping.{Changed, same_outlook}

@@ -7,18 +7,7 @@ use Rattle.clr_order.specs.declared.action.Action.{Action}
 use Rattle.clr_order.specs.declared.action.Action.TheVariants as actions
 use Rattle.clr_rules.specs.Changes.{edits_by, hold_edits, position_edits, put_steps, with_record, with_step}
 use Rattle.clr_rules.specs.EditLaws.{is_hold}
-use Rattle.clr_rules.specs.Edits.{edited, edited_all}
-use Rattle.clr_rules.specs.Holds.{has_hold, hold_of}
-use Rattle.clr_rules.specs.Id.{Id, same_id}
-use Rattle.clr_rules.specs.Records.{record_of}
-use Rattle.clr_rules.specs.Register.{Register}
-use Rattle.clr_rules.specs.Steps.{present, step_at}
-use Rattle.clr_rules.specs.declared.change.Edit.{Edit}
-use Rattle.clr_rules.specs.declared.change.Edit.TheVariants.{SetPosition, SetHand, PutHold, TakeHold, PutRecord, PutStep}
-use Rattle.clr_rules.specs.declared.hold_kind.HoldKind.{HoldKind}
-use Rattle.clr_rules.specs.declared.hold_kind.HoldKind.TheVariants.{Tested}
-use Rattle.clr_rules.specs.declared.record.Record.{Record}
-use Rattle.clr_rules.specs.declared.step_row.StepRow.{StepRow}
+use Rattle.clr_rules.specs.Prelude.{Edit, SetPosition, SetHand, PutHold, TakeHold, PutRecord, PutStep, HoldKind, Tested, Record, StepRow, Id, same_id, Register, record_of, present, step_at, has_hold, hold_of, edited, edited_all}
 use Rattle.clr_rules.proofs.edits.EditReading.{has_hold-put, has_hold-taken, record_of-put}
 
 -- edits of a record that is found, and of its step

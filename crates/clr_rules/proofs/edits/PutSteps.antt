@@ -12,16 +12,10 @@ use Rattle.clr_shelf.specs.KeyOrder.{in_key_order-filter}
 use Rattle.clr_shelf.specs.Rows.{in_key_order, with_row}
 use Rattle.clr_rules.specs.Good.{is_closing_at}
 use Rattle.clr_rules.specs.GoodByPhase.{InPhase, IsGoodByPhase, IsInPlace, outlook_of}
-use Rattle.clr_rules.specs.Id.{Id, same_id}
-use Rattle.clr_rules.specs.Register.{Register}
-use Rattle.clr_rules.specs.States.{has_in_hand, is_hand, state_of}
-use Rattle.clr_rules.specs.StepKey.{step_key, step_key_cmp, step_key_cmp_total}
-use Rattle.clr_rules.specs.Steps.{is_active, is_close, steps_of}
-use Rattle.clr_rules.specs.declared.hold_kind.HoldKind.{HoldKind}
-use Rattle.clr_rules.specs.declared.point_state.PointState.{PointState}
-use Rattle.clr_rules.specs.declared.record.Record.{Record}
+use Rattle.clr_rules.specs.Prelude.{HoldKind, PointState, Record, StepRow, Id, same_id, Register, has_in_hand, state_of, step_key, step_key_cmp, step_key_cmp_total, is_active, steps_of}
+use Rattle.clr_rules.specs.States.{is_hand}
+use Rattle.clr_rules.specs.Steps.{is_close}
 use Rattle.clr_rules.specs.declared.step_row.StepKey.{StepKey}
-use Rattle.clr_rules.specs.declared.step_row.StepRow.{StepRow}
 use Rattle.clr_rules.proofs.lists.StateFacts.{hand_of-handed, hand_of-handed_other, handed, state_is_known}
 use Rattle.clr_rules.proofs.edits.PresentSteps.{IsPresent}
 use Rattle.clr_rules.proofs.lists.RoundSteps.{among_own, one_id, own_id}

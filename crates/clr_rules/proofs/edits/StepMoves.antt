@@ -11,14 +11,8 @@ use Rattle.clr_order.specs.Step.{Task, task, task_points}
 use Rattle.clr_shelf.specs.Lists.{list_all-contains}
 use Rattle.clr_rules.specs.Good.{left, put_by, puts}
 use Rattle.clr_rules.specs.GoodByPhase.{ActiveInRound, InPhase, active_at, all_waiting, go_in_turn, of_round, present_of}
-use Rattle.clr_rules.specs.Holds.{once}
-use Rattle.clr_rules.specs.Records.{is_running}
-use Rattle.clr_rules.specs.Steps.{all_done, is_active, is_done, is_some_step, is_waiting, points_of, some_active, tasks_of}
-use Rattle.clr_rules.specs.declared.hold_kind.HoldKind.{HoldKind}
-use Rattle.clr_rules.specs.declared.phase.Phase.{Phase}
-use Rattle.clr_rules.specs.declared.phase.Phase.TheVariants.{Requested, Ordered, Granted, Released, Restoring, Switching, Closed}
-use Rattle.clr_rules.specs.declared.record.Record.{Record}
-use Rattle.clr_rules.specs.declared.step_row.StepRow.{StepRow}
+use Rattle.clr_rules.specs.Prelude.{HoldKind, Phase, Requested, Ordered, Granted, Released, Restoring, Switching, Closed, Record, StepRow, is_running, all_done, is_active, is_done, is_some_step, is_waiting, points_of, tasks_of, once}
+use Rattle.clr_rules.specs.Steps.{some_active}
 use Rattle.clr_rules.proofs.good.PhaseFacts.{first_present}
 use Rattle.clr_rules.proofs.good.PlaceFacts.{done_rests, in_round}
 use Rattle.clr_rules.proofs.lists.RoundSteps.{All-from_each, some_step_there}

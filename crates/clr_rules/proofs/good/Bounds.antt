@@ -15,25 +15,14 @@ use Rattle.clr_rules.specs.BoundLaws.{IsBounded}
 use Rattle.clr_rules.specs.Changes.{done_edits, new_steps, put_steps, undone_edits}
 use Rattle.clr_rules.specs.Checks.{too_many_clearances}
 use Rattle.clr_rules.specs.EditLaws.{refusal_of}
-use Rattle.clr_rules.specs.Edits.{edited, edited_all}
-use Rattle.clr_rules.specs.Holds.{hold_of, places_of}
-use Rattle.clr_rules.specs.Id.{Id, id_cmp, id_cmp_total}
+use Rattle.clr_rules.specs.Prelude.{Edit, SetPosition, SetHand, PutHold, TakeHold, PutRecord, PutStep, Command, Kind, Tested, Record, Refusal, StepRow, Id, id_cmp, id_cmp_total, Register, greatest_number, record_key, record_of, step_key}
+use Rattle.clr_rules.specs.Prelude.{step_key_cmp, step_key_cmp_total, present, step_at, hold_of, places_of, edited, edited_all}
 use Rattle.clr_rules.proofs.good.Keeping.{asked}
-use Rattle.clr_rules.specs.Records.{greatest_number, is_switch_order, record_key, record_of}
-use Rattle.clr_rules.specs.Register.{Register, opening}
+use Rattle.clr_rules.specs.Records.{is_switch_order}
+use Rattle.clr_rules.specs.Register.{opening}
 use Rattle.clr_rules.specs.Run.{IsReached, after}
-use Rattle.clr_rules.specs.StepKey.{step_key, step_key_cmp, step_key_cmp_total}
-use Rattle.clr_rules.specs.Steps.{present, step_at}
-use Rattle.clr_rules.specs.declared.change.Edit.{Edit}
-use Rattle.clr_rules.specs.declared.change.Edit.TheVariants.{PutHold, PutRecord, PutStep, SetHand, SetPosition, TakeHold}
-use Rattle.clr_rules.specs.declared.command.Command.{Command}
-use Rattle.clr_rules.specs.declared.command.Kind.{Kind}
 use Rattle.clr_rules.specs.declared.command.Kind.TheVariants as kinds
-use Rattle.clr_rules.specs.declared.hold_kind.HoldKind.TheVariants.{Tested}
-use Rattle.clr_rules.specs.declared.record.Record.{Record}
-use Rattle.clr_rules.specs.declared.refusal.Refusal.{Refusal}
 use Rattle.clr_rules.specs.declared.refusal.Refusal.TheVariants.{TooManyClearances}
-use Rattle.clr_rules.specs.declared.step_row.StepRow.{StepRow}
 use Rattle.clr_rules.proofs.lists.FoundSteps.{present_step}
 use Rattle.clr_rules.proofs.lists.Greatest.{greatest_is_greatest}
 use Rattle.clr_rules.proofs.edits.Passing.{Pass, all_pass, not_refused}

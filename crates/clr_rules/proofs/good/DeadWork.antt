@@ -11,19 +11,12 @@ use Rattle.clr_net.proofs.Walks.{fence_is_closed}
 use Rattle.clr_shelf.specs.Members.{member-row_of}
 use Rattle.clr_rules.specs.Fences.{clearance_fence, work_fence}
 use Rattle.clr_rules.specs.Good.{IsFullyHeld, IsGood, is_known_work, works_on}
-use Rattle.clr_rules.specs.Holds.{has_hold}
-use Rattle.clr_rules.specs.Id.{Id, id_cmp, id_cmp_total}
+use Rattle.clr_rules.specs.Prelude.{HeldOpen, Ground, Crew, Phase, Requested, Ordered, Granted, Released, Restoring, Switching, Closed, Record, Id, id_cmp, id_cmp_total, Register, position_of, record_key, record_of, is_granted}
+use Rattle.clr_rules.specs.Prelude.{points_of, steps_in, has_hold}
 use Rattle.clr_rules.specs.Live.{is_live}
 use Rattle.clr_rules.specs.LiveLaws.{ClosedWalk}
-use Rattle.clr_rules.specs.Records.{is_fenced, is_granted, record_key, record_of}
-use Rattle.clr_rules.specs.Register.{Register}
-use Rattle.clr_rules.specs.States.{position_of}
-use Rattle.clr_rules.specs.Steps.{points_of, steps_in}
+use Rattle.clr_rules.specs.Records.{is_fenced}
 use Rattle.clr_rules.specs.WorkLaws.{IsSafeWork}
-use Rattle.clr_rules.specs.declared.hold_kind.HoldKind.TheVariants.{HeldOpen, Ground, Crew}
-use Rattle.clr_rules.specs.declared.phase.Phase.{Phase}
-use Rattle.clr_rules.specs.declared.phase.Phase.TheVariants.{Requested, Ordered, Granted, Released, Restoring, Switching, Closed}
-use Rattle.clr_rules.specs.declared.record.Record.{Record}
 use Rattle.clr_rules.proofs.live.FenceCuts.{named_from_in_fence}
 use Rattle.clr_rules.proofs.live.LiveSections.{live_is_closed_walks}
 

@@ -12,20 +12,10 @@ use Rattle.clr_order.proofs.Undoing.{rule_undoes}
 use Rattle.clr_rules.specs.Fences.{clearance_fence}
 use Rattle.clr_rules.specs.Good.{IsGood, has_record, is_active_at, left}
 use Rattle.clr_rules.specs.GoodByPhase.{ActiveInRound, HasNoWork, HoldsAsPut, HoldsNothing, InPhase, InPlaceAs, IsGoodByPhase, IsInPlace, Isolates, active_at, go_in_turn, inner_fence, of_round, outlook_of, present_of}
-use Rattle.clr_rules.specs.HoldKind.{is_point_kind}
-use Rattle.clr_rules.specs.Holds.{has_hold, held_at, hold_of}
-use Rattle.clr_rules.specs.Id.{Id, same_id}
-use Rattle.clr_rules.specs.Records.{is_closed, is_granted, is_in_switching, is_requested, is_restoring, is_running, is_standing, lacks_work, record_of}
-use Rattle.clr_rules.specs.Register.{Register}
-use Rattle.clr_rules.specs.States.{has_in_hand}
-use Rattle.clr_rules.specs.Steps.{is_active, is_in_turn, is_some_step, is_waiting, present_round, some_active, steps_in, steps_of, tasks_of}
-use Rattle.clr_rules.specs.declared.hold.Hold.{Hold}
-use Rattle.clr_rules.specs.declared.hold_kind.HoldKind.{HoldKind}
-use Rattle.clr_rules.specs.declared.hold_kind.HoldKind.TheVariants.{HeldOpen, Block, Control, Tag}
-use Rattle.clr_rules.specs.declared.phase.Phase.{Phase}
-use Rattle.clr_rules.specs.declared.phase.Phase.TheVariants.{Requested, Ordered, Granted, Released, Restoring, Switching, Closed}
-use Rattle.clr_rules.specs.declared.record.Record.{Record}
-use Rattle.clr_rules.specs.declared.step_row.StepRow.{StepRow}
+use Rattle.clr_rules.specs.Prelude.{Hold, HoldKind, HeldOpen, Block, Control, Tag, Phase, Requested, Ordered, Granted, Released, Restoring, Switching, Closed, Record, StepRow, Id, same_id, Register, has_in_hand, record_of, is_running}
+use Rattle.clr_rules.specs.Prelude.{is_standing, is_granted, is_restoring, is_active, is_some_step, is_waiting, present_round, steps_in, steps_of, tasks_of, is_point_kind, has_hold, held_at, hold_of}
+use Rattle.clr_rules.specs.Records.{is_closed, is_in_switching, is_requested, lacks_work}
+use Rattle.clr_rules.specs.Steps.{is_in_turn, some_active}
 use Rattle.clr_rules.proofs.lists.HoldMembers.{hold_there}
 use Rattle.clr_rules.proofs.good.PutHolds.{some_isolating}
 use Rattle.clr_rules.proofs.lists.RoundSteps.{All-in_round, no_step_of, no_step_there, of_round_is, of_the_round, one_id, present_of_is, record_id}

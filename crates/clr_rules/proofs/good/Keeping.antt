@@ -9,24 +9,11 @@ use Rattle.clr_rules.specs.Answer.{Answer, known_of, settled}
 use Rattle.clr_rules.specs.Commands.{checks, edits_of}
 use Rattle.clr_rules.specs.Checks.{employee, has_role, is_operator}
 use Rattle.clr_rules.specs.EditLaws.{KeepsNetwork, refusal_of}
-use Rattle.clr_rules.specs.Edits.{edited_all}
+use Rattle.clr_rules.specs.Prelude.{Edit, Command, Kind, HoldKind, HeldOpen, Record, Refusal, Id, same_id, Register, has_in_hand, position_of, record_of, steps_of, is_point_kind, has_hold, edited_all}
 use Rattle.clr_rules.specs.Good.{is_closing_at, is_known_work, is_operators, IsGood}
 use Rattle.clr_rules.specs.GoodByPhase.{IsGoodByPhase, IsInPlace, outlook_of}
-use Rattle.clr_rules.specs.HoldKind.{is_point_kind}
-use Rattle.clr_rules.specs.Holds.{has_hold}
-use Rattle.clr_rules.specs.Id.{Id, same_id}
-use Rattle.clr_rules.specs.Records.{is_switch_order, numbers_of, record_of}
-use Rattle.clr_rules.specs.Register.{Register}
+use Rattle.clr_rules.specs.Records.{is_switch_order, numbers_of}
 use Rattle.clr_rules.specs.Run.{after}
-use Rattle.clr_rules.specs.States.{has_in_hand, position_of}
-use Rattle.clr_rules.specs.Steps.{steps_of}
-use Rattle.clr_rules.specs.declared.command.Command.{Command}
-use Rattle.clr_rules.specs.declared.change.Edit.{Edit}
-use Rattle.clr_rules.specs.declared.command.Kind.{Kind}
-use Rattle.clr_rules.specs.declared.hold_kind.HoldKind.{HoldKind}
-use Rattle.clr_rules.specs.declared.hold_kind.HoldKind.TheVariants.{HeldOpen}
-use Rattle.clr_rules.specs.declared.record.Record.{Record}
-use Rattle.clr_rules.specs.declared.refusal.Refusal.{Refusal}
 use Rattle.clr_rules.proofs.edits.EditedLists.{edited_all-in_order, edited_all-network}
 use Rattle.clr_rules.proofs.good.GoodToPhases.{to_phases}
 use Rattle.clr_rules.proofs.edits.Passing.{Pass, all_pass}

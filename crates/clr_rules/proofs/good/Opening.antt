@@ -20,16 +20,10 @@ use Rattle.clr_csv.specs.declared.employee.StaffRow.{StaffRow}
 use Rattle.clr_shelf.specs.Rows.{in_key_order, row_of}
 use Rattle.clr_rules.specs.RunLaws.{KeepsOpening}
 use Rattle.clr_rules.specs.Good.{IsGood, ListsAreInOrder, has_record, is_active_at, is_closing_at, is_known_work}
-use Rattle.clr_rules.specs.Holds.{has_hold}
-use Rattle.clr_rules.specs.Id.{Id}
-use Rattle.clr_rules.specs.Records.{record_of}
+use Rattle.clr_rules.specs.Prelude.{Hold, HoldKind, Record, StepRow, Id, has_in_hand, state_key, state_of, record_of, is_waiting, steps_in, steps_of, has_hold}
 use Rattle.clr_rules.specs.Register.{first_state, opening, unplaced, unplaced_net}
-use Rattle.clr_rules.specs.States.{hand_in, has_in_hand, is_hand, state_key, state_of}
-use Rattle.clr_rules.specs.Steps.{is_in_turn, is_waiting, steps_in, steps_of}
-use Rattle.clr_rules.specs.declared.hold.Hold.{Hold}
-use Rattle.clr_rules.specs.declared.hold_kind.HoldKind.{HoldKind}
-use Rattle.clr_rules.specs.declared.record.Record.{Record}
-use Rattle.clr_rules.specs.declared.step_row.StepRow.{StepRow}
+use Rattle.clr_rules.specs.States.{hand_in, is_hand}
+use Rattle.clr_rules.specs.Steps.{is_in_turn}
 use Rattle.clr_rules.proofs.lists.StateFacts.{state_of-first, state_of-none}
 
 module _ {Key Row : Type 0} (compare : Key → Key → Ordering) (key_of : Row → Key) where

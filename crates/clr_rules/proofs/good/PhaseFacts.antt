@@ -15,14 +15,10 @@ use Rattle.clr_shelf.specs.Lists.{Contains-cases}
 use Rattle.clr_rules.specs.Fences.{work_fence}
 use Rattle.clr_rules.specs.Good.{IsSoundFor, left}
 use Rattle.clr_rules.specs.GoodByPhase.{ActiveInRound, HasNoWork, HoldsAsPut, HoldsNothing, InPhase, InRestoring, Isolates, Outlook, go_in_turn, of_round, present_of}
-use Rattle.clr_rules.specs.HoldKind.{is_point_kind}
-use Rattle.clr_rules.specs.Records.{is_closed, is_granted, is_in_switching, is_requested, is_restoring, is_running, is_standing, lacks_work}
-use Rattle.clr_rules.specs.Steps.{all_done, is_active, is_some_step, points_of, some_active, tasks_of}
-use Rattle.clr_rules.specs.declared.hold_kind.HoldKind.{HoldKind}
-use Rattle.clr_rules.specs.declared.hold_kind.HoldKind.TheVariants.{HeldOpen, Block, Control, Tag, Tested, Ground, Crew}
-use Rattle.clr_rules.specs.declared.phase.Phase.{Phase}
-use Rattle.clr_rules.specs.declared.phase.Phase.TheVariants.{Requested, Ordered, Granted, Released, Restoring, Switching, Closed}
-use Rattle.clr_rules.specs.declared.step_row.StepRow.{StepRow}
+use Rattle.clr_rules.specs.Prelude.{HoldKind, HeldOpen, Block, Control, Tag, Tested, Ground, Crew, Phase, Requested, Ordered, Granted, Released, Restoring, Switching, Closed, StepRow, is_running, is_standing, is_granted, is_restoring}
+use Rattle.clr_rules.specs.Prelude.{all_done, is_active, is_some_step, points_of, tasks_of, is_point_kind}
+use Rattle.clr_rules.specs.Records.{is_closed, is_in_switching, is_requested, lacks_work}
+use Rattle.clr_rules.specs.Steps.{some_active}
 use Rattle.clr_rules.proofs.good.PutHolds.{put_at_points, put_beside_open, some_isolating}
 use Rattle.clr_rules.proofs.lists.RoundSteps.{All-from_each}
 

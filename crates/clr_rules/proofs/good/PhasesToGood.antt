@@ -12,21 +12,10 @@ use Rattle.clr_order.specs.Step.{actions_at}
 use Rattle.clr_rules.specs.Fences.{clearance_fence, work_fence}
 use Rattle.clr_rules.specs.Good.{GrantedPointsAreHeld, HandMatchesStep, HeldPointsAreOpen, HoldsAreWhatDoneStepsPut, IsFullyHeld, IsGood, IsSoundFor, NumbersHaveNoGaps, StepsGoInTurn, SwitchOrdersAreOperators, WorkHoldsBelong, has_record, is_active_at, puts, works_on}
 use Rattle.clr_rules.specs.GoodByPhase.{InPhase, InPlaceAs, IsBare, IsGoodByPhase, active_at, of_round, outlook_of, present_of}
-use Rattle.clr_rules.specs.HoldKind.{is_point_kind}
-use Rattle.clr_rules.specs.Holds.{has_hold, once}
-use Rattle.clr_rules.specs.Id.{Id}
+use Rattle.clr_rules.specs.Prelude.{Hold, HoldKind, HeldOpen, Block, Control, Tag, Tested, Ground, Phase, Requested, Ordered, Granted, Released, Restoring, Switching, Closed, Record, StepRow, Id, Register, has_in_hand, record_of}
+use Rattle.clr_rules.specs.Prelude.{is_running, is_standing, is_granted, is_restoring, is_active, is_waiting, points_of, present_round, steps_in, steps_of, tasks_of, is_point_kind, has_hold, once}
 use Rattle.clr_rules.specs.Live.{is_live, is_shut}
-use Rattle.clr_rules.specs.Records.{is_granted, is_restoring, is_running, is_standing, record_of}
-use Rattle.clr_rules.specs.Register.{Register}
-use Rattle.clr_rules.specs.States.{has_in_hand}
-use Rattle.clr_rules.specs.Steps.{is_active, is_in_turn, is_waiting, points_of, present_round, steps_in, steps_of, tasks_of}
-use Rattle.clr_rules.specs.declared.hold.Hold.{Hold}
-use Rattle.clr_rules.specs.declared.hold_kind.HoldKind.{HoldKind}
-use Rattle.clr_rules.specs.declared.hold_kind.HoldKind.TheVariants.{HeldOpen, Block, Control, Tag, Tested, Ground}
-use Rattle.clr_rules.specs.declared.phase.Phase.{Phase}
-use Rattle.clr_rules.specs.declared.phase.Phase.TheVariants.{Requested, Ordered, Granted, Released, Restoring, Switching, Closed}
-use Rattle.clr_rules.specs.declared.record.Record.{Record}
-use Rattle.clr_rules.specs.declared.step_row.StepRow.{StepRow}
+use Rattle.clr_rules.specs.Steps.{is_in_turn}
 use Rattle.clr_rules.proofs.live.DeadFences.{dead_work_fence}
 use Rattle.clr_rules.proofs.lists.HoldMembers.{hold_had}
 use Rattle.clr_rules.proofs.good.PhaseFacts.{HoldFacts, OrderFacts, StepFacts, WorkFacts, hold_facts, order_facts, stands_at_work, step_facts, work_facts}

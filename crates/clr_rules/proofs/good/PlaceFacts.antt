@@ -8,13 +8,8 @@ use Rattle.clr_order.specs.declared.step.StepState.{StepState}
 use Rattle.clr_order.specs.declared.step.StepState.TheVariants.{Waiting, Instructed, Repeated, Done}
 use Rattle.clr_shelf.specs.Lists.{list_all-contains}
 use Rattle.clr_rules.specs.GoodByPhase.{ActiveInRound, InPhase, Outlook, of_round}
-use Rattle.clr_rules.specs.Records.{is_ordered}
-use Rattle.clr_rules.specs.Steps.{all_done, is_active, is_done, some_active}
-use Rattle.clr_rules.specs.declared.step_row.StepRow.{StepRow}
-use Rattle.clr_rules.specs.declared.hold_kind.HoldKind.TheVariants.{Tested, Ground, Crew}
-use Rattle.clr_rules.specs.declared.phase.Phase.{Phase}
-use Rattle.clr_rules.specs.declared.phase.Phase.TheVariants.{Requested, Ordered, Granted, Released, Restoring, Switching, Closed}
-use Rattle.clr_rules.specs.declared.record.Record.{Record}
+use Rattle.clr_rules.specs.Prelude.{Tested, Ground, Crew, Phase, Requested, Ordered, Granted, Released, Restoring, Switching, Closed, Record, StepRow, is_ordered, all_done, is_active, is_done}
+use Rattle.clr_rules.specs.Steps.{some_active}
 use Rattle.clr_rules.proofs.lists.NamedRows.{Contains-filter}
 use Rattle.clr_rules.proofs.lists.RoundSteps.{All-from_each}
 

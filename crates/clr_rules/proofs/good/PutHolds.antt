@@ -25,11 +25,7 @@ use Rattle.clr_order.specs.declared.action.Action.TheVariants as actions
 use Rattle.clr_shelf.specs.Lists.{Contains-cases, Contains-here, Contains-later}
 use Rattle.clr_rules.specs.Good.{put_by, puts}
 use Rattle.clr_rules.specs.GoodByPhase.{all_waiting, go_in_turn}
-use Rattle.clr_rules.specs.Holds.{once}
-use Rattle.clr_rules.specs.Steps.{all_done, is_done, is_some_step, is_waiting, points_of, tasks_of}
-use Rattle.clr_rules.specs.declared.hold_kind.HoldKind.{HoldKind}
-use Rattle.clr_rules.specs.declared.hold_kind.HoldKind.TheVariants.{HeldOpen, Block, Control, Tag}
-use Rattle.clr_rules.specs.declared.step_row.StepRow.{StepRow}
+use Rattle.clr_rules.specs.Prelude.{HoldKind, HeldOpen, Block, Control, Tag, StepRow, all_done, is_done, is_some_step, is_waiting, points_of, tasks_of, once}
 use Rattle.clr_rules.proofs.live.FenceCuts.{has_name-once}
 use Rattle.clr_rules.proofs.lists.NamedRows.{has_name-row}
 use Rattle.clr_rules.proofs.lists.RoundSteps.{some_step_there}

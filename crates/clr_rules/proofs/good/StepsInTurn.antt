@@ -11,10 +11,8 @@ use Rattle.clr_shelf.specs.KeyOrder.{in_key_order-filter, in_key_order-first, in
 use Rattle.clr_shelf.specs.Lists.{Contains-cases, Contains-here, Contains-later, list_all-contains}
 use Rattle.clr_shelf.specs.Rows.{in_key_order}
 use Rattle.clr_rules.specs.GoodByPhase.{all_waiting, go_in_turn}
-use Rattle.clr_rules.specs.Id.{Id, id_cmp, id_cmp_total}
-use Rattle.clr_rules.specs.StepKey.{step_key, step_key_cmp, step_key_cmp_total}
-use Rattle.clr_rules.specs.Steps.{is_done, is_in_turn, is_of_round, is_waiting, steps_in}
-use Rattle.clr_rules.specs.declared.step_row.StepRow.{StepRow}
+use Rattle.clr_rules.specs.Prelude.{StepRow, Id, id_cmp, id_cmp_total, step_key, step_key_cmp, step_key_cmp_total, is_done, is_waiting, steps_in}
+use Rattle.clr_rules.specs.Steps.{is_in_turn, is_of_round}
 use Rattle.clr_rules.proofs.lists.RoundSteps.{All-from_each, of_the_round}
 
 -- ---- the steps of a round stand by their ordinals

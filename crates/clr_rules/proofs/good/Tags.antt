@@ -16,31 +16,16 @@ use Rattle.clr_rules.specs.Commands.{Known, checks, edits_of}
 use Rattle.clr_rules.specs.Changes.{done_edits, hold_edits, moved, new_steps, phase_after, position_edits, put_steps, undone_edits}
 use Rattle.clr_rules.specs.Checks.{not_attested}
 use Rattle.clr_rules.specs.EditLaws.{is_hold, refusal_of}
-use Rattle.clr_rules.specs.Edits.{edited_all}
+use Rattle.clr_rules.specs.Prelude.{Edit, SetHand, PutHold, TakeHold, PutRecord, PutStep, Command, Kind, Hold, Tag, Tested, Phase, Requested, Ordered, Granted, Released, Restoring, Switching, Closed, Record, Refusal, StepRow, Id}
+use Rattle.clr_rules.specs.Prelude.{Register, record_of, is_running, is_granted, is_ordered, step_key, step_key_cmp, all_done, present, step_at, steps_of, hold_cmp, has_any_hold, has_hold, hold_of, places_of, edited_all}
 use Rattle.clr_rules.specs.GoodByPhase.{InPhase, IsGoodByPhase, of_round, outlook_of}
-use Rattle.clr_rules.specs.Hold.{hold_cmp, same_hold}
-use Rattle.clr_rules.specs.Holds.{has_any_hold, has_hold, hold_of, places_of}
-use Rattle.clr_rules.specs.Id.{Id}
+use Rattle.clr_rules.specs.Hold.{same_hold}
 use Rattle.clr_rules.proofs.good.Keeping.{asked}
-use Rattle.clr_rules.specs.Records.{ends_with_steps, is_granted, is_ordered, is_released, is_running, is_switch_order, record_of}
-use Rattle.clr_rules.specs.Register.{Register}
+use Rattle.clr_rules.specs.Records.{ends_with_steps, is_released, is_switch_order}
 use Rattle.clr_rules.specs.Run.{after}
-use Rattle.clr_rules.specs.StepKey.{step_key, step_key_cmp}
-use Rattle.clr_rules.specs.Steps.{all_done, present, step_at, steps_of}
 use Rattle.clr_rules.specs.TagLaws.{IsUntag, OnlyReleasedAreRestored, ReleasedAreGivenBack, TagsAreUntagged}
-use Rattle.clr_rules.specs.declared.change.Edit.{Edit}
-use Rattle.clr_rules.specs.declared.change.Edit.TheVariants.{PutRecord, PutStep, SetHand, TakeHold, PutHold}
-use Rattle.clr_rules.specs.declared.command.Command.{Command}
-use Rattle.clr_rules.specs.declared.command.Kind.{Kind}
 use Rattle.clr_rules.specs.declared.command.Kind.TheVariants as kinds
-use Rattle.clr_rules.specs.declared.hold.Hold.{Hold}
-use Rattle.clr_rules.specs.declared.hold_kind.HoldKind.TheVariants.{Tag, Tested}
-use Rattle.clr_rules.specs.declared.phase.Phase.{Phase}
-use Rattle.clr_rules.specs.declared.phase.Phase.TheVariants.{Requested, Ordered, Granted, Released, Restoring, Switching, Closed}
-use Rattle.clr_rules.specs.declared.record.Record.{Record}
-use Rattle.clr_rules.specs.declared.refusal.Refusal.{Refusal}
 use Rattle.clr_rules.specs.declared.refusal.Refusal.TheVariants.{NotAttested}
-use Rattle.clr_rules.specs.declared.step_row.StepRow.{StepRow}
 use Rattle.clr_rules.proofs.good.GoodToPhases.{to_phases}
 use Rattle.clr_rules.proofs.good.IsolatingSteps.{is_isolating, isolating_step}
 use Rattle.clr_rules.proofs.keeps.OneRecord.{in_phase_of}

@@ -12,14 +12,10 @@ use Rattle.clr_rules.specs.Answer.{Answer, answer}
 use Rattle.clr_rules.specs.Checks.{employee, has_role, is_operator}
 use Rattle.clr_rules.specs.Fences.{clearance_fence}
 use Rattle.clr_rules.specs.Good.{IsGood, ListsAreInOrder, is_operators}
-use Rattle.clr_rules.specs.Id.{Id}
+use Rattle.clr_rules.specs.Prelude.{Edit, Command, Kind, Id, Register}
 use Rattle.clr_rules.specs.Isolation.{AreAlike, OwnCommandsAlone, SameShownSameAnswers, is_own_item}
-use Rattle.clr_rules.specs.Register.{Register}
 use Rattle.clr_rules.specs.Run.{after, after_all}
 use Rattle.clr_rules.specs.Shown.{Item, asked_row, covers, heard, includes, is_own_command, marks_of, own_answers, shown}
-use Rattle.clr_rules.specs.declared.change.Edit.{Edit}
-use Rattle.clr_rules.specs.declared.command.Command.{Command}
-use Rattle.clr_rules.specs.declared.command.Kind.{Kind}
 use Rattle.clr_rules.specs.declared.command.Kind.TheVariants.{Request}
 use Rattle.clr_rules.proofs.isolation.Agreement.{agrees_with_itself}
 use Rattle.clr_rules.proofs.edits.EditedLists.{edited_all-in_order, edited_all-network}

@@ -25,20 +25,12 @@ use Rattle.clr_rules.specs.Command.{named_clearance}
 use Rattle.clr_rules.specs.Fences.{clearance_fence, order_fence, touching_names}
 use Rattle.clr_rules.specs.Good.{IsGood, is_operators}
 use Rattle.clr_rules.specs.Holds.{is_near_hold}
-use Rattle.clr_rules.specs.Id.{Id, same_id}
+use Rattle.clr_rules.specs.Prelude.{Command, Kind, Hold, PointState, Record, StepRow, Id, same_id, Register, greatest_number, record_of}
 use Rattle.clr_rules.specs.Isolation.{AreAlike}
 use Rattle.clr_rules.specs.Near.{is_asked, is_beside, near_of, near_part, part, switched, switched_by}
 use Rattle.clr_rules.specs.NearLaws.{is_order}
-use Rattle.clr_rules.specs.Records.{greatest_number, record_of}
-use Rattle.clr_rules.specs.Register.{Register}
 use Rattle.clr_rules.specs.Shown.{asked_row, covers, fence_to_come, found_phase_requested, includes, is_own_command, is_own_kind}
-use Rattle.clr_rules.specs.declared.command.Command.{Command}
-use Rattle.clr_rules.specs.declared.command.Kind.{Kind}
 use Rattle.clr_rules.specs.declared.command.Kind.TheVariants.{Request, Order, Switch}
-use Rattle.clr_rules.specs.declared.hold.Hold.{Hold}
-use Rattle.clr_rules.specs.declared.point_state.PointState.{PointState}
-use Rattle.clr_rules.specs.declared.record.Record.{Record}
-use Rattle.clr_rules.specs.declared.step_row.StepRow.{StepRow}
 use Rattle.clr_rules.proofs.lists.Filters.{filter-no_member, itself_says, there_mapped}
 use Rattle.clr_rules.proofs.near.NearParts.{fence_named, not_asked, or_false, request_near, switched_named}
 use Rattle.clr_rules.proofs.near.NearWords.{near_hold_says, touching_says}

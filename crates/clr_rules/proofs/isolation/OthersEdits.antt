@@ -14,28 +14,19 @@ use Rattle.clr_rules.specs.Commands.{Known, checks, edits_of}
 use Rattle.clr_rules.specs.Changes.{done_edits, edits_by, hold_edits, new_steps, position_edits, put_steps, undone_edits, with_record, with_step}
 use Rattle.clr_rules.specs.Checks.{other_hand, refuse, where_some}
 use Rattle.clr_rules.specs.Command.{named_clearance}
-use Rattle.clr_rules.specs.Edits.{edited_all}
+use Rattle.clr_rules.specs.Prelude.{Edit, SetPosition, SetHand, TakeHold, PutRecord, PutStep, Command, Kind, HeldOpen, Tested, Record, Refusal, StepRow, Id, same_id, Register, hand_of, has_in_hand, greatest_number, record_of, is_active}
+use Rattle.clr_rules.specs.Prelude.{present, step_at, has_hold, hold_of, places_of, edited_all}
 use Rattle.clr_rules.specs.Footprint.{Frame, all_spare, both_or_neither, spares}
 use Rattle.clr_rules.specs.FrameLaws.{is_report, subject_of}
 use Rattle.clr_rules.specs.Good.{HandMatchesStep, IsGood, ListsAreInOrder}
 use Rattle.clr_rules.specs.GoodByPhase.{outlook_of}
-use Rattle.clr_rules.specs.Holds.{has_hold, hold_of, places_of}
-use Rattle.clr_rules.specs.Id.{Id, same_id, same_id_equiv}
+use Rattle.clr_rules.specs.Id.{same_id_equiv}
 use Rattle.clr_rules.specs.Isolation.{HeldStayOpen, is_about_another, is_others}
-use Rattle.clr_rules.specs.Records.{greatest_number, is_switch_order, record_of}
-use Rattle.clr_rules.specs.Register.{Register}
+use Rattle.clr_rules.specs.Records.{is_switch_order}
 use Rattle.clr_rules.specs.Run.{after}
-use Rattle.clr_rules.specs.States.{hand_of, has_in_hand, is_hand}
-use Rattle.clr_rules.specs.Steps.{is_active, is_close, is_repeated, present, step_at}
-use Rattle.clr_rules.specs.declared.change.Edit.{Edit}
-use Rattle.clr_rules.specs.declared.change.Edit.TheVariants.{SetPosition, SetHand, TakeHold, PutRecord, PutStep}
-use Rattle.clr_rules.specs.declared.command.Command.{Command}
-use Rattle.clr_rules.specs.declared.command.Kind.{Kind}
-use Rattle.clr_rules.specs.declared.hold_kind.HoldKind.TheVariants.{HeldOpen, Tested}
-use Rattle.clr_rules.specs.declared.record.Record.{Record}
-use Rattle.clr_rules.specs.declared.refusal.Refusal.{Refusal}
+use Rattle.clr_rules.specs.States.{is_hand}
+use Rattle.clr_rules.specs.Steps.{is_close, is_repeated}
 use Rattle.clr_rules.specs.declared.refusal.Refusal.TheVariants.{InHand, StepState as WrongState}
-use Rattle.clr_rules.specs.declared.step_row.StepRow.{StepRow}
 use Rattle.clr_rules.specs.declared.command.Kind.TheVariants as kinds
 use Rattle.clr_rules.proofs.lists.FoundSteps.{present_step, step_is_active, step_is_closing}
 use Rattle.clr_rules.proofs.lists.NewNumbers.{new_is_another}

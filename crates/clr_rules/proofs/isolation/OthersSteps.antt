@@ -14,22 +14,14 @@ use Rattle.clr_rules.specs.Answer.{Answer, answer, first_refusal, known_of, sett
 use Rattle.clr_rules.specs.Commands.{Known, checks}
 use Rattle.clr_rules.specs.Checks.{employee, has_role, is_operator, refuse, where_some}
 use Rattle.clr_rules.specs.Command.{named_clearance}
-use Rattle.clr_rules.specs.Edits.{edited_all}
+use Rattle.clr_rules.specs.Prelude.{Edit, SetPosition, SetHand, PutHold, TakeHold, PutRecord, PutStep, Command, Kind, Record, Refusal, Id, same_id, Register, edited_all}
 use Rattle.clr_rules.specs.Footprint.{spares}
 use Rattle.clr_rules.specs.Good.{HandMatchesStep, ListsAreInOrder, has_record, is_operators}
-use Rattle.clr_rules.specs.Id.{Id, same_id}
 use Rattle.clr_rules.specs.Isolation.{AreAlike, is_about_another, is_others}
-use Rattle.clr_rules.specs.Register.{Register}
 use Rattle.clr_rules.specs.Run.{after}
 use Rattle.clr_rules.specs.Shown.{is_own_command, is_own_kind, marks_of}
 use Rattle.clr_rules.specs.StepLaws.{AreOfOthers}
-use Rattle.clr_rules.specs.declared.change.Edit.{Edit}
-use Rattle.clr_rules.specs.declared.change.Edit.TheVariants.{SetPosition, SetHand, PutHold, TakeHold, PutRecord, PutStep}
-use Rattle.clr_rules.specs.declared.command.Command.{Command}
-use Rattle.clr_rules.specs.declared.command.Kind.{Kind}
 use Rattle.clr_rules.specs.declared.command.Kind.TheVariants.{Request, Switch}
-use Rattle.clr_rules.specs.declared.record.Record.{Record}
-use Rattle.clr_rules.specs.declared.refusal.Refusal.{Refusal}
 use Rattle.clr_rules.specs.declared.refusal.Refusal.TheVariants.{UnknownCaller, WrongRole}
 use Rattle.clr_rules.proofs.isolation.Agreement.{agrees_on, agrees_with_itself, same_edits_agree, same_marks_agree}
 use Rattle.clr_rules.proofs.isolation.OthersEdits.{others_edits_spare}

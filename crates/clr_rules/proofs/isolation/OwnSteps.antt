@@ -5,18 +5,14 @@ use Rattle.clr_order.specs.Step.{Task}
 use Rattle.clr_rules.specs.Answer.{answer, first_refusal, known_of, settled}
 use Rattle.clr_rules.specs.Checks.{earlier, is_operator, unknown_caller, unknown_clearance, unsound_order, wrong_phase, wrong_role}
 use Rattle.clr_rules.specs.Fences.{order_fence}
-use Rattle.clr_rules.specs.Id.{Id}
+use Rattle.clr_rules.specs.Prelude.{Command, Kind, Refusal, Id, Register, record_of}
 use Rattle.clr_rules.specs.Isolation.{AreAlike, OwnStep}
 use Rattle.clr_rules.specs.NearLaws.{is_order}
 use Rattle.clr_rules.specs.OwnLaws.{SameOwn}
-use Rattle.clr_rules.specs.Records.{is_requested, record_of}
-use Rattle.clr_rules.specs.Register.{Register}
+use Rattle.clr_rules.specs.Records.{is_requested}
 use Rattle.clr_rules.specs.Shown.{asked_row, found_phase_requested, is_own_command, is_own_kind}
 use Rattle.clr_rules.specs.Command.{named_clearance}
-use Rattle.clr_rules.specs.declared.command.Command.{Command}
-use Rattle.clr_rules.specs.declared.command.Kind.{Kind}
 use Rattle.clr_rules.specs.declared.command.Kind.TheVariants.{Order}
-use Rattle.clr_rules.specs.declared.refusal.Refusal.{Refusal}
 use Rattle.clr_rules.specs.declared.reply.Reply.TheVariants.{Refused}
 use Rattle.clr_rules.proofs.isolation.LookAlike.{look_alike}
 use Rattle.clr_rules.proofs.near.NewAnswers.{same_near_same_answer}

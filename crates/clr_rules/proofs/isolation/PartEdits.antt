@@ -14,24 +14,17 @@ use Rattle.clr_shelf.specs.Members.{member-row_of}
 use Rattle.clr_shelf.specs.Rows.{in_key_order}
 use Rattle.clr_rules.specs.Agreement.{part_near}
 use Rattle.clr_rules.specs.AgreementLaws.{concerning, concerns, is_about}
-use Rattle.clr_rules.specs.Edits.{edited, edited_all}
+use Rattle.clr_rules.specs.Prelude.{Edit, SetPosition, SetHand, PutHold, TakeHold, PutRecord, PutStep, Hold, PointState, Record, StepRow, Id, id_cmp, id_cmp_total, same_id, Register, state_key, state_of, record_key, step_key}
+use Rattle.clr_rules.specs.Prelude.{step_key_cmp, step_key_cmp_total, hold_cmp, hold_cmp_total, hold_key, edited, edited_all}
 use Rattle.clr_rules.specs.Fences.{touching_names}
 use Rattle.clr_rules.specs.Good.{ListsAreInOrder}
-use Rattle.clr_rules.specs.Hold.{hold_cmp, hold_cmp_total, same_hold}
-use Rattle.clr_rules.specs.Holds.{hold_key, is_near_hold}
-use Rattle.clr_rules.specs.Id.{Id, id_cmp, id_cmp_total, same_id, same_id_from_tie}
+use Rattle.clr_rules.specs.Hold.{same_hold}
+use Rattle.clr_rules.specs.Holds.{is_near_hold}
+use Rattle.clr_rules.specs.Id.{same_id_from_tie}
 use Rattle.clr_rules.specs.Near.{part}
-use Rattle.clr_rules.specs.Records.{record_key}
-use Rattle.clr_rules.specs.Register.{Register}
 use Rattle.clr_rules.specs.Shown.{is_mark, marks_of}
-use Rattle.clr_rules.specs.StepKey.{same_step_key, step_key, step_key_cmp, step_key_cmp_total}
-use Rattle.clr_rules.specs.States.{change_state, changed_state, state_key, state_of}
-use Rattle.clr_rules.specs.declared.change.Edit.{Edit}
-use Rattle.clr_rules.specs.declared.change.Edit.TheVariants.{SetPosition, SetHand, PutHold, TakeHold, PutRecord, PutStep}
-use Rattle.clr_rules.specs.declared.hold.Hold.{Hold}
-use Rattle.clr_rules.specs.declared.point_state.PointState.{PointState}
-use Rattle.clr_rules.specs.declared.record.Record.{Record}
-use Rattle.clr_rules.specs.declared.step_row.StepRow.{StepRow}
+use Rattle.clr_rules.specs.StepKey.{same_step_key}
+use Rattle.clr_rules.specs.States.{change_state, changed_state}
 use Rattle.clr_rules.proofs.edits.EditedLists.{edited-in_order, edited_all-network}
 
 -- ---- a state that is changed, in the group of some points

@@ -16,14 +16,13 @@ use Rattle.clr_shelf.specs.Members.{member-row_of}
 use Rattle.clr_rules.specs.Agreement.{Agree, part_near}
 use Rattle.clr_rules.specs.Fences.{clearance_fence, found_fence, found_order_fence, order_fence, record_fence, touches, touching_names, work_fence}
 use Rattle.clr_rules.specs.Good.{IsGood, is_known_work}
-use Rattle.clr_rules.specs.Id.{Id, id_cmp, id_cmp_total, same_id, same_id_from_tie}
+use Rattle.clr_rules.specs.Prelude.{Record, StepRow, Id, id_cmp, id_cmp_total, same_id, Register, record_key, record_of, points_of, steps_in}
+use Rattle.clr_rules.specs.Id.{same_id_from_tie}
 use Rattle.clr_rules.specs.Isolation.{SameRowsAt}
-use Rattle.clr_rules.specs.Records.{is_fenced, record_key, record_of}
-use Rattle.clr_rules.specs.Register.{Register, unplaced}
+use Rattle.clr_rules.specs.Records.{is_fenced}
+use Rattle.clr_rules.specs.Register.{unplaced}
 use Rattle.clr_rules.specs.Shown.{includes}
-use Rattle.clr_rules.specs.Steps.{is_of_round, points_of, steps_in}
-use Rattle.clr_rules.specs.declared.record.Record.{Record}
-use Rattle.clr_rules.specs.declared.step_row.StepRow.{StepRow}
+use Rattle.clr_rules.specs.Steps.{is_of_round}
 use Rattle.clr_rules.proofs.isolation.Agreement.{touching_named}
 use Rattle.clr_rules.proofs.live.FenceCuts.{named_from_in_fence}
 use Rattle.clr_rules.proofs.lists.Filters.{filter-kept, name_says}

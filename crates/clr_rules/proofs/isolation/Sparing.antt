@@ -11,27 +11,16 @@ use Rattle.clr_shelf.specs.Groups.{filter-with_far, filter-without_far, row_of-f
 use Rattle.clr_shelf.specs.Keys.{equal}
 use Rattle.clr_shelf.specs.Rows.{in_key_order, with_row, without_row}
 use Rattle.clr_rules.specs.EditLaws.{changed_where}
-use Rattle.clr_rules.specs.Edits.{edited, edited_all}
+use Rattle.clr_rules.specs.Prelude.{Edit, SetPosition, SetHand, PutHold, TakeHold, PutRecord, PutStep, Hold, HoldKind, HeldOpen, PointState, Record, StepRow, Id, id_cmp, same_id, Register, has_in_hand, position_of, state_of, record_key}
+use Rattle.clr_rules.specs.Prelude.{record_of, step_key, step_key_cmp, step_key_cmp_total, steps_of, hold_cmp, hold_cmp_total, has_hold, hold_key, hold_of, holds_of, edited, edited_all}
 use Rattle.clr_rules.specs.Footprint.{Frame, all_spare, both_or_neither, is_shut, spares}
 use Rattle.clr_rules.specs.Good.{ListsAreInOrder}
 use Rattle.clr_rules.specs.GoodByPhase.{outlook_of}
-use Rattle.clr_rules.specs.Hold.{hold_cmp, hold_cmp_total, same_hold}
-use Rattle.clr_rules.specs.Holds.{has_hold, hold_key, hold_of, holds_of}
-use Rattle.clr_rules.specs.Id.{Id, id_cmp, same_id, same_id_equiv}
-use Rattle.clr_rules.specs.Records.{record_key, record_of}
-use Rattle.clr_rules.specs.Register.{Register}
-use Rattle.clr_rules.specs.States.{hand_in, has_in_hand, is_hand, position_of, state_of}
-use Rattle.clr_rules.specs.StepKey.{same_step_key, step_key, step_key_cmp, step_key_cmp_total}
-use Rattle.clr_rules.specs.Steps.{steps_of}
-use Rattle.clr_rules.specs.declared.change.Edit.{Edit}
-use Rattle.clr_rules.specs.declared.change.Edit.TheVariants.{SetPosition, SetHand, PutHold, TakeHold, PutRecord, PutStep}
-use Rattle.clr_rules.specs.declared.hold.Hold.{Hold}
-use Rattle.clr_rules.specs.declared.hold_kind.HoldKind.{HoldKind}
-use Rattle.clr_rules.specs.declared.hold_kind.HoldKind.TheVariants.{HeldOpen}
-use Rattle.clr_rules.specs.declared.point_state.PointState.{PointState}
-use Rattle.clr_rules.specs.declared.record.Record.{Record}
+use Rattle.clr_rules.specs.Hold.{same_hold}
+use Rattle.clr_rules.specs.Id.{same_id_equiv}
+use Rattle.clr_rules.specs.States.{hand_in, is_hand}
+use Rattle.clr_rules.specs.StepKey.{same_step_key}
 use Rattle.clr_rules.specs.declared.step_row.StepKey.{StepKey}
-use Rattle.clr_rules.specs.declared.step_row.StepRow.{StepRow}
 use Rattle.clr_rules.proofs.edits.EditReading.{record_of-put, state_of-changed}
 use Rattle.clr_rules.proofs.edits.EditedLists.{edited-in_order}
 use Rattle.clr_rules.proofs.lists.StateFacts.{hand_of-placed, position_of-handed}

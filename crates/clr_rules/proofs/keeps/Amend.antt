@@ -9,24 +9,13 @@ use Rattle.clr_order.specs.Step.{Task, actions_at, task}
 use Rattle.clr_order.specs.declared.action.Action.{Action}
 use Rattle.clr_order.specs.declared.action.Action.TheVariants as actions
 use Rattle.clr_rules.specs.Checks.{refuse}
-use Rattle.clr_rules.specs.Edits.{edited_all}
+use Rattle.clr_rules.specs.Prelude.{Edit, PutRecord, PutStep, HoldKind, HeldOpen, Block, Control, Tag, Phase, Requested, Ordered, Granted, Released, Restoring, Switching, Closed, Record, StepRow, Id, Register, record_of, is_restoring}
+use Rattle.clr_rules.specs.Prelude.{is_active, is_done, is_some_step, is_waiting, points_of, present, step_at, steps_of, tasks_of, once, edited_all}
 use Rattle.clr_rules.specs.Good.{left}
 use Rattle.clr_rules.specs.GoodByPhase.{InPhase, InRestoring, IsGoodByPhase, all_waiting, go_in_turn, of_round, outlook_of, present_of}
-use Rattle.clr_rules.specs.Holds.{once}
-use Rattle.clr_rules.specs.Id.{Id}
-use Rattle.clr_rules.specs.Records.{is_restoring, record_of}
-use Rattle.clr_rules.specs.Register.{Register}
-use Rattle.clr_rules.specs.Steps.{is_active, is_close, is_done, is_some_step, is_waiting, points_of, present, step_at, steps_of, tasks_of}
-use Rattle.clr_rules.specs.declared.change.Edit.{Edit}
-use Rattle.clr_rules.specs.declared.change.Edit.TheVariants.{PutRecord, PutStep}
+use Rattle.clr_rules.specs.Steps.{is_close}
 use Rattle.clr_rules.specs.declared.command.Kind.TheVariants.{Amend}
-use Rattle.clr_rules.specs.declared.hold_kind.HoldKind.{HoldKind}
-use Rattle.clr_rules.specs.declared.hold_kind.HoldKind.TheVariants.{HeldOpen, Block, Control, Tag}
-use Rattle.clr_rules.specs.declared.phase.Phase.{Phase}
-use Rattle.clr_rules.specs.declared.phase.Phase.TheVariants.{Requested, Ordered, Granted, Released, Restoring, Switching, Closed}
-use Rattle.clr_rules.specs.declared.record.Record.{Record}
 use Rattle.clr_rules.specs.declared.refusal.Refusal.TheVariants.{StepState as WrongState}
-use Rattle.clr_rules.specs.declared.step_row.StepRow.{StepRow}
 use Rattle.clr_rules.proofs.good.Keeping.{KeepsGood, commands_keep, keeps}
 use Rattle.clr_rules.proofs.keeps.OneRecord.{in_phase_of}
 use Rattle.clr_rules.proofs.keeps.Repeat.{turns_split}

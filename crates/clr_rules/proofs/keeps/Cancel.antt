@@ -5,17 +5,10 @@ use Rattle.clr_net.specs.Grid.{Grid}
 use Rattle.clr_net.proofs.Walks.{any_from}
 use Rattle.clr_rules.specs.Changes.{cancelled_phase}
 use Rattle.clr_rules.specs.GoodByPhase.{InPhase, Outlook, outlook_of}
-use Rattle.clr_rules.specs.Holds.{has_any_hold, has_hold, hold_of}
-use Rattle.clr_rules.specs.Id.{Id, same_id}
-use Rattle.clr_rules.specs.Records.{is_cancellable, is_ordered}
-use Rattle.clr_rules.specs.Steps.{some_active, steps_of}
-use Rattle.clr_rules.specs.declared.change.Edit.TheVariants.{PutRecord}
+use Rattle.clr_rules.specs.Prelude.{PutRecord, Hold, HoldKind, Phase, Requested, Ordered, Granted, Released, Restoring, Switching, Closed, Record, Id, same_id, is_ordered, steps_of, has_any_hold, has_hold, hold_of}
+use Rattle.clr_rules.specs.Records.{is_cancellable}
+use Rattle.clr_rules.specs.Steps.{some_active}
 use Rattle.clr_rules.specs.declared.command.Kind.TheVariants.{Cancel}
-use Rattle.clr_rules.specs.declared.hold.Hold.{Hold}
-use Rattle.clr_rules.specs.declared.hold_kind.HoldKind.{HoldKind}
-use Rattle.clr_rules.specs.declared.phase.Phase.{Phase}
-use Rattle.clr_rules.specs.declared.phase.Phase.TheVariants.{Requested, Ordered, Granted, Released, Restoring, Switching, Closed}
-use Rattle.clr_rules.specs.declared.record.Record.{Record}
 use Rattle.clr_rules.specs.declared.refusal.Refusal.TheVariants.{StepState as WrongState}
 use Rattle.clr_rules.proofs.good.Keeping.{KeepsGood, commands_keep}
 use Rattle.clr_rules.proofs.lists.HoldMembers.{hold_there}

@@ -10,24 +10,13 @@ use Rattle.clr_net.proofs.Walks.{any_from, one_name, same_itself, some_from}
 use Rattle.clr_order.specs.declared.step.StepState.TheVariants.{Done}
 use Rattle.clr_shelf.specs.Rows.{with_row, without_row}
 use Rattle.clr_rules.specs.Changes.{moved as moved_step}
-use Rattle.clr_rules.specs.Edits.{edited_all}
+use Rattle.clr_rules.specs.Prelude.{SetPosition, SetHand, PutHold, TakeHold, PutRecord, PutStep, Hold, HoldKind, HeldOpen, PointState, Record, StepRow, Id, id_cmp, same_id, Register, has_in_hand, position_of, state_of, record_key}
+use Rattle.clr_rules.specs.Prelude.{record_of, is_active, steps_of, hold_cmp, is_point_kind, has_hold, hold_key, hold_of, same_kind, edited_all}
 use Rattle.clr_rules.specs.Good.{is_closing_at}
 use Rattle.clr_rules.specs.GoodByPhase.{InPhase, IsGoodByPhase, Outlook, active_at}
-use Rattle.clr_rules.specs.Hold.{hold_cmp}
-use Rattle.clr_rules.specs.HoldKind.{is_point_kind}
-use Rattle.clr_rules.specs.Holds.{has_hold, hold_key, hold_of, same_kind}
-use Rattle.clr_rules.specs.Id.{Id, id_cmp, same_id, same_id_equiv}
-use Rattle.clr_rules.specs.Records.{record_key, record_of}
-use Rattle.clr_rules.specs.Register.{Register}
-use Rattle.clr_rules.specs.States.{has_in_hand, is_hand, position_of, state_of}
-use Rattle.clr_rules.specs.Steps.{is_active, is_close, steps_of}
-use Rattle.clr_rules.specs.declared.change.Edit.TheVariants.{PutHold, PutRecord, PutStep, SetHand, SetPosition, TakeHold}
-use Rattle.clr_rules.specs.declared.hold.Hold.{Hold}
-use Rattle.clr_rules.specs.declared.hold_kind.HoldKind.{HoldKind}
-use Rattle.clr_rules.specs.declared.hold_kind.HoldKind.TheVariants.{HeldOpen}
-use Rattle.clr_rules.specs.declared.point_state.PointState.{PointState}
-use Rattle.clr_rules.specs.declared.record.Record.{Record}
-use Rattle.clr_rules.specs.declared.step_row.StepRow.{StepRow}
+use Rattle.clr_rules.specs.Id.{same_id_equiv}
+use Rattle.clr_rules.specs.States.{is_hand}
+use Rattle.clr_rules.specs.Steps.{is_close}
 use Rattle.clr_rules.proofs.lists.StateFacts.{hand_of-placed, handed, placed, position_of-handed, position_of-placed, position_of-placed_other, state_of-changed}
 use Rattle.clr_rules.proofs.lists.HoldChanges.{kind_itself, others_hold_put, others_hold_taken, own_taken, was_or_put, was_there}
 use Rattle.clr_rules.proofs.good.Keeping.{keeps}

@@ -13,13 +13,7 @@ use Rattle.clr_order.specs.declared.action.Action.{Action}
 use Rattle.clr_order.specs.declared.action.Action.TheVariants as actions
 use Rattle.clr_rules.specs.Good.{left, put_by, puts}
 use Rattle.clr_rules.specs.GoodByPhase.{ActiveInRound, HoldsNothing, InClosed, InOrdered, InRestoring, InSwitching, of_round, present_of}
-use Rattle.clr_rules.specs.HoldKind.{is_point_kind}
-use Rattle.clr_rules.specs.Holds.{same_kind}
-use Rattle.clr_rules.specs.Steps.{all_done, is_active, is_done, tasks_of}
-use Rattle.clr_rules.specs.declared.hold_kind.HoldKind.{HoldKind}
-use Rattle.clr_rules.specs.declared.hold_kind.HoldKind.TheVariants.{HeldOpen, Block, Control, Tag, Tested, Ground, Crew}
-use Rattle.clr_rules.specs.declared.record.Record.{Record}
-use Rattle.clr_rules.specs.declared.step_row.StepRow.{StepRow}
+use Rattle.clr_rules.specs.Prelude.{HoldKind, HeldOpen, Block, Control, Tag, Tested, Ground, Crew, Record, StepRow, all_done, is_active, is_done, tasks_of, is_point_kind, same_kind}
 use Rattle.clr_rules.proofs.lists.HoldChanges.{is_there, one_kind}
 use Rattle.clr_rules.proofs.good.PhaseFacts.{first_present}
 use Rattle.clr_rules.proofs.edits.StepMoves.{InMidst, given_out_again, isolates_again, one_round_again, own_round, own_round_was, present_again, same_points, second_again, some_active_is}

@@ -1,12 +1,8 @@
 -- A grant keeps a good register good.
 use Rattle.std.proofs.Common.{◌≡◌, true, [], ◌∷◌, Some, refl}
 use Rattle.clr_rules.specs.GoodByPhase.{of_round, outlook_of}
-use Rattle.clr_rules.specs.Id.{Id}
-use Rattle.clr_rules.specs.Records.{is_ordered}
-use Rattle.clr_rules.specs.Steps.{all_done, steps_in, steps_of}
-use Rattle.clr_rules.specs.declared.change.Edit.TheVariants.{PutRecord}
+use Rattle.clr_rules.specs.Prelude.{PutRecord, Granted, Id, is_ordered, all_done, steps_in, steps_of}
 use Rattle.clr_rules.specs.declared.command.Kind.TheVariants.{Grant}
-use Rattle.clr_rules.specs.declared.phase.Phase.TheVariants.{Granted}
 use Rattle.clr_rules.specs.declared.refusal.Refusal.TheVariants.{StepsLeft}
 use Rattle.clr_rules.proofs.good.Keeping.{KeepsGood, commands_keep}
 use Rattle.clr_rules.proofs.edits.Passing.{not_refused_true, phase_fits, record_there}

@@ -5,23 +5,12 @@ use Rattle.std.proofs.lemmas.Cmp.{nat_list_eq_equiv}
 use Rattle.clr_net.specs.Name.{same_name}
 use Rattle.clr_net.proofs.Walks.{one_name}
 use Rattle.clr_order.specs.Step.{task}
-use Rattle.clr_rules.specs.Edits.{edited_all}
+use Rattle.clr_rules.specs.Prelude.{Edit, SetHand, PutRecord, PutStep, HoldKind, HeldOpen, Record, StepRow, Id, same_id, Register, has_in_hand, record_of, is_running, step_key, is_active, is_done, steps_of, is_point_kind, has_hold}
+use Rattle.clr_rules.specs.Prelude.{edited_all}
 use Rattle.clr_rules.specs.Good.{is_closing_at}
 use Rattle.clr_rules.specs.GoodByPhase.{IsGoodByPhase, active_at, outlook_of, present_of}
-use Rattle.clr_rules.specs.HoldKind.{is_point_kind}
-use Rattle.clr_rules.specs.Holds.{has_hold}
-use Rattle.clr_rules.specs.Id.{Id, same_id}
-use Rattle.clr_rules.specs.Records.{is_running, record_of}
-use Rattle.clr_rules.specs.Register.{Register}
-use Rattle.clr_rules.specs.States.{has_in_hand, is_hand}
-use Rattle.clr_rules.specs.StepKey.{step_key}
-use Rattle.clr_rules.specs.Steps.{is_active, is_close, is_done, steps_of}
-use Rattle.clr_rules.specs.declared.change.Edit.{Edit}
-use Rattle.clr_rules.specs.declared.change.Edit.TheVariants.{PutRecord, PutStep, SetHand}
-use Rattle.clr_rules.specs.declared.hold_kind.HoldKind.{HoldKind}
-use Rattle.clr_rules.specs.declared.hold_kind.HoldKind.TheVariants.{HeldOpen}
-use Rattle.clr_rules.specs.declared.record.Record.{Record}
-use Rattle.clr_rules.specs.declared.step_row.StepRow.{StepRow}
+use Rattle.clr_rules.specs.States.{is_hand}
+use Rattle.clr_rules.specs.Steps.{is_close}
 use Rattle.clr_rules.proofs.lists.StateFacts.{handed, position_of-handed}
 use Rattle.clr_rules.proofs.good.Keeping.{keeps}
 use Rattle.clr_rules.proofs.keeps.OneRecord.{in_phase_of}

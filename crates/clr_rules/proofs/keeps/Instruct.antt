@@ -6,19 +6,12 @@ use Rattle.clr_net.proofs.Walks.{same_itself}
 use Rattle.clr_order.specs.declared.step.StepState.TheVariants.{Instructed}
 use Rattle.clr_rules.specs.Changes.{moved as moved_step}
 use Rattle.clr_rules.specs.Checks.{held_by, other_hand}
-use Rattle.clr_rules.specs.Holds.{earlier_hold, first_hold, hindering_hold, hinders, hold_of, same_kind}
-use Rattle.clr_rules.specs.Id.{Id, same_id}
-use Rattle.clr_rules.specs.Records.{is_running}
-use Rattle.clr_rules.specs.Register.{Register}
-use Rattle.clr_rules.specs.States.{hand_of, is_hand}
-use Rattle.clr_rules.specs.Steps.{is_close, is_in_turn, is_waiting, present, step_at}
-use Rattle.clr_rules.specs.declared.change.Edit.TheVariants.{PutRecord, PutStep, SetHand}
+use Rattle.clr_rules.specs.Prelude.{SetHand, PutRecord, PutStep, Hold, HoldKind, HeldOpen, Block, StepRow, Id, same_id, Register, hand_of, is_running, is_waiting, present, step_at, hold_of, same_kind}
+use Rattle.clr_rules.specs.Holds.{earlier_hold, first_hold, hindering_hold, hinders}
+use Rattle.clr_rules.specs.States.{is_hand}
+use Rattle.clr_rules.specs.Steps.{is_close, is_in_turn}
 use Rattle.clr_rules.specs.declared.command.Kind.TheVariants.{Instruct}
-use Rattle.clr_rules.specs.declared.hold.Hold.{Hold}
-use Rattle.clr_rules.specs.declared.hold_kind.HoldKind.{HoldKind}
-use Rattle.clr_rules.specs.declared.hold_kind.HoldKind.TheVariants.{HeldOpen, Block}
 use Rattle.clr_rules.specs.declared.refusal.Refusal.TheVariants.{OutOfTurn}
-use Rattle.clr_rules.specs.declared.step_row.StepRow.{StepRow}
 use Rattle.clr_rules.proofs.good.Keeping.{KeepsGood, commands_keep}
 use Rattle.clr_rules.proofs.lists.HoldMembers.{hold_there}
 use Rattle.clr_rules.proofs.keeps.Repeat.{state_fits}

@@ -1,14 +1,8 @@
 -- Commands that put a record alone.
 use Rattle.std.proofs.Common.{◌≡◌, List, [], ◌∷◌, Option, Some, refl, sym, ◌∙◌, subst}
 use Rattle.clr_rules.specs.Changes.{edits_by, with_record}
-use Rattle.clr_rules.specs.Edits.{edited_all}
+use Rattle.clr_rules.specs.Prelude.{Edit, PutRecord, Record, Id, Register, record_of, edited_all}
 use Rattle.clr_rules.specs.GoodByPhase.{InPhase, InPlaceAs, IsGoodByPhase, outlook_of}
-use Rattle.clr_rules.specs.Id.{Id}
-use Rattle.clr_rules.specs.Records.{record_of}
-use Rattle.clr_rules.specs.Register.{Register}
-use Rattle.clr_rules.specs.declared.change.Edit.{Edit}
-use Rattle.clr_rules.specs.declared.change.Edit.TheVariants.{PutRecord}
-use Rattle.clr_rules.specs.declared.record.Record.{Record}
 use Rattle.clr_rules.proofs.good.Keeping.{keeps}
 use Rattle.clr_rules.proofs.edits.PutRecords.{moved, outlook_with, quiet}
 use Rattle.clr_rules.proofs.lists.RoundSteps.{record_id}

@@ -5,22 +5,11 @@ use Rattle.std.proofs.lemmas.Cmp.{nat_list_eq_equiv}
 use Rattle.clr_net.specs.Name.{same_name}
 use Rattle.clr_net.specs.Names.{has_name}
 use Rattle.clr_shelf.specs.Rows.{with_row, without_row}
-use Rattle.clr_rules.specs.Edits.{edited_all}
+use Rattle.clr_rules.specs.Prelude.{Edit, TakeHold, PutRecord, Hold, HoldKind, HeldOpen, Block, Control, Tag, Tested, Ground, Crew, Released, Record, Id, id_cmp, same_id, Register, record_key, record_of, is_granted, hold_cmp}
+use Rattle.clr_rules.specs.Prelude.{is_point_kind, has_hold, has_some_hold, hold_key, hold_of, places_of, same_kind, edited_all}
 use Rattle.clr_rules.specs.GoodByPhase.{InPhase, InReleased, IsGoodByPhase}
-use Rattle.clr_rules.specs.Hold.{hold_cmp}
-use Rattle.clr_rules.specs.HoldKind.{is_point_kind}
-use Rattle.clr_rules.specs.Holds.{has_hold, has_some_hold, hold_key, hold_of, places_of, same_kind}
-use Rattle.clr_rules.specs.Id.{Id, id_cmp, same_id, same_id_equiv}
-use Rattle.clr_rules.specs.Records.{is_granted, record_key, record_of}
-use Rattle.clr_rules.specs.Register.{Register}
-use Rattle.clr_rules.specs.declared.change.Edit.{Edit}
-use Rattle.clr_rules.specs.declared.change.Edit.TheVariants.{PutRecord, TakeHold}
+use Rattle.clr_rules.specs.Id.{same_id_equiv}
 use Rattle.clr_rules.specs.declared.command.Kind.TheVariants.{Release}
-use Rattle.clr_rules.specs.declared.hold.Hold.{Hold}
-use Rattle.clr_rules.specs.declared.hold_kind.HoldKind.{HoldKind}
-use Rattle.clr_rules.specs.declared.hold_kind.HoldKind.TheVariants.{HeldOpen, Block, Control, Tag, Tested, Ground, Crew}
-use Rattle.clr_rules.specs.declared.phase.Phase.TheVariants.{Released}
-use Rattle.clr_rules.specs.declared.record.Record.{Record}
 use Rattle.clr_rules.specs.declared.refusal.Refusal.TheVariants.{CrewsOn, Grounded}
 use Rattle.clr_rules.proofs.good.Keeping.{KeepsGood, Changed, commands_keep, keeps}
 use Rattle.clr_rules.proofs.lists.HoldChanges.{others_hold_taken, own_taken}

@@ -12,28 +12,14 @@ use Rattle.clr_order.specs.declared.step.StepState.{StepState}
 use Rattle.clr_order.specs.declared.action.Action.TheVariants as actions
 use Rattle.clr_shelf.specs.Rows.{with_row, without_row}
 use Rattle.clr_rules.specs.Changes.{done_edits, hold_edits, moved as moved_step, phase_after, position_edits, undone_edits}
-use Rattle.clr_rules.specs.Edits.{edited_all}
+use Rattle.clr_rules.specs.Prelude.{Edit, SetHand, PutRecord, PutStep, Hold, HoldKind, HeldOpen, Block, Control, Tag, Phase, Requested, Ordered, Granted, Released, Restoring, Switching, Closed, PointState, Record, StepRow, Id, Register}
+use Rattle.clr_rules.specs.Prelude.{hand_of, has_in_hand, position_of, record_of, is_running, all_done, is_active, is_done, is_some_step, present, steps_in, steps_of, hold_cmp, is_point_kind, has_hold, hold_key, hold_of, same_kind}
+use Rattle.clr_rules.specs.Prelude.{edited_all}
 use Rattle.clr_rules.specs.Good.{puts}
 use Rattle.clr_rules.specs.GoodByPhase.{InOrdered, InPhase, InRestoring, InSwitching, IsGoodByPhase, Outlook, of_round, present_of}
-use Rattle.clr_rules.specs.Hold.{hold_cmp}
-use Rattle.clr_rules.specs.HoldKind.{is_point_kind}
-use Rattle.clr_rules.specs.Holds.{has_hold, hold_key, hold_of, same_kind}
-use Rattle.clr_rules.specs.Id.{Id}
-use Rattle.clr_rules.specs.Records.{ends_with_steps, is_running, is_switch_order, lacks_work, record_of}
-use Rattle.clr_rules.specs.Register.{Register}
-use Rattle.clr_rules.specs.States.{hand_of, has_in_hand, position_of}
-use Rattle.clr_rules.specs.Steps.{all_done, is_active, is_close, is_done, is_repeated, is_some_step, present, steps_in, steps_of}
-use Rattle.clr_rules.specs.declared.change.Edit.{Edit}
-use Rattle.clr_rules.specs.declared.change.Edit.TheVariants.{PutRecord, PutStep, SetHand}
+use Rattle.clr_rules.specs.Records.{ends_with_steps, is_switch_order, lacks_work}
+use Rattle.clr_rules.specs.Steps.{is_close, is_repeated}
 use Rattle.clr_rules.specs.declared.command.Kind.TheVariants.{Report}
-use Rattle.clr_rules.specs.declared.hold.Hold.{Hold}
-use Rattle.clr_rules.specs.declared.hold_kind.HoldKind.{HoldKind}
-use Rattle.clr_rules.specs.declared.hold_kind.HoldKind.TheVariants.{HeldOpen, Block, Control, Tag}
-use Rattle.clr_rules.specs.declared.phase.Phase.{Phase}
-use Rattle.clr_rules.specs.declared.phase.Phase.TheVariants.{Requested, Ordered, Granted, Released, Restoring, Switching, Closed}
-use Rattle.clr_rules.specs.declared.point_state.PointState.{PointState}
-use Rattle.clr_rules.specs.declared.record.Record.{Record}
-use Rattle.clr_rules.specs.declared.step_row.StepRow.{StepRow}
 use Rattle.clr_rules.proofs.good.Keeping.{KeepsGood, commands_keep}
 use Rattle.clr_rules.proofs.lists.StateFacts.{handed, placed}
 use Rattle.clr_rules.proofs.lists.HoldChanges.{is_there, own_put, own_taken}

@@ -9,16 +9,10 @@ use Rattle.clr_csv.specs.declared.employee.Role.TheVariants.{Operator, Field, Ch
 use Rattle.clr_csv.specs.declared.employee.StaffRow.{StaffRow}
 use Rattle.clr_rules.specs.Changes.{new_record}
 use Rattle.clr_rules.specs.Checks.{employee, has_role, is_charge, is_operator, refuse, unknown_caller, wrong_role}
-use Rattle.clr_rules.specs.Edits.{edited_all}
+use Rattle.clr_rules.specs.Prelude.{PutRecord, Requested, Record, Id, Register, greatest_number, record_of, edited_all}
 use Rattle.clr_rules.specs.GoodByPhase.{InPlaceAs, IsBare, IsGoodByPhase, outlook_of}
 use Rattle.clr_rules.specs.Good.{is_operators}
-use Rattle.clr_rules.specs.Id.{Id}
-use Rattle.clr_rules.specs.Records.{greatest_number, record_of}
-use Rattle.clr_rules.specs.Register.{Register}
-use Rattle.clr_rules.specs.declared.change.Edit.TheVariants.{PutRecord}
 use Rattle.clr_rules.specs.declared.command.Kind.TheVariants.{Request}
-use Rattle.clr_rules.specs.declared.phase.Phase.TheVariants.{Requested}
-use Rattle.clr_rules.specs.declared.record.Record.{Record}
 use Rattle.clr_rules.specs.declared.refusal.Refusal.TheVariants.{UnknownCaller, UnknownSection, WrongRole}
 use Rattle.clr_rules.proofs.good.Keeping.{KeepsGood, commands_keep, keeps}
 use Rattle.clr_rules.proofs.edits.NewRecords.{new_numbered, next_is_free}

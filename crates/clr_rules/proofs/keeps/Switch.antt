@@ -10,17 +10,10 @@ use Rattle.clr_order.specs.declared.order_fault.OrderFault.TheVariants.{EmptyOrd
 use Rattle.clr_order.proofs.OtherOrders.{switching_from_no_fault}
 use Rattle.clr_rules.specs.Changes.{new_record, new_steps, put_steps}
 use Rattle.clr_rules.specs.Checks.{has_role, is_operator, wrong_switching}
-use Rattle.clr_rules.specs.Edits.{edited_all}
+use Rattle.clr_rules.specs.Prelude.{PutRecord, Switching, Record, StepRow, Register, greatest_number, is_active, steps_of, edited_all}
 use Rattle.clr_rules.specs.Good.{is_operators}
 use Rattle.clr_rules.specs.GoodByPhase.{IsBare, IsGoodByPhase, of_round, outlook_of, present_of}
-use Rattle.clr_rules.specs.Records.{greatest_number}
-use Rattle.clr_rules.specs.Register.{Register}
-use Rattle.clr_rules.specs.Steps.{is_active, steps_of}
-use Rattle.clr_rules.specs.declared.change.Edit.TheVariants.{PutRecord}
 use Rattle.clr_rules.specs.declared.command.Kind.TheVariants.{Switch}
-use Rattle.clr_rules.specs.declared.phase.Phase.TheVariants.{Switching}
-use Rattle.clr_rules.specs.declared.record.Record.{Record}
-use Rattle.clr_rules.specs.declared.step_row.StepRow.{StepRow}
 use Rattle.clr_rules.proofs.good.Keeping.{KeepsGood, Changed, commands_keep, keeps}
 use Rattle.clr_rules.proofs.keeps.Request.{bare_before, caller_role}
 use Rattle.clr_rules.proofs.edits.NewRecords.{new_numbered, next_is_free}

@@ -7,9 +7,8 @@ use Rattle.clr_net.proofs.Walks.{any_from, same_itself}
 use Rattle.clr_net.specs.Name.{same_name}
 use Rattle.clr_shelf.specs.Lists.{Contains-here, Contains-later}
 use Rattle.clr_rules.specs.Good.{is_active_at, is_closing_at}
-use Rattle.clr_rules.specs.Id.{Id, same_id}
-use Rattle.clr_rules.specs.Steps.{is_active, is_close, is_of_round, is_some_step, present, step_at, steps_in, steps_of}
-use Rattle.clr_rules.specs.declared.step_row.StepRow.{StepRow}
+use Rattle.clr_rules.specs.Prelude.{StepRow, Id, same_id, is_active, is_some_step, present, step_at, steps_in, steps_of}
+use Rattle.clr_rules.specs.Steps.{is_close, is_of_round}
 use Rattle.clr_rules.proofs.lists.NamedRows.{Contains-filter}
 
 -- what is found among those that a filter keeps

@@ -9,13 +9,9 @@ use Rattle.clr_net.proofs.Walks.{one_name, same_itself}
 use Rattle.clr_shelf.specs.Keys.{equal, same_number}
 use Rattle.clr_shelf.specs.Rows.{with_row, without_row}
 use Rattle.clr_rules.specs.EditLaws.{is_hold}
-use Rattle.clr_rules.specs.Hold.{hold_cmp, hold_cmp_total, same_hold}
+use Rattle.clr_rules.specs.Prelude.{Hold, HoldKind, HeldOpen, Block, Control, Tag, Tested, Ground, Crew, Id, same_id, hold_cmp, hold_cmp_total, has_hold, hold_key, hold_of, same_kind}
+use Rattle.clr_rules.specs.Hold.{same_hold}
 use Rattle.clr_rules.specs.HoldKind.{all_hold_kinds, kind_cmp, kind_cmp_total, kind_place}
-use Rattle.clr_rules.specs.Holds.{has_hold, hold_key, hold_of, same_kind}
-use Rattle.clr_rules.specs.Id.{Id, same_id}
-use Rattle.clr_rules.specs.declared.hold.Hold.{Hold}
-use Rattle.clr_rules.specs.declared.hold_kind.HoldKind.{HoldKind}
-use Rattle.clr_rules.specs.declared.hold_kind.HoldKind.TheVariants.{HeldOpen, Block, Control, Tag, Tested, Ground, Crew}
 use Rattle.clr_rules.proofs.edits.EditReading.{has_hold-put, has_hold-taken}
 use Rattle.clr_rules.proofs.lists.RoundSteps.{one_id, own_id}
 

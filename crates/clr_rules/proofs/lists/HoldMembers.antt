@@ -3,11 +3,8 @@ use Rattle.std.proofs.Common.{◌≡◌, ℕ, true, false, List, Option, Some, N
 use Rattle.clr_shelf.specs.Keys.{equal}
 use Rattle.clr_shelf.specs.Members.{member-row_of, row_of-member}
 use Rattle.clr_shelf.specs.Rows.{in_key_order, row_of}
-use Rattle.clr_rules.specs.Hold.{hold_cmp, hold_cmp_total, same_hold}
-use Rattle.clr_rules.specs.Holds.{has_hold, hold_key, hold_of}
-use Rattle.clr_rules.specs.Id.{Id}
-use Rattle.clr_rules.specs.declared.hold.Hold.{Hold}
-use Rattle.clr_rules.specs.declared.hold_kind.HoldKind.{HoldKind}
+use Rattle.clr_rules.specs.Prelude.{Hold, HoldKind, Id, hold_cmp, hold_cmp_total, has_hold, hold_key, hold_of}
+use Rattle.clr_rules.specs.Hold.{same_hold}
 
 pub hold_there : (holds : List Hold) (c : Id) (kind : HoldKind) (place : List ℕ) → has_hold holds c kind place ≡ true → Contains holds (hold_of c kind place)
 hold_there holds c kind place has = at (row_of hold_cmp hold_key (hold_of c kind place) holds) refl

@@ -8,11 +8,9 @@ use Rattle.clr_net.specs.Name.{same_name}
 use Rattle.clr_shelf.specs.Lists.{Contains-cases}
 use Rattle.clr_shelf.specs.Members.{member-row_of}
 use Rattle.clr_rules.specs.Good.{has_record}
-use Rattle.clr_rules.specs.Id.{Id, id_cmp, id_cmp_total, same_id}
+use Rattle.clr_rules.specs.Prelude.{Record, Id, id_cmp, id_cmp_total, same_id, Register, greatest_number, record_key, record_of}
 use Rattle.clr_rules.specs.Isolation.{is_about_another}
-use Rattle.clr_rules.specs.Records.{greater, greatest_number, numbers_of, record_key, record_of}
-use Rattle.clr_rules.specs.Register.{Register}
-use Rattle.clr_rules.specs.declared.record.Record.{Record}
+use Rattle.clr_rules.specs.Records.{greater, numbers_of}
 use Rattle.clr_rules.proofs.lists.RoundSteps.{record_id}
 
 -- a record that is there

@@ -5,11 +5,9 @@ use Rattle.std.proofs.lemmas.List.Elements.{All-contains_itself, All-filter, All
 use Rattle.clr_shelf.specs.Keys.{equal}
 use Rattle.clr_shelf.specs.Members.{member-row_of}
 use Rattle.clr_rules.specs.GoodByPhase.{of_round, present_of}
-use Rattle.clr_rules.specs.Id.{Id, id_cmp, id_cmp_total, same_id, same_id_equiv, same_id_from_tie, same_id_ties}
-use Rattle.clr_rules.specs.Records.{record_key, record_of}
-use Rattle.clr_rules.specs.Steps.{is_of_round, is_some_step, present_round, steps_in, steps_of}
-use Rattle.clr_rules.specs.declared.record.Record.{Record}
-use Rattle.clr_rules.specs.declared.step_row.StepRow.{StepRow}
+use Rattle.clr_rules.specs.Prelude.{Record, StepRow, Id, id_cmp, id_cmp_total, same_id, record_key, record_of, is_some_step, present_round, steps_in, steps_of}
+use Rattle.clr_rules.specs.Id.{same_id_equiv, same_id_from_tie, same_id_ties}
+use Rattle.clr_rules.specs.Steps.{is_of_round}
 use Rattle.clr_rules.proofs.lists.NamedRows.{Contains-filter}
 
 -- ---- lists

@@ -13,9 +13,8 @@ use Rattle.clr_shelf.specs.Keys.{equal, same_text}
 use Rattle.clr_shelf.specs.Members.{member-row_of}
 use Rattle.clr_shelf.specs.Reading.{row_of-with}
 use Rattle.clr_shelf.specs.Rows.{in_key_order, row_of}
-use Rattle.clr_rules.specs.Id.{Id}
-use Rattle.clr_rules.specs.States.{change_state, changed_state, hand_in, hand_of, position_of, state_key, state_of}
-use Rattle.clr_rules.specs.declared.point_state.PointState.{PointState}
+use Rattle.clr_rules.specs.Prelude.{PointState, Id, hand_of, position_of, state_key, state_of}
+use Rattle.clr_rules.specs.States.{change_state, changed_state, hand_in}
 
 -- a state stands at its point
 pub state_of-point : (states : List PointState) (p : List ℕ) (state : PointState) → state_of states p ≡ Some state → state.point ≡ p

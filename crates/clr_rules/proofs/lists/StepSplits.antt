@@ -17,8 +17,7 @@ use Rattle.clr_shelf.specs.Lists.{Contains-cases, list_all-contains}
 use Rattle.clr_shelf.specs.Rows.{in_key_order, with_row}
 use Rattle.clr_rules.specs.Good.{left}
 use Rattle.clr_rules.specs.GoodByPhase.{all_waiting, go_in_turn, of_round}
-use Rattle.clr_rules.specs.Steps.{all_done, is_active, is_done, is_waiting}
-use Rattle.clr_rules.specs.declared.step_row.StepRow.{StepRow}
+use Rattle.clr_rules.specs.Prelude.{StepRow, all_done, is_active, is_done, is_waiting}
 
 -- ---- a row that is put over another splits the list where that stood
 

@@ -18,25 +18,15 @@ use Rattle.clr_rules.specs.Checks.{earlier, held, held_by, in_hand, is_operator,
 use Rattle.clr_rules.specs.Command.{named_clearance}
 use Rattle.clr_rules.specs.Fences.{clearance_fence, touching_names}
 use Rattle.clr_rules.specs.Good.{IsGood, left}
-use Rattle.clr_rules.specs.HoldKind.{is_point_kind}
-use Rattle.clr_rules.specs.Holds.{first_hold, has_hold, hindering_hold, hinders, is_near_hold, same_kind}
-use Rattle.clr_rules.specs.Id.{Id, same_id}
+use Rattle.clr_rules.specs.Prelude.{Command, Hold, HeldOpen, Phase, Ordered, Restoring, Switching, PointState, Record, Refusal, StepRow, Id, same_id, Register, hand_of, state_key, record_of, is_running, is_standing, is_restoring}
+use Rattle.clr_rules.specs.Prelude.{is_done, is_some_step, is_waiting, points_of, present, step_at, steps_in, steps_of, tasks_of, is_point_kind, has_hold, same_kind}
+use Rattle.clr_rules.specs.Holds.{first_hold, hindering_hold, hinders, is_near_hold}
 use Rattle.clr_rules.specs.Near.{is_beside, near_part, switched_in}
 use Rattle.clr_rules.specs.OwnLaws.{SameOwn}
-use Rattle.clr_rules.specs.Records.{is_closed, is_in_switching, is_restoring, is_running, is_standing, record_of}
-use Rattle.clr_rules.specs.Register.{Register}
-use Rattle.clr_rules.specs.States.{hand_in, hand_of, state_key}
-use Rattle.clr_rules.specs.Steps.{is_close, is_done, is_some_step, is_waiting, points_of, present, step_at, steps_in, steps_of, tasks_of}
-use Rattle.clr_rules.specs.declared.command.Command.{Command}
+use Rattle.clr_rules.specs.Records.{is_closed, is_in_switching}
+use Rattle.clr_rules.specs.States.{hand_in}
+use Rattle.clr_rules.specs.Steps.{is_close}
 use Rattle.clr_rules.specs.declared.command.Kind.TheVariants.{Instruct}
-use Rattle.clr_rules.specs.declared.hold.Hold.{Hold}
-use Rattle.clr_rules.specs.declared.hold_kind.HoldKind.TheVariants.{HeldOpen}
-use Rattle.clr_rules.specs.declared.phase.Phase.{Phase}
-use Rattle.clr_rules.specs.declared.phase.Phase.TheVariants.{Ordered, Restoring, Switching}
-use Rattle.clr_rules.specs.declared.point_state.PointState.{PointState}
-use Rattle.clr_rules.specs.declared.record.Record.{Record}
-use Rattle.clr_rules.specs.declared.refusal.Refusal.{Refusal}
-use Rattle.clr_rules.specs.declared.step_row.StepRow.{StepRow}
 use Rattle.clr_rules.proofs.lists.Filters.{there_mapped}
 use Rattle.clr_rules.proofs.keeps.Repeat.{state_fits}
 use Rattle.clr_rules.proofs.lists.NamedRows.{Contains-filter, has_name-row}

@@ -14,18 +14,9 @@ use Rattle.clr_rules.specs.Commands.{Known}
 use Rattle.clr_rules.specs.Answer.{known_of}
 use Rattle.clr_rules.specs.Command.{named_clearance}
 use Rattle.clr_rules.specs.Good.{ListsAreInOrder}
-use Rattle.clr_rules.specs.Hold.{hold_cmp, hold_cmp_total}
-use Rattle.clr_rules.specs.Holds.{hold_key, is_near_hold, is_own}
-use Rattle.clr_rules.specs.Id.{id_cmp, id_cmp_total}
+use Rattle.clr_rules.specs.Prelude.{Command, PointState, Record, StepRow, id_cmp, id_cmp_total, Register, state_key, record_key, step_key, step_key_cmp, step_key_cmp_total, hold_cmp, hold_cmp_total, hold_key}
+use Rattle.clr_rules.specs.Holds.{is_near_hold, is_own}
 use Rattle.clr_rules.specs.Near.{is_beside, near_part}
-use Rattle.clr_rules.specs.Records.{record_key}
-use Rattle.clr_rules.specs.Register.{Register}
-use Rattle.clr_rules.specs.States.{state_key}
-use Rattle.clr_rules.specs.StepKey.{step_key, step_key_cmp, step_key_cmp_total}
-use Rattle.clr_rules.specs.declared.command.Command.{Command}
-use Rattle.clr_rules.specs.declared.point_state.PointState.{PointState}
-use Rattle.clr_rules.specs.declared.record.Record.{Record}
-use Rattle.clr_rules.specs.declared.step_row.StepRow.{StepRow}
 
 pub near_in_order : (R : Register) (q : Command) → ListsAreInOrder R → ListsAreInOrder (near_part R q)
 near_in_order R q ordered = record {

@@ -13,21 +13,12 @@ use Rattle.clr_order.specs.Step.{Task, task_points}
 use Rattle.clr_rules.specs.Answer.{fence_for, known_of, named_fence}
 use Rattle.clr_rules.specs.Command.{named_clearance}
 use Rattle.clr_rules.specs.Fences.{clearance_fence, touching_names}
-use Rattle.clr_rules.specs.HoldKind.{is_point_kind}
+use Rattle.clr_rules.specs.Prelude.{Command, Kind, Hold, PointState, Record, StepRow, Id, Register, record_of, is_point_kind}
 use Rattle.clr_rules.specs.Holds.{is_near_hold, is_own}
-use Rattle.clr_rules.specs.Id.{Id}
 use Rattle.clr_rules.specs.MarkLaws.{HasEndIn}
 use Rattle.clr_rules.specs.Near.{is_asked, is_beside, near_of, switched, switched_in}
 use Rattle.clr_rules.specs.NearLaws.{HasAskedRow, HasNearRows, HasSwitchRows, InFence, InOrderFence, IsNearHold, IsNearPoint, IsStepPoint, IsSwitchPoint, is_order}
-use Rattle.clr_rules.specs.Records.{record_of}
-use Rattle.clr_rules.specs.Register.{Register}
-use Rattle.clr_rules.specs.declared.command.Command.{Command}
-use Rattle.clr_rules.specs.declared.command.Kind.{Kind}
 use Rattle.clr_rules.specs.declared.command.Kind.TheVariants.{Request, Order, Switch}
-use Rattle.clr_rules.specs.declared.hold.Hold.{Hold}
-use Rattle.clr_rules.specs.declared.point_state.PointState.{PointState}
-use Rattle.clr_rules.specs.declared.record.Record.{Record}
-use Rattle.clr_rules.specs.declared.step_row.StepRow.{StepRow}
 use Rattle.clr_rules.proofs.lists.Filters.{Says, fails, filter-nothing, is_kept, name_says, or_says, says_as, says_like}
 use Rattle.clr_rules.proofs.near.NearTests.{crew_says, fence_says, order_says, own_says, switched_says}
 use Rattle.clr_rules.proofs.near.NearWords.{near_hold_says, standing_says, touching_says}

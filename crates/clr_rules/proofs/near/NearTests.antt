@@ -8,17 +8,10 @@ use Rattle.clr_net.specs.Grid.{Grid, section_names}
 use Rattle.clr_net.specs.Names.{has_name}
 use Rattle.clr_order.specs.Step.{Task, task}
 use Rattle.clr_rules.specs.Fences.{clearance_fence, found_fence, found_order_fence, order_fence, record_fence, work_fence}
-use Rattle.clr_rules.specs.HoldKind.{is_crew}
-use Rattle.clr_rules.specs.Id.{Id, same_id}
+use Rattle.clr_rules.specs.Prelude.{HoldKind, HeldOpen, Block, Control, Tag, Tested, Ground, Crew, Record, StepRow, Id, same_id, Register, record_of, points_of, steps_in, steps_of, is_crew}
 use Rattle.clr_rules.specs.Near.{switched_by, switched_in}
 use Rattle.clr_rules.specs.NearLaws.{InFence, InOrderFence, IsStepPoint, IsSwitchPoint, IsWithin}
-use Rattle.clr_rules.specs.Records.{is_fenced, record_of}
-use Rattle.clr_rules.specs.Register.{Register}
-use Rattle.clr_rules.specs.Steps.{points_of, steps_in, steps_of}
-use Rattle.clr_rules.specs.declared.hold_kind.HoldKind.{HoldKind}
-use Rattle.clr_rules.specs.declared.hold_kind.HoldKind.TheVariants.{HeldOpen, Block, Control, Tag, Tested, Ground, Crew}
-use Rattle.clr_rules.specs.declared.record.Record.{Record}
-use Rattle.clr_rules.specs.declared.step_row.StepRow.{StepRow}
+use Rattle.clr_rules.specs.Records.{is_fenced}
 use Rattle.clr_rules.proofs.live.FenceCuts.{named_in_fence}
 use Rattle.clr_rules.proofs.lists.Filters.{Says, and_says, itself_says, kept_there, mapped_from, name_says, says_as, says_like, there_mapped}
 use Rattle.clr_rules.proofs.lists.RoundSteps.{one_id, own_id, record_id}

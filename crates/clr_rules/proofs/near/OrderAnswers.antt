@@ -14,24 +14,15 @@ use Rattle.clr_rules.specs.Commands.{checks}
 use Rattle.clr_rules.specs.Checks.{is_operator, refuse, where_some}
 use Rattle.clr_rules.specs.Fences.{order_fence, rows_of_fence}
 use Rattle.clr_rules.specs.Good.{IsGood}
-use Rattle.clr_rules.specs.HoldKind.{is_point_kind}
-use Rattle.clr_rules.specs.Holds.{has_hold, holds_of, is_near_hold}
-use Rattle.clr_rules.specs.Id.{Id, same_id}
+use Rattle.clr_rules.specs.Prelude.{Command, Kind, Hold, HoldKind, Phase, Requested, Ordered, Granted, Released, Restoring, Switching, Closed, Record, Refusal, Id, same_id, Register, record_of, is_standing, is_granted, is_point_kind}
+use Rattle.clr_rules.specs.Prelude.{has_hold, holds_of}
+use Rattle.clr_rules.specs.Holds.{is_near_hold}
 use Rattle.clr_rules.specs.Near.{is_beside, near_part}
 use Rattle.clr_rules.specs.OwnLaws.{SameOwn}
-use Rattle.clr_rules.specs.Records.{is_granted, is_requested, is_standing, record_of}
+use Rattle.clr_rules.specs.Records.{is_requested}
 use Rattle.clr_rules.specs.Refusals.{order_refusal}
-use Rattle.clr_rules.specs.Register.{Register}
 use Rattle.clr_rules.specs.Command.{named_clearance}
-use Rattle.clr_rules.specs.declared.command.Command.{Command}
-use Rattle.clr_rules.specs.declared.command.Kind.{Kind}
 use Rattle.clr_rules.specs.declared.command.Kind.TheVariants.{Instruct, Order}
-use Rattle.clr_rules.specs.declared.hold.Hold.{Hold}
-use Rattle.clr_rules.specs.declared.hold_kind.HoldKind.{HoldKind}
-use Rattle.clr_rules.specs.declared.phase.Phase.{Phase}
-use Rattle.clr_rules.specs.declared.phase.Phase.TheVariants.{Requested, Ordered, Granted, Released, Restoring, Switching, Closed}
-use Rattle.clr_rules.specs.declared.record.Record.{Record}
-use Rattle.clr_rules.specs.declared.refusal.Refusal.{Refusal}
 use Rattle.clr_rules.specs.declared.refusal.Refusal.TheVariants.{WrongPhase}
 use Rattle.clr_rules.proofs.near.GivenOut.{giving_out_is_enough}
 use Rattle.clr_rules.proofs.lists.HoldMembers.{hold_had}

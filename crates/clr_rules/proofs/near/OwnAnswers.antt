@@ -9,26 +9,14 @@ use Rattle.clr_shelf.specs.Lists.{filter-filter_wider}
 use Rattle.clr_rules.specs.Commands.{Known, checks, edits_of}
 use Rattle.clr_rules.specs.Answer.{answer, answer_with, card_of, concerned, fence_for, first_refusal, known_of, settled, told, told_after, view_of}
 use Rattle.clr_rules.specs.Command.{named_clearance}
-use Rattle.clr_rules.specs.Edits.{edited_all}
+use Rattle.clr_rules.specs.Prelude.{Edit, Command, Kind, Hold, Crew, PointState, Record, Refusal, Id, Register, record_of, is_done, present, present_round, places_of, edited_all}
 use Rattle.clr_rules.specs.Fences.{touches, touching_names}
 use Rattle.clr_rules.specs.Good.{IsGood, ListsAreInOrder}
-use Rattle.clr_rules.specs.Holds.{in_kind_order, is_near_hold, is_own, places_of}
-use Rattle.clr_rules.specs.Id.{Id}
+use Rattle.clr_rules.specs.Holds.{in_kind_order, is_near_hold, is_own}
 use Rattle.clr_rules.specs.Near.{is_beside, near_part}
 use Rattle.clr_rules.specs.NearLaws.{is_order}
 use Rattle.clr_rules.specs.OwnLaws.{SameOwn, is_instruct}
-use Rattle.clr_rules.specs.Records.{record_of}
-use Rattle.clr_rules.specs.Register.{Register}
-use Rattle.clr_rules.specs.Steps.{is_done, present, present_round}
-use Rattle.clr_rules.specs.declared.change.Edit.{Edit}
-use Rattle.clr_rules.specs.declared.command.Command.{Command}
-use Rattle.clr_rules.specs.declared.command.Kind.{Kind}
 use Rattle.clr_rules.specs.declared.command.Kind.TheVariants.{Show}
-use Rattle.clr_rules.specs.declared.hold.Hold.{Hold}
-use Rattle.clr_rules.specs.declared.hold_kind.HoldKind.TheVariants.{Crew}
-use Rattle.clr_rules.specs.declared.point_state.PointState.{PointState}
-use Rattle.clr_rules.specs.declared.record.Record.{Record}
-use Rattle.clr_rules.specs.declared.refusal.Refusal.{Refusal}
 use Rattle.clr_rules.specs.declared.reply.Reply.TheVariants.{Accepted, Shown}
 use Rattle.clr_rules.proofs.isolation.Agreement.{touching_named}
 use Rattle.clr_rules.proofs.lists.Filters.{filter-kept, itself_says}

@@ -13,20 +13,14 @@ use Rattle.clr_order.specs.Texts.{step_text}
 use Rattle.clr_rules.specs.Commands.{Known, checks}
 use Rattle.clr_rules.specs.Checks.{at_step, at_work, bad_transfer, crew_is_off, crew_is_on, crews_on, crews_on_work, earlier, employee, grounded, grounded_there, is_charge, is_charge_or_operator, is_field, is_in_charge, is_operator, is_supervisor, may_not_transfer, no_step, not_attested, not_grounded, not_holder, not_tested, out_of_turn, outside_fence, refuse, step_given_out, steps_left, unknown_caller, unknown_clearance, where_some, wrong_phase, wrong_restoring, wrong_role, wrong_state}
 use Rattle.clr_rules.specs.Command.{named_clearance}
-use Rattle.clr_rules.specs.Holds.{has_hold, has_some_hold, held_among}
-use Rattle.clr_rules.specs.Id.{Id}
+use Rattle.clr_rules.specs.Prelude.{Kind, Tested, Ground, Crew, Phase, Record, Refusal, StepRow, Id, Register, record_of, is_running, is_granted, is_restoring, is_ordered, all_done, is_active, is_waiting, points_of, step_at, steps_in}
+use Rattle.clr_rules.specs.Prelude.{has_hold, has_some_hold}
+use Rattle.clr_rules.specs.Holds.{held_among}
 use Rattle.clr_rules.specs.NearLaws.{is_order}
 use Rattle.clr_rules.specs.OwnLaws.{SameOwn, is_instruct}
 use Rattle.clr_rules.specs.Refusals.{order_refusal}
-use Rattle.clr_rules.specs.Records.{is_cancellable, is_granted, is_ordered, is_released, is_restoring, is_running, is_transferable, record_of}
-use Rattle.clr_rules.specs.Register.{Register}
-use Rattle.clr_rules.specs.Steps.{is_close, all_done, is_active, is_in_turn, is_repeated, is_waiting, points_of, some_active, step_at, steps_in}
-use Rattle.clr_rules.specs.declared.command.Kind.{Kind}
-use Rattle.clr_rules.specs.declared.hold_kind.HoldKind.TheVariants.{Tested, Ground, Crew}
-use Rattle.clr_rules.specs.declared.phase.Phase.{Phase}
-use Rattle.clr_rules.specs.declared.record.Record.{Record}
-use Rattle.clr_rules.specs.declared.refusal.Refusal.{Refusal}
-use Rattle.clr_rules.specs.declared.step_row.StepRow.{StepRow}
+use Rattle.clr_rules.specs.Records.{is_cancellable, is_released, is_transferable}
+use Rattle.clr_rules.specs.Steps.{is_close, is_in_turn, is_repeated, some_active}
 use Rattle.clr_rules.specs.declared.command.Kind.TheVariants as kinds
 use Rattle.clr_rules.specs.declared.refusal.Refusal.TheVariants as refusals
 use Rattle.clr_rules.proofs.near.OwnQuestions.{same_has_hold, same_held_among, same_present, same_round, same_some_hold}

@@ -8,23 +8,12 @@ use Rattle.clr_shelf.specs.Rows.{in_key_order, with_row}
 use Rattle.clr_rules.specs.Changes.{cancelled_phase, done_edits, edits_by, hold_edits, moved, phase_after, position_edits, undone_edits, with_record, with_step}
 use Rattle.clr_rules.specs.Commands.{edits_of}
 use Rattle.clr_rules.specs.Command.{named_clearance}
-use Rattle.clr_rules.specs.Edits.{edited, edited_all}
+use Rattle.clr_rules.specs.Prelude.{Edit, SetPosition, SetHand, PutHold, TakeHold, PutRecord, PutStep, Kind, Tested, Phase, Released, Closed, Record, StepRow, Id, same_id, Register, record_of, is_ordered, step_key, step_key_cmp}
+use Rattle.clr_rules.specs.Prelude.{step_key_cmp_total, all_done, present, step_at, steps_of, has_any_hold, hold_of, holds_of, edited, edited_all}
 use Rattle.clr_rules.specs.Good.{ListsAreInOrder}
-use Rattle.clr_rules.specs.Holds.{has_any_hold, hold_of, holds_of}
-use Rattle.clr_rules.specs.Id.{Id, same_id}
 use Rattle.clr_rules.specs.OwnLaws.{SameOwn}
-use Rattle.clr_rules.specs.Records.{ends_with_steps, is_ordered, is_switch_order, record_of}
-use Rattle.clr_rules.specs.Register.{Register}
-use Rattle.clr_rules.specs.StepKey.{same_step_key, step_key, step_key_cmp, step_key_cmp_total}
-use Rattle.clr_rules.specs.Steps.{all_done, present, step_at, steps_of}
-use Rattle.clr_rules.specs.declared.change.Edit.{Edit}
-use Rattle.clr_rules.specs.declared.change.Edit.TheVariants.{SetPosition, SetHand, PutHold, TakeHold, PutRecord, PutStep}
-use Rattle.clr_rules.specs.declared.command.Kind.{Kind}
-use Rattle.clr_rules.specs.declared.hold_kind.HoldKind.TheVariants.{Tested}
-use Rattle.clr_rules.specs.declared.phase.Phase.{Phase}
-use Rattle.clr_rules.specs.declared.phase.Phase.TheVariants.{Released, Closed}
-use Rattle.clr_rules.specs.declared.record.Record.{Record}
-use Rattle.clr_rules.specs.declared.step_row.StepRow.{StepRow}
+use Rattle.clr_rules.specs.Records.{ends_with_steps, is_switch_order}
+use Rattle.clr_rules.specs.StepKey.{same_step_key}
 use Rattle.clr_rules.specs.declared.command.Kind.TheVariants as kinds
 use Rattle.clr_rules.proofs.isolation.Agreement.{holds_of-edited, own_after}
 use Rattle.clr_rules.proofs.edits.EditReading.{record_of-put}

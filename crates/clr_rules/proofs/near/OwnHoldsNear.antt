@@ -15,23 +15,13 @@ use Rattle.clr_rules.specs.Answer.{fence_for, known_of}
 use Rattle.clr_rules.specs.Command.{named_clearance}
 use Rattle.clr_rules.specs.Fences.{clearance_fence, touching_names}
 use Rattle.clr_rules.specs.Good.{IsGood, IsSoundFor}
-use Rattle.clr_rules.specs.HoldKind.{is_crew, is_point_kind, is_section_kind}
-use Rattle.clr_rules.specs.Holds.{has_hold, holds_of, is_near_hold, is_own, once}
-use Rattle.clr_rules.specs.Id.{Id, same_id}
+use Rattle.clr_rules.specs.Prelude.{Command, Hold, HoldKind, HeldOpen, Block, Control, Tag, Tested, Ground, Crew, Phase, Requested, Ordered, Granted, Released, Restoring, Switching, Closed, Record, StepRow, Id, same_id, Register}
+use Rattle.clr_rules.specs.Prelude.{record_of, is_standing, points_of, steps_in, tasks_of, is_crew, is_point_kind, is_section_kind, has_hold, holds_of, once}
+use Rattle.clr_rules.specs.Holds.{is_near_hold, is_own}
 use Rattle.clr_rules.specs.MarkLaws.{HasEndIn}
 use Rattle.clr_rules.specs.Near.{is_beside, near_part}
 use Rattle.clr_rules.specs.NearLaws.{is_order}
-use Rattle.clr_rules.specs.Records.{is_fenced, is_standing, record_of}
-use Rattle.clr_rules.specs.Register.{Register}
-use Rattle.clr_rules.specs.Steps.{points_of, steps_in, tasks_of}
-use Rattle.clr_rules.specs.declared.command.Command.{Command}
-use Rattle.clr_rules.specs.declared.hold.Hold.{Hold}
-use Rattle.clr_rules.specs.declared.hold_kind.HoldKind.{HoldKind}
-use Rattle.clr_rules.specs.declared.hold_kind.HoldKind.TheVariants.{HeldOpen, Block, Control, Tag, Tested, Ground, Crew}
-use Rattle.clr_rules.specs.declared.phase.Phase.{Phase}
-use Rattle.clr_rules.specs.declared.phase.Phase.TheVariants.{Requested, Ordered, Granted, Released, Restoring, Switching, Closed}
-use Rattle.clr_rules.specs.declared.record.Record.{Record}
-use Rattle.clr_rules.specs.declared.step_row.StepRow.{StepRow}
+use Rattle.clr_rules.specs.Records.{is_fenced}
 use Rattle.clr_rules.proofs.live.FenceCuts.{has_name-once, in_fence_alike, known_in_fence}
 use Rattle.clr_rules.proofs.lists.HoldMembers.{hold_had}
 use Rattle.clr_rules.proofs.lists.Filters.{filter-kept, itself_says, kept_there, name_says}

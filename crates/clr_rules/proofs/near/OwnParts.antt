@@ -5,14 +5,10 @@ use Rattle.clr_shelf.specs.Lists.{filter-filter_wider}
 use Rattle.clr_rules.specs.Agreement.{Agree}
 use Rattle.clr_rules.specs.Command.{named_clearance}
 use Rattle.clr_rules.specs.Good.{IsGood}
-use Rattle.clr_rules.specs.Id.{Id, same_id}
+use Rattle.clr_rules.specs.Prelude.{Command, StepRow, Id, same_id, Register, steps_of}
 use Rattle.clr_rules.specs.Near.{near_part}
 use Rattle.clr_rules.specs.NearLaws.{is_order}
 use Rattle.clr_rules.specs.OwnLaws.{SameOwn}
-use Rattle.clr_rules.specs.Register.{Register}
-use Rattle.clr_rules.specs.Steps.{steps_of}
-use Rattle.clr_rules.specs.declared.command.Command.{Command}
-use Rattle.clr_rules.specs.declared.step_row.StepRow.{StepRow}
 use Rattle.clr_rules.proofs.near.OwnHoldsNear.{own_holds_near}
 use Rattle.clr_rules.proofs.isolation.SameFences.{record_of-own, same_record}
 

@@ -7,16 +7,11 @@ use Rattle.clr_shelf.specs.Groups.{row_of-filter_inside}
 use Rattle.clr_shelf.specs.Keys.{equal}
 use Rattle.clr_shelf.specs.Lists.{filter-filter_wider}
 use Rattle.clr_rules.specs.GoodByPhase.{of_round}
-use Rattle.clr_rules.specs.Hold.{hold_cmp, hold_cmp_total, same_hold}
-use Rattle.clr_rules.specs.Holds.{has_any_hold, has_hold, has_some_hold, held_among, held_at, hold_key, hold_of, holds_of, once, places_of, same_kind}
-use Rattle.clr_rules.specs.Id.{Id, same_id}
+use Rattle.clr_rules.specs.Prelude.{Hold, HoldKind, HeldOpen, Block, Control, Tag, StepRow, Id, same_id, Register, is_some_step, present, present_round, steps_in, hold_cmp, hold_cmp_total, has_any_hold, has_hold, has_some_hold, held_at}
+use Rattle.clr_rules.specs.Prelude.{hold_key, hold_of, holds_of, once, places_of, same_kind}
+use Rattle.clr_rules.specs.Hold.{same_hold}
+use Rattle.clr_rules.specs.Holds.{held_among}
 use Rattle.clr_rules.specs.OwnLaws.{SameOwn}
-use Rattle.clr_rules.specs.Register.{Register}
-use Rattle.clr_rules.specs.Steps.{is_some_step, present, present_round, steps_in}
-use Rattle.clr_rules.specs.declared.hold.Hold.{Hold}
-use Rattle.clr_rules.specs.declared.hold_kind.HoldKind.{HoldKind}
-use Rattle.clr_rules.specs.declared.hold_kind.HoldKind.TheVariants.{HeldOpen, Block, Control, Tag}
-use Rattle.clr_rules.specs.declared.step_row.StepRow.{StepRow}
 use Rattle.clr_rules.proofs.lists.RoundSteps.{of_round_is, own_id}
 
 -- a search for any in what a wider test keeps

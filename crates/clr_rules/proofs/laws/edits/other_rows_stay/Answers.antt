@@ -1,8 +1,4 @@
-use Rattle.clr_rules.specs.Hold.{hold_cmp, hold_cmp_total}
-use Rattle.clr_rules.specs.Holds.{hold_key}
-use Rattle.clr_rules.specs.Id.{id_cmp, id_cmp_total}
-use Rattle.clr_rules.specs.Records.{record_key}
-use Rattle.clr_rules.specs.StepKey.{step_key, step_key_cmp, step_key_cmp_total}
+use Rattle.clr_rules.specs.Prelude.{id_cmp, id_cmp_total, record_key, step_key, step_key_cmp, step_key_cmp_total, hold_cmp, hold_cmp_total, hold_key}
 use Rattle.clr_rules.proofs.edits.EditReading.{has_row_put, has_row_taken}
 use Rattle.clr_rules.proofs.laws.edits.other_rows_stay.Goals as goal
 
