@@ -9,15 +9,42 @@ use Rattle.clr_rules.specs.Register.{Register}
 use Rattle.clr_rules.specs.States.{change_state}
 use Rattle.clr_rules.specs.StepKey.{step_key, step_key_cmp}
 use Rattle.clr_rules.specs.declared.change.Edit.{Edit}
+use Rattle.clr_rules.specs.declared.hold.Hold.{Hold}
+use Rattle.clr_rules.specs.declared.point_state.PointState.{PointState}
+use Rattle.clr_rules.specs.declared.record.Record.{Record}
+use Rattle.clr_rules.specs.declared.step_row.StepRow.{StepRow}
 use Rattle.clr_rules.specs.declared.change.Edit.TheVariants.{SetPosition, SetHand, PutHold, TakeHold, PutRecord, PutStep}
 
+-- the states after an edit
+abbrev pub states_after : Edit → List PointState → List PointState
+states_after (SetPosition point position) states = change_state states point (λ state. record state { position = position })
+states_after (SetHand point hand) states = change_state states point (λ state. record state { hand = hand })
+states_after _ states = states
+
+-- the holds after an edit
+abbrev pub holds_after : Edit → List Hold → List Hold
+holds_after (PutHold h) holds = with_row hold_cmp hold_key h holds
+holds_after (TakeHold h) holds = without_row hold_cmp hold_key h holds
+holds_after _ holds = holds
+
+-- the records after an edit
+abbrev pub records_after : Edit → List Record → List Record
+records_after (PutRecord r) records = with_row id_cmp record_key r records
+records_after _ records = records
+
+-- the steps after an edit
+abbrev pub steps_after : Edit → List StepRow → List StepRow
+steps_after (PutStep row) steps = with_row step_key_cmp step_key row steps
+steps_after _ steps = steps
+
+-- AN EDIT changes one of the lists; the network and the staff stay
 abbrev pub edited : Edit → Register → Register
-edited (SetPosition point position) R = record R { states = change_state R.states point (λ state. record state { position = position }) }
-edited (SetHand point hand) R = record R { states = change_state R.states point (λ state. record state { hand = hand }) }
-edited (PutHold h) R = record R { holds = with_row hold_cmp hold_key h R.holds }
-edited (TakeHold h) R = record R { holds = without_row hold_cmp hold_key h R.holds }
-edited (PutRecord r) R = record R { records = with_row id_cmp record_key r R.records }
-edited (PutStep row) R = record R { steps = with_row step_key_cmp step_key row R.steps }
+edited edit R = record R {
+  states = states_after edit R.states;
+  holds = holds_after edit R.holds;
+  records = records_after edit R.records;
+  steps = steps_after edit R.steps;
+}
 
 -- the edits, one after the other
 unfoldable pub edited_all : List Edit → Register → Register

@@ -70,13 +70,8 @@ takes_in_order (h ∷ holds) r ordered = and_from _ _
     (takes_in_order holds r (in_key_order-rest hold_cmp hold_key hold_cmp_total h holds ordered))
 
 tested_alone : (kind : HoldKind) → same_kind Tested kind ≡ true → Tested ≡ kind
-tested_alone HeldOpen h = cc
-tested_alone Block h = cc
-tested_alone Control h = cc
-tested_alone Tag h = cc
 tested_alone Tested h = refl
-tested_alone Ground h = cc
-tested_alone Crew h = cc
+tested_alone _ h = cc
 
 -- a test of a clearance is the hold of that clearance, of that kind, at its place
 test_of : (c : Id) (h : Hold) → (same_id c h.id && same_kind Tested h.kind) ≡ true → hold_of c Tested h.place ≡ h

@@ -10,15 +10,8 @@ use Rattle.clr_rules.specs.declared.refusal.Refusal.TheVariants as refusals
 
 -- whether want of memory is told, which no check of an order tells
 abbrev pub is_memory : Option OrderFault → Bool
-is_memory None = false
-is_memory (Some EmptyOrder) = false
-is_memory (Some LongOrder) = false
-is_memory (Some PointTwice) = false
-is_memory (Some (SourceInside section)) = false
-is_memory (Some (NotOnFence point)) = false
-is_memory (Some (StepsWrong point)) = false
-is_memory (Some (UnknownPoint point)) = false
 is_memory (Some NoMemory) = true
+is_memory _ = false
 
 pub by_test : (b : Bool) (fault : OrderFault) (rest : Option OrderFault) → is_memory (Some fault) ≡ false → is_memory rest ≡ false → is_memory (fault_if b fault rest) ≡ false
 by_test true fault rest told more = told

@@ -84,16 +84,13 @@ found_step_edits R c n r row edits found step h =
 -- ---- its place among the clearance's steps
 
 pub active_moves : (state : StepState) → is_active state ≡ true → (is_waiting state ≡ false) × (is_done state ≡ false)
-active_moves Instructed h = (refl, refl)
-active_moves Repeated h = (refl, refl)
 active_moves Waiting h = absurd (false≢true h)
 active_moves Done h = absurd (false≢true h)
+active_moves _ h = (refl, refl)
 
 pub waiting_not_done : (state : StepState) → is_waiting state ≡ true → is_done state ≡ false
 waiting_not_done Waiting h = refl
-waiting_not_done Instructed h = absurd (false≢true h)
-waiting_not_done Repeated h = absurd (false≢true h)
-waiting_not_done Done h = absurd (false≢true h)
+waiting_not_done _ h = absurd (false≢true h)
 
 -- before a step that has its turn all are Done
 done_in_turn : (before : List StepRow) (row : StepRow) (after : List StepRow) → Rises (before ++ row ∷ after) → is_in_turn (before ++ row ∷ after) row.ordinal ≡ true → all_done before ≡ true

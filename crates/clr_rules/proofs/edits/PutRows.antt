@@ -98,11 +98,7 @@ module _ (P : Record → Type 0) (Q : StepRow → Type 0) where
 -- an edit does not take a hold
 abbrev pub Leaves : Id → HoldKind → List ℕ → Edit → Type 0
 Leaves c kind place (TakeHold h) = is_hold h c kind place ≡ false
-Leaves c kind place (PutHold h) = Unit {0}
-Leaves c kind place (PutRecord r) = Unit {0}
-Leaves c kind place (PutStep row) = Unit {0}
-Leaves c kind place (SetPosition p position) = Unit {0}
-Leaves c kind place (SetHand p hand) = Unit {0}
+Leaves c kind place _ = Unit {0}
 
 abbrev pub AllLeave : Id → HoldKind → List ℕ → List Edit → Type 0
 AllLeave c kind place edits = AllByRecursion (Leaves c kind place) edits

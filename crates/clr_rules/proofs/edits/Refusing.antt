@@ -56,8 +56,7 @@ concerned_is_recorded k R by at kind (Some c) names passed =
 
 abbrev pub is_refused : Reply → Bool
 is_refused (Refused refusal) = true
-is_refused (Accepted card) = false
-is_refused (Shown view) = false
+is_refused _ = false
 
 told_of_record : (k : Known) (R : Register) (kind : Kind) (found : Option Record) → is_some found ≡ true → is_refused (told k R kind found) ≡ false
 told_of_record k R kind None h = cc

@@ -182,7 +182,4 @@ module _ (before after : List StepRow) (row new : StepRow) (k : ℕ) (mid : InMi
       phase_again g Ordered None o q has hand given runs now h = absurd h
       phase_again g Restoring None o q has hand given runs now h = absurd h
       phase_again g Switching (Some work) o q has hand given runs now h = absurd h
-      phase_again g Requested work o q has hand given runs now h = absurd (false≢true runs)
-      phase_again g Granted work o q has hand given runs now h = absurd (false≢true runs)
-      phase_again g Released work o q has hand given runs now h = absurd (false≢true runs)
-      phase_again g Closed work o q has hand given runs now h = absurd (false≢true runs)
+      phase_again g _ work o q has hand given runs now h = absurd (false≢true runs)

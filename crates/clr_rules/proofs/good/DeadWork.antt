@@ -21,13 +21,9 @@ use Rattle.clr_rules.proofs.live.FenceCuts.{named_from_in_fence}
 use Rattle.clr_rules.proofs.live.LiveSections.{live_is_closed_walks}
 
 granted_is_fenced : (phase : Phase) → is_granted phase ≡ true → is_fenced phase ≡ true
-granted_is_fenced Granted granted = refl
 granted_is_fenced Requested granted = cc
-granted_is_fenced Ordered granted = refl
-granted_is_fenced Released granted = refl
-granted_is_fenced Restoring granted = refl
-granted_is_fenced Switching granted = refl
 granted_is_fenced Closed granted = cc
+granted_is_fenced _ granted = refl
 
 -- a record is one of the list, and of its clearance
 found_record : (R : Register) (c : Id) (r : Record) → record_of R.records c ≡ Some r → Contains R.records r

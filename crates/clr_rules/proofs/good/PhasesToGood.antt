@@ -26,12 +26,7 @@ use Rattle.clr_rules.proofs.good.StepsInTurn.{round_rises, turn_of_each}
 -- the phase whose test passes
 granted_is : (phase : Phase) → is_granted phase ≡ true → phase ≡ Granted
 granted_is Granted h = refl
-granted_is Requested h = absurd (false≢true h)
-granted_is Ordered h = absurd (false≢true h)
-granted_is Released h = absurd (false≢true h)
-granted_is Restoring h = absurd (false≢true h)
-granted_is Switching h = absurd (false≢true h)
-granted_is Closed h = absurd (false≢true h)
+granted_is _ h = absurd (false≢true h)
 
 -- an order that isolates has a work section
 sound_work : (g : Grid) (work : Option (List ℕ)) (rows : List StepRow) → IsSoundFor g work rows

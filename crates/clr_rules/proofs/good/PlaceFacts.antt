@@ -49,10 +49,9 @@ phase_beside g Switching (Some work) v o hand h = absurd h
 
 -- a step that is Done is not given out
 pub done_rests : (state : StepState) → is_done state ≡ true → is_active state ≡ false
-done_rests Done h = refl
-done_rests Waiting h = refl
 done_rests Instructed h = cc
 done_rests Repeated h = cc
+done_rests _ h = refl
 
 -- a step of a round is among those of the round
 pub in_round : (steps : List StepRow) (round : ℕ) (row : StepRow) → Contains steps row → row.round ≡ round → Contains (of_round steps round) row
@@ -82,9 +81,4 @@ to_granted g Ordered (Some work) v o is done h = record {
   crews_grounded = λ crew has. absurd (both_ways (v.has Crew crew) (h.no_work Crew crew refl) has);
 }
 to_granted g Ordered None v o is done h = absurd h
-to_granted g Requested work v o is done h = absurd (false≢true is)
-to_granted g Granted work v o is done h = absurd (false≢true is)
-to_granted g Released work v o is done h = absurd (false≢true is)
-to_granted g Restoring work v o is done h = absurd (false≢true is)
-to_granted g Switching work v o is done h = absurd (false≢true is)
-to_granted g Closed work v o is done h = absurd (false≢true is)
+to_granted g _ work v o is done h = absurd (false≢true is)

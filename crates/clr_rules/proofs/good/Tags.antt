@@ -50,30 +50,15 @@ CameSo R kind s = CameTo R kind s s.phase
 
 released_is : (phase : Phase) → is_released phase ≡ true → phase ≡ Released
 released_is Released is = refl
-released_is Requested is = absurd (false≢true is)
-released_is Ordered is = absurd (false≢true is)
-released_is Granted is = absurd (false≢true is)
-released_is Restoring is = absurd (false≢true is)
-released_is Switching is = absurd (false≢true is)
-released_is Closed is = absurd (false≢true is)
+released_is _ is = absurd (false≢true is)
 
 granted_is : (phase : Phase) → is_granted phase ≡ true → phase ≡ Granted
 granted_is Granted is = refl
-granted_is Requested is = absurd (false≢true is)
-granted_is Ordered is = absurd (false≢true is)
-granted_is Released is = absurd (false≢true is)
-granted_is Restoring is = absurd (false≢true is)
-granted_is Switching is = absurd (false≢true is)
-granted_is Closed is = absurd (false≢true is)
+granted_is _ is = absurd (false≢true is)
 
 ordered_is : (phase : Phase) → is_ordered phase ≡ true → phase ≡ Ordered
 ordered_is Ordered is = refl
-ordered_is Requested is = absurd (false≢true is)
-ordered_is Granted is = absurd (false≢true is)
-ordered_is Released is = absurd (false≢true is)
-ordered_is Restoring is = absurd (false≢true is)
-ordered_is Switching is = absurd (false≢true is)
-ordered_is Closed is = absurd (false≢true is)
+ordered_is _ is = absurd (false≢true is)
 
 module _ (R : Register) (kind : Kind) (r : Record) (c : Id) (found : record_of R.records c ≡ Some r) where
   own : r.id ≡ c
@@ -230,10 +215,7 @@ untag_is_restoring R good c r found runs row p untags = by_phase r.phase r.work 
         absurd (false≢true (sym (ap is_switching untags) ∙ All-contains (λ (row : StepRow). is_switching row.step.action ≡ true) (steps_of R.steps c) row h.only_switching among))
     by_phase Ordered None is running h = absurd h
     by_phase Switching (Some work) is running h = absurd h
-    by_phase Requested work is running h = absurd (false≢true running)
-    by_phase Granted work is running h = absurd (false≢true running)
-    by_phase Released work is running h = absurd (false≢true running)
-    by_phase Closed work is running h = absurd (false≢true running)
+    by_phase _ work is running h = absurd (false≢true running)
 
 module _ (R : Register) (c : Id) (p : List ℕ) where
   tests_leave : (d : Id) (places : List (List ℕ)) → AllLeave c Tag p (map (λ place. TakeHold (hold_of d Tested place)) places)

@@ -66,10 +66,9 @@ same_touching R S c inside agree =
 mark_alike : (g h : Grid) (inside : List ℕ → Bool) → touching_names g inside ≡ touching_names h inside → (edit : Edit) → is_mark g inside edit ≡ is_mark h inside edit
 mark_alike g h inside same (SetPosition point position) = ap (λ (names : List (List ℕ)). has_name names point) same
 mark_alike g h inside same (SetHand point hand) = ap (λ (names : List (List ℕ)). has_name names point) same
-mark_alike g h inside same (PutHold hold) = rw same refl
-mark_alike g h inside same (TakeHold hold) = rw same refl
 mark_alike g h inside same (PutRecord r) = refl
 mark_alike g h inside same (PutStep row) = refl
+mark_alike g h inside same _ = rw same refl
 
 pub marks_alike : (R S : Register) (c : Id) (inside : List ℕ → Bool) → Agree c inside R S
     → (edits : List Edit) → marks_of R.net inside edits ≡ marks_of S.net inside edits

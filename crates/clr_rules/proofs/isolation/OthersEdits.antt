@@ -106,10 +106,9 @@ module _ (c : Id) (R : Register) where
   done_spares actions.Leave switching p r r2 row hand shut own kept step = and_from _ _ hand (and_from _ _ own (and_from _ _ kept (and_from _ _ step refl)))
 
 active_from_repeated : (state : StepState) → is_repeated state ≡ true → is_active state ≡ true
-active_from_repeated Waiting h = cc
 active_from_repeated Instructed h = refl
 active_from_repeated Repeated h = refl
-active_from_repeated Done h = cc
+active_from_repeated _ h = cc
 
 -- ---- reports, where the hands match the steps
 

@@ -94,12 +94,8 @@ module _ (c : Id) (R : Register) (q : Command) (matches : HandMatchesStep R) (no
       both_ways (has_record R.records r.id) (not-true (has_record R.records r.id) parts.1) (put_was_there r there parts.0))
 
   not_new : (edit : Edit) → Contains (Answer.edits (answer R q)) edit → is_new_of R.records c.requester edit ≡ false
-  not_new (SetPosition point position) there = refl
-  not_new (SetHand point hand) there = refl
-  not_new (PutHold h) there = refl
-  not_new (TakeHold h) there = refl
   not_new (PutRecord r) there = known_put r there
-  not_new (PutStep row) there = refl
+  not_new _ there = refl
 
   accepted_of_others : AreOfOthers c R q
   accepted_of_others =

@@ -164,12 +164,11 @@ part_near-edited_all R ordered c inside edits =
 -- an edit that is not about a clearance concerns it where it is a mark
 concerns_by_mark : (g : Grid) (c : Id) (inside : List ℕ → Bool) (edit : Edit) → is_about c edit ≡ false
     → concerns c inside (has_name (touching_names g inside)) edit ≡ is_mark g inside edit
-concerns_by_mark g c inside (SetPosition point position) other = refl
-concerns_by_mark g c inside (SetHand point hand) other = refl
 concerns_by_mark g c inside (PutHold h) other = rw other refl
 concerns_by_mark g c inside (TakeHold h) other = rw other refl
 concerns_by_mark g c inside (PutRecord r) other = other
 concerns_by_mark g c inside (PutStep row) other = other
+concerns_by_mark g c inside _ other = refl
 
 pub concerning_by_marks : (g : Grid) (c : Id) (inside : List ℕ → Bool) (edits : List Edit) → All (λ edit. is_about c edit ≡ false) edits
     → concerning g c inside edits ≡ marks_of g inside edits

@@ -177,12 +177,7 @@ amended_phase : (g : Grid) (phase : Phase) (work : Option (List ℕ)) (before af
 amended_phase g Restoring (Some work) before after row o q has hand is waits closes now h =
     restoring_amended g work before after row o q has hand waits closes (now ∙ rw h.second_round refl) h
 amended_phase g Restoring None before after row o q has hand is waits closes now h = absurd h
-amended_phase g Requested work before after row o q has hand is waits closes now h = absurd (false≢true is)
-amended_phase g Ordered work before after row o q has hand is waits closes now h = absurd (false≢true is)
-amended_phase g Granted work before after row o q has hand is waits closes now h = absurd (false≢true is)
-amended_phase g Released work before after row o q has hand is waits closes now h = absurd (false≢true is)
-amended_phase g Switching work before after row o q has hand is waits closes now h = absurd (false≢true is)
-amended_phase g Closed work before after row o q has hand is waits closes now h = absurd (false≢true is)
+amended_phase g _ work before after row o q has hand is waits closes now h = absurd (false≢true is)
 
 amend_keeps : (R : Register) (at : ℕ) (c : Id) (r : Record) (row : StepRow) → IsGoodByPhase R → record_of R.records c ≡ Some r → is_restoring r.phase ≡ true
     → IsPresent R c row → is_waiting row.step.state ≡ true → is_close row.step.action ≡ true

@@ -33,10 +33,7 @@ cancelled g Switching None v o some fits rests none h = record { none_active = r
 cancelled g Ordered None v o some fits rests none h = absurd h
 cancelled g Requested None v o some fits rests none h = absurd h
 cancelled g Switching (Some work) v o some fits rests none h = absurd h
-cancelled g Granted work v o some fits rests none h = absurd (false≢true fits)
-cancelled g Released work v o some fits rests none h = absurd (false≢true fits)
-cancelled g Restoring work v o some fits rests none h = absurd (false≢true fits)
-cancelled g Closed work v o some fits rests none h = absurd (false≢true fits)
+cancelled g _ work v o some fits rests none h = absurd (false≢true fits)
 
 pub cancels_keep : (c : Id) → KeepsGood (Cancel c)
 cancels_keep c = commands_keep (Cancel c) (λ R by at good passed.

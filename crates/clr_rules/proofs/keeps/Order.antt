@@ -241,12 +241,7 @@ module _ (R : Register) (good : IsGoodByPhase R) (r : Record) (found : record_of
 requested_bare : (g : Grid) (phase : Phase) (work : Option (List ℕ)) (v : Outlook) → is_requested phase ≡ true → InPhase g phase work v → (w : List ℕ) × (work ≡ Some w) × IsBare v
 requested_bare g Requested (Some w) v is h = (w, refl, h)
 requested_bare g Requested None v is h = absurd h
-requested_bare g Ordered work v is h = absurd (false≢true is)
-requested_bare g Granted work v is h = absurd (false≢true is)
-requested_bare g Released work v is h = absurd (false≢true is)
-requested_bare g Restoring work v is h = absurd (false≢true is)
-requested_bare g Switching work v is h = absurd (false≢true is)
-requested_bare g Closed work v is h = absurd (false≢true is)
+requested_bare g _ work v is h = absurd (false≢true is)
 
 pub orders_keep : (c : Id) (points : List (List ℕ)) (tasks : List Task) → KeepsGood (Order c points tasks)
 orders_keep c points tasks = commands_keep (Order c points tasks) (λ R by at good passed.

@@ -93,19 +93,14 @@ module _ (R : Register) (good : IsGoodByPhase R) (c : Id) (r : Record) (found : 
       false≢true (sym no_ground ∙ has_some R.holds c Ground q has))
   no_work Crew q off_point = own_taken_all c (places_of R.holds c Tested) R.holds Crew q ∙ false_from_ne_true (has_hold R.holds c Crew q) (λ has.
       false≢true (sym no_crew ∙ has_some R.holds c Crew q has))
-  no_work HeldOpen q off_point = absurd (false≢true (sym off_point))
-  no_work Block q off_point = absurd (false≢true (sym off_point))
-  no_work Control q off_point = absurd (false≢true (sym off_point))
-  no_work Tag q off_point = absurd (false≢true (sym off_point))
+  no_work _ q off_point = absurd (false≢true (sym off_point))
 
   at_points : (kind : HoldKind) (q : List ℕ) → is_point_kind kind ≡ true → has_hold holds c kind q ≡ has_hold R.holds c kind q
   at_points HeldOpen q at_point = own_taken_all c (places_of R.holds c Tested) R.holds HeldOpen q
   at_points Block q at_point = own_taken_all c (places_of R.holds c Tested) R.holds Block q
   at_points Control q at_point = own_taken_all c (places_of R.holds c Tested) R.holds Control q
   at_points Tag q at_point = own_taken_all c (places_of R.holds c Tested) R.holds Tag q
-  at_points Tested q at_point = absurd (false≢true at_point)
-  at_points Ground q at_point = absurd (false≢true at_point)
-  at_points Crew q at_point = absurd (false≢true at_point)
+  at_points _ q at_point = absurd (false≢true at_point)
 
   in_released : InReleased R.net w.work (outlook_with released c next)
   in_released = let h = w.granted in record {

@@ -275,10 +275,7 @@ done_report R good c r found row p active runs at = by_phase r.phase r.work refl
     by_phase Ordered None is none running = absurd (phase_at R good c r found row p active at Ordered Ordered None is none)
     by_phase Restoring None is none running = absurd (phase_at R good c r found row p active at Ordered Restoring None is none)
     by_phase Switching (Some work) is has_work running = absurd (phase_at R good c r found row p active at Ordered Switching (Some work) is has_work)
-    by_phase Requested work is has_work running = absurd (false≢true running)
-    by_phase Granted work is has_work running = absurd (false≢true running)
-    by_phase Released work is has_work running = absurd (false≢true running)
-    by_phase Closed work is has_work running = absurd (false≢true running)
+    by_phase _ work is has_work running = absurd (false≢true running)
 
 undone_report : (R : Register) → IsGoodByPhase R → (c : Id) (r : Record) → record_of R.records c ≡ Some r → (row : StepRow) → IsPresent R c row → is_active row.step.state ≡ true
     → is_running r.phase ≡ true → (at : ℕ) → IsGoodByPhase (edited_all (undone_edits at r row) R)
@@ -290,9 +287,7 @@ undone_report R good c r found row p active runs at =
 
 repeated_is_active : (state : StepState) → is_repeated state ≡ true → is_active state ≡ true
 repeated_is_active Repeated h = refl
-repeated_is_active Waiting h = absurd (false≢true h)
-repeated_is_active Instructed h = absurd (false≢true h)
-repeated_is_active Done h = absurd (false≢true h)
+repeated_is_active _ h = absurd (false≢true h)
 
 pub reports_keep : (c : Id) (n : ℕ) (done : Bool) → KeepsGood (Report c n done)
 reports_keep c n done = commands_keep (Report c n done) (λ R by at good passed.

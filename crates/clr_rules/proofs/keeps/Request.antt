@@ -34,9 +34,8 @@ caller_role R by fits known right = at (employee R.staff by) refl (not_refused_t
     )
 
 charge_operates_not : (role : Role) → is_charge role ≡ true → is_operator role ≡ false
-charge_operates_not Charge h = refl
-charge_operates_not Field h = refl
 charge_operates_not Operator h = cc
+charge_operates_not _ h = refl
 
 -- of a clearance that nobody asked for there is nothing
 pub bare_before : (R : Register) (c : Id) → IsGoodByPhase R → record_of R.records c ≡ None → IsBare (outlook_of R c)

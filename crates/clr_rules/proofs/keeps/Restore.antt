@@ -88,12 +88,7 @@ released : (g : Grid) (phase : Phase) (work : Option (List ℕ)) (v : Outlook) �
     → (w : List ℕ) × (work ≡ Some w) × InReleased g w v
 released g Released (Some w) v is h = (w, refl, h)
 released g Released None v is h = absurd h
-released g Requested work v is h = absurd (false≢true is)
-released g Ordered work v is h = absurd (false≢true is)
-released g Granted work v is h = absurd (false≢true is)
-released g Restoring work v is h = absurd (false≢true is)
-released g Switching work v is h = absurd (false≢true is)
-released g Closed work v is h = absurd (false≢true is)
+released g _ work v is h = absurd (false≢true is)
 
 module _ (R : Register) (r : Record) (at : ℕ) (tasks : List Task) (good : IsGoodByPhase R) (work : List ℕ) (h : InReleased R.net work (outlook_of R r.id))
     (restores : IsRestoring (held_among R.holds r.id (points_of (steps_in R.steps r.id 1))) tasks) where

@@ -17,12 +17,7 @@ use Rattle.clr_rules.proofs.lists.RoundSteps.{one_id, own_id}
 
 by_place : (kind : HoldKind) → find (λ k. nat_eq (kind_place k) (kind_place kind)) all_hold_kinds ≡ Some kind
 by_place HeldOpen = refl
-by_place Block = refl
-by_place Control = refl
-by_place Tag = refl
-by_place Tested = refl
-by_place Ground = refl
-by_place Crew = refl
+by_place _ = refl
 
 -- kinds that are the same are one
 pub one_kind : (a b : HoldKind) → same_kind a b ≡ true → a ≡ b

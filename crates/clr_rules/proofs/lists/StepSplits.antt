@@ -164,9 +164,7 @@ left_after_done (row ∷ before) rest done =
 
 waits_not_done : (state : StepState) → is_waiting state ≡ true → is_done state ≡ false
 waits_not_done Waiting h = refl
-waits_not_done Instructed h = absurd (false≢true h)
-waits_not_done Repeated h = absurd (false≢true h)
-waits_not_done Done h = absurd (false≢true h)
+waits_not_done _ h = absurd (false≢true h)
 
 pub left_waiting : (rows : List StepRow) → all_waiting rows ≡ true → left rows ≡ rows
 left_waiting [] waits = refl
@@ -177,6 +175,4 @@ left_waiting (row ∷ rows) waits =
 -- what waits, and what is Done, is not given out
 pub waits_not_active : (state : StepState) → is_waiting state ≡ true → is_active state ≡ false
 waits_not_active Waiting h = refl
-waits_not_active Instructed h = absurd (false≢true h)
-waits_not_active Repeated h = absurd (false≢true h)
-waits_not_active Done h = absurd (false≢true h)
+waits_not_active _ h = absurd (false≢true h)

@@ -23,13 +23,8 @@ pub own_says : (c d : Id) → Says (same_id c d) (c ≡ d)
 own_says c d = (one_id c d, λ is. subst (λ (e : Id). same_id c e ≡ true) is (own_id c))
 
 crew_from : (kind : HoldKind) → is_crew kind ≡ true → kind ≡ Crew
-crew_from HeldOpen is = cc is
-crew_from Block is = cc is
-crew_from Control is = cc is
-crew_from Tag is = cc is
-crew_from Tested is = cc is
-crew_from Ground is = cc is
 crew_from Crew is = refl
+crew_from _ is = cc is
 
 pub crew_says : (kind : HoldKind) → Says (is_crew kind) (kind ≡ Crew)
 crew_says kind = (crew_from kind, λ is. ap is_crew is)

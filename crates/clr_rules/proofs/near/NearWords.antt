@@ -68,5 +68,4 @@ mark_says g inside (PutHold h) = standing_says inside (has_name (touching_names 
     (λ s. itself_says (inside s)) (touching_says g inside (λ s. IsTrue (inside s)) (λ s. itself_says (inside s))) h
 mark_says g inside (TakeHold h) = standing_says inside (has_name (touching_names g inside)) (λ s. IsTrue (inside s)) (HasEndIn g (λ s. IsTrue (inside s)))
     (λ s. itself_says (inside s)) (touching_says g inside (λ s. IsTrue (inside s)) (λ s. itself_says (inside s))) h
-mark_says g inside (PutRecord r) = (λ passes. absurd (false≢true passes), λ never. absurd never)
-mark_says g inside (PutStep row) = (λ passes. absurd (false≢true passes), λ never. absurd never)
+mark_says g inside _ = (λ passes. absurd (false≢true passes), λ never. absurd never)

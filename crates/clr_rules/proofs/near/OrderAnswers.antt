@@ -38,21 +38,11 @@ use Rattle.clr_rules.proofs.isolation.SameFences.{record_of-own}
 
 requested_stands_not : (phase : Phase) → is_requested phase ≡ true → is_standing phase ≡ false
 requested_stands_not Requested is = refl
-requested_stands_not Ordered is = cc
-requested_stands_not Granted is = cc
-requested_stands_not Released is = cc
-requested_stands_not Restoring is = cc
-requested_stands_not Switching is = cc
-requested_stands_not Closed is = cc
+requested_stands_not _ is = cc
 
 requested_not_granted : (phase : Phase) → is_requested phase ≡ true → is_granted phase ≡ false
-requested_not_granted Requested is = refl
-requested_not_granted Ordered is = refl
 requested_not_granted Granted is = cc
-requested_not_granted Released is = refl
-requested_not_granted Restoring is = refl
-requested_not_granted Switching is = refl
-requested_not_granted Closed is = refl
+requested_not_granted _ is = refl
 
 -- a requested clearance has no hold
 module _ (R : Register) (c : Id) (good : IsGood R) (r : Record) (read : record_of R.records c ≡ Some r) (requested : is_requested r.phase ≡ true) where

@@ -53,13 +53,10 @@ border_touches g work rows sound p known = at (touching_row (fence_of g work (on
         record { row = row; there = kept.0; named = sym named; an_end = or_cases (inside row.from_end) (inside row.to_end) kept.1 }
 
 standing_is_fenced : (phase : Phase) → is_standing phase ≡ true → is_fenced phase ≡ true
-standing_is_fenced Ordered is = refl
-standing_is_fenced Granted is = refl
-standing_is_fenced Released is = refl
-standing_is_fenced Restoring is = refl
 standing_is_fenced Requested is = cc
 standing_is_fenced Switching is = cc
 standing_is_fenced Closed is = cc
+standing_is_fenced _ is = refl
 
 module _ (R : Register) (c : Id) (good : IsGood R) where
   -- a section in the fence of a standing order is among those of the clearance's fence
@@ -115,11 +112,7 @@ module _ (R : Register) (c : Id) (good : IsGood R) where
   tested_or_grounded : (kind : HoldKind) → is_section_kind kind ≡ true → (place : List ℕ) → has_hold R.holds c kind place ≡ true → has_name (clearance_fence R c) place ≡ true
   tested_or_grounded Tested is place has = good.work_holds_belong.tested_inside c place has
   tested_or_grounded Ground is place has = good.work_holds_belong.grounded_inside c place has
-  tested_or_grounded HeldOpen is place has = cc is
-  tested_or_grounded Block is place has = cc is
-  tested_or_grounded Control is place has = cc is
-  tested_or_grounded Tag is place has = cc is
-  tested_or_grounded Crew is place has = cc is
+  tested_or_grounded _ is place has = cc is
 
   -- and one at a section at a section of its fence
   held_section_inside : (h : Hold) → Contains R.holds h → c ≡ h.id → is_section_kind h.kind ≡ true → has_name (clearance_fence R c) h.place ≡ true
@@ -128,13 +121,10 @@ module _ (R : Register) (c : Id) (good : IsGood R) where
 
 -- each kind stands at points, at sections, or is a crew
 kind_cases : (kind : HoldKind) → (is_point_kind kind ≡ true) ⊎ ((is_section_kind kind ≡ true) ⊎ (is_crew kind ≡ true))
-kind_cases HeldOpen = inl refl
-kind_cases Block = inl refl
-kind_cases Control = inl refl
-kind_cases Tag = inl refl
 kind_cases Tested = inr (inl refl)
 kind_cases Ground = inr (inl refl)
 kind_cases Crew = inr (inr refl)
+kind_cases _ = inl refl
 
 module _ (R : Register) (q : Command) (c : Id) (good : IsGood R) (named : named_clearance q.kind ≡ Some c) (no_order : is_order q.kind ≡ false) where
   own_hold_near : (h : Hold) → Contains R.holds h → same_id c h.id ≡ true
