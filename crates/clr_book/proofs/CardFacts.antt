@@ -1,6 +1,6 @@
 -- The record and the steps after edits that end with them.
 use Rattle.std.proofs.Common.{◌≡◌, List, [], ◌∷◌, ◌++◌, Some, refl, sym, ◌∙◌, ap}
-use Rattle.clr_shelf.specs.Reading.{row_of-with_row}
+use Rattle.clr_shelf.proofs.Reading.{row_of-with_row}
 use Rattle.clr_shelf.specs.Rows.{with_row}
 use Rattle.clr_rules.specs.Answer.{Answer, card_of}
 use Rattle.clr_rules.specs.Changes.{put_steps}

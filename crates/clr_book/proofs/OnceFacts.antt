@@ -7,7 +7,7 @@ use Rattle.clr_net.proofs.Walks.{one_name}
 use Rattle.clr_net.specs.Name.{same_name}
 use Rattle.clr_net.specs.Names.{has_name}
 use Rattle.clr_rules.specs.Holds.{once}
-use Rattle.clr_shelf.specs.Lists.{filter-filter_wider}
+use Rattle.clr_shelf.proofs.Lists.{filter-filter_wider}
 
 -- the names that are not among these
 abbrev pub others : List (List ℕ) → List (List ℕ) → List (List ℕ)

@@ -12,10 +12,10 @@ use Rattle.std.proofs.lemmas.List.{get_or-map, length-map}
 use Rattle.std.proofs.lemmas.List.Sorted.{IsPermutation-map}
 use Rattle.std.proofs.lemmas.Map.Keys.{IsDistinct-IsPermutation, IsDistinct-cons, apart_from_distinct, sorted_from_all_adjacent}
 use mathlib.Core.Bool.{true≢false}
-use Rattle.clr_shelf.specs.KeyOrder.{in_key_order-first, in_key_order-rest}
-use Rattle.clr_shelf.specs.Keys.{less}
+use Rattle.clr_shelf.proofs.KeyOrder.{in_key_order-first, in_key_order-rest}
+use Rattle.clr_shelf.proofs.Keys.{less}
 use Rattle.clr_shelf.specs.Rows.{in_key_order}
-use Rattle.clr_shelf.specs.SameRows.{same_from_permutation}
+use Rattle.clr_shelf.proofs.SameRows.{same_from_permutation}
 use Rattle.clr_rules.proofs.good.Opening.{in_key_order-from_sorted}
 
 module _ {Key Row : Type 0} (compare : Key → Key → Ordering) (key_of : Row → Key) (order : IsTotalOrder compare) where

@@ -7,12 +7,12 @@ use Rattle.std.proofs.lemmas.Bool.{and_parts}
 use Rattle.std.proofs.lemmas.Cmp.{nat_list_cmp_total}
 use mathlib.Core.Bool.{true≢false}
 use Rattle.clr_net.specs.Name.{name_cmp}
-use Rattle.clr_shelf.specs.Keys.{equal, same_text}
-use Rattle.clr_shelf.specs.Lists.{filter-filter_wider, filter-none, filter-same, list_all-contains, list_all-weaker, Contains-here}
+use Rattle.clr_shelf.proofs.Keys.{equal, same_text}
+use Rattle.clr_shelf.proofs.Lists.{filter-filter_wider, filter-none, filter-same, list_all-contains, list_all-weaker, Contains-here}
 use Rattle.std.specs.List.{list_all}
 use Rattle.std.proofs.lemmas.List.Elements.{Contains-append_right}
-use Rattle.clr_shelf.specs.Members.{member-row_of}
-use Rattle.clr_shelf.specs.Reading.{without_row-missing}
+use Rattle.clr_shelf.proofs.Members.{member-row_of}
+use Rattle.clr_shelf.proofs.Reading.{without_row-missing}
 use Rattle.clr_shelf.specs.Rows.{in_key_order, with_row, without_row}
 use Rattle.clr_rules.specs.States.{change_state, state_key, state_of}
 use Rattle.clr_rules.specs.declared.point_state.PointState.{PointState}

@@ -20,6 +20,8 @@ mod orders;
 #[cfg(test)]
 mod register;
 #[cfg(test)]
+mod shelves;
+#[cfg(test)]
 mod staff;
 #[cfg(test)]
 mod worked;

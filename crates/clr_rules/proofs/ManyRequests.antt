@@ -1,7 +1,7 @@
 -- JONES requests L2 again and again: each request makes a record of the next number, up to the last.
 use Rattle.std.proofs.Common.{◌≡◌, ℕ, zero, suc, ◌+◌, ◌≤◌, true, false, List, [], Some, refl, ◌∙◌, ap, subst, arith, ◌==◌}
 use Rattle.std.proofs.lemmas.Bool.Decides.{nat_tests}
-use Rattle.clr_shelf.specs.KeyOrder.{in_key_order-with_row}
+use Rattle.clr_shelf.proofs.KeyOrder.{in_key_order-with_row}
 use Rattle.clr_shelf.specs.Rows.{in_key_order, with_row}
 use Rattle.clr_rules.specs.Answer.{answer}
 use Rattle.clr_rules.specs.Changes.{new_record}

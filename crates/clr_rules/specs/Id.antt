@@ -9,7 +9,7 @@ use Rattle.std.specs.declared.cmp.Ordering.TheVariants.{Less, Equal, Greater}
 use Rattle.std.proofs.Common.{◌∙◌}
 use Rattle.std.proofs.lemmas.Cmp.{and_equiv, on_equiv, then_total, on_total, nat_list_cmp_total, nat_list_eq_equiv, nat_cmp_total, nat_eq_equiv}
 use Rattle.clr_net.specs.Name.{is_name, same_name, name_cmp}
-use Rattle.clr_shelf.specs.Keys.{first_ties, second_ties, same_number, same_text}
+use Rattle.clr_shelf.proofs.Keys.{first_ties, second_ties, same_number, same_text}
 
 -- who asked for the clearance, and which of the asker's clearances it is
 pub record Id : Type 0 where
@@ -65,3 +65,10 @@ same_id_from_tie a b ties i = record {
   requester = same_text a.requester b.requester (first_ties (name_cmp a.requester b.requester) (nat_cmp a.number b.number) ties) i;
   number = same_number a.number b.number (second_ties (name_cmp a.requester b.requester) (nat_cmp a.number b.number) ties) i;
 }
+
+-- names and clearances are the same where they tie, from either side
+pub same_name_ties_back : (a b : List ℕ) → same_name a b ≡ is_eq (name_cmp b a)
+same_name_ties_back a b = nat_list_eq_equiv.symm a b ∙ texts_ties b a
+
+pub same_id_ties_back : (a b : Id) → same_id a b ≡ is_eq (id_cmp b a)
+same_id_ties_back a b = same_id_equiv.symm a b ∙ same_id_ties b a

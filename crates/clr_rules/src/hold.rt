@@ -27,8 +27,36 @@ pub enum HoldGroup {
     CrewsOf(ClearanceId),
 }
 
+impl HoldGroup {
+    ghost use Rattle.std.specs.Prelude.{◌≡◌};
+    ghost use Rattle.clr_rules.specs.Hold.{group_name, group_number, group_rank, hold_group_cmp};
+
+    /// What groups are told apart by, in the order in which it is compared.
+    fn parts(&self) -> (u8, Name, u16)
+        ensures rank { result.0 ≡ group_rank self.now }
+        ensures name { result.1 ≡ group_name self.now }
+        ensures number { result.2 ≡ group_number self.now }
+    {
+        match self {
+            HoldGroup::AtPoint(point) => (0, *point, 0),
+            HoldGroup::AtSection(section) => (1, *section, 0),
+            HoldGroup::CrewsOf(id) => (2, id.requester(), id.number()),
+        }
+    }
+
+    /// How the group stands to another: points, sections, crews; of each by name.
+    fn compare(&self, other: &HoldGroup) -> Ordering
+        ensures { result ≡ hold_group_cmp self.now other.now }
+    {
+        let (rank, name, number) = self.parts();
+        let (other_rank, other_name, other_number) = other.parts();
+        let rest = name.cmp(&other_name).then(number.cmp(&other_number));
+        rank.cmp(&other_rank).then(rest)
+    }
+}
+
 impl Row for Hold {
-    ghost use Rattle.clr_rules.specs.Hold.{hold_cmp, hold_cmp_total, is_in_hold_group, same_hold};
+    ghost use Rattle.clr_rules.specs.Hold.{hold_cmp, hold_cmp_total, hold_group, hold_group_cmp, hold_group_cmp_total, in_hold_group, is_in_hold_group, same_hold};
 
     type Key = Hold;
 
@@ -37,6 +65,10 @@ impl Row for Hold {
     ghost key_of = { λ hold. hold };
 
     ghost key_cmp = { hold_cmp };
+
+    ghost group_of = { hold_group };
+
+    ghost group_cmp = { hold_group_cmp };
 
     ghost is_in = { is_in_hold_group };
 
@@ -47,6 +79,20 @@ impl Row for Hold {
     fn compare_key(&self, key: &Hold) -> Ordering {
         let rest = self.place.cmp(&key.place).then(self.id.cmp(&key.id));
         self.kind.compare_text(key.kind).then(rest)
+    }
+
+    fn group_of(hold: &Hold) -> HoldGroup {
+        if hold.kind.stands_at_point() {
+            HoldGroup::AtPoint(hold.place)
+        } else if hold.kind.stands_at_section() {
+            HoldGroup::AtSection(hold.place)
+        } else {
+            HoldGroup::CrewsOf(hold.id)
+        }
+    }
+
+    fn compare_group(&self, group: &HoldGroup) -> Ordering {
+        Hold::group_of(self).compare(group)
     }
 
     fn belongs_to(&self, group: &HoldGroup) -> bool {
@@ -61,4 +107,8 @@ impl Row for Hold {
     ghost key_order = { hold_cmp_total };
 
     ghost same_key = { same_hold };
+
+    ghost group_order = { hold_group_cmp_total };
+
+    ghost in_one_group = { in_hold_group };
 }

@@ -1,6 +1,7 @@
 ghost use Rattle.std.proofs.lemmas.Cmp.{nat_list_cmp_total};
 ghost use Rattle.clr_net.specs.Name.{name_cmp, same_name};
-ghost use Rattle.clr_shelf.specs.Keys.{same_text};
+ghost use Rattle.clr_rules.specs.Id.{same_name_ties_back};
+ghost use Rattle.clr_shelf.proofs.Keys.{same_text};
 
 use crate::clearance_id::ClearanceId;
 use clr_net::{Name, Position};
@@ -28,6 +29,10 @@ impl Row for PointState {
 
     ghost key_cmp = { name_cmp };
 
+    ghost group_of = { λ point. point };
+
+    ghost group_cmp = { name_cmp };
+
     ghost is_in = { λ point row. same_name point row.point };
 
     fn key(&self) -> Name {
@@ -38,6 +43,14 @@ impl Row for PointState {
         self.point.cmp(point)
     }
 
+    fn group_of(point: &Name) -> Name {
+        *point
+    }
+
+    fn compare_group(&self, point: &Name) -> Ordering {
+        self.point.cmp(point)
+    }
+
     fn belongs_to(&self, point: &Name) -> bool {
         *point == self.point
     }
@@ -45,4 +58,8 @@ impl Row for PointState {
     ghost key_order = { nat_list_cmp_total };
 
     ghost same_key = { same_text };
+
+    ghost group_order = { nat_list_cmp_total };
+
+    ghost in_one_group = { λ point row. same_name_ties_back point row.point };
 }

@@ -1,6 +1,7 @@
 ghost use Rattle.std.specs.Prelude.{◌≡◌};
-ghost use Rattle.clr_net.specs.Name.{same_name};
-ghost use Rattle.clr_rules.specs.Id.{id_cmp, id_cmp_total, same_id_from_tie};
+ghost use Rattle.std.proofs.lemmas.Cmp.{nat_list_cmp_total};
+ghost use Rattle.clr_net.specs.Name.{name_cmp, same_name};
+ghost use Rattle.clr_rules.specs.Id.{id_cmp, id_cmp_total, same_id_from_tie, same_name_ties_back};
 ghost use Rattle.clr_rules.specs.Records.{is_switch_order};
 
 use crate::clearance_id::ClearanceId;
@@ -43,6 +44,10 @@ impl Row for Record {
 
     ghost key_cmp = { id_cmp };
 
+    ghost group_of = { λ id. id.requester };
+
+    ghost group_cmp = { name_cmp };
+
     ghost is_in = { λ requester row. same_name requester row.id.requester };
 
     fn key(&self) -> ClearanceId {
@@ -53,6 +58,14 @@ impl Row for Record {
         self.id.cmp(id)
     }
 
+    fn group_of(id: &ClearanceId) -> Name {
+        id.requester()
+    }
+
+    fn compare_group(&self, requester: &Name) -> Ordering {
+        self.id.requester().cmp(requester)
+    }
+
     fn belongs_to(&self, requester: &Name) -> bool {
         *requester == self.id.requester()
     }
@@ -60,4 +73,8 @@ impl Row for Record {
     ghost key_order = { id_cmp_total };
 
     ghost same_key = { same_id_from_tie };
+
+    ghost group_order = { nat_list_cmp_total };
+
+    ghost in_one_group = { λ requester row. same_name_ties_back requester row.id.requester };
 }

@@ -63,7 +63,7 @@ impl StepRow {
 
 impl Row for StepRow {
     ghost use Rattle.clr_rules.specs.StepKey.{same_step_key, step_key, step_key_cmp, step_key_cmp_total};
-    ghost use Rattle.clr_rules.specs.Id.{same_id};
+    ghost use Rattle.clr_rules.specs.Id.{id_cmp, id_cmp_total, same_id, same_id_ties_back};
 
     type Key = StepKey;
 
@@ -72,6 +72,10 @@ impl Row for StepRow {
     ghost key_of = { step_key };
 
     ghost key_cmp = { step_key_cmp };
+
+    ghost group_of = { λ key. key.id };
+
+    ghost group_cmp = { id_cmp };
 
     ghost is_in = { λ id row. same_id id row.id };
 
@@ -91,6 +95,14 @@ impl Row for StepRow {
         self.id.cmp(&key.id).then(places)
     }
 
+    fn group_of(key: &StepKey) -> ClearanceId {
+        key.id
+    }
+
+    fn compare_group(&self, id: &ClearanceId) -> Ordering {
+        self.id.cmp(id)
+    }
+
     fn belongs_to(&self, id: &ClearanceId) -> bool {
         *id == self.id
     }
@@ -98,4 +110,8 @@ impl Row for StepRow {
     ghost key_order = { step_key_cmp_total };
 
     ghost same_key = { same_step_key };
+
+    ghost group_order = { id_cmp_total };
+
+    ghost in_one_group = { λ id row. same_id_ties_back id row.id };
 }

@@ -11,12 +11,12 @@ use Rattle.std.proofs.lemmas.List.Elements.{Contains-get_or}
 use Rattle.std.proofs.lemmas.List.Sorted.{searchable_from_sorted}
 use Rattle.clr_shelf.specs.Rows.{in_key_order, row_of, with_row, without_row}
 use Rattle.clr_shelf.specs.Places.{IsPlaceOf, IsGapFor}
-use Rattle.clr_shelf.specs.Lists.{list_all-contains}
-use Rattle.clr_shelf.specs.Keys.{equal, less, below_not_above}
-use Rattle.clr_shelf.specs.FirstRow.{with_row-after, with_row-over, without_row-after, without_row-here}
-use Rattle.clr_shelf.specs.Reading.{row_of-tied}
-use Rattle.clr_shelf.specs.KeyOrder.{in_key_order-rest, in_key_order-first}
-use Rattle.clr_shelf.specs.Members.{row_of-member, member-row_of}
+use Rattle.clr_shelf.proofs.Lists.{list_all-contains}
+use Rattle.clr_shelf.proofs.Keys.{equal, less, below_not_above}
+use Rattle.clr_shelf.proofs.FirstRow.{with_row-after, with_row-over, without_row-after, without_row-here}
+use Rattle.clr_shelf.proofs.Reading.{row_of-tied}
+use Rattle.clr_shelf.proofs.KeyOrder.{in_key_order-rest, in_key_order-first}
+use Rattle.clr_shelf.proofs.Members.{row_of-member, member-row_of}
 
 module _ {Key Row : Type 0} (compare : Key → Key → Ordering) (key_of : Row → Key) (order : IsTotalOrder compare) where
   -- the first row is below a key that a later one has
@@ -103,7 +103,7 @@ module _ {Key Row : Type 0} (compare : Key → Key → Ordering) (key_of : Row �
   next_above (first ∷ rest) ordered (suc k) d within = next_above rest (in_key_order-rest compare key_of order first rest ordered) k d (omega arith)
 
   -- keys in order do not fall
-  sorted : (rows : List Row) → in_key_order compare key_of rows ≡ true → IsSortedBy (λ a b. is_lt (compare (key_of a) (key_of b))) rows
+  pub sorted : (rows : List Row) → in_key_order compare key_of rows ≡ true → IsSortedBy (λ a b. is_lt (compare (key_of a) (key_of b))) rows
   sorted rows ordered k d le lt = rw add-one (next_above rows ordered k d (rw add-one at lt))
 
   -- a binary search ends at the place of the key, or at the gap for it

@@ -1,12 +1,14 @@
 //! Shelves of rows: finite maps from a key to its row.
 #![tactic(auto)]
 
+mod grouped_shelf;
 mod list_shelf;
 mod row;
 mod shelf;
-#[cfg(test)]
-mod tests;
+mod sorted_shelf;
 
+pub use grouped_shelf::GroupedShelf;
 pub use list_shelf::ListShelf;
 pub use row::Row;
 pub use shelf::Shelf;
+pub use sorted_shelf::SortedShelf;

@@ -60,6 +60,16 @@ impl<R: Row> Shelf<R> for ListShelf<R> {
             .collect(*self.list.allocator())
     }
 
+    fn last(&self, group: &R::Group) -> Option<&R> {
+        let mut last = None;
+        for row in &self.list {
+            if row.belongs_to(group) {
+                last = Some(row);
+            }
+        }
+        last
+    }
+
     fn reserve(&mut self, n: usize) -> Result<(), AllocError> {
         self.list.reserve(n)
     }

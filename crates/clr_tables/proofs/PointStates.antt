@@ -6,8 +6,8 @@ use Rattle.std.proofs.lemmas.Cmp.{nat_list_cmp_total}
 use Rattle.clr_net.specs.Grid.{Grid, point_names}
 use Rattle.clr_net.specs.Name.{name_cmp}
 use Rattle.clr_net.specs.declared.point.PointRow.{PointRow}
-use Rattle.clr_shelf.specs.Lists.{Contains-here, Contains-later}
-use Rattle.clr_shelf.specs.Members.{row_of-member}
+use Rattle.clr_shelf.proofs.Lists.{Contains-here, Contains-later}
+use Rattle.clr_shelf.proofs.Members.{row_of-member}
 use Rattle.clr_rules.specs.Good.{ListsAreInOrder}
 use Rattle.clr_rules.specs.Register.{Register}
 use Rattle.clr_rules.specs.States.{state_key, state_of}

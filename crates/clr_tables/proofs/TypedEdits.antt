@@ -14,9 +14,9 @@ use Rattle.clr_order.specs.declared.action.Action.{Action}
 use Rattle.clr_order.specs.declared.action.Action.TheVariants as actions
 use Rattle.clr_order.specs.declared.step.StepState.{StepState}
 use Rattle.clr_order.specs.declared.step.StepState.TheVariants.{Waiting, Instructed, Repeated, Done}
-use Rattle.clr_shelf.specs.Groups.{All-with_row, All-without_row}
-use Rattle.clr_shelf.specs.Lists.{list_all-contains}
-use Rattle.clr_shelf.specs.Members.{member-row_of}
+use Rattle.clr_shelf.proofs.Groups.{All-with_row, All-without_row}
+use Rattle.clr_shelf.proofs.Lists.{list_all-contains}
+use Rattle.clr_shelf.proofs.Members.{member-row_of}
 use Rattle.clr_shelf.specs.Rows.{with_row, without_row}
 use Rattle.clr_rules.specs.Answer.{Answer, known_of, settled}
 use Rattle.clr_rules.specs.Commands.{checks, edits_of}

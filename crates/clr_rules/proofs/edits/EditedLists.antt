@@ -1,6 +1,6 @@
 -- What a list of edits keeps: the order of the lists, the network, the staff, and the points that have states.
 use Rattle.std.proofs.Common.{List, [], ◌∷◌, refl, ◌∙◌}
-use Rattle.clr_shelf.specs.KeyOrder.{in_key_order-with_row, in_key_order-without_row}
+use Rattle.clr_shelf.proofs.KeyOrder.{in_key_order-with_row, in_key_order-without_row}
 use Rattle.clr_rules.specs.EditLaws.{KeepsNetwork}
 use Rattle.clr_rules.specs.Prelude.{Edit, SetPosition, SetHand, PutHold, TakeHold, PutRecord, PutStep, id_cmp, id_cmp_total, Register, record_key, step_key, step_key_cmp, step_key_cmp_total, hold_cmp, hold_cmp_total, hold_key, edited}
 use Rattle.clr_rules.specs.Prelude.{edited_all}

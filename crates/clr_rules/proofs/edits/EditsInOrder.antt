@@ -10,7 +10,7 @@ use Rattle.clr_order.specs.Texts.{waiting_step}
 use Rattle.clr_order.specs.declared.action.Action.{Action}
 use Rattle.clr_order.specs.declared.step.Step.{Step}
 use Rattle.clr_order.specs.declared.action.Action.TheVariants as actions
-use Rattle.clr_shelf.specs.KeyOrder.{in_key_order-filter, in_key_order-first, in_key_order-rest}
+use Rattle.clr_shelf.proofs.KeyOrder.{in_key_order-filter, in_key_order-first, in_key_order-rest}
 use Rattle.clr_shelf.specs.Rows.{in_key_order}
 use Rattle.clr_rules.specs.Answer.{Answer, answer, first_refusal, known_of, settled}
 use Rattle.clr_rules.specs.Commands.{Known, checks, edits_of}

@@ -9,10 +9,10 @@ use Rattle.std.proofs.lemmas.Cmp.{nat_list_cmp_total, tied_itself}
 use Rattle.std.proofs.lemmas.List.{length-append, map-append}
 use Rattle.clr_net.specs.Name.{name_cmp, same_name}
 use Rattle.clr_net.proofs.Walks.{one_name, same_itself}
-use Rattle.clr_shelf.specs.Groups.{filter-with_far, filter-with_inside}
-use Rattle.clr_shelf.specs.Keys.{equal}
-use Rattle.clr_shelf.specs.Lists.{Contains-cases, Contains-here, Contains-later, filter-none, filter-same}
-use Rattle.clr_shelf.specs.Members.{member-row_of}
+use Rattle.clr_shelf.proofs.Groups.{filter-with_far, filter-with_inside}
+use Rattle.clr_shelf.proofs.Keys.{equal}
+use Rattle.clr_shelf.proofs.Lists.{Contains-cases, Contains-here, Contains-later, filter-none, filter-same}
+use Rattle.clr_shelf.proofs.Members.{member-row_of}
 use Rattle.clr_shelf.specs.Rows.{with_row}
 use Rattle.clr_rules.specs.GoodByPhase.{IsGoodByPhase}
 use Rattle.clr_rules.specs.Prelude.{Record, Id, id_cmp, id_cmp_total, Register, greatest_number, record_key, record_of}

@@ -13,11 +13,11 @@ use Rattle.clr_net.specs.Name.{same_name}
 use Rattle.clr_net.specs.Names.{has_name}
 use Rattle.clr_order.specs.Step.{Task}
 use Rattle.clr_order.specs.Texts.{waiting_step}
-use Rattle.clr_shelf.specs.FirstRow.{with_row-after}
-use Rattle.clr_shelf.specs.Groups.{All-with_row, filter-with_far, filter-with_inside}
-use Rattle.clr_shelf.specs.KeyOrder.{in_key_order-with_row}
-use Rattle.clr_shelf.specs.Keys.{equal}
-use Rattle.clr_shelf.specs.Lists.{Contains-here, Contains-later}
+use Rattle.clr_shelf.proofs.FirstRow.{with_row-after}
+use Rattle.clr_shelf.proofs.Groups.{All-with_row, filter-with_far, filter-with_inside}
+use Rattle.clr_shelf.proofs.KeyOrder.{in_key_order-with_row}
+use Rattle.clr_shelf.proofs.Keys.{equal}
+use Rattle.clr_shelf.proofs.Lists.{Contains-here, Contains-later}
 use Rattle.clr_shelf.specs.Rows.{in_key_order, with_row}
 use Rattle.clr_rules.specs.Changes.{new_steps, put_steps}
 use Rattle.clr_rules.specs.Prelude.{PutRecord, Record, StepRow, Id, id_cmp, id_cmp_total, same_id, Register, record_key, step_key, step_key_cmp, step_key_cmp_total, is_active, steps_in, steps_of, tasks_of, edited_all}

@@ -7,9 +7,9 @@ use Rattle.clr_net.specs.Grid.{Grid, point_names, section_names}
 use Rattle.clr_net.specs.Name.{same_name}
 use Rattle.clr_net.specs.Names.{has_name}
 use Rattle.clr_net.specs.declared.point.Position.TheVariants.{Opened}
-use Rattle.clr_shelf.specs.FirstRow.{keys-with_row}
-use Rattle.clr_shelf.specs.Groups.{All-with_row}
-use Rattle.clr_shelf.specs.Members.{member-row_of}
+use Rattle.clr_shelf.proofs.FirstRow.{keys-with_row}
+use Rattle.clr_shelf.proofs.Groups.{All-with_row}
+use Rattle.clr_shelf.proofs.Members.{member-row_of}
 use Rattle.clr_shelf.specs.Rows.{with_row}
 use Rattle.clr_rules.specs.Good.{has_record, is_closing_at, is_known_work, is_operators}
 use Rattle.clr_rules.specs.GoodByPhase.{IsGoodByPhase, IsInPlace, Outlook, outlook_of}

@@ -7,8 +7,8 @@ use Rattle.clr_net.specs.Grid.{Grid, point_names}
 use Rattle.clr_net.specs.Name.{same_name}
 use Rattle.clr_net.specs.Names.{has_name}
 use Rattle.clr_net.proofs.Walks.{one_name}
-use Rattle.clr_shelf.specs.Groups.{All-with_row, filter-with_inside}
-use Rattle.clr_shelf.specs.KeyOrder.{in_key_order-filter}
+use Rattle.clr_shelf.proofs.Groups.{All-with_row, filter-with_inside}
+use Rattle.clr_shelf.proofs.KeyOrder.{in_key_order-filter}
 use Rattle.clr_shelf.specs.Rows.{in_key_order, with_row}
 use Rattle.clr_rules.specs.Good.{is_closing_at}
 use Rattle.clr_rules.specs.GoodByPhase.{InPhase, IsGoodByPhase, IsInPlace, outlook_of}

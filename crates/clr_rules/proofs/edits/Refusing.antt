@@ -1,7 +1,7 @@
 -- Which replies there are, and which of them have edits.
 use Rattle.std.proofs.Common.{◌≡◌, ℕ, Bool, true, false, List, [], ◌∷◌, Option, Some, None, is_some, refl, ap}
 use Rattle.std.specs.Prelude.{◌↔◌}
-use Rattle.clr_shelf.specs.Reading.{row_of-with_row}
+use Rattle.clr_shelf.proofs.Reading.{row_of-with_row}
 use Rattle.clr_rules.specs.Answer.{Answer, answer, concerned, first_refusal, known_of, settled, told, told_after}
 use Rattle.clr_rules.specs.Commands.{Known, checks, edits_of}
 use Rattle.clr_rules.specs.Changes.{new_steps, put_steps}

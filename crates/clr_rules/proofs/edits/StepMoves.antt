@@ -8,7 +8,7 @@ use Rattle.clr_net.specs.Name.{same_name}
 use Rattle.clr_order.specs.Action.{is_switching}
 use Rattle.clr_order.specs.Isolating.{IsSoundOrder}
 use Rattle.clr_order.specs.Step.{Task, task, task_points}
-use Rattle.clr_shelf.specs.Lists.{list_all-contains}
+use Rattle.clr_shelf.proofs.Lists.{list_all-contains}
 use Rattle.clr_rules.specs.Good.{left, put_by, puts}
 use Rattle.clr_rules.specs.GoodByPhase.{ActiveInRound, InPhase, active_at, all_waiting, go_in_turn, of_round, present_of}
 use Rattle.clr_rules.specs.Prelude.{HoldKind, Phase, Requested, Ordered, Granted, Released, Restoring, Switching, Closed, Record, StepRow, is_running, all_done, is_active, is_done, is_some_step, is_waiting, points_of, tasks_of, once}

@@ -12,7 +12,7 @@ use Rattle.clr_order.specs.Needed.{needed}
 use Rattle.clr_order.specs.Step.{Task, actions_at, task}
 use Rattle.clr_order.specs.declared.action.Action.{Action}
 use Rattle.clr_order.specs.declared.action.Action.TheVariants as actions
-use Rattle.clr_shelf.specs.Lists.{list_all-contains}
+use Rattle.clr_shelf.proofs.Lists.{list_all-contains}
 use Rattle.clr_rules.specs.Good.{puts}
 use Rattle.clr_rules.specs.Prelude.{HoldKind, HeldOpen, Block, Control, Tag, Tested, Ground, Crew, StepRow, points_of, tasks_of, once, same_kind}
 use Rattle.clr_rules.proofs.lists.Filters.{there_mapped}

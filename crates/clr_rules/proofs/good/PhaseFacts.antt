@@ -11,7 +11,7 @@ use Rattle.clr_order.specs.Needed.{Undoes}
 use Rattle.clr_order.specs.Step.{actions_at}
 use Rattle.clr_order.specs.declared.held.Held.{Held}
 use Rattle.clr_order.proofs.Undoing.{nothing_left, undoes_rule}
-use Rattle.clr_shelf.specs.Lists.{Contains-cases}
+use Rattle.clr_shelf.proofs.Lists.{Contains-cases}
 use Rattle.clr_rules.specs.Fences.{work_fence}
 use Rattle.clr_rules.specs.Good.{IsSoundFor, left}
 use Rattle.clr_rules.specs.GoodByPhase.{ActiveInRound, HasNoWork, HoldsAsPut, HoldsNothing, InPhase, InRestoring, Isolates, Outlook, go_in_turn, of_round, present_of}

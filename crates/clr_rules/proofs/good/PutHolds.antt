@@ -22,7 +22,7 @@ use Rattle.clr_order.specs.declared.step.StepState.{StepState}
 use Rattle.clr_order.specs.declared.step.StepState.TheVariants.{Waiting, Instructed, Repeated, Done}
 use Rattle.clr_order.proofs.Finds.{found_passes}
 use Rattle.clr_order.specs.declared.action.Action.TheVariants as actions
-use Rattle.clr_shelf.specs.Lists.{Contains-cases, Contains-here, Contains-later}
+use Rattle.clr_shelf.proofs.Lists.{Contains-cases, Contains-here, Contains-later}
 use Rattle.clr_rules.specs.Good.{put_by, puts}
 use Rattle.clr_rules.specs.GoodByPhase.{all_waiting, go_in_turn}
 use Rattle.clr_rules.specs.Prelude.{HoldKind, HeldOpen, Block, Control, Tag, StepRow, all_done, is_done, is_some_step, is_waiting, points_of, tasks_of, once}

@@ -6,9 +6,9 @@ use Rattle.std.specs.declared.cmp.Ordering.TheVariants.{Less, Equal}
 use Rattle.std.proofs.lemmas.Bool.{and_from, and_parts, both_ways, le-ltb, lt-ltb, not_from_false, or_cases, or_left, or_right}
 use Rattle.std.proofs.lemmas.Cmp.{nat_cmp_total, ranked, tied_itself}
 use Rattle.std.proofs.lemmas.List.Elements.{All-contains, All-head, All-tail}
-use Rattle.clr_shelf.specs.Keys.{less}
-use Rattle.clr_shelf.specs.KeyOrder.{in_key_order-filter, in_key_order-first, in_key_order-rest}
-use Rattle.clr_shelf.specs.Lists.{Contains-cases, Contains-here, Contains-later, list_all-contains}
+use Rattle.clr_shelf.proofs.Keys.{less}
+use Rattle.clr_shelf.proofs.KeyOrder.{in_key_order-filter, in_key_order-first, in_key_order-rest}
+use Rattle.clr_shelf.proofs.Lists.{Contains-cases, Contains-here, Contains-later, list_all-contains}
 use Rattle.clr_shelf.specs.Rows.{in_key_order}
 use Rattle.clr_rules.specs.GoodByPhase.{all_waiting, go_in_turn}
 use Rattle.clr_rules.specs.Prelude.{StepRow, Id, id_cmp, id_cmp_total, step_key, step_key_cmp, step_key_cmp_total, is_done, is_waiting, steps_in}

@@ -9,7 +9,7 @@ use Rattle.clr_order.specs.Step.{Task}
 use Rattle.clr_order.specs.declared.action.Action.{Action}
 use Rattle.clr_order.specs.declared.action.Action.TheVariants as actions
 use Rattle.clr_order.specs.declared.step.StepState.TheVariants.{Done}
-use Rattle.clr_shelf.specs.Keys.{equal}
+use Rattle.clr_shelf.proofs.Keys.{equal}
 use Rattle.clr_shelf.specs.Rows.{with_row}
 use Rattle.clr_rules.specs.Answer.{Answer, known_of, settled}
 use Rattle.clr_rules.specs.Commands.{Known, checks, edits_of}

@@ -7,7 +7,7 @@ use Rattle.clr_net.specs.Grid.{Grid, point_names}
 use Rattle.clr_net.specs.Name.{same_name}
 use Rattle.clr_net.specs.Names.{has_name}
 use Rattle.clr_net.specs.declared.point.PointRow.{PointRow}
-use Rattle.clr_shelf.specs.Groups.{filter-with_inside, filter-without_row}
+use Rattle.clr_shelf.proofs.Groups.{filter-with_inside, filter-without_row}
 use Rattle.clr_shelf.specs.Rows.{in_key_order, with_row, without_row}
 use Rattle.clr_rules.specs.Agreement.{Agree, part_near}
 use Rattle.clr_rules.specs.AgreementLaws.{LeavesAlone, concerning, concerns, is_about, is_new_of}

@@ -17,7 +17,7 @@ use Rattle.clr_net.specs.declared.point.PointRow.{PointRow}
 use Rattle.clr_net.specs.declared.section.SectionRow.{SectionRow}
 use Rattle.clr_net.proofs.Walks.{one_name}
 use Rattle.clr_csv.specs.declared.employee.StaffRow.{StaffRow}
-use Rattle.clr_shelf.specs.Lists.{filter-filter_wider}
+use Rattle.clr_shelf.proofs.Lists.{filter-filter_wider}
 use Rattle.clr_rules.specs.Agreement.{Agree, part_near}
 use Rattle.clr_rules.specs.Answer.{fence_for, known_of, numbered_for}
 use Rattle.clr_rules.specs.Checks.{employee, has_role, is_operator}

@@ -7,7 +7,7 @@ use Rattle.clr_net.specs.Name.{same_name}
 use Rattle.clr_net.proofs.Walks.{one_name}
 use Rattle.clr_csv.specs.declared.employee.StaffRow.{StaffRow}
 use Rattle.clr_order.specs.Step.{Task}
-use Rattle.clr_shelf.specs.Lists.{list_all-contains}
+use Rattle.clr_shelf.proofs.Lists.{list_all-contains}
 use Rattle.clr_rules.specs.Agreement.{Agree}
 use Rattle.clr_rules.specs.AgreementLaws.{is_about, is_new_of}
 use Rattle.clr_rules.specs.Answer.{Answer, answer, first_refusal, known_of, settled}

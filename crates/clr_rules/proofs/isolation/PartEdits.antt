@@ -8,9 +8,9 @@ use Rattle.clr_net.specs.Grid.{Grid}
 use Rattle.clr_net.specs.Name.{name_cmp}
 use Rattle.clr_net.specs.Names.{has_name}
 use Rattle.clr_net.specs.declared.point.Position.{Position}
-use Rattle.clr_shelf.specs.Groups.{filter-with_inside, filter-with_far, filter-without_row, filter-without_far, row_of-filter_inside}
-use Rattle.clr_shelf.specs.Keys.{equal, same_text}
-use Rattle.clr_shelf.specs.Members.{member-row_of}
+use Rattle.clr_shelf.proofs.Groups.{filter-with_inside, filter-with_far, filter-without_row, filter-without_far, row_of-filter_inside}
+use Rattle.clr_shelf.proofs.Keys.{equal, same_text}
+use Rattle.clr_shelf.proofs.Members.{member-row_of}
 use Rattle.clr_shelf.specs.Rows.{in_key_order}
 use Rattle.clr_rules.specs.Agreement.{part_near}
 use Rattle.clr_rules.specs.AgreementLaws.{concerning, concerns, is_about}

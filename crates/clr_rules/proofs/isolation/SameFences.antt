@@ -9,10 +9,10 @@ use Rattle.clr_net.specs.Grid.{Grid, section_names}
 use Rattle.clr_net.specs.Names.{has_name}
 use Rattle.clr_net.specs.declared.point.PointRow.{PointRow}
 use Rattle.clr_net.specs.declared.section.SectionRow.{SectionRow}
-use Rattle.clr_shelf.specs.Groups.{row_of-filter_inside}
-use Rattle.clr_shelf.specs.Keys.{equal}
-use Rattle.clr_shelf.specs.Lists.{filter-filter_wider, list_all-contains}
-use Rattle.clr_shelf.specs.Members.{member-row_of}
+use Rattle.clr_shelf.proofs.Groups.{row_of-filter_inside}
+use Rattle.clr_shelf.proofs.Keys.{equal}
+use Rattle.clr_shelf.proofs.Lists.{filter-filter_wider, list_all-contains}
+use Rattle.clr_shelf.proofs.Members.{member-row_of}
 use Rattle.clr_rules.specs.Agreement.{Agree, part_near}
 use Rattle.clr_rules.specs.Fences.{clearance_fence, found_fence, found_order_fence, order_fence, record_fence, touches, touching_names, work_fence}
 use Rattle.clr_rules.specs.Good.{IsGood, is_known_work}

@@ -7,8 +7,8 @@ use Rattle.clr_net.proofs.Walks.{one_name}
 use Rattle.clr_net.specs.Name.{same_name}
 use Rattle.clr_net.specs.declared.point.Position.{Position}
 use Rattle.clr_net.specs.declared.point.Position.TheVariants.{Opened, Closed as Shut}
-use Rattle.clr_shelf.specs.Groups.{filter-with_far, filter-without_far, row_of-filter_inside}
-use Rattle.clr_shelf.specs.Keys.{equal}
+use Rattle.clr_shelf.proofs.Groups.{filter-with_far, filter-without_far, row_of-filter_inside}
+use Rattle.clr_shelf.proofs.Keys.{equal}
 use Rattle.clr_shelf.specs.Rows.{in_key_order, with_row, without_row}
 use Rattle.clr_rules.specs.EditLaws.{changed_where}
 use Rattle.clr_rules.specs.Prelude.{Edit, SetPosition, SetHand, PutHold, TakeHold, PutRecord, PutStep, Hold, HoldKind, HeldOpen, PointState, Record, StepRow, Id, id_cmp, same_id, Register, has_in_hand, position_of, state_of, record_key}

@@ -5,7 +5,7 @@ use Rattle.std.proofs.lemmas.Bool.{false_from_ne_true, and_from, and_parts, fals
 use Rattle.clr_net.specs.Name.{same_name}
 use Rattle.clr_net.specs.Names.{has_name}
 use Rattle.clr_net.proofs.Walks.{any_from, one_name, same_itself, some_from}
-use Rattle.clr_shelf.specs.Lists.{Contains-cases, Contains-here, Contains-later}
+use Rattle.clr_shelf.proofs.Lists.{Contains-cases, Contains-here, Contains-later}
 use Rattle.clr_rules.proofs.lists.NamedRows.{Contains-filter}
 
 -- a test says a condition

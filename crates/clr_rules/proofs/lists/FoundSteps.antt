@@ -5,7 +5,7 @@ use Rattle.std.proofs.lemmas.Bool.{and_from, and_parts, eqb-true}
 use Rattle.std.proofs.lemmas.Option.{same_Some}
 use Rattle.clr_net.proofs.Walks.{any_from, same_itself}
 use Rattle.clr_net.specs.Name.{same_name}
-use Rattle.clr_shelf.specs.Lists.{Contains-here, Contains-later}
+use Rattle.clr_shelf.proofs.Lists.{Contains-here, Contains-later}
 use Rattle.clr_rules.specs.Good.{is_active_at, is_closing_at}
 use Rattle.clr_rules.specs.Prelude.{StepRow, Id, same_id, is_active, is_some_step, present, step_at, steps_in, steps_of}
 use Rattle.clr_rules.specs.Steps.{is_close, is_of_round}

@@ -8,12 +8,12 @@ use Rattle.std.proofs.lemmas.Bool.Decides.{nat_tests}
 use Rattle.std.proofs.lemmas.List.Elements.{Contains-get_or}
 use Rattle.clr_net.proofs.Walks.{one_name, same_itself}
 use Rattle.clr_net.specs.Name.{same_name}
-use Rattle.clr_shelf.specs.Lists.{Contains-here, Contains-later}
-use Rattle.clr_shelf.specs.FirstRow.{keys-with_row, with_row-after, with_row-before, with_row-over}
-use Rattle.clr_shelf.specs.Groups.{filter-with_far, filter-with_inside}
-use Rattle.clr_shelf.specs.Keys.{equal}
-use Rattle.clr_shelf.specs.KeyOrder.{in_key_order-filter, in_key_order-rest}
-use Rattle.clr_shelf.specs.Reading.{row_of-with}
+use Rattle.clr_shelf.proofs.Lists.{Contains-here, Contains-later}
+use Rattle.clr_shelf.proofs.FirstRow.{keys-with_row, with_row-after, with_row-before, with_row-over}
+use Rattle.clr_shelf.proofs.Groups.{filter-with_far, filter-with_inside}
+use Rattle.clr_shelf.proofs.Keys.{equal}
+use Rattle.clr_shelf.proofs.KeyOrder.{in_key_order-filter, in_key_order-rest}
+use Rattle.clr_shelf.proofs.Reading.{row_of-with}
 use Rattle.clr_shelf.specs.Rows.{in_key_order, row_of, with_row}
 use Rattle.clr_rules.specs.Good.{has_record}
 use Rattle.clr_rules.specs.Id.{Id, id_cmp, id_cmp_total, same_id_from_tie}

@@ -6,7 +6,7 @@ use Rattle.std.proofs.lemmas.Cmp.{tied_itself}
 use Rattle.std.proofs.lemmas.Option.{same_Some}
 use Rattle.clr_net.specs.Name.{same_name}
 use Rattle.clr_net.proofs.Walks.{one_name, same_itself}
-use Rattle.clr_shelf.specs.Keys.{equal, same_number}
+use Rattle.clr_shelf.proofs.Keys.{equal, same_number}
 use Rattle.clr_shelf.specs.Rows.{with_row, without_row}
 use Rattle.clr_rules.specs.EditLaws.{is_hold}
 use Rattle.clr_rules.specs.Prelude.{Hold, HoldKind, HeldOpen, Block, Control, Tag, Tested, Ground, Crew, Id, same_id, hold_cmp, hold_cmp_total, has_hold, hold_key, hold_of, same_kind}

@@ -1,7 +1,7 @@
 -- A hold that a clearance has is one of the list, and one of the list is had by its clearance.
 use Rattle.std.proofs.Common.{◌≡◌, ℕ, true, false, List, Option, Some, None, Contains, is_some, refl, subst, ap}
-use Rattle.clr_shelf.specs.Keys.{equal}
-use Rattle.clr_shelf.specs.Members.{member-row_of, row_of-member}
+use Rattle.clr_shelf.proofs.Keys.{equal}
+use Rattle.clr_shelf.proofs.Members.{member-row_of, row_of-member}
 use Rattle.clr_shelf.specs.Rows.{in_key_order, row_of}
 use Rattle.clr_rules.specs.Prelude.{Hold, HoldKind, Id, hold_cmp, hold_cmp_total, has_hold, hold_key, hold_of}
 use Rattle.clr_rules.specs.Hold.{same_hold}

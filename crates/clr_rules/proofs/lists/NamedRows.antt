@@ -6,7 +6,7 @@ use Rattle.std.proofs.lemmas.Map.Views.{any-filter_same}
 use Rattle.clr_net.specs.Name.{same_name}
 use Rattle.clr_net.specs.Names.{has_name}
 use Rattle.clr_net.proofs.Walks.{any_from, one_name, same_itself, some_from}
-use Rattle.clr_shelf.specs.Lists.{Contains-cases, Contains-here, Contains-later}
+use Rattle.clr_shelf.proofs.Lists.{Contains-cases, Contains-here, Contains-later}
 
 -- an element that passes is among those that a filter keeps
 pub Contains-filter : {X : Type 0} (q : X → Bool) (xs : List X) (x : X) → Contains xs x → q x ≡ true → Contains (filter q xs) x

@@ -5,8 +5,8 @@ use Rattle.std.specs.List.{fold}
 use Rattle.std.proofs.lemmas.Bool.{and_parts, eqb-true, false_from_ne_true, leb-false, leb-true}
 use Rattle.clr_net.proofs.Walks.{one_name, same_itself}
 use Rattle.clr_net.specs.Name.{same_name}
-use Rattle.clr_shelf.specs.Lists.{Contains-cases}
-use Rattle.clr_shelf.specs.Members.{member-row_of}
+use Rattle.clr_shelf.proofs.Lists.{Contains-cases}
+use Rattle.clr_shelf.proofs.Members.{member-row_of}
 use Rattle.clr_rules.specs.Good.{has_record}
 use Rattle.clr_rules.specs.Prelude.{Record, Id, id_cmp, id_cmp_total, same_id, Register, greatest_number, record_key, record_of}
 use Rattle.clr_rules.specs.Isolation.{is_about_another}

@@ -7,11 +7,11 @@ use Rattle.std.proofs.lemmas.Cmp.{nat_list_cmp_total, nat_list_eq_equiv}
 use Rattle.clr_net.specs.Name.{name_cmp, same_name}
 use Rattle.clr_net.specs.Names.{has_name}
 use Rattle.clr_net.specs.declared.point.Position.{Position}
-use Rattle.clr_shelf.specs.FirstRow.{keys-with_row}
-use Rattle.clr_shelf.specs.KeyOrder.{in_key_order-with_row}
-use Rattle.clr_shelf.specs.Keys.{equal, same_text}
-use Rattle.clr_shelf.specs.Members.{member-row_of}
-use Rattle.clr_shelf.specs.Reading.{row_of-with}
+use Rattle.clr_shelf.proofs.FirstRow.{keys-with_row}
+use Rattle.clr_shelf.proofs.KeyOrder.{in_key_order-with_row}
+use Rattle.clr_shelf.proofs.Keys.{equal, same_text}
+use Rattle.clr_shelf.proofs.Members.{member-row_of}
+use Rattle.clr_shelf.proofs.Reading.{row_of-with}
 use Rattle.clr_shelf.specs.Rows.{in_key_order, row_of}
 use Rattle.clr_rules.specs.Prelude.{PointState, Id, hand_of, position_of, state_key, state_of}
 use Rattle.clr_rules.specs.States.{change_state, changed_state, hand_in}

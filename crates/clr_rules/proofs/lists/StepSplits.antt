@@ -10,10 +10,10 @@ use Rattle.std.proofs.lemmas.Cmp.{tied_itself}
 use Rattle.std.proofs.lemmas.List.Elements.{All-append, All-cons, All-head, All-nil, All-tail, filter-append}
 use Rattle.clr_order.specs.declared.step.StepState.{StepState}
 use Rattle.clr_order.specs.declared.step.StepState.TheVariants.{Waiting, Instructed, Repeated, Done}
-use Rattle.clr_shelf.specs.FirstRow.{with_row-after, with_row-over}
-use Rattle.clr_shelf.specs.KeyOrder.{in_key_order-first, in_key_order-rest}
-use Rattle.clr_shelf.specs.Keys.{less}
-use Rattle.clr_shelf.specs.Lists.{Contains-cases, list_all-contains}
+use Rattle.clr_shelf.proofs.FirstRow.{with_row-after, with_row-over}
+use Rattle.clr_shelf.proofs.KeyOrder.{in_key_order-first, in_key_order-rest}
+use Rattle.clr_shelf.proofs.Keys.{less}
+use Rattle.clr_shelf.proofs.Lists.{Contains-cases, list_all-contains}
 use Rattle.clr_shelf.specs.Rows.{in_key_order, with_row}
 use Rattle.clr_rules.specs.Good.{left}
 use Rattle.clr_rules.specs.GoodByPhase.{all_waiting, go_in_turn, of_round}

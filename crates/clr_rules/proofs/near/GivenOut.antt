@@ -9,9 +9,9 @@ use Rattle.clr_net.specs.Name.{name_cmp, same_name}
 use Rattle.clr_net.specs.Names.{has_name}
 use Rattle.clr_net.proofs.Walks.{one_name}
 use Rattle.clr_order.specs.Step.{Task, task}
-use Rattle.clr_shelf.specs.Groups.{row_of-filter_inside}
-use Rattle.clr_shelf.specs.Keys.{equal, same_text}
-use Rattle.clr_shelf.specs.Lists.{filter-filter_wider}
+use Rattle.clr_shelf.proofs.Groups.{row_of-filter_inside}
+use Rattle.clr_shelf.proofs.Keys.{equal, same_text}
+use Rattle.clr_shelf.proofs.Lists.{filter-filter_wider}
 use Rattle.clr_rules.specs.Answer.{answer, answer_with, fence_for, first_refusal, known_of, settled}
 use Rattle.clr_rules.specs.Commands.{checks}
 use Rattle.clr_rules.specs.Checks.{earlier, held, held_by, in_hand, is_operator, no_step, other_hand, out_of_turn, unknown_caller, unknown_clearance, where_some, wrong_phase, wrong_role, wrong_state}

@@ -9,7 +9,7 @@ use Rattle.clr_net.specs.Name.{name_cmp}
 use Rattle.clr_net.specs.declared.point.PointRow.{PointRow}
 use Rattle.clr_net.proofs.FencePlaces.{place_at}
 use Rattle.clr_net.specs.Names.{has_name}
-use Rattle.clr_shelf.specs.KeyOrder.{in_key_order-filter}
+use Rattle.clr_shelf.proofs.KeyOrder.{in_key_order-filter}
 use Rattle.clr_rules.specs.Commands.{Known}
 use Rattle.clr_rules.specs.Answer.{known_of}
 use Rattle.clr_rules.specs.Command.{named_clearance}

@@ -14,7 +14,7 @@ use Rattle.clr_order.specs.OrderFault.{fault_if, name_fault}
 use Rattle.clr_order.specs.Step.{Task, stray_point, task_points}
 use Rattle.clr_order.specs.Switching.{unswitching_point}
 use Rattle.clr_order.specs.declared.order_fault.OrderFault.TheVariants.{EmptyOrder, LongOrder, StepsWrong, UnknownPoint}
-use Rattle.clr_shelf.specs.Lists.{Contains-here, Contains-later}
+use Rattle.clr_shelf.proofs.Lists.{Contains-here, Contains-later}
 use Rattle.clr_shelf.specs.Rows.{row_of}
 use Rattle.clr_rules.specs.Answer.{answer, answer_with, first_refusal, known_of, settled}
 use Rattle.clr_rules.specs.Commands.{checks, edits_of}

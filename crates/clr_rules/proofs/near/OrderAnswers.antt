@@ -8,7 +8,7 @@ use Rattle.clr_net.specs.Names.{has_name}
 use Rattle.clr_net.specs.declared.section.SectionRow.{SectionRow}
 use Rattle.clr_order.specs.Isolating.{isolating_fault}
 use Rattle.clr_order.specs.Step.{Task}
-use Rattle.clr_shelf.specs.Lists.{filter-filter_wider}
+use Rattle.clr_shelf.proofs.Lists.{filter-filter_wider}
 use Rattle.clr_rules.specs.Answer.{answer, answer_with, first_refusal, known_of, settled}
 use Rattle.clr_rules.specs.Commands.{checks}
 use Rattle.clr_rules.specs.Checks.{is_operator, refuse, where_some}

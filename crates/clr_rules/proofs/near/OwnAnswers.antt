@@ -5,7 +5,7 @@ use Rattle.std.proofs.lemmas.Bool.{or_left}
 use Rattle.clr_net.specs.Grid.{Grid, point_names}
 use Rattle.clr_net.specs.Names.{has_name}
 use Rattle.clr_net.specs.declared.point.PointRow.{PointRow}
-use Rattle.clr_shelf.specs.Lists.{filter-filter_wider}
+use Rattle.clr_shelf.proofs.Lists.{filter-filter_wider}
 use Rattle.clr_rules.specs.Commands.{Known, checks, edits_of}
 use Rattle.clr_rules.specs.Answer.{answer, answer_with, card_of, concerned, fence_for, first_refusal, known_of, settled, told, told_after, view_of}
 use Rattle.clr_rules.specs.Command.{named_clearance}

@@ -2,8 +2,8 @@
 use Rattle.std.proofs.Common.{◌≡◌, ◌∙◌, ℕ, Bool, true, false, ◌&&◌, cond, List, [], ◌∷◌, ◌++◌, map, Option, Some, None, refl, sym, ap, subst}
 use Rattle.std.specs.Prelude.{if◌then◌else◌}
 use Rattle.clr_order.specs.declared.step.StepState.TheVariants.{Done}
-use Rattle.clr_shelf.specs.Groups.{filter-with_far, filter-with_inside}
-use Rattle.clr_shelf.specs.Keys.{equal}
+use Rattle.clr_shelf.proofs.Groups.{filter-with_far, filter-with_inside}
+use Rattle.clr_shelf.proofs.Keys.{equal}
 use Rattle.clr_shelf.specs.Rows.{in_key_order, with_row}
 use Rattle.clr_rules.specs.Changes.{cancelled_phase, done_edits, edits_by, hold_edits, moved, phase_after, position_edits, undone_edits, with_record, with_step}
 use Rattle.clr_rules.specs.Commands.{edits_of}

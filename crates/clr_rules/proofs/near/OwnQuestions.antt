@@ -3,9 +3,9 @@ use Rattle.std.proofs.Common.{◌≡◌, ◌∙◌, ℕ, Bool, true, false, ◌&
 use Rattle.std.specs.Prelude.{if◌then◌else◌}
 use Rattle.std.specs.List.{filter, list_any}
 use Rattle.std.proofs.lemmas.Bool.{and_parts, both_ways}
-use Rattle.clr_shelf.specs.Groups.{row_of-filter_inside}
-use Rattle.clr_shelf.specs.Keys.{equal}
-use Rattle.clr_shelf.specs.Lists.{filter-filter_wider}
+use Rattle.clr_shelf.proofs.Groups.{row_of-filter_inside}
+use Rattle.clr_shelf.proofs.Keys.{equal}
+use Rattle.clr_shelf.proofs.Lists.{filter-filter_wider}
 use Rattle.clr_rules.specs.GoodByPhase.{of_round}
 use Rattle.clr_rules.specs.Prelude.{Hold, HoldKind, HeldOpen, Block, Control, Tag, StepRow, Id, same_id, Register, is_some_step, present, present_round, steps_in, hold_cmp, hold_cmp_total, has_any_hold, has_hold, has_some_hold, held_at}
 use Rattle.clr_rules.specs.Prelude.{hold_key, hold_of, holds_of, once, places_of, same_kind}

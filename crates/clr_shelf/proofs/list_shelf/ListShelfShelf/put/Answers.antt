@@ -1,5 +1,5 @@
 use Rattle.std.proofs.Common.{◌<◌, arith, vec_len, vec_capacity}
-use Rattle.clr_shelf.specs.KeyOrder.{in_key_order-with_row}
+use Rattle.clr_shelf.proofs.KeyOrder.{in_key_order-with_row}
 use Rattle.clr_shelf.proofs.Places.{set_at, insert_in_gap}
 use Rattle.clr_shelf.proofs.list_shelf.ListShelfShelf.put.Goals as goal
 

@@ -1,6 +1,6 @@
 use Rattle.std.proofs.Common.{sym}
-use Rattle.clr_shelf.specs.KeyOrder.{in_key_order-without_row}
-use Rattle.clr_shelf.specs.Reading.{without_row-missing}
+use Rattle.clr_shelf.proofs.KeyOrder.{in_key_order-without_row}
+use Rattle.clr_shelf.proofs.Reading.{without_row-missing}
 use Rattle.clr_shelf.proofs.Places.{row_at, none_in_gap, remove_at}
 use Rattle.clr_shelf.proofs.list_shelf.ListShelfShelf.take.Goals as goal
 

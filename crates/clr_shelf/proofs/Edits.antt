@@ -5,11 +5,11 @@ use Rattle.std.specs.Ordering.{is_eq}
 use Rattle.std.specs.declared.cmp.Ordering.{Ordering}
 use mathlib.Core.Bool.{true≢false}
 use Rattle.clr_shelf.specs.Rows.{in_key_order, row_of, with_row, without_row}
-use Rattle.clr_shelf.specs.Lists.{filter-filter_comm}
-use Rattle.clr_shelf.specs.Keys.{equal, apart_back}
-use Rattle.clr_shelf.specs.Reading.{row_of-tied, row_of-with, row_of-without}
-use Rattle.clr_shelf.specs.KeyOrder.{in_key_order-with_row, in_key_order-without_row}
-use Rattle.clr_shelf.specs.SameRows.{same_from_reading}
+use Rattle.clr_shelf.proofs.Lists.{filter-filter_comm}
+use Rattle.clr_shelf.proofs.Keys.{equal, apart_back}
+use Rattle.clr_shelf.proofs.Reading.{row_of-tied, row_of-with, row_of-without}
+use Rattle.clr_shelf.proofs.KeyOrder.{in_key_order-with_row, in_key_order-without_row}
+use Rattle.clr_shelf.proofs.SameRows.{same_from_reading}
 
 -- the second of two choices by one test is not reached
 first_stays : {X : Type 0} (b : Bool) (x y z : X) → cond b x (cond b y z) ≡ cond b x z

@@ -7,10 +7,10 @@ use Rattle.std.specs.declared.cmp.Ordering.{Ordering}
 use Rattle.std.specs.declared.cmp.Ordering.TheVariants.{Less, Equal, Greater}
 use mathlib.Core.Bool.{true≢false}
 use Rattle.clr_shelf.specs.Rows.{in_key_order, row_of, with_row, without_row}
-use Rattle.clr_shelf.specs.Lists.{filter-same, filter-none, list_all-weaker}
-use Rattle.clr_shelf.specs.Keys.{less, greater, above_back, below_chain}
-use Rattle.clr_shelf.specs.KeyOrder.{in_key_order-rest, in_key_order-first}
-use Rattle.clr_shelf.specs.Members.{none_before}
+use Rattle.clr_shelf.proofs.Lists.{filter-same, filter-none, list_all-weaker}
+use Rattle.clr_shelf.proofs.Keys.{less, greater, above_back, below_chain}
+use Rattle.clr_shelf.proofs.KeyOrder.{in_key_order-rest, in_key_order-first}
+use Rattle.clr_shelf.proofs.Members.{none_before}
 
 module _ {Key Row : Type 0} (compare : Key → Key → Ordering) (key_of : Row → Key) (order : IsTotalOrder compare) where
   -- the rows after one that has a key are above it

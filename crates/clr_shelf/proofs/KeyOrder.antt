@@ -7,8 +7,8 @@ use Rattle.std.specs.declared.cmp.Ordering.{Ordering}
 use Rattle.std.proofs.lemmas.Grind.{common_steps}
 use Rattle.std.proofs.lemmas.List.Folds.{list_all-append}
 use Rattle.clr_shelf.specs.Rows.{in_key_order, with_row, without_row}
-use Rattle.clr_shelf.specs.Lists.{list_all-filter, list_all-weaker, list_all-filtered}
-use Rattle.clr_shelf.specs.Keys.{above_back, below_chain}
+use Rattle.clr_shelf.proofs.Lists.{list_all-filter, list_all-weaker, list_all-filtered}
+use Rattle.clr_shelf.proofs.Keys.{above_back, below_chain}
 
 module _ {Key Row : Type 0} (compare : Key → Key → Ordering) (key_of : Row → Key) (order : IsTotalOrder compare) where
   -- the rows after the first are in order

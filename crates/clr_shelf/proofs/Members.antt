@@ -8,10 +8,10 @@ use Rattle.std.proofs.lemmas.Grind.{common_steps}
 use Rattle.std.proofs.lemmas.Cmp.{tied_itself}
 use Rattle.std.proofs.lemmas.Option.{same_Some, none-some}
 use Rattle.clr_shelf.specs.Rows.{in_key_order, row_of, with_row, without_row}
-use Rattle.clr_shelf.specs.Keys.{less, apart_back, below_chain}
-use Rattle.clr_shelf.specs.Lists.{list_all-weaker, Contains-cases, Contains-here, Contains-later, list_all-contains}
-use Rattle.clr_shelf.specs.Reading.{row_of-with_row, row_of-with_other, row_of-with, row_of-without_other, row_of-without}
-use Rattle.clr_shelf.specs.KeyOrder.{in_key_order-rest, in_key_order-first, in_key_order-with_row, in_key_order-without_row}
+use Rattle.clr_shelf.proofs.Keys.{less, apart_back, below_chain}
+use Rattle.clr_shelf.proofs.Lists.{list_all-weaker, Contains-cases, Contains-here, Contains-later, list_all-contains}
+use Rattle.clr_shelf.proofs.Reading.{row_of-with_row, row_of-with_other, row_of-with, row_of-without_other, row_of-without}
+use Rattle.clr_shelf.proofs.KeyOrder.{in_key_order-rest, in_key_order-first, in_key_order-with_row, in_key_order-without_row}
 
 module _ {Key Row : Type 0} (compare : Key → Key → Ordering) (key_of : Row → Key) (order : IsTotalOrder compare) where
   -- a row of the list is the one read at its key

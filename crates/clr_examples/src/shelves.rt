@@ -1,14 +1,15 @@
-//! Shelves of berths: a berth is told by its pier and number, and its group is its owner.
-ghost use Rattle.std.specs.Prelude.{ℕ, ◌==◌};
-ghost use Rattle.std.specs.Ordering.{nat_cmp, ordering_then};
+//! Shelves of berths: a berth is told by its pier and number, and its group is its number.
+ghost use Rattle.std.specs.Prelude.{ℕ, ◌==◌, refl};
+ghost use Rattle.std.specs.Ordering.{is_eq, nat_cmp, ordering_then};
 ghost use Rattle.std.specs.Cmp.Lexicographic.{slice_cmp};
 ghost use Rattle.std.proofs.lemmas.Cmp.{then_total, on_total, nat_list_cmp_total, nat_cmp_total};
-ghost use Rattle.clr_shelf.specs.Keys.{first_ties, second_ties, same_number, same_text};
-ghost use Rattle.clr_shelf.specs.declared.tests.BerthKey.{BerthKey};
+ghost use Rattle.clr_shelf.proofs.Keys.{first_ties, second_ties, same_number, same_text};
+ghost use Rattle.clr_examples.specs.declared.shelves.BerthKey.{BerthKey};
 
-use crate::{ListShelf, Row, Shelf};
+use clr_shelf::{GroupedShelf, ListShelf, Row, Shelf, SortedShelf};
 use std::alloc::{AllocError, Global};
 use std::cmp::Ordering;
+use std::process::Abort;
 use std::test::Fail;
 
 #[derive(Clone, Copy, Debug, PartialEq, Eq, PartialOrd, Ord)]
@@ -27,13 +28,17 @@ struct Berth {
 impl Row for Berth {
     type Key = BerthKey;
 
-    type Group = u8;
+    type Group = u16;
 
     ghost key_of = { λ berth. berth.key };
 
     ghost key_cmp = { λ a b. ordering_then (slice_cmp nat_cmp a.pier b.pier) (nat_cmp a.number b.number) };
 
-    ghost is_in = { λ owner berth. berth.owner == owner };
+    ghost group_of = { λ key. key.number };
+
+    ghost group_cmp = { nat_cmp };
+
+    ghost is_in = { λ number berth. is_eq (nat_cmp berth.key.number number) };
 
     fn key(&self) -> BerthKey {
         self.key
@@ -43,8 +48,16 @@ impl Row for Berth {
         self.key.cmp(key)
     }
 
-    fn belongs_to(&self, owner: &u8) -> bool {
-        self.owner == *owner
+    fn group_of(key: &BerthKey) -> u16 {
+        key.number
+    }
+
+    fn compare_group(&self, number: &u16) -> Ordering {
+        self.key.number.cmp(number)
+    }
+
+    fn belongs_to(&self, number: &u16) -> bool {
+        self.key.number.cmp(number).is_eq()
     }
 
     ghost key_order = { then_total (on_total (λ (k : BerthKey). k.pier) nat_list_cmp_total) (on_total (λ (k : BerthKey). k.number) nat_cmp_total) };
@@ -53,6 +66,10 @@ impl Row for Berth {
       pier = same_text a.pier b.pier (first_ties (slice_cmp nat_cmp a.pier b.pier) (nat_cmp a.number b.number) ties) i;
       number = same_number a.number b.number (second_ties (slice_cmp nat_cmp a.pier b.pier) (nat_cmp a.number b.number) ties) i;
     } };
+
+    ghost group_order = { nat_cmp_total };
+
+    ghost in_one_group = { λ number berth. refl };
 }
 
 fn berth_at(pier: [u8; 2], number: u16, owner: u8, depth: u16) -> Berth {
@@ -82,45 +99,78 @@ fn rows_of<S: Shelf<Berth>>(alloc: Global, shelf: &S) -> Result<Vec<Berth>, Allo
     Ok(rows)
 }
 
-#[test]
-fn a_row_replaces_the_row_of_its_key(rt: HostRuntime) -> Result<(), Fail> {
+fn replaced<S: Shelf<Berth>, R: Abort>(rt: &R, alloc: Global) -> Result<(), Fail> {
     let first = berth_at(*b"NN", 7, 1, 30);
     let deeper = berth_at(*b"NN", 7, 2, 45);
     let other = berth_at(*b"EA", 900, 1, 12);
-    let mut shelf: ListShelf<Berth> = shelf_of(rt.alloc(), &[first, other, deeper])?;
+    let mut shelf: S = shelf_of(alloc, &[first, other, deeper])?;
 
     assert_eq!(rt; shelf.len(), 2);
     assert_eq!(rt; shelf.get(&first.key).copied(), Some(deeper));
     assert_eq!(rt; shelf.get(&other.key).copied(), Some(other));
     assert_eq!(rt; shelf.take(&first.key), Some(deeper));
     assert_eq!(rt; shelf.take(&first.key), None);
-    assert_eq!(rt; rows_of(rt.alloc(), &shelf)?.as_slice(), [other].as_slice());
+    assert_eq!(rt; rows_of(alloc, &shelf)?.as_slice(), [other].as_slice());
+    Ok(())
+}
+
+#[test]
+fn a_row_replaces_the_row_of_its_key(rt: HostRuntime) -> Result<(), Fail> {
+    replaced::<ListShelf<Berth>, HostRuntime>(&rt, rt.alloc())
+}
+
+#[test]
+fn a_row_replaces_the_row_of_its_key_in_a_sorted_shelf(rt: HostRuntime) -> Result<(), Fail> {
+    replaced::<SortedShelf<Berth>, HostRuntime>(&rt, rt.alloc())
+}
+
+// The berths of number 5, one on each of three piers, among others.
+fn berths() -> [Berth; 5] {
+    [
+        berth_at(*b"NN", 5, 1, 30),
+        berth_at(*b"EA", 5, 2, 31),
+        berth_at(*b"NN", 2, 3, 32),
+        berth_at(*b"SW", 5, 4, 33),
+        berth_at(*b"EA", 9, 5, 34),
+    ]
+}
+
+fn grouped<S: Shelf<Berth>, R: Abort>(rt: &R, alloc: Global) -> Result<(), Fail> {
+    let shelf: S = shelf_of(alloc, &berths())?;
+
+    let group = shelf.group(&5)?;
+    let mut depths = Vec::new(alloc);
+    for berth in &group {
+        depths.push(berth.depth)?;
+    }
+    assert_eq!(rt; depths.as_slice(), [31, 30, 33].as_slice());
+    assert!(rt; shelf.group(&7)?.is_empty());
+    assert_eq!(rt; shelf.last(&5).map(|berth| berth.depth), Some(33));
+    assert!(rt; shelf.last(&7).is_none());
     Ok(())
 }
 
 #[test]
 fn a_group_is_given_in_key_order(rt: HostRuntime) -> Result<(), Fail> {
-    let berths = [
-        berth_at(*b"NN", 8, 5, 30),
-        berth_at(*b"EA", 10, 5, 31),
-        berth_at(*b"NN", 2, 6, 32),
-        berth_at(*b"EA", 9, 5, 33),
-    ];
-    let shelf: ListShelf<Berth> = shelf_of(rt.alloc(), &berths)?;
-
-    let group = shelf.group(&5)?;
-    let mut depths = Vec::new(rt.alloc());
-    for berth in &group {
-        depths.push(berth.depth)?;
-    }
-    assert_eq!(rt; depths.as_slice(), [33, 31, 30].as_slice());
-    assert!(rt; shelf.group(&7)?.is_empty());
-    Ok(())
+    grouped::<ListShelf<Berth>, HostRuntime>(&rt, rt.alloc())
 }
 
 #[test]
-fn room_serves_as_many_rows_and_a_take_gives_one_back(rt: HostRuntime) -> Result<(), Fail> {
-    let mut shelf = ListShelf::empty(rt.alloc());
+fn a_group_is_one_run_of_places(rt: HostRuntime) -> Result<(), Fail> {
+    let shelf: SortedShelf<Berth> = shelf_of(rt.alloc(), &berths())?;
+    let run = shelf.places_of(&5);
+    assert_eq!(rt; (run.start, run.end), (1, 4));
+
+    let mut depths = Vec::new(rt.alloc());
+    for berth in rows_of(rt.alloc(), &shelf)? {
+        depths.push(berth.depth)?;
+    }
+    assert_eq!(rt; depths.as_slice(), [32, 31, 30, 33, 34].as_slice());
+    grouped::<SortedShelf<Berth>, HostRuntime>(&rt, rt.alloc())
+}
+
+fn given_back<S: Shelf<Berth>, R: Abort>(rt: &R, alloc: Global) -> Result<(), Fail> {
+    let mut shelf = S::empty(alloc);
     shelf.reserve(2)?;
     let first = berth_at(*b"NN", 1, 1, 10);
     shelf.put(first);
@@ -132,11 +182,16 @@ fn room_serves_as_many_rows_and_a_take_gives_one_back(rt: HostRuntime) -> Result
     Ok(())
 }
 
+#[test]
+fn room_serves_as_many_rows_and_a_take_gives_one_back(rt: HostRuntime) -> Result<(), Fail> {
+    given_back::<SortedShelf<Berth>, HostRuntime>(&rt, rt.alloc())
+}
+
 // With the second allocation refused it shows that a refusal leaves all rows.
 #[test]
 fn refused_room_leaves_the_rows(rt: HostRuntime) {
     let kept = berth_at(*b"NN", 1, 1, 10);
-    if let Ok(mut shelf) = shelf_of::<ListShelf<Berth>>(rt.alloc(), &[kept]) {
+    if let Ok(mut shelf) = shelf_of::<SortedShelf<Berth>>(rt.alloc(), &[kept]) {
         let reserved = shelf.reserve(1000).is_ok();
         assert_eq!(rt;
             shelf.get(&kept.key).copied(),

@@ -10,8 +10,8 @@ use mathlib.Core.Bool.{true≢false}
 use Rattle.std.proofs.lemmas.Cmp.{tied_itself, tied_back, alike_right}
 use Rattle.std.proofs.lemmas.List.Folds.{find-append}
 use Rattle.clr_shelf.specs.Rows.{row_of, with_row, without_row}
-use Rattle.clr_shelf.specs.Lists.{find-filter_wider, find-filter_apart, list_all-from_none, filter-same}
-use Rattle.clr_shelf.specs.Keys.{equal, apart_back}
+use Rattle.clr_shelf.proofs.Lists.{find-filter_wider, find-filter_apart, list_all-from_none, filter-same}
+use Rattle.clr_shelf.proofs.Keys.{equal, apart_back}
 
 or_none : {X : Type 0} (o : Option X) → option_or o None ≡ o
 or_none None = refl

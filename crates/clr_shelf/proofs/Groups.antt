@@ -9,11 +9,11 @@ use Rattle.std.proofs.lemmas.Cmp.{tied_itself}
 use Rattle.std.proofs.lemmas.List.Elements.{filter-append, All-append, All-cons, All-filter}
 use Rattle.std.proofs.lemmas.Map.Entries.{option_filter}
 use Rattle.clr_shelf.specs.Rows.{in_key_order, row_of, with_row, without_row}
-use Rattle.clr_shelf.specs.Lists.{find-filter_wider, find-filter_apart, filter-filter_comm, filter-filter_wider, list_all-filter}
-use Rattle.clr_shelf.specs.Reading.{row_of-tied}
-use Rattle.clr_shelf.specs.KeyOrder.{in_key_order-rest, in_key_order-first, in_key_order-filter}
-use Rattle.clr_shelf.specs.Members.{none_below}
-use Rattle.clr_shelf.specs.FirstRow.{without_row-parts}
+use Rattle.clr_shelf.proofs.Lists.{find-filter_wider, find-filter_apart, filter-filter_comm, filter-filter_wider, list_all-filter}
+use Rattle.clr_shelf.proofs.Reading.{row_of-tied}
+use Rattle.clr_shelf.proofs.KeyOrder.{in_key_order-rest, in_key_order-first, in_key_order-filter}
+use Rattle.clr_shelf.proofs.Members.{none_below}
+use Rattle.clr_shelf.proofs.FirstRow.{without_row-parts}
 
 -- what passes one test fails another that excludes it
 kept : (tied inside : Bool) → (tied ≡ true → inside ≡ false) → inside ≡ true → not tied ≡ true

@@ -10,10 +10,10 @@ use Rattle.std.proofs.lemmas.Cmp.{tied_itself}
 use Rattle.std.proofs.lemmas.List.Sorted.{Contains-permutation, IsPermutation-sym}
 use Rattle.std.proofs.lemmas.Option.{same_Some, none-some}
 use Rattle.clr_shelf.specs.Rows.{in_key_order, row_of}
-use Rattle.clr_shelf.specs.Keys.{above_back}
-use Rattle.clr_shelf.specs.Reading.{row_of-tied}
-use Rattle.clr_shelf.specs.KeyOrder.{in_key_order-rest, in_key_order-first}
-use Rattle.clr_shelf.specs.Members.{row_of-member, member-row_of, none_below, none_before}
+use Rattle.clr_shelf.proofs.Keys.{above_back}
+use Rattle.clr_shelf.proofs.Reading.{row_of-tied}
+use Rattle.clr_shelf.proofs.KeyOrder.{in_key_order-rest, in_key_order-first}
+use Rattle.clr_shelf.proofs.Members.{row_of-member, member-row_of, none_below, none_before}
 
 module _ {Key Row : Type 0} (compare : Key → Key → Ordering) (key_of : Row → Key) (order : IsTotalOrder compare) where
   none_read : (key : Key) → None ≡ row_of compare key_of key []
