@@ -1,19 +1,30 @@
 -- What is decided, as an answer.
-use Rattle.std.specs.Prelude.{◌≡◌, Bool, true, false, List, [], ◌∷◌, ◌++◌, Option, None, Some}
-use Rattle.clr_rules.specs.Answer.{Answer, card_of}
+use Rattle.std.specs.Prelude.{◌≡◌, ℕ, Bool, true, false, List, [], ◌∷◌, ◌++◌, Option, None, Some}
+use Rattle.clr_rules.specs.Answer.{Answer, card_of, first_refusal}
 use Rattle.clr_rules.specs.Changes.{hold_edits, position_edits, put_steps}
 use Rattle.clr_rules.specs.Records.{is_switch_order}
+use Rattle.clr_rules.specs.Commands.{checks, edits_of}
 use Rattle.clr_rules.specs.Edits.{edited_all}
+use Rattle.clr_rules.specs.Near.{Near}
 use Rattle.clr_rules.specs.Register.{Register}
 use Rattle.clr_rules.specs.declared.change.Edit.{Edit}
 use Rattle.clr_rules.specs.declared.change.Edit.TheVariants.{PutRecord, SetHand}
 use Rattle.clr_rules.specs.declared.command.Kind.{Kind}
 use Rattle.clr_rules.specs.declared.command.Kind.TheVariants.{Show}
+use Rattle.clr_rules.specs.declared.refusal.Refusal.{Refusal}
 use Rattle.clr_rules.specs.declared.record.Record.{Record}
 use Rattle.clr_rules.specs.declared.reply.Reply.{Reply}
 use Rattle.clr_rules.specs.declared.reply.Reply.TheVariants.{Accepted}
 use Rattle.clr_rules.specs.declared.step_row.StepRow.{StepRow}
 use Rattle.clr_book.specs.declared.decision.Decision.{Decision}
+
+-- the first check that applies, by what was lent
+abbrev pub near_refusal : Near → List ℕ → ℕ → Kind → Option Refusal
+near_refusal near by at kind = first_refusal (checks near.known near.rows by at kind)
+
+-- and what the command changes where none does
+abbrev pub near_edits : Near → List ℕ → ℕ → Kind → List Edit
+near_edits near by at kind = edits_of near.known.greatest near.rows by at kind
 
 abbrev pub answered : Decision → Answer
 answered d = record { reply = d.reply; edits = d.change.edits }

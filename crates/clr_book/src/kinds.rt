@@ -1,12 +1,11 @@
 //! The answer to each kind of command: its checks, then what it changes.
 ghost use Rattle.std.specs.Prelude.{◌≡◌, false, IfOk, None};
-ghost use Rattle.clr_rules.specs.Answer.{answer, answer_with, concerned, first_refusal};
-ghost use Rattle.clr_rules.specs.Commands.{checks, edits_of};
+ghost use Rattle.clr_rules.specs.Answer.{answer, answer_with, concerned};
 ghost use Rattle.clr_rules.specs.Command.{named_clearance};
 ghost use Rattle.clr_rules.specs.Good.{IsGood};
 ghost use Rattle.clr_rules.specs.Near.{near_of};
 ghost use Rattle.clr_rules.specs.Register.{Register};
-ghost use Rattle.clr_book.specs.Decision.{ChangesIfAccepted, answered, is_question};
+ghost use Rattle.clr_book.specs.Decision.{ChangesIfAccepted, answered, is_question, near_edits, near_refusal};
 ghost use Rattle.clr_book.specs.Effect.{IsOf, edits_in};
 
 mod amend;
@@ -69,7 +68,7 @@ fn decision_of(near: &Near, command: &Command) -> Result<Decision, AllocError>
 
 /// The first check of a command that refuses it.
 fn refusal_of(near: &Near, command: &Command) -> Result<Option<Refusal>, AllocError>
-    ensures { IfOk result (λ refusal. refusal ≡ first_refusal (checks near.now.known near.now.rows command.now.caller command.now.moment command.now.kind)) }
+    ensures { IfOk result (λ refusal. refusal ≡ near_refusal near.now command.now.caller command.now.moment command.now.kind) }
 {
     let (by, at) = (command.caller, command.moment);
     let refusal = match &command.kind {
@@ -125,9 +124,9 @@ fn refusal_of(near: &Near, command: &Command) -> Result<Option<Refusal>, AllocEr
 
 /// What a command changes that no check refuses.
 fn effect_of(near: &Near, command: &Command) -> Result<Effect, AllocError>
-    requires passes { first_refusal (checks near.now.known near.now.rows command.now.caller command.now.moment command.now.kind) ≡ None }
+    requires passes { near_refusal near.now command.now.caller command.now.moment command.now.kind ≡ None }
     requires changes { is_question command.now.kind ≡ false }
-    ensures edits { IfOk result (λ effect. edits_of near.now.known.greatest near.now.rows command.now.caller command.now.moment command.now.kind ≡ edits_in effect) }
+    ensures edits { IfOk result (λ effect. near_edits near.now command.now.caller command.now.moment command.now.kind ≡ edits_in effect) }
     ensures of { IfOk result (IsOf (concerned near.now.known.greatest command.now.caller (named_clearance command.now.kind))) }
 {
     let (by, at) = (command.caller, command.moment);

@@ -1,8 +1,7 @@
 //! An operator turns a waiting Close of a restoring order into a Leave.
 ghost use Rattle.std.specs.Prelude.{◌≡◌, IfOk, None};
-ghost use Rattle.clr_rules.specs.Answer.{first_refusal};
-ghost use Rattle.clr_rules.specs.Commands.{checks, edits_of};
 ghost use Rattle.clr_rules.specs.declared.command.Kind.TheVariants as kinds;
+ghost use Rattle.clr_book.specs.Decision.{near_edits, near_refusal};
 ghost use Rattle.clr_book.specs.Effect.{IsOf, edits_in};
 
 use crate::checks::callers::{not_operator, unknown_caller};
@@ -23,7 +22,7 @@ pub(crate) fn refusal_of(
     id: ClearanceId,
     number: u16,
 ) -> Option<Refusal>
-    ensures { result ≡ first_refusal (checks near.now.known near.now.rows by at (kinds.Amend id number)) }
+    ensures { result ≡ near_refusal near.now by at (kinds.Amend id number) }
 {
     first_of(&[
         unknown_caller(near, by),
@@ -43,8 +42,8 @@ pub(crate) fn effect(
     id: ClearanceId,
     number: u16,
 ) -> Result<Effect, AllocError>
-    requires { first_refusal (checks near.now.known near.now.rows by at (kinds.Amend id number)) ≡ None }
-    ensures edits { IfOk result (λ effect. edits_of near.now.known.greatest near.now.rows by at (kinds.Amend id number) ≡ edits_in effect) }
+    requires { near_refusal near.now by at (kinds.Amend id number) ≡ None }
+    ensures edits { IfOk result (λ effect. near_edits near.now by at (kinds.Amend id number) ≡ edits_in effect) }
     ensures of { IfOk result (IsOf id) }
 {
     let Some(found) = record(near, id) else {

@@ -1,8 +1,7 @@
 //! The holder gives up a request, an order that is not granted, or a switch order.
 ghost use Rattle.std.specs.Prelude.{◌≡◌, None};
-ghost use Rattle.clr_rules.specs.Answer.{first_refusal};
-ghost use Rattle.clr_rules.specs.Commands.{checks, edits_of};
 ghost use Rattle.clr_rules.specs.declared.command.Kind.TheVariants as kinds;
+ghost use Rattle.clr_book.specs.Decision.{near_edits, near_refusal};
 ghost use Rattle.clr_book.specs.Effect.{IsOf, edits_in};
 ghost use Rattle.clr_rules.specs.Changes.{cancelled_phase};
 
@@ -17,7 +16,7 @@ use clr_net::Name;
 use clr_rules::{ClearanceId, Moment, Phase, Record, Refusal};
 
 pub(crate) fn refusal_of(near: &Near, by: Name, at: Moment, id: ClearanceId) -> Option<Refusal>
-    ensures { result ≡ first_refusal (checks near.now.known near.now.rows by at (kinds.Cancel id)) }
+    ensures { result ≡ near_refusal near.now by at (kinds.Cancel id) }
 {
     first_of(&[
         unknown_caller(near, by),
@@ -43,8 +42,8 @@ fn cancelled_phase(near: &Near, clearance: &Record) -> Phase
 }
 
 pub(crate) fn effect(near: &Near, by: Name, at: Moment, id: ClearanceId) -> Effect
-    requires { first_refusal (checks near.now.known near.now.rows by at (kinds.Cancel id)) ≡ None }
-    ensures edits { edits_of near.now.known.greatest near.now.rows by at (kinds.Cancel id) ≡ edits_in result }
+    requires { near_refusal near.now by at (kinds.Cancel id) ≡ None }
+    ensures edits { near_edits near.now by at (kinds.Cancel id) ≡ edits_in result }
     ensures of { IsOf id result }
 {
     let Some(found) = record(near, id) else {

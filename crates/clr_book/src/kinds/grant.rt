@@ -1,8 +1,7 @@
 //! An operator gives a clearance: 29 CFR 1910.269(m)(3)(vi).
 ghost use Rattle.std.specs.Prelude.{◌≡◌, None};
-ghost use Rattle.clr_rules.specs.Answer.{first_refusal};
-ghost use Rattle.clr_rules.specs.Commands.{checks, edits_of};
 ghost use Rattle.clr_rules.specs.declared.command.Kind.TheVariants as kinds;
+ghost use Rattle.clr_book.specs.Decision.{near_edits, near_refusal};
 ghost use Rattle.clr_book.specs.Effect.{IsOf, edits_in};
 
 use crate::checks::callers::{not_operator, unknown_caller};
@@ -15,7 +14,7 @@ use clr_net::Name;
 use clr_rules::{ClearanceId, Moment, Phase, Record, Refusal};
 
 pub(crate) fn refusal_of(near: &Near, by: Name, at: Moment, id: ClearanceId) -> Option<Refusal>
-    ensures { result ≡ first_refusal (checks near.now.known near.now.rows by at (kinds.Grant id)) }
+    ensures { result ≡ near_refusal near.now by at (kinds.Grant id) }
 {
     first_of(&[
         unknown_caller(near, by),
@@ -28,8 +27,8 @@ pub(crate) fn refusal_of(near: &Near, by: Name, at: Moment, id: ClearanceId) -> 
 }
 
 pub(crate) fn effect(near: &Near, by: Name, at: Moment, id: ClearanceId) -> Effect
-    requires { first_refusal (checks near.now.known near.now.rows by at (kinds.Grant id)) ≡ None }
-    ensures edits { edits_of near.now.known.greatest near.now.rows by at (kinds.Grant id) ≡ edits_in result }
+    requires { near_refusal near.now by at (kinds.Grant id) ≡ None }
+    ensures edits { near_edits near.now by at (kinds.Grant id) ≡ edits_in result }
     ensures of { IsOf id result }
 {
     let Some(found) = record(near, id) else {

@@ -1,8 +1,7 @@
 //! An operator writes the isolating steps of a clearance: 29 CFR 1910.269(m)(3)(ii), (iii).
 ghost use Rattle.std.specs.Prelude.{◌≡◌, IfOk, None};
-ghost use Rattle.clr_rules.specs.Answer.{first_refusal};
-ghost use Rattle.clr_rules.specs.Commands.{checks, edits_of};
 ghost use Rattle.clr_rules.specs.declared.command.Kind.TheVariants as kinds;
+ghost use Rattle.clr_book.specs.Decision.{near_edits, near_refusal};
 ghost use Rattle.clr_book.specs.Effect.{IsOf, edits_in};
 
 use crate::checks::callers::{not_operator, unknown_caller};
@@ -24,7 +23,7 @@ pub(crate) fn refusal_of(
     points: &[Name],
     tasks: &Tasks,
 ) -> Result<Option<Refusal>, AllocError>
-    ensures { IfOk result (λ refusal. refusal ≡ first_refusal (checks near.now.known near.now.rows by at (kinds.Order id points.now tasks.now))) }
+    ensures { IfOk result (λ refusal. refusal ≡ near_refusal near.now by at (kinds.Order id points.now tasks.now)) }
 {
     let unsound = unsound_order(near, points, tasks.as_slice())?;
     let refusal = first_of(&[
@@ -46,8 +45,8 @@ pub(crate) fn effect(
     points: &[Name],
     tasks: &Tasks,
 ) -> Result<Effect, AllocError>
-    requires { first_refusal (checks near.now.known near.now.rows by at (kinds.Order id points.now tasks.now)) ≡ None }
-    ensures edits { IfOk result (λ effect. edits_of near.now.known.greatest near.now.rows by at (kinds.Order id points.now tasks.now) ≡ edits_in effect) }
+    requires { near_refusal near.now by at (kinds.Order id points.now tasks.now) ≡ None }
+    ensures edits { IfOk result (λ effect. near_edits near.now by at (kinds.Order id points.now tasks.now) ≡ edits_in effect) }
     ensures of { IfOk result (IsOf id) }
 {
     let Some(found) = record(near, id) else {

@@ -1,8 +1,7 @@
 //! The holder gives the clearance back: 29 CFR 1910.269(m)(3)(x), (xi).
 ghost use Rattle.std.specs.Prelude.{◌≡◌, IfOk, None, map};
-ghost use Rattle.clr_rules.specs.Answer.{first_refusal};
-ghost use Rattle.clr_rules.specs.Commands.{checks, edits_of};
 ghost use Rattle.clr_rules.specs.declared.command.Kind.TheVariants as kinds;
+ghost use Rattle.clr_book.specs.Decision.{near_edits, near_refusal};
 ghost use Rattle.clr_book.specs.Effect.{IsOf, edits_in};
 ghost use Rattle.clr_rules.specs.Holds.{hold_of};
 ghost use Rattle.clr_rules.specs.declared.change.Edit.TheVariants.{TakeHold};
@@ -26,7 +25,7 @@ pub(crate) fn refusal_of(
     notified: bool,
     clear: bool,
 ) -> Option<Refusal>
-    ensures { result ≡ first_refusal (checks near.now.known near.now.rows by at (kinds.Release id notified clear)) }
+    ensures { result ≡ near_refusal near.now by at (kinds.Release id notified clear) }
 {
     first_of(&[
         unknown_caller(near, by),
@@ -70,8 +69,8 @@ pub(crate) fn effect(
     notified: bool,
     clear: bool,
 ) -> Result<Effect, AllocError>
-    requires { first_refusal (checks near.now.known near.now.rows by at (kinds.Release id notified clear)) ≡ None }
-    ensures edits { IfOk result (λ effect. edits_of near.now.known.greatest near.now.rows by at (kinds.Release id notified clear) ≡ edits_in effect) }
+    requires { near_refusal near.now by at (kinds.Release id notified clear) ≡ None }
+    ensures edits { IfOk result (λ effect. near_edits near.now by at (kinds.Release id notified clear) ≡ edits_in effect) }
     ensures of { IfOk result (IsOf id) }
 {
     let Some(found) = record(near, id) else {

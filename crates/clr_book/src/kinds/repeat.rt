@@ -1,8 +1,7 @@
 //! The field repeats the text of a step that was given out.
 ghost use Rattle.std.specs.Prelude.{◌≡◌, IfOk, None};
-ghost use Rattle.clr_rules.specs.Answer.{first_refusal};
-ghost use Rattle.clr_rules.specs.Commands.{checks, edits_of};
 ghost use Rattle.clr_rules.specs.declared.command.Kind.TheVariants as kinds;
+ghost use Rattle.clr_book.specs.Decision.{near_edits, near_refusal};
 ghost use Rattle.clr_book.specs.Effect.{IsOf, edits_in};
 
 use crate::checks::callers::{not_field, unknown_caller};
@@ -25,7 +24,7 @@ pub(crate) fn refusal_of(
     number: u16,
     text: &Text,
 ) -> Result<Option<Refusal>, AllocError>
-    ensures { IfOk result (λ refusal. refusal ≡ first_refusal (checks near.now.known near.now.rows by at (kinds.Repeat id number text.now))) }
+    ensures { IfOk result (λ refusal. refusal ≡ near_refusal near.now by at (kinds.Repeat id number text.now)) }
 {
     let differs = repeat_differs(near, id, number, text)?;
     let refusal = first_of(&[
@@ -49,8 +48,8 @@ pub(crate) fn effect(
     number: u16,
     text: &Text,
 ) -> Result<Effect, AllocError>
-    requires { first_refusal (checks near.now.known near.now.rows by at (kinds.Repeat id number text.now)) ≡ None }
-    ensures edits { IfOk result (λ effect. edits_of near.now.known.greatest near.now.rows by at (kinds.Repeat id number text.now) ≡ edits_in effect) }
+    requires { near_refusal near.now by at (kinds.Repeat id number text.now) ≡ None }
+    ensures edits { IfOk result (λ effect. near_edits near.now by at (kinds.Repeat id number text.now) ≡ edits_in effect) }
     ensures of { IfOk result (IsOf id) }
 {
     let Some(found) = record(near, id) else {

@@ -1,12 +1,10 @@
 //! The reader of a step reports that it was done, or that it was not.
 ghost use Rattle.std.specs.Prelude.{◌≡◌, ◌++◌, true, IfOk, [], ◌∷◌, None};
-ghost use Rattle.clr_rules.specs.Answer.{first_refusal};
-ghost use Rattle.clr_rules.specs.Commands.{checks, edits_of};
 ghost use Rattle.clr_rules.specs.Changes.{done_edits, hold_edits, moved, phase_after, position_edits, undone_edits};
 ghost use Rattle.clr_rules.specs.Records.{is_switch_order};
 ghost use Rattle.clr_order.specs.declared.step.StepState.TheVariants.{Done};
 ghost use Rattle.clr_rules.specs.declared.command.Kind.TheVariants as kinds;
-ghost use Rattle.clr_book.specs.Decision.{done_lead, one_edit};
+ghost use Rattle.clr_book.specs.Decision.{done_lead, one_edit, near_edits, near_refusal};
 ghost use Rattle.clr_book.specs.Effect.{IsOf, edits_in};
 
 use crate::card::progress_with;
@@ -30,7 +28,7 @@ pub(crate) fn refusal_of(
     id: ClearanceId,
     number: u16,
 ) -> Option<Refusal>
-    ensures { result ≡ first_refusal (checks near.now.known near.now.rows by at (kinds.Report id number true)) }
+    ensures { result ≡ near_refusal near.now by at (kinds.Report id number true) }
 {
     first_of(&[
         unknown_caller(near, by),
@@ -200,8 +198,8 @@ pub(crate) fn effect(
     number: u16,
     done: bool,
 ) -> Result<Effect, AllocError>
-    requires { first_refusal (checks near.now.known near.now.rows by at (kinds.Report id number done)) ≡ None }
-    ensures edits { IfOk result (λ effect. edits_of near.now.known.greatest near.now.rows by at (kinds.Report id number done) ≡ edits_in effect) }
+    requires { near_refusal near.now by at (kinds.Report id number done) ≡ None }
+    ensures edits { IfOk result (λ effect. near_edits near.now by at (kinds.Report id number done) ≡ edits_in effect) }
     ensures of { IfOk result (IsOf id) }
 {
     let Some(found) = record(near, id) else {

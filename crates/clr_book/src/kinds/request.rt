@@ -1,8 +1,7 @@
 //! One who may be in charge asks for a clearance on a section: 29 CFR 1910.269(m)(3)(i).
 ghost use Rattle.std.specs.Prelude.{◌≡◌, ◌+◌, None};
-ghost use Rattle.clr_rules.specs.Answer.{first_refusal};
-ghost use Rattle.clr_rules.specs.Commands.{checks, edits_of};
 ghost use Rattle.clr_rules.specs.declared.command.Kind.TheVariants as kinds;
+ghost use Rattle.clr_book.specs.Decision.{near_edits, near_refusal};
 ghost use Rattle.clr_book.specs.Effect.{IsOf, edits_in};
 
 use crate::checks::callers::{not_charge, unknown_caller};
@@ -15,7 +14,7 @@ use clr_net::Name;
 use clr_rules::{Moment, Phase, Refusal};
 
 pub(crate) fn refusal_of(near: &Near, by: Name, at: Moment, section: Name) -> Option<Refusal>
-    ensures { result ≡ first_refusal (checks near.now.known near.now.rows by at (kinds.Request section)) }
+    ensures { result ≡ near_refusal near.now by at (kinds.Request section) }
 {
     first_of(&[
         unknown_caller(near, by),
@@ -26,8 +25,8 @@ pub(crate) fn refusal_of(near: &Near, by: Name, at: Moment, section: Name) -> Op
 }
 
 pub(crate) fn effect(near: &Near, by: Name, at: Moment, section: Name) -> Effect
-    requires { first_refusal (checks near.now.known near.now.rows by at (kinds.Request section)) ≡ None }
-    ensures edits { edits_of near.now.known.greatest near.now.rows by at (kinds.Request section) ≡ edits_in result }
+    requires { near_refusal near.now by at (kinds.Request section) ≡ None }
+    ensures edits { near_edits near.now by at (kinds.Request section) ≡ edits_in result }
     ensures of { IsOf (record { requester = by; number = near.now.known.greatest + 1 }) result }
 {
     Effect {

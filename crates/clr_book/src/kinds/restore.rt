@@ -1,8 +1,7 @@
 //! An operator writes the restoring steps: 29 CFR 1910.269(m)(3)(xii), (xiii).
 ghost use Rattle.std.specs.Prelude.{◌≡◌, IfOk, None};
-ghost use Rattle.clr_rules.specs.Answer.{first_refusal};
-ghost use Rattle.clr_rules.specs.Commands.{checks, edits_of};
 ghost use Rattle.clr_rules.specs.declared.command.Kind.TheVariants as kinds;
+ghost use Rattle.clr_book.specs.Decision.{near_edits, near_refusal};
 ghost use Rattle.clr_book.specs.Effect.{IsOf, edits_in};
 
 use crate::checks::callers::{not_operator, unknown_caller};
@@ -23,7 +22,7 @@ pub(crate) fn refusal_of(
     id: ClearanceId,
     tasks: &Tasks,
 ) -> Result<Option<Refusal>, AllocError>
-    ensures { IfOk result (λ refusal. refusal ≡ first_refusal (checks near.now.known near.now.rows by at (kinds.Restore id tasks.now))) }
+    ensures { IfOk result (λ refusal. refusal ≡ near_refusal near.now by at (kinds.Restore id tasks.now)) }
 {
     let wrong = wrong_restoring(near, id, tasks.as_slice())?;
     let refusal = first_of(&[
@@ -44,8 +43,8 @@ pub(crate) fn effect(
     id: ClearanceId,
     tasks: &Tasks,
 ) -> Result<Effect, AllocError>
-    requires { first_refusal (checks near.now.known near.now.rows by at (kinds.Restore id tasks.now)) ≡ None }
-    ensures edits { IfOk result (λ effect. edits_of near.now.known.greatest near.now.rows by at (kinds.Restore id tasks.now) ≡ edits_in effect) }
+    requires { near_refusal near.now by at (kinds.Restore id tasks.now) ≡ None }
+    ensures edits { IfOk result (λ effect. near_edits near.now by at (kinds.Restore id tasks.now) ≡ edits_in effect) }
     ensures of { IfOk result (IsOf id) }
 {
     let Some(found) = record(near, id) else {

@@ -1,9 +1,9 @@
 //! Anyone of the staff asks how a clearance stands.
 ghost use Rattle.std.specs.Prelude.{◌≡◌, IfOk, None, Some};
-ghost use Rattle.clr_rules.specs.Answer.{first_refusal, told};
-ghost use Rattle.clr_rules.specs.Commands.{checks};
+ghost use Rattle.clr_rules.specs.Answer.{told};
 ghost use Rattle.clr_rules.specs.Records.{record_of};
 ghost use Rattle.clr_rules.specs.declared.command.Kind.TheVariants as kinds;
+ghost use Rattle.clr_book.specs.Decision.{near_refusal};
 ghost use Rattle.clr_rules.specs.declared.reply.Reply.TheVariants.{Shown};
 
 use crate::checks::callers::unknown_caller;
@@ -16,14 +16,14 @@ use clr_rules::{ClearanceId, Moment, Refusal, View};
 use std::alloc::AllocError;
 
 pub(crate) fn refusal_of(near: &Near, by: Name, at: Moment, id: ClearanceId) -> Option<Refusal>
-    ensures { result ≡ first_refusal (checks near.now.known near.now.rows by at (kinds.Show id)) }
+    ensures { result ≡ near_refusal near.now by at (kinds.Show id) }
 {
     first_of(&[unknown_caller(near, by), unknown_clearance(near, id)])
 }
 
 /// What is shown. Nothing changes.
 pub(crate) fn view(near: &Near, by: Name, at: Moment, id: ClearanceId) -> Result<View, AllocError>
-    requires { first_refusal (checks near.now.known near.now.rows by at (kinds.Show id)) ≡ None }
+    requires { near_refusal near.now by at (kinds.Show id) ≡ None }
     ensures { IfOk result (λ view. told near.now.known near.now.rows (kinds.Show id) (record_of near.now.rows.records id) ≡ Shown view) }
 {
     let Some(found) = record(near, id) else {

@@ -1,8 +1,7 @@
 //! The holder signs a crew off.
 ghost use Rattle.std.specs.Prelude.{◌≡◌, IfOk, None};
-ghost use Rattle.clr_rules.specs.Answer.{first_refusal};
-ghost use Rattle.clr_rules.specs.Commands.{checks, edits_of};
 ghost use Rattle.clr_rules.specs.declared.command.Kind.TheVariants as kinds;
+ghost use Rattle.clr_book.specs.Decision.{near_edits, near_refusal};
 ghost use Rattle.clr_book.specs.Effect.{IsOf, edits_in};
 
 use crate::checks::callers::{not_charge, unknown_caller};
@@ -22,7 +21,7 @@ pub(crate) fn refusal_of(
     id: ClearanceId,
     crew: Name,
 ) -> Option<Refusal>
-    ensures { result ≡ first_refusal (checks near.now.known near.now.rows by at (kinds.SignOff id crew)) }
+    ensures { result ≡ near_refusal near.now by at (kinds.SignOff id crew) }
 {
     first_of(&[
         unknown_caller(near, by),
@@ -42,8 +41,8 @@ pub(crate) fn effect(
     id: ClearanceId,
     crew: Name,
 ) -> Result<Effect, AllocError>
-    requires { first_refusal (checks near.now.known near.now.rows by at (kinds.SignOff id crew)) ≡ None }
-    ensures edits { IfOk result (λ effect. edits_of near.now.known.greatest near.now.rows by at (kinds.SignOff id crew) ≡ edits_in effect) }
+    requires { near_refusal near.now by at (kinds.SignOff id crew) ≡ None }
+    ensures edits { IfOk result (λ effect. near_edits near.now by at (kinds.SignOff id crew) ≡ edits_in effect) }
     ensures of { IfOk result (IsOf id) }
 {
     let Some(found) = record(near, id) else {

@@ -1,8 +1,7 @@
 //! An operator makes a switch order: points are opened and closed, and nothing is held.
 ghost use Rattle.std.specs.Prelude.{◌≡◌, ◌+◌, IfOk, None};
-ghost use Rattle.clr_rules.specs.Answer.{first_refusal};
-ghost use Rattle.clr_rules.specs.Commands.{checks, edits_of};
 ghost use Rattle.clr_rules.specs.declared.command.Kind.TheVariants as kinds;
+ghost use Rattle.clr_book.specs.Decision.{near_edits, near_refusal};
 ghost use Rattle.clr_book.specs.Effect.{IsOf, edits_in};
 
 use crate::checks::callers::{not_operator, unknown_caller};
@@ -18,7 +17,7 @@ use clr_rules::{Moment, Phase, Refusal, Tasks};
 use std::alloc::AllocError;
 
 pub(crate) fn refusal_of(near: &Near, by: Name, at: Moment, tasks: &Tasks) -> Option<Refusal>
-    ensures { result ≡ first_refusal (checks near.now.known near.now.rows by at (kinds.Switch tasks.now)) }
+    ensures { result ≡ near_refusal near.now by at (kinds.Switch tasks.now) }
 {
     let wrong = wrong_switching(near, tasks.as_slice());
     first_of(&[
@@ -30,8 +29,8 @@ pub(crate) fn refusal_of(near: &Near, by: Name, at: Moment, tasks: &Tasks) -> Op
 }
 
 pub(crate) fn effect(near: &Near, by: Name, at: Moment, tasks: &Tasks) -> Result<Effect, AllocError>
-    requires { first_refusal (checks near.now.known near.now.rows by at (kinds.Switch tasks.now)) ≡ None }
-    ensures edits { IfOk result (λ effect. edits_of near.now.known.greatest near.now.rows by at (kinds.Switch tasks.now) ≡ edits_in effect) }
+    requires { near_refusal near.now by at (kinds.Switch tasks.now) ≡ None }
+    ensures edits { IfOk result (λ effect. near_edits near.now by at (kinds.Switch tasks.now) ≡ edits_in effect) }
     ensures of { IfOk result (IsOf (record { requester = by; number = near.now.known.greatest + 1 })) }
 {
     let clearance = new_record(near, by, at, None, Phase::Switching);

@@ -1,8 +1,7 @@
 //! The holder tells that a section was tested, and is dead or is not: 29 CFR 1910.269(m)(3)(vi).
 ghost use Rattle.std.specs.Prelude.{◌≡◌, IfOk, None};
-ghost use Rattle.clr_rules.specs.Answer.{first_refusal};
-ghost use Rattle.clr_rules.specs.Commands.{checks, edits_of};
 ghost use Rattle.clr_rules.specs.declared.command.Kind.TheVariants as kinds;
+ghost use Rattle.clr_book.specs.Decision.{near_edits, near_refusal};
 ghost use Rattle.clr_book.specs.Effect.{IsOf, edits_in};
 ghost use Rattle.std.specs.Prelude.{if◌then◌else◌};
 ghost use Rattle.clr_rules.specs.Holds.{hold_of};
@@ -27,7 +26,7 @@ pub(crate) fn refusal_of(
     section: Name,
     dead: bool,
 ) -> Option<Refusal>
-    ensures { result ≡ first_refusal (checks near.now.known near.now.rows by at (kinds.Test id section dead)) }
+    ensures { result ≡ near_refusal near.now by at (kinds.Test id section dead) }
 {
     first_of(&[
         unknown_caller(near, by),
@@ -64,8 +63,8 @@ pub(crate) fn effect(
     section: Name,
     dead: bool,
 ) -> Result<Effect, AllocError>
-    requires { first_refusal (checks near.now.known near.now.rows by at (kinds.Test id section dead)) ≡ None }
-    ensures edits { IfOk result (λ effect. edits_of near.now.known.greatest near.now.rows by at (kinds.Test id section dead) ≡ edits_in effect) }
+    requires { near_refusal near.now by at (kinds.Test id section dead) ≡ None }
+    ensures edits { IfOk result (λ effect. near_edits near.now by at (kinds.Test id section dead) ≡ edits_in effect) }
     ensures of { IfOk result (IsOf id) }
 {
     let Some(found) = record(near, id) else {

@@ -1,8 +1,7 @@
 //! The clearance goes to another holder; in an emergency the holder's supervisor may say so: 29 CFR 1910.269(m)(3)(ix).
 ghost use Rattle.std.specs.Prelude.{◌≡◌, None};
-ghost use Rattle.clr_rules.specs.Answer.{first_refusal};
-ghost use Rattle.clr_rules.specs.Commands.{checks, edits_of};
 ghost use Rattle.clr_rules.specs.declared.command.Kind.TheVariants as kinds;
+ghost use Rattle.clr_book.specs.Decision.{near_edits, near_refusal};
 ghost use Rattle.clr_book.specs.Effect.{IsOf, edits_in};
 
 use crate::checks::callers::unknown_caller;
@@ -23,7 +22,7 @@ pub(crate) fn refusal_of(
     to: Name,
     emergency: bool,
 ) -> Option<Refusal>
-    ensures { result ≡ first_refusal (checks near.now.known near.now.rows by at (kinds.Transfer id to emergency)) }
+    ensures { result ≡ near_refusal near.now by at (kinds.Transfer id to emergency) }
 {
     first_of(&[
         unknown_caller(near, by),
@@ -43,8 +42,8 @@ pub(crate) fn effect(
     to: Name,
     emergency: bool,
 ) -> Effect
-    requires { first_refusal (checks near.now.known near.now.rows by at (kinds.Transfer id to emergency)) ≡ None }
-    ensures edits { edits_of near.now.known.greatest near.now.rows by at (kinds.Transfer id to emergency) ≡ edits_in result }
+    requires { near_refusal near.now by at (kinds.Transfer id to emergency) ≡ None }
+    ensures edits { near_edits near.now by at (kinds.Transfer id to emergency) ≡ edits_in result }
     ensures of { IsOf id result }
 {
     let Some(found) = record(near, id) else {
