@@ -171,52 +171,59 @@ new_typed d round n (t ∷ tasks) id fits few all =
     let low : nat_le n 65535 ≡ true = le-leb n 65535 (omega arith) in
     (rw (id, fits, low, parts.0) refl, new_typed d round (n + 1) tasks id fits (omega arith) parts.1)
 
+-- ---- the parts of records and steps
+
+record TypedRecord (r : Record) : Type 0 where
+  id : is_id r.id ≡ true
+  holder : is_name r.holder ≡ true
+  work : is_name_or_none r.work ≡ true
+
+record_parts : (r : Record) → is_typed_record r ≡ true → TypedRecord r
+record_parts r is =
+    let (id, rest) = and_parts (is_id r.id) (is_name r.holder && (is_name_or_none r.work && is_moment r.last)) is in
+    let (holder, others) = and_parts (is_name r.holder) (is_name_or_none r.work && is_moment r.last) rest in
+    record { id = id; holder = holder; work = (and_parts (is_name_or_none r.work) (is_moment r.last) others).0 }
+
+record TypedStep (row : StepRow) : Type 0 where
+  id : is_id row.id ≡ true
+  round : nat_le row.round 255 ≡ true
+  ordinal : nat_le row.ordinal 65535 ≡ true
+  point : is_name row.step.point ≡ true
+  reader : is_name_or_none row.step.reader ≡ true
+
+step_parts : (row : StepRow) → is_typed_step row ≡ true → TypedStep row
+step_parts row is =
+    let place = is_name row.step.point && is_name_or_none row.step.reader in
+    let (id, rest) = and_parts (is_id row.id) (nat_le row.round 255 && (nat_le row.ordinal 65535 && place)) is in
+    let (round, others) = and_parts (nat_le row.round 255) (nat_le row.ordinal 65535 && place) rest in
+    let (ordinal, last) = and_parts (nat_le row.ordinal 65535) place others in
+    let (point, reader) = and_parts (is_name row.step.point) (is_name_or_none row.step.reader) last in
+    record { id = id; round = round; ordinal = ordinal; point = point; reader = reader }
+
 -- ---- commands
 
 module _ (R : Register) (typed : IsTyped R) (by : List ℕ) (at : ℕ) (caller : is_name by ≡ true) (time : is_moment at ≡ true) where
   record_typed : (c : Id) (r : Record) → record_of R.records c ≡ Some r → is_typed_record r ≡ true
   record_typed c r found = list_all-contains is_typed_record R.records r typed.records (member-row_of id_cmp record_key id_cmp_total c r R.records found).0
 
-  step_typed : (c : Id) (n : ℕ) (row : StepRow) → step_at (present R.steps c) n ≡ Some row → is_typed_step row ≡ true
-  step_typed c n row found = list_all-contains is_typed_step R.steps row typed.steps (present_step R.steps c n row found).there
-
-  id_typed : (r : Record) → is_typed_record r ≡ true → is_id r.id ≡ true
-  id_typed r is = (and_parts (is_id r.id) (is_name r.holder && (is_name_or_none r.work && is_moment r.last)) is).0
+  step_typed : (c : Id) (n : ℕ) (row : StepRow) → step_at (present R.steps c) n ≡ Some row → TypedStep row
+  step_typed c n row found = step_parts row (list_all-contains is_typed_step R.steps row typed.steps (present_step R.steps c n row found).there)
 
   named_typed : (c : Id) (r : Record) → record_of R.records c ≡ Some r → is_id c ≡ true
-  named_typed c r found = ap is_id (sym (record_id R.records c r found)) ∙ id_typed r (record_typed c r found)
+  named_typed c r found = ap is_id (sym (record_id R.records c r found)) ∙ (record_parts r (record_typed c r found)).id
 
   -- a record at another moment, in another phase, with another holder
-  later : (holder : List ℕ) (phase : Phase) (r : Record) → is_name holder ≡ true → is_typed_record r ≡ true
+  later : (holder : List ℕ) (phase : Phase) (c : Id) (r : Record) → record_of R.records c ≡ Some r → is_name holder ≡ true
       → is_typed_record (record r { holder = holder; phase = phase; last = at }) ≡ true
-  later holder phase r named is =
-      let parts = and_parts (is_id r.id) (is_name r.holder && (is_name_or_none r.work && is_moment r.last)) is in
-      let more = and_parts (is_name r.holder) (is_name_or_none r.work && is_moment r.last) parts.1 in
-      let work = and_parts (is_name_or_none r.work) (is_moment r.last) more.1 in
-      rw (parts.0, named, work.0, time) refl
+  later holder phase c r found named = let parts = record_parts r (record_typed c r found) in rw (parts.id, named, parts.work, time) refl
 
   put_back : (c : Id) (r : Record) (phase : Phase) → record_of R.records c ≡ Some r → is_typed_record (record r { phase = phase; last = at }) ≡ true
-  put_back c r phase found =
-      let is = record_typed c r found in
-      let more = and_parts (is_id r.id) (is_name r.holder && (is_name_or_none r.work && is_moment r.last)) is in
-      later r.holder phase r (and_parts (is_name r.holder) (is_name_or_none r.work && is_moment r.last) more.1).0 is
+  put_back c r phase found = later r.holder phase c r found (record_parts r (record_typed c r found)).holder
 
   -- a step in another state, with another action and reader
-  step_later : (action : Action) (state : StepState) (reader : Option (List ℕ)) (row : StepRow) → is_name_or_none reader ≡ true → is_typed_step row ≡ true
+  step_later : (action : Action) (state : StepState) (reader : Option (List ℕ)) (row : StepRow) → is_name_or_none reader ≡ true → TypedStep row
       → is_typed_step (record row { step = record { action = action; point = row.step.point; state = state; reader = reader } }) ≡ true
-  step_later action state reader row read is =
-      let id = and_parts (is_id row.id) (nat_le row.round 255 && (nat_le row.ordinal 65535 && (is_name row.step.point && is_name_or_none row.step.reader))) is in
-      let round = and_parts (nat_le row.round 255) (nat_le row.ordinal 65535 && (is_name row.step.point && is_name_or_none row.step.reader)) id.1 in
-      let ordinal = and_parts (nat_le row.ordinal 65535) (is_name row.step.point && is_name_or_none row.step.reader) round.1 in
-      let point = and_parts (is_name row.step.point) (is_name_or_none row.step.reader) ordinal.1 in
-      rw (id.0, round.0, ordinal.0, point.0, read) refl
-
-  point_named : (row : StepRow) → is_typed_step row ≡ true → (is_name row.step.point ≡ true) × (is_name_or_none row.step.reader ≡ true)
-  point_named row is =
-      let id = and_parts (is_id row.id) (nat_le row.round 255 && (nat_le row.ordinal 65535 && (is_name row.step.point && is_name_or_none row.step.reader))) is in
-      let round = and_parts (nat_le row.round 255) (nat_le row.ordinal 65535 && (is_name row.step.point && is_name_or_none row.step.reader)) id.1 in
-      let ordinal = and_parts (nat_le row.ordinal 65535) (is_name row.step.point && is_name_or_none row.step.reader) round.1 in
-      and_parts (is_name row.step.point) (is_name_or_none row.step.reader) ordinal.1
+  step_later action state reader row read parts = rw (parts.id, parts.round, parts.ordinal, parts.point, read) refl
 
   -- the edits of a step that is done
   done_typed : (switching : Bool) (d : Id) (a : Action) (p : List ℕ) (s : Record) (row : StepRow) → is_id d ≡ true → is_name p ≡ true
@@ -247,7 +254,7 @@ module _ (R : Register) (typed : IsTyped R) (by : List ℕ) (at : ℕ) (caller :
     where
       number_of : (r : Record) → is_typed_record r ≡ true → r.id.number ≤ 9999
       number_of r is =
-          let number = (and_parts (is_name r.id.requester) (is_clearance_number r.id.number) (id_typed r is)).1 in
+          let number = (and_parts (is_name r.id.requester) (is_clearance_number r.id.number) (record_parts r is).id).1 in
           leb-true r.id.number 9999 (and_parts (nat_le 1 r.id.number) (nat_le r.id.number 9999) number).1
 
       numbered : (n : ℕ) → nat_eq n 9999 ≡ false → n ≤ 9999 → is_id (record { requester = by; number = n + 1 }) ≡ true
@@ -266,17 +273,17 @@ module _ (R : Register) (typed : IsTyped R) (by : List ℕ) (at : ℕ) (caller :
       (put_back c r Ordered found, new_typed c 1 1 tasks (named_typed c r found) refl (omega arith) steps))
   all_typed (kinds.Instruct c n) is passed = by_step AllTyped tt R c n _ (λ r row found step.
       let row_is = step_typed c n row step in
-      (named_typed c r found, (put_back c r r.phase found, (step_later row.step.action Instructed row.step.reader row (point_named row row_is).1 row_is, tt))))
+      (named_typed c r found, (put_back c r r.phase found, (step_later row.step.action Instructed row.step.reader row row_is.reader row_is, tt))))
   all_typed (kinds.Repeat c n text) is passed = by_step AllTyped tt R c n _ (λ r row found step.
       (put_back c r r.phase found, (step_later row.step.action Repeated (Some by) row caller (step_typed c n row step), tt)))
   all_typed (kinds.Report c n done) is passed = by_step AllTyped tt R c n _ (λ r row found step. by_done done r row found (step_typed c n row step))
     where
-      by_done : (done : Bool) (r : Record) (row : StepRow) → record_of R.records c ≡ Some r → is_typed_step row ≡ true → AllTyped (cond done (done_edits R at r row) (undone_edits at r row))
+      by_done : (done : Bool) (r : Record) (row : StepRow) → record_of R.records c ≡ Some r → TypedStep row → AllTyped (cond done (done_edits R at r row) (undone_edits at r row))
       by_done true r row found row_is =
           let now = moved Done row.step.reader row in
           done_typed (is_switch_order r) r.id row.step.action row.step.point (record r { phase = phase_after R.steps r now; last = at }) now
-          (id_typed r (record_typed c r found)) (point_named row row_is).0 (put_back c r (phase_after R.steps r now) found)
-          (step_later row.step.action Done row.step.reader row (point_named row row_is).1 row_is)
+          (record_parts r (record_typed c r found)).id row_is.point (put_back c r (phase_after R.steps r now) found)
+          (step_later row.step.action Done row.step.reader row row_is.reader row_is)
       by_done false r row found row_is = (refl, (put_back c r r.phase found, (step_later row.step.action Waiting None row refl row_is, tt)))
   all_typed (kinds.Grant c) is passed = by_record AllTyped tt R c _ (λ r found. (put_back c r Granted found, tt))
   all_typed (kinds.Test c section dead) is passed = by_record AllTyped tt R c _ (λ r found.
@@ -293,7 +300,7 @@ module _ (R : Register) (typed : IsTyped R) (by : List ℕ) (at : ℕ) (caller :
       let id = named_typed c r found in let named = (and_parts (is_id c) (is_name crew) is).1 in (rw (named, id) refl, (put_back c r r.phase found, tt)))
   all_typed (kinds.SignOff c crew) is passed = by_record AllTyped tt R c _ (λ r found. (tt, (put_back c r r.phase found, tt)))
   all_typed (kinds.Transfer c to emergency) is passed = by_record AllTyped tt R c _ (λ r found.
-      (later to r.phase r (and_parts (is_id c) (is_name to) is).1 (record_typed c r found), tt))
+      (later to r.phase c r found (and_parts (is_id c) (is_name to) is).1, tt))
   all_typed (kinds.Release c notified clear) is passed = by_record AllTyped tt R c _ (λ r found.
       takes_typed c (places_of R.holds c Tested) _ (put_back c r Released found, tt))
   all_typed (kinds.Cancel c) is passed = by_record AllTyped tt R c _ (λ r found. (put_back c r (cancelled_phase R r) found, tt))
@@ -302,7 +309,7 @@ module _ (R : Register) (typed : IsTyped R) (by : List ℕ) (at : ℕ) (caller :
       (put_back c r Restoring found, new_typed c 2 1 tasks (named_typed c r found) refl (omega arith) (and_parts (is_id c) (list_all is_typed_task tasks) is).1))
   all_typed (kinds.Amend c n) is passed = by_step AllTyped tt R c n _ (λ r row found step.
       let row_is = step_typed c n row step in
-      (put_back c r r.phase found, (step_later actions.Leave row.step.state row.step.reader row (point_named row row_is).1 row_is, tt)))
+      (put_back c r r.phase found, (step_later actions.Leave row.step.state row.step.reader row row_is.reader row_is, tt)))
   all_typed (kinds.Switch tasks) is passed =
       let id = next_id passed.1.1.0 in
       let few = (switching_passed R tasks passed.1.1.1.0).steps_fit in

@@ -1,3 +1,4 @@
+//! Laws of good registers: the two forms of good are one.
 ghost use Rattle.clr_rules.specs.GoodLaws.{GoodFormsAreOne};
 
 /// A register is good in each of its parts exactly where each clearance is as its phase wants it.

@@ -1,3 +1,4 @@
+//! Laws of keeping: commands and runs keep a good register good.
 ghost use Rattle.clr_rules.specs.KeepLaws.{CommandsKeepGood, ReachedRegistersAreGood};
 
 /// Every command keeps a good register good: it is so of each kind, accepted, shown or refused.

@@ -1,3 +1,4 @@
+//! Laws of live sections: what closed points join to a source.
 ghost use Rattle.clr_rules.specs.LiveLaws.{ClosedPointsCarryOn, LiveIsClosedWalks, LiveIsLeast, LiveIsWalks, SoundOrdersKeepFencesDead, SourcesAreLive};
 
 /// Each source of the network is live.

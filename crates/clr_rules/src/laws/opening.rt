@@ -1,3 +1,4 @@
+//! Laws of the opening register.
 ghost use Rattle.clr_rules.specs.OpeningLaws.{OpeningRegistersAreGood};
 
 /// The opening register of a network and a staff is good.

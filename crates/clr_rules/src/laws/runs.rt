@@ -1,3 +1,4 @@
+//! Laws of runs: what no command changes, one reply a command, and what every reached register has.
 ghost use Rattle.clr_rules.specs.BoundLaws.{ReachedRegistersAreBounded};
 ghost use Rattle.clr_rules.specs.RunLaws.{CommandsAreReplied, OpeningRegistersAreReached, ReachedGoOn, ReachedListsAreInOrder, RunsGoOn, RunsKeepOpening};
 

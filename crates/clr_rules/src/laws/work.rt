@@ -1,3 +1,4 @@
+//! Laws of work: what those who work on a line rest on.
 ghost use Rattle.clr_rules.specs.WorkLaws.{ClosingsFeedNoGround, CrewsWorkSafely, GrantedFencesStayDead, GrantedPointsBearAllHolds, GrantedWorkIsDead, GroundedSectionsAreDead, NoSourceFeedsGrounds};
 
 /// While a clearance is granted, no section of its fence is live, and its work section is one of these.
