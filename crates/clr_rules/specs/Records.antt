@@ -38,20 +38,13 @@ abbrev pub is_running : Phase → Bool
 is_running Ordered = true
 is_running Restoring = true
 is_running Switching = true
-is_running Requested = false
-is_running Granted = false
-is_running Released = false
-is_running Closed = false
+is_running _ = false
 
 -- phases in which the fence of a work section is looked for; a switch order is in the midst of its steps too, and has no work section
 abbrev pub is_fenced : Phase → Bool
 is_fenced Requested = false
 is_fenced Closed = false
-is_fenced Ordered = true
-is_fenced Granted = true
-is_fenced Released = true
-is_fenced Restoring = true
-is_fenced Switching = true
+is_fenced _ = true
 
 -- phases in which an isolating order stands
 abbrev pub is_standing : Phase → Bool
@@ -59,29 +52,20 @@ is_standing Ordered = true
 is_standing Granted = true
 is_standing Released = true
 is_standing Restoring = true
-is_standing Requested = false
-is_standing Switching = false
-is_standing Closed = false
+is_standing _ = false
 
 -- phases that end with the last step of their order
 abbrev pub ends_with_steps : Phase → Bool
 ends_with_steps Restoring = true
 ends_with_steps Switching = true
-ends_with_steps Requested = false
-ends_with_steps Ordered = false
-ends_with_steps Granted = false
-ends_with_steps Released = false
-ends_with_steps Closed = false
+ends_with_steps _ = false
 
 -- phases in which a holder may hand the clearance on: it is asked for, and not yet released
 abbrev pub is_transferable : Phase → Bool
 is_transferable Requested = true
 is_transferable Ordered = true
 is_transferable Granted = true
-is_transferable Released = false
-is_transferable Restoring = false
-is_transferable Switching = false
-is_transferable Closed = false
+is_transferable _ = false
 
 -- phases in which it may be cancelled: it was not granted
 abbrev pub is_cancellable : Phase → Bool

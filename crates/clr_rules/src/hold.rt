@@ -1,3 +1,4 @@
+//! Holds: what stands at a point or a section for a clearance, and which crews are signed on to it.
 use crate::clearance_id::ClearanceId;
 use crate::hold_kind::HoldKind;
 use clr_net::Name;

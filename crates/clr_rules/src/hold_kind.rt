@@ -1,3 +1,4 @@
+//! The kinds of holds, their texts and their two orders.
 ghost use Rattle.std.specs.Prelude.{◌≡◌, Some};
 ghost use Rattle.std.specs.Fmt.{padded};
 ghost use Rattle.clr_rules.specs.HoldKind.{hold_kind_named, hold_kind_text, is_crew, is_point_kind, is_section_kind, kind_cmp, kind_place, kind_text_cmp};

@@ -1,3 +1,4 @@
+//! Moments: seconds since 1970, to the end of 2099.
 ghost use Rattle.std.specs.Prelude.{◌≡◌, ◌≤◌};
 ghost use Rattle.clr_rules.specs.Moment.{new_moment};
 

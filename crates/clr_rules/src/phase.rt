@@ -1,3 +1,4 @@
+//! The phases of a clearance.
 ghost use Rattle.std.specs.Prelude.{◌≡◌, Some};
 ghost use Rattle.std.specs.Fmt.{padded};
 ghost use Rattle.clr_rules.specs.Phase.{phase_named, phase_text};

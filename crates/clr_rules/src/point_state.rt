@@ -1,3 +1,4 @@
+//! The state of a switching point: its position, and whose order is at work on it.
 ghost use Rattle.std.proofs.lemmas.Cmp.{nat_list_cmp_total};
 ghost use Rattle.clr_net.specs.Name.{name_cmp, same_name};
 ghost use Rattle.clr_rules.specs.Id.{same_name_ties_back};

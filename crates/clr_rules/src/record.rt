@@ -1,3 +1,4 @@
+//! The record of a clearance.
 ghost use Rattle.std.specs.Prelude.{◌≡◌};
 ghost use Rattle.std.proofs.lemmas.Cmp.{nat_list_cmp_total};
 ghost use Rattle.clr_net.specs.Name.{name_cmp, same_name};

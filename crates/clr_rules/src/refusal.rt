@@ -1,3 +1,4 @@
+//! Why a command is refused.
 ghost use Rattle.std.specs.Prelude.{◌≡◌};
 ghost use Rattle.clr_rules.specs.Refusal.{number_of};
 

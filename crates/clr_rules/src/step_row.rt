@@ -1,3 +1,4 @@
+//! The steps of clearances, by round and ordinal.
 ghost use Rattle.std.specs.Prelude.{◌≡◌};
 ghost use Rattle.clr_rules.specs.Steps.{is_active, is_done, is_of_round, is_repeated, is_waiting};
 

@@ -1,3 +1,4 @@
+//! The tasks of an order, as a command lists them.
 ghost use Rattle.std.specs.Prelude.{◌≡◌, map};
 ghost use Rattle.clr_order.specs.Step.{task};
 

@@ -1,3 +1,4 @@
+//! A text that a command brings.
 ghost use Rattle.std.specs.Prelude.{◌≡◌, string_bytes};
 
 use std::marker::Model;

@@ -17,7 +17,7 @@ use Rattle.clr_rules.specs.Commands.{Known, checks, edits_of}
 use Rattle.clr_rules.specs.Changes.{done_edits, edits_by, hold_edits, new_record, new_steps, position_edits, put_steps, undone_edits}
 use Rattle.clr_rules.specs.EditOrder.{are_in_order, edit_cmp}
 use Rattle.clr_rules.specs.Good.{ListsAreInOrder}
-use Rattle.clr_rules.specs.Prelude.{Edit, SetHand, PutHold, TakeHold, PutRecord, PutStep, Command, Kind, Hold, HoldKind, HeldOpen, Block, Control, Tag, Tested, Ground, Crew, Ordered, Restoring, Switching, Record, Refusal, StepRow, Id}
+use Rattle.clr_rules.specs.Prelude.{Edit, SetHand, PutHold, TakeHold, PutRecord, PutStep, Command, Kind, Hold, HoldKind, Tested, Ordered, Restoring, Switching, Record, Refusal, StepRow, Id}
 use Rattle.clr_rules.specs.Prelude.{id_cmp, id_cmp_total, same_id, Register, record_of, present, step_at, hold_cmp, hold_cmp_total, hold_key, hold_of, places_of, same_kind}
 use Rattle.clr_rules.specs.Records.{is_switch_order}
 use Rattle.clr_rules.specs.declared.command.Kind.TheVariants as kinds

@@ -4,7 +4,7 @@ use Rattle.std.proofs.lemmas.Bool.{and_from, and_parts, eqb-true, false≢true, 
 use Rattle.std.proofs.lemmas.List.Elements.{All-contains, All-head, All-weaker}
 use Rattle.clr_order.proofs.Finds.{found_passes}
 use Rattle.clr_order.specs.declared.step.StepState.{StepState}
-use Rattle.clr_order.specs.declared.step.StepState.TheVariants.{Waiting, Instructed, Repeated, Done}
+use Rattle.clr_order.specs.declared.step.StepState.TheVariants.{Waiting, Done}
 use Rattle.clr_rules.specs.Changes.{edits_by, with_step}
 use Rattle.clr_rules.specs.Checks.{no_step}
 use Rattle.clr_rules.specs.Prelude.{Edit, Record, StepRow, Id, Register, record_of, is_running, all_done, is_active, is_done, is_some_step, is_waiting, present, present_round, step_at, steps_in, steps_of, edited_all}
@@ -17,7 +17,7 @@ use Rattle.clr_rules.proofs.good.PhaseFacts.{step_facts}
 use Rattle.clr_rules.proofs.good.PutHolds.{found_there, kept_there}
 use Rattle.clr_rules.proofs.lists.RoundSteps.{no_step_there, of_round_is, of_the_round, present_of_is}
 use Rattle.clr_rules.proofs.edits.StepMoves.{InMidst}
-use Rattle.clr_rules.proofs.lists.StepSplits.{All-before, done_before, of_round-here, waiting_after}
+use Rattle.clr_rules.proofs.lists.StepSplits.{All-before, done_before, of_round-here, waiting_after, waiting_not_done}
 use Rattle.clr_rules.proofs.good.StepsInTurn.{Rises, round_rises}
 
 -- a step of the clearance's present round
@@ -87,10 +87,6 @@ pub active_moves : (state : StepState) → is_active state ≡ true → (is_wait
 active_moves Waiting h = absurd (false≢true h)
 active_moves Done h = absurd (false≢true h)
 active_moves _ h = (refl, refl)
-
-pub waiting_not_done : (state : StepState) → is_waiting state ≡ true → is_done state ≡ false
-waiting_not_done Waiting h = refl
-waiting_not_done _ h = absurd (false≢true h)
 
 -- before a step that has its turn all are Done
 done_in_turn : (before : List StepRow) (row : StepRow) (after : List StepRow) → Rises (before ++ row ∷ after) → is_in_turn (before ++ row ∷ after) row.ordinal ≡ true → all_done before ≡ true

@@ -11,7 +11,7 @@ use Rattle.clr_order.specs.Step.{Task, task, task_points}
 use Rattle.clr_shelf.proofs.Lists.{list_all-contains}
 use Rattle.clr_rules.specs.Good.{left, put_by, puts}
 use Rattle.clr_rules.specs.GoodByPhase.{ActiveInRound, InPhase, active_at, all_waiting, go_in_turn, of_round, present_of}
-use Rattle.clr_rules.specs.Prelude.{HoldKind, Phase, Requested, Ordered, Granted, Released, Restoring, Switching, Closed, Record, StepRow, is_running, all_done, is_active, is_done, is_some_step, is_waiting, points_of, tasks_of, once}
+use Rattle.clr_rules.specs.Prelude.{HoldKind, Phase, Ordered, Restoring, Switching, Record, StepRow, is_running, all_done, is_active, is_done, is_some_step, is_waiting, points_of, tasks_of, once}
 use Rattle.clr_rules.specs.Steps.{some_active}
 use Rattle.clr_rules.proofs.good.PhaseFacts.{first_present}
 use Rattle.clr_rules.proofs.good.PlaceFacts.{done_rests, in_round}

@@ -11,7 +11,7 @@ use Rattle.clr_net.proofs.Walks.{fence_is_closed}
 use Rattle.clr_shelf.proofs.Members.{member-row_of}
 use Rattle.clr_rules.specs.Fences.{clearance_fence, work_fence}
 use Rattle.clr_rules.specs.Good.{IsFullyHeld, IsGood, is_known_work, works_on}
-use Rattle.clr_rules.specs.Prelude.{HeldOpen, Ground, Crew, Phase, Requested, Ordered, Granted, Released, Restoring, Switching, Closed, Record, Id, id_cmp, id_cmp_total, Register, position_of, record_key, record_of, is_granted}
+use Rattle.clr_rules.specs.Prelude.{HeldOpen, Ground, Crew, Phase, Requested, Closed, Record, Id, id_cmp, id_cmp_total, Register, position_of, record_key, record_of, is_granted}
 use Rattle.clr_rules.specs.Prelude.{points_of, steps_in, has_hold}
 use Rattle.clr_rules.specs.Live.{is_live}
 use Rattle.clr_rules.specs.LiveLaws.{ClosedWalk}

@@ -12,7 +12,7 @@ use Rattle.clr_order.specs.Step.{actions_at}
 use Rattle.clr_rules.specs.Fences.{clearance_fence, work_fence}
 use Rattle.clr_rules.specs.Good.{GrantedPointsAreHeld, HandMatchesStep, HeldPointsAreOpen, HoldsAreWhatDoneStepsPut, IsFullyHeld, IsGood, IsSoundFor, NumbersHaveNoGaps, StepsGoInTurn, SwitchOrdersAreOperators, WorkHoldsBelong, has_record, is_active_at, puts, works_on}
 use Rattle.clr_rules.specs.GoodByPhase.{InPhase, InPlaceAs, IsBare, IsGoodByPhase, active_at, of_round, outlook_of, present_of}
-use Rattle.clr_rules.specs.Prelude.{Hold, HoldKind, HeldOpen, Block, Control, Tag, Tested, Ground, Phase, Requested, Ordered, Granted, Released, Restoring, Switching, Closed, Record, StepRow, Id, Register, has_in_hand, record_of}
+use Rattle.clr_rules.specs.Prelude.{Hold, HoldKind, HeldOpen, Block, Control, Tag, Tested, Ground, Phase, Granted, Record, StepRow, Id, Register, has_in_hand, record_of}
 use Rattle.clr_rules.specs.Prelude.{is_running, is_standing, is_granted, is_restoring, is_active, is_waiting, points_of, present_round, steps_in, steps_of, tasks_of, is_point_kind, has_hold, once}
 use Rattle.clr_rules.specs.Live.{is_live, is_shut}
 use Rattle.clr_rules.specs.Steps.{is_in_turn}

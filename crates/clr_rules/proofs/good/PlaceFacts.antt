@@ -5,7 +5,7 @@ use Rattle.std.proofs.lemmas.List.Elements.{All-contains}
 use Rattle.std.proofs.lemmas.List.Folds.{list_any_none}
 use Rattle.clr_net.specs.Grid.{Grid}
 use Rattle.clr_order.specs.declared.step.StepState.{StepState}
-use Rattle.clr_order.specs.declared.step.StepState.TheVariants.{Waiting, Instructed, Repeated, Done}
+use Rattle.clr_order.specs.declared.step.StepState.TheVariants.{Instructed, Repeated}
 use Rattle.clr_shelf.proofs.Lists.{list_all-contains}
 use Rattle.clr_rules.specs.GoodByPhase.{ActiveInRound, InPhase, Outlook, of_round}
 use Rattle.clr_rules.specs.Prelude.{Tested, Ground, Crew, Phase, Requested, Ordered, Granted, Released, Restoring, Switching, Closed, Record, StepRow, is_ordered, all_done, is_active, is_done}

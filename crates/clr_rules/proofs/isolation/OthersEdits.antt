@@ -6,15 +6,13 @@ use Rattle.std.proofs.lemmas.List.Folds.{list_all-append}
 use Rattle.clr_net.specs.declared.point.Position.TheVariants.{Closed as Shut}
 use Rattle.clr_order.specs.Step.{Task}
 use Rattle.clr_order.specs.declared.action.Action.{Action}
-use Rattle.clr_order.specs.declared.step.StepState.{StepState}
-use Rattle.clr_order.specs.declared.step.StepState.TheVariants.{Waiting, Instructed, Repeated, Done}
 use Rattle.clr_order.specs.declared.action.Action.TheVariants as actions
 use Rattle.clr_rules.specs.Answer.{Answer, answer, concerned, first_refusal, known_of, numbered_for, settled}
 use Rattle.clr_rules.specs.Commands.{Known, checks, edits_of}
 use Rattle.clr_rules.specs.Changes.{done_edits, edits_by, hold_edits, new_steps, position_edits, put_steps, undone_edits, with_record, with_step}
 use Rattle.clr_rules.specs.Checks.{other_hand, refuse, where_some}
 use Rattle.clr_rules.specs.Command.{named_clearance}
-use Rattle.clr_rules.specs.Prelude.{Edit, SetPosition, SetHand, TakeHold, PutRecord, PutStep, Command, Kind, HeldOpen, Tested, Record, Refusal, StepRow, Id, same_id, Register, hand_of, has_in_hand, greatest_number, record_of, is_active}
+use Rattle.clr_rules.specs.Prelude.{Edit, SetPosition, SetHand, TakeHold, PutRecord, PutStep, Command, Kind, HeldOpen, Tested, Record, Refusal, StepRow, Id, same_id, Register, hand_of, has_in_hand, greatest_number, record_of}
 use Rattle.clr_rules.specs.Prelude.{present, step_at, has_hold, hold_of, places_of, edited_all}
 use Rattle.clr_rules.specs.Footprint.{Frame, all_spare, both_or_neither, spares}
 use Rattle.clr_rules.specs.FrameLaws.{is_report, subject_of}
@@ -33,6 +31,7 @@ use Rattle.clr_rules.proofs.lists.NewNumbers.{new_is_another}
 use Rattle.clr_rules.proofs.edits.Passing.{all_pass, not_refused_true}
 use Rattle.clr_rules.proofs.lists.RoundSteps.{one_id, record_id}
 use Rattle.clr_rules.proofs.isolation.Sparing.{has_hold-same, sparing_edits_keep_outlook, sparing_edits_leave_alone}
+use Rattle.clr_rules.proofs.lists.StepSplits.{repeated_is_active}
 
 -- ---- hands of another
 
@@ -105,11 +104,6 @@ module _ (c : Id) (R : Register) where
       and_from _ _ (shut refl) (and_from _ _ hand (and_from _ _ own (and_from _ _ kept (and_from _ _ step refl))))
   done_spares actions.Leave switching p r r2 row hand shut own kept step = and_from _ _ hand (and_from _ _ own (and_from _ _ kept (and_from _ _ step refl)))
 
-active_from_repeated : (state : StepState) → is_repeated state ≡ true → is_active state ≡ true
-active_from_repeated Instructed h = refl
-active_from_repeated Repeated h = refl
-active_from_repeated _ h = cc
-
 -- ---- reports, where the hands match the steps
 
 module _ (c : Id) (R : Register) (d : Id) (row : StepRow) (n : ℕ) (matches : HandMatchesStep R) (others : not (same_id c d) ≡ true)
@@ -117,14 +111,14 @@ module _ (c : Id) (R : Register) (d : Id) (row : StepRow) (n : ℕ) (matches : H
   reported_hand : has_in_hand R.states c row.step.point ≡ false
   reported_hand =
       let step = present_step R.steps d n row found in
-      let active = step_is_active R.steps d row step.there step.own (active_from_repeated row.step.state repeated) in
+      let active = step_is_active R.steps d row step.there step.own (repeated_is_active row.step.state repeated) in
       hand_of_one c d (hand_of R.states row.step.point) (not-true (same_id c d) others) (matches.hand d row.step.point ∙ active)
 
   -- no other clearance holds a point that is being closed
   reported_close : is_close row.step.action ≡ true → spares c R (SetPosition row.step.point Shut) ≡ true
   reported_close closes =
       let step = present_step R.steps d n row found in
-      let closing = step_is_closing R.steps d row step.there step.own (active_from_repeated row.step.state repeated) closes in
+      let closing = step_is_closing R.steps d row step.there step.own (repeated_is_active row.step.state repeated) closes in
       not_from_false _ (false_from_ne_true _ (λ held.
       let (same, _) = matches.closing d row.step.point closing c HeldOpen refl held in
       true≢false (sym (same_id_equiv.refl c) ∙ ap (same_id c) same ∙ not-true (same_id c d) others)))

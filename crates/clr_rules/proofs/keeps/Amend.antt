@@ -9,7 +9,7 @@ use Rattle.clr_order.specs.Step.{Task, actions_at, task}
 use Rattle.clr_order.specs.declared.action.Action.{Action}
 use Rattle.clr_order.specs.declared.action.Action.TheVariants as actions
 use Rattle.clr_rules.specs.Checks.{refuse}
-use Rattle.clr_rules.specs.Prelude.{Edit, PutRecord, PutStep, HoldKind, HeldOpen, Block, Control, Tag, Phase, Requested, Ordered, Granted, Released, Restoring, Switching, Closed, Record, StepRow, Id, Register, record_of, is_restoring}
+use Rattle.clr_rules.specs.Prelude.{Edit, PutRecord, PutStep, HoldKind, HeldOpen, Block, Control, Tag, Phase, Restoring, Record, StepRow, Id, Register, record_of, is_restoring}
 use Rattle.clr_rules.specs.Prelude.{is_active, is_done, is_some_step, is_waiting, points_of, present, step_at, steps_of, tasks_of, once, edited_all}
 use Rattle.clr_rules.specs.Good.{left}
 use Rattle.clr_rules.specs.GoodByPhase.{InPhase, InRestoring, IsGoodByPhase, all_waiting, go_in_turn, of_round, outlook_of, present_of}
@@ -20,12 +20,12 @@ use Rattle.clr_rules.proofs.good.Keeping.{KeepsGood, commands_keep, keeps}
 use Rattle.clr_rules.proofs.keeps.OneRecord.{in_phase_of}
 use Rattle.clr_rules.proofs.keeps.Repeat.{turns_split}
 use Rattle.clr_rules.proofs.edits.Passing.{check_of_found, not_refused_true, phase_fits, record_there}
-use Rattle.clr_rules.proofs.edits.PresentSteps.{IsPresent, found_step_edits, step_there, waiting_not_done}
+use Rattle.clr_rules.proofs.edits.PresentSteps.{IsPresent, found_step_edits, step_there}
 use Rattle.clr_rules.proofs.edits.PutRecords.{moved, quiet}
 use Rattle.clr_rules.proofs.edits.PutSteps.{StepPut, closes_at, closing_by, known_put, others_put, phase_by, place_by, put_step, step_put}
 use Rattle.clr_rules.proofs.lists.RoundSteps.{record_id}
 use Rattle.clr_rules.proofs.edits.StepMoves.{some_step_between}
-use Rattle.clr_rules.proofs.lists.StepSplits.{All-swap, any-swap, of_round-far, of_round-here, waits_not_active}
+use Rattle.clr_rules.proofs.lists.StepSplits.{All-swap, any-swap, of_round-far, of_round-here, waits_not_active, waiting_not_done}
 
 -- ---- a Leave undoes what a Close does
 

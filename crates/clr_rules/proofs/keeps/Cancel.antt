@@ -5,7 +5,7 @@ use Rattle.clr_net.specs.Grid.{Grid}
 use Rattle.clr_net.proofs.Walks.{any_from}
 use Rattle.clr_rules.specs.Changes.{cancelled_phase}
 use Rattle.clr_rules.specs.GoodByPhase.{InPhase, Outlook, outlook_of}
-use Rattle.clr_rules.specs.Prelude.{PutRecord, Hold, HoldKind, Phase, Requested, Ordered, Granted, Released, Restoring, Switching, Closed, Record, Id, same_id, is_ordered, steps_of, has_any_hold, has_hold, hold_of}
+use Rattle.clr_rules.specs.Prelude.{PutRecord, Hold, HoldKind, Phase, Requested, Ordered, Released, Switching, Closed, Record, Id, same_id, is_ordered, steps_of, has_any_hold, has_hold, hold_of}
 use Rattle.clr_rules.specs.Records.{is_cancellable}
 use Rattle.clr_rules.specs.Steps.{some_active}
 use Rattle.clr_rules.specs.declared.command.Kind.TheVariants.{Cancel}

@@ -17,9 +17,10 @@ use Rattle.clr_rules.proofs.lists.HoldMembers.{hold_there}
 use Rattle.clr_rules.proofs.keeps.Repeat.{state_fits}
 use Rattle.clr_rules.proofs.lists.NamedRows.{Contains-filter}
 use Rattle.clr_rules.proofs.edits.Passing.{check_of_found, not_refused_true, phase_fits, record_there}
-use Rattle.clr_rules.proofs.edits.PresentSteps.{found_step_edits, step_there, waiting_midst, waiting_not_done}
+use Rattle.clr_rules.proofs.edits.PresentSteps.{found_step_edits, step_there, waiting_midst}
 use Rattle.clr_rules.proofs.lists.RoundSteps.{one_id, own_id}
 use Rattle.clr_rules.proofs.keeps.HandedStep.{IsFree, handed_keeps}
+use Rattle.clr_rules.proofs.lists.StepSplits.{waiting_not_done}
 
 -- where no check finds the point in another's hand, it is in nobody's or the clearance's own
 nobody_else : (c : Id) (found : Option Id) → other_hand c found ≡ None → (d : Id) → same_id d c ≡ false → is_hand d found ≡ false

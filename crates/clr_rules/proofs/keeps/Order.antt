@@ -8,7 +8,7 @@ use Rattle.clr_net.specs.Name.{same_name}
 use Rattle.clr_net.specs.Names.{has_name}
 use Rattle.clr_net.specs.declared.point.PointRow.{PointRow}
 use Rattle.clr_net.specs.declared.section.SectionRow.{SectionRow}
-use Rattle.clr_net.proofs.Walks.{any_from, one_name, same_itself, some_from}
+use Rattle.clr_net.proofs.Walks.{any_from, one_name, same_itself, some_from, same_tests}
 use Rattle.clr_order.specs.Isolating.{IsSoundOrder, IsSoundWithin, has_repeat, is_border_point, isolating_fault, needed_at, off_border, source_inside, touching_row, wrong_point}
 use Rattle.clr_order.specs.Step.{Task, actions_at, stray_point, task_points}
 use Rattle.clr_order.specs.declared.action.Action.{Action}
@@ -17,14 +17,13 @@ use Rattle.clr_order.proofs.SoundOrders.{sound_from_no_fault}
 use Rattle.clr_order.proofs.Steps.{once_from}
 use Rattle.clr_rules.specs.Changes.{new_steps, put_steps}
 use Rattle.clr_rules.specs.Checks.{unsound_order}
-use Rattle.clr_rules.specs.Prelude.{PutRecord, Phase, Requested, Ordered, Granted, Released, Restoring, Switching, Closed, Record, StepRow, Id, Register, record_of, is_active, points_of, steps_of, tasks_of, once, edited_all}
+use Rattle.clr_rules.specs.Prelude.{PutRecord, Phase, Requested, Ordered, Record, StepRow, Id, Register, record_of, is_active, points_of, steps_of, tasks_of, once, edited_all}
 use Rattle.clr_rules.specs.Fences.{found_order_fence, order_fence, rows_of_fence, work_fence}
 use Rattle.clr_rules.specs.Good.{put_by}
 use Rattle.clr_rules.specs.GoodByPhase.{InOrdered, InPhase, IsBare, IsGoodByPhase, Outlook, of_round, outlook_of}
 use Rattle.clr_rules.specs.Records.{is_requested}
 use Rattle.clr_rules.specs.declared.command.Kind.TheVariants.{Order}
 use Rattle.clr_rules.proofs.good.Keeping.{KeepsGood, Changed, commands_keep, keeps}
-use Rattle.clr_rules.proofs.lists.HoldChanges.{same_tests}
 use Rattle.clr_rules.proofs.live.FenceCuts.{has_name-once, in_fence_alike, in_fence_from_named, named_from_in_fence}
 use Rattle.clr_rules.proofs.keeps.OneRecord.{found_edits, in_phase_of}
 use Rattle.clr_rules.proofs.lists.NamedRows.{has_name-filter, has_name-row}

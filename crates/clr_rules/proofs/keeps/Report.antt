@@ -7,12 +7,11 @@ use Rattle.clr_net.proofs.Walks.{same_itself}
 use Rattle.clr_order.specs.Action.{is_switching}
 use Rattle.clr_order.specs.Needed.{undoes}
 use Rattle.clr_order.specs.declared.action.Action.{Action}
-use Rattle.clr_order.specs.declared.step.StepState.TheVariants.{Waiting, Instructed, Repeated, Done}
-use Rattle.clr_order.specs.declared.step.StepState.{StepState}
+use Rattle.clr_order.specs.declared.step.StepState.TheVariants.{Waiting, Done}
 use Rattle.clr_order.specs.declared.action.Action.TheVariants as actions
 use Rattle.clr_shelf.specs.Rows.{with_row, without_row}
 use Rattle.clr_rules.specs.Changes.{done_edits, hold_edits, moved as moved_step, phase_after, position_edits, undone_edits}
-use Rattle.clr_rules.specs.Prelude.{Edit, SetHand, PutRecord, PutStep, Hold, HoldKind, HeldOpen, Block, Control, Tag, Phase, Requested, Ordered, Granted, Released, Restoring, Switching, Closed, PointState, Record, StepRow, Id, Register}
+use Rattle.clr_rules.specs.Prelude.{Edit, SetHand, PutRecord, PutStep, Hold, HoldKind, HeldOpen, Block, Control, Tag, Phase, Ordered, Restoring, Switching, Closed, PointState, Record, StepRow, Id, Register}
 use Rattle.clr_rules.specs.Prelude.{hand_of, has_in_hand, position_of, record_of, is_running, all_done, is_active, is_done, is_some_step, present, steps_in, steps_of, hold_cmp, is_point_kind, has_hold, hold_key, hold_of, same_kind}
 use Rattle.clr_rules.specs.Prelude.{edited_all}
 use Rattle.clr_rules.specs.Good.{puts}
@@ -36,7 +35,7 @@ use Rattle.clr_rules.proofs.edits.PresentSteps.{IsPresent, active_midst, active_
 use Rattle.clr_rules.proofs.edits.PutSteps.{one_hand, phase_by, put_step}
 use Rattle.clr_rules.proofs.lists.RoundSteps.{among_own, of_round_is, record_id}
 use Rattle.clr_rules.proofs.edits.StepMoves.{second_again, turns_again}
-use Rattle.clr_rules.proofs.lists.StepSplits.{All-before}
+use Rattle.clr_rules.proofs.lists.StepSplits.{All-before, repeated_is_active}
 
 -- ---- a step that is done
 
@@ -284,10 +283,6 @@ undone_report R good c r found row p active runs at =
     (λ q. active_midst R good c r found row p q.before q.after q.was active) at None
     (λ d differs. (refl, one_hand (hand_of R.states row.step.point) c d (in_own_hand R good c r found row p active r (record_id R.records c r found) refl) differs))
     refl (λ given. absurd (false≢true given))
-
-repeated_is_active : (state : StepState) → is_repeated state ≡ true → is_active state ≡ true
-repeated_is_active Repeated h = refl
-repeated_is_active _ h = absurd (false≢true h)
 
 pub reports_keep : (c : Id) (n : ℕ) (done : Bool) → KeepsGood (Report c n done)
 reports_keep c n done = commands_keep (Report c n done) (λ R by at good passed.

@@ -18,7 +18,7 @@ use Rattle.clr_order.proofs.OtherOrders.{restoring_from_no_fault}
 use Rattle.clr_order.proofs.Undoing.{rule_undoes}
 use Rattle.clr_rules.specs.Changes.{new_steps, put_steps}
 use Rattle.clr_rules.specs.Checks.{wrong_restoring}
-use Rattle.clr_rules.specs.Prelude.{PutRecord, Hold, HoldKind, HeldOpen, Block, Control, Tag, Phase, Requested, Ordered, Granted, Released, Restoring, Switching, Closed, Record, StepRow, Id, Register, record_of, is_active, is_some_step}
+use Rattle.clr_rules.specs.Prelude.{PutRecord, Hold, HoldKind, HeldOpen, Block, Control, Tag, Phase, Released, Restoring, Record, StepRow, Id, Register, record_of, is_active, is_some_step}
 use Rattle.clr_rules.specs.Prelude.{points_of, steps_in, steps_of, tasks_of, is_point_kind, has_hold, held_at, once, edited_all}
 use Rattle.clr_rules.specs.Good.{left}
 use Rattle.clr_rules.specs.GoodByPhase.{InPhase, InReleased, InRestoring, IsGoodByPhase, Outlook, of_round, outlook_of}

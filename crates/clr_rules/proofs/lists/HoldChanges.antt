@@ -1,15 +1,15 @@
 -- A hold that is put or taken: what each clearance then has, kind by kind and place by place.
 use Rattle.std.proofs.Common.{◌≡◌, ℕ, Bool, true, false, not, ◌&&◌, ◌||◌, nat_eq, List, find, Some, refl, sym, ◌∙◌, ap, ◌⊎◌, inl, inr}
 use Rattle.std.specs.Ordering.{is_eq}
-use Rattle.std.proofs.lemmas.Bool.{and_from, and_parts, false≢true, or_cases}
+use Rattle.std.proofs.lemmas.Bool.{and_from, and_parts, or_cases}
 use Rattle.std.proofs.lemmas.Cmp.{tied_itself}
 use Rattle.std.proofs.lemmas.Option.{same_Some}
 use Rattle.clr_net.specs.Name.{same_name}
-use Rattle.clr_net.proofs.Walks.{one_name, same_itself}
+use Rattle.clr_net.proofs.Walks.{one_name, same_itself, same_tests}
 use Rattle.clr_shelf.proofs.Keys.{equal, same_number}
 use Rattle.clr_shelf.specs.Rows.{with_row, without_row}
 use Rattle.clr_rules.specs.EditLaws.{is_hold}
-use Rattle.clr_rules.specs.Prelude.{Hold, HoldKind, HeldOpen, Block, Control, Tag, Tested, Ground, Crew, Id, same_id, hold_cmp, hold_cmp_total, has_hold, hold_key, hold_of, same_kind}
+use Rattle.clr_rules.specs.Prelude.{Hold, HoldKind, HeldOpen, Id, same_id, hold_cmp, hold_cmp_total, has_hold, hold_key, hold_of, same_kind}
 use Rattle.clr_rules.specs.Hold.{same_hold}
 use Rattle.clr_rules.specs.HoldKind.{all_hold_kinds, kind_cmp, kind_cmp_total, kind_place}
 use Rattle.clr_rules.proofs.edits.EditReading.{has_hold-put, has_hold-taken}
@@ -26,11 +26,6 @@ one_kind a b same = same_Some a b
 
 pub kind_itself : (a : HoldKind) → same_kind a a ≡ true
 kind_itself a = ap is_eq (tied_itself kind_cmp_total a)
-
-pub same_tests : (a b : Bool) → (a ≡ true → b ≡ true) → (b ≡ true → a ≡ true) → a ≡ b
-same_tests true b there back = sym (there refl)
-same_tests false true there back = absurd (false≢true (back refl))
-same_tests false false there back = refl
 
 -- whether this is the hold of a kind at a place
 abbrev pub is_there : HoldKind → List ℕ → HoldKind → List ℕ → Bool

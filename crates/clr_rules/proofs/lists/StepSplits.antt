@@ -9,7 +9,7 @@ use Rattle.std.proofs.lemmas.Bool.{and_from, and_parts, both_ways, eq-eqb, false
 use Rattle.std.proofs.lemmas.Cmp.{tied_itself}
 use Rattle.std.proofs.lemmas.List.Elements.{All-append, All-cons, All-head, All-nil, All-tail, filter-append}
 use Rattle.clr_order.specs.declared.step.StepState.{StepState}
-use Rattle.clr_order.specs.declared.step.StepState.TheVariants.{Waiting, Instructed, Repeated, Done}
+use Rattle.clr_order.specs.declared.step.StepState.TheVariants.{Waiting, Repeated}
 use Rattle.clr_shelf.proofs.FirstRow.{with_row-after, with_row-over}
 use Rattle.clr_shelf.proofs.KeyOrder.{in_key_order-first, in_key_order-rest}
 use Rattle.clr_shelf.proofs.Keys.{less}
@@ -18,6 +18,7 @@ use Rattle.clr_shelf.specs.Rows.{in_key_order, with_row}
 use Rattle.clr_rules.specs.Good.{left}
 use Rattle.clr_rules.specs.GoodByPhase.{all_waiting, go_in_turn, of_round}
 use Rattle.clr_rules.specs.Prelude.{StepRow, all_done, is_active, is_done, is_waiting}
+use Rattle.clr_rules.specs.Steps.{is_repeated}
 
 -- ---- a row that is put over another splits the list where that stood
 
@@ -162,15 +163,20 @@ left_after_done (row ∷ before) rest done =
     let parts = and_parts (is_done row.step.state) (all_done before) done in
     rw parts.0 (left_after_done before rest parts.1)
 
-waits_not_done : (state : StepState) → is_waiting state ≡ true → is_done state ≡ false
-waits_not_done Waiting h = refl
-waits_not_done _ h = absurd (false≢true h)
+pub waiting_not_done : (state : StepState) → is_waiting state ≡ true → is_done state ≡ false
+waiting_not_done Waiting h = refl
+waiting_not_done _ h = absurd (false≢true h)
 
 pub left_waiting : (rows : List StepRow) → all_waiting rows ≡ true → left rows ≡ rows
 left_waiting [] waits = refl
 left_waiting (row ∷ rows) waits =
     let parts = and_parts (is_waiting row.step.state) (all_waiting rows) waits in
-    rw (waits_not_done row.step.state parts.0) (ap (λ (rows : List StepRow). row ∷ rows) (left_waiting rows parts.1))
+    rw (waiting_not_done row.step.state parts.0) (ap (λ (rows : List StepRow). row ∷ rows) (left_waiting rows parts.1))
+
+-- a step that was repeated is given out
+pub repeated_is_active : (state : StepState) → is_repeated state ≡ true → is_active state ≡ true
+repeated_is_active Repeated h = refl
+repeated_is_active _ h = absurd (false≢true h)
 
 -- what waits, and what is Done, is not given out
 pub waits_not_active : (state : StepState) → is_waiting state ≡ true → is_active state ≡ false

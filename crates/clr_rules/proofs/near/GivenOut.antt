@@ -37,9 +37,10 @@ use Rattle.clr_rules.proofs.near.OwnHoldsNear.{round_one_touches}
 use Rattle.clr_rules.proofs.near.OwnParts.{near_has_own}
 use Rattle.clr_rules.proofs.near.OwnQuestions.{same_present}
 use Rattle.clr_rules.proofs.edits.Passing.{all_pass, first_after, phase_fits, record_there}
-use Rattle.clr_rules.proofs.edits.PresentSteps.{FoundStep, step_there, waiting_not_done}
+use Rattle.clr_rules.proofs.edits.PresentSteps.{FoundStep, step_there}
 use Rattle.clr_rules.proofs.good.PutHolds.{found_there}
 use Rattle.clr_rules.proofs.lists.RoundSteps.{own_id}
+use Rattle.clr_rules.proofs.lists.StepSplits.{waiting_not_done}
 
 -- ---- phases
 

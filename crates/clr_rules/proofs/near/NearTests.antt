@@ -8,7 +8,7 @@ use Rattle.clr_net.specs.Grid.{Grid, section_names}
 use Rattle.clr_net.specs.Names.{has_name}
 use Rattle.clr_order.specs.Step.{Task, task}
 use Rattle.clr_rules.specs.Fences.{clearance_fence, found_fence, found_order_fence, order_fence, record_fence, work_fence}
-use Rattle.clr_rules.specs.Prelude.{HoldKind, HeldOpen, Block, Control, Tag, Tested, Ground, Crew, Record, StepRow, Id, same_id, Register, record_of, points_of, steps_in, steps_of, is_crew}
+use Rattle.clr_rules.specs.Prelude.{HoldKind, Crew, Record, StepRow, Id, same_id, Register, record_of, points_of, steps_in, steps_of, is_crew}
 use Rattle.clr_rules.specs.Near.{switched_by, switched_in}
 use Rattle.clr_rules.specs.NearLaws.{InFence, InOrderFence, IsStepPoint, IsSwitchPoint, IsWithin}
 use Rattle.clr_rules.specs.Records.{is_fenced}

@@ -14,7 +14,7 @@ use Rattle.clr_rules.specs.Commands.{checks}
 use Rattle.clr_rules.specs.Checks.{is_operator, refuse, where_some}
 use Rattle.clr_rules.specs.Fences.{order_fence, rows_of_fence}
 use Rattle.clr_rules.specs.Good.{IsGood}
-use Rattle.clr_rules.specs.Prelude.{Command, Kind, Hold, HoldKind, Phase, Requested, Ordered, Granted, Released, Restoring, Switching, Closed, Record, Refusal, Id, same_id, Register, record_of, is_standing, is_granted, is_point_kind}
+use Rattle.clr_rules.specs.Prelude.{Command, Kind, Hold, HoldKind, Phase, Requested, Granted, Record, Refusal, Id, same_id, Register, record_of, is_standing, is_granted, is_point_kind}
 use Rattle.clr_rules.specs.Prelude.{has_hold, holds_of}
 use Rattle.clr_rules.specs.Holds.{is_near_hold}
 use Rattle.clr_rules.specs.Near.{is_beside, near_part}

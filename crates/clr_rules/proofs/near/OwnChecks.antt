@@ -104,13 +104,10 @@ module _ (c : Id) (R S : Register) (same : SameOwn c R S) where
   hands_to : (to : List ℕ) → bad_transfer R c to ≡ bad_transfer S c to
   hands_to to = λ i. where_some (same.own_record i) (λ r. refuse (not (is_in_charge (employee (same.staff i) to)) || same_name to r.holder) refusals.BadTransfer)
 
-  held_alike : (p : List (List ℕ)) → held_among R.holds c p ≡ held_among S.holds c p
-  held_alike p = same_held_among c R S same p
-
   restoring : (tasks : List Task) → wrong_restoring R c tasks ≡ wrong_restoring S c tasks
   restoring tasks =
       ap (λ (rows : List StepRow). order_refusal (restoring_fault (held_among R.holds c (points_of rows)) tasks)) (same_round c R S same 1)
-      ∙ ap (λ held. order_refusal (restoring_fault held tasks)) (held_alike (points_of (steps_in S.steps c 1)))
+      ∙ ap (λ held. order_refusal (restoring_fault held tasks)) (same_held_among c R S same (points_of (steps_in S.steps c 1)))
 
 -- the same of the clearance that is named
 abbrev pub SameOfNamed : Register → Register → Option Id → Type 0

@@ -15,7 +15,7 @@ use Rattle.clr_rules.specs.Answer.{fence_for, known_of}
 use Rattle.clr_rules.specs.Command.{named_clearance}
 use Rattle.clr_rules.specs.Fences.{clearance_fence, touching_names}
 use Rattle.clr_rules.specs.Good.{IsGood, IsSoundFor}
-use Rattle.clr_rules.specs.Prelude.{Command, Hold, HoldKind, HeldOpen, Block, Control, Tag, Tested, Ground, Crew, Phase, Requested, Ordered, Granted, Released, Restoring, Switching, Closed, Record, StepRow, Id, same_id, Register}
+use Rattle.clr_rules.specs.Prelude.{Command, Hold, HoldKind, Tested, Ground, Crew, Phase, Requested, Switching, Closed, Record, StepRow, Id, same_id, Register}
 use Rattle.clr_rules.specs.Prelude.{record_of, is_standing, points_of, steps_in, tasks_of, is_crew, is_point_kind, is_section_kind, has_hold, holds_of, once}
 use Rattle.clr_rules.specs.Holds.{is_near_hold, is_own}
 use Rattle.clr_rules.specs.MarkLaws.{HasEndIn}
