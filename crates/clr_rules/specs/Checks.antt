@@ -1,6 +1,6 @@
 -- THE CHECKS of the commands: each is a question to whole lists, or to the greatest number and the fence that were read of them, and
--- names its refusal where it applies. A check that
--- reads a record or a step says nothing where there is none: an earlier check of the same command has refused that.
+-- names its refusal where it applies. A check that reads a record or a step says nothing where there is none: an earlier check of the
+-- same command has refused that.
 use Rattle.std.specs.Prelude.{ℕ, Bool, true, false, not, ◌&&◌, ◌||◌, ◌==◌, nat_lt, if◌then◌else◌, List, find, Option, None, Some}
 use Rattle.std.specs.Option.{is_some}
 use Rattle.std.specs.Str.{bytes_eq}

@@ -71,7 +71,8 @@ impl ClearanceId {
     pub fn read(text: &str) -> Result<ClearanceId, IdFault>
         ensures value { result ≡ ok_or (read_id text.now) IdFault.BadId }
         ensures text { IfOk result (λ id. IsTrue (is_id id) × (id_text id ≡ text.now)) }
-        ensures bad { result ≡ Err IdFault.BadId → (id : Id) → IsTrue (is_id id) → id_text id ≢ text.now }
+        ensures bad { result ≡ Err IdFault.BadId
+            → (id : Id) → IsTrue (is_id id) → id_text id ≢ text.now }
     {
         read_id(text).ok_or(IdFault::BadId)
     }
