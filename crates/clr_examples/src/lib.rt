@@ -14,8 +14,6 @@ mod field;
 #[cfg(test)]
 mod ids;
 #[cfg(test)]
-mod life;
-#[cfg(test)]
 mod networks;
 #[cfg(test)]
 mod orders;
