@@ -12,3 +12,8 @@ pub mod DecisionFacts
 pub mod Phases
 pub mod NewSteps
 pub mod OnceFacts
+pub mod FenceNames
+pub mod Grouped
+pub mod LookedUp
+pub mod NameLists
+pub mod NearGroups

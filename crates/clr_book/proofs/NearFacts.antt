@@ -90,7 +90,7 @@ pub own_of_requester : (c : Id) (records : List Record) → filter (λ r. same_i
 own_of_requester c records =
     filter-kept (λ (r : Record). same_id c r.id) (λ r. same_name c.requester r.id.requester) records (λ r there own. (and_parts (same_name c.requester r.id.requester) (c.number == r.id.number) own).0)
 
-has_name-append : (first rest : List (List ℕ)) (p : List ℕ) → has_name (first ++ rest) p ≡ (has_name first p || has_name rest p)
+pub has_name-append : (first rest : List (List ℕ)) (p : List ℕ) → has_name (first ++ rest) p ≡ (has_name first p || has_name rest p)
 has_name-append first rest p = list_any-append (same_name p) first rest
 
 -- the points near a command, by their names

@@ -1,5 +1,7 @@
 //! What a command looks at: rows of the book, and what is known of it beside them.
 mod fence;
+mod groups;
+pub(crate) mod names;
 mod points;
 mod rows;
 

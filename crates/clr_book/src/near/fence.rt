@@ -1,83 +1,106 @@
 //! What is known of the register beside its rows: the greatest number of a requester, and the sections of a fence.
-ghost use Rattle.std.specs.Prelude.{◌≡◌, ◌≤◌, ◌==◌, IfOk, map, filter};
-ghost use Rattle.std.specs.List.{fold};
-ghost use Rattle.clr_net.specs.Name.{same_name};
+ghost use Rattle.std.specs.Prelude.{◌≡◌, ◌≤◌, ◌==◌, [], IfOk, map, filter};
+ghost use Rattle.std.specs.List.Sorted.{IsStrictlySortedBy};
+ghost use Rattle.clr_net.specs.Grid.{Grid};
+ghost use Rattle.clr_net.specs.Name.{name_cmp};
+ghost use Rattle.clr_net.specs.Names.{has_name};
 ghost use Rattle.clr_rules.specs.Answer.{fence_for, numbered_for};
 ghost use Rattle.clr_rules.specs.Command.{named_clearance};
-ghost use Rattle.clr_rules.specs.Fences.{record_fence, work_fence};
-ghost use Rattle.clr_rules.specs.Records.{greatest_number, greater};
-ghost use Rattle.clr_rules.specs.Register.{unplaced_net};
+ghost use Rattle.clr_rules.specs.Fences.{record_fence, touching_names, work_fence};
+ghost use Rattle.clr_rules.specs.Records.{greatest_number};
 ghost use Rattle.clr_rules.specs.Steps.{points_of, steps_in};
 
 use crate::book::Book;
-use clr_net::{Name, Network, SectionRow};
+use clr_net::{Name, PointRow, SectionRow};
 use clr_rules::{ClearanceId, Command, Hold, Kind, PointState, Record, StepRow};
 use clr_shelf::Shelf;
 use std::alloc::{AllocError, Global};
 
+/// The names of a fence's sections, in their order, and of the points with an end inside.
+#[derive(Drop)]
+pub(crate) struct FenceNames {
+    pub(crate) sections: Vec<Name>,
+    pub(crate) touching: Vec<Name>,
+}
+
+impl FenceNames {
+    /// Where there is no fence.
+    fn none(alloc: Global) -> Self
+        ensures sections { result.sections.items ≡ [] }
+        ensures touching { (g : Grid) → result.touching.items ≡ touching_names g (has_name result.sections.items) }
+        ensures rising { IsStrictlySortedBy name_cmp result.sections.items }
+    {
+        FenceNames {
+            sections: Vec::new(alloc),
+            touching: Vec::new(alloc),
+        }
+    }
+}
+
 impl<P: Shelf<PointState>, C: Shelf<Record>, T: Shelf<StepRow>, H: Shelf<Hold>> Book<P, C, T, H> {
     /// The greatest number of the clearances of the requester whose clearance is named, or of the caller; 0 where there is none.
-    #[tactic(auto, unfolding(clr_rules::specs::Records::greatest_number))]
-    pub(crate) fn greatest_for(&self, command: &Command) -> Result<u16, AllocError>
-        ensures value { IfOk result (λ greatest. greatest ≡ greatest_number self.now.register.records (numbered_for command.now.caller (named_clearance command.now.kind))) }
-        ensures range { IfOk result (λ greatest. greatest ≤ 9999) }
+    /// It is that of the last.
+    pub(crate) fn greatest_for(&self, command: &Command) -> u16
+        ensures value { result ≡ greatest_number self.now.register.records (numbered_for command.now.caller (named_clearance command.now.kind)) }
+        ensures range { result ≤ 9999 }
     {
         let requester = numbered_for(command.caller, command.kind.clearance());
-        let records = self.records.group(&requester)?;
-        Ok(greatest_of(&records))
+        match self.records.last(&requester) {
+            Some(record) => record.id.number(),
+            None => 0,
+        }
     }
 
-    /// The sections of the clearance's fence, or of the fence that the order would make.
-    pub(crate) fn fence_for(&self, kind: &Kind) -> Result<Vec<Name>, AllocError>
-        ensures { IfOk result (λ fence. fence.items ≡ fence_for self.now.register kind.now) }
+    /// The clearance's fence, or the fence that the order would make.
+    pub(crate) fn fence_for(&self, kind: &Kind) -> Result<FenceNames, AllocError>
+        ensures sections { IfOk result (λ fence. fence.sections.items ≡ fence_for self.now.register kind.now) }
+        ensures touching { IfOk result (λ fence. fence.touching.items ≡ touching_names self.now.register.net (has_name fence.sections.items)) }
+        ensures rising { IfOk result (λ fence. IsStrictlySortedBy name_cmp fence.sections.items) }
     {
         let Some(id) = kind.clearance() else {
-            return Ok(Vec::new(self.alloc));
+            return Ok(FenceNames::none(self.alloc));
         };
         let Some(record) = self.records.get(&id) else {
-            return Ok(Vec::new(self.alloc));
+            return Ok(FenceNames::none(self.alloc));
         };
         let fence = match kind {
-            Kind::Order { points, .. } => work_fence(
-                self.alloc,
-                &self.network,
-                record.work,
-                points.as_slice(),
-            )?,
+            Kind::Order { points, .. } => self.work_fence(record.work, points.as_slice())?,
             _ => self.record_fence(record)?,
         };
         Ok(fence)
     }
 
-    /// The sections of a clearance's fence, which is cut at the points of its first round.
-    fn record_fence(&self, clearance: &Record) -> Result<Vec<Name>, AllocError>
-        ensures { IfOk result (λ fence. fence.items ≡ record_fence self.now.register.net self.now.register.steps clearance.now) }
+    /// A clearance's fence, which is cut at the points of its first round.
+    fn record_fence(&self, clearance: &Record) -> Result<FenceNames, AllocError>
+        ensures sections { IfOk result (λ fence. fence.sections.items ≡ record_fence self.now.register.net self.now.register.steps clearance.now) }
+        ensures touching { IfOk result (λ fence. fence.touching.items ≡ touching_names self.now.register.net (has_name fence.sections.items)) }
+        ensures rising { IfOk result (λ fence. IsStrictlySortedBy name_cmp fence.sections.items) }
     {
         if !clearance.phase.is_fenced() {
-            return Ok(Vec::new(self.alloc));
+            return Ok(FenceNames::none(self.alloc));
         }
         let steps = self.steps.group(&clearance.id)?;
         let points = first_points(self.alloc, &steps)?;
-        let fence = work_fence(self.alloc, &self.network, clearance.work, &points)?;
+        let fence = self.work_fence(clearance.work, &points)?;
         Ok(fence)
     }
-}
 
-/// The sections of the fence of a work section, cut at these points; none without a work section.
-fn work_fence(
-    alloc: Global,
-    network: &Network,
-    work: Option<Name>,
-    cut: &[Name],
-) -> Result<Vec<Name>, AllocError>
-    ensures { IfOk result (λ fence. fence.items ≡ work_fence (unplaced_net network.now) work cut.now) }
-{
-    let Some(work) = work else {
-        return Ok(Vec::new(alloc));
-    };
-    let fence = network.fence(&work, cut)?;
-    let names = names_of(alloc, fence.sections())?;
-    Ok(names)
+    /// The fence of a work section, cut at these points; none without a work section.
+    fn work_fence(&self, work: Option<Name>, cut: &[Name]) -> Result<FenceNames, AllocError>
+        ensures sections { IfOk result (λ fence. fence.sections.items ≡ work_fence self.now.register.net work cut.now) }
+        ensures touching { IfOk result (λ fence. fence.touching.items ≡ touching_names self.now.register.net (has_name fence.sections.items)) }
+        ensures rising { IfOk result (λ fence. IsStrictlySortedBy name_cmp fence.sections.items) }
+    {
+        let Some(work) = work else {
+            return Ok(FenceNames::none(self.alloc));
+        };
+        // The points are read for what is known of them: both ends of each are sections.
+        let _points = self.network.points();
+        let fence = self.network.fence(&work, cut)?;
+        let sections = names_of(self.alloc, fence.sections())?;
+        let touching = names_of_points(self.alloc, fence.touching())?;
+        Ok(FenceNames { sections, touching })
+    }
 }
 
 /// Whose numbers count: those of the requester of the clearance that is named; a new clearance is the caller's.
@@ -88,21 +111,6 @@ fn numbered_for(caller: Name, named: Option<ClearanceId>) -> Name
         Some(id) => id.requester(),
         None => caller,
     }
-}
-
-/// The greatest number of these records, 0 where there is none.
-fn greatest_of(records: &[&Record]) -> u16
-    ensures value { result ≡ fold greater 0 (map (λ row. row.id.number) (map (λ row. row.now) records.now)) }
-    ensures range { result ≤ 9999 }
-{
-    let mut greatest = 0;
-    for record in records {
-        let number = record.id.number();
-        if greatest <= number {
-            greatest = number;
-        }
-    }
-    greatest
 }
 
 /// The points of the first round of these steps, in their order.
@@ -123,4 +131,11 @@ fn names_of(alloc: Global, sections: &[&SectionRow]) -> Result<Vec<Name>, AllocE
     ensures { IfOk result (λ names. names.items ≡ map (λ row. row.now.name) sections.now) }
 {
     sections.iter().map(|row| row.name).collect(alloc)
+}
+
+/// The names of these points.
+fn names_of_points(alloc: Global, points: &[&PointRow]) -> Result<Vec<Name>, AllocError>
+    ensures { IfOk result (λ names. names.items ≡ map (λ row. row.now.name) points.now) }
+{
+    points.iter().map(|row| row.name).collect(alloc)
 }

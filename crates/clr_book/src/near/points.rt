@@ -1,27 +1,33 @@
 //! The points near a command.
-ghost use Rattle.std.specs.Prelude.{◌≡◌, ◌++◌, [], IfOk, filter, map};
-ghost use Rattle.clr_net.specs.Grid.{point_names};
+ghost use Rattle.std.specs.Prelude.{◌≡◌, ◌||◌, ℕ, List, IfOk, map};
+ghost use Rattle.std.specs.List.Sorted.{IsStrictlySortedBy};
+ghost use Rattle.clr_net.specs.Name.{name_cmp};
 ghost use Rattle.clr_net.specs.Names.{has_name};
-ghost use Rattle.clr_rules.specs.Fences.{touches, touching_names};
 ghost use Rattle.clr_rules.specs.Near.{switched, switched_in};
 
 use crate::book::Book;
-use crate::fences::touches;
-use clr_net::{Name, PointRow};
+use crate::near::names::in_order;
+use clr_net::Name;
 use clr_order::Step;
 use clr_rules::{ClearanceId, Hold, Kind, PointState, Record, StepRow};
 use clr_shelf::Shelf;
 use std::alloc::{AllocError, Global};
 
 impl<P: Shelf<PointState>, C: Shelf<Record>, T: Shelf<StepRow>, H: Shelf<Hold>> Book<P, C, T, H> {
-    /// The points that touch the fence, and those of the switch order that the command makes or names.
-    pub(crate) fn points_beside(&self, kind: &Kind, fence: &[Name]) -> Result<Vec<Name>, AllocError>
-        ensures { IfOk result (λ names. names.items ≡ touching_names self.now.register.net (has_name fence.now) ++ switched self.now.register kind.now) }
+    /// The points that touch the fence, and those of the switch order that the command makes or names: in order, each once.
+    pub(crate) fn points_beside(
+        &self,
+        kind: &Kind,
+        touching: Vec<Name>,
+    ) -> Result<Vec<Name>, AllocError>
+        ensures rising { IfOk result (λ names. IsStrictlySortedBy name_cmp names.items) }
+        ensures same { IfOk result (λ names. (p : List ℕ)
+            → has_name names.items p ≡ (has_name touching.items p || has_name (switched self.now.register kind.now) p)) }
     {
-        let mut names = touching_names(self.alloc, self.network.points(), fence)?;
+        let mut names = touching;
         let switched = self.switched(kind)?;
         names.extend_from_slice(&switched)?;
-        Ok(names)
+        Ok(in_order(names))
     }
 
     /// The points of the switch order that a command makes or names.
@@ -54,21 +60,6 @@ impl<P: Shelf<PointState>, C: Shelf<Record>, T: Shelf<StepRow>, H: Shelf<Hold>> 
         let points = points_of(self.alloc, &steps)?;
         Ok(points)
     }
-}
-
-/// The points with an end in a fence.
-fn touching_names(
-    alloc: Global,
-    points: &[PointRow],
-    fence: &[Name],
-) -> Result<Vec<Name>, AllocError>
-    ensures { IfOk result (λ names. names.items ≡ point_names (filter (touches (has_name fence.now)) points.now)) }
-{
-    points
-        .iter()
-        .filter(|point| touches(fence, point))
-        .map(|point| point.name)
-        .collect(alloc)
 }
 
 /// The points of the steps of an order.

@@ -1,16 +1,22 @@
 //! Lending a command what it looks at.
-ghost use Rattle.std.specs.Prelude.{◌≡◌, ◌||◌, IfOk, map, filter};
+ghost use Rattle.std.specs.Prelude.{◌≡◌, ◌||◌, ℕ, List, IfOk, map, filter};
+ghost use Rattle.std.specs.List.{list_any};
+ghost use Rattle.std.specs.List.Sorted.{IsStrictlySortedBy};
+ghost use Rattle.clr_net.specs.Name.{name_cmp};
 ghost use Rattle.clr_net.specs.Names.{has_name};
+ghost use Rattle.clr_rules.specs.Hold.{hold_group_cmp, is_in_hold_group};
 ghost use Rattle.clr_rules.specs.Holds.{is_near_hold, is_own};
-ghost use Rattle.clr_rules.specs.Id.{same_id};
 ghost use Rattle.clr_rules.specs.Near.{is_asked, near_of};
+ghost use Rattle.clr_rules.specs.declared.hold.Hold.{Hold};
+ghost use Rattle.clr_rules.specs.declared.hold.HoldGroup.TheVariants as group;
 
 use crate::book::Book;
-use crate::book::rows::all_rows;
-use crate::fences::is_near_hold;
 use crate::near::Near;
-use clr_net::{Name, PointRow, SectionRow, has_name};
-use clr_rules::{ClearanceId, Command, Hold, Kind, PointState, Record, StepRow};
+use crate::near::fence::FenceNames;
+use crate::near::groups::rows_in;
+use crate::near::names::{in_order, rows_named};
+use clr_net::{Name, SectionRow};
+use clr_rules::{ClearanceId, Command, Hold, HoldGroup, Kind, PointState, Record, StepRow};
 use clr_shelf::Shelf;
 use std::alloc::{AllocError, Global};
 
@@ -21,13 +27,16 @@ impl<P: Shelf<PointState>, C: Shelf<Record>, T: Shelf<StepRow>, H: Shelf<Hold>> 
     {
         let kind = &command.kind;
         let own = kind.clearance();
-        let fence = self.fence_for(kind)?;
-        let beside = self.points_beside(kind, &fence)?;
+        let FenceNames {
+            sections: fence,
+            touching,
+        } = self.fence_for(kind)?;
+        let beside = self.points_beside(kind, touching)?;
         let near = Near {
             alloc: self.alloc,
-            greatest: self.greatest_for(command)?,
+            greatest: self.greatest_for(command),
             sections: self.sections_near(kind, &fence)?,
-            points: points_among(self.alloc, self.network.points(), &beside)?,
+            points: rows_named(self.alloc, self.network.points(), &beside)?,
             staff: &self.staff,
             states: self.states_near(&beside)?,
             records: self.own_records(own)?,
@@ -42,16 +51,17 @@ impl<P: Shelf<PointState>, C: Shelf<Record>, T: Shelf<StepRow>, H: Shelf<Hold>> 
     fn sections_near(&self, kind: &Kind, fence: &[Name]) -> Result<Vec<&SectionRow>, AllocError>
         ensures { IfOk result (λ found. map (λ row. row.now) found.items ≡ filter (λ row. has_name fence.now row.name || is_asked kind.now row.name) self.now.register.net.sections) }
     {
-        let found = sections_among(self.alloc, self.network.sections(), fence, kind)?;
+        let listed = listed_sections(self.alloc, kind, fence)?;
+        let found = rows_named(self.alloc, self.network.sections(), &listed)?;
         Ok(found)
     }
 
     /// The positions of these points, and whose order is at work on them.
     fn states_near(&self, beside: &[Name]) -> Result<Vec<&PointState>, AllocError>
+        requires { IsStrictlySortedBy name_cmp beside.now }
         ensures { IfOk result (λ found. map (λ row. row.now) found.items ≡ filter (λ state. has_name beside.now state.point) self.now.register.states) }
     {
-        let rows = all_rows(self.alloc, &self.states)?;
-        let found = states_among(self.alloc, &rows, beside)?;
+        let found = rows_in(self.alloc, &self.states, beside)?;
         Ok(found)
     }
 
@@ -59,12 +69,14 @@ impl<P: Shelf<PointState>, C: Shelf<Record>, T: Shelf<StepRow>, H: Shelf<Hold>> 
     fn own_records(&self, own: Option<ClearanceId>) -> Result<Vec<&Record>, AllocError>
         ensures { IfOk result (λ found. map (λ row. row.now) found.items ≡ filter (λ r. is_own own r.id) self.now.register.records) }
     {
-        let id = match own {
-            Some(id) => id,
-            None => return Ok(Vec::new(self.alloc)),
+        let Some(id) = own else {
+            return Ok(Vec::new(self.alloc));
         };
-        let rows = self.records.group(&id.requester())?;
-        let found = records_among(self.alloc, &rows, id)?;
+        let Some(record) = self.records.get(&id) else {
+            return Ok(Vec::new(self.alloc));
+        };
+        let mut found = Vec::new(self.alloc);
+        found.push(record)?;
         Ok(found)
     }
 
@@ -85,100 +97,71 @@ impl<P: Shelf<PointState>, C: Shelf<Record>, T: Shelf<StepRow>, H: Shelf<Hold>> 
         beside: &[Name],
         own: Option<ClearanceId>,
     ) -> Result<Vec<&Hold>, AllocError>
+        requires sections { IsStrictlySortedBy name_cmp fence.now }
+        requires points { IsStrictlySortedBy name_cmp beside.now }
         ensures { IfOk result (λ found. map (λ row. row.now) found.items ≡ filter (is_near_hold (has_name fence.now) (has_name beside.now) own) self.now.register.holds) }
     {
-        let rows = all_rows(self.alloc, &self.holds)?;
-        let found = holds_among(self.alloc, &rows, fence, beside, &own)?;
+        let groups = groups_near(self.alloc, fence, beside, own)?;
+        let found = rows_in(self.alloc, &self.holds, &groups)?;
         Ok(found)
     }
 }
 
-/// Whether a command is a request for a section.
-fn is_asked(kind: &Kind, name: Name) -> bool
-    ensures { result ≡ is_asked kind.now name }
+/// The sections of a fence and the one that a request asks for, in order, each once.
+fn listed_sections(alloc: Global, kind: &Kind, fence: &[Name]) -> Result<Vec<Name>, AllocError>
+    ensures rising { IfOk result (λ names. IsStrictlySortedBy name_cmp names.items) }
+    ensures same { IfOk result (λ names. (s : List ℕ) → has_name names.items s ≡ (has_name fence.now s || is_asked kind.now s)) }
 {
+    let mut names = fence.to_vec(alloc)?;
     match kind {
-        Kind::Request { section } => *section == name,
-        _ => false,
+        Kind::Request { section } => {
+            names.push(*section)?;
+            Ok(in_order(names))
+        }
+        _ => Ok(in_order(names)),
     }
 }
 
-/// Those of these sections that are in a fence, or asked for.
-fn sections_among<'a>(
-    alloc: Global,
-    rows: &'a [SectionRow],
-    fence: &[Name],
-    kind: &Kind,
-) -> Result<Vec<&'a SectionRow>, AllocError>
-    ensures { IfOk result (λ found. map (λ row. row.now) found.items ≡ filter (λ row. has_name fence.now row.name || is_asked kind.now row.name) rows.now) }
+/// The groups of the holds at these points.
+fn groups_at_points(alloc: Global, points: &[Name]) -> Result<Vec<HoldGroup>, AllocError>
+    ensures { IfOk result (λ groups. groups.items ≡ map (λ point. group.AtPoint point) points.now) }
 {
-    rows.iter()
-        .filter(|row| has_name(fence, row.name) || is_asked(kind, row.name))
+    points
+        .iter()
+        .map(|point| HoldGroup::AtPoint(*point))
         .collect(alloc)
 }
 
-/// Those of these points that have one of the names.
-fn points_among<'a>(
-    alloc: Global,
-    rows: &'a [PointRow],
-    beside: &[Name],
-) -> Result<Vec<&'a PointRow>, AllocError>
-    ensures { IfOk result (λ found. map (λ row. row.now) found.items ≡ filter (λ row. has_name beside.now row.name) rows.now) }
+/// The groups of the holds at these sections.
+fn groups_at_sections(alloc: Global, sections: &[Name]) -> Result<Vec<HoldGroup>, AllocError>
+    ensures { IfOk result (λ groups. groups.items ≡ map (λ section. group.AtSection section) sections.now) }
 {
-    rows.iter()
-        .filter(|row| has_name(beside, row.name))
+    sections
+        .iter()
+        .map(|section| HoldGroup::AtSection(*section))
         .collect(alloc)
 }
 
-/// Those of these records that are of a clearance.
-fn records_among<'a>(
+/// The groups of the holds at these sections and points, and of the crews of the clearance that is named; in their order.
+fn groups_near(
     alloc: Global,
-    rows: &[&'a Record],
-    id: ClearanceId,
-) -> Result<Vec<&'a Record>, AllocError>
-    ensures { IfOk result (λ found. map (λ row. row.now) found.items ≡ filter (λ r. same_id id r.id) (map (λ row. row.now) rows.now)) }
-{
-    let mut found = Vec::new(alloc);
-    for row in rows {
-        if id == row.id {
-            found.push(*row)?;
-        }
-    }
-    Ok(found)
-}
-
-/// Those of these states that are of points of the names.
-fn states_among<'a>(
-    alloc: Global,
-    rows: &[&'a PointState],
-    beside: &[Name],
-) -> Result<Vec<&'a PointState>, AllocError>
-    ensures { IfOk result (λ found. map (λ row. row.now) found.items ≡ filter (λ state. has_name beside.now state.point) (map (λ row. row.now) rows.now)) }
-{
-    let mut found = Vec::new(alloc);
-    for row in rows {
-        if has_name(beside, row.point) {
-            found.push(*row)?;
-        }
-    }
-    Ok(found)
-}
-
-/// Those of these holds that are near.
-fn holds_among<'a>(
-    alloc: Global,
-    rows: &[&'a Hold],
     fence: &[Name],
     beside: &[Name],
-    own: &Option<ClearanceId>,
-) -> Result<Vec<&'a Hold>, AllocError>
-    ensures { IfOk result (λ found. map (λ row. row.now) found.items ≡ filter (is_near_hold (has_name fence.now) (has_name beside.now) own.now) (map (λ row. row.now) rows.now)) }
+    own: Option<ClearanceId>,
+) -> Result<Vec<HoldGroup>, AllocError>
+    requires sections { IsStrictlySortedBy name_cmp fence.now }
+    requires points { IsStrictlySortedBy name_cmp beside.now }
+    ensures rising { IfOk result (λ groups. IsStrictlySortedBy hold_group_cmp groups.items) }
+    ensures same { IfOk result (λ groups. (hold : Hold) → list_any (λ group. is_in_hold_group group hold) groups.items ≡ is_near_hold (has_name fence.now) (has_name beside.now) own hold) }
 {
-    let mut found = Vec::new(alloc);
-    for row in rows {
-        if is_near_hold(fence, beside, own, row) {
-            found.push(*row)?;
+    let mut groups = groups_at_points(alloc, beside)?;
+    let sections = groups_at_sections(alloc, fence)?;
+    groups.extend_from_slice(&sections)?;
+    match own {
+        Some(id) => {
+            groups.push(HoldGroup::CrewsOf(id))?;
+            Ok(groups)
         }
+        None => Ok(groups),
     }
-    Ok(found)
 }

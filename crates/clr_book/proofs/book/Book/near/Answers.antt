@@ -4,12 +4,13 @@ use Rattle.clr_net.specs.Names.{has_name}
 use Rattle.clr_net.specs.declared.point.PointRow.{PointRow}
 use Rattle.clr_net.specs.declared.section.SectionRow.{SectionRow}
 use Rattle.clr_rules.specs.Answer.{known_of}
+use Rattle.clr_rules.specs.Fences.{touching_names}
 use Rattle.clr_rules.specs.Holds.{is_near_hold, is_own}
 use Rattle.clr_rules.specs.Id.{Id}
-use Rattle.clr_rules.specs.Near.{is_asked, is_beside, near_part}
+use Rattle.clr_rules.specs.Near.{is_asked, is_beside, near_part, switched}
 use Rattle.clr_rules.specs.Register.{unplaced}
 use Rattle.clr_book.specs.Book.{Shelved}
-use Rattle.clr_book.proofs.NearFacts.{beside_lent, lent_whole, unplaced_shown}
+use Rattle.clr_book.proofs.NearFacts.{lent_whole, unplaced_shown}
 use Rattle.clr_book.proofs.OrderPositions.{unplaced_kept}
 use Rattle.clr_book.proofs.SortedRows.{rising-filter}
 use Rattle.clr_book.proofs.book.Book.near.Goals as goal
@@ -20,33 +21,35 @@ returns g c =
     let q = c.args.command.now in
     let k = known_of R q in
     let own = c.clearance-own.ensures in
-    let fence = c.in_ok-fence.ensures in
-    let beside : has_name c.in_ok-beside.beside.items ≡ is_beside R k q.kind = beside_lent R q c.in_ok-beside.beside.items c.deref.result.now c.in_ok-beside.ensures (c.deref.ensures.value ∙ fence) in
-    let at_points : has_name c.deref-3.result.now ≡ is_beside R k q.kind = ap has_name c.deref-3.ensures.value ∙ beside in
-    let at_states : has_name c.deref-4.result.now ≡ is_beside R k q.kind = ap has_name c.deref-4.ensures.value ∙ beside in
-    let at_holds : has_name c.deref-6.result.now ≡ is_beside R k q.kind = ap has_name c.deref-6.ensures.value ∙ beside in
+    let touching : c.in_ok-fence.field-0.touching.items ≡ touching_names R.net (has_name k.fence) =
+    c.in_ok-fence.ensures.touching ∙ ap (λ (names : List (List ℕ)). touching_names R.net (has_name names)) c.in_ok-fence.ensures.sections in
+    let near_point = λ (p : List ℕ). c.in_ok-beside.ensures.same p ∙ ap (λ (names : List (List ℕ)). has_name names p || has_name (switched R q.kind) p) touching in
+    let beside : has_name c.in_ok-beside.beside.items ≡ is_beside R k q.kind = λ i p. near_point p i in
+    let at_points : has_name c.deref-2.result.now ≡ is_beside R k q.kind = ap has_name c.deref-2.ensures.value ∙ beside in
+    let at_states : has_name c.deref-3.result.now ≡ is_beside R k q.kind = ap has_name c.deref-3.ensures.value ∙ beside in
+    let at_holds : has_name c.deref-5.result.now ≡ is_beside R k q.kind = ap has_name c.deref-5.ensures.value ∙ beside in
     lent_whole _ k (near_part R q)
-    c.in_ok-greatest_for.ensures.value
-    fence
-    (c.in_ok-sections_near.ensures ∙ ap (λ (names : List (List ℕ)). filter (λ row. has_name names row.name || is_asked q.kind row.name) R.net.sections) (c.deref-2.ensures.value ∙ fence))
-    (unplaced_shown (λ (row : Bor PointRow). row.now) c.in_ok-points_among.field-0.items
-    ∙ ap (map unplaced) (c.in_ok-points_among.ensures ∙ (λ i. filter (λ row. at_points i row.name) (c.points.ensures.rows i)))
+    c.greatest_for.ensures.value
+    c.in_ok-fence.ensures.sections
+    (c.in_ok-sections_near.ensures ∙ ap (λ (names : List (List ℕ)). filter (λ row. has_name names row.name || is_asked q.kind row.name) R.net.sections) (c.deref.ensures.value ∙ c.in_ok-fence.ensures.sections))
+    (unplaced_shown (λ (row : Bor PointRow). row.now) c.in_ok-rows_named.field-0.items
+    ∙ ap (map unplaced) (c.in_ok-rows_named.ensures ∙ (λ i. filter (λ row. at_points i row.name) (c.points.ensures.rows i)))
     ∙ sym (unplaced_kept (λ (row : PointRow). is_beside R k q.kind row.name) (λ p. refl) c.self.inside.network.points) ∙ ap (λ (v : Shelved). filter (λ row. is_beside R k q.kind row.name) v.register.net.points) c.self.view_is)
     (ap (λ (v : Shelved). v.register.staff) c.self.view_is)
     (c.in_ok-states_near.ensures ∙ ap (λ (near : List ℕ → Bool). filter (λ state. near state.point) R.states) at_states)
     (c.in_ok-own_records.ensures ∙ ap (λ (o : Option Id). filter (λ r. is_own o r.id) R.records) own)
     (c.in_ok-own_steps.ensures ∙ ap (λ (o : Option Id). filter (λ row. is_own o row.id) R.steps) own)
-    (c.in_ok-holds_near.ensures ∙ (λ i. filter (is_near_hold (has_name ((c.deref-5.ensures.value ∙ fence) i)) (at_holds i) (own i)) R.holds))
+    (c.in_ok-holds_near.ensures ∙ (λ i. filter (is_near_hold (has_name ((c.deref-4.ensures.value ∙ c.in_ok-fence.ensures.sections) i)) (at_holds i) (own i)) R.holds))
 
 pub invariant_of-near : goal.invariant_of-near
 invariant_of-near g c =
     let R = c.args.self.now.register in
-    let fence = c.deref-2.result.now in
-    let beside = c.deref-3.result.now in
+    let fence = c.deref.result.now in
+    let beside = c.deref-2.result.now in
     let sections : R.net.sections ≡ c.self.inside.network.sections = ap (λ (v : Shelved). v.register.net.sections) (sym c.self.view_is) in (
-      c.in_ok-greatest_for.ensures.range,
+      c.greatest_for.ensures.range,
       rw (c.in_ok-sections_near.ensures, sections)
           (rising-filter name_cmp (λ (row : SectionRow). row.name) (λ row. has_name fence row.name || is_asked c.args.command.now.kind row.name) c.self.inside.network.sections c.points.ensures.network.sections_rise),
-      rw (c.in_ok-points_among.ensures, c.points.ensures.rows)
+      rw (c.in_ok-rows_named.ensures, c.points.ensures.rows)
           (rising-filter name_cmp (λ (row : PointRow). row.name) (λ row. has_name beside row.name) c.self.inside.network.points c.points.ensures.network.points_rise),
     )

@@ -1,22 +1,27 @@
-use Rattle.std.proofs.Common.{◌∙◌, None, ap, filter, map, refl, sym, Bor, List, ℕ}
-use Rattle.clr_net.specs.Name.{same_name}
+use Rattle.std.proofs.Common.{◌∙◌, ◌++◌, ◌∷◌, [], None, Some, ap, filter, map, refl, sym, Bor, List}
+use Rattle.std.specs.Option.{option_copied}
 use Rattle.clr_rules.specs.Holds.{is_own}
-use Rattle.clr_rules.specs.Id.{same_id}
 use Rattle.clr_rules.specs.declared.record.Record.{Record}
 use Rattle.clr_rules.proofs.lists.Filters.{filter-nothing}
 use Rattle.clr_book.specs.Book.{Shelved}
-use Rattle.clr_book.proofs.NearFacts.{own_of_requester}
+use Rattle.clr_book.proofs.LookedUp.{own_lent}
 use Rattle.clr_book.proofs.book.Book.own_records.Goals as goal
+
+pub returns-in_default : goal.returns-in_default
+returns-in_default g c =
+    rw c.in_default.is
+    (ap (map (λ (row : Bor Record). row.now)) c.new.ensures.items ∙ sym (filter-nothing (λ (r : Record). is_own None r.id) c.args.self.now.register.records (λ r. refl)))
+
+pub returns-in_default-get : goal.returns-in_default-get
+returns-in_default-get g c =
+    rw c.in-Some.is
+    (ap (map (λ (row : Bor Record). row.now)) c.new-in_default-get.ensures.items
+    ∙ own_lent c.in-Some.id (g.C.Shelf.rows c.self.inside.records) None (g.met.C.Shelf.in_order c.self.inside.records) (sym (ap option_copied c.in_default-get.is) ∙ c.get.ensures)
+    ∙ ap (λ (v : Shelved). filter (λ r. is_own (Some c.in-Some.id) r.id) v.register.records) c.self.view_is)
 
 pub returns : goal.returns
 returns g c =
-    let id = c.in-Some.id in
-    let rows = ap (map (λ (row : Bor Record). row.now)) c.deref.ensures.value ∙ c.in_ok-rows.ensures ∙ ap (λ (requester : List ℕ). filter (λ r. same_name requester r.id.requester) (g.C.Shelf.rows c.self.inside.records)) c.requester.ensures in
     rw c.in-Some.is
-    (c.in_ok-found.ensures ∙ ap (filter (λ (r : Record). same_id id r.id)) rows ∙ own_of_requester id (g.C.Shelf.rows c.self.inside.records)
-    ∙ ap (λ (v : Shelved). filter (λ r. same_id id r.id) v.register.records) c.self.view_is)
-
-pub returns-in-None : goal.returns-in-None
-returns-in-None g c =
-    rw c.in-None.is
-    (ap (map (λ (row : Bor Record). row.now)) c.new.ensures.items ∙ sym (filter-nothing (λ (r : Record). is_own None r.id) c.args.self.now.register.records (λ r. refl)))
+    (ap (map (λ (row : Bor Record). row.now)) (c.in_ok-push.ensures.items ∙ ap (λ (rows : List (Bor Record)). rows ++ c.in-Some-get.record ∷ []) c.new-found.ensures.items)
+    ∙ own_lent c.in-Some.id (g.C.Shelf.rows c.self.inside.records) (Some c.in-Some-get.record.now) (g.met.C.Shelf.in_order c.self.inside.records) (sym (ap option_copied c.in-Some-get.is) ∙ c.get.ensures)
+    ∙ ap (λ (v : Shelved). filter (λ r. is_own (Some c.in-Some.id) r.id) v.register.records) c.self.view_is)
