@@ -134,8 +134,8 @@ fn is_numeral(text: &[u8]) -> bool
     }
 }
 
-/// The number of one to four digits, the first not 0.
-fn read_number(text: &str) -> Option<u16>
+/// The number of a text of one to four digits, the first not 0: how a clearance's number is written.
+pub fn read_number(text: &str) -> Option<u16>
     ensures { result ≡ read_number text.now }
 {
     if !is_numeral(text.as_bytes()) {

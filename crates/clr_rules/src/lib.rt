@@ -21,7 +21,7 @@ mod tasks;
 mod text;
 
 pub use change::{Change, Edit, Edits};
-pub use clearance_id::{ClearanceId, IdFault, MAX_CLEARANCE_NUMBER};
+pub use clearance_id::{ClearanceId, IdFault, MAX_CLEARANCE_NUMBER, read_number};
 pub use command::{Command, Kind};
 pub use hold::{Hold, HoldGroup};
 pub use hold_kind::HoldKind;
