@@ -1,0 +1,4 @@
+pub mod Heads
+pub mod Parts
+pub mod Digits
+pub mod Lengths

@@ -1,0 +1,5 @@
+use Rattle.std.proofs.Common.{rules, ◌≡◌, IfOk, append_assoc}
+use Rattle.clr_http.proofs.response.fields_text.Goals as goal
+
+pub returns : goal.returns
+returns c = search (append_assoc, rules)

@@ -1,0 +1,13 @@
+use Rattle.std.proofs.Common.{rules, refl}
+use Rattle.matchit.proofs.OnLiterals.{matchit_on_literals}
+use Rattle.clr_http.specs.Target.{the_routes}
+use Rattle.clr_http.proofs.target.routes.Goals as goal
+
+pub returns : goal.returns
+unfolding matchit_on_literals the_routes
+returns c =
+    let a = c.in_ok-insert.ensures in
+    let b = c.in_ok-insert-2.ensures in
+    let d = c.in_ok-insert-3.ensures in
+    let e = c.in_ok-insert-4.ensures in
+    rw (e.1, d.1, b.1, a.1, c.new-router.ensures) refl

@@ -1,0 +1,169 @@
+//! The target of a request: its route, and what its parts name.
+ghost use Rattle.std.specs.Prelude.{◌≡◌, IfOk, Result, Ok, Some, None, MatchOption, codes};
+ghost use Rattle.std.specs.Char.{is_ascii};
+ghost use Rattle.std.specs.Str.{IsAscii};
+ghost use Rattle.std.specs.List.{list_all};
+ghost use Rattle.matchit.specs.Seek.{first};
+ghost use Rattle.clr_rules.specs.IdText.{id_of, read_number};
+ghost use Rattle.clr_net.specs.NameText.{read_name};
+ghost use Rattle.clr_http.specs.Target.{asked_of, asked_by, order_asked, part, read_round, route_in, the_routes, view_asked};
+
+use clr_net::Name;
+use clr_rules::{ClearanceId, read_number};
+use matchit::{InsertError, Params, Router};
+use std::alloc::{AllocError, Global};
+
+/// The routes of the service.
+#[derive(Clone, Copy, Debug, PartialEq, Eq)]
+pub enum Route {
+    /// `POST /command`
+    Command,
+    /// `GET /clearance/{caller}/{requester}/{number}`
+    Clearance,
+    /// `GET /order/{requester}/{number}/{round}`
+    Order,
+    /// `GET /board`
+    Board,
+}
+
+/// Whose view of which clearance is asked for.
+#[derive(Clone, Copy, Debug, PartialEq, Eq)]
+pub struct Viewing {
+    pub caller: Name,
+    pub id: ClearanceId,
+}
+
+/// Which round of which clearance is to be printed.
+#[derive(Clone, Copy, Debug, PartialEq, Eq)]
+pub struct Printing {
+    pub id: ClearanceId,
+    pub round: u8,
+}
+
+/// What a target asks for. A view or an order is `None` where a name, a number or the round in the path does not read.
+#[derive(Clone, Copy, Debug, PartialEq, Eq)]
+pub enum Asked {
+    Command,
+    Clearance(Option<Viewing>),
+    Order(Option<Printing>),
+    Board,
+}
+
+/// A router with the four routes.
+fn routes(alloc: Global) -> Result<Router<Route>, InsertError>
+    ensures { IfOk result (λ r. r ≡ the_routes) }
+{
+    let mut router = Router::new(alloc);
+    router.insert("/command", Route::Command)?;
+    router.insert("/clearance/{caller}/{requester}/{number}", Route::Clearance)?;
+    router.insert("/order/{requester}/{number}/{round}", Route::Order)?;
+    router.insert("/board", Route::Board)?;
+    Ok(router)
+}
+
+/// Whether each byte of a target is ASCII.
+fn is_ascii(target: &str) -> bool
+    ensures { result ≡ list_all is_ascii target.now }
+{
+    target.as_bytes().iter().all(|b| b.is_ascii())
+}
+
+/// The round that a text names.
+fn read_round(text: &str) -> Option<u8>
+    ensures { result ≡ read_round text.now }
+{
+    if text == "1" {
+        Some(1)
+    } else if text == "2" {
+        Some(2)
+    } else {
+        None
+    }
+}
+
+/// The clearance of a requester and a number, where both read.
+fn id_of(requester: &str, number: &str) -> Option<ClearanceId>
+    ensures { result ≡ id_of (read_name requester.now) (read_number number.now) }
+{
+    let Ok(requester) = Name::read(requester) else {
+        return None;
+    };
+    match read_number(number) {
+        Some(number) => ClearanceId::new(requester, number),
+        None => None,
+    }
+}
+
+/// The view that is asked for, where all parts read.
+fn view_asked(caller: &str, id: Option<ClearanceId>) -> Option<Viewing>
+    ensures { result ≡ view_asked (read_name caller.now) id }
+{
+    let Ok(caller) = Name::read(caller) else {
+        return None;
+    };
+    match id {
+        Some(id) => Some(Viewing { caller, id }),
+        None => None,
+    }
+}
+
+/// The order that is asked for, where all parts read.
+fn order_asked(id: Option<ClearanceId>, round: Option<u8>) -> Option<Printing>
+    ensures { result ≡ order_asked id round }
+{
+    let Some(id) = id else {
+        return None;
+    };
+    match round {
+        Some(round) => Some(Printing { id, round }),
+        None => None,
+    }
+}
+
+/// The part of the target that the route gives this name, or nothing.
+fn part<'v>(target: &str, params: &Params<'_, 'v>, route: Route, key: &str) -> &'v str
+    requires path { params.now.path.now ≡ target.now }
+    requires text { IsAscii params.now.text.now }
+    ensures { result.now ≡ part target.now (route_in params.now.pattern.now params.now.text.now params.now.names.now route) key.now }
+{
+    if !is_ascii(target) {
+        return "";
+    }
+    match params.get(key) {
+        Some(part) => part,
+        None => "",
+    }
+}
+
+/// What a target with this route asks for.
+fn asked_by(target: &str, params: &Params<'_, '_>, route: Route) -> Asked
+    requires path { params.now.path.now ≡ target.now }
+    requires text { IsAscii params.now.text.now }
+    ensures { result ≡ asked_by target.now (route_in params.now.pattern.now params.now.text.now params.now.names.now route) route }
+{
+    match route {
+        Route::Command => Asked::Command,
+        Route::Clearance => {
+            let id = id_of(part(target, params, route, "requester"), part(target, params, route, "number"));
+            Asked::Clearance(view_asked(part(target, params, route, "caller"), id))
+        }
+        Route::Order => {
+            let id = id_of(part(target, params, route, "requester"), part(target, params, route, "number"));
+            Asked::Order(order_asked(id, read_round(part(target, params, route, "round"))))
+        }
+        Route::Board => Asked::Board,
+    }
+}
+
+/// What a target asks for. `None` where it takes no route.
+pub fn asked_of(alloc: Global, target: &str) -> Result<Option<Asked>, AllocError>
+    ensures { IfOk result (λ o. o ≡ asked_of target.now) }
+{
+    let Ok(router) = routes(alloc) else {
+        return Err(AllocError);
+    };
+    match router.at(target) {
+        Ok(found) => Ok(Some(asked_by(target, &found.params, *found.value))),
+        Err(_) => Ok(None),
+    }
+}
