@@ -1,11 +1,11 @@
 -- A head and the bytes that were read so far.
-use Rattle.std.proofs.Common.{◌≡◌, ◌∙◌, sym, ap, ℕ, ◌+◌, ◌≤◌, ◌<◌, List, [], ◌∷◌, ◌++◌, length, take, drop, Option, Some, None, arith, length-append}
+use Rattle.std.proofs.Common.{◌≡◌, ◌∙◌, sym, ap, ℕ, ◌+◌, ◌≤◌, ◌<◌, List, [], ◌++◌, length, take, drop, Option, Some, None, arith, length-append}
 use Rattle.std.proofs.lemmas.List.{take-append-le, take-append-drop}
 use Rattle.std.proofs.Math.Seq.{take-append_seam}
 use Rattle.std.specs.Io.KnownBytes.{Consumes}
 use Rattle.httparse.specs.Grammar.{RequestHead, ReadsRequest, print_request, HasNoRequest}
 use Rattle.httparse.specs.Spans.{RequestOverflows}
-use Rattle.clr_http.specs.Head.{HasHead, BeginsWith}
+use Rattle.clr_http.specs.Head.{HasHead}
 
 some_bytes : (h : RequestHead) → 0 < length (print_request h)
 unfolding print_request

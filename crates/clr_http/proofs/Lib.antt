@@ -2,3 +2,4 @@ pub mod Heads
 pub mod Parts
 pub mod Digits
 pub mod Lengths
+pub mod Requests

@@ -1,5 +1,5 @@
 -- The parts of an ASCII target are text, and so is the text of each route.
-use Rattle.std.proofs.Common.{◌≡◌, sym, ap, refl, ℕ, List, [], ◌∷◌, take, drop, ◌-◌, length, Bool, true, false, cond, ◌&&◌, Option, Some, None, IfSome, arith, zero, suc, subst, rules}
+use Rattle.std.proofs.Common.{◌≡◌, refl, ℕ, List, [], ◌∷◌, take, drop, ◌-◌, length, Bool, true, false, cond, Option, Some, None, IfSome, zero, suc, subst, rules}
 use Rattle.std.specs.Char.{is_ascii}
 use Rattle.std.specs.List.{list_all}
 use Rattle.std.specs.Str.{IsAscii, IsUtf8}
@@ -12,7 +12,7 @@ use Rattle.clr_http.specs.Target.{the_routes}
 use Rattle.clr_http.specs.declared.target.Route.{Route}
 use Rattle.matchit.specs.Params.{walk, part_of, AllText}
 use Rattle.matchit.specs.Rows.{RowsOf, param_token, catch_all_token}
-use Rattle.matchit.specs.Seek.{first, longest_suffix, or_else, own, param_step, seek, segment, step, has_slash, same_text, with_suffix}
+use Rattle.matchit.specs.Seek.{first, longest_suffix, or_else, own, param_step, seek, segment, step, has_slash, with_suffix}
 
 text_if : (b : Bool) (n start : ℕ) (bytes : List ℕ) → IsAscii bytes → IsUtf8 (cond b (take n (drop start bytes)) [])
 text_if true n start bytes a = IsUtf8-from_ascii _ (IsAscii-take _ n (IsAscii-drop bytes start a))

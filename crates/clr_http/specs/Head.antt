@@ -1,5 +1,5 @@
 -- THE HEAD of a request, in an input that is read in pieces.
-use Rattle.std.specs.Prelude.{◌≡◌, ◌⊎◌, ℕ, ◌≤◌, List, length, Option, Some, None, ⊤}
+use Rattle.std.specs.Prelude.{◌⊎◌, ℕ, ◌≤◌, List, length, Option, Some, None, ⊤}
 use Rattle.std.specs.Io.KnownBytes.{IsAtEnd}
 use Rattle.httparse.specs.Grammar.{RequestHead, ReadsRequest, print_request, HasNoRequest, NeverHasRequest}
 use Rattle.httparse.specs.Spans.{RequestExceeds}

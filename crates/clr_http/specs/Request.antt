@@ -1,14 +1,20 @@
 -- THE REQUEST: what the head and the bytes behind it ask for, or how they are refused. The checks stand in their order: route, method,
 -- length, the whole body.
-use Rattle.std.specs.Prelude.{ℕ, Bool, nat_eq, nat_le, if◌then◌else◌, List, [], length, map, take, Option, Some, None, Result, Ok, Err}
+use Rattle.std.specs.Prelude.{◌≡◌, ℕ, nat_eq, nat_le, if◌then◌else◌, List, [], length, map, take, Option, Some, None, Result, Ok, Err}
 use Rattle.std.specs.Cmp.Lexicographic.{pointwise}
 use Rattle.httparse.specs.Grammar.{RequestHead}
 use Rattle.httparse.specs.Spans.{name_and_value}
+use Rattle.std.specs.Io.KnownBytes.{Consumes}
+use Rattle.clr_http.specs.Head.{Explains}
 use Rattle.clr_http.specs.Length.{body_length}
-use Rattle.clr_http.specs.Response.{Carried, allow, method_word, told}
+use Rattle.clr_http.specs.Response.{Carried, allow, carried, method_word, told}
 use Rattle.clr_http.specs.Target.{asked_of}
+use Rattle.clr_http.specs.declared.head.HeadFault.{HeadFault}
+use Rattle.clr_http.specs.declared.head.HeadFault.TheVariants as head_fault
 use Rattle.clr_http.specs.declared.length.LengthFault.{LengthFault}
 use Rattle.clr_http.specs.declared.length.LengthFault.TheVariants as length_fault
+use Rattle.clr_http.specs.declared.request.Request.{Request}
+use Rattle.clr_http.specs.declared.request.Request.TheVariants as made
 use Rattle.clr_http.specs.declared.response.Fault.{Fault}
 use Rattle.clr_http.specs.declared.response.Fault.TheVariants as fault
 use Rattle.clr_http.specs.declared.response.Method.{Method}
@@ -54,3 +60,21 @@ route_read (Some asked) head rest =
 -- WHAT A REQUEST COMES TO
 abbrev pub request_read : RequestHead → List ℕ → Reading
 request_read head rest = route_read (asked_of head.target) head rest
+
+-- what a request that was read comes to
+abbrev pub reading : Request → Reading
+reading (made.Refused response) = refused (carried response)
+reading (made.Asks asked body) = asks asked body.items
+
+-- what a fault of the head comes to, where the bytes bear it
+abbrev pub refusal_of : HeadFault → Option Reading
+refusal_of head_fault.BadHead = Some (refused (told fault.BadHead))
+refusal_of head_fault.HeadTooLarge = Some (refused (told fault.HeadTooLarge))
+refusal_of head_fault.HeadCut = Some (refused (told fault.HeadCut))
+refusal_of head_fault.ReadFailed = None
+refusal_of head_fault.NoMemory = None
+
+-- the refusal of an input, by a fault that the bytes taken from it explain
+abbrev pub IsRefusedHead : Option (List ℕ) → Option (List ℕ) → Reading → Type 0
+IsRefusedHead known left reading =
+    (taken : List ℕ) × Consumes known left taken × (e : HeadFault) × (refusal_of e ≡ Some reading) × Explains e taken left

@@ -38,15 +38,18 @@ pub(crate) fn fill<R: CountedRead>(
     most: usize,
 ) -> Result<usize, HeadFault>
     requires { vec_len buffer.old < most }
-    ensures taken { (first : Option (List ℕ)) → Consumes first (R.remaining reader.old) buffer.old.items
+    ensures taken { (first : Option (List ℕ))
+        → Consumes first (R.remaining reader.old) buffer.old.items
         → Consumes first (R.remaining reader.new) buffer.new.items }
     ensures grows { IfOk result (λ n. vec_len buffer.new ≡ vec_len buffer.old + n) }
     ensures within { vec_len buffer.new ≤ most }
     ensures kept { take (vec_len buffer.old) buffer.new.items ≡ buffer.old.items }
-    ensures end { result ≡ Ok 0 → (buffer.new.items ≡ buffer.old.items) × IsAtEnd (R.remaining reader.new) }
+    ensures end { result ≡ Ok 0 → (buffer.new.items ≡ buffer.old.items)
+        × IsAtEnd (R.remaining reader.new) }
     ensures fault { IfErr result (λ e. IsOutside e) }
     ensures calm { IfOk result (λ n. R.failure_count reader.new ≡ R.failure_count reader.old) }
-    ensures cause { result ≡ Err HeadFault.ReadFailed → Rose (R.failure_count reader.old) (R.failure_count reader.new) }
+    ensures cause { result ≡ Err HeadFault.ReadFailed
+        → Rose (R.failure_count reader.old) (R.failure_count reader.new) }
 {
     let mut chunk = [0u8; 1024];
     let room = (most - buffer.len()).min(1024);
@@ -92,10 +95,15 @@ pub fn read_head<R: CountedRead>(
     ensures size { vec_len buffer.new ≤ 8192 }
     ensures head { IfOk result (λ o. IfSome o (IsRequestOf buffer.new.items headers.new)) }
     ensures within { IfOk result (λ o. IfSome o (IsRequestWithin buffer.new.items headers.new)) }
-    ensures nothing { result ≡ Ok None → (buffer.new.items ≡ []) × IsAtEnd (R.remaining reader.new) }
+    ensures room { length headers.new ≡ 64 }
+    ensures nothing { result ≡ Ok None → (buffer.new.items ≡ [])
+        × IsAtEnd (R.remaining reader.new) }
     ensures fault { IfErr result (λ e. Explains e buffer.new.items (R.remaining reader.new)) }
+    ensures begun { IfErr result (λ e. vec_len buffer.new ≡ 0 → IsOutside e) }
     ensures found { HasHead (R.remaining reader.old) → IfErr result IsOutside }
-    ensures cause { result ≡ Err HeadFault.ReadFailed → Rose (R.failure_count reader.old) (R.failure_count reader.new) }
+    ensures calm { IfOk result (λ o. R.failure_count reader.new ≡ R.failure_count reader.old) }
+    ensures cause { result ≡ Err HeadFault.ReadFailed
+        → Rose (R.failure_count reader.old) (R.failure_count reader.new) }
 {
     while buffer.len() < MAX_HEAD_BYTES {
         let count = fill(reader, buffer, MAX_HEAD_BYTES)?;

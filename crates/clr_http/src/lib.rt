@@ -2,7 +2,6 @@
 #![tactic(auto)]
 
 pub mod head;
-
 pub mod length;
 pub mod request;
 pub mod response;

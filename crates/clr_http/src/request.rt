@@ -1,15 +1,42 @@
 //! The request: what its head and the bytes behind it ask for.
-ghost use Rattle.std.specs.Prelude.{◌≡◌, ◌≤◌, ℕ, List, Option, Some, None, Ok, Err, IfOk, IfErr, take, vec_len, true, false, ◌<◌};
+ghost use Rattle.std.specs.Prelude.{◌≡◌, ◌≢◌, ◌≤◌, ◌<◌, ℕ, All, List, [], Option, Some, None, Ok, Err, IfOk, IfErr, IfSome, IsSomeAnd, drop, length, map, take, true, false, vec_len};
+ghost use Rattle.std.specs.Str.{IsUtf8};
 ghost use Rattle.std.specs.Io.KnownBytes.{Consumes, IsAtEnd};
+ghost use Rattle.httparse.specs.Grammar.{RequestHead};
+ghost use Rattle.httparse.specs.Spans.{IsHeaderWithin, IsRequestAt, IsRequestWithin, header_bytes, span_bytes};
 ghost use Rattle.clr_csv.specs.Failures.{Rose};
-ghost use Rattle.clr_http.specs.Head.{IsOutside};
-ghost use Rattle.clr_http.specs.Request.{length_told, method_of};
+ghost use Rattle.clr_http.specs.Head.{BeginsWith, HasHead, IsOutside};
+ghost use Rattle.clr_http.specs.Length.{body_length};
+ghost use Rattle.clr_http.specs.Request.{IsRefusedHead, command_read, length_told, method_of, reading, refusal_of, refused, request_read};
+ghost use Rattle.clr_http.specs.Response.{told};
+ghost use Rattle.clr_http.specs.Target.{asked_of};
 
-use crate::head::{HeadFault, fill};
-use crate::length::LengthFault;
-use crate::response::{Fault, Method};
-use crate::target::Asked;
+use crate::head::{HeadFault, MAX_FIELDS, fill, read_head};
+use crate::length::{LengthFault, body_length};
+use crate::response::{Fault, Method, Response};
+use crate::target::{Asked, asked_of};
 use clr_csv::CountedRead;
+use httparse::spans::{EMPTY_HEADER_SPAN, HeaderSpan, RequestSpans};
+use std::alloc::Global;
+use std::str;
+
+/// A request that was read.
+#[derive(Debug, Drop)]
+pub enum Request {
+    /// It is refused, with this response.
+    Refused(Response),
+    /// It asks for this. The body is a command's, and empty for every other route.
+    Asks(Asked, Vec<u8>),
+}
+
+/// Why no request was read.
+#[derive(Clone, Copy, Debug, PartialEq, Eq)]
+pub enum ReadFault {
+    /// The reader failed.
+    ReadFailed,
+    /// Memory ran out.
+    NoMemory,
+}
 
 impl Asked {
     /// The method of the route.
@@ -42,14 +69,18 @@ fn fill_to<R: CountedRead>(
     buffer: &mut Vec<u8>,
     wanted: usize,
 ) -> Result<bool, HeadFault>
-    ensures taken { (first : Option (List ℕ)) → Consumes first (R.remaining reader.old) buffer.old.items
+    ensures taken { (first : Option (List ℕ))
+        → Consumes first (R.remaining reader.old) buffer.old.items
         → Consumes first (R.remaining reader.new) buffer.new.items }
     ensures whole { result ≡ Ok true → wanted ≤ vec_len buffer.new }
-    ensures short { result ≡ Ok false → (vec_len buffer.new < wanted) × IsAtEnd (R.remaining reader.new) }
+    ensures short { result ≡ Ok false → (vec_len buffer.new < wanted)
+        × IsAtEnd (R.remaining reader.new) }
     ensures kept { take (vec_len buffer.old) buffer.new.items ≡ buffer.old.items }
+    ensures grown { vec_len buffer.old ≤ vec_len buffer.new }
     ensures fault { IfErr result (λ e. IsOutside e) }
     ensures calm { IfOk result (λ n. R.failure_count reader.new ≡ R.failure_count reader.old) }
-    ensures cause { result ≡ Err HeadFault.ReadFailed → Rose (R.failure_count reader.old) (R.failure_count reader.new) }
+    ensures cause { result ≡ Err HeadFault.ReadFailed
+        → Rose (R.failure_count reader.old) (R.failure_count reader.new) }
 {
     while buffer.len() < wanted {
         if fill(reader, buffer, wanted)? == 0 {
@@ -57,4 +88,162 @@ fn fill_to<R: CountedRead>(
         }
     }
     Ok(true)
+}
+
+/// The request that is refused with this fault.
+fn refused(alloc: Global, fault: Fault) -> Result<Request, ReadFault>
+    ensures reading { IfOk result (λ r. reading r ≡ refused (told fault)) }
+    ensures calm { result ≢ Err ReadFault.ReadFailed }
+{
+    match Response::of_fault(alloc, fault) {
+        Ok(response) => Ok(Request::Refused(response)),
+        Err(_) => Err(ReadFault::NoMemory),
+    }
+}
+
+/// The request whose head has this fault.
+fn head_refused(alloc: Global, fault: HeadFault) -> Result<Request, ReadFault>
+    ensures reading { IfOk result (λ r. refusal_of fault ≡ Some (reading r)) }
+    ensures cause { result ≡ Err ReadFault.ReadFailed → fault ≡ HeadFault.ReadFailed }
+{
+    match fault {
+        HeadFault::BadHead => refused(alloc, Fault::BadHead),
+        HeadFault::HeadTooLarge => refused(alloc, Fault::HeadTooLarge),
+        HeadFault::HeadCut => refused(alloc, Fault::HeadCut),
+        HeadFault::ReadFailed => Err(ReadFault::ReadFailed),
+        HeadFault::NoMemory => Err(ReadFault::NoMemory),
+    }
+}
+
+/// The fault of a read behind the head.
+fn read_fault(fault: HeadFault) -> ReadFault
+    ensures { result ≡ ReadFault.ReadFailed → fault ≡ HeadFault.ReadFailed }
+{
+    match fault {
+        HeadFault::ReadFailed => ReadFault::ReadFailed,
+        _ => ReadFault::NoMemory,
+    }
+}
+
+/// What a target asks for.
+fn target_asked(alloc: Global, target: &[u8]) -> Result<Option<Asked>, ReadFault>
+    requires { IsUtf8 target.now }
+    ensures asked { IfOk result (λ o. o ≡ asked_of target.now) }
+    ensures calm { result ≢ Err ReadFault.ReadFailed }
+{
+    match asked_of(alloc, str::from_utf8(target).unwrap()) {
+        Ok(asked) => Ok(asked),
+        Err(_) => Err(ReadFault::NoMemory),
+    }
+}
+
+/// The command whose body has this many bytes, from `start` on.
+fn command_behind<R: CountedRead>(
+    alloc: Global,
+    reader: &mut R,
+    buffer: &mut Vec<u8>,
+    start: usize,
+    size: usize,
+) -> Result<Request, ReadFault>
+    requires start { (start ≤ vec_len buffer.old) × (start ≤ 8192) }
+    requires size { size ≤ 65536 }
+    ensures reading { (input : List ℕ) → Consumes (Some input) (R.remaining reader.old) buffer.old.items
+        → IfOk result (λ r. reading r ≡ command_read (Ok size) (drop start input)) }
+    ensures cause { result ≡ Err ReadFault.ReadFailed
+        → Rose (R.failure_count reader.old) (R.failure_count reader.new) }
+{
+    match fill_to(reader, buffer, start + size) {
+        Ok(true) => {}
+        Ok(false) => return refused(alloc, Fault::BodyCut),
+        Err(fault) => return Err(read_fault(fault)),
+    }
+    match Vec::from_slice(alloc, &buffer[start..start + size]) {
+        Ok(body) => Ok(Request::Asks(Asked::Command, body)),
+        Err(_) => Err(ReadFault::NoMemory),
+    }
+}
+
+/// The command behind a head with these fields, which ends at `start`.
+fn command_in<R: CountedRead>(
+    alloc: Global,
+    reader: &mut R,
+    buffer: &mut Vec<u8>,
+    headers: &[HeaderSpan],
+    start: usize,
+) -> Result<Request, ReadFault>
+    requires fields { All (IsHeaderWithin (length buffer.old.items)) headers.now }
+    requires start { (start ≤ vec_len buffer.old) × (start ≤ 8192) }
+    ensures reading { (input : List ℕ) → Consumes (Some input) (R.remaining reader.old) buffer.old.items
+        → IfOk result (λ r. reading r
+        ≡ command_read (body_length (map (header_bytes buffer.old.items) headers.now)) (drop start input)) }
+    ensures cause { result ≡ Err ReadFault.ReadFailed
+        → Rose (R.failure_count reader.old) (R.failure_count reader.new) }
+{
+    match body_length(buffer.as_slice(), headers) {
+        Ok(size) => command_behind(alloc, reader, buffer, start, size),
+        Err(fault) => refused(alloc, fault.told()),
+    }
+}
+
+/// The request whose head lies at the front of the buffer.
+fn request_in<R: CountedRead>(
+    alloc: Global,
+    reader: &mut R,
+    buffer: &mut Vec<u8>,
+    headers: &[HeaderSpan],
+    spans: RequestSpans,
+) -> Result<Request, ReadFault>
+    requires within { IsRequestWithin buffer.old.items headers.now spans }
+    requires text { IsUtf8 (span_bytes buffer.old.items spans.path) }
+    requires size { vec_len buffer.old ≤ 8192 }
+    ensures reading { (head : RequestHead) (input : List ℕ)
+        → IsRequestAt buffer.old.items headers.now spans head
+        → Consumes (Some input) (R.remaining reader.old) buffer.old.items
+        → IfOk result (λ r. reading r ≡ request_read head (drop spans.len input)) }
+    ensures cause { result ≡ Err ReadFault.ReadFailed
+        → Rose (R.failure_count reader.old) (R.failure_count reader.new) }
+{
+    let Some(asked) = target_asked(alloc, spans.path.of(buffer.as_slice()))? else {
+        return refused(alloc, Fault::NoRoute);
+    };
+    let method = asked.method();
+    if spans.method.of(buffer.as_slice()) != method.word().as_bytes() {
+        return Ok(Request::Refused(Response::Allow(method)));
+    }
+    if asked == Asked::Command {
+        return command_in(alloc, reader, buffer, &headers[..spans.headers], spans.len);
+    }
+    Ok(Request::Asks(asked, Vec::new(alloc)))
+}
+
+/// Reads one request, and no byte that it does not need but those that come with it. `None` where
+/// the input ends before its first byte.
+pub fn read_request<R: CountedRead>(
+    alloc: Global,
+    reader: &mut R,
+) -> Result<Option<Request>, ReadFault>
+    ensures whole { (input rest : List ℕ) (head : RequestHead) → R.remaining reader.old ≡ Some input
+        → BeginsWith input head rest
+        → IfOk result (λ o. IsSomeAnd o (λ r. reading r ≡ request_read head rest)) }
+    ensures nothing { result ≡ Ok None → IsAtEnd (R.remaining reader.old) }
+    ensures empty { R.remaining reader.old ≡ Some [] → IfOk result (λ o. o ≡ None) }
+    ensures outside { (input : List ℕ) → R.remaining reader.old ≡ Some input
+        → ¬ (HasHead (Some input))
+        → IfOk result (λ o. IfSome o (λ r. IsRefusedHead (Some input) (R.remaining reader.new) (reading r))) }
+    ensures cause { result ≡ Err ReadFault.ReadFailed
+        → Rose (R.failure_count reader.old) (R.failure_count reader.new) }
+{
+    let mut buffer = Vec::new(alloc);
+    let mut headers = [EMPTY_HEADER_SPAN; MAX_FIELDS];
+    match read_head(reader, &mut buffer, &mut headers) {
+        Ok(None) => Ok(None),
+        Ok(Some(spans)) => {
+            let request = request_in(alloc, reader, &mut buffer, &headers, spans)?;
+            Ok(Some(request))
+        }
+        Err(fault) => {
+            let request = head_refused(alloc, fault)?;
+            Ok(Some(request))
+        }
+    }
 }

@@ -148,7 +148,9 @@ fn first_line(alloc: Global, code: u16, phrase: &str) -> Result<String, AllocErr
 fn fields_text(alloc: Global, kind: &str, length: usize) -> Result<String, AllocError>
     ensures { IfOk result (λ text. string_bytes text ≡ fields_text kind.now length) }
 {
-    format!(in alloc; "\r\nContent-Type: {kind}\r\nContent-Length: {length}\r\nConnection: close\r\n\r\n")
+    format!(in alloc;
+        "\r\nContent-Type: {kind}\r\nContent-Length: {length}\r\nConnection: close\r\n\r\n"
+    )
 }
 
 /// A response with this first line and a body of this type.
@@ -159,7 +161,8 @@ fn text_of(
     kind: &str,
     body: &str,
 ) -> Result<String, AllocError>
-    ensures { IfOk result (λ text. string_bytes text ≡ (first_line code phrase.now ++ fields_text kind.now (length body.now)) ++ body.now) }
+    ensures { IfOk result (λ text. string_bytes text
+        ≡ (first_line code phrase.now ++ fields_text kind.now (length body.now)) ++ body.now) }
 {
     let mut text = first_line(alloc, code, phrase)?;
     let fields = fields_text(alloc, kind, body.len())?;
@@ -185,5 +188,7 @@ fn without_body(alloc: Global, method: Method) -> Result<String, AllocError>
     ensures { IfOk result (λ text. string_bytes text ≡ response_bytes (allow method)) }
 {
     let word = method.word();
-    format!(in alloc; "HTTP/1.1 405 Method Not Allowed\r\nAllow: {word}\r\nContent-Length: 0\r\nConnection: close\r\n\r\n")
+    format!(in alloc;
+        "HTTP/1.1 405 Method Not Allowed\r\nAllow: {word}\r\nContent-Length: 0\r\nConnection: close\r\n\r\n"
+    )
 }

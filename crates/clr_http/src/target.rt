@@ -144,11 +144,17 @@ fn asked_by(target: &str, params: &Params<'_, '_>, route: Route) -> Asked
     match route {
         Route::Command => Asked::Command,
         Route::Clearance => {
-            let id = id_of(part(target, params, route, "requester"), part(target, params, route, "number"));
+            let id = id_of(
+                part(target, params, route, "requester"),
+                part(target, params, route, "number"),
+            );
             Asked::Clearance(view_asked(part(target, params, route, "caller"), id))
         }
         Route::Order => {
-            let id = id_of(part(target, params, route, "requester"), part(target, params, route, "number"));
+            let id = id_of(
+                part(target, params, route, "requester"),
+                part(target, params, route, "number"),
+            );
             Asked::Order(order_asked(id, read_round(part(target, params, route, "round"))))
         }
         Route::Board => Asked::Board,

@@ -1,6 +1,5 @@
-use Rattle.std.proofs.Common.{◌≡◌, ◌∙◌, refl, sym, ap, rules, arith, ◌≤◌, ◌<◌, ◌+◌, length, vec_len, true}
-use Rattle.std.specs.Io.KnownBytes.{Consumes}
-use Rattle.clr_http.proofs.Heads.{none_at_first, overflow, exhausted}
+use Rattle.std.proofs.Common.{◌≡◌, ◌∙◌, refl, ap, rules, arith, length, vec_len}
+use Rattle.clr_http.proofs.Heads.{none_at_first, exhausted}
 use Rattle.clr_http.proofs.head.read_head.Goals as goal
 
 pub loop-reader-init : goal.loop-reader-init

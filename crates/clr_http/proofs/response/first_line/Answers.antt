@@ -1,4 +1,4 @@
-use Rattle.std.proofs.Common.{rules, ◌≡◌, IfOk, append_assoc}
+use Rattle.std.proofs.Common.{rules, append_assoc}
 use Rattle.clr_http.proofs.response.first_line.Goals as goal
 
 pub returns : goal.returns

@@ -1,4 +1,4 @@
-use Rattle.std.proofs.Common.{rules, ◌≡◌, ◌∙◌, sym, ap}
+use Rattle.std.proofs.Common.{◌∙◌, sym, ap}
 use Rattle.matchit.specs.Seek.{first}
 use Rattle.clr_http.proofs.Parts.{found_is_ascii}
 use Rattle.clr_http.proofs.target.asked_of.Goals as goal

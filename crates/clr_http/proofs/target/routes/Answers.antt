@@ -1,4 +1,4 @@
-use Rattle.std.proofs.Common.{rules, refl}
+use Rattle.std.proofs.Common.{refl}
 use Rattle.matchit.proofs.OnLiterals.{matchit_on_literals}
 use Rattle.clr_http.specs.Target.{the_routes}
 use Rattle.clr_http.proofs.target.routes.Goals as goal

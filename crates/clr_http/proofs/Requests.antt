@@ -1,0 +1,124 @@
+-- One request: its head, and the body behind it, in the bytes that were taken.
+use Rattle.std.proofs.Common.{◌≡◌, ◌∙◌, sym, ap, refl, subst, ℕ, suc, ◌+◌, ◌≤◌, ◌<◌, ◌-◌, Bool, true, false, nat_le, List, [], ◌∷◌, ◌++◌, length, take, drop, Option, Some, None, arith, rules, length-append}
+use Rattle.std.proofs.lemmas.Bool.{leb-true, le-leb, lt-leb}
+use Rattle.std.proofs.lemmas.List.{take-append-le, drop-append-le, length-drop, length-map, length-take-le}
+use Rattle.std.proofs.Math.Seq.{drop-append_seam}
+use Rattle.std.specs.Prelude.{IfOk, Result, Ok, Err, filter, if◌then◌else◌, codes}
+use Rattle.std.specs.Io.KnownBytes.{Consumes, IsAtEnd}
+use Rattle.std.specs.Str.Parse.{digits_value}
+use Rattle.httparse.proofs.GrammarLemmas.{request_unique, ReadsRequest-append}
+use Rattle.httparse.specs.Grammar.{RequestHead, ReadsRequest, print_request}
+use Rattle.httparse.specs.Spans.{IsRequestAt, IsRequestWithin, header_bytes, name_and_value}
+use Rattle.httparse.specs.declared.spans.HeaderSpan.{HeaderSpan}
+use Rattle.httparse.specs.declared.spans.RequestSpans.{RequestSpans}
+use Rattle.clr_http.proofs.Heads.{none_at_first}
+use Rattle.clr_http.specs.Head.{HasHead, IsOutside}
+use Rattle.clr_http.specs.Length.{Field, body_length, is_called, is_length, length_of_fields, within_limit}
+use Rattle.clr_http.specs.Request.{Reading, asks, command_read, refusal_of, refused}
+use Rattle.clr_http.specs.Response.{told}
+use Rattle.clr_http.specs.declared.head.HeadFault.{HeadFault}
+use Rattle.clr_http.specs.declared.head.HeadFault.TheVariants as head_fault
+use Rattle.clr_http.specs.declared.length.LengthFault.{LengthFault}
+use Rattle.clr_http.specs.declared.length.LengthFault.TheVariants.{BadLength, BodyTooLarge, NoLength}
+use Rattle.clr_http.specs.declared.response.Fault.TheVariants as fault
+use Rattle.clr_http.specs.declared.target.Asked.TheVariants.{Command}
+
+-- a length is at most the limit
+abbrev IsLimited : Result ℕ LengthFault → Type 0
+IsLimited r = IfOk r (λ n. n ≤ 65536)
+
+limited : (n : ℕ) (b : Bool) → nat_le n 65536 ≡ b → IsLimited (if b then Ok n else Err BodyTooLarge)
+limited n true t = leb-true n 65536 t
+limited n false t = tt
+
+value_limited : (n : ℕ) (b : Bool) → IsLimited (if b then within_limit n else Err BadLength)
+value_limited n true = limited n (nat_le n 65536) refl
+value_limited n false = tt
+
+fields_limited : (fields : List Field) → IsLimited (length_of_fields fields)
+fields_limited [] = tt
+fields_limited (field ∷ []) = value_limited (digits_value 10 field.1) (is_length field.1)
+fields_limited (field ∷ other ∷ rest) = tt
+
+choice_limited : (b : Bool) (r : Result ℕ LengthFault) → IsLimited r → IsLimited (if b then Err NoLength else r)
+choice_limited true r l = tt
+choice_limited false r l = l
+
+pub body_limited : (fields : List Field) → IsLimited (body_length fields)
+body_limited fields = choice_limited _ _ (fields_limited (filter (is_called (codes "content-length")) fields))
+
+-- the body of a command, in the bytes taken
+pub body_whole : (input : List ℕ) (left : Option (List ℕ)) (taken : List ℕ) (start size : ℕ)
+    → Consumes (Some input) left taken → start + size ≤ length taken
+    → command_read (Ok size) (drop start input) ≡ asks Command (take size (drop start taken))
+body_whole input None taken start size c le = absurd c
+body_whole input (Some ys) taken start size c le =
+    let cut : drop start (taken ++ ys) ≡ drop start taken ++ ys = drop-append-le start taken ys (omega (arith, le)) in
+    let room : size ≤ length (drop start taken) = rw (length-drop start taken) (omega (arith, le)) in
+    let enough : nat_le size (length (drop start taken ++ ys)) ≡ true =
+    le-leb size _ (rw (length-append (drop start taken) ys) (omega (arith, room))) in
+    rw (c, cut, enough, take-append-le size (drop start taken) ys room) refl
+
+pub body_short : (input : List ℕ) (left : Option (List ℕ)) (taken : List ℕ) (start size : ℕ)
+    → Consumes (Some input) left taken → IsAtEnd left → start ≤ length taken → length taken < start + size
+    → command_read (Ok size) (drop start input) ≡ refused (told fault.BodyCut)
+body_short input None taken start size c e from lt = absurd c
+body_short input (Some ys) taken start size c e from lt =
+    let rest : length (drop start (taken ++ ys)) ≡ length taken - start =
+    length-drop start (taken ++ ys) ∙ ap (λ n. n - start) (length-append taken ys ∙ rw e (search rules)) in
+    let few : nat_le size (length (drop start (taken ++ ys))) ≡ false = rw rest (lt-leb size (length taken - start) (omega (arith, from, lt))) in
+    rw (c, few) refl
+
+-- the head that was found is the input's only one
+pub only_head : (input rest : List ℕ) (left : Option (List ℕ)) (taken : List ℕ) (headers : List HeaderSpan) (spans : RequestSpans) (h head : RequestHead)
+    → Consumes (Some input) left taken → IsRequestAt taken headers spans h → ReadsRequest input head rest
+    → (h ≡ head) × (drop spans.len input ≡ rest)
+only_head input rest None taken headers spans h head c at r = absurd c
+only_head input rest (Some ys) taken headers spans h head c at r =
+    let here : ReadsRequest (taken ++ ys) head rest = rw c at r in
+    let (one, two) = request_unique (taken ++ ys) h head _ rest (ReadsRequest-append taken h _ ys at.reads) here in
+    let front : drop spans.len input ≡ rest = rw (at.len, one, r.1) (drop-append_seam (print_request head) rest) in
+    (one, front)
+
+-- a head that was found in the first 8,192 bytes lies within the limits
+pub has_head : (input : List ℕ) (left : Option (List ℕ)) (taken : List ℕ) (headers : List HeaderSpan) (spans : RequestSpans) (h : RequestHead)
+    → Consumes (Some input) left taken → IsRequestAt taken headers spans h → IsRequestWithin taken headers spans
+    → length taken ≤ 8192 → length headers ≡ 64 → HasHead (Some input)
+has_head input None taken headers spans h c at within small room = absurd c
+has_head input (Some ys) taken headers spans h c at within small room =
+    let few : length h.fields ≤ 64 =
+    let e : length (take spans.headers headers) ≡ length h.fields =
+    sym (length-map (take spans.headers headers) (header_bytes taken)) ∙ ap length at.fields ∙ length-map h.fields name_and_value in
+    let fits = within.section.count_fits in
+    omega (arith, sym (length-take-le spans.headers headers fits) ∙ e, fits, room) in (
+      h,
+      drop spans.len taken ++ ys,
+      record {
+        reads = rw c (ReadsRequest-append taken h _ ys at.reads);
+        bytes = let le = within.section.len_fits in rw (sym at.len) (omega (arith, le, small));
+        fields = few;
+      },
+    )
+
+-- of no bytes none are taken
+pub none_taken : (left : Option (List ℕ)) (taken : List ℕ) → Consumes (Some []) left taken → taken ≡ []
+none_taken None taken c = absurd c
+none_taken (Some ys) [] c = refl
+none_taken (Some ys) (b ∷ taken) c = let e : 0 ≡ suc (length (taken ++ ys)) = ap length c in absurd (omega (arith, e))
+
+-- an input that ends before its first byte has no head
+pub nothing_there : (known left : Option (List ℕ)) (taken : List ℕ) → Consumes known left taken → taken ≡ [] → IsAtEnd left → HasHead known → ⊥
+nothing_there None left taken c t e h = h
+nothing_there (Some xs) None taken c t e h = c
+nothing_there (Some xs) (Some ys) taken c t e (h, rest, b) =
+    let none : xs ≡ [] = c ∙ rw (t, e) refl in
+    let r : ReadsRequest [] h rest = subst (λ x. ReadsRequest x h rest) none b.reads in
+    none_at_first h rest r
+
+-- a fault that says nothing of the bytes is no refusal
+pub outside_unsaid : (e : HeadFault) (reading : Reading) → IsOutside e → refusal_of e ≡ Some reading → ⊥
+outside_unsaid head_fault.BadHead reading o e = o
+outside_unsaid head_fault.HeadTooLarge reading o e = o
+outside_unsaid head_fault.HeadCut reading o e = o
+outside_unsaid head_fault.ReadFailed reading o e = cc e
+outside_unsaid head_fault.NoMemory reading o e = cc e
