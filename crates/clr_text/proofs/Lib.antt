@@ -1,3 +1,5 @@
 pub mod MembersFacts
 pub mod ListsRead
 pub mod NoFloats
+pub mod Calendar
+pub mod RowsLent

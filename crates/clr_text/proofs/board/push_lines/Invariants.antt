@@ -1,0 +1,8 @@
+use Rattle.std.proofs.Common.{◌≡◌, ◌++◌, map, drop, string_bytes}
+use Rattle.std.specs.List.{flat_map}
+use Rattle.clr_text.specs.Printed.{board_line}
+use Rattle.clr_text.proofs.board.push_lines.Given as goal
+
+abbrev pub invariant-loop-row : goal.invariant-loop-row
+invariant-loop-row l =
+    string_bytes l.out ++ flat_map (board_line l.clock) (map (λ row. row.now) (drop l.row-index l.standing)) ≡ string_bytes l.initial.out ++ flat_map (board_line l.clock) (map (λ row. row.now) l.standing)

@@ -1,0 +1,81 @@
+-- THE PRINTED TEXTS: a round of an order, of its record and its steps alone, and the board. Each line ends with a line feed.
+use Rattle.std.specs.Prelude.{ℕ, ◌+◌, ◌-◌, ◌==◌, Bool, not, if◌then◌else◌, ℤ, List, [], ◌∷◌, ◌++◌, length, replicate, map, filter, Option, None, Some, codes, decimal}
+use Rattle.std.specs.List.{flat_map}
+use Rattle.clr_order.specs.Action.{action_word}
+use Rattle.clr_order.specs.Step.{state_text}
+use Rattle.clr_rules.specs.Id.{Id, id_text}
+use Rattle.clr_rules.specs.Phase.{phase_text}
+use Rattle.clr_rules.specs.Records.{is_closed}
+use Rattle.clr_rules.specs.Steps.{is_some_step}
+use Rattle.clr_rules.specs.declared.record.Record.{Record}
+use Rattle.clr_rules.specs.declared.step_row.StepRow.{StepRow}
+use Rattle.clr_text.specs.Moments.{moment_text}
+
+-- a text on the left of a column, and on the right of one; a text that is wider stands as it is
+abbrev pub left : ℕ → List ℕ → List ℕ
+left width text = text ++ replicate (width - length text) 32
+
+abbrev pub right : ℕ → List ℕ → List ℕ
+right width text = replicate (width - length text) 32 ++ text
+
+-- a column and the blank behind it
+unfoldable pub left_column : ℕ → List ℕ → List ℕ
+left_column width text = left width text ++ codes " "
+
+unfoldable pub right_column : ℕ → List ℕ → List ℕ
+right_column width text = right width text ++ codes " "
+
+abbrev pub name_or_dash : Option (List ℕ) → List ℕ
+name_or_dash None = codes "-"
+name_or_dash (Some name) = name
+
+-- `  1 OPEN      S2                       Done       REED`
+unfoldable pub step_line : StepRow → List ℕ
+step_line row =
+    right_column 3 (decimal row.ordinal) ++ left_column 9 (action_word row.step.action) ++ left_column 24 row.step.point
+    ++ left_column 10 (state_text row.step.state) ++ name_or_dash row.step.reader ++ codes "\n"
+
+-- a line that begins with a word
+unfoldable pub text_line : List ℕ → List ℕ → List ℕ
+text_line word text = word ++ text ++ codes "\n"
+
+unfoldable pub order_name : Id → ℕ → List ℕ
+order_name id round = id_text id ++ codes " ROUND " ++ decimal round
+
+-- the five lines before the steps
+unfoldable pub head_text : Record → ℕ → ℤ → List ℕ
+head_text r round offset =
+    text_line (codes "ORDER ") (order_name r.id round) ++ text_line (codes "WORK ") (name_or_dash r.work)
+    ++ text_line (codes "HOLDER ") r.holder ++ text_line (codes "PHASE ") (phase_text r.phase) ++ text_line (codes "LAST ") (moment_text r.last offset)
+
+-- the round of these steps, if there are any
+abbrev pub round_text : Record → List StepRow → ℕ → ℤ → Option (List ℕ)
+round_text r rows round offset =
+    if is_some_step rows then Some (head_text r round offset ++ flat_map step_line rows ++ codes "END\n") else None
+
+abbrev pub in_round : ℕ → List StepRow → List StepRow
+in_round round steps = filter (λ row. row.round == round) steps
+
+-- THE PRINTED ORDER: a round of a clearance or a switch order, of its record and its steps; none where there is no record or no such round
+abbrev pub order_text : Option Record → List StepRow → ℕ → ℤ → Option (List ℕ)
+order_text None steps round offset = None
+order_text (Some r) steps round offset = round_text r (in_round round steps) round offset
+
+abbrev pub is_open : Record → Bool
+is_open r = not (is_closed r.phase)
+
+-- `JONES/1                       Ordered   L2                       1970-01-01 00:01:44 +00:00 JONES`
+unfoldable pub board_line : ℤ → Record → List ℕ
+board_line offset r =
+    left_column 29 (id_text r.id) ++ left_column 9 (phase_text r.phase) ++ left_column 24 (name_or_dash r.work)
+    ++ moment_text r.last offset ++ codes " " ++ r.holder ++ codes "\n"
+
+abbrev pub count_line : ℕ → List ℕ
+count_line count = codes "BOARD " ++ decimal count ++ codes "\n"
+
+abbrev pub board_of : List Record → ℤ → List ℕ
+board_of standing offset = count_line (length standing) ++ flat_map (board_line offset) standing
+
+-- THE BOARD: how many records are not closed, and a line for each
+abbrev pub board_text : List Record → ℤ → List ℕ
+board_text records offset = board_of (filter is_open records) offset

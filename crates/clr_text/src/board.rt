@@ -1,0 +1,112 @@
+//! The board.
+ghost use Rattle.std.specs.Prelude.{◌≡◌, ◌++◌, IfOk, OnOk, filter, map, neg_ℤ, pos, string_bytes, ◌≤ℤ◌};
+ghost use Rattle.std.specs.List.{flat_map};
+ghost use Rattle.clr_text.specs.Printed.{board_line, board_of, board_text, count_line, is_open};
+
+use crate::columns::{id_text, name_or_dash, push_left};
+use crate::moments::{ClockOffset, moment_text};
+use clr_book::Book;
+use clr_rules::{Hold, Phase, PointState, Record, StepRow};
+use clr_shelf::Shelf;
+use std::alloc::{AllocError, Global};
+
+/// The board: how many clearances and switch orders are not closed, and a line for each, in the order of their names.
+///
+/// The offset, in minutes east of Greenwich, is that of the clock by which the last moments are printed.
+pub fn print_board<P: Shelf<PointState>, C: Shelf<Record>, T: Shelf<StepRow>, H: Shelf<Hold>>(
+    alloc: Global,
+    book: &Book<P, C, T, H>,
+    offset: i16,
+) -> Result<String, AllocError>
+    requires low { neg_ℤ (pos 720) ≤ℤ offset }
+    requires high { offset ≤ℤ pos 840 }
+    ensures { IfOk result (λ text. string_bytes text
+        ≡ board_text book.now.register.records offset) }
+{
+    let clock = ClockOffset::new(offset);
+    let records = book.records()?;
+    let standing = standing_records(alloc, records.as_slice())?;
+    board_of(alloc, standing.as_slice(), clock)
+}
+
+/// The records that are not closed.
+fn standing_records<'a>(
+    alloc: Global,
+    records: &[&'a Record],
+) -> Result<Vec<&'a Record>, AllocError>
+    ensures { IfOk result (λ standing. standing.items ≡ filter (λ row. is_open row.now) records.now) }
+{
+    records
+        .iter()
+        .copied()
+        .filter(|record| is_open(record))
+        .collect(alloc)
+}
+
+/// Whether a record is not closed.
+fn is_open(record: &Record) -> bool
+    ensures { result ≡ is_open record.now }
+{
+    match record.phase {
+        Phase::Closed => false,
+        Phase::Requested
+        | Phase::Ordered
+        | Phase::Granted
+        | Phase::Released
+        | Phase::Restoring
+        | Phase::Switching => true,
+    }
+}
+
+/// The board of the records that are not closed.
+fn board_of(alloc: Global, standing: &[&Record], clock: ClockOffset) -> Result<String, AllocError>
+    ensures { IfOk result (λ text. string_bytes text
+        ≡ board_of (map (λ row. row.now) standing.now) clock) }
+{
+    let mut text = count_line(alloc, standing.len())?;
+    push_lines(alloc, &mut text, standing, clock)?;
+    Ok(text)
+}
+
+/// The first line.
+fn count_line(alloc: Global, count: usize) -> Result<String, AllocError>
+    ensures { IfOk result (λ text. string_bytes text ≡ count_line count) }
+{
+    format!(in alloc; "BOARD {count}\n")
+}
+
+/// Writes a line for each record.
+fn push_lines(
+    alloc: Global,
+    out: &mut String,
+    standing: &[&Record],
+    clock: ClockOffset,
+) -> Result<(), AllocError>
+    ensures { OnOk result (string_bytes out.new
+        ≡ string_bytes out.old ++ flat_map (board_line clock) (map (λ row. row.now) standing.now)) }
+{
+    for row in standing {
+        let line = board_line(alloc, *row, clock)?;
+        out.push_str(line.as_str())?;
+    }
+    Ok(())
+}
+
+/// The line of a record.
+#[tactic(auto, unfolding(crate::specs::Printed::board_line))]
+fn board_line(alloc: Global, row: &Record, clock: ClockOffset) -> Result<String, AllocError>
+    ensures { IfOk result (λ line. string_bytes line ≡ board_line clock row.now) }
+{
+    let name = id_text(alloc, row.id)?;
+    let last = moment_text(alloc, row.last, clock)?;
+    let holder = row.holder;
+    let mut line = String::new(alloc);
+    push_left(&mut line, 29, name.as_str())?;
+    push_left(&mut line, 9, row.phase.text())?;
+    push_left(&mut line, 24, name_or_dash(&row.work))?;
+    line.push_str(last.as_str())?;
+    line.push(' ')?;
+    line.push_str(holder.as_str())?;
+    line.push('\n')?;
+    Ok(line)
+}
