@@ -24,6 +24,8 @@ mod shelves;
 #[cfg(test)]
 mod staff;
 #[cfg(test)]
+mod text;
+#[cfg(test)]
 mod worked;
 #[cfg(test)]
 mod writers;
