@@ -11,6 +11,8 @@ use Rattle.clr_csv.specs.declared.staff_fault.StaffFault.{StaffFault}
 use Rattle.clr_csv.specs.declared.staff_fault.StaffFault.TheVariants as staff
 use Rattle.gridclear.specs.declared.fault.ImportFile.{ImportFile}
 use Rattle.gridclear.specs.declared.fault.ImportFile.TheVariants.{Sections, Points, Staff}
+use Rattle.gridclear.specs.declared.fault.InputFault.{InputFault}
+use Rattle.gridclear.specs.declared.fault.InputFault.TheVariants as input
 use Rattle.gridclear.specs.declared.fault.Detail.{Detail}
 use Rattle.gridclear.specs.declared.fault.Detail.TheVariants as detail
 use Rattle.gridclear.specs.declared.fault.Fault.{Fault}
@@ -31,6 +33,7 @@ subject_of (fault.Staff cause) = codes "staff"
 subject_of (fault.Name cause) = codes "name"
 subject_of (fault.UnknownSection section) = codes "network"
 subject_of (fault.UnknownPoint point) = codes "network"
+subject_of (fault.Input cause) = codes "input"
 subject_of fault.Output = codes "output"
 
 abbrev pub file_fault_name : CsvFault → List ℕ
@@ -65,6 +68,10 @@ name_fault_name name.TooLong = codes "TooLong"
 name_fault_name (name.BadByte place) = codes "BadByte"
 name_fault_name name.NoMemory = codes "NoMemory"
 
+abbrev pub input_fault_name : InputFault → List ℕ
+input_fault_name input.ReadFailed = codes "ReadFailed"
+input_fault_name input.TooLong = codes "TooLong"
+
 -- the fault's name
 abbrev pub name_of : Fault → List ℕ
 name_of fault.Memory = codes "NoMemory"
@@ -74,6 +81,7 @@ name_of (fault.Staff cause) = staff_fault_name cause
 name_of (fault.Name cause) = name_fault_name cause
 name_of (fault.UnknownSection section) = codes "UnknownSection"
 name_of (fault.UnknownPoint point) = codes "UnknownPoint"
+name_of (fault.Input cause) = input_fault_name cause
 name_of fault.Output = codes "WriteFailed"
 
 abbrev pub file_fault_detail : CsvFault → Detail
@@ -125,6 +133,11 @@ fault_line cause = codes "fault: " ++ (subject_of cause ++ (codes " " ++ (name_o
 abbrev pub of_file : ImportFile → CsvFault → Fault
 of_file file csv.NoMemory = fault.Memory
 of_file file cause = fault.File file cause
+
+abbrev pub of_input : CsvFault → Fault
+of_input csv.NoMemory = fault.Memory
+of_input csv.TooLong = fault.Input input.TooLong
+of_input cause = fault.Input input.ReadFailed
 
 abbrev pub of_network : NetFault → Fault
 of_network net.NoMemory = fault.Memory

@@ -5,4 +5,6 @@ pub mod Files
 pub mod Init
 pub mod Lines
 pub mod Outcome
+pub mod Replies
+pub mod Run
 pub mod Syntax

@@ -5,7 +5,7 @@ use Rattle.clap.specs.declared.error.kind.ErrorKind.TheVariants.{DisplayHelp, Di
 use Rattle.std.specs.Io.KnownBytes.{Appends}
 use Rattle.clr_csv.specs.Failures.{Rose}
 use Rattle.gridclear.specs.declared.outcome.Outcome.{Outcome}
-use Rattle.gridclear.specs.declared.outcome.Outcome.TheVariants.{Answer, Unread}
+use Rattle.gridclear.specs.declared.outcome.Outcome.TheVariants.{Answer, Stopped, Unread}
 use Rattle.gridclear.specs.declared.fault.Fault.{Fault}
 use Rattle.gridclear.specs.declared.fault.Fault.TheVariants.{Output}
 use Rattle.gridclear.specs.Fault.{fault_line}
@@ -52,26 +52,32 @@ abbrev pub Tells : Result Outcome Fault → ℕ → Stream → Stream → Stream
 Tells (Ok (Answer text)) status output output' errors errors' =
     ((status ≡ 0) × WentOut output output' (string_bytes text) × (errors' ≡ errors))
     ⊎ ((status ≡ 1) × IsCut output output' (string_bytes text) × Sends errors errors' (told_line Output))
+Tells (Ok (Stopped text fault)) status output output' errors errors' =
+    ((status ≡ 1) × WentOut output output' (string_bytes text) × Sends errors errors' (told_line fault))
+    ⊎ ((status ≡ 1) × IsCut output output' (string_bytes text) × Sends errors errors' (told_line Output))
 Tells (Ok (Unread text)) status output output' errors errors' = (status ≡ 2) × (output' ≡ output) × Sends errors errors' (string_bytes text)
 Tells (Err fault) status output output' errors errors' = (status ≡ 1) × (output' ≡ output) × Sends errors errors' (told_line fault)
 
 -- What every outcome keeps to: the status is 0, 1 or 2; at 0 what was written was flushed, and nothing went to the errors; at 1
--- the line of a fault did, that of a failed write only where the output failed; at 2 nothing went to the output.
+-- the line of a fault did, that of a failed write only where the output failed, and what went to the output before it was flushed; at 2
+-- nothing went to the output.
 pub record IsTold (status : ℕ) (output output' errors errors' : Stream) : Type 0 where
   pub statuses : status ≤ 2
   pub answered : status ≡ 0 → (output'.flushed ≡ true) × (errors' ≡ errors)
   pub faulted : status ≡ 1 → (fault : Fault) × Sends errors errors' (told_line fault)
-      × (((fault ≡ Output) × HasFailed output output') ⊎ (output' ≡ output))
+      × (((fault ≡ Output) × HasFailed output output') ⊎ ((output' ≡ output) ⊎ ((front : List ℕ) × WentOut output output' front)))
   pub unread : status ≡ 2 → output' ≡ output
 
--- an answer, or help that was asked for
+-- an answer, whole or as far as it came, or help that was asked for
 abbrev pub IsAnswer : Outcome → Type 0
 IsAnswer (Answer text) = Unit {0}
+IsAnswer (Stopped text fault) = Unit {0}
 IsAnswer (Unread text) = ⊥
 
 -- why words do not parse
 abbrev pub IsUnread : Outcome → Type 0
 IsUnread (Answer text) = ⊥
+IsUnread (Stopped text fault) = ⊥
 IsUnread (Unread text) = Unit {0}
 
 -- The words may have an answer: clap finds nothing wrong with them, or they ask for help. The kinds are those of the

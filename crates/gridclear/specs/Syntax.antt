@@ -23,6 +23,10 @@ fence = with_rule (with_rule (with_files (new_app (codes "fence"))) (required_ru
 abbrev pub init : App
 init = with_rule (with_files (new_app (codes "init"))) (required_rule (codes "STAFF"))
 
+-- `run SECTIONS POINTS STAFF`
+abbrev pub run : App
+run = with_rule (with_files (new_app (codes "run"))) (required_rule (codes "STAFF"))
+
 -- the program with its subcommands
 abbrev pub gridclear : App
-gridclear = with_subcommand (with_subcommand (new_app (codes "gridclear")) fence.top) init.top
+gridclear = with_subcommand (with_subcommand (with_subcommand (new_app (codes "gridclear")) fence.top) init.top) run.top

@@ -10,6 +10,8 @@ use crate::fault::Fault;
 use crate::fence::fence;
 use crate::init::init;
 use crate::outcome::{Outcome, tell, tell_fault, write_out};
+use crate::replies::Printed;
+use crate::run::run;
 use crate::syntax;
 use clap::error::ErrorKind;
 use clr_csv::{CountedRead, CountedWrite};
@@ -24,7 +26,7 @@ use std::rt::Files;
 pub fn command_line<R, S, I, W, E>(
     rt: &R,
     words: &[S],
-    _input: &mut I,
+    input: &mut I,
     output: &mut W,
     errors: &mut E,
 ) -> u8
@@ -45,7 +47,7 @@ where
         (E.flushed errors.new)) }
     ensures words { result ≡ 0 → MayAnswer (fault_of gridclear (map S.text words.now)) }
 {
-    tell(answer(rt, words), output, errors)
+    tell(answer(rt, words, input), output, errors)
 }
 
 /// Tells why the arguments of the program could not be had: one is no text, or memory ran out.
@@ -75,10 +77,11 @@ pub fn no_words<E: CountedWrite>(cause: &io::Error, errors: &mut E) -> u8
 }
 
 /// What the words come to.
-fn answer<R, S>(rt: &R, words: &[S]) -> Result<Outcome, Fault>
+fn answer<R, S, I>(rt: &R, words: &[S], input: &mut I) -> Result<Outcome, Fault>
 where
     R: Files + AllocGlobal,
     S: AsStr,
+    I: CountedRead,
     ensures answers { IfOk result (λ outcome. IsAnswer outcome
         → MayAnswer (fault_of gridclear (map S.text words.now))) }
     ensures faults { IfErr result (λ fault. (fault ≡ Fault.Memory)
@@ -100,6 +103,13 @@ where
         Some(("init", matches)) => {
             let text = init(rt, matches)?;
             Ok(Outcome::Answer(text))
+        }
+        Some(("run", matches)) => {
+            let Printed { text, fault } = run(rt, matches, input)?;
+            match fault {
+                Some(fault) => Ok(Outcome::Stopped(text, fault)),
+                None => Ok(Outcome::Answer(text)),
+            }
         }
         _ => {
             let help = command.render_help()?;

@@ -1,6 +1,6 @@
 //! What ends a command before it has its answer.
 ghost use Rattle.std.specs.Prelude.{◌≡◌, ◌≤◌, length};
-ghost use Rattle.gridclear.specs.Fault.{file_fault_detail, file_fault_name, file_text, name_fault_detail, name_fault_name, network_fault_detail, network_fault_name, staff_fault_detail, staff_fault_name};
+ghost use Rattle.gridclear.specs.Fault.{file_fault_detail, file_fault_name, file_text, input_fault_name, name_fault_detail, name_fault_name, network_fault_detail, network_fault_name, staff_fault_detail, staff_fault_name};
 
 use clr_csv::{CsvFault, StaffFault};
 use clr_net::{Name, NameFault, NetFault};
@@ -31,6 +31,15 @@ impl ImportFile {
     }
 }
 
+/// Why standard input gives no commands.
+#[derive(Clone, Copy, Debug, PartialEq, Eq)]
+pub enum InputFault {
+    /// The reader failed.
+    ReadFailed,
+    /// There are more than 16,777,216 bytes.
+    TooLong,
+}
+
 /// What ends a command before it has its answer. Its line on standard error is made of `subject`,
 /// `name` and `detail`.
 #[derive(Clone, Copy, Debug, PartialEq, Eq)]
@@ -49,6 +58,8 @@ pub enum Fault {
     UnknownSection(Name),
     /// The network has no switching point of this name.
     UnknownPoint(Name),
+    /// Standard input could not be read, or is too long.
+    Input(InputFault),
     /// The answer could not be written to standard output.
     Output,
 }
@@ -113,7 +124,7 @@ impl From<NameFault> for Fault {
 }
 
 impl Fault {
-    ghost use Rattle.gridclear.specs.Fault.{of_file};
+    ghost use Rattle.gridclear.specs.Fault.{of_file, of_input};
 
     /// Why a file gives no rows.
     pub fn of_file(file: ImportFile, cause: CsvFault) -> Fault
@@ -122,6 +133,17 @@ impl Fault {
         match cause {
             CsvFault::NoMemory => Fault::Memory,
             _ => Fault::File(file, cause),
+        }
+    }
+
+    /// Why standard input gives no bytes.
+    pub fn of_input(cause: CsvFault) -> Fault
+        ensures { result ≡ of_input cause }
+    {
+        match cause {
+            CsvFault::NoMemory => Fault::Memory,
+            CsvFault::TooLong => Fault::Input(InputFault::TooLong),
+            _ => Fault::Input(InputFault::ReadFailed),
         }
     }
 }
@@ -155,6 +177,7 @@ impl Fault {
             Fault::Network(_) | Fault::UnknownSection(_) | Fault::UnknownPoint(_) => "network",
             Fault::Staff(_) => "staff",
             Fault::Name(_) => "name",
+            Fault::Input(_) => "input",
             Fault::Output => "output",
         }
     }
@@ -172,6 +195,7 @@ impl Fault {
             Fault::Name(fault) => name_fault_name(fault),
             Fault::UnknownSection(_) => "UnknownSection",
             Fault::UnknownPoint(_) => "UnknownPoint",
+            Fault::Input(fault) => input_fault_name(fault),
             Fault::Output => "WriteFailed",
         }
     }
@@ -181,13 +205,23 @@ impl Fault {
         ensures { result ≡ detail_of self.now }
     {
         match *self {
-            Fault::Memory | Fault::Output => Detail::Nothing,
+            Fault::Memory | Fault::Input(_) | Fault::Output => Detail::Nothing,
             Fault::File(_, fault) => file_fault_detail(fault),
             Fault::Network(fault) => network_fault_detail(fault),
             Fault::Staff(fault) => staff_fault_detail(fault),
             Fault::Name(fault) => name_fault_detail(fault),
             Fault::UnknownSection(name) | Fault::UnknownPoint(name) => Detail::Named(name),
         }
+    }
+}
+
+fn input_fault_name(fault: InputFault) -> &'static str
+    ensures text { result.now ≡ input_fault_name fault }
+    ensures short { length result.now ≤ 17 }
+{
+    match fault {
+        InputFault::ReadFailed => "ReadFailed",
+        InputFault::TooLong => "TooLong",
     }
 }
 

@@ -8,6 +8,8 @@ mod files;
 mod init;
 mod line;
 mod outcome;
+mod replies;
+mod run;
 mod syntax;
 mod words;
 

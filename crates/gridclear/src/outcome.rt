@@ -11,12 +11,14 @@ use clr_csv::{CountedWrite, write_whole};
 pub enum Outcome {
     /// The answer, or the help that was asked for.
     Answer(String),
+    /// The front of an answer, and the fault that ended it.
+    Stopped(String, Fault),
     /// Why the words do not parse.
     Unread(String),
 }
 
 /// Writes what words came to where it belongs, and returns the exit status: an answer to `output`,
-/// 0; a fault to `errors`, 1; why words do not parse to `errors`, 2. An answer that cannot be
+/// 0; a fault to `errors`, 1, behind what came before it; why words do not parse to `errors`, 2. An answer that cannot be
 /// written is a fault. What cannot be written to `errors` is lost.
 pub fn tell<W: CountedWrite, E: CountedWrite>(
     told: Result<Outcome, Fault>,
@@ -36,6 +38,10 @@ pub fn tell<W: CountedWrite, E: CountedWrite>(
     match told {
         Ok(Outcome::Answer(text)) => match write_out(text.as_str(), output) {
             Ok(()) => 0,
+            Err(_) => tell_fault(Fault::Output, errors),
+        },
+        Ok(Outcome::Stopped(text, fault)) => match write_out(text.as_str(), output) {
+            Ok(()) => tell_fault(fault, errors),
             Err(_) => tell_fault(Fault::Output, errors),
         },
         Ok(Outcome::Unread(text)) => {

@@ -6,6 +6,7 @@ ghost use Rattle.gridclear.specs.Syntax.{gridclear};
 mod arguments;
 mod fence;
 mod init;
+mod run;
 
 use clap::Command;
 use std::alloc::{AllocError, Global};
@@ -16,8 +17,10 @@ pub fn command<'a>(alloc: Global) -> Result<Command<'a>, AllocError>
 {
     let fence = fence::command(alloc)?;
     let init = init::command(alloc)?;
+    let run = run::command(alloc)?;
     let command = Command::new(alloc, "gridclear")
         .subcommand(fence)?
-        .subcommand(init)?;
+        .subcommand(init)?
+        .subcommand(run)?;
     Ok(command)
 }
