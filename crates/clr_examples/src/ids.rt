@@ -17,7 +17,10 @@ fn ids_are_read_without_a_leading_zero_up_to_9999(rt: HostRuntime) -> Result<(),
     let id = ClearanceId::read("JONES/9999")?;
     assert_eq!(rt; id.number(), 9999);
     assert_eq!(rt; format!(in rt.alloc(); "{id}")?.as_str(), "JONES/9999");
-    assert_eq!(rt; format!(in rt.alloc(); "{id:<12}|")?.as_str(), "JONES/9999  |");
+    assert_eq!(rt;
+        format!(in rt.alloc(); "{id:<12}|")?.as_str(),
+        "JONES/9999  |"
+    );
     Ok(())
 }
 

@@ -14,6 +14,8 @@ mod field;
 #[cfg(test)]
 mod ids;
 #[cfg(test)]
+mod life;
+#[cfg(test)]
 mod networks;
 #[cfg(test)]
 mod orders;
