@@ -31,7 +31,8 @@ pub enum HeadFault {
     NoMemory,
 }
 
-/// Reads some bytes to the end of the buffer, which is to have at most `most`. None are read only at the end of the input.
+/// Reads some bytes to the end of the buffer, which is to have at most `most`. None are read only
+/// at the end of the input.
 pub(crate) fn fill<R: CountedRead>(
     reader: &mut R,
     buffer: &mut Vec<u8>,

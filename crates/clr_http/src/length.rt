@@ -83,7 +83,8 @@ fn has_field(buffer: &[u8], headers: &[HeaderSpan], name: &str) -> bool
 /// What the one field `Content-Length` gives.
 fn only_length(buffer: &[u8], headers: &[HeaderSpan]) -> Result<usize, LengthFault>
     requires { All (IsHeaderWithin (length buffer.now)) headers.now }
-    ensures { result ≡ length_of_fields (filter (is_called (codes "content-length")) (map (header_bytes buffer.now) headers.now)) }
+    ensures { result ≡ length_of_fields (filter (is_called (codes "content-length"))
+        (map (header_bytes buffer.now) headers.now)) }
 {
     match headers {
         [] => Err(LengthFault::NoLength),

@@ -147,7 +147,8 @@ fn command_behind<R: CountedRead>(
 ) -> Result<Request, ReadFault>
     requires start { (start ≤ vec_len buffer.old) × (start ≤ 8192) }
     requires size { size ≤ 65536 }
-    ensures reading { (input : List ℕ) → Consumes (Some input) (R.remaining reader.old) buffer.old.items
+    ensures reading { (input : List ℕ)
+        → Consumes (Some input) (R.remaining reader.old) buffer.old.items
         → IfOk result (λ r. reading r ≡ command_read (Ok size) (drop start input)) }
     ensures cause { result ≡ Err ReadFault.ReadFailed
         → Rose (R.failure_count reader.old) (R.failure_count reader.new) }
@@ -173,9 +174,11 @@ fn command_in<R: CountedRead>(
 ) -> Result<Request, ReadFault>
     requires fields { All (IsHeaderWithin (length buffer.old.items)) headers.now }
     requires start { (start ≤ vec_len buffer.old) × (start ≤ 8192) }
-    ensures reading { (input : List ℕ) → Consumes (Some input) (R.remaining reader.old) buffer.old.items
+    ensures reading { (input : List ℕ)
+        → Consumes (Some input) (R.remaining reader.old) buffer.old.items
         → IfOk result (λ r. reading r
-        ≡ command_read (body_length (map (header_bytes buffer.old.items) headers.now)) (drop start input)) }
+        ≡ command_read (body_length (map (header_bytes buffer.old.items) headers.now))
+        (drop start input)) }
     ensures cause { result ≡ Err ReadFault.ReadFailed
         → Rose (R.failure_count reader.old) (R.failure_count reader.new) }
 {
@@ -229,7 +232,8 @@ pub fn read_request<R: CountedRead>(
     ensures empty { R.remaining reader.old ≡ Some [] → IfOk result (λ o. o ≡ None) }
     ensures outside { (input : List ℕ) → R.remaining reader.old ≡ Some input
         → ¬ (HasHead (Some input))
-        → IfOk result (λ o. IfSome o (λ r. IsRefusedHead (Some input) (R.remaining reader.new) (reading r))) }
+        → IfOk result (λ o. IfSome o (λ r.
+        IsRefusedHead (Some input) (R.remaining reader.new) (reading r))) }
     ensures cause { result ≡ Err ReadFault.ReadFailed
         → Rose (R.failure_count reader.old) (R.failure_count reader.new) }
 {

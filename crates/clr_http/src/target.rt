@@ -40,7 +40,8 @@ pub struct Printing {
     pub round: u8,
 }
 
-/// What a target asks for. A view or an order is `None` where a name, a number or the round in the path does not read.
+/// What a target asks for. A view or an order is `None` where a name, a number or the round in the
+/// path does not read.
 #[derive(Clone, Copy, Debug, PartialEq, Eq)]
 pub enum Asked {
     Command,
@@ -124,7 +125,8 @@ fn order_asked(id: Option<ClearanceId>, round: Option<u8>) -> Option<Printing>
 fn part<'v>(target: &str, params: &Params<'_, 'v>, route: Route, key: &str) -> &'v str
     requires path { params.now.path.now ≡ target.now }
     requires text { IsAscii params.now.text.now }
-    ensures { result.now ≡ part target.now (route_in params.now.pattern.now params.now.text.now params.now.names.now route) key.now }
+    ensures { result.now ≡ part target.now (route_in params.now.pattern.now
+        params.now.text.now params.now.names.now route) key.now }
 {
     if !is_ascii(target) {
         return "";
@@ -139,7 +141,8 @@ fn part<'v>(target: &str, params: &Params<'_, 'v>, route: Route, key: &str) -> &
 fn asked_by(target: &str, params: &Params<'_, '_>, route: Route) -> Asked
     requires path { params.now.path.now ≡ target.now }
     requires text { IsAscii params.now.text.now }
-    ensures { result ≡ asked_by target.now (route_in params.now.pattern.now params.now.text.now params.now.names.now route) route }
+    ensures { result ≡ asked_by target.now (route_in params.now.pattern.now
+        params.now.text.now params.now.names.now route) route }
 {
     match route {
         Route::Command => Asked::Command,
