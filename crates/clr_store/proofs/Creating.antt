@@ -1,0 +1,283 @@
+-- What the statements that make the tables do, and what the opening register's rows make of them.
+use Rattle.std.proofs.Common.{◌≡◌, ◌+◌, ◌<◌, ◌≤◌, ◌==◌, ℕ, zero, suc, List, [], ◌∷◌, ◌++◌, map, take, get_or, length, Bool, true, false, ◌&&◌, if◌then◌else◌, Some, None, unwrap_or, Ok, Err, Result, refl, sym, ap, subst, ◌∙◌, ◌⊎◌, inl, inr, IsTrue, append-nil, arith}
+use Rattle.std.specs.Prelude.{MatchResult}
+use Rattle.std.specs.List.{AllByRecursion, Contains, list_all}
+use Rattle.std.specs.List.Sorted.{IsPermutation}
+use Rattle.std.specs.Ordering.{is_lt, ordering_then}
+use Rattle.std.specs.declared.cmp.Ordering.{Ordering}
+use Rattle.std.specs.declared.cmp.Ordering.TheVariants.{Less, Equal, Greater}
+use Rattle.std.proofs.lemmas.List.Sorted.{IsPermutation-refl, IsPermutation-trans, IsPermutation-middle, IsPermutation-sym}
+use Rattle.std.proofs.lemmas.List.{get_or-map, length-map}
+use Rattle.std.proofs.lemmas.List.Sums.{fold_more}
+use Rattle.sqlite.specs.Change.{created, next_tree, KeepsRows}
+use Rattle.sqlite.specs.Command.TheVariants.{CreateTable}
+use Rattle.sqlite.specs.Does.{Tally, lacks_sequence}
+use Rattle.sqlite.specs.Effect.{Database}
+use Rattle.sqlite.specs.Order.{Row, row_cmp, value_cmp}
+use Rattle.sqlite.specs.State.{State, Writes, KeepsCommit, ExecutesInside}
+use Rattle.sqlite.specs.Tree.{Trees}
+use Rattle.sqlite.specs.declared.types.Value.TheVariants.{Text}
+use Rattle.sqlite.proofs.Callers.{runs_as}
+use Rattle.sqlite_trees.proofs.ListLemmas.{all-append}
+use Rattle.sqlite_value.proofs.OrderLemmas.{value_cmp-Text}
+use Rattle.clr_net.specs.Grid.{Grid, IsNetwork, point_names}
+use Rattle.clr_net.specs.Name.{name_cmp}
+use Rattle.clr_net.specs.declared.point.PointRow.{PointRow}
+use Rattle.clr_csv.specs.Staff.{IsStaff}
+use Rattle.clr_csv.specs.declared.employee.StaffRow.{StaffRow}
+use Rattle.clr_shelf.proofs.Lists.{Contains-cases, Contains-here, Contains-later}
+use Rattle.clr_shelf.proofs.Members.{row_of-member}
+use Rattle.clr_shelf.specs.Rows.{in_key_order}
+use Rattle.clr_rules.proofs.good.Opening.{in_key_order-from_sorted}
+use Rattle.clr_rules.specs.Register.{first_state, opening, unplaced}
+use Rattle.clr_rules.specs.States.{state_key, state_of}
+use Rattle.std.proofs.lemmas.Cmp.{nat_list_cmp_total}
+use Rattle.clr_tables.specs.Tables.{Tables, point_row, section_row, staff_row, state_at, tables_of}
+use Rattle.clr_tables.specs.declared.table_name.TableName.{TableName}
+use Rattle.clr_tables.specs.declared.table_name.TableName.TheVariants.{Meta, Section, Point, Staff, Clearance, Step, Hold}
+use Rattle.clr_store.specs.Change.{Changes, HasEmpty, Makes, added, change_at, filled, opening_points, with_rows}
+use Rattle.clr_store.specs.Schema.{all_names, columns_in, names_before, no_schema, schema_of, table_of, tree_of}
+use Rattle.clr_store.specs.Sql.{create_sql}
+use Rattle.clr_store.specs.Stored.{HasAllRows, HasRows, HasTables, Holds, IsInOrder, rows_in}
+use Rattle.clr_store.specs.declared.fault.StoreFault.{StoreFault}
+use Rattle.clr_store.proofs.Effects.{same_value, went}
+use Rattle.clr_store.proofs.Inside.{in_any_order, then_kept}
+use Rattle.clr_store.proofs.Texts.{create_is, create_plain, create_text, created_is, defines}
+
+-- ---- CREATE TABLE
+still_empty : (names : List TableName) (old new : Trees) → KeepsRows (map table_of names) old new → AllByRecursion (λ name. old (tree_of name) ≡ []) names
+    → AllByRecursion (λ name. new (tree_of name) ≡ []) names
+still_empty [] old new kept empty = tt
+still_empty (name ∷ names) old new kept empty = (kept.0 ∙ empty.0, still_empty names old new kept.1 empty.1)
+
+lacks : (name : TableName) → lacks_sequence (schema_of (names_before name ++ name ∷ [])) ≡ false
+lacks Meta = refl
+lacks Section = refl
+lacks Point = refl
+lacks Staff = refl
+lacks Clearance = refl
+lacks Step = refl
+lacks Hold = refl
+
+next_is : (name : TableName) → next_tree (schema_of (names_before name)) ≡ tree_of name
+next_is Meta = refl
+next_is Section = refl
+next_is Point = refl
+next_is Staff = refl
+next_is Clearance = refl
+next_is Step = refl
+next_is Hold = refl
+
+pub makes_table : (old new : State) (name : TableName) (count : ℕ) → ExecutesInside 0 (create_sql name) [] old new (Ok count)
+    → Makes old new (HasEmpty (names_before name)) (HasEmpty (names_before name ++ name ∷ []))
+makes_table old new name count ran = record {
+  inside = ran.1.mode;
+  kept = record { was_open = λ _. ran.1.was_open; committed = λ _. ran.1.committed_is };
+  makes = λ before.
+      let has = before.schema in
+      let w = subst (λ t. Writes old new None CreateTable t [] count) (create_text name)
+      (runs_as (create_sql name) [] old new (schema_of (names_before name)) has CreateTable (create_is name) (create_plain name) count ran.0) in
+      let all = went w.changed in
+      let first = went all.1 in
+      let made = first.1 in
+      let both : Ok made.table ≡ Ok (record (table_of name) { tree = 0 }) = sym made.defined ∙ defines name in
+      let same : made.table ≡ record (table_of name) { tree = 0 } = same_value both in
+      let schema : first.0.schema ≡ schema_of (names_before name ++ name ∷ []) =
+      made.is ∙ ap (λ s. created s made.table) has ∙ ap (created (schema_of (names_before name))) same ∙ created_is name in
+      let plain : lacks_sequence first.0.schema ≡ false = ap lacks_sequence schema ∙ lacks name in
+      let now : new.now ≡ first.0 = ap (λ (p : Tally × Database). p.1) (same_value all.2) ∙ same_value (rw plain at first.2) in
+      let others = subst (λ s. KeepsRows s.tables old.now.trees first.0.trees) has made.others in
+      let empty : first.0.trees (tree_of name) ≡ [] = subst (λ tree. first.0.trees tree ≡ []) (ap next_tree has ∙ next_is name) made.empty in
+      let trees = λ (n : ℕ). ap (λ (d : Database). d.trees n) now in
+      record {
+        schema = ap (λ (d : Database). d.schema) now ∙ schema;
+        empty = all-append (λ other. new.now.trees (tree_of other) ≡ []) (names_before name) (name ∷ [])
+            (moved (names_before name) new.now.trees first.0.trees (ap (λ (d : Database). d.trees) now) (still_empty (names_before name) old.now.trees first.0.trees others before.empty))
+            (trees (tree_of name) ∙ empty, tt);
+      };
+}
+  where
+    moved : (names : List TableName) (a b : Trees) → a ≡ b → AllByRecursion (λ name. b (tree_of name) ≡ []) names → AllByRecursion (λ name. a (tree_of name) ≡ []) names
+    moved names a b same empty = subst (λ (t : Trees). AllByRecursion (λ name. t (tree_of name) ≡ []) names) (sym same) empty
+
+pub then_makes : (a b c : State) (F G H : Database → Type 0) → Makes a b F G → Makes b c G H → Makes a c F H
+then_makes a b c F G H p q = record { inside = q.inside; kept = then_kept a b c p.kept q.kept; makes = λ has. q.makes (p.makes has) }
+
+pub then_ends : {X : Type 0} (a b c : State) (F G H : Database → Type 0) (r : Result X StoreFault) → Makes a b F G → MatchResult r (λ _. Makes b c G H) (λ _. KeepsCommit b c)
+    → MatchResult r (λ _. Makes a c F H) (λ _. KeepsCommit a c)
+then_ends a b c F G H (Ok x) p q = then_makes a b c F G H p q
+then_ends a b c F G H (Err e) p q = then_kept a b c p.kept q
+
+-- ---- rows put in front
+pub added_more : (news rows : List Row) (k : ℕ) (row : Row) → k < length news → row ≡ get_or news k row → added (take (k + 1) news) rows ≡ row ∷ added (take k news) rows
+added_more news rows k row within is = fold_more (λ had row. row ∷ had) rows news k row within ∙ ap (λ r. r ∷ added (take k news) rows) (sym is)
+
+added_same : (news rows : List Row) → IsPermutation (news ++ rows) (added news rows)
+added_same [] rows = IsPermutation-refl _
+added_same (row ∷ news) rows = IsPermutation-trans _ _ _ (IsPermutation-sym _ _ (IsPermutation-middle news row rows)) (added_same news (row ∷ rows))
+
+twice_at : (name other : TableName) (f g : List Row → List Row) (rows : List Row) → change_at name other f (change_at name other g rows) ≡ change_at name other (λ l. f (g l)) rows
+twice_at name other f g rows = go (tree_of name == tree_of other)
+  where
+    go : (b : Bool) → (if b then f (if b then g rows else rows) else (if b then g rows else rows)) ≡ (if b then f (g rows) else rows)
+    go true = refl
+    go false = refl
+
+-- two changes of one table
+pub twice : (name : TableName) (f g : List Row → List Row) (t : Tables) → with_rows name f (with_rows name g t) ≡ with_rows name (λ l. f (g l)) t
+twice name f g t i = record {
+  meta = twice_at name Meta f g t.meta i;
+  sections = twice_at name Section f g t.sections i;
+  points = twice_at name Point f g t.points i;
+  staff = twice_at name Staff f g t.staff i;
+  clearances = twice_at name Clearance f g t.clearances i;
+  steps = twice_at name Step f g t.steps i;
+  holds = twice_at name Hold f g t.holds i;
+}
+
+pub one_more_row : (old new : State) (name : TableName) (news : List Row) (k : ℕ) (row : Row) → k < length news → row ≡ get_or news k row
+    → Changes old new (λ t. with_rows name (λ rows. row ∷ rows) (with_rows name (added (take k news)) t)) → Changes old new (with_rows name (added (take (k + 1) news)))
+one_more_row old new name news k row within is both = record {
+  inside = both.inside;
+  kept = both.kept;
+  tables = λ t has. subst (Holds new.now)
+      (twice name (λ rows. row ∷ rows) (added (take k news)) t ∙ ap (λ (f : List Row → List Row). with_rows name f t) (λ i rows. sym (added_more news rows k row within is) i))
+      (both.tables t has);
+}
+
+-- one more of the items, each as its row
+pub one_more_of : {A : Type 0} (old new : State) (name : TableName) (row : A → Row) (items : List A) (k : ℕ) (item : A) → k < length items → item ≡ get_or items k item
+    → Changes old new (λ t. with_rows name (λ rows. row item ∷ rows) (with_rows name (added (take k (map row items))) t)) → Changes old new (with_rows name (added (take (k + 1) (map row items))))
+one_more_of old new name row items k item within is both =
+    let long : k < length (map row items) = omega (arith, length-map items row) in
+    one_more_row old new name (map row items) k (row item) long (ap row is ∙ sym (get_or-map row items k item (row item) within)) both
+
+pub all_taken : {A : Type 0} (old new : State) (name : TableName) (row : A → Row) (items : List A) (k : ℕ) → length items ≤ k
+    → Changes old new (with_rows name (added (take k (map row items)))) → Changes old new (with_rows name (added (map row items)))
+all_taken old new name row items k whole changes =
+    subst (λ l. Changes old new (with_rows name (added l))) (take-all (map row items) k (omega (arith, length-map items row))) changes
+  where
+    take-all : (l : List Row) (k : ℕ) → length l ≤ k → take k l ≡ l
+    take-all [] zero h = refl
+    take-all [] (suc k) h = refl
+    take-all (x ∷ l) zero h = absurd (omega arith)
+    take-all (x ∷ l) (suc k) h = ap (λ m. x ∷ m) (take-all l k (omega arith))
+
+pub no_rows : (s : State) (name : TableName) → IsTrue s.in_transaction → Changes s s (with_rows name (added []))
+no_rows s name inside = record {
+  inside = inside;
+  kept = record { was_open = λ is_open. is_open; committed = λ _. refl };
+  tables = λ t has. subst (Holds s.now) (sym (nothing t)) has;
+}
+  where
+    at_all : (other : TableName) (rows : List Row) → change_at name other (added []) rows ≡ rows
+    at_all other rows = go (tree_of name == tree_of other)
+      where
+        go : (b : Bool) → (if b then rows else rows) ≡ rows
+        go true = refl
+        go false = refl
+
+    nothing : (t : Tables) → with_rows name (added []) t ≡ t
+    nothing t i = record {
+      meta = at_all Meta t.meta i;
+      sections = at_all Section t.sections i;
+      points = at_all Point t.points i;
+      staff = at_all Staff t.staff i;
+      clearances = at_all Clearance t.clearances i;
+      steps = at_all Step t.steps i;
+      holds = at_all Hold t.holds i;
+    }
+
+-- ---- the opening register
+abbrev pub no_tables : Tables
+no_tables = record { meta = []; sections = []; points = []; staff = []; clearances = []; steps = []; holds = [] }
+
+empty_rows : (name : TableName) (trees : Trees) → trees (tree_of name) ≡ [] → HasRows (columns_in name) (trees (tree_of name)) []
+empty_rows name trees empty = rw empty (record { same = IsPermutation-refl _; numbered = (tt, tt); fit = refl })
+
+pub has_none : (db : Database) → HasEmpty all_names db → Holds db no_tables
+has_none db has = record { schema = has.schema; rows = at }
+  where
+    at : HasAllRows db.trees no_tables
+    at Meta = empty_rows Meta db.trees has.empty.0
+    at Section = empty_rows Section db.trees has.empty.1.0
+    at Point = empty_rows Point db.trees has.empty.1.1.0
+    at Staff = empty_rows Staff db.trees has.empty.1.1.1.0
+    at Clearance = empty_rows Clearance db.trees has.empty.1.1.1.1.0
+    at Step = empty_rows Step db.trees has.empty.1.1.1.1.1.0
+    at Hold = empty_rows Hold db.trees has.empty.1.1.1.1.1.1.0
+
+text_order : (a b : List ℕ) → row_cmp (Text a ∷ []) (Text b ∷ []) ≡ name_cmp a b
+text_order a b = then_equal (value_cmp (Text a) (Text b)) ∙ value_cmp-Text a b
+  where
+    then_equal : (o : Ordering) → ordering_then o Equal ≡ o
+    then_equal Less = refl
+    then_equal Equal = refl
+    then_equal Greater = refl
+
+named_order : {A : Type 0} (key : A → List ℕ) (row : A → Row) → ((x : A) → take 1 (row x) ≡ Text (key x) ∷ []) → (xs : List A)
+    → in_key_order row_cmp (take 1) (map row xs) ≡ in_key_order name_cmp key xs
+named_order key row first [] = refl
+named_order key row first (x ∷ xs) = λ i. above xs i && named_order key row first xs i
+  where
+    above : (rest : List _) → list_all (λ next. is_lt (row_cmp (take 1 (row x)) (take 1 next))) (map row rest) ≡ list_all (λ next. is_lt (name_cmp (key x) (key next))) rest
+    above [] = refl
+    above (next ∷ rest) = λ i. is_lt (((λ j. row_cmp (first x j) (first next j)) ∙ text_order (key x) (key next)) i) && above rest i
+
+contains_mapped : {A B : Type 0} (f : A → B) (xs : List A) (x : A) → Contains xs x → Contains (map f xs) (f x)
+contains_mapped f [] x h = absurd (grind arith)
+contains_mapped f (y ∷ xs) x h = go (Contains-cases y x xs h) (contains_mapped f xs x)
+  where
+    go : (y ≡ x) ⊎ Contains xs x → (Contains xs x → Contains (map f xs) (f x)) → Contains (map f (y ∷ xs)) (f x)
+    go (inl e) later = subst (λ z. Contains (map f (y ∷ xs)) (f z)) e (Contains-here (f y) (map f xs))
+    go (inr more) later = Contains-later (f y) (f x) (map f xs) (later more)
+
+first_keys : (points : List PointRow) → map state_key (map first_state points) ≡ point_names points
+first_keys [] = refl
+first_keys (p ∷ points) = ap (λ names. p.name ∷ names) (first_keys points)
+
+-- each point's first state is the one that its name reads
+points_first : (g : Grid) → IsNetwork g → (rest : List PointRow) → ((p : PointRow) → Contains rest p → Contains g.points p)
+    → map (λ p. point_row p (state_at (map first_state g.points) p)) (map unplaced rest) ≡ opening_points rest
+points_first g net [] within = refl
+points_first g net (p ∷ rest) within =
+    let ordered = in_key_order-from_sorted name_cmp state_key (map first_state g.points) (rw (first_keys g.points) net.points_rise) in
+    let found : state_of (map first_state g.points) p.name ≡ Some (first_state p) =
+    row_of-member name_cmp state_key nat_list_cmp_total (first_state p) (map first_state g.points) ordered (contains_mapped first_state g.points p (within p (Contains-here p rest))) in
+    λ i. point_row (unplaced p) (unwrap_or (found i) (first_state (unplaced p))) ∷ points_first g net rest (λ q there. within q (Contains-later p q rest there)) i
+
+-- the rows that are inserted are those of the opening register
+pub fills : (db : Database) (g : Grid) (staff : List StaffRow) → IsNetwork g → IsStaff staff → Holds db (filled g.sections g.points staff no_tables) → HasTables db (tables_of (opening g staff))
+fills db g staff net is_staff has = record { holds = record { schema = has.schema; rows = at }; in_order = ordered }
+  where
+    front : (name : TableName) (news : List Row) → HasRows (columns_in name) (db.trees (tree_of name)) (added news []) → HasRows (columns_in name) (db.trees (tree_of name)) news
+    front name news there = in_any_order (columns_in name) (db.trees (tree_of name)) (added news []) news
+        (IsPermutation-sym _ _ (subst (λ l. IsPermutation l (added news [])) (append-nil news) (added_same news []))) there
+
+    points : opening_points g.points ≡ rows_in Point (tables_of (opening g staff))
+    points = sym (points_first g net g.points (λ p there. there))
+
+    at : HasAllRows db.trees (tables_of (opening g staff))
+    at Meta = has.rows Meta
+    at Section = front Section (map section_row g.sections) (has.rows Section)
+    at Point = subst (HasRows (columns_in Point) (db.trees 4)) points (front Point (opening_points g.points) (has.rows Point))
+    at Staff = front Staff (map staff_row staff) (has.rows Staff)
+    at Clearance = has.rows Clearance
+    at Step = has.rows Step
+    at Hold = has.rows Hold
+
+    ordered : IsInOrder (tables_of (opening g staff))
+    ordered Meta = refl
+    ordered Section = named_order (λ s. s.name) section_row (λ s. refl) g.sections ∙ in_key_order-from_sorted name_cmp (λ s. s.name) g.sections net.sections_rise
+    ordered Point =
+        ap (in_key_order row_cmp (take 1)) (sym points)
+        ∙ named_order (λ p. p.name) (λ p. point_row p (first_state p)) (λ p. refl) g.points ∙ in_key_order-from_sorted name_cmp (λ p. p.name) g.points net.points_rise
+    ordered Staff = named_order (λ e. e.name) staff_row (λ e. refl) staff ∙ in_key_order-from_sorted name_cmp (λ e. e.name) staff is_staff.names_rise
+    ordered Clearance = refl
+    ordered Step = refl
+    ordered Hold = refl
+
+pub whole : (a b c : State) (g : Grid) (staff : List StaffRow) → IsNetwork g → IsStaff staff → a.now.schema ≡ no_schema → Makes a b (HasEmpty []) (HasEmpty all_names)
+    → Changes b c (filled g.sections g.points staff) → HasTables c.now (tables_of (opening g staff))
+whole a b c g staff net is_staff bare made changes =
+    fills c.now g staff net is_staff (changes.tables no_tables (has_none b.now (made.makes (record { schema = bare; empty = tt }))))

@@ -1,0 +1,219 @@
+-- What INSERT and DELETE make of the trees, whatever the table.
+use Rattle.std.proofs.Common.{◌≡◌, ◌≢◌, ◌⊎◌, inl, inr, ℕ, suc, ◌/◌, List, [], ◌∷◌, ◌++◌, map, length, Bool, true, false, cond, not, ◌&&◌, Some, None, Ok, Err, Result, slice_get, refl, sym, ap, subst, ◌∙◌, append-nil}
+use Rattle.std.specs.Prelude.{filter}
+use Rattle.std.specs.List.{AllByRecursion, list_all, flat_map}
+use Rattle.std.specs.List.Sorted.{IsPermutation}
+use Rattle.std.proofs.lemmas.List.Sorted.{IsPermutation-map}
+use Rattle.sqlite.specs.Cast.{cast_row}
+use Rattle.sqlite.specs.Command.TheVariants.{Insert, Delete}
+use Rattle.sqlite.specs.Does.{Tally, Does, AtPlace, OnRows}
+use Rattle.sqlite.specs.Edit.{edit_of, put_all, are_fresh, is_taken, next_rowid, numbered}
+use Rattle.sqlite.specs.Effect.{Database, value_rows}
+use Rattle.sqlite.specs.Listing.{understood}
+use Rattle.sqlite.specs.Order.{Row}
+use Rattle.sqlite.specs.Program.{overlay}
+use Rattle.sqlite.specs.Query.{Query, IsAnswer, Output, output}
+use Rattle.sqlite.specs.Rowids.TheVariants.{Chosen, Given}
+use Rattle.sqlite.specs.Rows.{Written, Task}
+use Rattle.sqlite.specs.Source.TheVariants.{Values}
+use Rattle.sqlite.specs.State.{State, mode_of, Executes}
+use Rattle.sqlite.specs.Term.{Env, Term, eval_all, holds}
+use Rattle.sqlite.specs.Tree.{Trees, put_row, rowid}
+use Rattle.sqlite.specs.declared.types.Value.TheVariants.{Null, Int}
+use Rattle.sqlite.proofs.Callers.{statement_of, runs_as, one_step}
+use Rattle.sqlite_rules.specs.Calls.{ids_of}
+use Rattle.sqlite_rules.specs.Edit.{id_in}
+use Rattle.sqlite_trees.proofs.ListLemmas.{map-map}
+use Rattle.sqlite_trees.specs.View.{IsShaped}
+use Rattle.sqlite_trees.specs.declared.store.Shape.TheVariants as Shape
+use Rattle.clr_tables.specs.declared.table_name.TableName.{TableName}
+use Rattle.clr_tables.specs.declared.table_name.TableName.TheVariants.{Meta, Section, Point, Staff, Clearance, Step, Hold}
+use Rattle.clr_store.specs.Schema.{place_of, tree_of, columns_in, table_of, register_schema}
+use Rattle.clr_store.specs.Sql.{insert_sql, delete_sql}
+use Rattle.clr_store.specs.Stored.{fits_columns}
+use Rattle.clr_store.proofs.Columns.{cast_fits, cast_number, fits_length, values_all, values_from}
+use Rattle.clr_store.proofs.RowLemmas.{removed}
+use Rattle.clr_store.proofs.Texts.{insert_is, insert_plain, insert_terms, delete_is, delete_plain, matching, query_of, width_of}
+
+-- a part that gave a value did not stop on the way
+pub went : {B E R : Type 0} {b : B} {Stops : E → Type 0} → ((stop : E) × Stops stop × (Ok b ≡ Err stop)) ⊎ R → R
+went (inl stopped) = absurd (let e = stopped.2 in cc)
+went (inr on) = on
+
+pub same_value : {B E : Type 0} {a b : B} → ◌≡◌ {A = Result B E} (Ok a) (Ok b) → a ≡ b
+same_value e = cc
+
+pub at_place : (name : TableName) → slice_get register_schema.tables (place_of name) ≡ Some (table_of name)
+at_place Meta = refl
+at_place Section = refl
+at_place Point = refl
+at_place Staff = refl
+at_place Clearance = refl
+at_place Step = refl
+at_place Hold = refl
+
+-- what an edit of one tree leaves of the tables in other trees
+pub others_stay : (next db : Trees) (tree : ℕ) → AllByRecursion (λ t. t.tree ≢ tree → next t.tree ≡ db t.tree) register_schema.tables
+    → (other : TableName) → tree_of other ≢ tree → next (tree_of other) ≡ db (tree_of other)
+others_stay next db tree all Meta apart = all.0 apart
+others_stay next db tree all Section apart = all.1.0 apart
+others_stay next db tree all Point apart = all.1.1.0 apart
+others_stay next db tree all Staff apart = all.1.1.1.0 apart
+others_stay next db tree all Clearance apart = all.1.1.1.1.0 apart
+others_stay next db tree all Step apart = all.1.1.1.1.1.0 apart
+others_stay next db tree all Hold apart = all.1.1.1.1.1.1.0 apart
+
+not_taken : (rows : List Row) (r : Row) → are_fresh rows (r ∷ []) ≡ true → is_taken rows r ≡ false
+not_taken rows r h = by_cases (is_taken rows r) h
+  where
+    by_cases : (b : Bool) → (not b && true) ≡ true → b ≡ false
+    by_cases true e = absurd cc
+    by_cases false e = refl
+
+-- a row under the next number of its tree
+abbrev pub next_row : TableName → Trees → Row → Row
+next_row name db row = Int (next_rowid (db (tree_of name))) ∷ row
+
+pub record Inserted (old new : State) (name : TableName) (row : Row) : Type 0 where
+  pub schema : new.now.schema ≡ register_schema
+  pub rows : new.now.trees (tree_of name) ≡ put_row (next_row name old.now.trees row) (old.now.trees (tree_of name))
+  pub fresh : is_taken (old.now.trees (tree_of name)) (next_row name old.now.trees row) ≡ false
+  pub others : (other : TableName) → tree_of other ≢ tree_of name → new.now.trees (tree_of other) ≡ old.now.trees (tree_of other)
+
+pub columns_width : (name : TableName) → length (columns_in name) ≡ width_of name
+columns_width Meta = refl
+columns_width Section = refl
+columns_width Point = refl
+columns_width Staff = refl
+columns_width Clearance = refl
+columns_width Step = refl
+columns_width Hold = refl
+
+value_row : (name : TableName) (row : Row) → value_rows row (suc (width_of name)) (length (insert_terms name) / suc (width_of name)) (insert_terms name) ≡ (Null ∷ values_from 0 (width_of name) row) ∷ []
+value_row Meta row = refl
+value_row Section row = refl
+value_row Point row = refl
+value_row Staff row = refl
+value_row Clearance row = refl
+value_row Step row = refl
+value_row Hold row = refl
+
+given_row : (name : TableName) (row : Row) → fits_columns (columns_in name) row ≡ true
+    → value_rows (row ++ []) (suc (width_of name)) (length (insert_terms name) / suc (width_of name)) (insert_terms name) ≡ (Null ∷ row) ∷ []
+given_row name row fits =
+    ap (λ r. value_rows r (suc (width_of name)) (length (insert_terms name) / suc (width_of name)) (insert_terms name)) (append-nil row)
+    ∙ value_row name row
+    ∙ ap (λ r. (Null ∷ r) ∷ []) (values_all (width_of name) row (fits_length (columns_in name) row fits ∙ columns_width name))
+
+stored_as : (name : TableName) (row : Row) → fits_columns (columns_in name) row ≡ true → cast_row (table_of name) (Null ∷ row) ≡ Null ∷ row
+stored_as name row fits i = cast_number i ∷ cast_fits (columns_in name) row fits i
+
+abbrev pub task_on : TableName → State → Row → Task
+task_on name old params = record { limit = old.step_limit; keys = (mode_of old).keys; schema = register_schema; table = table_of name; params = params }
+
+pub inserts : (old new : State) (name : TableName) (row : Row) (count : ℕ) → old.now.schema ≡ register_schema → fits_columns (columns_in name) row ≡ true
+    → Executes (insert_sql name) row old new (Ok count) → Inserted old new name row
+inserts old new name row count has fits ran =
+    let db = old.now.trees in
+    let command = Insert (place_of name) (Values (insert_terms name) (suc (width_of name))) in
+    let w = runs_as (insert_sql name) row old new register_schema has command (insert_is name) (insert_plain name) count ran in
+    let text = statement_of (insert_sql name) (understood register_schema (insert_sql name)) in
+    let placed = subst (λ s. Does old.step_limit (mode_of old) row (record old.now { schema = s }) text None command (Ok (w.tally, new.now))) has w.changed in
+    let done = went (subst (λ found. AtPlace (λ table. OnRows (record (task_on name old row) { table = table }) (mode_of old) None command db) found (Ok (w.tally, new.now))) (at_place name) placed) in
+    let now = ap (λ (p : Tally × Database). p.1) (same_value (went (went done.2).2).2) in
+    let given = went done.1 in
+    let written = went (went given.2).2 in
+    let counted = went written.2 in
+    let trees : done.0.trees ≡ written.0 = ap (λ (it : Written). it.trees) (same_value counted.2) ∙ same_value counted.1 in
+    let it = edit_of db (table_of name) [] Chosen 0 given.0 in
+    let step = one_step register_schema _ db written.0 it refl written.1 in
+    let source : given.0 ≡ (Null ∷ row) ∷ [] = given.1.1 ∙ given_row name row fits in
+    let news : it.news ≡ next_row name db row ∷ [] =
+    ap (λ all. (edit_of db (table_of name) [] Chosen 0 all).news) source ∙ ap (λ r. numbered Chosen (db (tree_of name)) (r ∷ [])) (stored_as name row fits) in
+    let all : new.now.trees ≡ written.0 = ap (λ (d : Database). d.trees) now ∙ trees in
+    record {
+      schema = ap (λ (d : Database). d.schema) now;
+      rows = ap (λ (t : Trees). t (tree_of name)) all ∙ step.rows ∙ ap (put_all (db (tree_of name))) news;
+      fresh = not_taken (db (tree_of name)) (next_row name db row) (subst (λ n. are_fresh (db (tree_of name)) n ≡ true) news step.fresh);
+      others = λ other apart. ap (λ (t : Trees). t (tree_of other)) all ∙ others_stay written.0 db (tree_of name) step.tables other apart;
+    }
+
+picked : {X Y : Type 0} (p : X → Bool) (g : X → Y) (xs : List X) → flat_map (λ x. cond (p x) (g x ∷ []) []) xs ≡ map g (filter p xs)
+picked p g [] = refl
+picked p g (x ∷ xs) = go (p x) refl (picked p g xs)
+  where
+    go : (b : Bool) → p x ≡ b → flat_map (λ x. cond (p x) (g x ∷ []) []) xs ≡ map g (filter p xs) → flat_map (λ x. cond (p x) (g x ∷ []) []) (x ∷ xs) ≡ map g (filter p (x ∷ xs))
+    go true e more = rw e (ap (λ l. g x ∷ l) more)
+    go false e more = rw e more
+
+-- the shown parts of what was matched, in some order
+shown_of : (q : Query) (envs : List Env) (kept ordered : List Output) (rows : List Row) → kept ≡ map (output q) envs → IsPermutation kept ordered → rows ≡ map (λ (o : Output). o.1) ordered
+    → IsPermutation (map (λ e. eval_all q.project e) envs) rows
+shown_of q envs kept ordered rows is same shown =
+    let made = IsPermutation-map (λ (o : Output). o.1) (map (output q) envs) ordered (subst (λ k. IsPermutation k ordered) is same) in
+    subst (IsPermutation (map (λ e. eval_all q.project e) envs)) (sym shown) (subst (λ l. IsPermutation l (map (λ (o : Output). o.1) ordered)) (map-map (λ (o : Output). o.1) (output q) envs) made)
+
+-- whether a row of a tree is met by the tests of its key
+abbrev pub is_met : List Term → Row → Row → Bool
+is_met tests params r = list_all (holds (params ∷ r ∷ [])) tests
+
+-- a table that is no part of a query is read as it is
+pub laid : (name : TableName) (db : Trees) → overlay db [] (tree_of name) ≡ db (tree_of name)
+laid Meta db = refl
+laid Section db = refl
+laid Point db = refl
+laid Staff db = refl
+laid Clearance db = refl
+laid Step db = refl
+laid Hold db = refl
+
+-- what a query without an order shows of the rows of one tree that it meets
+pub shown_rows : (tree : ℕ) (tests shown : List Term) (db : Trees) (params : Row) (rows : List Row) → overlay db [] tree ≡ db tree
+    → IsAnswer (query_of tree tests shown []) (overlay db []) params rows
+    → IsPermutation (map (λ r. eval_all shown (params ∷ r ∷ [])) (filter (is_met tests params) (db tree))) rows
+shown_rows tree tests shown db params rows plain a =
+    let q = query_of tree tests shown [] in
+    let pair = λ (r : Row). params ∷ r ∷ [] in
+    let met = is_met tests params in
+    let staged : a.staged ≡ map pair (filter met (db tree)) =
+    a.grouped ∙ ap (flat_map (λ r. cond (met r) (pair r ∷ []) [])) plain ∙ picked met pair (db tree) in
+    let some = shown_of q (map pair (filter met (db tree))) a.kept a.ordered rows (a.distinct ∙ ap (map (output q)) staged) a.same a.shown in
+    subst (λ l. IsPermutation l rows) (map-map (λ e. eval_all shown e) pair (filter met (db tree))) some
+
+pub ids_listed : (shown : List Row) (rows ids : List Row) → IsPermutation shown rows → map (λ r. id_in (rowid r)) shown ≡ map (λ r. id_in (rowid r)) ids
+    → IsPermutation (map (λ r. id_in (rowid r)) ids) (ids_of rows)
+ids_listed shown rows ids same is = subst (λ l. IsPermutation l (ids_of rows)) is (IsPermutation-map (λ r. id_in (rowid r)) shown rows same)
+
+abbrev pub is_met_in : TableName → Row → Row → Bool
+is_met_in name key r = is_met (Query.filter (matching name)) key r
+
+pub record Deleted (old new : State) (name : TableName) (key : Row) : Type 0 where
+  pub schema : new.now.schema ≡ register_schema
+  pub rows : new.now.trees (tree_of name) ≡ filter (λ r. not (is_met_in name key r)) (old.now.trees (tree_of name))
+  pub others : (other : TableName) → tree_of other ≢ tree_of name → new.now.trees (tree_of other) ≡ old.now.trees (tree_of other)
+
+pub deletes : (old new : State) (name : TableName) (key : Row) (count : ℕ) → old.now.schema ≡ register_schema → IsShaped Shape.Table (old.now.trees (tree_of name))
+    → Executes (delete_sql name) key old new (Ok count) → Deleted old new name key
+deletes old new name key count has shaped ran =
+    let db = old.now.trees in
+    let command = Delete (place_of name) (record { lets = []; body = matching name }) in
+    let w = runs_as (delete_sql name) key old new register_schema has command (delete_is name) (delete_plain name) count ran in
+    let text = statement_of (delete_sql name) (understood register_schema (delete_sql name)) in
+    let placed = subst (λ s. Does old.step_limit (mode_of old) key (record old.now { schema = s }) text None command (Ok (w.tally, new.now))) has w.changed in
+    let done = went (subst (λ found. AtPlace (λ table. OnRows (record (task_on name old key) { table = table }) (mode_of old) None command db) found (Ok (w.tally, new.now))) (at_place name) placed) in
+    let now = ap (λ (p : Tally × Database). p.1) (same_value (went (went done.2).2).2) in
+    let given = went done.1 in
+    let written = went given.2 in
+    let trees : done.0.trees ≡ written.0 = ap (λ (it : Written). it.trees) (same_value written.2) in
+    let it = edit_of db (table_of name) (ids_of given.0) Given 0 [] in
+    let step = one_step register_schema _ db written.0 it refl written.1 in
+    let a : IsAnswer (matching name) (overlay db []) key given.0 = given.1.answer Null in
+    let met = filter (is_met_in name key) (db (tree_of name)) in
+    let shown = shown_rows (tree_of name) (Query.filter (matching name)) (Query.project (matching name)) db key given.0 (laid name db) a in
+    let ids = ids_listed _ given.0 met shown (map-map (λ r. id_in (rowid r)) (λ r. eval_all (Query.project (matching name)) (key ∷ r ∷ [])) met) in
+    let all : new.now.trees ≡ written.0 = ap (λ (d : Database). d.trees) now ∙ trees in
+    record {
+      schema = ap (λ (d : Database). d.schema) now;
+      rows = ap (λ (t : Trees). t (tree_of name)) all ∙ step.rows ∙ removed (db (tree_of name)) shaped (is_met_in name key) (ids_of given.0) ids;
+      others = λ other apart. ap (λ (t : Trees). t (tree_of other)) all ∙ others_stay written.0 db (tree_of name) step.tables other apart;
+    }

@@ -1,0 +1,25 @@
+-- What parameters are, as values.
+use Rattle.std.proofs.Common.{◌≡◌, Bool, true, false, ℕ, List, Option, Some, None, take, refl, sym, ap, ◌∙◌}
+use Rattle.std.proofs.lemmas.List.{take-map}
+use Rattle.sqlite.specs.Values.{bound, bound_value}
+use Rattle.sqlite_value.specs.Value.{owned}
+use Rattle.sqlite_value.specs.declared.value.ValueRef.{ValueRef}
+use Rattle.clr_net.specs.declared.point.Position.{Position}
+use Rattle.clr_net.specs.declared.point.Position.TheVariants.{Opened, Closed}
+use Rattle.clr_tables.specs.Tables.{flag_value, name_or_null, position_value}
+
+pub bound_position : (position : Position) → bound_value (position_value position) ≡ position_value position
+bound_position Opened = refl
+bound_position Closed = refl
+
+pub bound_flag : (flag : Bool) → bound_value (flag_value flag) ≡ flag_value flag
+bound_flag true = refl
+bound_flag false = refl
+
+pub bound_name : (name : Option (List ℕ)) → bound_value (name_or_null name) ≡ name_or_null name
+bound_name None = refl
+bound_name (Some name) = refl
+
+-- the first of the parameters
+pub bound_first : (given : List ValueRef) (k n : ℕ) → k ≡ n → bound (take k given) ≡ take n (bound given)
+bound_first given k n is = ap (λ m. bound (take m given)) is ∙ sym (take-map (λ v. bound_value (owned v)) n given)

@@ -1,0 +1,324 @@
+-- What INSERT and DELETE make of the tables, inside a transaction.
+use Rattle.std.proofs.Common.{◌≡◌, ◌≢◌, ◌==◌, ℕ, suc, List, [], ◌∷◌, map, drop, take, length, Bool, true, false, cond, not, if◌then◌else◌, Ok, Err, Result, refl, sym, ap, subst, ◌∙◌, ◌++◌, ◌+◌, ◌<◌, ◌&&◌, IsTrue, inl, get_or, arith}
+use Rattle.std.specs.Prelude.{filter, slice_set, MatchResult}
+use Rattle.std.specs.List.{list_all}
+use Rattle.std.specs.List.Sorted.{IsPermutation}
+use Rattle.std.specs.Ordering.{is_eq, is_lt, is_gt}
+use Rattle.std.specs.declared.cmp.Ordering.{Ordering}
+use Rattle.std.specs.declared.cmp.Ordering.TheVariants.{Less, Equal, Greater}
+use Rattle.std.proofs.lemmas.Bool.Decides.{nat_tests}
+use Rattle.std.proofs.lemmas.List.{take_more}
+use Rattle.std.proofs.lemmas.List.Elements.{filter_agree}
+use Rattle.std.proofs.lemmas.List.Sorted.{IsPermutation-refl, IsPermutation-trans, IsPermutation-cons, IsPermutation-middle, IsPermutation-map, IsPermutation-sym, IsPermutation-append_right, All-permutation}
+use Rattle.std.proofs.lemmas.List.Sums.{AllPass-from_list_all, list_all-from_AllPass}
+use Rattle.sqlite.specs.Edit.{is_taken, next_rowid}
+use Rattle.sqlite.specs.Order.{Row, column, row_cmp}
+use Rattle.sqlite.specs.State.{State, ExecutesInside, HasCleanDisk, KeepsCommit, Survives}
+use Rattle.sqlite.specs.Effect.{Database}
+use Rattle.sqlite.specs.Held.{Held, state}
+use Rattle.sqlite.specs.Store.{Ghosts}
+use Rattle.sqlite.proofs.Callers.{survives_begin}
+use Rattle.sqlite.proofs.StateLemmas.{survives_then}
+use Rattle.sqlite.specs.Tree.{Trees, put_row}
+use Rattle.sqlite.specs.declared.types.Value.{Value}
+use Rattle.sqlite.specs.declared.types.Value.TheVariants.{Null, Int, Text}
+use Rattle.sqlite_schema.specs.declared.schema.Column.{Column}
+use Rattle.sqlite_trees.proofs.ListLemmas.{filter-map, IsPermutation-filter}
+use Rattle.sqlite_trees.proofs.TreeLemmas.{IsShaped-put_row}
+use Rattle.clr_shelf.proofs.Lists.{list_all-filter}
+use Rattle.clr_shelf.proofs.KeyOrder.{in_key_order-with_row, in_key_order-without_row}
+use Rattle.clr_shelf.specs.Rows.{in_key_order, with_row, without_row}
+use Rattle.sqlite_value.proofs.OrderLemmas.{row_cmp_total}
+use Rattle.clr_rules.specs.declared.change.Edit.{Edit}
+use Rattle.clr_rules.specs.declared.change.Edit.TheVariants.{SetPosition, SetHand, PutHold, TakeHold, PutRecord, PutStep}
+use Rattle.clr_tables.specs.TableEdits.{changed_point, handed_row, placed_row, table_edited, tables_edited, with_table_row, without_table_row}
+use Rattle.clr_tables.specs.Tables.{Tables, clearance_row, hand_values, hold_row, position_value, step_row}
+use Rattle.clr_tables.specs.declared.table_name.TableName.{TableName}
+use Rattle.clr_tables.specs.declared.table_name.TableName.TheVariants.{Meta, Section, Point, Staff, Clearance, Step, Hold}
+use Rattle.clr_store.specs.Contract.{AreEdited}
+use Rattle.clr_store.specs.Change.{Changes, change_at, with_rows}
+use Rattle.clr_store.specs.Schema.{columns_in, keys_in, tree_of}
+use Rattle.clr_store.specs.Sql.{insert_sql, delete_sql}
+use Rattle.clr_store.specs.declared.fault.StoreFault.{StoreFault}
+use Rattle.clr_store.specs.Stored.{HasAllRows, HasRows, HasTables, Holds, IsInOrder, bodies, fits_columns, rows_in}
+use Rattle.clr_store.proofs.Columns.{sets_from, tests_are}
+use Rattle.clr_store.proofs.RowLemmas.{put_fresh, shaped-filter}
+use Rattle.clr_store.proofs.Effects.{deletes, inserts, is_met_in}
+
+-- ---- one table of the seven
+name_at : ℕ → TableName
+name_at tree =
+    if tree == 0 then Meta else if tree == 2 then Section else if tree == 4 then Point else if tree == 6 then Staff
+    else if tree == 8 then Clearance else if tree == 10 then Step else Hold
+
+named_back : (name : TableName) → name_at (tree_of name) ≡ name
+unfolding name_at
+named_back Meta = refl
+named_back Section = refl
+named_back Point = refl
+named_back Staff = refl
+named_back Clearance = refl
+named_back Step = refl
+named_back Hold = refl
+
+same_number : (m n : ℕ) → (m == n) ≡ true → m ≡ n
+same_number m n h = grind (arith, nat_tests)
+
+apart_numbers : (m n : ℕ) → (m == n) ≡ false → n ≢ m
+apart_numbers m n h e = grind (arith, nat_tests)
+
+changed_in : (other name : TableName) (change : List Row → List Row) (t : Tables) → rows_in other (with_rows name change t) ≡ change_at name other change (rows_in other t)
+changed_in Meta name change t = refl
+changed_in Section name change t = refl
+changed_in Point name change t = refl
+changed_in Staff name change t = refl
+changed_in Clearance name change t = refl
+changed_in Step name change t = refl
+changed_in Hold name change t = refl
+
+-- the rows of one table are changed, and those of the others stay
+pub all_changed : (old new : Trees) (name : TableName) (change : List Row → List Row) (t : Tables) → HasAllRows old t
+    → HasRows (columns_in name) (new (tree_of name)) (change (rows_in name t))
+    → ((other : TableName) → tree_of other ≢ tree_of name → new (tree_of other) ≡ old (tree_of other)) → HasAllRows new (with_rows name change t)
+all_changed old new name change t has changed others other =
+    subst (HasRows (columns_in other) (new (tree_of other))) (sym (changed_in other name change t)) (go (tree_of name == tree_of other) refl)
+  where
+    go : (same : Bool) → (tree_of name == tree_of other) ≡ same → HasRows (columns_in other) (new (tree_of other)) (if same then change (rows_in other t) else rows_in other t)
+    go true is =
+        let one : name ≡ other = sym (named_back name) ∙ ap name_at (same_number (tree_of name) (tree_of other) is) ∙ named_back other in
+        subst (λ (it : TableName). HasRows (columns_in it) (new (tree_of it)) (change (rows_in it t))) one changed
+    go false is =
+        subst (λ (tree : List Row). HasRows (columns_in other) tree (rows_in other t)) (sym (others other (apart_numbers (tree_of name) (tree_of other) is))) (has other)
+
+-- ---- rows of a tree
+pub list_all-permutation : (p : Row → Bool) (xs ys : List Row) → IsPermutation xs ys → list_all p xs ≡ true → list_all p ys ≡ true
+list_all-permutation p xs ys same h = list_all-from_AllPass p ys (All-permutation (λ row. p row ≡ true) xs ys same (AllPass-from_list_all p xs h))
+
+-- the order in which rows are listed does not matter
+pub in_any_order : (columns : List Column) (tree xs ys : List Row) → IsPermutation xs ys → HasRows columns tree xs → HasRows columns tree ys
+in_any_order columns tree xs ys same has = record {
+  same = IsPermutation-trans _ _ _ (IsPermutation-sym _ _ same) has.same;
+  numbered = has.numbered;
+  fit = list_all-permutation (fits_columns columns) xs ys same has.fit;
+}
+
+pub put_in : (columns : List Column) (row : Row) (tree rows : List Row) → fits_columns columns row ≡ true → is_taken tree (Int (next_rowid tree) ∷ row) ≡ false
+    → HasRows columns tree rows → HasRows columns (put_row (Int (next_rowid tree) ∷ row) tree) (row ∷ rows)
+put_in columns row tree rows fits free has =
+    let new = Int (next_rowid tree) ∷ row in
+    record {
+      same = IsPermutation-trans _ _ _ (IsPermutation-cons row _ _ has.same) (IsPermutation-map (drop 1) _ _ (put_fresh new tree free));
+      numbered = IsShaped-put_row new tree refl has.numbered;
+      fit = rw (fits, has.fit) refl;
+    }
+
+met_empty : (name : TableName) (key : Row) → is_met_in name key [] ≡ is_met_in name key (Null ∷ [])
+met_empty Meta key = refl
+met_empty Section key = refl
+met_empty Point key = refl
+met_empty Staff key = refl
+met_empty Clearance key = refl
+met_empty Step key = refl
+met_empty Hold key = refl
+
+-- the rows that a statement meets are those of the key
+pub met_is : (name : TableName) (key r : Row) → length key ≡ keys_in name → sets_from 0 (keys_in name) key ≡ true
+    → is_met_in name key r ≡ is_eq (row_cmp (take (keys_in name) (drop 1 r)) key)
+met_is name key [] is set = met_empty name key ∙ tests_are (keys_in name) key [] Null is set
+met_is name key (id ∷ row) is set = tests_are (keys_in name) key row id is set
+
+pub taken_away : (name : TableName) (key : Row) (tree rows : List Row) → length key ≡ keys_in name → sets_from 0 (keys_in name) key ≡ true
+    → HasRows (columns_in name) tree rows → HasRows (columns_in name) (filter (λ r. not (is_met_in name key r)) tree) (without_table_row (keys_in name) key rows)
+unfolding without_row
+taken_away name key tree rows is set has =
+    let other = λ (row : Row). not (is_eq (row_cmp (take (keys_in name) row) key)) in
+    let kept = IsPermutation-filter other rows (bodies tree) has.same in
+    let there : filter other (bodies tree) ≡ bodies (filter (λ r. not (is_met_in name key r)) tree) =
+    filter-map other (drop 1) tree ∙ ap bodies (filter_agree _ _ (λ r. ap not (sym (met_is name key r is set))) tree) in
+    record {
+      same = subst (IsPermutation (filter other rows)) there kept;
+      numbered = shaped-filter _ tree has.numbered;
+      fit = list_all-filter (fits_columns (columns_in name)) other rows has.fit;
+    }
+
+-- a row in front of those of other keys is the list with the row put, in another order
+put_tested : (row other : Row) (lower rest higher : List Row) (o : Ordering) → IsPermutation (row ∷ rest) (lower ++ row ∷ higher)
+    → IsPermutation (row ∷ cond (not (is_eq o)) (other ∷ rest) rest) (cond (is_lt o) (other ∷ lower) lower ++ row ∷ cond (is_gt o) (other ∷ higher) higher)
+put_tested row other lower rest higher Less same =
+    IsPermutation-trans _ _ _ (IsPermutation-middle (row ∷ []) other rest) (IsPermutation-cons other _ _ same)
+put_tested row other lower rest higher Equal same = same
+put_tested row other lower rest higher Greater same =
+    let moved = IsPermutation-trans _ _ _ (IsPermutation-middle (row ∷ []) other rest) (IsPermutation-cons other _ _ same) in
+    IsPermutation-trans _ _ _ moved
+    (IsPermutation-trans _ _ _ (IsPermutation-sym _ _ (IsPermutation-middle lower other (row ∷ higher)))
+    (IsPermutation-append_right lower _ _ (IsPermutation-middle (other ∷ []) row higher)))
+
+pub put_again : (keys : ℕ) (row : Row) (rows : List Row) → IsPermutation (row ∷ without_table_row keys (take keys row) rows) (with_table_row keys row rows)
+unfolding without_row with_row
+put_again keys row [] = IsPermutation-refl _
+put_again keys row (other ∷ rows) =
+    put_tested row other (filter (λ it. is_lt (row_cmp (take keys it) (take keys row))) rows) (filter (λ it. not (is_eq (row_cmp (take keys it) (take keys row)))) rows)
+    (filter (λ it. is_gt (row_cmp (take keys it) (take keys row))) rows) (row_cmp (take keys other) (take keys row)) (put_again keys row rows)
+
+-- ---- statements
+pub adds : (old new : State) (name : TableName) (row : Row) (count : ℕ) → fits_columns (columns_in name) row ≡ true → ExecutesInside 0 (insert_sql name) row old new (Ok count)
+    → Changes old new (with_rows name (λ rows. row ∷ rows))
+adds old new name row count fits ran = record {
+  inside = ran.1.mode;
+  kept = record { was_open = λ _. ran.1.was_open; committed = λ _. ran.1.committed_is };
+  tables = λ t has.
+      let did = inserts old new name row count has.schema fits ran.0 in
+      let put = put_in (columns_in name) row (old.now.trees (tree_of name)) (rows_in name t) fits did.fresh (has.rows name) in
+      record {
+        schema = did.schema;
+        rows = all_changed old.now.trees new.now.trees name (λ rows. row ∷ rows) t has.rows (subst (λ tree. HasRows (columns_in name) tree (row ∷ rows_in name t)) (sym did.rows) put) did.others;
+      };
+}
+
+pub removes : (old new : State) (name : TableName) (key : Row) (count : ℕ) → length key ≡ keys_in name → sets_from 0 (keys_in name) key ≡ true
+    → ExecutesInside 0 (delete_sql name) key old new (Ok count) → Changes old new (with_rows name (without_table_row (keys_in name) key))
+removes old new name key count is set ran = record {
+  inside = ran.1.mode;
+  kept = record { was_open = λ _. ran.1.was_open; committed = λ _. ran.1.committed_is };
+  tables = λ t has.
+      let did = deletes old new name key count has.schema (has.rows name).numbered ran.0 in
+      let left = taken_away name key (old.now.trees (tree_of name)) (rows_in name t) is set (has.rows name) in
+      record {
+        schema = did.schema;
+        rows = all_changed old.now.trees new.now.trees name (without_table_row (keys_in name) key) t has.rows
+            (subst (λ tree. HasRows (columns_in name) tree (without_table_row (keys_in name) key (rows_in name t))) (sym did.rows) left) did.others;
+      };
+}
+
+-- ---- statements in turn
+pub then_kept : (a b c : State) → KeepsCommit a b → KeepsCommit b c → KeepsCommit a c
+then_kept a b c p q = record { was_open = λ o. p.was_open (q.was_open o); committed = λ o. q.committed o ∙ p.committed (q.was_open o) }
+
+pub then_changes : (a b c : State) (f g : Tables → Tables) → Changes a b f → Changes b c g → Changes a c (λ t. g (f t))
+then_changes a b c f g p q = record { inside = q.inside; kept = then_kept a b c p.kept q.kept; tables = λ t has. q.tables (f t) (p.tables t has) }
+
+pub then_step : {X : Type 0} (a b c : State) (f g : Tables → Tables) (r : Result X StoreFault) → Changes a b f → MatchResult r (λ _. Changes b c g) (λ _. KeepsCommit b c)
+    → MatchResult r (λ _. Changes a c (λ t. g (f t))) (λ _. KeepsCommit a c)
+then_step a b c f g (Ok x) p q = then_changes a b c f g p q
+then_step a b c f g (Err e) p q = then_kept a b c p.kept q
+
+-- the row of a key deleted and a row of that key inserted are the row put
+puts_rows : (trees : Trees) (name : TableName) (row : Row) (t : Tables)
+    → HasAllRows trees (with_rows name (λ rows. row ∷ rows) (with_rows name (without_table_row (keys_in name) (take (keys_in name) row)) t))
+    → HasAllRows trees (with_rows name (with_table_row (keys_in name) row) t)
+puts_rows trees name row t has other =
+    let rows = rows_in other t in
+    let before : rows_in other (with_rows name (λ rows. row ∷ rows) (with_rows name (without_table_row (keys_in name) (take (keys_in name) row)) t))
+    ≡ change_at name other (λ rows. row ∷ rows) (change_at name other (without_table_row (keys_in name) (take (keys_in name) row)) rows) =
+    changed_in other name (λ rows. row ∷ rows) (with_rows name (without_table_row (keys_in name) (take (keys_in name) row)) t)
+    ∙ ap (change_at name other (λ rows. row ∷ rows)) (changed_in other name (without_table_row (keys_in name) (take (keys_in name) row)) t) in
+    let moved = same_rows (tree_of name == tree_of other) rows in
+    in_any_order (columns_in other) (trees (tree_of other)) _ _
+    (subst (IsPermutation (rows_in other (with_rows name (λ rows. row ∷ rows) (with_rows name (without_table_row (keys_in name) (take (keys_in name) row)) t))))
+    (sym (changed_in other name (with_table_row (keys_in name) row) t))
+    (subst (λ l. IsPermutation l (change_at name other (with_table_row (keys_in name) row) rows)) (sym before) moved)) (has other)
+  where
+    same_rows : (same : Bool) (rows : List Row)
+        → IsPermutation (if same then row ∷ (if same then without_table_row (keys_in name) (take (keys_in name) row) rows else rows) else (if same then without_table_row (keys_in name) (take (keys_in name) row) rows else rows))
+        (if same then with_table_row (keys_in name) row rows else rows)
+    same_rows true rows = put_again (keys_in name) row rows
+    same_rows false rows = IsPermutation-refl _
+
+pub puts : {X : Type 0} (a b c : State) (name : TableName) (row : Row) (r : Result X StoreFault) → Changes a b (with_rows name (without_table_row (keys_in name) (take (keys_in name) row)))
+    → MatchResult r (λ _. Changes b c (with_rows name (λ rows. row ∷ rows))) (λ _. KeepsCommit b c)
+    → MatchResult r (λ _. Changes a c (with_rows name (with_table_row (keys_in name) row))) (λ _. KeepsCommit a c)
+puts a b c name row (Ok x) p q = record {
+  inside = q.inside;
+  kept = then_kept a b c p.kept q.kept;
+  tables = λ t has.
+      let both = q.tables (with_rows name (without_table_row (keys_in name) (take (keys_in name) row)) t) (p.tables t has) in
+      record { schema = both.schema; rows = puts_rows c.now.trees name row t both.rows };
+}
+puts a b c name row (Err e) p q = then_kept a b c p.kept q
+
+tables_more : (xs : List Edit) (e : Edit) (t : Tables) → tables_edited (xs ++ e ∷ []) t ≡ table_edited e (tables_edited xs t)
+unfolding tables_edited
+tables_more [] e t = refl
+tables_more (x ∷ xs) e t = tables_more xs e (table_edited x t)
+
+pub one_more : (old new : State) (es : List Edit) (k : ℕ) (e : Edit) → k < length es → e ≡ get_or es k e → Changes old new (λ t. table_edited e (tables_edited (take k es) t))
+    → Changes old new (tables_edited (take (k + 1) es))
+one_more old new es k e within is both = record {
+  inside = both.inside;
+  kept = both.kept;
+  tables = λ t has.
+      let more : tables_edited (take (k + 1) es) t ≡ table_edited e (tables_edited (take k es) t) =
+      ap (λ l. tables_edited l t) (take_more es k e within ∙ ap (λ x. take k es ++ x ∷ []) (sym is)) ∙ tables_more (take k es) e t in
+      subst (Holds new.now) (sym more) (both.tables t has);
+}
+
+pub no_edits : (s : State) → IsTrue s.in_transaction → Changes s s (tables_edited [])
+unfolding tables_edited
+no_edits s inside = record { inside = inside; kept = record { was_open = λ open_now. open_now; committed = λ _. refl }; tables = λ t has. has }
+
+pub survives_still : (s : State) → Survives s s (λ _. ⊥)
+survives_still s = record { clean = omega arith; shield = λ shielded. shielded; counts = omega arith; limit = refl; closes = λ _ is_open. inl is_open; crash = λ _ db left. inl left }
+
+-- ---- the order of keys
+order_changed : (name : TableName) (change : List Row → List Row) (t : Tables) → IsInOrder t → in_key_order row_cmp (take (keys_in name)) (change (rows_in name t)) ≡ true
+    → IsInOrder (with_rows name change t)
+order_changed name change t ordered here other =
+    ap (in_key_order row_cmp (take (keys_in other))) (changed_in other name change t) ∙ go (tree_of name == tree_of other) refl
+  where
+    go : (same : Bool) → (tree_of name == tree_of other) ≡ same → in_key_order row_cmp (take (keys_in other)) (if same then change (rows_in other t) else rows_in other t) ≡ true
+    go true is =
+        let one : name ≡ other = sym (named_back name) ∙ ap name_at (same_number (tree_of name) (tree_of other) is) ∙ named_back other in
+        subst (λ (it : TableName). in_key_order row_cmp (take (keys_in it)) (change (rows_in it t)) ≡ true) one here
+    go false is = ordered other
+
+order_mapped : (change : Row → Row) → ((row : Row) → take 1 (change row) ≡ take 1 row) → (rows : List Row)
+    → in_key_order row_cmp (take 1) (map change rows) ≡ in_key_order row_cmp (take 1) rows
+order_mapped change same [] = refl
+order_mapped change same (row ∷ rows) = λ i. above rows i && order_mapped change same rows i
+  where
+    above : (rest : List Row) → list_all (λ next. is_lt (row_cmp (take 1 (change row)) (take 1 next))) (map change rest) ≡ list_all (λ next. is_lt (row_cmp (take 1 row) (take 1 next))) rest
+    above [] = refl
+    above (next ∷ rest) = λ i. is_lt (row_cmp (same row i) (same next i)) && above rest i
+
+first_stays : (row : Row) (k : ℕ) (v : Value) → take 1 (slice_set row (suc k) v) ≡ take 1 row
+first_stays [] k v = refl
+first_stays (x ∷ row) k v = refl
+
+keeps_first : (b : Bool) (row changed : Row) → take 1 changed ≡ take 1 row → take 1 (if b then changed else row) ≡ take 1 row
+keeps_first true row changed same = same
+keeps_first false row changed same = refl
+
+edit_in_order : (edit : Edit) (t : Tables) → IsInOrder t → IsInOrder (table_edited edit t)
+edit_in_order (SetPosition point position) t ordered =
+    order_changed Point (changed_point point (placed_row position)) t ordered
+    (order_mapped _ (λ row. keeps_first (is_eq (row_cmp (take 1 row) (Text point ∷ []))) row (placed_row position row) (first_stays row 4 (position_value position))) t.points ∙ ordered Point)
+edit_in_order (SetHand point hand) t ordered =
+    order_changed Point (changed_point point (handed_row hand)) t ordered
+    (order_mapped _ (λ row. keeps_first (is_eq (row_cmp (take 1 row) (Text point ∷ []))) row (handed_row hand row)
+    (first_stays (slice_set row 6 (column (hand_values hand) 0)) 6 (column (hand_values hand) 1) ∙ first_stays row 5 (column (hand_values hand) 0))) t.points ∙ ordered Point)
+edit_in_order (PutHold h) t ordered = order_changed Hold (with_table_row 4 (hold_row h)) t ordered (in_key_order-with_row row_cmp (take 4) row_cmp_total (hold_row h) t.holds (ordered Hold))
+edit_in_order (TakeHold h) t ordered = order_changed Hold (without_table_row 4 (hold_row h)) t ordered (in_key_order-without_row row_cmp (take 4) row_cmp_total (hold_row h) t.holds (ordered Hold))
+edit_in_order (PutRecord r) t ordered =
+    order_changed Clearance (with_table_row 2 (clearance_row r)) t ordered (in_key_order-with_row row_cmp (take 2) row_cmp_total (clearance_row r) t.clearances (ordered Clearance))
+edit_in_order (PutStep row) t ordered = order_changed Step (with_table_row 4 (step_row row)) t ordered (in_key_order-with_row row_cmp (take 4) row_cmp_total (step_row row) t.steps (ordered Step))
+
+-- edits keep the order of keys
+pub edits_in_order : (edits : List Edit) (t : Tables) → IsInOrder t → IsInOrder (tables_edited edits t)
+unfolding tables_edited
+edits_in_order [] t ordered = ordered
+edits_in_order (edit ∷ edits) t ordered = edits_in_order edits (table_edited edit t) (edit_in_order edit t ordered)
+
+-- ---- a transaction
+pub commit_crash : {S : Type 0} (g : Ghosts S) (old mid end : Held S) (edits : List Edit) → Survives (state g (record old { in_transaction = true })) (state g mid) (λ _. ⊥)
+    → Survives (state g mid) (state g end) (λ db. db ≡ (state g mid).now.trees)
+    → (HasCleanDisk (state g mid) → Changes (state g (record old { in_transaction = true })) (state g mid) (tables_edited edits))
+    → Survives (state g old) (state g end) (AreEdited (state g old).now edits)
+commit_crash g old mid end edits inside ended changes =
+    survives_then (state g old) (state g mid) (state g end) _ _ _ (λ _ db none. absurd none)
+    (λ clean db is t has. record {
+      rows = subst (λ (trees : Trees). HasAllRows trees (tables_edited edits t)) (sym is) ((changes (omega (arith, ended.clean))).tables t has.holds).rows;
+      in_order = edits_in_order edits t has.in_order;
+    }) (survives_begin g old (state g mid) _ inside) ended
+
+pub edited_tables : (db : Database) (edits : List Edit) (t : Tables) → IsInOrder t → Holds db (tables_edited edits t) → HasTables db (tables_edited edits t)
+edited_tables db edits t ordered has = record { holds = has; in_order = edits_in_order edits t ordered }

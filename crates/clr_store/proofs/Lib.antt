@@ -1,0 +1,10 @@
+pub mod Texts
+pub mod Columns
+pub mod RowLemmas
+pub mod Effects
+pub mod Inside
+pub mod Updates
+pub mod Loading
+pub mod Given
+pub mod Creating
+pub mod Versions

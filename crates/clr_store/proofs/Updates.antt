@@ -1,0 +1,253 @@
+-- What UPDATE makes of the table of points.
+use Rattle.std.proofs.Common.{◌≡◌, ℕ, zero, suc, List, [], ◌∷◌, ◌++◌, map, drop, take, Bool, true, false, not, ◌&&◌, if◌then◌else◌, Ok, Some, None, pos, refl, sym, ap, subst, ◌∙◌}
+use Rattle.std.specs.Prelude.{filter, slice_set, slice_index_or}
+use Rattle.std.specs.List.{list_all}
+use Rattle.std.specs.List.Sorted.{IsPermutation}
+use Rattle.std.specs.Ordering.{is_eq}
+use Rattle.std.proofs.lemmas.List.{map-append}
+use Rattle.std.proofs.lemmas.List.Sorted.{IsPermutation-refl, IsPermutation-trans, IsPermutation-cons, IsPermutation-middle, IsPermutation-map, IsPermutation-sym, IsPermutation-append_left, IsPermutation-append_right}
+use Rattle.sqlite.specs.Cast.{cast_row, cast_all}
+use Rattle.sqlite.specs.Command.TheVariants.{Update}
+use Rattle.sqlite.specs.Does.{Tally, Does}
+use Rattle.sqlite.specs.Edit.{edit_of, put_all, are_fresh, is_taken, numbered, have_rowids, without_all}
+use Rattle.sqlite.specs.Effect.{Database}
+use Rattle.sqlite.specs.Kind.TheVariants as Kind
+use Rattle.sqlite.specs.Listing.{understood}
+use Rattle.sqlite.specs.Order.{Row, row_cmp}
+use Rattle.sqlite.specs.Program.{overlay}
+use Rattle.sqlite.specs.Query.{Query, IsAnswer}
+use Rattle.sqlite.specs.Rowids.TheVariants.{Given}
+use Rattle.sqlite.specs.Rows.{Written}
+use Rattle.sqlite.specs.State.{State, mode_of, ExecutesInside}
+use Rattle.sqlite.specs.Term.{Term, eval_all}
+use Rattle.sqlite.specs.Tree.{Trees, put_row, rowid}
+use Rattle.sqlite.specs.declared.types.Value.{Value}
+use Rattle.sqlite.specs.declared.types.Value.TheVariants.{Null, Int, Text}
+use Rattle.sqlite.proofs.Callers.{IsPlain, command_of, statement_of, runs_as, one_step}
+use Rattle.sqlite_rules.specs.Calls.{ids_of}
+use Rattle.sqlite_rules.specs.Edit.{id_in}
+use Rattle.sqlite_schema.specs.declared.schema.Column.{Column}
+use Rattle.sqlite_trees.proofs.ListLemmas.{map-map}
+use Rattle.sqlite_trees.proofs.TreeLemmas.{IsShaped-put_row}
+use Rattle.sqlite_trees.specs.View.{IsShaped}
+use Rattle.sqlite_trees.specs.declared.store.Shape.TheVariants as Shape
+use Rattle.clr_net.specs.declared.point.Position.{Position}
+use Rattle.clr_net.specs.declared.point.Position.TheVariants.{Opened, Closed}
+use Rattle.clr_rules.specs.Id.{Id}
+use Rattle.clr_rules.specs.declared.change.Edit.TheVariants.{SetPosition, SetHand}
+use Rattle.clr_tables.specs.TableEdits.{changed_point, handed_row, placed_row, table_edited}
+use Rattle.clr_tables.specs.Tables.{position_value}
+use Rattle.clr_tables.specs.declared.table_name.TableName.TheVariants.{Point}
+use Rattle.clr_store.specs.Change.{Changes, with_rows}
+use Rattle.clr_store.specs.Schema.{columns_in, table_of, tree_of, register_schema}
+use Rattle.clr_store.specs.Stored.{HasRows, bodies, fits_columns, is_of_kind, rows_in}
+use Rattle.clr_store.proofs.Columns.{both_true, cast_fits, values_all, values_from, fits_length}
+use Rattle.clr_store.proofs.Inside.{all_changed, list_all-permutation, met_is}
+use Rattle.clr_store.proofs.RowLemmas.{put_fresh, removed, shaped-filter}
+use Rattle.clr_store.proofs.Effects.{ids_listed, is_met, laid, others_stay, same_value, shown_rows, went}
+use Rattle.clr_store.specs.Sql.{set_hand_sql, set_position_sql}
+use Rattle.clr_store.proofs.Texts.{changing, hand_terms, position_terms, set_hand_is, set_hand_plain, set_position_is, set_position_plain, tests_from}
+
+-- ---- rows put under numbers that they have
+given_numbers : (rows news : List Row) → numbered Given rows news ≡ news
+given_numbers rows [] = refl
+given_numbers rows (r ∷ news) = ap (λ l. r ∷ l) (given_numbers (put_row r rows) news)
+
+fresh_parts : (rows : List Row) (r : Row) (rs : List Row) → are_fresh rows (r ∷ rs) ≡ true → (is_taken rows r ≡ false) × (are_fresh (put_row r rows) rs ≡ true)
+fresh_parts rows r rs h = go (is_taken rows r) (are_fresh (put_row r rows) rs) h
+  where
+    go : (a b : Bool) → (not a && b) ≡ true → (a ≡ false) × (b ≡ true)
+    go true b e = absurd cc
+    go false b e = (refl, e)
+
+pub put_all_fresh : (news rows : List Row) → are_fresh rows news ≡ true → IsPermutation (news ++ rows) (put_all rows news)
+put_all_fresh [] rows h = IsPermutation-refl _
+put_all_fresh (r ∷ news) rows h =
+    let parts = fresh_parts rows r news h in
+    let moved = IsPermutation-sym _ _ (IsPermutation-middle news r rows) in
+    IsPermutation-trans _ _ _ moved
+    (IsPermutation-trans _ _ _ (IsPermutation-append_right news _ _ (put_fresh r rows parts.0)) (put_all_fresh news (put_row r rows) parts.1))
+
+pub shaped_put_all : (news rows : List Row) → have_rowids news ≡ true → IsShaped Shape.Table rows → IsShaped Shape.Table (put_all rows news)
+shaped_put_all [] rows h shaped = shaped
+shaped_put_all (r ∷ news) rows h shaped =
+    let parts = both_true _ (have_rowids news) h in shaped_put_all news (put_row r rows) parts.1 (IsShaped-put_row r rows parts.0 shaped)
+
+-- ---- rows that are met, and the others
+parted : {A : Type 0} (met : Row → Bool) (f g : Row → A) (rows : List Row) → IsPermutation (map (λ r. if met r then f r else g r) rows) (map f (filter met rows) ++ map g (filter (λ r. not (met r)) rows))
+parted met f g [] = IsPermutation-refl _
+parted met f g (r ∷ rows) = go (met r) refl (parted met f g rows)
+  where
+    go : (b : Bool) → met r ≡ b → IsPermutation (map (λ r. if met r then f r else g r) rows) (map f (filter met rows) ++ map g (filter (λ r. not (met r)) rows))
+        → IsPermutation (map (λ r. if met r then f r else g r) (r ∷ rows)) (map f (filter met (r ∷ rows)) ++ map g (filter (λ r. not (met r)) (r ∷ rows)))
+    go true e more = rw e (IsPermutation-cons (f r) _ _ more)
+    go false e more = rw e (IsPermutation-trans _ _ _ (IsPermutation-cons (g r) _ _ more) (IsPermutation-sym _ _ (IsPermutation-middle (map f (filter met rows)) (g r) (map g (filter (λ r. not (met r)) rows)))))
+
+map_on : {A B : Type 0} (p : A → Bool) (f g : A → B) → ((x : A) → p x ≡ true → f x ≡ g x) → (xs : List A) → list_all p xs ≡ true → map f xs ≡ map g xs
+map_on p f g same [] h = refl
+map_on p f g same (x ∷ xs) h = let parts = both_true (p x) (list_all p xs) h in λ i. same x parts.0 i ∷ map_on p f g same xs parts.1 i
+
+list_all_map : {A B : Type 0} (p : B → Bool) (f : A → B) (xs : List A) → list_all p (map f xs) ≡ list_all (λ x. p (f x)) xs
+list_all_map p f [] = refl
+list_all_map p f (x ∷ xs) = ap (λ b. p (f x) && b) (list_all_map p f xs)
+
+abbrev pub point_columns : List Column
+point_columns = columns_in Point
+
+abbrev pub key_of_point : List ℕ → Row
+key_of_point point = Text point ∷ []
+
+abbrev pub is_point : List ℕ → Row → Bool
+is_point point row = is_eq (row_cmp (take 1 row) (key_of_point point))
+
+module _ (point : List ℕ) (more : Row) (terms : List Term) (change : Row → Row)
+    (reads : (r : Row) → fits_columns point_columns (drop 1 r) ≡ true → eval_all terms ((Text point ∷ more) ∷ r ∷ []) ≡ change (drop 1 r))
+    (fits : (row : Row) → fits_columns point_columns row ≡ true → fits_columns point_columns (change row) ≡ true) where
+  params : Row
+  params = Text point ∷ more
+
+  met : Row → Bool
+  met = is_met (tests_from 0 1) params
+
+  met_point : (r : Row) → met r ≡ is_point point (drop 1 r)
+  unfolding met params
+  met_point r = met_is Point (key_of_point point) r refl refl
+
+  -- the row of a point as the statement makes it, less its number
+  made : Row → Row
+  made r = cast_all point_columns (eval_all terms (params ∷ r ∷ []))
+
+  made_is : (r : Row) → fits_columns point_columns (drop 1 r) ≡ true → made r ≡ change (drop 1 r)
+  unfolding made params
+  made_is r h = ap (cast_all point_columns) (reads r h) ∙ cast_fits point_columns (change (drop 1 r)) (fits (drop 1 r) h)
+
+  -- a tree without the rows that are met, and with what the statement makes of them
+  rebuilt : (tree rows shown : List Row) → HasRows point_columns tree rows
+      → IsPermutation (map (λ r. eval_all (Query.project (changing terms)) (params ∷ r ∷ [])) (filter met tree)) shown
+      → are_fresh (filter (λ r. not (met r)) tree) (map (λ s. cast_row (table_of Point) (drop 1 s)) shown) ≡ true
+      → have_rowids (map (λ s. cast_row (table_of Point) (drop 1 s)) shown) ≡ true
+      → HasRows point_columns (put_all (filter (λ r. not (met r)) tree) (map (λ s. cast_row (table_of Point) (drop 1 s)) shown)) (changed_point point change rows)
+  unfolding made
+  rebuilt tree rows shown has same fresh keyed =
+      let stored = λ (s : Row). cast_row (table_of Point) (drop 1 s) in
+      let left = filter (λ r. not (met r)) tree in
+      let changed = λ (row : Row). if is_point point row then change row else row in
+      let tree_fits : list_all (λ r. fits_columns point_columns (drop 1 r)) tree ≡ true =
+      sym (list_all_map (fits_columns point_columns) (drop 1) tree) ∙ list_all-permutation (fits_columns point_columns) rows (bodies tree) has.same has.fit in
+      let one : map (λ r. changed (drop 1 r)) tree ≡ map (λ r. if met r then made r else drop 1 r) tree =
+      map_on (λ r. fits_columns point_columns (drop 1 r)) (λ r. changed (drop 1 r)) (λ r. if met r then made r else drop 1 r)
+      (λ r h. rw (met_point r, made_is r h) refl) tree tree_fits in
+      let two : IsPermutation (map changed rows) (map (λ r. changed (drop 1 r)) tree) =
+      subst (IsPermutation (map changed rows)) (map-map changed (drop 1) tree) (IsPermutation-map changed rows (bodies tree) has.same) in
+      let three : IsPermutation (map (λ r. if met r then made r else drop 1 r) tree) (map made (filter met tree) ++ bodies left) = parted met made (drop 1) tree in
+      let four : IsPermutation (map made (filter met tree)) (bodies (map stored shown)) =
+      subst (λ l. IsPermutation l (bodies (map stored shown)))
+      (map-map (λ s. drop 1 (stored s)) (λ r. eval_all (Query.project (changing terms)) (params ∷ r ∷ [])) (filter met tree))
+      (subst (IsPermutation (map (λ s. drop 1 (stored s)) (map (λ r. eval_all (Query.project (changing terms)) (params ∷ r ∷ [])) (filter met tree)))) (sym (map-map (drop 1) stored shown))
+      (IsPermutation-map (λ s. drop 1 (stored s)) _ _ same)) in
+      let five : IsPermutation (bodies (map stored shown) ++ bodies left) (bodies (put_all left (map stored shown))) =
+      subst (λ l. IsPermutation l (bodies (put_all left (map stored shown)))) (map-append (drop 1) (map stored shown) left)
+      (IsPermutation-map (drop 1) _ _ (put_all_fresh (map stored shown) left fresh)) in
+      record {
+        same = IsPermutation-trans _ _ _ two (subst (λ l. IsPermutation l (bodies (put_all left (map stored shown)))) (sym one)
+            (IsPermutation-trans _ _ _ three (IsPermutation-trans _ _ _ (IsPermutation-append_left (bodies left) _ _ four) five)));
+        numbered = shaped_put_all (map stored shown) left keyed (shaped-filter _ tree has.numbered);
+        fit = list_all_map (fits_columns point_columns) changed rows ∙ still_fit rows has.fit;
+      }
+    where
+      one_fits : (row : Row) (b : Bool) → fits_columns point_columns row ≡ true → fits_columns point_columns (if b then change row else row) ≡ true
+      one_fits row true h = fits row h
+      one_fits row false h = h
+
+      still_fit : (rows : List Row) → list_all (fits_columns point_columns) rows ≡ true → list_all (λ row. fits_columns point_columns (if is_point point row then change row else row)) rows ≡ true
+      still_fit [] h = refl
+      still_fit (row ∷ rows) h =
+          let parts = both_true (fits_columns point_columns row) (list_all (fits_columns point_columns) rows) h in
+          rw (one_fits row (is_point point row) parts.0, still_fit rows parts.1) refl
+
+  pub updates : (sql : List ℕ) → command_of (understood register_schema sql) ≡ Update 2 (record { lets = []; body = changing terms }) → IsPlain (understood register_schema sql)
+      → (old new : State) (count : ℕ) → ExecutesInside 0 sql (Text point ∷ more) old new (Ok count) → Changes old new (with_rows Point (changed_point point change))
+  unfolding met params
+  updates sql is plain old new count ran = record {
+    inside = ran.1.mode;
+    kept = record { was_open = λ _. ran.1.was_open; committed = λ _. ran.1.committed_is };
+    tables = λ t has.
+        let db = old.now.trees in
+        let tree = db 4 in
+        let command = Update 2 (record { lets = []; body = changing terms }) in
+        let w = runs_as sql params old new register_schema has.schema command is plain count ran.0 in
+        let text = statement_of sql (understood register_schema sql) in
+        let done = went (subst (λ s. Does old.step_limit (mode_of old) params (record old.now { schema = s }) text None command (Ok (w.tally, new.now))) has.schema w.changed) in
+        let now = ap (λ (p : Tally × Database). p.1) (same_value (went (went done.2).2).2) in
+        let given = went done.1 in
+        let written = went given.2 in
+        let trees : done.0.trees ≡ written.0 = ap (λ (it : Written). it.trees) (same_value written.2) in
+        let it = edit_of db (table_of Point) (ids_of given.0) Given 1 given.0 in
+        let step = one_step register_schema _ db written.0 it refl written.1 in
+        let a : IsAnswer (changing terms) (overlay db []) params given.0 = given.1.answer Null in
+        let shown = shown_rows 4 (tests_from 0 1) (Query.project (changing terms)) db params given.0 (laid Point db) a in
+        let ids = ids_listed _ given.0 (filter met tree) shown (map-map (λ r. id_in (rowid r)) (λ r. eval_all (Query.project (changing terms)) (params ∷ r ∷ [])) (filter met tree)) in
+        let left : without_all tree (ids_of given.0) ≡ filter (λ r. not (met r)) tree = removed tree (has.rows Point).numbered met (ids_of given.0) ids in
+        let news : it.news ≡ map (λ s. cast_row (table_of Point) (drop 1 s)) given.0 = given_numbers (without_all tree (ids_of given.0)) (map (λ s. cast_row (table_of Point) (drop 1 s)) given.0) in
+        let all : new.now.trees ≡ written.0 = ap (λ (d : Database). d.trees) now ∙ trees in
+        let built = rebuilt tree (rows_in Point t) given.0 (has.rows Point) shown
+        (subst (λ n. are_fresh (filter (λ r. not (met r)) tree) n ≡ true) news (subst (λ l. are_fresh l it.news ≡ true) left step.fresh))
+        (subst (λ n. have_rowids n ≡ true) news step.keyed) in
+        let there : new.now.trees 4 ≡ put_all (filter (λ r. not (met r)) tree) (map (λ s. cast_row (table_of Point) (drop 1 s)) given.0) =
+        ap (λ (t : Trees). t 4) all ∙ step.rows ∙ ap (λ l. put_all l it.news) left ∙ ap (put_all (filter (λ r. not (met r)) tree)) news in
+        record {
+          schema = ap (λ (d : Database). d.schema) now;
+          rows = all_changed old.now.trees new.now.trees Point (changed_point point change) t has.rows
+              (subst (λ l. HasRows point_columns l (changed_point point change (rows_in Point t))) (sym there) built)
+              (λ other apart. ap (λ (t : Trees). t (tree_of other)) all ∙ others_stay written.0 db 4 step.tables other apart);
+        };
+  }
+
+-- ---- the two updates
+fits_set : (columns : List Column) (row : Row) (at : ℕ) (v : Value) → fits_columns columns row ≡ true → is_of_kind (slice_index_or (map (λ (c : Column). c.kind) columns) at Kind.Any) v ≡ true
+    → fits_columns columns (slice_set row at v) ≡ true
+fits_set [] [] at v fits kind = refl
+fits_set [] (x ∷ row) at v fits kind = absurd cc
+fits_set (c ∷ columns) [] at v fits kind = absurd cc
+fits_set (c ∷ columns) (x ∷ row) zero v fits kind = rw (kind, (both_true (is_of_kind c.kind x) (fits_columns columns row) fits).1) refl
+fits_set (c ∷ columns) (x ∷ row) (suc at) v fits kind =
+    let parts = both_true (is_of_kind c.kind x) (fits_columns columns row) fits in
+    rw (parts.0, fits_set columns row at v parts.1 kind) refl
+
+eight : (row : Row) → fits_columns point_columns row ≡ true → values_from 0 8 row ≡ row
+eight row fits = values_all 8 row (fits_length point_columns row fits)
+
+position_reads : (point : List ℕ) (v : Value) (r : Row) → fits_columns point_columns (drop 1 r) ≡ true
+    → eval_all position_terms ((Text point ∷ v ∷ []) ∷ r ∷ []) ≡ slice_set (drop 1 r) 5 v
+position_reads point v [] fits = absurd cc
+position_reads point v (id ∷ row) fits =
+    subst (λ (body : Row). eval_all position_terms ((Text point ∷ v ∷ []) ∷ (id ∷ body) ∷ []) ≡ slice_set body 5 v) (eight row fits) refl
+
+hand_reads : (point : List ℕ) (v w : Value) (r : Row) → fits_columns point_columns (drop 1 r) ≡ true
+    → eval_all hand_terms ((Text point ∷ v ∷ w ∷ []) ∷ r ∷ []) ≡ slice_set (slice_set (drop 1 r) 6 v) 7 w
+hand_reads point v w [] fits = absurd cc
+hand_reads point v w (id ∷ row) fits =
+    subst (λ (body : Row). eval_all hand_terms ((Text point ∷ v ∷ w ∷ []) ∷ (id ∷ body) ∷ []) ≡ slice_set (slice_set body 6 v) 7 w) (eight row fits) refl
+
+position_fits : (position : Position) → is_of_kind Kind.Integer (position_value position) ≡ true
+position_fits Opened = refl
+position_fits Closed = refl
+
+pub sets_position : (old new : State) (point : List ℕ) (position : Position) (count : ℕ)
+    → ExecutesInside 0 set_position_sql (Text point ∷ position_value position ∷ []) old new (Ok count) → Changes old new (table_edited (SetPosition point position))
+sets_position old new point position count =
+    updates point (position_value position ∷ []) position_terms (placed_row position) (position_reads point (position_value position))
+    (λ row fits. fits_set point_columns row 5 (position_value position) fits (position_fits position)) set_position_sql set_position_is set_position_plain old new count
+
+pub clears_hand : (old new : State) (point : List ℕ) (count : ℕ)
+    → ExecutesInside 0 set_hand_sql (Text point ∷ Null ∷ Null ∷ []) old new (Ok count) → Changes old new (table_edited (SetHand point None))
+clears_hand old new point count =
+    updates point (Null ∷ Null ∷ []) hand_terms (handed_row None) (hand_reads point Null Null)
+    (λ row fits. fits_set point_columns (slice_set row 6 Null) 7 Null (fits_set point_columns row 6 Null fits refl) refl) set_hand_sql set_hand_is set_hand_plain old new count
+
+pub gives_hand : (old new : State) (point : List ℕ) (c : Id) (count : ℕ)
+    → ExecutesInside 0 set_hand_sql (Text point ∷ Text c.requester ∷ Int (pos c.number) ∷ []) old new (Ok count) → Changes old new (table_edited (SetHand point (Some c)))
+gives_hand old new point c count =
+    updates point (Text c.requester ∷ Int (pos c.number) ∷ []) hand_terms (handed_row (Some c)) (hand_reads point (Text c.requester) (Int (pos c.number)))
+    (λ row fits. fits_set point_columns (slice_set row 6 (Text c.requester)) 7 (Int (pos c.number)) (fits_set point_columns row 6 (Text c.requester) fits refl) refl)
+    set_hand_sql set_hand_is set_hand_plain old new count

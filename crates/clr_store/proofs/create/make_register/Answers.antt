@@ -1,0 +1,81 @@
+use Rattle.std.proofs.Common.{◌≡◌, true, arith, rules, refl, sym, subst}
+use Rattle.sqlite.specs.Effect.{Database}
+use Rattle.sqlite.specs.Held.{state}
+use Rattle.sqlite.specs.State.{HasCleanDisk, Survives}
+use Rattle.sqlite.specs.Tree.{Trees}
+use Rattle.sqlite.proofs.Callers.{survives_begin}
+use Rattle.sqlite.proofs.StateLemmas.{survives_then}
+use Rattle.clr_rules.specs.Register.{opening}
+use Rattle.clr_tables.specs.Tables.{tables_of}
+use Rattle.clr_store.specs.Schema.{no_schema}
+use Rattle.clr_store.specs.Stored.{AreTables, HasTables}
+use Rattle.clr_store.proofs.Creating.{whole}
+use Rattle.clr_store.proofs.create.make_register.Goals as goal
+
+pub returns-clause-made : goal.returns-clause-made
+returns-clause-made g c clean =
+    let old = c.args.conn.now in
+    let first = c.make_tables.new.tx.conn.now in
+    let mid = c.fill.new.tx.conn.now in
+    let end = c.commit.new.self.0 in
+    let begun = c.transaction-tx.ensures.begun in
+    let bare : old.schema ≡ no_schema = search rules in
+    let opens = tables_of (opening c.args.network.now c.args.staff.now) in
+    let ran : HasCleanDisk (state g.S.Store mid) → HasTables (state g.S.Store mid).now opens = λ clean.
+    let early : HasCleanDisk (state g.S.Store first) = omega (arith, c.fill.ensures.survives.clean) in
+    let one = rw begun at (c.in_ok-make_tables.ensures.step early (rw begun refl)) in
+    let two = rw (c.sections-sections.ensures.rows, c.points.ensures.rows, c.rows-employees.ensures.rows) at (c.in_ok-fill.ensures.step clean one.inside) in
+    whole (state g.S.Store (record old { in_transaction = true })) (state g.S.Store first) (state g.S.Store mid) c.args.network.now c.args.staff.now
+    c.sections-sections.ensures.network c.rows-employees.ensures.staff bare one two in
+    let same : end ≡ c.conn-2-1.given.0 = search rules in
+    let late : HasCleanDisk (state g.S.Store end) = search rules in
+    subst (λ h. HasTables (state g.S.Store h).now opens) same
+    (subst (λ (d : Database). HasTables d opens) (sym (c.in_ok-commit.ensures.ok late).1.now_is) (ran (omega (arith, c.commit.ensures.survives.clean))))
+
+pub returns-clause-crash : goal.returns-clause-crash
+returns-clause-crash g c =
+    let old = c.args.conn.now in
+    let first = c.make_tables.new.tx.conn.now in
+    let mid = c.fill.new.tx.conn.now in
+    let end = c.commit.new.self.0 in
+    let begun = c.transaction-tx.ensures.begun in
+    let bare : old.schema ≡ no_schema = search rules in
+    let opens = tables_of (opening c.args.network.now c.args.staff.now) in
+    let ran : HasCleanDisk (state g.S.Store mid) → HasTables (state g.S.Store mid).now opens = λ clean.
+    let early : HasCleanDisk (state g.S.Store first) = omega (arith, c.fill.ensures.survives.clean) in
+    let one = rw begun at (c.in_ok-make_tables.ensures.step early (rw begun refl)) in
+    let two = rw (c.sections-sections.ensures.rows, c.points.ensures.rows, c.rows-employees.ensures.rows) at (c.in_ok-fill.ensures.step clean one.inside) in
+    whole (state g.S.Store (record old { in_transaction = true })) (state g.S.Store first) (state g.S.Store mid) c.args.network.now c.args.staff.now
+    c.sections-sections.ensures.network c.rows-employees.ensures.staff bare one two in
+    let same : end ≡ c.conn-2-1.given.0 = search rules in
+    let inside = survives_then (state g.S.Store (record old { in_transaction = true })) (state g.S.Store first) (state g.S.Store mid) (λ _. ⊥) (λ _. ⊥) (λ _. ⊥) (λ _ _ none. none) (λ _ _ none. none)
+    (rw begun at c.make_tables.ensures.survives) c.fill.ensures.survives in
+    let P = λ (trees : Trees). AreTables trees opens in
+    let all = survives_then (state g.S.Store old) (state g.S.Store mid) (state g.S.Store end) _ _ P (λ _ db none. absurd none)
+    (λ clean db is. let there = ran (omega (arith, c.commit.ensures.survives.clean)) in subst P (sym is) (record { rows = there.holds.rows; in_order = there.in_order }))
+    (survives_begin g.S.Store old (state g.S.Store mid) _ inside) c.commit.ensures.survives in
+    subst (λ h. Survives (state g.S.Store old) (state g.S.Store h) P) same all
+
+pub returns-in_err-commit-clause-crash : goal.returns-in_err-commit-clause-crash
+returns-in_err-commit-clause-crash g c =
+    let old = c.args.conn.now in
+    let first = c.make_tables.new.tx.conn.now in
+    let mid = c.fill.new.tx.conn.now in
+    let end = c.commit.new.self.0 in
+    let begun = c.transaction-tx.ensures.begun in
+    let bare : old.schema ≡ no_schema = search rules in
+    let opens = tables_of (opening c.args.network.now c.args.staff.now) in
+    let ran : HasCleanDisk (state g.S.Store mid) → HasTables (state g.S.Store mid).now opens = λ clean.
+    let early : HasCleanDisk (state g.S.Store first) = omega (arith, c.fill.ensures.survives.clean) in
+    let one = rw begun at (c.in_ok-make_tables.ensures.step early (rw begun refl)) in
+    let two = rw (c.sections-sections.ensures.rows, c.points.ensures.rows, c.rows-employees.ensures.rows) at (c.in_ok-fill.ensures.step clean one.inside) in
+    whole (state g.S.Store (record old { in_transaction = true })) (state g.S.Store first) (state g.S.Store mid) c.args.network.now c.args.staff.now
+    c.sections-sections.ensures.network c.rows-employees.ensures.staff bare one two in
+    let same : end ≡ c.conn-2-1.given.0 = search rules in
+    let inside = survives_then (state g.S.Store (record old { in_transaction = true })) (state g.S.Store first) (state g.S.Store mid) (λ _. ⊥) (λ _. ⊥) (λ _. ⊥) (λ _ _ none. none) (λ _ _ none. none)
+    (rw begun at c.make_tables.ensures.survives) c.fill.ensures.survives in
+    let P = λ (trees : Trees). AreTables trees opens in
+    let all = survives_then (state g.S.Store old) (state g.S.Store mid) (state g.S.Store end) _ _ P (λ _ db none. absurd none)
+    (λ clean db is. let there = ran (omega (arith, c.commit.ensures.survives.clean)) in subst P (sym is) (record { rows = there.holds.rows; in_order = there.in_order }))
+    (survives_begin g.S.Store old (state g.S.Store mid) _ inside) c.commit.ensures.survives in
+    subst (λ h. Survives (state g.S.Store old) (state g.S.Store h) P) same all

@@ -1,0 +1,11 @@
+use Rattle.std.proofs.Common.{◌≡◌, OnOk, rules, subst}
+use Rattle.sqlite.specs.Held.{state}
+use Rattle.sqlite.specs.State.{HasCleanDisk}
+use Rattle.clr_store.specs.Contract.{MakesEdits}
+use Rattle.clr_store.proofs.store.Store.commit.Goals as goal
+
+pub returns-clause-made : goal.returns-clause-made
+returns-clause-made g c =
+    let new = state g.S.Store c.commit_change.new.conn in
+    let is : c.self.inside.connection ≡ c.args.self.now = search rules in
+    subst (λ h. HasCleanDisk new → OnOk c.commit_change.result (MakesEdits (state g.S.Store h).now c.args.change.now.edits new.now)) is c.commit_change.ensures.made

@@ -1,0 +1,6 @@
+pub mod Schema
+pub mod Sql
+pub mod Stored
+pub mod Fault
+pub mod Change
+pub mod Contract

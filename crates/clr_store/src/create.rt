@@ -1,0 +1,218 @@
+//! The tables are made, with the rows of an opening register, in one transaction.
+ghost use Rattle.std.specs.Prelude.{◌≡◌, [], ◌∷◌, ◌++◌, false, IsTrue, OnErr, OnOk, map};
+ghost use Rattle.sqlite.specs.Held.{state};
+ghost use Rattle.sqlite.specs.State.{HasCleanDisk, Survives};
+ghost use Rattle.clr_rules.specs.Register.{first_state, opening};
+ghost use Rattle.clr_tables.specs.Tables.{point_row, section_row, staff_row, tables_of, version_row};
+ghost use Rattle.clr_store.specs.Change.{HasEmpty, Steps, StepsTo, added, opening_points, filled, with_rows};
+ghost use Rattle.clr_store.specs.Contract.{IsSaved};
+ghost use Rattle.clr_store.specs.Schema.{all_names, names_before, no_schema};
+ghost use Rattle.clr_store.specs.Stored.{AreTables, HasTables};
+
+use crate::fault::StoreFault;
+use crate::sql::create_sql;
+use crate::statements::insert_row;
+use crate::values::{
+    flag_value, name_or_null, name_value, number_value, position_value, text_value,
+};
+use clr_csv::{Staff, StaffRow};
+use clr_net::{Network, PointRow, SectionRow};
+use clr_tables::{TableName, role_word};
+use sqlite::types::ValueRef;
+use sqlite::{Alter, Connection, Transaction};
+use sqlite_schema::schema::Schema;
+
+fn make_table<S: Alter>(tx: &mut Transaction<'_, S>, table: TableName) -> Result<(), StoreFault>
+    ensures same_reference { tx.new.conn.ghost_name ≡ tx.old.conn.ghost_name }
+    ensures step { StepsTo (state S.Store tx.old.conn.now) (state S.Store tx.new.conn.now) (HasEmpty (names_before table)) (HasEmpty (names_before table ++ table ∷ [])) result }
+    ensures survives { Survives (state S.Store tx.old.conn.now) (state S.Store tx.new.conn.now) (λ _. ⊥) }
+{
+    tx.execute(create_sql(table), &[])?;
+    Ok(())
+}
+
+fn make_first_tables<S: Alter>(tx: &mut Transaction<'_, S>) -> Result<(), StoreFault>
+    ensures same_reference { tx.new.conn.ghost_name ≡ tx.old.conn.ghost_name }
+    ensures step { StepsTo (state S.Store tx.old.conn.now) (state S.Store tx.new.conn.now) (HasEmpty []) (HasEmpty (names_before TableName.Staff)) result }
+    ensures survives { Survives (state S.Store tx.old.conn.now) (state S.Store tx.new.conn.now) (λ _. ⊥) }
+{
+    make_table(tx, TableName::Meta)?;
+    make_table(tx, TableName::Section)?;
+    make_table(tx, TableName::Point)
+}
+
+fn make_next_tables<S: Alter>(tx: &mut Transaction<'_, S>) -> Result<(), StoreFault>
+    ensures same_reference { tx.new.conn.ghost_name ≡ tx.old.conn.ghost_name }
+    ensures step { StepsTo (state S.Store tx.old.conn.now) (state S.Store tx.new.conn.now) (HasEmpty (names_before TableName.Staff)) (HasEmpty (names_before TableName.Hold)) result }
+    ensures survives { Survives (state S.Store tx.old.conn.now) (state S.Store tx.new.conn.now) (λ _. ⊥) }
+{
+    make_table(tx, TableName::Staff)?;
+    make_table(tx, TableName::Clearance)?;
+    make_table(tx, TableName::Step)
+}
+
+/// Makes the seven tables, without a row.
+fn make_tables<S: Alter>(tx: &mut Transaction<'_, S>) -> Result<(), StoreFault>
+    ensures same_reference { tx.new.conn.ghost_name ≡ tx.old.conn.ghost_name }
+    ensures step { StepsTo (state S.Store tx.old.conn.now) (state S.Store tx.new.conn.now) (HasEmpty []) (HasEmpty all_names) result }
+    ensures survives { Survives (state S.Store tx.old.conn.now) (state S.Store tx.new.conn.now) (λ _. ⊥) }
+{
+    make_first_tables(tx)?;
+    make_next_tables(tx)?;
+    make_table(tx, TableName::Hold)
+}
+
+fn add_version<S: Alter>(tx: &mut Transaction<'_, S>) -> Result<(), StoreFault>
+    ensures same_reference { tx.new.conn.ghost_name ≡ tx.old.conn.ghost_name }
+    ensures step { Steps (state S.Store tx.old.conn.now) (state S.Store tx.new.conn.now) (with_rows TableName.Meta (λ rows. version_row 1 ∷ rows)) result }
+    ensures survives { Survives (state S.Store tx.old.conn.now) (state S.Store tx.new.conn.now) (λ _. ⊥) }
+{
+    let row = [text_value("version"), number_value(1)];
+    insert_row(tx, TableName::Meta, &row)
+}
+
+fn add_section<S: Alter>(
+    tx: &mut Transaction<'_, S>,
+    section: &SectionRow,
+) -> Result<(), StoreFault>
+    ensures same_reference { tx.new.conn.ghost_name ≡ tx.old.conn.ghost_name }
+    ensures step { Steps (state S.Store tx.old.conn.now) (state S.Store tx.new.conn.now) (with_rows TableName.Section (λ rows. section_row section.now ∷ rows)) result }
+    ensures survives { Survives (state S.Store tx.old.conn.now) (state S.Store tx.new.conn.now) (λ _. ⊥) }
+{
+    let row = [name_value(&section.name), flag_value(section.source)];
+    insert_row(tx, TableName::Section, &row)
+}
+
+fn add_sections<S: Alter>(
+    tx: &mut Transaction<'_, S>,
+    sections: &[SectionRow],
+) -> Result<(), StoreFault>
+    ensures same_reference { tx.new.conn.ghost_name ≡ tx.old.conn.ghost_name }
+    ensures step { Steps (state S.Store tx.old.conn.now) (state S.Store tx.new.conn.now) (with_rows TableName.Section (added (map section_row sections.now))) result }
+    ensures survives { Survives (state S.Store tx.old.conn.now) (state S.Store tx.new.conn.now) (λ _. ⊥) }
+{
+    for section in sections {
+        add_section(tx, section)?;
+    }
+    Ok(())
+}
+
+/// Adds a point in the position of its row, in nobody's hand.
+fn add_point<S: Alter>(tx: &mut Transaction<'_, S>, point: &PointRow) -> Result<(), StoreFault>
+    ensures same_reference { tx.new.conn.ghost_name ≡ tx.old.conn.ghost_name }
+    ensures step { Steps (state S.Store tx.old.conn.now) (state S.Store tx.new.conn.now) (with_rows TableName.Point (λ rows. point_row point.now (first_state point.now) ∷ rows)) result }
+    ensures survives { Survives (state S.Store tx.old.conn.now) (state S.Store tx.new.conn.now) (λ _. ⊥) }
+{
+    let row = [
+        name_value(&point.name),
+        name_value(&point.from_end),
+        name_value(&point.to_end),
+        flag_value(point.lockable),
+        flag_value(point.remote),
+        position_value(point.position),
+        ValueRef::Null,
+        ValueRef::Null,
+    ];
+    insert_row(tx, TableName::Point, &row)
+}
+
+fn add_points<S: Alter>(tx: &mut Transaction<'_, S>, points: &[PointRow]) -> Result<(), StoreFault>
+    ensures same_reference { tx.new.conn.ghost_name ≡ tx.old.conn.ghost_name }
+    ensures step { Steps (state S.Store tx.old.conn.now) (state S.Store tx.new.conn.now) (with_rows TableName.Point (added (opening_points points.now))) result }
+    ensures survives { Survives (state S.Store tx.old.conn.now) (state S.Store tx.new.conn.now) (λ _. ⊥) }
+{
+    for point in points {
+        add_point(tx, point)?;
+    }
+    Ok(())
+}
+
+fn add_employee<S: Alter>(
+    tx: &mut Transaction<'_, S>,
+    employee: &StaffRow,
+) -> Result<(), StoreFault>
+    ensures same_reference { tx.new.conn.ghost_name ≡ tx.old.conn.ghost_name }
+    ensures step { Steps (state S.Store tx.old.conn.now) (state S.Store tx.new.conn.now) (with_rows TableName.Staff (λ rows. staff_row employee.now ∷ rows)) result }
+    ensures survives { Survives (state S.Store tx.old.conn.now) (state S.Store tx.new.conn.now) (λ _. ⊥) }
+{
+    let row = [
+        name_value(&employee.name),
+        text_value(role_word(employee.role)),
+        name_or_null(&employee.supervisor),
+    ];
+    insert_row(tx, TableName::Staff, &row)
+}
+
+fn add_staff<S: Alter>(tx: &mut Transaction<'_, S>, staff: &[StaffRow]) -> Result<(), StoreFault>
+    ensures same_reference { tx.new.conn.ghost_name ≡ tx.old.conn.ghost_name }
+    ensures step { Steps (state S.Store tx.old.conn.now) (state S.Store tx.new.conn.now) (with_rows TableName.Staff (added (map staff_row staff.now))) result }
+    ensures survives { Survives (state S.Store tx.old.conn.now) (state S.Store tx.new.conn.now) (λ _. ⊥) }
+{
+    for employee in staff {
+        add_employee(tx, employee)?;
+    }
+    Ok(())
+}
+
+/// Adds the sections and points of a network.
+fn add_network<S: Alter>(
+    tx: &mut Transaction<'_, S>,
+    sections: &[SectionRow],
+    points: &[PointRow],
+) -> Result<(), StoreFault>
+    ensures same_reference { tx.new.conn.ghost_name ≡ tx.old.conn.ghost_name }
+    ensures step { Steps (state S.Store tx.old.conn.now) (state S.Store tx.new.conn.now) (λ t. with_rows TableName.Point (added (opening_points points.now)) (with_rows TableName.Section (added (map section_row sections.now)) t)) result }
+    ensures survives { Survives (state S.Store tx.old.conn.now) (state S.Store tx.new.conn.now) (λ _. ⊥) }
+{
+    add_sections(tx, sections)?;
+    add_points(tx, points)
+}
+
+/// Adds the rows of an opening register.
+fn fill<S: Alter>(
+    tx: &mut Transaction<'_, S>,
+    sections: &[SectionRow],
+    points: &[PointRow],
+    staff: &[StaffRow],
+) -> Result<(), StoreFault>
+    ensures same_reference { tx.new.conn.ghost_name ≡ tx.old.conn.ghost_name }
+    ensures step { Steps (state S.Store tx.old.conn.now) (state S.Store tx.new.conn.now) (filled sections.now points.now staff.now) result }
+    ensures survives { Survives (state S.Store tx.old.conn.now) (state S.Store tx.new.conn.now) (λ _. ⊥) }
+{
+    add_version(tx)?;
+    add_network(tx, sections, points)?;
+    add_staff(tx, staff)
+}
+
+/// Whether nothing is in the database.
+fn is_bare(schema: &Schema) -> bool
+    ensures { IsTrue result → schema.now ≡ no_schema }
+{
+    schema.tables.as_slice().is_empty()
+        && schema.indexes.as_slice().is_empty()
+        && schema.views.as_slice().is_empty()
+}
+
+/// Makes the tables with the rows of an opening register, or leaves the database as it is.
+pub(crate) fn make_register<S: Alter>(
+    conn: &mut Connection<S>,
+    network: &Network,
+    staff: &Staff,
+) -> Result<(), StoreFault>
+    ensures mode { conn.old.in_transaction ≡ false → conn.new.in_transaction ≡ false }
+    ensures made { HasCleanDisk (state S.Store conn.new) → OnOk result (HasTables (state S.Store conn.new).now (tables_of (opening network.now staff.now))) }
+    ensures saved { HasCleanDisk (state S.Store conn.new) → OnOk result (IsSaved (state S.Store conn.new)) }
+    ensures none { HasCleanDisk (state S.Store conn.new) → IsTrue (state S.Store conn.new).is_open → OnErr result ((state S.Store conn.new).now ≡ (state S.Store conn.old).now) }
+    ensures crash { Survives (state S.Store conn.old) (state S.Store conn.new) (λ trees. AreTables trees (tables_of (opening network.now staff.now))) }
+{
+    if !conn.is_autocommit() || !is_bare(conn.schema()) {
+        return Err(StoreFault::Sql);
+    }
+    let sections = network.sections();
+    let employees = staff.rows();
+    let mut tx = conn.transaction();
+    make_tables(&mut tx)?;
+    fill(&mut tx, sections, network.points(), employees)?;
+    tx.commit()?;
+    Ok(())
+}

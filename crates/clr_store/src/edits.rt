@@ -1,0 +1,195 @@
+//! The edits of a change, each by its statements, inside a transaction.
+ghost use Rattle.std.specs.Prelude.{◌≡◌, true, take, Some, None};
+ghost use Rattle.sqlite.specs.Held.{state};
+ghost use Rattle.sqlite.specs.State.{Survives};
+ghost use Rattle.sqlite.specs.Values.{bound};
+ghost use Rattle.clr_rules.specs.declared.change.Edit.TheVariants.{SetPosition, SetHand, PutHold, TakeHold, PutRecord, PutStep};
+ghost use Rattle.clr_tables.specs.TableEdits.{table_edited, tables_edited, with_table_row};
+ghost use Rattle.clr_store.specs.Change.{Steps, with_rows};
+ghost use Rattle.clr_store.specs.Schema.{columns_in, keys_in};
+ghost use Rattle.clr_store.specs.Stored.{fits_columns, has_key};
+
+use crate::fault::StoreFault;
+use crate::sql::keys_in;
+use crate::statements::{delete_row, insert_row};
+use crate::values::{name_or_null, name_value, number_value, position_value, text_value};
+use clr_net::{Name, Position};
+use clr_rules::{ClearanceId, Edit, Hold, Record, StepRow};
+use clr_tables::{TableName, action_name, state_name};
+use sqlite::types::ValueRef;
+use sqlite::{Alter, Transaction};
+
+/// Puts a row in place of the one that has its key.
+fn put_row<S: Alter>(
+    tx: &mut Transaction<'_, S>,
+    table: TableName,
+    row: &[ValueRef<'_>],
+) -> Result<(), StoreFault>
+    requires fits { fits_columns (columns_in table) (bound row.now) ≡ true }
+    requires keyed { has_key (keys_in table) (take (keys_in table) (bound row.now)) ≡ true }
+    ensures same_reference { tx.new.conn.ghost_name ≡ tx.old.conn.ghost_name }
+    ensures step { Steps (state S.Store tx.old.conn.now) (state S.Store tx.new.conn.now) (with_rows table (with_table_row (keys_in table) (bound row.now))) result }
+    ensures survives { Survives (state S.Store tx.old.conn.now) (state S.Store tx.new.conn.now) (λ _. ⊥) }
+{
+    let key = &row[..keys_in(table)];
+    delete_row(tx, table, key)?;
+    insert_row(tx, table, row)
+}
+
+fn put_hold<S: Alter>(tx: &mut Transaction<'_, S>, hold: &Hold) -> Result<(), StoreFault>
+    ensures same_reference { tx.new.conn.ghost_name ≡ tx.old.conn.ghost_name }
+    ensures step { Steps (state S.Store tx.old.conn.now) (state S.Store tx.new.conn.now) (table_edited (PutHold hold.now)) result }
+    ensures survives { Survives (state S.Store tx.old.conn.now) (state S.Store tx.new.conn.now) (λ _. ⊥) }
+{
+    let requester = hold.id.requester();
+    let row = [
+        text_value(hold.kind.text()),
+        name_value(&hold.place),
+        name_value(&requester),
+        number_value(u64::from(hold.id.number())),
+    ];
+    put_row(tx, TableName::Hold, &row)
+}
+
+fn take_hold<S: Alter>(tx: &mut Transaction<'_, S>, hold: &Hold) -> Result<(), StoreFault>
+    ensures same_reference { tx.new.conn.ghost_name ≡ tx.old.conn.ghost_name }
+    ensures step { Steps (state S.Store tx.old.conn.now) (state S.Store tx.new.conn.now) (table_edited (TakeHold hold.now)) result }
+    ensures survives { Survives (state S.Store tx.old.conn.now) (state S.Store tx.new.conn.now) (λ _. ⊥) }
+{
+    let requester = hold.id.requester();
+    let key = [
+        text_value(hold.kind.text()),
+        name_value(&hold.place),
+        name_value(&requester),
+        number_value(u64::from(hold.id.number())),
+    ];
+    delete_row(tx, TableName::Hold, &key)
+}
+
+fn put_record<S: Alter>(tx: &mut Transaction<'_, S>, row: &Record) -> Result<(), StoreFault>
+    ensures same_reference { tx.new.conn.ghost_name ≡ tx.old.conn.ghost_name }
+    ensures step { Steps (state S.Store tx.old.conn.now) (state S.Store tx.new.conn.now) (table_edited (PutRecord row.now)) result }
+    ensures survives { Survives (state S.Store tx.old.conn.now) (state S.Store tx.new.conn.now) (λ _. ⊥) }
+{
+    let requester = row.id.requester();
+    let values = [
+        name_value(&requester),
+        number_value(u64::from(row.id.number())),
+        name_value(&row.holder),
+        name_or_null(&row.work),
+        text_value(row.phase.text()),
+        number_value(row.last.seconds()),
+    ];
+    put_row(tx, TableName::Clearance, &values)
+}
+
+fn put_step<S: Alter>(tx: &mut Transaction<'_, S>, row: &StepRow) -> Result<(), StoreFault>
+    ensures same_reference { tx.new.conn.ghost_name ≡ tx.old.conn.ghost_name }
+    ensures step { Steps (state S.Store tx.old.conn.now) (state S.Store tx.new.conn.now) (table_edited (PutStep row.now)) result }
+    ensures survives { Survives (state S.Store tx.old.conn.now) (state S.Store tx.new.conn.now) (λ _. ⊥) }
+{
+    let requester = row.id.requester();
+    let values = [
+        name_value(&requester),
+        number_value(u64::from(row.id.number())),
+        number_value(u64::from(row.round)),
+        number_value(u64::from(row.ordinal)),
+        text_value(action_name(row.step.action)),
+        name_value(&row.step.point),
+        text_value(state_name(row.step.state)),
+        name_or_null(&row.step.reader),
+    ];
+    put_row(tx, TableName::Step, &values)
+}
+
+fn set_position<S: Alter>(
+    tx: &mut Transaction<'_, S>,
+    point: &Name,
+    position: Position,
+) -> Result<(), StoreFault>
+    ensures same_reference { tx.new.conn.ghost_name ≡ tx.old.conn.ghost_name }
+    ensures step { Steps (state S.Store tx.old.conn.now) (state S.Store tx.new.conn.now) (table_edited (SetPosition point.now position)) result }
+    ensures survives { Survives (state S.Store tx.old.conn.now) (state S.Store tx.new.conn.now) (λ _. ⊥) }
+{
+    let given = [name_value(point), position_value(position)];
+    tx.execute("UPDATE point SET position = ?2 WHERE name = ?1", &given)?;
+    Ok(())
+}
+
+fn clear_hand<S: Alter>(tx: &mut Transaction<'_, S>, point: &Name) -> Result<(), StoreFault>
+    ensures same_reference { tx.new.conn.ghost_name ≡ tx.old.conn.ghost_name }
+    ensures step { Steps (state S.Store tx.old.conn.now) (state S.Store tx.new.conn.now) (table_edited (SetHand point.now None)) result }
+    ensures survives { Survives (state S.Store tx.old.conn.now) (state S.Store tx.new.conn.now) (λ _. ⊥) }
+{
+    let given = [name_value(point), ValueRef::Null, ValueRef::Null];
+    tx.execute(
+        "UPDATE point SET hand_requester = ?2, hand_number = ?3 WHERE name = ?1",
+        &given,
+    )?;
+    Ok(())
+}
+
+fn give_hand<S: Alter>(
+    tx: &mut Transaction<'_, S>,
+    point: &Name,
+    id: ClearanceId,
+) -> Result<(), StoreFault>
+    ensures same_reference { tx.new.conn.ghost_name ≡ tx.old.conn.ghost_name }
+    ensures step { Steps (state S.Store tx.old.conn.now) (state S.Store tx.new.conn.now) (table_edited (SetHand point.now (Some id))) result }
+    ensures survives { Survives (state S.Store tx.old.conn.now) (state S.Store tx.new.conn.now) (λ _. ⊥) }
+{
+    let requester = id.requester();
+    let number = number_value(u64::from(id.number()));
+    let given = [name_value(point), name_value(&requester), number];
+    tx.execute(
+        "UPDATE point SET hand_requester = ?2, hand_number = ?3 WHERE name = ?1",
+        &given,
+    )?;
+    Ok(())
+}
+
+fn set_hand<S: Alter>(
+    tx: &mut Transaction<'_, S>,
+    point: &Name,
+    hand: Option<ClearanceId>,
+) -> Result<(), StoreFault>
+    ensures same_reference { tx.new.conn.ghost_name ≡ tx.old.conn.ghost_name }
+    ensures step { Steps (state S.Store tx.old.conn.now) (state S.Store tx.new.conn.now) (table_edited (SetHand point.now hand)) result }
+    ensures survives { Survives (state S.Store tx.old.conn.now) (state S.Store tx.new.conn.now) (λ _. ⊥) }
+{
+    match hand {
+        Some(id) => give_hand(tx, point, id),
+        None => clear_hand(tx, point),
+    }
+}
+
+/// Makes one edit.
+fn make<S: Alter>(tx: &mut Transaction<'_, S>, edit: &Edit) -> Result<(), StoreFault>
+    ensures same_reference { tx.new.conn.ghost_name ≡ tx.old.conn.ghost_name }
+    ensures step { Steps (state S.Store tx.old.conn.now) (state S.Store tx.new.conn.now) (table_edited edit.now) result }
+    ensures survives { Survives (state S.Store tx.old.conn.now) (state S.Store tx.new.conn.now) (λ _. ⊥) }
+{
+    match edit {
+        Edit::SetPosition { point, position } => set_position(tx, point, *position),
+        Edit::SetHand { point, hand } => set_hand(tx, point, *hand),
+        Edit::PutHold(hold) => put_hold(tx, hold),
+        Edit::TakeHold(hold) => take_hold(tx, hold),
+        Edit::PutRecord(record) => put_record(tx, record),
+        Edit::PutStep(row) => put_step(tx, row),
+    }
+}
+
+/// Makes the edits, one after the other.
+pub(crate) fn make_all<S: Alter>(
+    tx: &mut Transaction<'_, S>,
+    edits: &[Edit],
+) -> Result<(), StoreFault>
+    ensures same_reference { tx.new.conn.ghost_name ≡ tx.old.conn.ghost_name }
+    ensures step { Steps (state S.Store tx.old.conn.now) (state S.Store tx.new.conn.now) (tables_edited edits.now) result }
+    ensures survives { Survives (state S.Store tx.old.conn.now) (state S.Store tx.new.conn.now) (λ _. ⊥) }
+{
+    for edit in edits {
+        make(tx, edit)?;
+    }
+    Ok(())
+}

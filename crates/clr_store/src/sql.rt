@@ -1,0 +1,90 @@
+//! The statements of a register, as texts.
+ghost use Rattle.std.specs.Prelude.{◌≡◌};
+ghost use Rattle.clr_store.specs.Schema.{keys_in};
+ghost use Rattle.clr_store.specs.Sql.{create_sql, delete_sql, insert_sql, select_sql};
+
+use clr_tables::TableName;
+
+/// How many columns of a table, the first, are its key.
+pub(crate) fn keys_in(table: TableName) -> usize
+    ensures { result ≡ keys_in table }
+{
+    match table {
+        TableName::Meta | TableName::Section | TableName::Point | TableName::Staff => 1,
+        TableName::Clearance => 2,
+        TableName::Step | TableName::Hold => 4,
+    }
+}
+
+/// Makes a table.
+pub(crate) fn create_sql(table: TableName) -> &'static str
+    ensures { result.now ≡ create_sql table }
+{
+    match table {
+        TableName::Meta =>
+            "CREATE TABLE meta (name TEXT NOT NULL, value INTEGER NOT NULL, PRIMARY KEY (name)) STRICT",
+        TableName::Section =>
+            "CREATE TABLE section (name TEXT NOT NULL, source INTEGER NOT NULL, PRIMARY KEY (name)) STRICT",
+        TableName::Point =>
+            "CREATE TABLE point (name TEXT NOT NULL, from_end TEXT NOT NULL, to_end TEXT NOT NULL, lockable INTEGER NOT NULL, remote INTEGER NOT NULL, position INTEGER NOT NULL, hand_requester TEXT, hand_number INTEGER, PRIMARY KEY (name)) STRICT",
+        TableName::Staff =>
+            "CREATE TABLE staff (name TEXT NOT NULL, role TEXT NOT NULL, supervisor TEXT, PRIMARY KEY (name)) STRICT",
+        TableName::Clearance =>
+            "CREATE TABLE clearance (requester TEXT NOT NULL, number INTEGER NOT NULL, holder TEXT NOT NULL, work TEXT, phase TEXT NOT NULL, last_at INTEGER NOT NULL, PRIMARY KEY (requester, number)) STRICT",
+        TableName::Step =>
+            "CREATE TABLE step (requester TEXT NOT NULL, number INTEGER NOT NULL, round INTEGER NOT NULL, ordinal INTEGER NOT NULL, action TEXT NOT NULL, point TEXT NOT NULL, state TEXT NOT NULL, reader TEXT, PRIMARY KEY (requester, number, round, ordinal)) STRICT",
+        TableName::Hold =>
+            "CREATE TABLE hold (kind TEXT NOT NULL, place TEXT NOT NULL, requester TEXT NOT NULL, number INTEGER NOT NULL, PRIMARY KEY (kind, place, requester, number)) STRICT",
+    }
+}
+
+/// Inserts a row, whose values are the parameters.
+pub(crate) fn insert_sql(table: TableName) -> &'static str
+    ensures { result.now ≡ insert_sql table }
+{
+    match table {
+        TableName::Meta => "INSERT INTO meta VALUES (?1, ?2)",
+        TableName::Section => "INSERT INTO section VALUES (?1, ?2)",
+        TableName::Point => "INSERT INTO point VALUES (?1, ?2, ?3, ?4, ?5, ?6, ?7, ?8)",
+        TableName::Staff => "INSERT INTO staff VALUES (?1, ?2, ?3)",
+        TableName::Clearance => "INSERT INTO clearance VALUES (?1, ?2, ?3, ?4, ?5, ?6)",
+        TableName::Step => "INSERT INTO step VALUES (?1, ?2, ?3, ?4, ?5, ?6, ?7, ?8)",
+        TableName::Hold => "INSERT INTO hold VALUES (?1, ?2, ?3, ?4)",
+    }
+}
+
+/// Deletes the row of a key, whose values are the parameters.
+pub(crate) fn delete_sql(table: TableName) -> &'static str
+    ensures { result.now ≡ delete_sql table }
+{
+    match table {
+        TableName::Meta => "DELETE FROM meta WHERE name = ?1",
+        TableName::Section => "DELETE FROM section WHERE name = ?1",
+        TableName::Point => "DELETE FROM point WHERE name = ?1",
+        TableName::Staff => "DELETE FROM staff WHERE name = ?1",
+        TableName::Clearance => "DELETE FROM clearance WHERE requester = ?1 AND number = ?2",
+        TableName::Step =>
+            "DELETE FROM step WHERE requester = ?1 AND number = ?2 AND round = ?3 AND ordinal = ?4",
+        TableName::Hold =>
+            "DELETE FROM hold WHERE kind = ?1 AND place = ?2 AND requester = ?3 AND number = ?4",
+    }
+}
+
+/// Lists all rows of a table, in the order of the whole key.
+pub(crate) fn select_sql(table: TableName) -> &'static str
+    ensures { result.now ≡ select_sql table }
+{
+    match table {
+        TableName::Meta => "SELECT name, value FROM meta ORDER BY name",
+        TableName::Section => "SELECT name, source FROM section ORDER BY name",
+        TableName::Point =>
+            "SELECT name, from_end, to_end, lockable, remote, position, hand_requester, hand_number FROM point ORDER BY name",
+        TableName::Staff => "SELECT name, role, supervisor FROM staff ORDER BY name",
+        TableName::Clearance =>
+            "SELECT requester, number, holder, work, phase, last_at FROM clearance ORDER BY requester, number",
+        TableName::Step =>
+            "SELECT requester, number, round, ordinal, action, point, state, reader FROM step ORDER BY requester, number, round, ordinal",
+        TableName::Hold =>
+            "SELECT kind, place, requester, number FROM hold ORDER BY kind, place, requester, number",
+    }
+}

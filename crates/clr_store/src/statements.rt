@@ -1,0 +1,60 @@
+//! One statement each, inside a transaction.
+ghost use Rattle.std.specs.Prelude.{◌≡◌, [], ◌∷◌, IfErr, true};
+ghost use Rattle.sqlite.specs.Held.{state};
+ghost use Rattle.sqlite.specs.State.{Survives};
+ghost use Rattle.sqlite.specs.Values.{bound};
+ghost use Rattle.clr_tables.specs.TableEdits.{without_table_row};
+ghost use Rattle.clr_store.specs.Change.{Lists, Steps, with_rows};
+ghost use Rattle.clr_store.specs.Fault.{IsOfDatabase};
+ghost use Rattle.clr_store.specs.Schema.{columns_in, keys_in};
+ghost use Rattle.clr_store.specs.Stored.{fits_columns, has_key};
+
+use crate::fault::StoreFault;
+use crate::sql::{delete_sql, insert_sql, keys_in, select_sql};
+use clr_tables::TableName;
+use sqlite::types::ValueRef;
+use sqlite::{Alter, Row, Transaction};
+
+/// Inserts a row whose key is not there.
+pub(crate) fn insert_row<S: Alter>(
+    tx: &mut Transaction<'_, S>,
+    table: TableName,
+    row: &[ValueRef<'_>],
+) -> Result<(), StoreFault>
+    requires { fits_columns (columns_in table) (bound row.now) ≡ true }
+    ensures same_reference { tx.new.conn.ghost_name ≡ tx.old.conn.ghost_name }
+    ensures step { Steps (state S.Store tx.old.conn.now) (state S.Store tx.new.conn.now) (with_rows table (λ rows. bound row.now ∷ rows)) result }
+    ensures survives { Survives (state S.Store tx.old.conn.now) (state S.Store tx.new.conn.now) (λ _. ⊥) }
+{
+    tx.execute(insert_sql(table), row)?;
+    Ok(())
+}
+
+/// Deletes the row of a key, if it is there.
+pub(crate) fn delete_row<S: Alter>(
+    tx: &mut Transaction<'_, S>,
+    table: TableName,
+    key: &[ValueRef<'_>],
+) -> Result<(), StoreFault>
+    requires { has_key (keys_in table) (bound key.now) ≡ true }
+    ensures same_reference { tx.new.conn.ghost_name ≡ tx.old.conn.ghost_name }
+    ensures step { Steps (state S.Store tx.old.conn.now) (state S.Store tx.new.conn.now) (with_rows table (without_table_row (keys_in table) (bound key.now))) result }
+    ensures survives { Survives (state S.Store tx.old.conn.now) (state S.Store tx.new.conn.now) (λ _. ⊥) }
+{
+    tx.execute(delete_sql(table), key)?;
+    Ok(())
+}
+
+/// All rows of a table, in the order of its key.
+pub(crate) fn list_rows<S: Alter>(
+    tx: &mut Transaction<'_, S>,
+    table: TableName,
+) -> Result<Vec<Row>, StoreFault>
+    ensures same_reference { tx.new.conn.ghost_name ≡ tx.old.conn.ghost_name }
+    ensures step { Lists (state S.Store tx.old.conn.now) (state S.Store tx.new.conn.now) table (λ rows. rows.items) result }
+    ensures fault { IfErr result IsOfDatabase }
+    ensures survives { Survives (state S.Store tx.old.conn.now) (state S.Store tx.new.conn.now) (λ _. ⊥) }
+{
+    let rows = tx.query_all(select_sql(table), &[])?;
+    Ok(rows)
+}

@@ -1,0 +1,136 @@
+//! The store: the register of a database, over a connection to it.
+ghost use Rattle.std.specs.Prelude.{◌≡◌, false, pos, IsTrue, IfErr, IfOk, Ok, OnErr, OnOk};
+ghost use Rattle.sqlite.specs.Held.{state};
+ghost use Rattle.sqlite.specs.State.{HasCleanDisk, Survives};
+ghost use Rattle.clr_rules.specs.Register.{opening};
+ghost use Rattle.clr_tables.specs.RowsRead.{read_version};
+ghost use Rattle.clr_tables.specs.Tables.{Tables, tables_of};
+ghost use Rattle.clr_store.specs.Stored.{AreTables, HasTables};
+ghost use Rattle.clr_store.specs.Contract.{AreEdited, IsSaved, MakesEdits, RefusesVersion};
+
+use crate::create::make_register;
+use crate::edits::make_all;
+use crate::fault::StoreFault;
+use crate::version::read_version;
+use clr_csv::Staff;
+use clr_net::Network;
+use clr_rules::Change;
+use sqlite::{Alter, Connection};
+use std::marker::Model;
+
+/// The register of a database. Between calls no transaction is open.
+///
+/// A store makes the tables, opens them and writes changes into them. No call reads a register back from them yet:
+/// of a database that is opened, only the version is read.
+#[derive(Drop)]
+pub struct Store<S: Alter + Drop> {
+    connection: Connection<S>,
+}
+
+impl<S: Alter + Drop> Model for Store<S> {
+    ghost use Rattle.std.specs.Prelude.{◌≡◌, false};
+    ghost use Rattle.sqlite.specs.Held.{Held, held_code};
+
+    ghost Value = { Held S };
+
+    ghost coded = { held_code S.code };
+
+    ghost view = { λ store. store.connection };
+
+    ghost invariant = { λ store. store.connection.in_transaction ≡ false };
+}
+
+/// A fault, with the connection on which it came.
+#[derive(Drop)]
+pub struct Back<S: Alter + Drop> {
+    pub fault: StoreFault,
+    pub connection: Connection<S>,
+}
+
+impl<S: Alter + Drop> Store<S> {
+    /// Makes the tables of an opening register in a database that is empty, in one transaction.
+    ///
+    /// `Sql` where anything is in the database already, or where a transaction is open. A fault hands the connection
+    /// back, with the database as it was.
+    pub fn create(
+        mut connection: Connection<S>,
+        network: &Network,
+        staff: &Staff,
+    ) -> Result<Store<S>, Back<S>>
+        ensures made { IfOk result (λ store. HasCleanDisk (state S.Store store) → IsSaved (state S.Store store) × HasTables (state S.Store store).now (tables_of (opening network.now staff.now))) }
+        ensures none { IfErr result (λ back. HasCleanDisk (state S.Store back.connection) → IsTrue (state S.Store back.connection).is_open → (state S.Store back.connection).now ≡ (state S.Store connection).now) }
+        ensures crash_made { IfOk result (λ store. Survives (state S.Store connection) (state S.Store store) (λ trees. AreTables trees (tables_of (opening network.now staff.now)))) }
+        ensures crash_none { IfErr result (λ back. Survives (state S.Store connection) (state S.Store back.connection) (λ trees. AreTables trees (tables_of (opening network.now staff.now)))) }
+    {
+        if !connection.is_autocommit() {
+            let fault = StoreFault::Sql;
+            return Err(Back { fault, connection });
+        }
+        match make_register(&mut connection, network, staff) {
+            Ok(()) => Ok(Store { connection }),
+            Err(fault) => Err(Back { fault, connection }),
+        }
+    }
+
+    /// Opens the store of a database that has the tables, and changes nothing.
+    ///
+    /// `Sql` where it has no tables or a transaction is open, `BadRow` of `meta` where that has no version,
+    /// `WrongVersion` where the version is not the one that is read. The other rows are not looked at. A fault hands
+    /// the connection back.
+    pub fn open(mut connection: Connection<S>) -> Result<Store<S>, Back<S>>
+        ensures opened { IfOk result (λ store. HasCleanDisk (state S.Store store) → IsTrue (state S.Store store).is_open → (state S.Store store).now ≡ (state S.Store connection).now) }
+        ensures version { IfOk result (λ store. HasCleanDisk (state S.Store store) → (t : Tables) → HasTables (state S.Store connection).now t → read_version t.meta ≡ Ok (pos 1)) }
+        ensures none { IfErr result (λ back. HasCleanDisk (state S.Store back.connection) → IsTrue (state S.Store back.connection).is_open → (state S.Store back.connection).now ≡ (state S.Store connection).now) }
+        ensures refused { IfErr result (λ back. HasCleanDisk (state S.Store back.connection) → (t : Tables) → HasTables (state S.Store connection).now t → RefusesVersion (read_version t.meta) back.fault) }
+        ensures crash_opened { IfOk result (λ store. Survives (state S.Store connection) (state S.Store store) (λ _. ⊥)) }
+        ensures crash_none { IfErr result (λ back. Survives (state S.Store connection) (state S.Store back.connection) (λ _. ⊥)) }
+    {
+        if !connection.is_autocommit() {
+            let fault = StoreFault::Sql;
+            return Err(Back { fault, connection });
+        }
+        match read_version(&mut connection) {
+            Ok(1) => Ok(Store { connection }),
+            Ok(other) => {
+                let fault = StoreFault::WrongVersion(other);
+                Err(Back { fault, connection })
+            }
+            Err(fault) => Err(Back { fault, connection }),
+        }
+    }
+
+    /// Gives the connection back.
+    pub fn end(self) -> Connection<S>
+        ensures connection { result ≡ self }
+        ensures ended { result.in_transaction ≡ false }
+    {
+        self.connection
+    }
+
+    /// Makes the edits of a change, in one transaction. On a fault none is made.
+    pub fn commit(&mut self, change: &Change) -> Result<(), StoreFault>
+        ensures made { HasCleanDisk (state S.Store self.new) → OnOk result (MakesEdits (state S.Store self.old).now change.now.edits (state S.Store self.new).now) }
+        ensures saved { HasCleanDisk (state S.Store self.new) → OnOk result (IsSaved (state S.Store self.new)) }
+        ensures none { HasCleanDisk (state S.Store self.new) → IsTrue (state S.Store self.new).is_open → OnErr result ((state S.Store self.new).now ≡ (state S.Store self.old).now) }
+        ensures crash { Survives (state S.Store self.old) (state S.Store self.new) (AreEdited (state S.Store self.old).now change.now.edits) }
+    {
+        commit_change(&mut self.connection, change)
+    }
+}
+
+/// Makes the edits in one transaction, or none.
+fn commit_change<S: Alter>(conn: &mut Connection<S>, change: &Change) -> Result<(), StoreFault>
+    ensures mode { conn.old.in_transaction ≡ false → conn.new.in_transaction ≡ false }
+    ensures made { HasCleanDisk (state S.Store conn.new) → OnOk result (MakesEdits (state S.Store conn.old).now change.now.edits (state S.Store conn.new).now) }
+    ensures saved { HasCleanDisk (state S.Store conn.new) → OnOk result (IsSaved (state S.Store conn.new)) }
+    ensures none { HasCleanDisk (state S.Store conn.new) → IsTrue (state S.Store conn.new).is_open → OnErr result ((state S.Store conn.new).now ≡ (state S.Store conn.old).now) }
+    ensures crash { Survives (state S.Store conn.old) (state S.Store conn.new) (AreEdited (state S.Store conn.old).now change.now.edits) }
+{
+    if !conn.is_autocommit() {
+        return Err(StoreFault::Sql);
+    }
+    let mut tx = conn.transaction();
+    make_all(&mut tx, change.edits.as_slice())?;
+    tx.commit()?;
+    Ok(())
+}

@@ -1,0 +1,57 @@
+//! What is written in the columns of a row.
+ghost use Rattle.std.specs.Prelude.{◌≡◌, ◌<◌, ◌^◌};
+ghost use Rattle.sqlite.specs.declared.types.Value.TheVariants.{Text};
+ghost use Rattle.sqlite_value.specs.Value.{owned};
+ghost use Rattle.clr_tables.specs.Tables.{flag_value, name_or_null, number_value, position_value};
+
+use clr_net::{Name, Position};
+use sqlite::types::ValueRef;
+
+/// A text.
+pub(crate) fn text_value(text: &str) -> ValueRef<'_>
+    ensures { owned result ≡ Text text.now }
+{
+    ValueRef::Text(text.as_bytes())
+}
+
+/// A name.
+pub(crate) fn name_value(name: &Name) -> ValueRef<'_>
+    ensures { owned result ≡ Text name.now }
+{
+    text_value(name.as_str())
+}
+
+/// A name, or NULL for none.
+pub(crate) fn name_or_null(name: &Option<Name>) -> ValueRef<'_>
+    ensures { owned result ≡ name_or_null name.now }
+{
+    match name {
+        Some(name) => name_value(name),
+        None => ValueRef::Null,
+    }
+}
+
+/// A number.
+pub(crate) fn number_value(number: u64) -> ValueRef<'static>
+    requires { number < 2 ^ 63 }
+    ensures { owned result ≡ number_value number }
+{
+    ValueRef::Int(number as i64)
+}
+
+/// 0 for no, 1 for yes.
+pub(crate) fn flag_value(flag: bool) -> ValueRef<'static>
+    ensures { owned result ≡ flag_value flag }
+{
+    ValueRef::Int(if flag { 1 } else { 0 })
+}
+
+/// 0 for open, 1 for closed.
+pub(crate) fn position_value(position: Position) -> ValueRef<'static>
+    ensures { owned result ≡ position_value position }
+{
+    ValueRef::Int(match position {
+        Position::Opened => 0,
+        Position::Closed => 1,
+    })
+}
