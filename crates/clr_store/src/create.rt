@@ -1,10 +1,11 @@
 //! The tables are made, with the rows of an opening register, in one transaction.
-ghost use Rattle.std.specs.Prelude.{◌≡◌, [], ◌∷◌, ◌++◌, false, IsTrue, OnErr, OnOk, map};
+ghost use Rattle.std.specs.Prelude.{IfErr, ◌≡◌, [], ◌∷◌, ◌++◌, false, IsTrue, OnErr, OnOk, map};
 ghost use Rattle.sqlite.specs.Held.{state};
 ghost use Rattle.sqlite.specs.State.{HasCleanDisk, Survives};
 ghost use Rattle.clr_rules.specs.Register.{first_state, opening};
 ghost use Rattle.clr_tables.specs.Tables.{point_row, section_row, staff_row, tables_of, version_row};
 ghost use Rattle.clr_store.specs.Change.{HasEmpty, Steps, StepsTo, added, opening_points, filled, with_rows};
+ghost use Rattle.clr_store.specs.Fault.{IsOfDatabase};
 ghost use Rattle.clr_store.specs.Contract.{IsSaved};
 ghost use Rattle.clr_store.specs.Schema.{all_names, names_before, no_schema};
 ghost use Rattle.clr_store.specs.Stored.{AreTables, HasTables};
@@ -25,6 +26,7 @@ use sqlite_schema::schema::Schema;
 fn make_table<S: Alter>(tx: &mut Transaction<'_, S>, table: TableName) -> Result<(), StoreFault>
     ensures same_reference { tx.new.conn.ghost_name ≡ tx.old.conn.ghost_name }
     ensures step { StepsTo (state S.Store tx.old.conn.now) (state S.Store tx.new.conn.now) (HasEmpty (names_before table)) (HasEmpty (names_before table ++ table ∷ [])) result }
+    ensures fault { IfErr result IsOfDatabase }
     ensures survives { Survives (state S.Store tx.old.conn.now) (state S.Store tx.new.conn.now) (λ _. ⊥) }
 {
     tx.execute(create_sql(table), &[])?;
@@ -34,6 +36,7 @@ fn make_table<S: Alter>(tx: &mut Transaction<'_, S>, table: TableName) -> Result
 fn make_first_tables<S: Alter>(tx: &mut Transaction<'_, S>) -> Result<(), StoreFault>
     ensures same_reference { tx.new.conn.ghost_name ≡ tx.old.conn.ghost_name }
     ensures step { StepsTo (state S.Store tx.old.conn.now) (state S.Store tx.new.conn.now) (HasEmpty []) (HasEmpty (names_before TableName.Staff)) result }
+    ensures fault { IfErr result IsOfDatabase }
     ensures survives { Survives (state S.Store tx.old.conn.now) (state S.Store tx.new.conn.now) (λ _. ⊥) }
 {
     make_table(tx, TableName::Meta)?;
@@ -44,6 +47,7 @@ fn make_first_tables<S: Alter>(tx: &mut Transaction<'_, S>) -> Result<(), StoreF
 fn make_next_tables<S: Alter>(tx: &mut Transaction<'_, S>) -> Result<(), StoreFault>
     ensures same_reference { tx.new.conn.ghost_name ≡ tx.old.conn.ghost_name }
     ensures step { StepsTo (state S.Store tx.old.conn.now) (state S.Store tx.new.conn.now) (HasEmpty (names_before TableName.Staff)) (HasEmpty (names_before TableName.Hold)) result }
+    ensures fault { IfErr result IsOfDatabase }
     ensures survives { Survives (state S.Store tx.old.conn.now) (state S.Store tx.new.conn.now) (λ _. ⊥) }
 {
     make_table(tx, TableName::Staff)?;
@@ -55,6 +59,7 @@ fn make_next_tables<S: Alter>(tx: &mut Transaction<'_, S>) -> Result<(), StoreFa
 fn make_tables<S: Alter>(tx: &mut Transaction<'_, S>) -> Result<(), StoreFault>
     ensures same_reference { tx.new.conn.ghost_name ≡ tx.old.conn.ghost_name }
     ensures step { StepsTo (state S.Store tx.old.conn.now) (state S.Store tx.new.conn.now) (HasEmpty []) (HasEmpty all_names) result }
+    ensures fault { IfErr result IsOfDatabase }
     ensures survives { Survives (state S.Store tx.old.conn.now) (state S.Store tx.new.conn.now) (λ _. ⊥) }
 {
     make_first_tables(tx)?;
@@ -65,6 +70,7 @@ fn make_tables<S: Alter>(tx: &mut Transaction<'_, S>) -> Result<(), StoreFault>
 fn add_version<S: Alter>(tx: &mut Transaction<'_, S>) -> Result<(), StoreFault>
     ensures same_reference { tx.new.conn.ghost_name ≡ tx.old.conn.ghost_name }
     ensures step { Steps (state S.Store tx.old.conn.now) (state S.Store tx.new.conn.now) (with_rows TableName.Meta (λ rows. version_row 1 ∷ rows)) result }
+    ensures fault { IfErr result IsOfDatabase }
     ensures survives { Survives (state S.Store tx.old.conn.now) (state S.Store tx.new.conn.now) (λ _. ⊥) }
 {
     let row = [text_value("version"), number_value(1)];
@@ -77,6 +83,7 @@ fn add_section<S: Alter>(
 ) -> Result<(), StoreFault>
     ensures same_reference { tx.new.conn.ghost_name ≡ tx.old.conn.ghost_name }
     ensures step { Steps (state S.Store tx.old.conn.now) (state S.Store tx.new.conn.now) (with_rows TableName.Section (λ rows. section_row section.now ∷ rows)) result }
+    ensures fault { IfErr result IsOfDatabase }
     ensures survives { Survives (state S.Store tx.old.conn.now) (state S.Store tx.new.conn.now) (λ _. ⊥) }
 {
     let row = [name_value(&section.name), flag_value(section.source)];
@@ -89,6 +96,7 @@ fn add_sections<S: Alter>(
 ) -> Result<(), StoreFault>
     ensures same_reference { tx.new.conn.ghost_name ≡ tx.old.conn.ghost_name }
     ensures step { Steps (state S.Store tx.old.conn.now) (state S.Store tx.new.conn.now) (with_rows TableName.Section (added (map section_row sections.now))) result }
+    ensures fault { IfErr result IsOfDatabase }
     ensures survives { Survives (state S.Store tx.old.conn.now) (state S.Store tx.new.conn.now) (λ _. ⊥) }
 {
     for section in sections {
@@ -101,6 +109,7 @@ fn add_sections<S: Alter>(
 fn add_point<S: Alter>(tx: &mut Transaction<'_, S>, point: &PointRow) -> Result<(), StoreFault>
     ensures same_reference { tx.new.conn.ghost_name ≡ tx.old.conn.ghost_name }
     ensures step { Steps (state S.Store tx.old.conn.now) (state S.Store tx.new.conn.now) (with_rows TableName.Point (λ rows. point_row point.now (first_state point.now) ∷ rows)) result }
+    ensures fault { IfErr result IsOfDatabase }
     ensures survives { Survives (state S.Store tx.old.conn.now) (state S.Store tx.new.conn.now) (λ _. ⊥) }
 {
     let row = [
@@ -119,6 +128,7 @@ fn add_point<S: Alter>(tx: &mut Transaction<'_, S>, point: &PointRow) -> Result<
 fn add_points<S: Alter>(tx: &mut Transaction<'_, S>, points: &[PointRow]) -> Result<(), StoreFault>
     ensures same_reference { tx.new.conn.ghost_name ≡ tx.old.conn.ghost_name }
     ensures step { Steps (state S.Store tx.old.conn.now) (state S.Store tx.new.conn.now) (with_rows TableName.Point (added (opening_points points.now))) result }
+    ensures fault { IfErr result IsOfDatabase }
     ensures survives { Survives (state S.Store tx.old.conn.now) (state S.Store tx.new.conn.now) (λ _. ⊥) }
 {
     for point in points {
@@ -133,6 +143,7 @@ fn add_employee<S: Alter>(
 ) -> Result<(), StoreFault>
     ensures same_reference { tx.new.conn.ghost_name ≡ tx.old.conn.ghost_name }
     ensures step { Steps (state S.Store tx.old.conn.now) (state S.Store tx.new.conn.now) (with_rows TableName.Staff (λ rows. staff_row employee.now ∷ rows)) result }
+    ensures fault { IfErr result IsOfDatabase }
     ensures survives { Survives (state S.Store tx.old.conn.now) (state S.Store tx.new.conn.now) (λ _. ⊥) }
 {
     let row = [
@@ -146,6 +157,7 @@ fn add_employee<S: Alter>(
 fn add_staff<S: Alter>(tx: &mut Transaction<'_, S>, staff: &[StaffRow]) -> Result<(), StoreFault>
     ensures same_reference { tx.new.conn.ghost_name ≡ tx.old.conn.ghost_name }
     ensures step { Steps (state S.Store tx.old.conn.now) (state S.Store tx.new.conn.now) (with_rows TableName.Staff (added (map staff_row staff.now))) result }
+    ensures fault { IfErr result IsOfDatabase }
     ensures survives { Survives (state S.Store tx.old.conn.now) (state S.Store tx.new.conn.now) (λ _. ⊥) }
 {
     for employee in staff {
@@ -162,6 +174,7 @@ fn add_network<S: Alter>(
 ) -> Result<(), StoreFault>
     ensures same_reference { tx.new.conn.ghost_name ≡ tx.old.conn.ghost_name }
     ensures step { Steps (state S.Store tx.old.conn.now) (state S.Store tx.new.conn.now) (λ t. with_rows TableName.Point (added (opening_points points.now)) (with_rows TableName.Section (added (map section_row sections.now)) t)) result }
+    ensures fault { IfErr result IsOfDatabase }
     ensures survives { Survives (state S.Store tx.old.conn.now) (state S.Store tx.new.conn.now) (λ _. ⊥) }
 {
     add_sections(tx, sections)?;
@@ -177,6 +190,7 @@ fn fill<S: Alter>(
 ) -> Result<(), StoreFault>
     ensures same_reference { tx.new.conn.ghost_name ≡ tx.old.conn.ghost_name }
     ensures step { Steps (state S.Store tx.old.conn.now) (state S.Store tx.new.conn.now) (filled sections.now points.now staff.now) result }
+    ensures fault { IfErr result IsOfDatabase }
     ensures survives { Survives (state S.Store tx.old.conn.now) (state S.Store tx.new.conn.now) (λ _. ⊥) }
 {
     add_version(tx)?;
@@ -202,6 +216,7 @@ pub(crate) fn make_register<S: Alter>(
     ensures mode { conn.old.in_transaction ≡ false → conn.new.in_transaction ≡ false }
     ensures made { HasCleanDisk (state S.Store conn.new) → OnOk result (HasTables (state S.Store conn.new).now (tables_of (opening network.now staff.now))) }
     ensures saved { HasCleanDisk (state S.Store conn.new) → OnOk result (IsSaved (state S.Store conn.new)) }
+    ensures fault { IfErr result IsOfDatabase }
     ensures none { HasCleanDisk (state S.Store conn.new) → IsTrue (state S.Store conn.new).is_open → OnErr result ((state S.Store conn.new).now ≡ (state S.Store conn.old).now) }
     ensures crash { Survives (state S.Store conn.old) (state S.Store conn.new) (λ trees. AreTables trees (tables_of (opening network.now staff.now))) }
 {

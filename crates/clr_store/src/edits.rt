@@ -1,11 +1,12 @@
 //! The edits of a change, each by its statements, inside a transaction.
-ghost use Rattle.std.specs.Prelude.{◌≡◌, true, take, Some, None};
+ghost use Rattle.std.specs.Prelude.{IfErr, ◌≡◌, true, take, Some, None};
 ghost use Rattle.sqlite.specs.Held.{state};
 ghost use Rattle.sqlite.specs.State.{Survives};
 ghost use Rattle.sqlite.specs.Values.{bound};
 ghost use Rattle.clr_rules.specs.declared.change.Edit.TheVariants.{SetPosition, SetHand, PutHold, TakeHold, PutRecord, PutStep};
 ghost use Rattle.clr_tables.specs.TableEdits.{table_edited, tables_edited, with_table_row};
 ghost use Rattle.clr_store.specs.Change.{Steps, with_rows};
+ghost use Rattle.clr_store.specs.Fault.{IsOfDatabase};
 ghost use Rattle.clr_store.specs.Schema.{columns_in, keys_in};
 ghost use Rattle.clr_store.specs.Stored.{fits_columns, has_key};
 
@@ -29,6 +30,7 @@ fn put_row<S: Alter>(
     requires keyed { has_key (keys_in table) (take (keys_in table) (bound row.now)) ≡ true }
     ensures same_reference { tx.new.conn.ghost_name ≡ tx.old.conn.ghost_name }
     ensures step { Steps (state S.Store tx.old.conn.now) (state S.Store tx.new.conn.now) (with_rows table (with_table_row (keys_in table) (bound row.now))) result }
+    ensures fault { IfErr result IsOfDatabase }
     ensures survives { Survives (state S.Store tx.old.conn.now) (state S.Store tx.new.conn.now) (λ _. ⊥) }
 {
     let key = &row[..keys_in(table)];
@@ -39,6 +41,7 @@ fn put_row<S: Alter>(
 fn put_hold<S: Alter>(tx: &mut Transaction<'_, S>, hold: &Hold) -> Result<(), StoreFault>
     ensures same_reference { tx.new.conn.ghost_name ≡ tx.old.conn.ghost_name }
     ensures step { Steps (state S.Store tx.old.conn.now) (state S.Store tx.new.conn.now) (table_edited (PutHold hold.now)) result }
+    ensures fault { IfErr result IsOfDatabase }
     ensures survives { Survives (state S.Store tx.old.conn.now) (state S.Store tx.new.conn.now) (λ _. ⊥) }
 {
     let requester = hold.id.requester();
@@ -54,6 +57,7 @@ fn put_hold<S: Alter>(tx: &mut Transaction<'_, S>, hold: &Hold) -> Result<(), St
 fn take_hold<S: Alter>(tx: &mut Transaction<'_, S>, hold: &Hold) -> Result<(), StoreFault>
     ensures same_reference { tx.new.conn.ghost_name ≡ tx.old.conn.ghost_name }
     ensures step { Steps (state S.Store tx.old.conn.now) (state S.Store tx.new.conn.now) (table_edited (TakeHold hold.now)) result }
+    ensures fault { IfErr result IsOfDatabase }
     ensures survives { Survives (state S.Store tx.old.conn.now) (state S.Store tx.new.conn.now) (λ _. ⊥) }
 {
     let requester = hold.id.requester();
@@ -69,6 +73,7 @@ fn take_hold<S: Alter>(tx: &mut Transaction<'_, S>, hold: &Hold) -> Result<(), S
 fn put_record<S: Alter>(tx: &mut Transaction<'_, S>, row: &Record) -> Result<(), StoreFault>
     ensures same_reference { tx.new.conn.ghost_name ≡ tx.old.conn.ghost_name }
     ensures step { Steps (state S.Store tx.old.conn.now) (state S.Store tx.new.conn.now) (table_edited (PutRecord row.now)) result }
+    ensures fault { IfErr result IsOfDatabase }
     ensures survives { Survives (state S.Store tx.old.conn.now) (state S.Store tx.new.conn.now) (λ _. ⊥) }
 {
     let requester = row.id.requester();
@@ -86,6 +91,7 @@ fn put_record<S: Alter>(tx: &mut Transaction<'_, S>, row: &Record) -> Result<(),
 fn put_step<S: Alter>(tx: &mut Transaction<'_, S>, row: &StepRow) -> Result<(), StoreFault>
     ensures same_reference { tx.new.conn.ghost_name ≡ tx.old.conn.ghost_name }
     ensures step { Steps (state S.Store tx.old.conn.now) (state S.Store tx.new.conn.now) (table_edited (PutStep row.now)) result }
+    ensures fault { IfErr result IsOfDatabase }
     ensures survives { Survives (state S.Store tx.old.conn.now) (state S.Store tx.new.conn.now) (λ _. ⊥) }
 {
     let requester = row.id.requester();
@@ -109,6 +115,7 @@ fn set_position<S: Alter>(
 ) -> Result<(), StoreFault>
     ensures same_reference { tx.new.conn.ghost_name ≡ tx.old.conn.ghost_name }
     ensures step { Steps (state S.Store tx.old.conn.now) (state S.Store tx.new.conn.now) (table_edited (SetPosition point.now position)) result }
+    ensures fault { IfErr result IsOfDatabase }
     ensures survives { Survives (state S.Store tx.old.conn.now) (state S.Store tx.new.conn.now) (λ _. ⊥) }
 {
     let given = [name_value(point), position_value(position)];
@@ -119,6 +126,7 @@ fn set_position<S: Alter>(
 fn clear_hand<S: Alter>(tx: &mut Transaction<'_, S>, point: &Name) -> Result<(), StoreFault>
     ensures same_reference { tx.new.conn.ghost_name ≡ tx.old.conn.ghost_name }
     ensures step { Steps (state S.Store tx.old.conn.now) (state S.Store tx.new.conn.now) (table_edited (SetHand point.now None)) result }
+    ensures fault { IfErr result IsOfDatabase }
     ensures survives { Survives (state S.Store tx.old.conn.now) (state S.Store tx.new.conn.now) (λ _. ⊥) }
 {
     let given = [name_value(point), ValueRef::Null, ValueRef::Null];
@@ -136,6 +144,7 @@ fn give_hand<S: Alter>(
 ) -> Result<(), StoreFault>
     ensures same_reference { tx.new.conn.ghost_name ≡ tx.old.conn.ghost_name }
     ensures step { Steps (state S.Store tx.old.conn.now) (state S.Store tx.new.conn.now) (table_edited (SetHand point.now (Some id))) result }
+    ensures fault { IfErr result IsOfDatabase }
     ensures survives { Survives (state S.Store tx.old.conn.now) (state S.Store tx.new.conn.now) (λ _. ⊥) }
 {
     let requester = id.requester();
@@ -155,6 +164,7 @@ fn set_hand<S: Alter>(
 ) -> Result<(), StoreFault>
     ensures same_reference { tx.new.conn.ghost_name ≡ tx.old.conn.ghost_name }
     ensures step { Steps (state S.Store tx.old.conn.now) (state S.Store tx.new.conn.now) (table_edited (SetHand point.now hand)) result }
+    ensures fault { IfErr result IsOfDatabase }
     ensures survives { Survives (state S.Store tx.old.conn.now) (state S.Store tx.new.conn.now) (λ _. ⊥) }
 {
     match hand {
@@ -167,6 +177,7 @@ fn set_hand<S: Alter>(
 fn make<S: Alter>(tx: &mut Transaction<'_, S>, edit: &Edit) -> Result<(), StoreFault>
     ensures same_reference { tx.new.conn.ghost_name ≡ tx.old.conn.ghost_name }
     ensures step { Steps (state S.Store tx.old.conn.now) (state S.Store tx.new.conn.now) (table_edited edit.now) result }
+    ensures fault { IfErr result IsOfDatabase }
     ensures survives { Survives (state S.Store tx.old.conn.now) (state S.Store tx.new.conn.now) (λ _. ⊥) }
 {
     match edit {
@@ -186,6 +197,7 @@ pub(crate) fn make_all<S: Alter>(
 ) -> Result<(), StoreFault>
     ensures same_reference { tx.new.conn.ghost_name ≡ tx.old.conn.ghost_name }
     ensures step { Steps (state S.Store tx.old.conn.now) (state S.Store tx.new.conn.now) (tables_edited edits.now) result }
+    ensures fault { IfErr result IsOfDatabase }
     ensures survives { Survives (state S.Store tx.old.conn.now) (state S.Store tx.new.conn.now) (λ _. ⊥) }
 {
     for edit in edits {

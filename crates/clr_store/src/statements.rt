@@ -24,6 +24,7 @@ pub(crate) fn insert_row<S: Alter>(
     requires { fits_columns (columns_in table) (bound row.now) ≡ true }
     ensures same_reference { tx.new.conn.ghost_name ≡ tx.old.conn.ghost_name }
     ensures step { Steps (state S.Store tx.old.conn.now) (state S.Store tx.new.conn.now) (with_rows table (λ rows. bound row.now ∷ rows)) result }
+    ensures fault { IfErr result IsOfDatabase }
     ensures survives { Survives (state S.Store tx.old.conn.now) (state S.Store tx.new.conn.now) (λ _. ⊥) }
 {
     tx.execute(insert_sql(table), row)?;
@@ -39,6 +40,7 @@ pub(crate) fn delete_row<S: Alter>(
     requires { has_key (keys_in table) (bound key.now) ≡ true }
     ensures same_reference { tx.new.conn.ghost_name ≡ tx.old.conn.ghost_name }
     ensures step { Steps (state S.Store tx.old.conn.now) (state S.Store tx.new.conn.now) (with_rows table (without_table_row (keys_in table) (bound key.now))) result }
+    ensures fault { IfErr result IsOfDatabase }
     ensures survives { Survives (state S.Store tx.old.conn.now) (state S.Store tx.new.conn.now) (λ _. ⊥) }
 {
     tx.execute(delete_sql(table), key)?;

@@ -6,6 +6,7 @@ ghost use Rattle.clr_rules.specs.Register.{opening};
 ghost use Rattle.clr_tables.specs.RowsRead.{read_version};
 ghost use Rattle.clr_tables.specs.Tables.{Tables, tables_of};
 ghost use Rattle.clr_store.specs.Stored.{AreTables, HasTables};
+ghost use Rattle.clr_store.specs.Fault.{IsOfDatabase};
 ghost use Rattle.clr_store.specs.Contract.{AreEdited, IsSaved, MakesEdits, RefusesVersion};
 
 use crate::create::make_register;
@@ -50,14 +51,15 @@ pub struct Back<S: Alter + Drop> {
 impl<S: Alter + Drop> Store<S> {
     /// Makes the tables of an opening register in a database that is empty, in one transaction.
     ///
-    /// `Sql` where anything is in the database already, or where a transaction is open. A fault hands the connection
-    /// back, with the database as it was.
+    /// `Sql` where anything is in the database already, a transaction is open, or the database fails; `NoMemory` where
+    /// memory runs out. A fault hands the connection back, with the database as it was.
     pub fn create(
         mut connection: Connection<S>,
         network: &Network,
         staff: &Staff,
     ) -> Result<Store<S>, Back<S>>
         ensures made { IfOk result (λ store. HasCleanDisk (state S.Store store) → IsSaved (state S.Store store) × HasTables (state S.Store store).now (tables_of (opening network.now staff.now))) }
+        ensures fault { IfErr result (λ back. IsOfDatabase back.fault) }
         ensures none { IfErr result (λ back. HasCleanDisk (state S.Store back.connection) → IsTrue (state S.Store back.connection).is_open → (state S.Store back.connection).now ≡ (state S.Store connection).now) }
         ensures crash_made { IfOk result (λ store. Survives (state S.Store connection) (state S.Store store) (λ trees. AreTables trees (tables_of (opening network.now staff.now)))) }
         ensures crash_none { IfErr result (λ back. Survives (state S.Store connection) (state S.Store back.connection) (λ trees. AreTables trees (tables_of (opening network.now staff.now)))) }
@@ -107,10 +109,13 @@ impl<S: Alter + Drop> Store<S> {
         self.connection
     }
 
-    /// Makes the edits of a change, in one transaction. On a fault none is made.
+    /// Makes the edits of a change, in one transaction.
+    ///
+    /// `Sql` where the database refuses or fails, `NoMemory` where memory runs out. On a fault none of the edits is made.
     pub fn commit(&mut self, change: &Change) -> Result<(), StoreFault>
         ensures made { HasCleanDisk (state S.Store self.new) → OnOk result (MakesEdits (state S.Store self.old).now change.now.edits (state S.Store self.new).now) }
         ensures saved { HasCleanDisk (state S.Store self.new) → OnOk result (IsSaved (state S.Store self.new)) }
+        ensures fault { IfErr result IsOfDatabase }
         ensures none { HasCleanDisk (state S.Store self.new) → IsTrue (state S.Store self.new).is_open → OnErr result ((state S.Store self.new).now ≡ (state S.Store self.old).now) }
         ensures crash { Survives (state S.Store self.old) (state S.Store self.new) (AreEdited (state S.Store self.old).now change.now.edits) }
     {
@@ -123,6 +128,7 @@ fn commit_change<S: Alter>(conn: &mut Connection<S>, change: &Change) -> Result<
     ensures mode { conn.old.in_transaction ≡ false → conn.new.in_transaction ≡ false }
     ensures made { HasCleanDisk (state S.Store conn.new) → OnOk result (MakesEdits (state S.Store conn.old).now change.now.edits (state S.Store conn.new).now) }
     ensures saved { HasCleanDisk (state S.Store conn.new) → OnOk result (IsSaved (state S.Store conn.new)) }
+    ensures fault { IfErr result IsOfDatabase }
     ensures none { HasCleanDisk (state S.Store conn.new) → IsTrue (state S.Store conn.new).is_open → OnErr result ((state S.Store conn.new).now ≡ (state S.Store conn.old).now) }
     ensures crash { Survives (state S.Store conn.old) (state S.Store conn.new) (AreEdited (state S.Store conn.old).now change.now.edits) }
 {
