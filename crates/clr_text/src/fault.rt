@@ -1,3 +1,4 @@
+//! Why a text is no command.
 ghost use Rattle.std.specs.Prelude.{◌≡◌};
 ghost use Rattle.clr_text.specs.declared.fault.TextFault.TheVariants.{NoMemory};
 

@@ -1,3 +1,4 @@
+//! The keys of a command's object.
 ghost use Rattle.std.specs.Prelude.{◌≡◌};
 ghost use Rattle.clr_text.specs.Keys.{key_text};
 

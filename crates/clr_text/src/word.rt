@@ -1,3 +1,4 @@
+//! The words that name the commands.
 ghost use Rattle.std.specs.Prelude.{◌≡◌};
 ghost use Rattle.clr_text.specs.CommandKeys.{keys_of, word_named, word_text};
 

@@ -1,3 +1,4 @@
+//! The words of `fence`.
 ghost use Rattle.std.specs.Prelude.{◌≡◌, IfOk};
 ghost use Rattle.clap.specs.Words.{app_of};
 ghost use Rattle.gridclear.specs.Syntax.{fence};
