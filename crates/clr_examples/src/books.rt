@@ -60,13 +60,6 @@ fn record(id: &str, phase: Phase) -> Result<Record, Fail> {
     })
 }
 
-/// The last moment of JONES/1.
-pub fn last_of_jones(book: &ListBook) -> Result<u64, Fail> {
-    let id = ClearanceId::read("JONES/1")?;
-    let record = book.record(&id).ok_or("a record")?;
-    Ok(record.last.seconds())
-}
-
 /// A step that opens S2.
 fn step(id: &str, round: u8, ordinal: u16, state: StepState) -> Result<StepRow, Fail> {
     Ok(StepRow {

@@ -6,15 +6,9 @@ mod books;
 #[cfg(test)]
 mod csv;
 #[cfg(test)]
-mod driver;
-#[cfg(test)]
 mod fences;
 #[cfg(test)]
-mod field;
-#[cfg(test)]
 mod ids;
-#[cfg(test)]
-mod life;
 #[cfg(test)]
 mod networks;
 #[cfg(test)]
@@ -25,8 +19,6 @@ mod register;
 mod shelves;
 #[cfg(test)]
 mod staff;
-#[cfg(test)]
-mod text;
 #[cfg(test)]
 mod worked;
 #[cfg(test)]
