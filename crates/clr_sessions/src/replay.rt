@@ -78,12 +78,7 @@ impl Replays {
     }
 
     /// Replays a session.
-    pub fn replay<R: Files>(
-        &mut self,
-        rt: &R,
-        name: &str,
-        text: &str,
-    ) -> anyhow::Result<Outcome> {
+    pub fn replay<R: Files>(&mut self, rt: &R, name: &str, text: &str) -> anyhow::Result<Outcome> {
         let mut course = Course::new(self.alloc);
         let mut number: usize = 0;
         for line in text.lines() {
@@ -108,10 +103,8 @@ impl Replays {
     /// Whether the own replies are those of the session that is named, if one is.
     fn is_same(&self, course: &Course) -> bool {
         match &course.same_as {
-            Some(name) => self
-                .own
-                .iter()
-                .any(|own| own.session.as_str() == name.as_str() && own.replies.as_str() == course.own.as_str()),
+            Some(name) => self.own.iter().any(|own| own.session.as_str() == name.as_str()
+                && own.replies.as_str() == course.own.as_str()),
             None => true,
         }
     }
@@ -174,7 +167,10 @@ impl Course {
         if command.is_empty() {
             return Ok(None);
         }
-        let room = self.room.as_mut().context("a session begins with its network")?;
+        let room = self
+            .room
+            .as_mut()
+            .context("a session begins with its network")?;
         let reply = room.answer(command)?;
         if is_own {
             self.own.push_str(&reply)?;
@@ -209,7 +205,10 @@ impl Course {
         if let Some(came) = self.awaited.pop_front() {
             return Ok(Some(differs(self.alloc, number, "the end of what came", came)?));
         }
-        let room = self.room.as_ref().context("a session begins with its network")?;
+        let room = self
+            .room
+            .as_ref()
+            .context("a session begins with its network")?;
         let text = match what {
             Printed::Order => room.order(words)?,
             Printed::Board => room.board(words)?,
@@ -228,12 +227,7 @@ enum Printed {
     Board,
 }
 
-fn differs(
-    alloc: Global,
-    line: usize,
-    awaited: &str,
-    came: String,
-) -> Result<Outcome, AllocError> {
+fn differs(alloc: Global, line: usize, awaited: &str, came: String) -> Result<Outcome, AllocError> {
     let awaited = awaited.to_string(alloc)?;
     Ok(Outcome::Differs {
         line,

@@ -1,22 +1,17 @@
 //! The control room of a session: a register in memory, to which lines are given.
 ghost use Rattle.std.specs.Prelude.{IfOk, neg_ℤ, pos, ◌≤ℤ◌};
 
+use anyhow::Context;
 use clr_book::{Book, ClearanceId, Hold, PointState, Record, StepRow};
 use clr_csv::{Counted, Staff, read_points, read_sections, read_staff};
 use clr_net::Network;
 use clr_shelf::ListShelf;
 use clr_text::{TextFault, command_of, fault_text, print_board, print_order, reply_text};
-use anyhow::Context;
 use std::alloc::{AllocError, Global};
 use std::rt::Files;
 use std::{fmt, fs};
 
-type ListBook = Book<
-    ListShelf<PointState>,
-    ListShelf<Record>,
-    ListShelf<StepRow>,
-    ListShelf<Hold>,
->;
+type ListBook = Book<ListShelf<PointState>, ListShelf<Record>, ListShelf<StepRow>, ListShelf<Hold>>;
 
 /// A register in memory.
 #[derive(Drop)]
@@ -56,8 +51,12 @@ impl Room {
 
     /// The printed order of a clearance: its name, the round and the offset.
     pub fn order(&self, words: &str) -> anyhow::Result<String> {
-        let (clearance, rest) = words.split_once(' ').context("= order CLEARANCE ROUND OFFSET")?;
-        let (round, offset) = rest.split_once(' ').context("= order CLEARANCE ROUND OFFSET")?;
+        let (clearance, rest) = words
+            .split_once(' ')
+            .context("= order CLEARANCE ROUND OFFSET")?;
+        let (round, offset) = rest
+            .split_once(' ')
+            .context("= order CLEARANCE ROUND OFFSET")?;
         let id = ClearanceId::read(clearance)?;
         let round = round.parse::<u8>()?;
         let offset = offset_of(offset)?;
