@@ -22,12 +22,12 @@ use Rattle.clr_net.specs.Name.{name_cmp}
 use Rattle.clr_net.specs.declared.net_fault.NetFault.{NetFault}
 use Rattle.clr_net.specs.declared.point.PointRow.{PointRow}
 use Rattle.clr_net.specs.declared.section.SectionRow.{SectionRow}
-use Rattle.clr_shelf.specs.FirstRow.{with_row-after, with_row-over}
-use Rattle.clr_shelf.specs.Keys.{less}
-use Rattle.clr_shelf.specs.Lists.{Contains-here, Contains-later}
-use Rattle.clr_shelf.specs.Members.{row_of-member}
+use Rattle.clr_shelf.proofs.FirstRow.{with_row-after, with_row-over}
+use Rattle.clr_shelf.proofs.Keys.{less}
+use Rattle.clr_shelf.proofs.Lists.{Contains-here, Contains-later}
+use Rattle.clr_shelf.proofs.Members.{row_of-member}
 use Rattle.clr_shelf.specs.Rows.{in_key_order, row_of, with_row}
-use Rattle.clr_shelf.specs.SameRows.{same_from_permutation}
+use Rattle.clr_shelf.proofs.SameRows.{same_from_permutation}
 use Rattle.clr_rules.specs.Edits.{edited, edited_all}
 use Rattle.clr_rules.specs.Good.{IsGood}
 use Rattle.clr_rules.specs.Hold.{hold_cmp, hold_cmp_total}

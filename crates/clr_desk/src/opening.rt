@@ -21,7 +21,7 @@ use clr_book::Book;
 use clr_csv::{Staff, StaffFault, StaffRow};
 use clr_net::{MAX_SECTIONS, NetFault, Network, PointRow, SectionRow};
 use clr_rules::{Change, Edit, Edits, Hold, PointState, Record, StepRow};
-use clr_shelf::ListShelf;
+use clr_shelf::SortedShelf;
 use clr_store::{Rows, Store, StoreFault};
 use clr_tables::TableName;
 use sqlite::Alter;
@@ -29,10 +29,10 @@ use std::alloc::{AllocError, Global};
 
 /// The book of a desk.
 pub type DeskBook = Book<
-    ListShelf<PointState>,
-    ListShelf<Record>,
-    ListShelf<StepRow>,
-    ListShelf<Hold>,
+    SortedShelf<PointState>,
+    SortedShelf<Record>,
+    SortedShelf<StepRow>,
+    SortedShelf<Hold>,
 >;
 
 /// The edits that fill a book that was opened: each point into the hand that it is in, and then all holds, records and steps.
