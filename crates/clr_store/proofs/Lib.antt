@@ -8,3 +8,4 @@ pub mod Loading
 pub mod Given
 pub mod Creating
 pub mod Versions
+pub mod TextsRead

@@ -4,3 +4,4 @@ pub mod Stored
 pub mod Fault
 pub mod Change
 pub mod Contract
+pub mod Reading

@@ -4,6 +4,7 @@
 mod create;
 mod edits;
 mod fault;
+mod reading;
 mod sql;
 mod statements;
 mod store;
