@@ -1,11 +1,11 @@
 -- What a column reads as, where its bytes are no text: no name and no word.
-use Rattle.std.proofs.Common.{◌≡◌, ◌∙◌, ℕ, Bool, true, false, ◌&&◌, if◌then◌else◌, List, [], ◌∷◌, Option, Some, None, Result, Ok, Err, refl, sym, ap}
-use Rattle.std.specs.Prelude.{find, ok_or}
+use Rattle.std.proofs.Common.{◌≡◌, ◌∙◌, ◌<◌, ℕ, zero, suc, arith, Bool, true, false, ◌&&◌, if◌then◌else◌, List, [], ◌∷◌, Option, Some, None, Result, Ok, Err, refl, sym, ap}
+use Rattle.std.specs.Prelude.{find, nat_lt, ok_or}
 use Rattle.std.specs.List.{list_all}
-use Rattle.std.specs.Str.{bytes_eq, is_utf8}
-use Rattle.std.proofs.lemmas.Bool.{true≢false}
+use Rattle.std.specs.Str.{IsAscii, IsUtf8, bytes_eq, is_utf8}
+use Rattle.std.proofs.lemmas.Bool.{ltb-true, true≢false}
 use Rattle.std.proofs.lemmas.Slice.Eq.{bytes_eq-Decides}
-use Rattle.std.proofs.lemmas.Str.{is_utf8-from_IsUtf8}
+use Rattle.std.proofs.lemmas.Str.{IsUtf8-from_ascii, IsUtf8-from_is_utf8, is_utf8-from_IsUtf8}
 use Rattle.sqlite.specs.Order.{Row, column}
 use Rattle.sqlite.specs.declared.types.Value.{Value}
 use Rattle.sqlite.specs.declared.types.Value.TheVariants.{Null, Int, Real, Text, Blob}
@@ -32,7 +32,7 @@ no_name text isnt = at (is_name text) refl
   where
     at : (b : Bool) → is_name text ≡ b → is_name text ≡ false
     at false e = e
-    at true e = absurd (true≢false (sym (is_utf8-from_IsUtf8 text (name_is_text text (rw e tt))) ∙ isnt))
+    at true e = absurd (true≢false (sym (is_utf8-from_IsUtf8 text (name_is_text text e)) ∙ isnt))
 
 pub name_by_text : (t : TableName) (place : ℕ) (row : Row) → (utf8_at t place row >>= λ text. name_if_read t (read_name text)) ≡ name_at t place row
 name_by_text t place row = at (column row place)
@@ -48,13 +48,24 @@ name_by_text t place row = at (column row place)
     at (Real n) = refl
     at (Blob b) = refl
 
+-- bytes below 128 are of ASCII
+ascii-cons : (b : ℕ) (bytes : List ℕ) → b < 128 → IsAscii bytes → IsAscii (b ∷ bytes)
+ascii-cons b bytes low rest zero = low
+ascii-cons b bytes low rest (suc i) = rest i
+
+ascii-from_all : (bytes : List ℕ) → list_all (λ byte. nat_lt byte 128) bytes ≡ true → IsAscii bytes
+ascii-from_all [] all = λ i. omega arith
+ascii-from_all (b ∷ bytes) all =
+    let parts = both_true (nat_lt b 128) (list_all (λ byte. nat_lt byte 128) bytes) all in
+    ascii-cons b bytes (ltb-true b 128 parts.0) (ascii-from_all bytes parts.1)
+
 -- the words of a list are texts, so what is no text is none of them
-apart : {A : Type 0} (name : A → List ℕ) (xs : List A) → list_all (λ x. is_utf8 (name x)) xs ≡ true → (text : List ℕ) → is_utf8 text ≡ false
+apart : {A : Type 0} (name : A → List ℕ) (xs : List A) → list_all (λ x. list_all (λ byte. nat_lt byte 128) (name x)) xs ≡ true → (text : List ℕ) → is_utf8 text ≡ false
     → find (λ x. bytes_eq (name x) text) xs ≡ None
 apart name [] h text isnt = refl
 apart name (x ∷ xs) h text isnt =
-    let parts = both_true (is_utf8 (name x)) (list_all (λ y. is_utf8 (name y)) xs) h in
-    rw (differs (bytes_eq (name x) text) refl parts.0) (apart name xs parts.1 text isnt)
+    let parts = both_true (list_all (λ byte. nat_lt byte 128) (name x)) (list_all (λ y. list_all (λ byte. nat_lt byte 128) (name y)) xs) h in
+    rw (differs (bytes_eq (name x) text) refl (is_utf8-from_IsUtf8 (name x) (IsUtf8-from_ascii (name x) (ascii-from_all (name x) parts.0)))) (apart name xs parts.1 text isnt)
   where
     differs : (b : Bool) → bytes_eq (name x) text ≡ b → is_utf8 (name x) ≡ true → b ≡ false
     differs false e is = refl
@@ -112,3 +123,22 @@ id_unless (Int n) w row h = refl
 id_unless (Real n) w row h = refl
 id_unless (Text n) w row h = refl
 id_unless (Blob n) w row h = refl
+
+pub is_text_at : (t : TableName) (place : ℕ) (row : Row) (text : List ℕ) → column row place ≡ Text text → IsUtf8 text → utf8_at t place row ≡ Ok text
+is_text_at t place row text is utf8 = rw (is, is_utf8-from_IsUtf8 text utf8) refl
+
+pub is_no_text_at : (t : TableName) (place : ℕ) (row : Row) (text : List ℕ) → column row place ≡ Text text → ¬ IsUtf8 text → utf8_at t place row ≡ Err t
+is_no_text_at t place row text is isnt = rw is (at (is_utf8 text) refl)
+  where
+    at : (b : Bool) → is_utf8 text ≡ b → (if b then Ok text else Err t) ≡ Err t
+    at false e = refl
+    at true e = absurd (isnt (IsUtf8-from_is_utf8 text e))
+
+-- from what is read of a text, what is read of the column
+pub then_fails : {A : Type 0} (next : List ℕ → Result A TableName) (t e : TableName) (place : ℕ) (row : Row) (all : Result A TableName)
+    → (utf8_at t place row >>= next) ≡ all → utf8_at t place row ≡ Err e → Err e ≡ all
+then_fails next t e place row all law is = sym (ap (λ r. r >>= next) is) ∙ law
+
+pub then_gives : {A : Type 0} (next : List ℕ → Result A TableName) (t : TableName) (text : List ℕ) (place : ℕ) (row : Row) (all : Result A TableName)
+    → (utf8_at t place row >>= next) ≡ all → utf8_at t place row ≡ Ok text → next text ≡ all
+then_gives next t text place row all law is = sym (ap (λ r. r >>= next) is) ∙ law

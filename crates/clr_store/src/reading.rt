@@ -16,11 +16,15 @@ use sqlite::Row;
 use sqlite::types::ValueRef;
 
 /// A text.
+#[tactic(auto, using(crate::proofs::TextsRead::is_text_at, crate::proofs::TextsRead::is_no_text_at))]
 fn text_at(table: TableName, place: usize, row: &Row) -> Result<&str, TableName>
     ensures { Reads (λ text. text.now) (utf8_at table place row.now) result }
 {
     match row.get_ref(place) {
-        Ok(ValueRef::Text(bytes)) => str::from_utf8(bytes).map_err(|_| table),
+        Ok(ValueRef::Text(bytes)) => match str::from_utf8(bytes) {
+            Ok(text) => Ok(text),
+            Err(_) => Err(table),
+        },
         _ => Err(table),
     }
 }
