@@ -9,3 +9,4 @@ pub mod Given
 pub mod Creating
 pub mod Versions
 pub mod TextsRead
+pub mod AllRead

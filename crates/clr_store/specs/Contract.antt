@@ -23,6 +23,15 @@ AreEdited before edits trees = (t : Tables) → HasTables before t → AreTables
 abbrev pub MakesEdits : Database → List Edit → Database → Type 0
 MakesEdits before edits after = (t : Tables) → HasTables before t → HasTables after (tables_edited edits t)
 
+-- a call gives what is read, as `view` shows it, or the table with the row that does not read, unless the database refuses or
+-- memory runs out
+abbrev pub Gives : {A X : Type 0} → (X → A) → Result A TableName → Result X StoreFault → Type 0
+Gives view read (Ok x) = read ≡ Ok (view x)
+Gives view read (Err (BadRow table)) = read ≡ Err table
+Gives view read (Err (WrongVersion n)) = ⊥
+Gives view read (Err Sql) = ⊤
+Gives view read (Err NoMemory) = ⊤
+
 -- a call tells what was read, or the table with the row that does not read, unless the database refuses or memory runs out
 abbrev pub Tells : {A : Type 0} → Result A TableName → Result A StoreFault → Type 0
 Tells read (Ok value) = read ≡ Ok value

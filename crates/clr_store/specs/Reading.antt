@@ -5,8 +5,9 @@ use Rattle.sqlite.specs.Order.{Row, column}
 use Rattle.sqlite.specs.declared.types.Value.{Value}
 use Rattle.sqlite.specs.declared.types.Value.TheVariants.{Null}
 use Rattle.clr_csv.specs.Rows.{◌>>=◌}
-use Rattle.clr_tables.specs.RowsRead.{text_at}
+use Rattle.clr_tables.specs.RowsRead.{PointRead as ReadPoint, read_point, text_at}
 use Rattle.clr_tables.specs.declared.table_name.TableName.{TableName}
+use Rattle.clr_store.specs.declared.rows.PointRead.{PointRead}
 
 -- a text whose bytes are those of characters
 abbrev pub utf8_at : TableName → ℕ → Row → Result (List ℕ) TableName
@@ -26,3 +27,12 @@ is_null _ = false
 
 abbrev pub is_null_at : ℕ → Row → Bool
 is_null_at place row = is_null (column row place)
+
+-- a switching point and its state, in two fields
+abbrev pub in_fields : ReadPoint → PointRead
+in_fields p = record { point = p.point; state = p.state }
+
+abbrev pub point_values : Row → Result PointRead TableName
+point_values row = do
+  p ← read_point row
+  Ok (in_fields p)

@@ -5,6 +5,7 @@ mod create;
 mod edits;
 mod fault;
 mod reading;
+mod rows;
 mod sql;
 mod statements;
 mod store;
