@@ -10,24 +10,30 @@ use Rattle.clr_store.proofs.Effects.{same_value}
 in_front : {A : Type 0} → Result A TableName → Result (List A) TableName → Result (List A) TableName
 in_front first rest = first >>= λ x. rest >>= λ xs. Ok (x ∷ xs)
 
+-- where the rows before are read, so is one before them
+in_front_more : {A : Type 0} (first : Result A TableName) (before after : Result (List A) TableName) (xs : List A) (x : A)
+    → ((ys : List A) → before ≡ Ok ys → after ≡ Ok (ys ++ x ∷ [])) → in_front first before ≡ Ok xs → in_front first after ≡ Ok (xs ++ x ∷ [])
+in_front_more (Err t) before after xs x more h = absurd (grind (arith, h))
+in_front_more (Ok y) (Err t) after xs x more h = absurd (grind (arith, h))
+in_front_more (Ok y) (Ok ys) after xs x more h = rw (more ys refl) (ap (λ l. Ok (l ++ x ∷ [])) (same_value h))
+
+in_front_fails : {A : Type 0} (first : Result A TableName) (before after : Result (List A) TableName) (xs : List A) (t : TableName)
+    → ((ys : List A) → before ≡ Ok ys → after ≡ Err t) → in_front first before ≡ Ok xs → in_front first after ≡ Err t
+in_front_fails (Err u) before after xs t more h = absurd (grind (arith, h))
+in_front_fails (Ok y) (Err u) after xs t more h = absurd (grind (arith, h))
+in_front_fails (Ok y) (Ok ys) after xs t more h = rw (more ys refl) refl
+
 -- one row more
 pub read_more : {A : Type 0} (read : Row → Result A TableName) (rows : List Row) (k : ℕ) (row : Row) (xs : List A) (x : A)
     → k < length rows → row ≡ get_or rows k row → read row ≡ Ok x → all_read read (take k rows) ≡ Ok xs → all_read read (take (k + 1) rows) ≡ Ok (xs ++ x ∷ [])
 unfolding all_read
 read_more read [] k row xs x within is gives so = absurd (omega arith)
 read_more read (r ∷ rows) zero row xs x within is gives so =
-    let none : [] ≡ xs = same_value so in
+    let none = same_value so in
     let first : read r ≡ Ok x = ap read (sym is) ∙ gives in
     rw first (ap (λ l. Ok (l ++ x ∷ [])) none)
 read_more read (r ∷ rows) (suc k) row xs x within is gives so =
-    at (read r) (all_read read (take k rows)) refl refl so (λ ys f. read_more read rows k row ys x (omega arith) is gives f)
-  where
-    at : (first : Result _ TableName) (rest : Result (List _) TableName) → read r ≡ first → all_read read (take k rows) ≡ rest → in_front first rest ≡ Ok xs
-        → ((ys : List _) → all_read read (take k rows) ≡ Ok ys → all_read read (take (k + 1) rows) ≡ Ok (ys ++ x ∷ []))
-        → in_front (read r) (all_read read (take (k + 1) rows)) ≡ Ok (xs ++ x ∷ [])
-    at (Err t) rest e f h next = absurd (grind (arith, h))
-    at (Ok y) (Err t) e f h next = absurd (grind (arith, h))
-    at (Ok y) (Ok ys) e f h next = rw (e, next ys f) (ap (λ l. Ok (l ++ x ∷ [])) (same_value h))
+    in_front_more (read r) (all_read read (take k rows)) (all_read read (take (k + 1) rows)) xs x (λ ys f. read_more read rows k row ys x (omega arith) is gives f) so
 
 -- a row that does not read, after others that do
 pub read_fails : {A : Type 0} (read : Row → Result A TableName) (rows : List Row) (k : ℕ) (row : Row) (xs : List A) (t : TableName)
@@ -36,14 +42,7 @@ unfolding all_read
 read_fails read [] k row xs t within is fails so = absurd (omega arith)
 read_fails read (r ∷ rows) zero row xs t within is fails so = rw (ap read (sym is) ∙ fails) refl
 read_fails read (r ∷ rows) (suc k) row xs t within is fails so =
-    at (read r) (all_read read (take k rows)) refl refl so (λ ys f. read_fails read rows k row ys t (omega arith) is fails f)
-  where
-    at : (first : Result _ TableName) (rest : Result (List _) TableName) → read r ≡ first → all_read read (take k rows) ≡ rest → in_front first rest ≡ Ok xs
-        → ((ys : List _) → all_read read (take k rows) ≡ Ok ys → all_read read rows ≡ Err t)
-        → in_front (read r) (all_read read rows) ≡ Err t
-    at (Err u) rest e f h next = absurd (grind (arith, h))
-    at (Ok y) (Err u) e f h next = absurd (grind (arith, h))
-    at (Ok y) (Ok ys) e f h next = rw (e, next ys f) refl
+    in_front_fails (read r) (all_read read (take k rows)) (all_read read rows) xs t (λ ys f. read_fails read rows k row ys t (omega arith) is fails f) so
 
 pub read_whole : {A : Type 0} (read : Row → Result A TableName) (rows : List Row) (k : ℕ) (xs : List A)
     → length rows ≤ k → all_read read (take k rows) ≡ Ok xs → all_read read rows ≡ Ok xs
