@@ -55,5 +55,8 @@ impl<'a> Model for Near<'a> {
       };
     } };
 
-    ghost invariant = { λ n. (n.greatest ≤ 9999) × IsStrictlySortedBy name_cmp (section_names (map (λ row. row.now) n.sections.items)) × IsStrictlySortedBy name_cmp (point_names (map (λ row. row.now) n.points.items)) };
+    ghost invariant = { λ n. (n.greatest ≤ 9999)
+        × IsStrictlySortedBy name_cmp (section_names (map (λ row. row.now) n.sections.items))
+        × IsStrictlySortedBy name_cmp (point_names (map (λ row. row.now) n.points.items))
+        × IsStrictlySortedBy name_cmp n.fence.items };
 }

@@ -52,4 +52,5 @@ invariant_of-near g c =
           (rising-filter name_cmp (λ (row : SectionRow). row.name) (λ row. has_name fence row.name || is_asked c.args.command.now.kind row.name) c.self.inside.network.sections c.points.ensures.network.sections_rise),
       rw (c.in_ok-rows_named.ensures, c.points.ensures.rows)
           (rising-filter name_cmp (λ (row : PointRow). row.name) (λ row. has_name beside row.name) c.self.inside.network.points c.points.ensures.network.points_rise),
+      c.in_ok-fence.ensures.rising,
     )
