@@ -28,7 +28,7 @@ use Rattle.clr_shelf.proofs.Lists.{Contains-here, Contains-later}
 use Rattle.clr_shelf.proofs.Members.{row_of-member}
 use Rattle.clr_shelf.specs.Rows.{in_key_order, row_of, with_row}
 use Rattle.clr_shelf.proofs.SameRows.{same_from_permutation}
-use Rattle.clr_rules.specs.Edits.{edited, edited_all}
+use Rattle.clr_rules.specs.Edits.{after_edit, after_edits}
 use Rattle.clr_rules.specs.Good.{IsGood}
 use Rattle.clr_rules.specs.Hold.{hold_cmp, hold_cmp_total}
 use Rattle.clr_rules.specs.Holds.{hold_key}
@@ -44,7 +44,7 @@ use Rattle.clr_rules.specs.declared.hold.Hold.{Hold}
 use Rattle.clr_rules.specs.declared.point_state.PointState.{PointState}
 use Rattle.clr_rules.specs.declared.record.Record.{Record}
 use Rattle.clr_rules.specs.declared.step_row.StepRow.{StepRow}
-use Rattle.clr_tables.specs.RowsRead.{placed}
+use Rattle.clr_tables.specs.RowsRead.{with_its_position}
 use Rattle.clr_tables.specs.Tables.{state_at}
 use Rattle.clr_desk.specs.Filling.{filling, hand_edit}
 use Rattle.clr_desk.specs.Opening.{OpensAgain, bad_network, bad_staff}
@@ -144,33 +144,33 @@ hands_are (state ∷ states) ordered =
 
 -- ---- the edits of each kind
 
-edited_all-append : (front back : List Edit) (R : Register) → edited_all (front ++ back) R ≡ edited_all back (edited_all front R)
-unfolding edited_all
+edited_all-append : (front back : List Edit) (R : Register) → after_edits (front ++ back) R ≡ after_edits back (after_edits front R)
+unfolding after_edits
 edited_all-append [] back R = refl
-edited_all-append (edit ∷ front) back R = edited_all-append front back (edited edit R)
+edited_all-append (edit ∷ front) back R = edited_all-append front back (after_edit edit R)
 
-hands_edited : (states : List PointState) (R : Register) → edited_all (map hand_edit states) R ≡ record R { states = set_hands states R.states }
-unfolding edited_all set_hands
+hands_edited : (states : List PointState) (R : Register) → after_edits (map hand_edit states) R ≡ record R { states = set_hands states R.states }
+unfolding after_edits set_hands
 hands_edited [] R = refl
-hands_edited (state ∷ states) R = hands_edited states (edited (hand_edit state) R)
+hands_edited (state ∷ states) R = hands_edited states (after_edit (hand_edit state) R)
 
-holds_edited : (holds : List Hold) (R : Register) → edited_all (map PutHold holds) R ≡ record R { holds = put_rows hold_cmp hold_key holds R.holds }
-unfolding edited_all put_rows
+holds_edited : (holds : List Hold) (R : Register) → after_edits (map PutHold holds) R ≡ record R { holds = put_rows hold_cmp hold_key holds R.holds }
+unfolding after_edits put_rows
 holds_edited [] R = refl
-holds_edited (h ∷ holds) R = holds_edited holds (edited (PutHold h) R)
+holds_edited (h ∷ holds) R = holds_edited holds (after_edit (PutHold h) R)
 
-records_edited : (records : List Record) (R : Register) → edited_all (map PutRecord records) R ≡ record R { records = put_rows id_cmp record_key records R.records }
-unfolding edited_all put_rows
+records_edited : (records : List Record) (R : Register) → after_edits (map PutRecord records) R ≡ record R { records = put_rows id_cmp record_key records R.records }
+unfolding after_edits put_rows
 records_edited [] R = refl
-records_edited (r ∷ records) R = records_edited records (edited (PutRecord r) R)
+records_edited (r ∷ records) R = records_edited records (after_edit (PutRecord r) R)
 
-steps_edited : (steps : List StepRow) (R : Register) → edited_all (map PutStep steps) R ≡ record R { steps = put_rows step_key_cmp step_key steps R.steps }
-unfolding edited_all put_rows
+steps_edited : (steps : List StepRow) (R : Register) → after_edits (map PutStep steps) R ≡ record R { steps = put_rows step_key_cmp step_key steps R.steps }
+unfolding after_edits put_rows
 steps_edited [] R = refl
-steps_edited (row ∷ steps) R = steps_edited steps (edited (PutStep row) R)
+steps_edited (row ∷ steps) R = steps_edited steps (after_edit (PutStep row) R)
 
 all_edited : (states : List PointState) (holds : List Hold) (records : List Record) (steps : List StepRow) (R : Register)
-    → edited_all (filling states holds records steps) R
+    → after_edits (filling states holds records steps) R
     ≡ record R {
       states = set_hands states R.states;
       holds = put_rows hold_cmp hold_key holds R.holds;
@@ -179,9 +179,9 @@ all_edited : (states : List PointState) (holds : List Hold) (records : List Reco
     }
 all_edited states holds records steps R =
     edited_all-append (map hand_edit states ++ map PutHold holds ++ map PutRecord records) (map PutStep steps) R
-    ∙ ap (edited_all (map PutStep steps)) (edited_all-append (map hand_edit states ++ map PutHold holds) (map PutRecord records) R
-    ∙ ap (edited_all (map PutRecord records)) (edited_all-append (map hand_edit states) (map PutHold holds) R
-    ∙ ap (edited_all (map PutHold holds)) (hands_edited states R)
+    ∙ ap (after_edits (map PutStep steps)) (edited_all-append (map hand_edit states ++ map PutHold holds) (map PutRecord records) R
+    ∙ ap (after_edits (map PutRecord records)) (edited_all-append (map hand_edit states) (map PutHold holds) R
+    ∙ ap (after_edits (map PutHold holds)) (hands_edited states R)
     ∙ holds_edited holds _)
     ∙ records_edited records _)
     ∙ steps_edited steps _
@@ -199,7 +199,7 @@ each_read all (state ∷ states) among ordered = (
 
 firsts_are : (all states : List PointState) (points : List PointRow) → map state_key states ≡ point_names points
     → AllByRecursion (λ (state : PointState). state_of all state.point ≡ Some state) states
-    → map first_state (map (placed all) points) ≡ map unhanded states
+    → map first_state (map (with_its_position all) points) ≡ map unhanded states
 firsts_are all [] [] same read = refl
 firsts_are all [] (p ∷ points) same read = cc
 firsts_are all (state ∷ states) [] same read = cc
@@ -209,13 +209,13 @@ firsts_are all (state ∷ states) (p ∷ points) same read =
     (λ i. record { point = sym name i; position = PointState.position (here i); hand = None } ∷ firsts_are all states points (ap (drop 1) same) read.1 i)
 
 abbrev grid_now : Register → Grid
-grid_now R = record { sections = Grid.sections R.net; points = map (placed R.states) (Grid.points R.net) }
+grid_now R = record { sections = Grid.sections R.net; points = map (with_its_position R.states) (Grid.points R.net) }
 
-placed_names : (all : List PointState) (points : List PointRow) → point_names (map (placed all) points) ≡ point_names points
+placed_names : (all : List PointState) (points : List PointRow) → point_names (map (with_its_position all) points) ≡ point_names points
 placed_names all [] = refl
 placed_names all (p ∷ points) = ap (λ names. p.name ∷ names) (placed_names all points)
 
-unplaced_placed : (all : List PointState) (points : List PointRow) → map unplaced (map (placed all) points) ≡ map unplaced points
+unplaced_placed : (all : List PointState) (points : List PointRow) → map unplaced (map (with_its_position all) points) ≡ map unplaced points
 unplaced_placed all [] = refl
 unplaced_placed all (p ∷ points) = ap (λ l. unplaced p ∷ l) (unplaced_placed all points)
 
@@ -237,9 +237,9 @@ opening_now R good =
 -- ---- the rows of a good register
 
 -- what the edits make of the opening register of its network
-pub filled : (R : Register) → IsGood R → edited_all (filling R.states R.holds R.records R.steps) (opening (grid_now R) R.staff) ≡ R
+pub filled : (R : Register) → IsGood R → after_edits (filling R.states R.holds R.records R.steps) (opening (grid_now R) R.staff) ≡ R
 filled R good =
-    ap (edited_all (filling R.states R.holds R.records R.steps)) (opening_now R good)
+    ap (after_edits (filling R.states R.holds R.records R.steps)) (opening_now R good)
     ∙ all_edited R.states R.holds R.records R.steps _
     ∙ (λ i. record {
       net = R.net;
@@ -255,11 +255,11 @@ now_is_network : (R : Register) → IsNetwork R.net → IsNetwork (grid_now R)
 now_is_network R net = record {
   some_section = net.some_section;
   sections_fit = net.sections_fit;
-  points_fit = rw (length-map (Grid.points R.net) (placed R.states)) net.points_fit;
+  points_fit = rw (length-map (Grid.points R.net) (with_its_position R.states)) net.points_fit;
   sections_rise = net.sections_rise;
   points_rise = rw (placed_names R.states (Grid.points R.net)) net.points_rise;
-  ends_known = All-map (λ (p : PointRow). IsTrue (has_ends (section_names (Grid.sections R.net)) p)) (placed R.states) (Grid.points R.net) net.ends_known;
-  ends_differ = All-map (λ (p : PointRow). has_one_section p ≡ false) (placed R.states) (Grid.points R.net) net.ends_differ;
+  ends_known = All-map (λ (p : PointRow). IsTrue (has_ends (section_names (Grid.sections R.net)) p)) (with_its_position R.states) (Grid.points R.net) net.ends_known;
+  ends_differ = All-map (λ (p : PointRow). has_one_section p ≡ false) (with_its_position R.states) (Grid.points R.net) net.ends_differ;
 }
 
 -- rows in the order of their names, and the same rows in that order, are one list
@@ -294,7 +294,7 @@ opens_again R good = record {
       let staff : built.staff ≡ R.staff =
       one_list (λ (row : StaffRow). row.name) R.staff built.staff built.employees.all_rows good.staff.names_rise built.employees.is_staff.names_rise in
       built.filled
-      ∙ (λ i. edited_all (filling R.states R.holds R.records R.steps) (opening (record { sections = sections i; points = points i }) (staff i)))
+      ∙ (λ i. after_edits (filling R.states R.holds R.records R.steps) (opening (record { sections = sections i; points = points i }) (staff i)))
       ∙ filled R good;
   no_fault =
       no_bad_table (Grid.sections R.net) _ _

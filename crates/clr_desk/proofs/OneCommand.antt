@@ -5,7 +5,7 @@ use Rattle.sqlite.specs.Effect.{Database}
 use Rattle.sqlite.specs.State.{State, Survives}
 use Rattle.sqlite.proofs.StateLemmas.{survives_weaker}
 use Rattle.clr_rules.specs.Answer.{Answer, answer}
-use Rattle.clr_rules.specs.Edits.{edited_all}
+use Rattle.clr_rules.specs.Edits.{after_edits}
 use Rattle.clr_rules.specs.Good.{IsGood}
 use Rattle.clr_rules.specs.Register.{Register}
 use Rattle.clr_rules.specs.Run.{after}
@@ -28,9 +28,9 @@ use Rattle.clr_store.specs.declared.fault.StoreFault.TheVariants.{Sql, WrongVers
 
 -- ---- a command that is not accepted
 
-edited_by_none : (R : Register) (edits : List Edit) → edits ≡ [] → edited_all edits R ≡ R
-unfolding edited_all
-edited_by_none R edits none = ap (λ es. edited_all es R) none
+edited_by_none : (R : Register) (edits : List Edit) → edits ≡ [] → after_edits edits R ≡ R
+unfolding after_edits
+edited_by_none R edits none = ap (λ es. after_edits es R) none
 
 -- a command that has no edits changes nothing
 pub nothing_changes : (R : Register) (q : Command) (edits : List Edit) → edits ≡ Answer.edits (near_answer R q) → edits ≡ [] → R ≡ near_after R q
@@ -42,7 +42,7 @@ pub near_is_whole : (R : Register) (q : Command) → IsGood R → near_answer R 
 near_is_whole R q good = sym (near_is_enough R q good)
 
 pub near_after_is_after : (R : Register) (q : Command) → IsGood R → near_after R q ≡ after R q
-near_after_is_after R q good = ap (λ (a : Answer). edited_all a.edits R) (near_is_whole R q good)
+near_after_is_after R q good = ap (λ (a : Answer). after_edits a.edits R) (near_is_whole R q good)
 
 -- the same of what a call answers
 pub replies_whole : (R : Register) (q : Command) (result : Result Reply DeskFault) → IsGood R
@@ -65,7 +65,7 @@ pub tables_after : (R : Register) (q : Command) (edits : List Edit) → edits �
     → tables_edited edits (tables_of R) ≡ tables_of (after R q)
 tables_after R q edits is good =
     sym (tables_follow_edits R edits good.in_order good.points_known.states)
-    ∙ ap (λ es. tables_of (edited_all es R)) is ∙ ap tables_of (near_after_is_after R q good)
+    ∙ ap (λ es. tables_of (after_edits es R)) is ∙ ap tables_of (near_after_is_after R q good)
 
 -- what a crash of its commit leaves
 pub crash_after : (old new : State) (R : Register) (q : Command) (edits : List Edit) → edits ≡ Answer.edits (near_answer R q)

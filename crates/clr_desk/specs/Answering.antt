@@ -1,7 +1,7 @@
 -- ANSWERING ONE COMMAND: what a book answers, and what stays as it was.
 use Rattle.std.specs.Prelude.{Bool, true, false, List, [], ◌∷◌, Option, None, Some, Result, Ok, Err}
 use Rattle.clr_rules.specs.Answer.{Answer, answer_with}
-use Rattle.clr_rules.specs.Edits.{edited_all}
+use Rattle.clr_rules.specs.Edits.{after_edits}
 use Rattle.clr_rules.specs.Near.{Near, near_of}
 use Rattle.clr_rules.specs.Register.{Register}
 use Rattle.clr_rules.specs.declared.command.Command.{Command}
@@ -15,7 +15,7 @@ near_answer R q = answer_with (Near.known (near_of R q)) (Near.rows (near_of R q
 
 -- the register with the edits of that answer
 abbrev pub near_after : Register → Command → Register
-near_after R q = edited_all (Answer.edits (near_answer R q)) R
+near_after R q = after_edits (Answer.edits (near_answer R q)) R
 
 -- whether a call accepted its command: it was not refused or shown, and met no fault
 abbrev pub has_accepted : Result Reply DeskFault → Bool

@@ -8,7 +8,7 @@ use Rattle.clr_net.specs.Network.{IsGridOf, first_fault as network_fault}
 use Rattle.clr_net.specs.declared.net_fault.NetFault.{NetFault}
 use Rattle.clr_net.specs.declared.net_fault.NetFault.TheVariants.{NoSections, TooLarge, SectionTwice, PointTwice, UnknownEnd, SameEnds, NoMemory as NoMemoryThere}
 use Rattle.clr_net.specs.declared.section.SectionRow.{SectionRow}
-use Rattle.clr_rules.specs.Edits.{edited_all}
+use Rattle.clr_rules.specs.Edits.{after_edits}
 use Rattle.clr_rules.specs.Good.{IsGood}
 use Rattle.clr_rules.specs.Register.{Register, opening}
 use Rattle.clr_tables.specs.RowsRead.{Rows, rows_of}
@@ -24,7 +24,7 @@ pub record IsRegisterOf (rows : Rows) (R : Register) : Type 0 where
   pub staff : List StaffRow
   pub network : IsGridOf rows.sections rows.points grid
   pub employees : IsStaffOf rows.staff staff
-  pub filled : R ≡ edited_all (filling rows.states rows.holds rows.records rows.steps) (opening grid staff)
+  pub filled : R ≡ after_edits (filling rows.states rows.holds rows.records rows.steps) (opening grid staff)
 
 -- the table that a fault of the network is in: of a network that is too large the sections, where they are too many
 abbrev pub table_of : List SectionRow → NetFault → TableName

@@ -2,7 +2,7 @@
 ghost use Rattle.std.specs.Prelude.{◌≡◌, ◌⊎◌, ℕ, List, Option, Some, None, IfErr, IfOk, IsTrue, OnOk, length, map, nat_lt};
 ghost use Rattle.clr_csv.specs.Staff.{IsStaffOf, first_fault as staff_fault};
 ghost use Rattle.clr_net.specs.Network.{IsGridOf, first_fault as network_fault};
-ghost use Rattle.clr_rules.specs.Edits.{edited_all};
+ghost use Rattle.clr_rules.specs.Edits.{after_edits};
 ghost use Rattle.clr_rules.specs.Register.{opening};
 ghost use Rattle.clr_tables.specs.declared.table_name.TableName.TheVariants as table;
 ghost use Rattle.clr_book.specs.Book.{Shelved};
@@ -94,7 +94,7 @@ fn filled_book(
     staff: Staff,
     change: Change,
 ) -> Result<DeskBook, AllocError>
-    ensures { IfOk result (λ book. book.register ≡ edited_all change.edits
+    ensures { IfOk result (λ book. book.register ≡ after_edits change.edits
         (opening network staff)) }
 {
     let mut book = DeskBook::opening(alloc, network, staff)?;
