@@ -16,4 +16,5 @@ pub mod FenceNames
 pub mod Grouped
 pub mod LookedUp
 pub mod NameLists
+pub mod PutSteps
 pub mod NearGroups
