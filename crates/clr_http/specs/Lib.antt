@@ -3,3 +3,7 @@ pub mod Length
 pub mod Request
 pub mod Response
 pub mod Target
+pub mod Respond
+pub mod Registrar
+pub mod Served
+pub mod Service

@@ -1,8 +1,19 @@
 //! One request to the register over HTTP, and its response.
 #![tactic(auto)]
 
-pub mod head;
-pub mod length;
-pub mod request;
-pub mod response;
-pub mod target;
+mod head;
+mod length;
+mod registrar;
+mod request;
+mod respond;
+mod response;
+mod serve;
+mod service;
+mod target;
+
+pub use registrar::Registrar;
+pub use request::{ReadFault, Request, read_request};
+pub use response::{Fault, Method, Response};
+pub use serve::{HttpFault, Served, serve_one};
+pub use service::{inputs_are_answered_once, serve_all};
+pub use target::{Asked, Printing, Route, Viewing, asked_of};

@@ -1,0 +1,114 @@
+-- Connections one after the other: an input has one outcome, and a connection more goes on where the earlier ones ended.
+use Rattle.std.proofs.Common.{◌≡◌, ◌≤◌, ◌<◌, ◌+◌, ◌-◌, ◌^◌, ◌∙◌, ℕ, List, [], ◌∷◌, ◌++◌, Option, None, Some, All, inl, inr, refl, sym, ap, subst, arith, get_or, length, map, take}
+use Rattle.std.proofs.lemmas.List.{get_or-map, length-map, map-append, take_all, take_more}
+use Rattle.std.specs.Prelude.{◌≢◌, ◌⊎◌, Result, Ok, unwrap_or}
+use Rattle.std.specs.Io.KnownBytes.{Appends}
+use Rattle.httparse.proofs.GrammarLemmas.{request_unique}
+use Rattle.clr_rules.specs.Register.{Register}
+use Rattle.clr_http.specs.Head.{HasHead}
+use Rattle.clr_http.specs.Registrar.{IsTurn, one_more}
+use Rattle.clr_http.specs.Respond.{Outcome, Responds, respond_to}
+use Rattle.clr_http.specs.Response.{Carried, response_bytes}
+use Rattle.clr_http.specs.Served.{IsServed}
+use Rattle.clr_http.specs.Service.{AnsweredOnce, HaveHeads, IsExchange, RespondsAll}
+use Rattle.clr_http.specs.declared.serve.HttpFault.{HttpFault}
+use Rattle.clr_http.specs.declared.serve.Served.{Served}
+use Rattle.clr_http.specs.declared.serve.Served.TheVariants.{Answered, Nothing}
+
+pub answered_once : AnsweredOnce
+answered_once R input o other (head, rest, b, e) (k, left, c, f) =
+    let (one, two) = request_unique input head k rest left b.reads c.reads in
+    e ∙ (ap (λ h. respond_to R h rest) one ∙ ap (respond_to R k) two) ∙ sym f
+
+turned : (R S : Register) (faults later : ℕ) (input bytes : List ℕ) (o : Outcome) (c : Carried)
+    → Responds R input o → bytes ≡ response_bytes c → IsTurn o R faults S later c → IsExchange R faults S later input bytes
+turned R S faults later input bytes o c r e (inl t) = inl (o, r, e ∙ ap response_bytes t.0, t.1, t.2)
+turned R S faults later input bytes o c r e (inr t) = inr t.2
+
+-- a connection that got its response, over memory
+pub exchanged : (R S : Register) (faults later : ℕ) (input bytes : List ℕ) (o : Outcome) (before behind : Option (List ℕ)) (served : Served)
+    → before ≡ Some [] → behind ≡ Some bytes → Responds R input o → IsServed o R faults S later before behind (Ok served)
+    → IsExchange R faults S later input bytes
+exchanged R S faults later input bytes o before behind Nothing e f r s = absurd (s.some refl)
+exchanged R S faults later input bytes o before behind (Answered status) e f r s =
+    let (c, turn, same, out) = s.written in
+    let sent : bytes ≡ response_bytes c = appended before behind bytes (response_bytes c) e f out in
+    turned R S faults later input bytes o c r sent turn
+  where
+    appended : (before behind : Option (List ℕ)) (bytes more : List ℕ) → before ≡ Some [] → behind ≡ Some bytes → Appends before behind more → bytes ≡ more
+    appended None behind bytes more e f a = cc e
+    appended (Some xs) None bytes more e f a = absurd a
+    appended (Some xs) (Some ys) bytes more e f a =
+        let x : xs ≡ [] = ap (λ o. unwrap_or o []) e in
+        let y : ys ≡ bytes = ap (λ o. unwrap_or o []) f in
+        sym y ∙ a ∙ rw x refl
+
+-- one response more
+pub responded : (R S T : Register) (input bytes : List ℕ) (inputs told : List (List ℕ)) (o : Outcome) → RespondsAll R inputs told S
+    → Responds S input o → bytes ≡ response_bytes o.response → T ≡ o.left → RespondsAll R (inputs ++ input ∷ []) (told ++ bytes ∷ []) T
+unfolding RespondsAll
+responded R S T input bytes [] [] o all r e t = (o, subst (λ (X : Register). Responds X input o) all r, e, t)
+responded R S T input bytes (first ∷ inputs) (front ∷ told) o (p, q, f, all) r e t =
+    (p, q, f, responded p.left S T input bytes inputs told o all r e t)
+responded R S T input bytes [] (front ∷ told) o all r e t = absurd all
+responded R S T input bytes (first ∷ inputs) [] o all r e t = absurd all
+
+-- how far the service is: the count of faults has risen, or the responses are those of the definitions
+pub record IsFar (R : Register) (faults : ℕ) (S : Register) (later : ℕ) (inputs told : List (List ℕ)) : Type 0 where
+  pub up : faults ≤ later
+  pub top : later ≤ 2 ^ 64 - 1
+  pub same : later ≡ faults → RespondsAll R inputs told S
+
+pub none_yet : (R : Register) (faults : ℕ) → faults < 2 ^ 64 - 1 → IsFar R faults R faults [] []
+unfolding RespondsAll
+none_yet R faults small = record { up = omega arith; top = omega (arith, small); same = λ e. refl }
+
+pub further : (R S T : Register) (faults later last : ℕ) (input bytes : List ℕ) (inputs told : List (List ℕ)) → faults < 2 ^ 64 - 1
+    → IsFar R faults S later inputs told → IsExchange S later T last input bytes
+    → IsFar R faults T last (inputs ++ input ∷ []) (told ++ bytes ∷ [])
+further R S T faults later last input bytes inputs told small far (inl (o, r, e, t, f)) = record {
+  up = rw f far.up;
+  top = rw f far.top;
+  same = λ g. responded R S T input bytes inputs told o (far.same (sym f ∙ g)) r e t;
+}
+further R S T faults later last input bytes inputs told small far (inr f) = record {
+  up = more faults later last far.up far.top f;
+  top = capped later last f;
+  same = λ g. absurd (risen faults later last small far.up f g);
+}
+  where
+    more : (faults later last : ℕ) → faults ≤ later → later ≤ 2 ^ 64 - 1 → last ≡ one_more later → faults ≤ last
+    more faults later last up top f = grind arith
+
+    capped : (later last : ℕ) → last ≡ one_more later → last ≤ 2 ^ 64 - 1
+    capped later last f = grind arith
+
+    risen : (faults later last : ℕ) → faults < 2 ^ 64 - 1 → faults ≤ later → last ≡ one_more later → last ≡ faults → ⊥
+    risen faults later last small up f g = grind arith
+
+-- the requests as bytes, and the responses
+module _ {X Y : Type 0} (f : X → List ℕ) (g : Y → List ℕ) where
+  head_at : (xs : List X) (i : ℕ) (d : X) → i < length xs → HaveHeads (map f xs) → HasHead (Some (f (get_or xs i d)))
+  head_at xs i d lt all =
+      subst (λ (x : List ℕ). HasHead (Some x)) (get_or-map f xs i d [] lt) (all i [] (omega (arith, lt, length-map xs f)))
+
+  pub next_far : (R S T : Register) (faults later last : ℕ) (xs : List X) (i : ℕ) (x : X) (input : List ℕ) (ys zs : List Y) (y : Y)
+      → faults < 2 ^ 64 - 1 → HaveHeads (map f xs) → i < length xs → x ≡ get_or xs i x → input ≡ f x → zs ≡ ys ++ y ∷ []
+      → IsFar R faults S later (take i (map f xs)) (map g ys) → (HasHead (Some input) → IsExchange S later T last input (g y))
+      → IsFar R faults T last (take (i + 1) (map f xs)) (map g zs)
+  next_far R S T faults later last xs i x input ys zs y small heads lt at is e far exchange =
+      let same : input ≡ f (get_or xs i x) = is ∙ ap f at in
+      let inside : i < length (map f xs) = omega (arith, lt, length-map xs f) in
+      let inputs : take (i + 1) (map f xs) ≡ take i (map f xs) ++ f (get_or xs i x) ∷ [] =
+      take_more (map f xs) i [] inside ∙ ap (λ (bytes : List ℕ). take i (map f xs) ++ bytes ∷ []) (get_or-map f xs i x [] lt) in
+      let told : map g zs ≡ map g ys ++ g y ∷ [] = ap (map g) e ∙ map-append g ys (y ∷ []) in
+      let here : HasHead (Some input) = subst (λ (bytes : List ℕ). HasHead (Some bytes)) (sym same) (head_at xs i x lt heads) in
+      let one : IsExchange S later T last (f (get_or xs i x)) (g y) =
+      subst (λ (bytes : List ℕ). IsExchange S later T last bytes (g y)) same (exchange here) in
+      rw (inputs, told) (further R S T faults later last _ _ _ _ small far one)
+
+  pub all_far : (R S : Register) (faults later : ℕ) (xs : List X) (i : ℕ) (told : List (List ℕ)) → length xs ≤ i
+      → IsFar R faults S later (take i (map f xs)) told → later ≡ faults → RespondsAll R (map f xs) told S
+  all_far R S faults later xs i told le far same =
+      let whole : take i (map f xs) ≡ map f xs = take_all i (map f xs) (omega (arith, le, length-map xs f)) in
+      subst (λ (inputs : List (List ℕ)). RespondsAll R inputs told S) whole (far.same same)

@@ -1,0 +1,93 @@
+use Rattle.std.proofs.Common.{◌≡◌, ◌∙◌, Some, ap, refl, rules, subst, sym}
+use Rattle.std.specs.Prelude.{Err, IfSome, IsSomeAnd}
+use Rattle.clr_rules.proofs.keeps.EveryKind.{reached_are_good}
+use Rattle.clr_http.proofs.Connections.{answered_served, asks_unrefused, of_kind, refused_served, served_as, unmade_served}
+use Rattle.clr_http.proofs.Turns.{stays_good, stays_reached, turn_leaves}
+use Rattle.clr_http.specs.Request.{IsRefusedHead, asks, reading, refused, request_read}
+use Rattle.clr_http.specs.Respond.{answered, only, reading_answered, respond_to}
+use Rattle.clr_http.specs.Response.{carried}
+use Rattle.clr_http.specs.Served.{IsRefusal}
+use Rattle.clr_http.specs.declared.request.Request.TheVariants as made
+use Rattle.clr_http.specs.declared.serve.HttpFault.TheVariants.{NoMemory}
+use Rattle.clr_http.proofs.serve.serve_one.Goals as goal
+
+pub returns-in_err-response-in-Some-Asks-clause-served : goal.returns-in_err-response-in-Some-Asks-clause-served
+returns-in_err-response-in-Some-Asks-clause-served g c input rest head e begins good =
+    let R = g.D.Registrar.register c.args.desk.now in
+    let whole = c.in_ok-read_request.ensures.whole input rest head e begins in
+    let found : c.in_ok-read_request.field-0 ≡ Some (made.Asks c.in-Some-Asks.asked c.in-Some-Asks.body) = search rules in
+    let read : asks c.in-Some-Asks.asked c.in-Some-Asks.body.items ≡ request_read head rest =
+    subst (λ o. IsSomeAnd o (λ r. reading r ≡ request_read head rest)) found whole in
+    let same : respond_to R head rest ≡ answered R c.in-Some-Asks.asked c.as_slice.result.now =
+    sym (ap (reading_answered R) read) ∙ ap (answered R c.in-Some-Asks.asked) (sym c.as_slice.ensures.value) in
+    let unmade : c.from_residual-in_err-response-in-Some-Asks.result ≡ Err NoMemory = search rules in
+    served_as _ _ _ _ _ _ _ _ _ same (unmade_served _ _ _ _ _ _ _ unmade (c.in_err-response-in-Some-Asks.ensures good))
+
+pub returns-in_err-response-in-Some-Asks-clause-outside : goal.returns-in_err-response-in-Some-Asks-clause-outside
+returns-in_err-response-in-Some-Asks-clause-outside g c input e none =
+    let left = g.R.Read.remaining c.read_request.new.reader in
+    let found : c.in_ok-read_request.field-0 ≡ Some (made.Asks c.in-Some-Asks.asked c.in-Some-Asks.body) = search rules in
+    let refusal = subst (λ o. IfSome o (λ r. IsRefusedHead (Some input) left (reading r))) found (c.in_ok-read_request.ensures.outside input e none) in
+    absurd (asks_unrefused (Some input) left c.in-Some-Asks.asked c.in-Some-Asks.body.items refusal)
+
+pub returns-in_err-response-in-Some-Asks-clause-good : goal.returns-in_err-response-in-Some-Asks-clause-good
+returns-in_err-response-in-Some-Asks-clause-good g c good =
+    stays_good _ _ c.in-Some-Asks.asked c.as_slice.result.now good (c.in_err-response-in-Some-Asks.ensures good)
+
+pub returns-in_err-response-in-Some-Asks-clause-reached : goal.returns-in_err-response-in-Some-Asks-clause-reached
+returns-in_err-response-in-Some-Asks-clause-reached g c reached =
+    let good = reached_are_good (g.D.Registrar.register c.args.desk.now) reached in
+    stays_reached _ _ c.in-Some-Asks.asked c.as_slice.result.now reached (c.in_err-response-in-Some-Asks.ensures good)
+
+pub returns-in-None-clause-served : goal.returns-in-None-clause-served
+returns-in-None-clause-served g c input rest head e begins good =
+    let whole = c.in_ok-read_request.ensures.whole input rest head e begins in
+    absurd (subst (λ o. IsSomeAnd o (λ r. reading r ≡ request_read head rest)) c.in-None.is whole)
+
+pub returns-in-Some-Refused-clause-served : goal.returns-in-Some-Refused-clause-served
+returns-in-Some-Refused-clause-served g c input rest head e begins good =
+    let R = g.D.Registrar.register c.args.desk.now in
+    let whole = c.in_ok-read_request.ensures.whole input rest head e begins in
+    let found : c.in_ok-read_request.field-0 ≡ Some (made.Refused c.in-Some-Refused.response) = search rules in
+    let read : refused (carried c.in-Some-Refused.response) ≡ request_read head rest =
+    subst (λ o. IsSomeAnd o (λ r. reading r ≡ request_read head rest)) found whole in
+    let same : respond_to R head rest ≡ only R (carried c.in-Some-Refused.response) = sym (ap (reading_answered R) read) in
+    refused_served _ _ _ _ _ _ _ same c.send.ensures.written c.send.ensures.some
+
+pub returns-in-Some-Refused-clause-outside : goal.returns-in-Some-Refused-clause-outside
+returns-in-Some-Refused-clause-outside g c input e none =
+    let left = g.R.Read.remaining c.read_request.new.reader in
+    let found : c.in_ok-read_request.field-0 ≡ Some (made.Refused c.in-Some-Refused.response) = search rules in
+    let refusal : IsRefusal input left (carried c.in-Some-Refused.response) =
+    subst (λ o. IfSome o (λ r. IsRefusedHead (Some input) left (reading r))) found (c.in_ok-read_request.ensures.outside input e none) in
+    (of_kind (IsRefusal input left) (carried c.in-Some-Refused.response) _ _ _ refusal c.send.ensures.written, refl, refl)
+
+pub returns-in_ok-response-in-Some-Asks-clause-served : goal.returns-in_ok-response-in-Some-Asks-clause-served
+returns-in_ok-response-in-Some-Asks-clause-served g c input rest head e begins good =
+    let R = g.D.Registrar.register c.args.desk.now in
+    let whole = c.in_ok-read_request.ensures.whole input rest head e begins in
+    let found : c.in_ok-read_request.field-0 ≡ Some (made.Asks c.in-Some-Asks.asked c.in-Some-Asks.body) = search rules in
+    let read : asks c.in-Some-Asks.asked c.in-Some-Asks.body.items ≡ request_read head rest =
+    subst (λ o. IsSomeAnd o (λ r. reading r ≡ request_read head rest)) found whole in
+    let same : respond_to R head rest ≡ answered R c.in-Some-Asks.asked c.as_slice.result.now =
+    sym (ap (reading_answered R) read) ∙ ap (answered R c.in-Some-Asks.asked) (sym c.as_slice.ensures.value) in
+    let turn = c.in_ok-response-in-Some-Asks.ensures good in
+    served_as _ _ _ _ _ _ _ _ _ same (answered_served _ _ _ _ _ _ _ _ _ turn c.send-in-Some-Asks.ensures.written c.send-in-Some-Asks.ensures.some)
+
+pub returns-in_ok-response-in-Some-Asks-clause-outside : goal.returns-in_ok-response-in-Some-Asks-clause-outside
+returns-in_ok-response-in-Some-Asks-clause-outside g c input e none =
+    let left = g.R.Read.remaining c.read_request.new.reader in
+    let found : c.in_ok-read_request.field-0 ≡ Some (made.Asks c.in-Some-Asks.asked c.in-Some-Asks.body) = search rules in
+    let refusal = subst (λ o. IfSome o (λ r. IsRefusedHead (Some input) left (reading r))) found (c.in_ok-read_request.ensures.outside input e none) in
+    absurd (asks_unrefused (Some input) left c.in-Some-Asks.asked c.in-Some-Asks.body.items refusal)
+
+pub returns-in_ok-response-in-Some-Asks-clause-good : goal.returns-in_ok-response-in-Some-Asks-clause-good
+returns-in_ok-response-in-Some-Asks-clause-good g c good =
+    let turn = c.in_ok-response-in-Some-Asks.ensures good in
+    stays_good _ _ c.in-Some-Asks.asked c.as_slice.result.now good (turn_leaves _ _ _ _ _ _ turn)
+
+pub returns-in_ok-response-in-Some-Asks-clause-reached : goal.returns-in_ok-response-in-Some-Asks-clause-reached
+returns-in_ok-response-in-Some-Asks-clause-reached g c reached =
+    let good = reached_are_good (g.D.Registrar.register c.args.desk.now) reached in
+    let turn = c.in_ok-response-in-Some-Asks.ensures good in
+    stays_reached _ _ c.in-Some-Asks.asked c.as_slice.result.now reached (turn_leaves _ _ _ _ _ _ turn)

@@ -1,0 +1,22 @@
+use Rattle.clr_http.proofs.Exchanges.{next_far, none_yet}
+use Rattle.clr_http.proofs.service.serve_all.Goals as goal
+
+pub loop-request-init : goal.loop-request-init
+loop-request-init g c = record {
+  good = λ h. h;
+  reached = λ h. h;
+  far = λ good heads small. rw c.new-responses.ensures.items (none_yet (g.D.Registrar.register c.args.desk.now) (g.D.Registrar.fault_count c.args.desk.now) small);
+}
+
+pub returns-in_err-push-clause-reached : goal.returns-in_err-push-clause-reached
+returns-in_err-push-clause-reached g c h = c.response_bytes.ensures.reached (c.loop-request.invariant.reached h)
+
+pub loop-request-preserved : goal.loop-request-preserved
+loop-request-preserved g c = record {
+  good = λ h. c.response_bytes.ensures.good (c.loop-request.invariant.good h);
+  reached = λ h. c.response_bytes.ensures.reached (c.loop-request.invariant.reached h);
+  far = λ good heads small.
+      next_far (λ request. request.items) (λ response. response.items) _ _ _ _ _ _ _ _ c.request-item.result _ _ _ _ small heads c.loop-request-test.true
+      c.request-item.is c.as_slice.ensures.value c.in_ok-push.ensures.items (c.loop-request.invariant.far good heads small)
+      (c.in_ok-response.ensures.exchange (c.loop-request.invariant.good good));
+}

@@ -1,0 +1,93 @@
+-- WHAT A REQUEST IS ANSWERED at a register, and the register after it: the head, the route and the body come to a reading (Request), and a
+-- reading to an outcome. A fault of the store or of memory is no part of it.
+use Rattle.std.specs.Prelude.{◌≡◌, ℕ, List, Option, None, Some, Result, Ok, Err, pos}
+use Rattle.httparse.specs.Grammar.{RequestHead}
+use Rattle.clr_rules.specs.Answer.{Answer, answer}
+use Rattle.clr_rules.specs.Register.{Register}
+use Rattle.clr_rules.specs.Records.{record_of}
+use Rattle.clr_rules.specs.Run.{after}
+use Rattle.clr_rules.specs.Steps.{steps_of}
+use Rattle.clr_rules.specs.declared.command.Command.{Command}
+use Rattle.clr_rules.specs.declared.command.Kind.TheVariants.{Show}
+use Rattle.clr_rules.specs.declared.reply.Reply.{Reply}
+use Rattle.clr_rules.specs.declared.reply.Reply.TheVariants.{Accepted, Refused, Shown}
+use Rattle.clr_text.specs.FaultText.{fault_text}
+use Rattle.clr_text.specs.Printed.{board_text, order_text}
+use Rattle.clr_text.specs.Reading.{read_command}
+use Rattle.clr_text.specs.Replies.{reply_text}
+use Rattle.clr_text.specs.declared.fault.TextFault.{TextFault}
+use Rattle.clr_http.specs.Head.{BeginsWith}
+use Rattle.clr_http.specs.Request.{Reading, asks, refused, request_read}
+use Rattle.clr_http.specs.Response.{Carried, json, printed, told}
+use Rattle.clr_http.specs.declared.response.Fault.TheVariants.{NoSuch}
+use Rattle.clr_http.specs.declared.target.Asked.{Asked}
+use Rattle.clr_http.specs.declared.target.Asked.TheVariants as asked
+use Rattle.clr_http.specs.declared.target.Printing.{Printing}
+use Rattle.clr_http.specs.declared.target.Viewing.{Viewing}
+
+-- a response, and the register that it leaves
+pub record Outcome : Type 0 where
+  pub response : Carried
+  pub left : Register
+
+-- a response that leaves the register as it is
+abbrev pub only : Register → Carried → Outcome
+only R c = record { response = c; left = R }
+
+-- the status of a reply
+abbrev pub reply_status : Reply → ℕ
+reply_status (Accepted card) = 200
+reply_status (Shown view) = 200
+reply_status (Refused refusal) = 409
+
+abbrev pub replied : Reply → Carried
+replied reply = json (reply_status reply) (reply_text reply)
+
+-- a command that is put to the register
+abbrev pub commanded : Register → Command → Outcome
+commanded R q = record { response = replied (Answer.reply (answer R q)); left = after R q }
+
+-- the body of a command, or the fault of its text
+abbrev pub body_answered : Register → Result Command TextFault → Outcome
+body_answered R (Ok q) = commanded R q
+body_answered R (Err fault) = only R (json 400 (fault_text fault))
+
+-- `show` by the caller, which looks at no moment
+abbrev pub show_of : Viewing → Command
+show_of v = record { caller = v.caller; moment = 0; kind = Show v.id }
+
+abbrev pub view_answered : Register → Option Viewing → Outcome
+view_answered R None = only R (told NoSuch)
+view_answered R (Some v) = commanded R (show_of v)
+
+-- a printed text, where there is one
+abbrev pub text_told : Option (List ℕ) → Carried
+text_told None = told NoSuch
+text_told (Some text) = printed text
+
+-- a round of an order, by a clock at offset 0
+abbrev pub order_printed : Register → Printing → Option (List ℕ)
+order_printed R p = order_text (record_of R.records p.id) (steps_of R.steps p.id) p.round (pos 0)
+
+abbrev pub order_answered : Register → Option Printing → Outcome
+order_answered R None = only R (told NoSuch)
+order_answered R (Some p) = only R (text_told (order_printed R p))
+
+-- what is asked for, with the body of a command
+abbrev pub answered : Register → Asked → List ℕ → Outcome
+answered R asked.Command body = body_answered R (read_command body)
+answered R (asked.Clearance viewing) body = view_answered R viewing
+answered R (asked.Order printing) body = order_answered R printing
+answered R asked.Board body = only R (printed (board_text R.records (pos 0)))
+
+abbrev pub reading_answered : Register → Reading → Outcome
+reading_answered R (refused c) = only R c
+reading_answered R (asks asked body) = answered R asked body
+
+-- WHAT A HEAD AND THE BYTES BEHIND IT ARE ANSWERED
+abbrev pub respond_to : Register → RequestHead → List ℕ → Outcome
+respond_to R head rest = reading_answered R (request_read head rest)
+
+-- WHAT AN INPUT IS ANSWERED: it begins with a head of at most 8,192 bytes and 64 fields, and with one alone
+abbrev pub Responds : Register → List ℕ → Outcome → Type 0
+Responds R input o = (head : RequestHead) × (rest : List ℕ) × BeginsWith input head rest × (o ≡ respond_to R head rest)

@@ -1,0 +1,146 @@
+//! One connection: its request is read and answered, and the response written.
+ghost use Rattle.std.specs.Prelude.{◌≡◌, ◌≢◌, ◌⊎◌, ℕ, List, [], Option, Some, Ok, Err, IfErr, IfOk, true};
+ghost use Rattle.std.specs.Io.KnownBytes.{IsAtEnd, Keeps};
+ghost use Rattle.httparse.specs.Grammar.{RequestHead};
+ghost use Rattle.clr_csv.specs.Failures.{Rose};
+ghost use Rattle.clr_rules.specs.Good.{IsGood};
+ghost use Rattle.clr_rules.specs.Run.{IsReached};
+ghost use Rattle.clr_http.specs.Head.{BeginsWith, HasHead};
+ghost use Rattle.clr_http.specs.Respond.{respond_to};
+ghost use Rattle.clr_http.specs.Response.{carried};
+ghost use Rattle.clr_http.specs.Served.{IsRefusal, IsServed, IsWritten, read_told};
+ghost use Rattle.clr_http.specs.declared.serve.HttpFault.TheVariants.{NoMemory};
+
+use crate::registrar::Registrar;
+use crate::request::{ReadFault, Request, read_request};
+use crate::respond::response_to;
+use crate::response::Response;
+use clr_csv::{CountedRead, CountedWrite, write_whole};
+use http::StatusCode;
+use std::alloc::{AllocError, AllocFailed, Global};
+use thiserror::Error;
+
+/// What a connection came to.
+#[derive(Clone, Copy, Debug, PartialEq, Eq)]
+pub enum Served {
+    /// The input ended before its first byte.
+    Nothing,
+    /// A response with this status went out.
+    Answered(StatusCode),
+}
+
+/// Why a connection got no response, or no whole one.
+#[derive(Clone, Copy, Debug, PartialEq, Eq, Error)]
+pub enum HttpFault {
+    /// The reader failed. Nothing was written.
+    #[error("the request could not be read")]
+    ReadFailed,
+    /// The writer failed or took no byte. So many bytes of the response, from the first on, went
+    /// out.
+    #[error("the response could not be written")]
+    WriteFailed(usize),
+    /// Memory ran out. Nothing was written.
+    #[error("out of memory")]
+    NoMemory,
+}
+
+impl From<AllocError> for HttpFault {
+    ghost from_gives = { λ _ fault. fault ≡ NoMemory };
+
+    fn from(_error: AllocError) -> HttpFault {
+        HttpFault::NoMemory
+    }
+}
+
+impl<T: Drop> From<AllocFailed<T>> for HttpFault {
+    ghost from_gives = { λ _ fault. fault ≡ NoMemory };
+
+    fn from(_error: AllocFailed<T>) -> HttpFault {
+        HttpFault::NoMemory
+    }
+}
+
+impl From<ReadFault> for HttpFault {
+    ghost use Rattle.clr_http.specs.Served.{read_told};
+
+    ghost from_gives = { λ fault told. told ≡ read_told fault };
+
+    fn from(fault: ReadFault) -> HttpFault {
+        match fault {
+            ReadFault::ReadFailed => HttpFault::ReadFailed,
+            ReadFault::NoMemory => HttpFault::NoMemory,
+        }
+    }
+}
+
+/// Serves one connection: reads its request, answers it at the desk, and writes the response,
+/// which is whole before its first byte goes out.
+///
+/// After a fault a command that the desk accepted stands. What comes behind the request is not
+/// looked at.
+pub fn serve_one<D: Registrar, R: CountedRead, W: CountedWrite>(
+    alloc: Global,
+    desk: &mut D,
+    reader: &mut R,
+    writer: &mut W,
+) -> Result<Served, HttpFault>
+    ensures served { (input rest : List ℕ) (head : RequestHead)
+        → R.remaining reader.old ≡ Some input → BeginsWith input head rest
+        → IsGood (D.register desk.old)
+        → IsServed (respond_to (D.register desk.old) head rest)
+        (D.register desk.old) (D.fault_count desk.old)
+        (D.register desk.new) (D.fault_count desk.new)
+        (W.contents writer.old) (W.contents writer.new) result }
+    ensures outside { (input : List ℕ) → R.remaining reader.old ≡ Some input
+        → ¬ (HasHead (Some input))
+        → IsWritten (IsRefusal input (R.remaining reader.new))
+        (W.contents writer.old) (W.contents writer.new) result
+        × (D.register desk.new ≡ D.register desk.old)
+        × (D.fault_count desk.new ≡ D.fault_count desk.old) }
+    ensures nothing { result ≡ Ok Served.Nothing → IsAtEnd (R.remaining reader.old)
+        × Keeps (W.contents writer.old) (W.contents writer.new)
+        × (D.register desk.new ≡ D.register desk.old)
+        × (D.fault_count desk.new ≡ D.fault_count desk.old) }
+    ensures empty { R.remaining reader.old ≡ Some []
+        → IfOk result (λ served. served ≡ Served.Nothing) }
+    ensures unread { result ≡ Err HttpFault.ReadFailed
+        → Rose (R.failure_count reader.old) (R.failure_count reader.new)
+        × Keeps (W.contents writer.old) (W.contents writer.new)
+        × (D.register desk.new ≡ D.register desk.old)
+        × (D.fault_count desk.new ≡ D.fault_count desk.old) }
+    ensures unwritten { (count : ℕ) → result ≡ Err (HttpFault.WriteFailed count)
+        → Rose (W.failure_count writer.old) (W.failure_count writer.new)
+        ⊎ (W.stalled writer.new ≡ true) }
+    ensures good { IsGood (D.register desk.old) → IsGood (D.register desk.new) }
+    ensures reached { IsReached (D.register desk.old) → IsReached (D.register desk.new) }
+{
+    match read_request(alloc, reader)? {
+        None => Ok(Served::Nothing),
+        Some(Request::Refused(response)) => send(alloc, writer, &response),
+        Some(Request::Asks(asked, body)) => {
+            let response = response_to(alloc, desk, asked, body.as_slice())?;
+            send(alloc, writer, &response)
+        }
+    }
+}
+
+/// Writes a response.
+fn send<W: CountedWrite>(
+    alloc: Global,
+    writer: &mut W,
+    response: &Response,
+) -> Result<Served, HttpFault>
+    ensures written { IsWritten (λ c. c ≡ carried response.now)
+        (W.contents writer.old) (W.contents writer.new) result }
+    ensures some { result ≢ Ok Served.Nothing }
+    ensures calm { result ≢ Err HttpFault.ReadFailed }
+    ensures cause { (count : ℕ) → result ≡ Err (HttpFault.WriteFailed count)
+        → Rose (W.failure_count writer.old) (W.failure_count writer.new)
+        ⊎ (W.stalled writer.new ≡ true) }
+{
+    let text = response.text(alloc)?;
+    match write_whole(writer, text.as_bytes()) {
+        Ok(()) => Ok(Served::Answered(response.status())),
+        Err(count) => Err(HttpFault::WriteFailed(count)),
+    }
+}
