@@ -1,9 +1,11 @@
--- A book as contracts see it: the register that its shelves hold, and how many rows may be put on each.
+-- A book as contracts see it: the register that its shelves hold, and how many rows may be put on
+-- each.
 use Rattle.std.specs.Prelude.{◌≤◌, ℕ, ◌+◌, List, [], ◌∷◌}
 use Rattle.clr_net.specs.Grid.{Grid}
 use Rattle.clr_rules.specs.Register.{Register}
 use Rattle.clr_rules.specs.declared.change.Edit.{Edit}
-use Rattle.clr_rules.specs.declared.change.Edit.TheVariants.{SetPosition, SetHand, PutHold, TakeHold, PutRecord, PutStep}
+use Rattle.clr_rules.specs.declared.change.Edit.TheVariants.{SetPosition, SetHand, PutHold}
+use Rattle.clr_rules.specs.declared.change.Edit.TheVariants.{TakeHold, PutRecord, PutStep}
 
 -- rows that may be put; a point's state is only ever replaced, and needs no room
 pub record Room : Type 0 where

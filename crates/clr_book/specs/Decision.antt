@@ -1,14 +1,13 @@
 -- What is decided, as an answer.
 use Rattle.std.specs.Prelude.{◌≡◌, ℕ, Bool, true, false, List, [], ◌∷◌, ◌++◌, Option, None, Some}
 use Rattle.clr_rules.specs.Answer.{Answer, card_of, first_refusal}
-use Rattle.clr_rules.specs.Changes.{hold_edits, position_edits, put_steps}
-use Rattle.clr_rules.specs.Records.{is_switch_order}
+use Rattle.clr_rules.specs.Changes.{put_steps}
 use Rattle.clr_rules.specs.Commands.{checks, edits_of}
 use Rattle.clr_rules.specs.Edits.{after_edits}
 use Rattle.clr_rules.specs.Near.{Near}
 use Rattle.clr_rules.specs.Register.{Register}
 use Rattle.clr_rules.specs.declared.change.Edit.{Edit}
-use Rattle.clr_rules.specs.declared.change.Edit.TheVariants.{PutRecord, SetHand}
+use Rattle.clr_rules.specs.declared.change.Edit.TheVariants.{PutRecord}
 use Rattle.clr_rules.specs.declared.command.Kind.{Kind}
 use Rattle.clr_rules.specs.declared.command.Kind.TheVariants.{Show}
 use Rattle.clr_rules.specs.declared.refusal.Refusal.{Refusal}
@@ -35,17 +34,11 @@ all_edits lead r rows = lead ++ PutRecord r ∷ put_steps rows
 
 -- the answer by the card of a record that is put, after other edits, and steps of it
 abbrev pub accepted_with : Register → List Edit → Record → List StepRow → Answer
-accepted_with R lead r rows = record { reply = Accepted (card_of (after_edits (all_edits lead r rows) R) r); edits = all_edits lead r rows }
-
--- an edit, where there is one
-abbrev pub one_edit : Option Edit → List Edit
-one_edit None = []
-one_edit (Some edit) = edit ∷ []
-
--- what a step that was done changes at its point
-abbrev pub done_lead : Record → StepRow → List Edit
-done_lead r row =
-    position_edits row.step.action row.step.point ++ SetHand row.step.point None ∷ hold_edits (is_switch_order r) r.id row.step.action row.step.point
+accepted_with R lead r rows =
+    record {
+      reply = Accepted (card_of (after_edits (all_edits lead r rows) R) r);
+      edits = all_edits lead r rows;
+    }
 
 abbrev pub is_accepted : Reply → Bool
 is_accepted (Accepted card) = true

@@ -15,11 +15,13 @@ use clr_shelf::Shelf;
 use std::alloc::AllocError;
 
 impl<P: Shelf<PointState>, C: Shelf<Record>, T: Shelf<StepRow>, H: Shelf<Hold>> Book<P, C, T, H> {
-    /// What the book answers to a command, and what the command would change; the book of every register that is reached is good.
-    /// The book stays as it is: room for the change is made by `reserve`, and the change by `apply`.
+    /// What the book answers to a command, and what the command would change; the book of every
+    /// register that is reached is good. The book stays as it is: room for the change is made by
+    /// `reserve`, and the change by `apply`.
     pub fn answer(&self, command: &Command) -> Result<Decision, AllocError>
         ensures lent { IfOk result (λ d.
-            answer_with (Near.known (near_of self.now.register command.now)) (Near.rows (near_of self.now.register command.now)) command.now
+            answer_with (Near.known (near_of self.now.register command.now))
+            (Near.rows (near_of self.now.register command.now)) command.now
             ≡ answer_of_decision d) }
         ensures whole { IsGood self.now.register
             → IfOk result (λ d. answer self.now.register command.now ≡ answer_of_decision d) }

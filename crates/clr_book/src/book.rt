@@ -56,7 +56,8 @@ impl<P: Shelf<PointState>, C: Shelf<Record>, T: Shelf<StepRow>, H: Shelf<Hold>> 
 }
 
 impl<P: Shelf<PointState>, C: Shelf<Record>, T: Shelf<StepRow>, H: Shelf<Hold>> Book<P, C, T, H> {
-    /// The book before the first command: each point in the position of its row, and nothing asked for, ordered or held.
+    /// The book before the first command: each point in the position of its row, and nothing asked
+    /// for, ordered or held.
     pub fn opening(alloc: Global, network: Network, staff: Staff) -> Result<Self, AllocError>
         ensures register { IfOk result (λ book. book.register ≡ opening network staff) }
         ensures network { IfOk result (λ book. book.network ≡ network) }
@@ -90,7 +91,8 @@ impl<P: Shelf<PointState>, C: Shelf<Record>, T: Shelf<StepRow>, H: Shelf<Hold>> 
         &self.staff
     }
 
-    /// The rows of a book stand in the order of their keys, one row a key: a law, with nothing to do.
+    /// The rows of a book stand in the order of their keys, one row a key: a law, with nothing to
+    /// do.
     pub fn stands_in_order(&self)
         ensures { ListsAreInOrder self.now.register }
     {
@@ -113,7 +115,8 @@ impl<P: Shelf<PointState>, C: Shelf<Record>, T: Shelf<StepRow>, H: Shelf<Hold>> 
 
     /// All records, in the order of their clearances.
     pub fn records(&self) -> Result<Vec<&Record>, AllocError>
-        ensures { IfOk result (λ found. map (λ row. row.now) found.items ≡ self.now.register.records) }
+        ensures { IfOk result (λ found. map (λ row. row.now) found.items
+            ≡ self.now.register.records) }
     {
         all_rows(self.alloc, &self.records)
     }
@@ -121,13 +124,14 @@ impl<P: Shelf<PointState>, C: Shelf<Record>, T: Shelf<StepRow>, H: Shelf<Hold>> 
     /// The steps of a clearance, by round and then by their numbers.
     #[tactic(auto, unfolding(clr_rules::specs::Steps::steps_of))]
     pub fn steps(&self, id: &ClearanceId) -> Result<Vec<&StepRow>, AllocError>
-        ensures { IfOk result (λ found. map (λ row. row.now) found.items ≡ steps_of self.now.register.steps id.now) }
+        ensures { IfOk result (λ found. map (λ row. row.now) found.items
+            ≡ steps_of self.now.register.steps id.now) }
     {
         self.steps.group(id)
     }
 
-    /// Makes the room that a change needs. It changes nothing else, and room that was made stays, also where memory is refused;
-    /// that is only asked for where there is less room.
+    /// Makes the room that a change needs. It changes nothing else, and room that was made stays,
+    /// also where memory is refused; that is only asked for where there is less room.
     pub fn reserve(&mut self, change: &Change) -> Result<(), AllocError>
         ensures register { self.new.register ≡ self.old.register }
         ensures network { self.new.network ≡ self.old.network }

@@ -34,8 +34,12 @@ fn is_put(rows: &[StepRow], row: &StepRow) -> bool
 
 /// The steps of a round that stay where others are put.
 fn kept_tally(near: &Near, put: &[StepRow], id: ClearanceId, round: u8) -> Tally
-    ensures steps { result.steps ≡ count_by (λ row. is_of_round id round row && not (is_put put.now row)) near.now.rows.steps }
-    ensures done { result.done ≡ count_by (λ row. (is_of_round id round row && is_done row.step.state) && not (is_put put.now row)) near.now.rows.steps }
+    ensures steps { result.steps
+        ≡ count_by (λ row. is_of_round id round row
+        && not (is_put put.now row)) near.now.rows.steps }
+    ensures done { result.done
+        ≡ count_by (λ row. (is_of_round id round row && is_done row.step.state)
+        && not (is_put put.now row)) near.now.rows.steps }
     ensures fewer { result.done ≤ result.steps }
     ensures few { result.steps < 2 ^ 63 }
 {
@@ -54,7 +58,8 @@ fn kept_tally(near: &Near, put: &[StepRow], id: ClearanceId, round: u8) -> Tally
 /// The steps of a round among those that are put.
 fn added_tally(put: &[StepRow], id: ClearanceId, round: u8) -> Tally
     ensures steps { result.steps ≡ count_by (is_of_round id round) put.now }
-    ensures done { result.done ≡ count_by (λ row. is_of_round id round row && is_done row.step.state) put.now }
+    ensures done { result.done
+        ≡ count_by (λ row. is_of_round id round row && is_done row.step.state) put.now }
     ensures fewer { result.done ≤ result.steps }
     ensures few { result.steps < 2 ^ 63 }
 {
@@ -73,8 +78,11 @@ fn added_tally(put: &[StepRow], id: ClearanceId, round: u8) -> Tally
 /// The steps of a round once others are put.
 fn tally_of(near: &Near, put: &[StepRow], id: ClearanceId, round: u8) -> Tally
     requires { in_key_order step_key_cmp step_key put.now ≡ true }
-    ensures steps { result.steps ≡ length (steps_in (put_all put.now near.now.rows.steps) id round) }
-    ensures done { result.done ≡ count_by (λ row. is_done row.step.state) (steps_in (put_all put.now near.now.rows.steps) id round) }
+    ensures steps { result.steps
+        ≡ length (steps_in (put_all put.now near.now.rows.steps) id round) }
+    ensures done { result.done
+        ≡ count_by (λ row. is_done row.step.state)
+        (steps_in (put_all put.now near.now.rows.steps) id round) }
 {
     let kept = kept_tally(near, put, id, round);
     let added = added_tally(put, id, round);
@@ -107,7 +115,15 @@ pub(crate) fn progress_with(near: &Near, put: &[StepRow], id: ClearanceId) -> Pr
 
 /// The card of a record, its present round being this far.
 pub(crate) fn card_with(clearance: &Record, progress: Progress) -> Card
-    ensures { result ≡ record { clearance = clearance.now.id; phase = clearance.now.phase; holder = clearance.now.holder; round = progress.round; done = progress.done; steps = progress.steps } }
+    ensures { result
+        ≡ record {
+          clearance = clearance.now.id;
+          phase = clearance.now.phase;
+          holder = clearance.now.holder;
+          round = progress.round;
+          done = progress.done;
+          steps = progress.steps;
+        } }
 {
     Card {
         clearance: clearance.id,

@@ -1,7 +1,8 @@
 //! What is decided: a reply, and what changes.
 ghost use Rattle.std.specs.Prelude.{◌≡◌, [], IfOk};
 ghost use Rattle.clr_rules.specs.declared.reply.Reply.TheVariants as replies;
-ghost use Rattle.clr_book.specs.Decision.{ChangesIfAccepted, accepted_with, answer_of_decision, all_edits};
+ghost use Rattle.clr_book.specs.Decision.{ChangesIfAccepted, accepted_with, answer_of_decision};
+ghost use Rattle.clr_book.specs.Decision.{all_edits};
 ghost use Rattle.clr_book.specs.Effect.{IsOf};
 
 use crate::card::{card_with, progress_with};
@@ -19,7 +20,8 @@ pub struct Decision {
 
 /// The decision to refuse, which changes nothing.
 pub(crate) fn refused(alloc: Global, refusal: Refusal) -> Decision
-    ensures answer { answer_of_decision result ≡ record { reply = replies.Refused refusal; edits = [] } }
+    ensures answer { answer_of_decision result
+        ≡ record { reply = replies.Refused refusal; edits = [] } }
     ensures nothing { ChangesIfAccepted result }
 {
     Decision {

@@ -29,7 +29,8 @@ pub(crate) fn is_own(own: Option<ClearanceId>, id: ClearanceId) -> bool
     }
 }
 
-/// Whether a hold stands at one of these sections or points, or is a crew of the clearance that is meant.
+/// Whether a hold stands at one of these sections or points, or is a crew of the clearance that is
+/// meant.
 pub(crate) fn is_near_hold(
     fence: &[Name],
     points: &[Name],
@@ -53,7 +54,8 @@ pub(crate) fn touching_points<'a>(
     fence: &[Name],
 ) -> Result<Vec<&'a PointRow>, AllocError>
     requires { IsStrictlySortedBy name_cmp fence.now }
-    ensures { IfOk result (λ kept. map (λ row. row.now) kept.items ≡ filter (touches (has_name fence.now)) (map (λ row. row.now) rows.now)) }
+    ensures { IfOk result (λ kept. map (λ row. row.now) kept.items
+        ≡ filter (touches (has_name fence.now)) (map (λ row. row.now) rows.now)) }
 {
     let mut kept = Vec::new(alloc);
     for row in rows {

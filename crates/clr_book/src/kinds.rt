@@ -5,7 +5,8 @@ ghost use Rattle.clr_rules.specs.Command.{named_clearance};
 ghost use Rattle.clr_rules.specs.Good.{IsGood};
 ghost use Rattle.clr_rules.specs.Near.{near_of};
 ghost use Rattle.clr_rules.specs.Register.{Register};
-ghost use Rattle.clr_book.specs.Decision.{ChangesIfAccepted, answer_of_decision, is_question, near_edits, near_refusal};
+ghost use Rattle.clr_book.specs.Decision.{ChangesIfAccepted, answer_of_decision, is_question};
+ghost use Rattle.clr_book.specs.Decision.{near_edits, near_refusal};
 ghost use Rattle.clr_book.specs.Effect.{IsOf, edits_in};
 
 mod amend;
@@ -72,7 +73,8 @@ fn decision_of(near: &Near, command: &Command) -> Result<Decision, AllocError>
 
 /// The first check of a command that refuses it.
 fn refusal_of(near: &Near, command: &Command) -> Result<Option<Refusal>, AllocError>
-    ensures { IfOk result (λ refusal. refusal ≡ near_refusal near.now command.now.caller command.now.moment command.now.kind) }
+    ensures { IfOk result (λ refusal. refusal
+        ≡ near_refusal near.now command.now.caller command.now.moment command.now.kind) }
 {
     let (by, at) = (command.caller, command.moment);
     let refusal = match &command.kind {
@@ -128,10 +130,15 @@ fn refusal_of(near: &Near, command: &Command) -> Result<Option<Refusal>, AllocEr
 
 /// What a command changes that no check refuses.
 fn effect_of(near: &Near, command: &Command) -> Result<Effect, AllocError>
-    requires passes { near_refusal near.now command.now.caller command.now.moment command.now.kind ≡ None }
+    requires passes { near_refusal near.now command.now.caller command.now.moment command.now.kind
+        ≡ None }
     requires changes { is_question command.now.kind ≡ false }
-    ensures edits { IfOk result (λ effect. near_edits near.now command.now.caller command.now.moment command.now.kind ≡ edits_in effect) }
-    ensures of { IfOk result (IsOf (reply_clearance near.now.known.greatest command.now.caller (named_clearance command.now.kind))) }
+    ensures edits { IfOk result
+        (λ effect. near_edits near.now command.now.caller command.now.moment command.now.kind
+        ≡ edits_in effect) }
+    ensures of { IfOk result
+        (IsOf (reply_clearance near.now.known.greatest command.now.caller
+        (named_clearance command.now.kind))) }
 {
     let (by, at) = (command.caller, command.moment);
     let effect = match &command.kind {

@@ -1,4 +1,5 @@
-//! The register of clearances: a book over four shelves, what of it a command looks at, and what it is answered.
+//! The register of clearances: a book over four shelves, what of it a command looks at, and what it
+//! is answered.
 #![tactic(auto)]
 
 mod answer;

@@ -11,12 +11,14 @@ use clr_rules::{Hold, PointState, Record, StepRow};
 use std::alloc::Global;
 use std::marker::Model;
 
-/// What is lent to a decision: rows, each list in the order of its keys, and the greatest number of the requester.
+/// What is lent to a decision: rows, each list in the order of its keys, and the greatest number of
+/// the requester.
 ///
-/// Every field but the allocator stands in its view. A field that the view left out could lend any row, and no clause
-/// would tell; so each field that comes is to be shown there.
+/// Every field but the allocator stands in its view. A field that the view left out could lend any
+/// row, and no clause would tell; so each field that comes is to be shown there.
 ///
-/// Numbers go up to 9,999, so that there is one more for a new clearance wherever the caller has not used them all.
+/// Numbers go up to 9,999, so that there is one more for a new clearance wherever the caller has
+/// not used them all.
 #[derive(Drop)]
 pub struct Near<'a> {
     pub(crate) alloc: Global,
@@ -52,7 +54,10 @@ impl<'a> Model for Near<'a> {
     ghost view = { λ n. record {
       known = record { greatest = n.greatest; fence = n.fence.items };
       rows = record {
-        net = record { sections = map (λ row. row.now) n.sections.items; points = map (λ row. unplaced row.now) n.points.items };
+        net = record {
+          sections = map (λ row. row.now) n.sections.items;
+          points = map (λ row. unplaced row.now) n.points.items;
+        };
         staff = n.staff.now;
         states = map (λ row. row.now) n.states.items;
         records = map (λ row. row.now) n.records.items;

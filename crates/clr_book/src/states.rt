@@ -32,7 +32,9 @@ pub(crate) fn opening_states<P: Shelf<PointState>>(
 
 /// Sets the position of a point, if it has a state.
 pub(crate) fn set_position<P: Shelf<PointState>>(states: &mut P, point: &Name, position: Position)
-    ensures { P.rows states.new ≡ change_state (P.rows states.old) point.now (λ state. record state { position = position }) }
+    ensures { P.rows states.new
+        ≡ change_state (P.rows states.old) point.now
+        (λ state. record state { position = position }) }
 {
     if let Some(state) = states.take(point) {
         states.put(PointState { position, ..state });
@@ -45,7 +47,8 @@ pub(crate) fn set_hand<P: Shelf<PointState>>(
     point: &Name,
     hand: Option<ClearanceId>,
 )
-    ensures { P.rows states.new ≡ change_state (P.rows states.old) point.now (λ state. record state { hand = hand }) }
+    ensures { P.rows states.new
+        ≡ change_state (P.rows states.old) point.now (λ state. record state { hand = hand }) }
 {
     if let Some(state) = states.take(point) {
         states.put(PointState { hand, ..state });

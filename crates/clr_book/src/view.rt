@@ -5,7 +5,8 @@ ghost use Rattle.clr_net.specs.Name.{name_cmp};
 ghost use Rattle.clr_net.specs.Names.{has_name};
 ghost use Rattle.clr_rules.specs.Answer.{card_of, view_of};
 ghost use Rattle.clr_rules.specs.Fences.{touches, touching_names};
-ghost use Rattle.clr_rules.specs.Holds.{in_kind_order, is_near_hold, of_kinds, places_of, same_kind};
+ghost use Rattle.clr_rules.specs.Holds.{in_kind_order, is_near_hold, of_kinds, places_of};
+ghost use Rattle.clr_rules.specs.Holds.{same_kind};
 ghost use Rattle.clr_rules.specs.Register.{unplaced};
 ghost use Rattle.clr_rules.specs.Steps.{present_steps, steps_in};
 ghost use Rattle.clr_rules.specs.declared.hold_kind.HoldKind.TheVariants as hold_kinds;
@@ -35,7 +36,8 @@ fn fence_names(near: &Near) -> Result<Vec<Name>, AllocError>
 #[tactic(auto, unfolding(clr_rules::specs::Fences::touching_names))]
 fn touching_names(near: &Near, fence: &[Name]) -> Result<Vec<Name>, AllocError>
     requires { IsStrictlySortedBy name_cmp fence.now }
-    ensures { IfOk result (λ names. names.items ≡ touching_names near.now.rows.net (has_name fence.now)) }
+    ensures { IfOk result (λ names. names.items
+        ≡ touching_names near.now.rows.net (has_name fence.now)) }
 {
     let mut names = Vec::new(near.alloc);
     for point in &near.points {
@@ -49,7 +51,8 @@ fn touching_names(near: &Near, fence: &[Name]) -> Result<Vec<Name>, AllocError>
 /// The states of the points that touch the fence.
 fn touching_states(near: &Near, touching: &[Name]) -> Result<Vec<PointState>, AllocError>
     requires { IsStrictlySortedBy name_cmp touching.now }
-    ensures { IfOk result (λ states. states.items ≡ filter (λ state. has_name touching.now state.point) near.now.rows.states) }
+    ensures { IfOk result (λ states. states.items
+        ≡ filter (λ state. has_name touching.now state.point) near.now.rows.states) }
 {
     let mut states = Vec::new(near.alloc);
     for state in &near.states {
@@ -63,7 +66,8 @@ fn touching_states(near: &Near, touching: &[Name]) -> Result<Vec<PointState>, Al
 /// The present steps of a clearance.
 #[tactic(auto, unfolding(clr_rules::specs::Steps::steps_in))]
 fn steps_in(near: &Near, id: ClearanceId, round: u8) -> Result<Vec<Step>, AllocError>
-    ensures { IfOk result (λ steps. steps.items ≡ map (λ row. row.step) (steps_in near.now.rows.steps id round)) }
+    ensures { IfOk result (λ steps. steps.items
+        ≡ map (λ row. row.step) (steps_in near.now.rows.steps id round)) }
 {
     let mut steps = Vec::new(near.alloc);
     for row in &near.steps {
@@ -78,7 +82,9 @@ fn steps_in(near: &Near, id: ClearanceId, round: u8) -> Result<Vec<Step>, AllocE
 fn holds_at(near: &Near, fence: &[Name], touching: &[Name]) -> Result<Vec<Hold>, AllocError>
     requires sections { IsStrictlySortedBy name_cmp fence.now }
     requires points { IsStrictlySortedBy name_cmp touching.now }
-    ensures { IfOk result (λ holds. holds.items ≡ filter (is_near_hold (has_name fence.now) (has_name touching.now) None) near.now.rows.holds) }
+    ensures { IfOk result (λ holds. holds.items
+        ≡ filter (is_near_hold (has_name fence.now)
+        (has_name touching.now) None) near.now.rows.holds) }
 {
     let mut holds = Vec::new(near.alloc);
     for hold in &near.holds {
@@ -91,7 +97,8 @@ fn holds_at(near: &Near, fence: &[Name], touching: &[Name]) -> Result<Vec<Hold>,
 
 /// These holds, and behind them those of a kind.
 fn with_kind(first: Vec<Hold>, kind: HoldKind, holds: &[Hold]) -> Result<Vec<Hold>, AllocError>
-    ensures { IfOk result (λ all. all.items ≡ first.items ++ filter (λ h. same_kind kind h.kind) holds.now) }
+    ensures { IfOk result (λ all. all.items
+        ≡ first.items ++ filter (λ h. same_kind kind h.kind) holds.now) }
 {
     let mut all = first;
     for hold in holds {

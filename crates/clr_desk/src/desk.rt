@@ -232,7 +232,7 @@ impl<S: Alter + Drop> Desk<S> {
     /// one transaction, and made. A command that is refused, and `show`, commits nothing.
     ///
     /// `Store(Sql)` where the database refuses or fails, `NoMemory` where memory runs out. A fault
-    /// leaves the register as it was, and is count_after.
+    /// leaves the register as it was, and is counted.
     pub fn one(&mut self, command: Command) -> Result<Reply, DeskFault>
         ensures near { IfOk result (λ reply. reply ≡ Answer.reply
             (near_answer self.old.book.register command)) }

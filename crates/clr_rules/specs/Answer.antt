@@ -1,20 +1,24 @@
--- THE ANSWER to a command: the first check that applies refuses it, and nothing changes; else its edits are made, and the reply
--- is the clearance's card as it is after them, or the view that was asked for.
+-- THE ANSWER to a command: the first check that applies refuses it, and nothing changes; else its
+-- edits are made, and the reply is the clearance's card as it is after them, or the view that was
+-- asked for.
 use Rattle.std.specs.Prelude.{ℕ, ◌+◌, List, [], ◌∷◌, map, filter, length, Option, None, Some}
 use Rattle.std.specs.List.{count_by}
 use Rattle.clr_net.specs.Names.{has_name}
 use Rattle.clr_rules.specs.Commands.{edits_of, Known, checks}
 use Rattle.clr_rules.specs.Command.{named_clearance}
-use Rattle.clr_rules.specs.Prelude.{Edit, Command, Kind, Crew, Record, Refusal, Reply, Id, Register, greatest_number, record_of, is_done, present_steps, present_round, places_of, after_edits}
+use Rattle.clr_rules.specs.Prelude.{Edit, Command, Kind, Crew, Record, Refusal, Reply, Id, Register}
+use Rattle.clr_rules.specs.Prelude.{greatest_number, record_of, is_done, present_steps}
+use Rattle.clr_rules.specs.Prelude.{present_round, places_of, after_edits}
 use Rattle.clr_rules.specs.Fences.{clearance_fence, order_fence, touching_names}
 use Rattle.clr_rules.specs.Holds.{is_near_hold, in_kind_order}
 use Rattle.clr_rules.specs.declared.command.Kind.TheVariants.{Order, Show}
-use Rattle.clr_rules.specs.declared.refusal.Refusal.TheVariants.{UnknownClearance}
+use Rattle.clr_rules.specs.declared.refusal.Refusal.TheVariants.{UnknownCaller}
 use Rattle.clr_rules.specs.declared.reply.Card.{Card}
 use Rattle.clr_rules.specs.declared.reply.Reply.TheVariants.{Accepted, Shown, Refused}
 use Rattle.clr_rules.specs.declared.reply.View.{View}
 
--- whose numbers count: those of the requester of the clearance that is named; a new clearance is the caller's
+-- whose numbers count: those of the requester of the clearance that is named; a new clearance is
+-- the caller's
 abbrev pub requester_for : List ℕ → Option Id → List ℕ
 requester_for by None = by
 requester_for by (Some c) = c.requester
@@ -29,7 +33,11 @@ fence_for R (Order c points tasks) = order_fence R c points
 fence_for R kind = named_fence R (named_clearance kind)
 
 abbrev pub known_of : Register → Command → Known
-known_of R q = record { greatest = greatest_number R.records (requester_for q.caller (named_clearance q.kind)); fence = fence_for R q.kind }
+known_of R q =
+    record {
+      greatest = greatest_number R.records (requester_for q.caller (named_clearance q.kind));
+      fence = fence_for R q.kind;
+    }
 
 -- the first check that applies
 abbrev pub first_refusal : List (Option Refusal) → Option Refusal
@@ -62,10 +70,11 @@ view_of k R r =
       work = r.work;
     }
 
--- the reply of a command that was not refused, by the record after its edits. There is one: a clearance that is named has a record,
--- and a new one was put
+-- the reply of a command that was not refused, by the record after its edits. There is one: a
+-- clearance that is named has a record, and a new one was put. So no command has the first of these
+-- replies, which none of its checks after the first gives
 abbrev pub reply_of : Known → Register → Kind → Option Record → Reply
-reply_of k R kind None = Refused UnknownClearance
+reply_of k R kind None = Refused UnknownCaller
 reply_of k R (Show c) (Some r) = Shown (view_of k R r)
 reply_of k R kind (Some r) = Accepted (card_of R r)
 
@@ -75,7 +84,8 @@ reply_clearance greatest by None = record { requester = by; number = greatest + 
 reply_clearance greatest by (Some c) = c
 
 abbrev pub reply_after : Known → Register → List ℕ → Kind → Reply
-reply_after k R by kind = reply_of k R kind (record_of R.records (reply_clearance k.greatest by (named_clearance kind)))
+reply_after k R by kind =
+    reply_of k R kind (record_of R.records (reply_clearance k.greatest by (named_clearance kind)))
 
 pub record Answer : Type 0 where
   pub reply : Reply

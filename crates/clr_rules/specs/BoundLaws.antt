@@ -1,4 +1,5 @@
--- Bounds of what runs make, as a law of reached registers: the rules ask for no more than it says, so good does not ask for it.
+-- Bounds of what runs make, as a law of reached registers: the rules ask for no more than it says,
+-- so good does not ask for it.
 use Rattle.std.specs.Prelude.{◌≡◌, ◌≤◌, All}
 use Rattle.std.proofs.Common.{◌⊎◌}
 use Rattle.clr_rules.specs.Register.{Register}

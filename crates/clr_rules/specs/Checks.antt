@@ -1,7 +1,9 @@
--- THE CHECKS of the commands: each is a question to whole lists, or to the greatest number and the fence that were read of them, and
--- names its refusal where it applies. A check that reads a record or a step says nothing where there is none: an earlier check of the
--- same command has refused that.
-use Rattle.std.specs.Prelude.{ℕ, Bool, true, false, not, ◌&&◌, ◌||◌, ◌==◌, nat_lt, if◌then◌else◌, List, find, Option, None, Some}
+-- THE CHECKS of the commands: each is a question to whole lists, or to the greatest number and the
+-- fence that were read of them, and names its refusal where it applies. A check that reads a record
+-- or a step says nothing where there is none: an earlier check of the same command has refused
+-- that.
+use Rattle.std.specs.Prelude.{ℕ, Bool, true, false, not, ◌&&◌, ◌||◌, ◌==◌, nat_lt, if◌then◌else◌}
+use Rattle.std.specs.Prelude.{List, find, Option, None, Some}
 use Rattle.std.specs.Option.{is_some}
 use Rattle.std.specs.Str.{bytes_eq}
 use Rattle.clr_net.specs.Grid.{Grid, point_names, section_names}
@@ -18,11 +20,23 @@ use Rattle.clr_order.specs.Switching.{switching_fault}
 use Rattle.clr_order.specs.Texts.{step_text}
 use Rattle.clr_order.specs.declared.step.StepState.{StepState}
 use Rattle.clr_rules.specs.Fences.{rows_of_fence}
-use Rattle.clr_rules.specs.Prelude.{Hold, Tested, Ground, Crew, Phase, Refusal, StepRow, Id, same_id, Register, hand_of, record_of, all_done, is_waiting, points_of, present_steps, step_at, steps_in, steps_of, has_hold, has_some_hold}
+use Rattle.clr_rules.specs.Prelude.{Hold, Tested, Ground, Crew, Phase, Refusal, StepRow, Id}
+use Rattle.clr_rules.specs.Prelude.{same_id, Register, hand_of, record_of, all_done, is_waiting}
+use Rattle.clr_rules.specs.Prelude.{points_of, present_steps, step_at, steps_in, steps_of, has_hold}
+use Rattle.clr_rules.specs.Prelude.{has_some_hold}
 use Rattle.clr_rules.specs.Holds.{held_among, hindering_hold}
 use Rattle.clr_rules.specs.Refusals.{order_refusal}
 use Rattle.clr_rules.specs.Steps.{is_close, is_in_turn, some_active}
-use Rattle.clr_rules.specs.declared.refusal.Refusal.TheVariants.{UnknownCaller, WrongRole, UnknownSection, TooManyClearances, UnknownClearance, NotHolder, Earlier, WrongPhase, NoStep, OutOfTurn, StepState as WrongState, InHand, Held, RepeatDiffers, WrongReporter, StepsLeft, OutsideFence, NotTested, Grounded, NotGrounded, CrewsOn, CrewState, BadTransfer, NotAttested}
+use Rattle.clr_rules.specs.declared.refusal.Refusal.TheVariants.{UnknownCaller, WrongRole}
+use Rattle.clr_rules.specs.declared.refusal.Refusal.TheVariants.{UnknownSection, TooManyClearances}
+use Rattle.clr_rules.specs.declared.refusal.Refusal.TheVariants.{UnknownClearance, NotHolder}
+use Rattle.clr_rules.specs.declared.refusal.Refusal.TheVariants.{Earlier, WrongPhase, NoStep}
+use Rattle.clr_rules.specs.declared.refusal.Refusal.TheVariants.{OutOfTurn, StepState as WrongState}
+use Rattle.clr_rules.specs.declared.refusal.Refusal.TheVariants.{InHand, Held, RepeatDiffers}
+use Rattle.clr_rules.specs.declared.refusal.Refusal.TheVariants.{WrongReporter, StepsLeft}
+use Rattle.clr_rules.specs.declared.refusal.Refusal.TheVariants.{OutsideFence, NotTested, Grounded}
+use Rattle.clr_rules.specs.declared.refusal.Refusal.TheVariants.{NotGrounded, CrewsOn, CrewState}
+use Rattle.clr_rules.specs.declared.refusal.Refusal.TheVariants.{BadTransfer, NotAttested}
 
 -- a refusal where a test says so
 abbrev pub refuse : Bool → Refusal → Option Refusal
@@ -64,14 +78,17 @@ has_role fits (Some row) = fits row.role
 abbrev pub unknown_caller : Register → List ℕ → Option Refusal
 unknown_caller R by = refuse (not (is_some (employee R.staff by))) UnknownCaller
 
--- one employee is in charge of a clearance, and the system operator is in charge of the lines. 1910.269(m)(2)(i)
+-- one employee is in charge of a clearance, and the system operator is in charge of the lines.
+-- 1910.269(m)(2)(i)
 abbrev pub wrong_role : Register → List ℕ → (Role → Bool) → Option Refusal
-wrong_role R by fits = where_some (employee R.staff by) (λ row. refuse (not (fits row.role)) WrongRole)
+wrong_role R by fits =
+    where_some (employee R.staff by) (λ row. refuse (not (fits row.role)) WrongRole)
 
 -- THE RECORD
 
 abbrev pub unknown_section : Register → List ℕ → Option Refusal
-unknown_section R section = refuse (not (has_name (section_names (Grid.sections R.net)) section)) UnknownSection
+unknown_section R section =
+    refuse (not (has_name (section_names (Grid.sections R.net)) section)) UnknownSection
 
 -- the caller's greatest number is the last that there is
 abbrev pub too_many_clearances : ℕ → Option Refusal
@@ -82,35 +99,43 @@ unknown_clearance R c = refuse (not (is_some (record_of R.records c))) UnknownCl
 
 -- only the present employee in charge may use a clearance or release it. 1910.269(m)(3)(x), (xi)
 abbrev pub not_holder : Register → Id → List ℕ → Option Refusal
-not_holder R c by = where_some (record_of R.records c) (λ r. refuse (not (same_name by r.holder)) NotHolder)
+not_holder R c by =
+    where_some (record_of R.records c) (λ r. refuse (not (same_name by r.holder)) NotHolder)
 
 -- whether a caller is the supervisor of an employee; who is not of the staff has none
 abbrev pub is_supervisor : Option StaffRow → List ℕ → Bool
 is_supervisor None by = false
 is_supervisor (Some row) by = is_named by row.supervisor
 
--- a clearance is handed on by the employee in charge, or by that employee's supervisor in an emergency. 1910.269(m)(3)(ix)
+-- a clearance is handed on by the employee in charge, or by that employee's supervisor in an
+-- emergency. 1910.269(m)(3)(ix)
 abbrev pub may_not_transfer : Register → Id → List ℕ → Bool → Option Refusal
 may_not_transfer R c by emergency = where_some (record_of R.records c)
-    (λ r. refuse (not (same_name by r.holder || (emergency && is_supervisor (employee R.staff r.holder) by))) NotHolder)
+    (λ r. refuse
+    (not (same_name by r.holder
+    || (emergency && is_supervisor (employee R.staff r.holder) by))) NotHolder)
 
 abbrev pub earlier_moment : Register → Id → ℕ → Option Refusal
 earlier_moment R c at = where_some (record_of R.records c) (λ r. refuse (nat_lt at r.last) Earlier)
 
 abbrev pub wrong_phase : Register → Id → (Phase → Bool) → Option Refusal
-wrong_phase R c fits = where_some (record_of R.records c) (λ r. refuse (not (fits r.phase)) WrongPhase)
+wrong_phase R c fits =
+    where_some (record_of R.records c) (λ r. refuse (not (fits r.phase)) WrongPhase)
 
 -- ORDERS
 
--- all means of supply are opened, made inoperable where their design permits it, and tagged. 1910.269(m)(3)(ii), (iii)
+-- all means of supply are opened, made inoperable where their design permits it, and tagged.
+-- 1910.269(m)(3)(ii), (iii)
 abbrev pub unsound_order : Register → List (List ℕ) → List (List ℕ) → List Task → Option Refusal
-unsound_order R fence points tasks = order_refusal (isolating_fault (rows_of_fence R.net fence) points tasks)
+unsound_order R fence points tasks =
+    order_refusal (isolating_fault (rows_of_fence R.net fence) points tasks)
 
--- the steps at each point that a clearance holds open undo its holds there, and no step stands elsewhere; the first wrong point is named, in the
--- order of their first appearance in its first round.
--- 1910.269(m)(3)(xii), (xiii)
+-- the steps at each point that a clearance holds open undo its holds there, and no step stands
+-- elsewhere; the first wrong point is named, in the order of their first appearance in its first
+-- round. 1910.269(m)(3)(xii), (xiii)
 abbrev pub wrong_restoring : Register → Id → List Task → Option Refusal
-wrong_restoring R c tasks = order_refusal (restoring_fault (held_among R.holds c (points_of (steps_in R.steps c 1))) tasks)
+wrong_restoring R c tasks =
+    order_refusal (restoring_fault (held_among R.holds c (points_of (steps_in R.steps c 1))) tasks)
 
 abbrev pub wrong_switching : Register → List Task → Option Refusal
 wrong_switching R tasks = order_refusal (switching_fault (point_names (Grid.points R.net)) tasks)
@@ -143,15 +168,20 @@ abbrev pub held_by : Option Hold → Option Refusal
 held_by None = None
 held_by (Some h) = Some (Held h.id h.kind)
 
--- nothing is closed while a hold stands at the point, but for the own HeldOpen. 1910.269(m)(3)(v), (xiii)
+-- nothing is closed while a hold stands at the point, but for the own HeldOpen. 1910.269(m)(3)(v),
+-- (xiii)
 abbrev pub hold_hinders : Register → Id → ℕ → Option Refusal
-hold_hinders R c n = at_step R c n (λ row. if is_close row.step.action then held_by (hindering_hold R.holds c row.step.point) else None)
+hold_hinders R c n =
+    at_step R c n (λ row. if is_close row.step.action
+    then held_by (hindering_hold R.holds c row.step.point) else None)
 
 abbrev pub repeat_differs : Register → Id → ℕ → List ℕ → Option Refusal
-repeat_differs R c n text = at_step R c n (λ row. refuse (not (bytes_eq (step_text (task row.step)) text)) RepeatDiffers)
+repeat_differs R c n text =
+    at_step R c n (λ row. refuse (not (bytes_eq (step_text (task row.step)) text)) RepeatDiffers)
 
 abbrev pub wrong_reporter : Register → Id → ℕ → List ℕ → Option Refusal
-wrong_reporter R c n by = at_step R c n (λ row. refuse (not (is_named by row.step.reader)) WrongReporter)
+wrong_reporter R c n by =
+    at_step R c n (λ row. refuse (not (is_named by row.step.reader)) WrongReporter)
 
 -- every step of the isolating order is Done. 1910.269(m)(3)(vi)
 abbrev pub steps_left : Register → Id → Option Refusal
@@ -163,14 +193,17 @@ step_given_out R c = refuse (some_active (steps_of R.steps c)) WrongState
 
 -- a Close that waits
 abbrev pub not_a_waiting_close : Register → Id → ℕ → Option Refusal
-not_a_waiting_close R c n = at_step R c n (λ row. refuse (not (is_waiting row.step.state && is_close row.step.action)) WrongState)
+not_a_waiting_close R c n =
+    at_step R c n
+    (λ row. refuse (not (is_waiting row.step.state && is_close row.step.action)) WrongState)
 
 -- WORK
 
 abbrev pub outside_fence : List (List ℕ) → List ℕ → Option Refusal
 outside_fence fence section = refuse (not (has_name fence section)) OutsideFence
 
--- the lines are tested, then grounded. 1910.269(m)(3)(vi), (vii), (n)(5); that it is the clearance's own test is the project's own rule
+-- the lines are tested, then grounded. 1910.269(m)(3)(vi), (vii), (n)(5); that it is the
+-- clearance's own test is the project's own rule
 abbrev pub not_tested : Register → Id → List ℕ → Option Refusal
 not_tested R c section = refuse (not (has_hold R.holds c Tested section)) NotTested
 
@@ -194,7 +227,8 @@ crews_on R c = refuse (has_some_hold R.holds c Crew) CrewsOn
 
 -- and before the ground of the work section is taken
 abbrev pub crews_on_work : Register → Id → List ℕ → Option Refusal
-crews_on_work R c section = at_work R c (λ work. refuse (same_name work section && has_some_hold R.holds c Crew) CrewsOn)
+crews_on_work R c section =
+    at_work R c (λ work. refuse (same_name work section && has_some_hold R.holds c Crew) CrewsOn)
 
 abbrev pub crew_is_on : Register → Id → List ℕ → Option Refusal
 crew_is_on R c crew = refuse (has_hold R.holds c Crew crew) CrewState

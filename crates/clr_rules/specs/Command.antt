@@ -1,7 +1,10 @@
 -- Commands. A variant of Kind takes its fields in the order in which they are declared.
 use Rattle.std.specs.Prelude.{Option, Some, None}
 use Rattle.clr_rules.specs.Prelude.{Kind, Id}
-use Rattle.clr_rules.specs.declared.command.Kind.TheVariants.{Request, Order, Instruct, Repeat, Report, Grant, Test, Ground, Unground, SignOn, SignOff, Transfer, Release, Cancel, Restore, Amend, Switch, Show}
+use Rattle.clr_rules.specs.declared.command.Kind.TheVariants.{Request, Order, Instruct, Repeat}
+use Rattle.clr_rules.specs.declared.command.Kind.TheVariants.{Report, Grant, Test, Ground, Unground}
+use Rattle.clr_rules.specs.declared.command.Kind.TheVariants.{SignOn, SignOff, Transfer, Release}
+use Rattle.clr_rules.specs.declared.command.Kind.TheVariants.{Cancel, Restore, Amend, Switch, Show}
 
 -- the clearance that a command names: a request and a switch order make a new one, and name none
 abbrev pub named_clearance : Kind → Option Id

@@ -1,5 +1,6 @@
 -- What edits do to a register, and which answers have none, as laws.
-use Rattle.std.specs.Prelude.{◌≡◌, ◌↔◌, ℕ, Bool, true, false, not, ◌&&◌, ◌||◌, if◌then◌else◌, List, [], map, Contains, Option, None, Some}
+use Rattle.std.specs.Prelude.{◌≡◌, ◌↔◌, ℕ, Bool, true, false, not, ◌&&◌, ◌||◌, if◌then◌else◌, List}
+use Rattle.std.specs.Prelude.{[], map, Contains, Option, None, Some}
 use Rattle.std.specs.Option.{option_map}
 use Rattle.std.specs.Ordering.{is_eq}
 use Rattle.std.specs.declared.cmp.Ordering.{Ordering}
@@ -9,8 +10,12 @@ use Rattle.clr_net.specs.declared.point.Position.{Position}
 use Rattle.clr_shelf.specs.Rows.{row_of}
 use Rattle.clr_rules.specs.Answer.{Answer, answer, first_refusal, known_of}
 use Rattle.clr_rules.specs.Commands.{checks}
-use Rattle.clr_rules.specs.Prelude.{Edit, SetPosition, SetHand, PutHold, TakeHold, PutRecord, PutStep, Command, Hold, HoldKind, PointState, Record, Refusal, StepRow, Id, id_cmp, same_id, Register, state_key, state_of, record_key}
-use Rattle.clr_rules.specs.Prelude.{record_of, step_key, step_key_cmp, hold_cmp, has_hold, hold_key, hold_of, after_edit, after_edits}
+use Rattle.clr_rules.specs.Prelude.{Edit, SetPosition, SetHand, PutHold, TakeHold, PutRecord}
+use Rattle.clr_rules.specs.Prelude.{PutStep, Command, Hold, HoldKind, PointState, Record, Refusal}
+use Rattle.clr_rules.specs.Prelude.{StepRow, Id, id_cmp, same_id, Register, state_key, state_of}
+use Rattle.clr_rules.specs.Prelude.{record_key}
+use Rattle.clr_rules.specs.Prelude.{record_of, step_key, step_key_cmp, hold_cmp, has_hold, hold_key}
+use Rattle.clr_rules.specs.Prelude.{hold_of, after_edit, after_edits}
 use Rattle.clr_rules.specs.Good.{ListsAreInOrder}
 use Rattle.clr_rules.specs.Run.{after}
 use Rattle.clr_rules.specs.declared.reply.Card.{Card}
@@ -18,16 +23,19 @@ use Rattle.clr_rules.specs.declared.reply.Reply.TheVariants.{Accepted, Shown, Re
 use Rattle.clr_rules.specs.declared.reply.View.{View}
 use Rattle.clr_rules.specs.declared.step_row.StepKey.{StepKey}
 
--- A RECORD THAT IS PUT is read for its clearance, and for every other clearance what was read before
+-- A RECORD THAT IS PUT is read for its clearance, and for every other clearance what was read
+-- before
 abbrev pub PutRecordReplaces : Type 0
 PutRecordReplaces = (R : Register) (r : Record) (c : Id)
-    → record_of (Register.records (after_edit (PutRecord r) R)) c ≡ (if same_id r.id c then Some r else record_of R.records c)
+    → record_of (Register.records (after_edit (PutRecord r) R)) c
+    ≡ (if same_id r.id c then Some r else record_of R.records c)
 
 -- A STEP THAT IS PUT is read for its key, and for every other key what was read before
 abbrev pub PutStepReplaces : Type 0
 PutStepReplaces = (R : Register) (row : StepRow) (key : StepKey)
     → row_of step_key_cmp step_key key (Register.steps (after_edit (PutStep row) R))
-    ≡ (if is_eq (step_key_cmp (step_key row) key) then Some row else row_of step_key_cmp step_key key R.steps)
+    ≡ (if is_eq (step_key_cmp (step_key row) key) then Some row
+    else row_of step_key_cmp step_key key R.steps)
 
 -- whether a hold is that of a clearance of a kind at a place
 abbrev pub is_hold : Hold → Id → HoldKind → List ℕ → Bool
@@ -36,45 +44,58 @@ is_hold h c kind place = is_eq (hold_cmp h (hold_of c kind place))
 -- A HOLD THAT IS PUT is there, and all others are there where they were
 abbrev pub PutHoldAdds : Type 0
 PutHoldAdds = (R : Register) (h : Hold) (c : Id) (kind : HoldKind) (place : List ℕ)
-    → has_hold (Register.holds (after_edit (PutHold h) R)) c kind place ≡ (is_hold h c kind place || has_hold R.holds c kind place)
+    → has_hold (Register.holds (after_edit (PutHold h) R)) c kind place
+    ≡ (is_hold h c kind place || has_hold R.holds c kind place)
 
 -- A HOLD THAT IS TAKEN is gone, and all others are there where they were
 abbrev pub TakeHoldTakes : Type 0
 TakeHoldTakes = (R : Register) (h : Hold) (c : Id) (kind : HoldKind) (place : List ℕ)
-    → has_hold (Register.holds (after_edit (TakeHold h) R)) c kind place ≡ (not (is_hold h c kind place) && has_hold R.holds c kind place)
+    → has_hold (Register.holds (after_edit (TakeHold h) R)) c kind place
+    ≡ (not (is_hold h c kind place) && has_hold R.holds c kind place)
 
 -- what is found, changed where a test says so
 abbrev pub changed_where : Bool → (PointState → PointState) → Option PointState → Option PointState
 changed_where here change found = if here then option_map change found else found
 
--- A POSITION THAT IS SET is that of the point, whose hand stays, and all other points stay as they are
+-- A POSITION THAT IS SET is that of the point, whose hand stays, and all other points stay as they
+-- are
 abbrev pub SetPositionSets : Type 0
 SetPositionSets = (R : Register) (p : List ℕ) (position : Position) (q : List ℕ)
     → state_of (Register.states (after_edit (SetPosition p position) R)) q
-    ≡ changed_where (same_name p q) (λ state. record state { position = position }) (state_of R.states q)
+    ≡ changed_where (same_name p q) (λ state. record state { position = position })
+    (state_of R.states q)
 
--- A HAND THAT IS SET is that of the point, whose position stays, and all other points stay as they are
+-- A HAND THAT IS SET is that of the point, whose position stays, and all other points stay as they
+-- are
 abbrev pub SetHandSets : Type 0
 SetHandSets = (R : Register) (p : List ℕ) (hand : Option Id) (q : List ℕ)
     → state_of (Register.states (after_edit (SetHand p hand) R)) q
     ≡ changed_where (same_name p q) (λ state. record state { hand = hand }) (state_of R.states q)
 
 -- after a put a list has the row that was put and the rows of other keys, and no other row
-abbrev pub HasRowPut : {Key Row : Type 0} → (Key → Key → Ordering) → (Row → Key) → Row → List Row → List Row → Type 0
+abbrev pub HasRowPut : {Key Row : Type 0} → (Key → Key → Ordering) → (Row → Key) → Row → List Row
+    → List Row → Type 0
 HasRowPut {Key} {Row} compare key_of row before after = (other : Row)
-    → Contains after other ↔ ((row ≡ other) ⊎ (Contains before other × (is_eq (compare (key_of row) (key_of other)) ≡ false)))
+    → Contains after other
+    ↔ ((row ≡ other)
+    ⊎ (Contains before other × (is_eq (compare (key_of row) (key_of other)) ≡ false)))
 
 -- after a take a list has the rows of other keys, and no other row
-abbrev pub HasRowTaken : {Key Row : Type 0} → (Key → Key → Ordering) → (Row → Key) → Key → List Row → List Row → Type 0
+abbrev pub HasRowTaken : {Key Row : Type 0} → (Key → Key → Ordering) → (Row → Key) → Key → List Row
+    → List Row → Type 0
 HasRowTaken {Key} {Row} compare key_of key before after = (other : Row)
     → Contains after other ↔ (Contains before other × (is_eq (compare key (key_of other)) ≡ false))
 
 -- EVERY OTHER ROW STAYS, and no other row comes
 pub record OtherRowsStay (R : Register) : Type 0 where
-  pub record_put : (r : Record) → HasRowPut id_cmp record_key r R.records (Register.records (after_edit (PutRecord r) R))
-  pub step_put : (row : StepRow) → HasRowPut step_key_cmp step_key row R.steps (Register.steps (after_edit (PutStep row) R))
-  pub hold_put : (h : Hold) → HasRowPut hold_cmp hold_key h R.holds (Register.holds (after_edit (PutHold h) R))
-  pub hold_taken : (h : Hold) → HasRowTaken hold_cmp hold_key h R.holds (Register.holds (after_edit (TakeHold h) R))
+  pub record_put : (r : Record)
+      → HasRowPut id_cmp record_key r R.records (Register.records (after_edit (PutRecord r) R))
+  pub step_put : (row : StepRow)
+      → HasRowPut step_key_cmp step_key row R.steps (Register.steps (after_edit (PutStep row) R))
+  pub hold_put : (h : Hold)
+      → HasRowPut hold_cmp hold_key h R.holds (Register.holds (after_edit (PutHold h) R))
+  pub hold_taken : (h : Hold)
+      → HasRowTaken hold_cmp hold_key h R.holds (Register.holds (after_edit (TakeHold h) R))
 
 abbrev pub PutsKeepOtherRows : Type 0
 PutsKeepOtherRows = (R : Register) → ListsAreInOrder R → OtherRowsStay R
@@ -112,7 +133,8 @@ EditsLeaveTheRest = (edit : Edit) (R : Register) → LeavesTheRest edit R
 
 -- EDITS KEEP THE ORDER of every list
 abbrev pub EditsKeepOrder : Type 0
-EditsKeepOrder = (R : Register) (edits : List Edit) → ListsAreInOrder R → ListsAreInOrder (after_edits edits R)
+EditsKeepOrder =
+    (R : Register) (edits : List Edit) → ListsAreInOrder R → ListsAreInOrder (after_edits edits R)
 
 -- EDITS KEEP THE NETWORK, the staff, and the points that have states
 pub record KeepsNetwork (R S : Register) : Type 0 where
@@ -121,7 +143,8 @@ pub record KeepsNetwork (R S : Register) : Type 0 where
   pub same_points : map state_key S.states ≡ map state_key R.states
 
 abbrev pub EditsKeepNetwork : Type 0
-EditsKeepNetwork = (R : Register) (edits : List Edit) → ListsAreInOrder R → KeepsNetwork R (after_edits edits R)
+EditsKeepNetwork =
+    (R : Register) (edits : List Edit) → ListsAreInOrder R → KeepsNetwork R (after_edits edits R)
 
 -- the refusal of a command: that of the first check that applies
 abbrev pub refusal_of : Register → Command → Option Refusal
@@ -133,14 +156,18 @@ RefusedByFirstCheck = (R : Register) (q : Command) (refusal : Refusal)
     → (Answer.reply (answer R q) ≡ Refused refusal) ↔ (refusal_of R q ≡ Some refusal)
 
 abbrev pub RefusedChangesNothing : Type 0
-RefusedChangesNothing = (R : Register) (q : Command) (refusal : Refusal) → Answer.reply (answer R q) ≡ Refused refusal
+RefusedChangesNothing =
+    (R : Register) (q : Command) (refusal : Refusal) → Answer.reply (answer R q) ≡ Refused refusal
     → (Answer.edits (answer R q) ≡ []) × (after R q ≡ R)
 
 -- A SHOWN COMMAND changes nothing, and no check applies to it
 abbrev pub ShownChangesNothing : Type 0
-ShownChangesNothing = (R : Register) (q : Command) (view : View) → Answer.reply (answer R q) ≡ Shown view
+ShownChangesNothing =
+    (R : Register) (q : Command) (view : View) → Answer.reply (answer R q) ≡ Shown view
     → (refusal_of R q ≡ None) × (Answer.edits (answer R q) ≡ []) × (after R q ≡ R)
 
 -- A COMMAND IS ACCEPTED only where no check applies
 abbrev pub AcceptedPassesChecks : Type 0
-AcceptedPassesChecks = (R : Register) (q : Command) (card : Card) → Answer.reply (answer R q) ≡ Accepted card → refusal_of R q ≡ None
+AcceptedPassesChecks =
+    (R : Register) (q : Command) (card : Card) → Answer.reply (answer R q) ≡ Accepted card
+    → refusal_of R q ≡ None

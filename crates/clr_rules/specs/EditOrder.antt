@@ -7,7 +7,9 @@ use Rattle.clr_net.specs.Name.{name_cmp}
 use Rattle.clr_shelf.specs.Rows.{in_key_order}
 use Rattle.clr_rules.specs.Answer.{Answer, answer}
 use Rattle.clr_rules.specs.Good.{ListsAreInOrder}
-use Rattle.clr_rules.specs.Prelude.{Edit, SetPosition, SetHand, PutHold, TakeHold, PutRecord, PutStep, Command, id_cmp, Register, step_key, step_key_cmp, hold_cmp}
+use Rattle.clr_rules.specs.Prelude.{Edit, SetPosition, SetHand, PutHold, TakeHold, PutRecord}
+use Rattle.clr_rules.specs.Prelude.{PutStep, Command, id_cmp, Register, step_key, step_key_cmp}
+use Rattle.clr_rules.specs.Prelude.{hold_cmp}
 
 -- the place of an edit's kind; putting and taking a hold are one kind
 abbrev pub edit_rank : Edit → ℕ
@@ -39,4 +41,6 @@ are_in_order edits = in_key_order edit_cmp (λ edit. edit) edits
 
 -- AN ANSWER'S EDITS STAND IN ORDER, where the register's lists do
 abbrev pub AnswersEditsInOrder : Type 0
-AnswersEditsInOrder = (R : Register) (q : Command) → ListsAreInOrder R → are_in_order (Answer.edits (answer R q)) ≡ true
+AnswersEditsInOrder =
+    (R : Register) (q : Command) → ListsAreInOrder R
+    → are_in_order (Answer.edits (answer R q)) ≡ true

@@ -1,4 +1,5 @@
--- EDITS: what an accepted command does to the lists of the register. Putting a row replaces the row of its key; all other rows stay.
+-- EDITS: what an accepted command does to the lists of the register. Putting a row replaces the row
+-- of its key; all other rows stay.
 use Rattle.std.specs.Prelude.{List, [], ◌∷◌}
 use Rattle.clr_shelf.specs.Rows.{with_row, without_row}
 use Rattle.clr_rules.specs.Hold.{hold_cmp}
@@ -13,12 +14,15 @@ use Rattle.clr_rules.specs.declared.hold.Hold.{Hold}
 use Rattle.clr_rules.specs.declared.point_state.PointState.{PointState}
 use Rattle.clr_rules.specs.declared.record.Record.{Record}
 use Rattle.clr_rules.specs.declared.step_row.StepRow.{StepRow}
-use Rattle.clr_rules.specs.declared.change.Edit.TheVariants.{SetPosition, SetHand, PutHold, TakeHold, PutRecord, PutStep}
+use Rattle.clr_rules.specs.declared.change.Edit.TheVariants.{SetPosition, SetHand, PutHold}
+use Rattle.clr_rules.specs.declared.change.Edit.TheVariants.{TakeHold, PutRecord, PutStep}
 
 -- the states after an edit
 abbrev pub states_after : Edit → List PointState → List PointState
-states_after (SetPosition point position) states = change_state states point (λ state. record state { position = position })
-states_after (SetHand point hand) states = change_state states point (λ state. record state { hand = hand })
+states_after (SetPosition point position) states =
+    change_state states point (λ state. record state { position = position })
+states_after (SetHand point hand) states =
+    change_state states point (λ state. record state { hand = hand })
 states_after _ states = states
 
 -- the holds after an edit

@@ -1,11 +1,21 @@
--- EXAMPLES OF PHASES AND ROLES: what each command is answered in each phase of a clearance, and from each role.
+-- EXAMPLES OF PHASES AND ROLES: what each command is answered in each phase of a clearance, and
+-- from each role.
 use Rattle.std.specs.Prelude.{◌≡◌, false, true, List, [], ◌∷◌, ◌++◌, map, codes, Option, Some, None}
 use Rattle.clr_order.specs.declared.action.Action.TheVariants as actions
 use Rattle.clr_rules.specs.Answer.{Answer}
-use Rattle.clr_rules.specs.Worked.{C1, JONES, KIM, L2, OPS, REED, S2, S3, S4, Saying, answer_after, c1_is_on, does, isolating_l2, jones_1, kim_1, l2_asked, l2_granted, l2_grounded, l2_isolated, l2_ordered, l2_released, l2_restoring, l2_tested, ops_1, restoring_l2, s2_opened, s3_unblocked, says, step_is_repeated, step_runs}
+use Rattle.clr_rules.specs.Worked.{C1, JONES, KIM, L2, OPS, REED, S2, S3, S4, Saying, answer_after}
+use Rattle.clr_rules.specs.Worked.{c1_is_on, does, isolating_l2, jones_1, kim_1, l2_asked}
+use Rattle.clr_rules.specs.Worked.{l2_granted, l2_grounded, l2_isolated, l2_ordered, l2_released}
+use Rattle.clr_rules.specs.Worked.{l2_restoring, l2_tested, ops_1, restoring_l2, s2_opened}
+use Rattle.clr_rules.specs.Worked.{s3_unblocked, says, step_is_repeated, step_runs}
 use Rattle.clr_rules.specs.Prelude.{Kind, Refusal, Reply}
-use Rattle.clr_rules.specs.declared.command.Kind.TheVariants.{Request, Order, Instruct, Repeat, Report, Grant, Test, Ground, Unground, SignOn, SignOff, Transfer, Release, Cancel, Restore, Amend, Switch, Show}
-use Rattle.clr_rules.specs.declared.refusal.Refusal.TheVariants.{WrongRole, NotHolder, WrongPhase, StepState, StepsLeft, NotTested, NotGrounded, CrewState}
+use Rattle.clr_rules.specs.declared.command.Kind.TheVariants.{Request, Order, Instruct, Repeat}
+use Rattle.clr_rules.specs.declared.command.Kind.TheVariants.{Report, Grant, Test, Ground, Unground}
+use Rattle.clr_rules.specs.declared.command.Kind.TheVariants.{SignOn, SignOff, Transfer, Release}
+use Rattle.clr_rules.specs.declared.command.Kind.TheVariants.{Cancel, Restore, Amend, Switch, Show}
+use Rattle.clr_rules.specs.declared.refusal.Refusal.TheVariants.{WrongRole, NotHolder, WrongPhase}
+use Rattle.clr_rules.specs.declared.refusal.Refusal.TheVariants.{StepState, StepsLeft, NotTested}
+use Rattle.clr_rules.specs.declared.refusal.Refusal.TheVariants.{NotGrounded, CrewState}
 use Rattle.clr_rules.specs.declared.reply.Reply.TheVariants.{Accepted, Shown, Refused}
 
 -- what a reply refuses for, if it does
@@ -23,27 +33,40 @@ l2_closed = l2_asked ++ says JONES (Cancel jones_1) ∷ []
 
 -- what is said of JONES/1 while it is Requested, Ordered, Granted, Released, Restoring, and Closed
 abbrev pub by_phase : Saying → List (Option Refusal)
-by_phase next = map (λ said. refused_after said next) (l2_asked ∷ l2_ordered ∷ l2_granted ∷ l2_released ∷ l2_restoring ∷ l2_closed ∷ [])
+by_phase next =
+    map (λ said. refused_after said next) (l2_asked ∷ l2_ordered ∷ l2_granted ∷ l2_released
+    ∷ l2_restoring ∷ l2_closed ∷ [])
 
 -- of these six phases all but one refuse a command for the phase
 abbrev pub but_requested : Option Refusal → List (Option Refusal)
-but_requested told = told ∷ Some WrongPhase ∷ Some WrongPhase ∷ Some WrongPhase ∷ Some WrongPhase ∷ Some WrongPhase ∷ []
+but_requested told =
+    told ∷ Some WrongPhase ∷ Some WrongPhase ∷ Some WrongPhase ∷ Some WrongPhase ∷ Some WrongPhase
+    ∷ []
 
 abbrev pub but_ordered : Option Refusal → List (Option Refusal)
-but_ordered told = Some WrongPhase ∷ told ∷ Some WrongPhase ∷ Some WrongPhase ∷ Some WrongPhase ∷ Some WrongPhase ∷ []
+but_ordered told =
+    Some WrongPhase ∷ told ∷ Some WrongPhase ∷ Some WrongPhase ∷ Some WrongPhase ∷ Some WrongPhase
+    ∷ []
 
 abbrev pub but_granted : Option Refusal → List (Option Refusal)
-but_granted told = Some WrongPhase ∷ Some WrongPhase ∷ told ∷ Some WrongPhase ∷ Some WrongPhase ∷ Some WrongPhase ∷ []
+but_granted told =
+    Some WrongPhase ∷ Some WrongPhase ∷ told ∷ Some WrongPhase ∷ Some WrongPhase ∷ Some WrongPhase
+    ∷ []
 
 abbrev pub but_released : Option Refusal → List (Option Refusal)
-but_released told = Some WrongPhase ∷ Some WrongPhase ∷ Some WrongPhase ∷ told ∷ Some WrongPhase ∷ Some WrongPhase ∷ []
+but_released told =
+    Some WrongPhase ∷ Some WrongPhase ∷ Some WrongPhase ∷ told ∷ Some WrongPhase ∷ Some WrongPhase
+    ∷ []
 
 abbrev pub but_restoring : Option Refusal → List (Option Refusal)
-but_restoring told = Some WrongPhase ∷ Some WrongPhase ∷ Some WrongPhase ∷ Some WrongPhase ∷ told ∷ Some WrongPhase ∷ []
+but_restoring told =
+    Some WrongPhase ∷ Some WrongPhase ∷ Some WrongPhase ∷ Some WrongPhase ∷ told ∷ Some WrongPhase
+    ∷ []
 
 -- steps run while the clearance is Ordered or Restoring
 abbrev pub but_running : Option Refusal → List (Option Refusal)
-but_running told = Some WrongPhase ∷ told ∷ Some WrongPhase ∷ Some WrongPhase ∷ told ∷ Some WrongPhase ∷ []
+but_running told =
+    Some WrongPhase ∷ told ∷ Some WrongPhase ∷ Some WrongPhase ∷ told ∷ Some WrongPhase ∷ []
 
 pub record OrdersByPhase : Type 0 where
   pub order : by_phase (says OPS (Order jones_1 (S2 ∷ S3 ∷ []) isolating_l2)) ≡ but_requested None
@@ -52,7 +75,8 @@ pub record OrdersByPhase : Type 0 where
 
 pub record StepsByPhase : Type 0 where
   pub instruct : by_phase (says OPS (Instruct jones_1 1)) ≡ but_running None
-  pub repeat : by_phase (says REED (Repeat jones_1 1 (codes "OPEN S2"))) ≡ but_running (Some StepState)
+  pub repeat : by_phase (says REED (Repeat jones_1 1 (codes "OPEN S2")))
+      ≡ but_running (Some StepState)
   pub report : by_phase (says REED (Report jones_1 1 true)) ≡ but_running (Some StepState)
   pub amend : by_phase (says OPS (Amend jones_1 1)) ≡ but_restoring (Some StepState)
 
@@ -63,10 +87,13 @@ pub record WorkByPhase : Type 0 where
   pub sign_on : by_phase (says JONES (SignOn jones_1 C1)) ≡ but_granted (Some NotTested)
   pub sign_off : by_phase (says JONES (SignOff jones_1 C1)) ≡ but_granted (Some CrewState)
 
--- the holder hands on what is not released yet, gives up what is not granted yet, and releases what is granted
+-- the holder hands on what is not released yet, gives up what is not granted yet, and releases what
+-- is granted
 pub record HoldersByPhase : Type 0 where
-  pub transfer : by_phase (says JONES (Transfer jones_1 KIM false)) ≡ None ∷ None ∷ None ∷ Some WrongPhase ∷ Some WrongPhase ∷ Some WrongPhase ∷ []
-  pub cancel : by_phase (says JONES (Cancel jones_1)) ≡ None ∷ None ∷ Some WrongPhase ∷ Some WrongPhase ∷ Some WrongPhase ∷ Some WrongPhase ∷ []
+  pub transfer : by_phase (says JONES (Transfer jones_1 KIM false))
+      ≡ None ∷ None ∷ None ∷ Some WrongPhase ∷ Some WrongPhase ∷ Some WrongPhase ∷ []
+  pub cancel : by_phase (says JONES (Cancel jones_1))
+      ≡ None ∷ None ∷ Some WrongPhase ∷ Some WrongPhase ∷ Some WrongPhase ∷ Some WrongPhase ∷ []
   pub release : by_phase (says JONES (Release jones_1 true true)) ≡ but_granted None
 
 -- a view is given in each
@@ -85,10 +112,12 @@ pub record SwitchOrdersByPhase : Type 0 where
   pub repeat : while_switching (says REED (Repeat ops_1 1 (codes "OPEN S4"))) ≡ Some StepState
   pub report : while_switching (says REED (Report ops_1 1 true)) ≡ Some StepState
   pub cancel : while_switching (says OPS (Cancel ops_1)) ≡ None
-  pub order : while_switching (says OPS (Order ops_1 (S4 ∷ []) (does actions.Open S4 ∷ []))) ≡ Some WrongPhase
+  pub order : while_switching (says OPS (Order ops_1 (S4 ∷ []) (does actions.Open S4 ∷ [])))
+      ≡ Some WrongPhase
   pub grant : while_switching (says OPS (Grant ops_1)) ≡ Some WrongPhase
   pub transfer : while_switching (says OPS (Transfer ops_1 KIM false)) ≡ Some WrongPhase
-  pub restore : while_switching (says OPS (Restore ops_1 (does actions.Close S4 ∷ []))) ≡ Some WrongPhase
+  pub restore : while_switching (says OPS (Restore ops_1 (does actions.Close S4 ∷ [])))
+      ≡ Some WrongPhase
   pub amend : while_switching (says OPS (Amend ops_1 1)) ≡ Some WrongPhase
 
 -- what is said by an operator, by the field, and by who may be in charge
@@ -113,8 +142,10 @@ pub record OperatorsCommands : Type 0 where
   pub switch : by_role [] (Switch (does actions.Open S4 ∷ [])) ≡ for_operators
 
 pub record CommandsOfTheField : Type 0 where
-  pub repeat : by_role (l2_ordered ++ says OPS (Instruct jones_1 1) ∷ []) (Repeat jones_1 1 (codes "OPEN S2")) ≡ for_the_field
-  pub report : by_role (l2_ordered ++ step_is_repeated jones_1 1 (codes "OPEN S2")) (Report jones_1 1 true) ≡ for_the_field
+  pub repeat : by_role (l2_ordered ++ says OPS (Instruct jones_1 1)
+      ∷ []) (Repeat jones_1 1 (codes "OPEN S2")) ≡ for_the_field
+  pub report : by_role (l2_ordered
+      ++ step_is_repeated jones_1 1 (codes "OPEN S2")) (Report jones_1 1 true) ≡ for_the_field
 
 pub record CommandsInCharge : Type 0 where
   pub request : by_role [] (Request L2) ≡ for_who_is_in_charge
@@ -128,23 +159,31 @@ pub record CommandsInCharge : Type 0 where
 -- these ask who holds the clearance, and not for one role; a view is anybody's
 pub record CommandsOfSeveralRoles : Type 0 where
   pub cancel : by_role l2_ordered (Cancel jones_1) ≡ Some NotHolder ∷ Some WrongRole ∷ None ∷ []
-  pub transfer : by_role l2_ordered (Transfer jones_1 KIM false) ≡ Some NotHolder ∷ Some NotHolder ∷ None ∷ []
+  pub transfer : by_role l2_ordered (Transfer jones_1 KIM false)
+      ≡ Some NotHolder ∷ Some NotHolder ∷ None ∷ []
   pub show : by_role l2_ordered (Show jones_1) ≡ None ∷ None ∷ None ∷ []
 
 -- what is said of a step of JONES/1 while it is Waiting, Instructed, Repeated, and Done
 abbrev pub by_state : Saying → List (Option Refusal)
 by_state next = map (λ said. refused_after said next)
-    (l2_ordered ∷ (l2_ordered ++ says OPS (Instruct jones_1 1) ∷ []) ∷ (l2_ordered ++ step_is_repeated jones_1 1 (codes "OPEN S2")) ∷ s2_opened ∷ [])
+    (l2_ordered ∷ (l2_ordered ++ says OPS (Instruct jones_1 1) ∷ [])
+    ∷ (l2_ordered ++ step_is_repeated jones_1 1 (codes "OPEN S2")) ∷ s2_opened ∷ [])
 
 -- and of a closing step of KIM/1
 abbrev pub closing_by_state : Saying → List (Option Refusal)
 closing_by_state next = map (λ said. refused_after said next)
-    (s3_unblocked ∷ (s3_unblocked ++ says OPS (Instruct kim_1 3) ∷ []) ∷ (s3_unblocked ++ step_is_repeated kim_1 3 (codes "CLOSE S3"))
+    (s3_unblocked ∷ (s3_unblocked ++ says OPS (Instruct kim_1 3) ∷ [])
+    ∷ (s3_unblocked ++ step_is_repeated kim_1 3 (codes "CLOSE S3"))
     ∷ (s3_unblocked ++ step_runs kim_1 3 (codes "CLOSE S3")) ∷ [])
 
 pub record StepsByState : Type 0 where
-  pub instruct : by_state (says OPS (Instruct jones_1 1)) ≡ None ∷ Some StepState ∷ Some StepState ∷ Some StepState ∷ []
-  pub repeat : by_state (says REED (Repeat jones_1 1 (codes "OPEN S2"))) ≡ Some StepState ∷ None ∷ None ∷ Some StepState ∷ []
-  pub report : by_state (says REED (Report jones_1 1 true)) ≡ Some StepState ∷ Some StepState ∷ None ∷ Some StepState ∷ []
-  pub cancel : by_state (says JONES (Cancel jones_1)) ≡ None ∷ Some StepState ∷ Some StepState ∷ None ∷ []
-  pub amend : closing_by_state (says OPS (Amend kim_1 3)) ≡ None ∷ Some StepState ∷ Some StepState ∷ Some StepState ∷ []
+  pub instruct : by_state (says OPS (Instruct jones_1 1))
+      ≡ None ∷ Some StepState ∷ Some StepState ∷ Some StepState ∷ []
+  pub repeat : by_state (says REED (Repeat jones_1 1 (codes "OPEN S2")))
+      ≡ Some StepState ∷ None ∷ None ∷ Some StepState ∷ []
+  pub report : by_state (says REED (Report jones_1 1 true))
+      ≡ Some StepState ∷ Some StepState ∷ None ∷ Some StepState ∷ []
+  pub cancel : by_state (says JONES (Cancel jones_1))
+      ≡ None ∷ Some StepState ∷ Some StepState ∷ None ∷ []
+  pub amend : closing_by_state (says OPS (Amend kim_1 3))
+      ≡ None ∷ Some StepState ∷ Some StepState ∷ Some StepState ∷ []

@@ -1,12 +1,29 @@
--- EXAMPLES OF SEQUENCE: which check of a command speaks first. In each example a check applies together with the next one of the same
--- command that may, and the reply is the first one's.
+-- EXAMPLES OF SEQUENCE: which check of a command speaks first. In each example a check applies
+-- together with the next one of the same command that may, and the reply is the first one's.
 use Rattle.std.specs.Prelude.{◌≡◌, ℕ, false, true, List, [], ◌∷◌, ◌++◌, codes, Some}
 use Rattle.clr_order.specs.declared.action.Action.TheVariants as actions
 use Rattle.clr_rules.specs.Answer.{answer}
 use Rattle.clr_rules.specs.Prelude.{HeldOpen, Requested, Refusal, Register}
-use Rattle.clr_rules.specs.Worked.{C1, JONES, KIM, L2, L3, OPS, REED, S2, S3, Saying, ZZ, answer_after, c1_is_off, c1_is_on, does, jones_1, kim_1, l2_asked, l2_granted, l2_grounded, l2_ordered, l2_released, l2_restoring, l2_tested, ops_1, refused, register_after, s2_opened, s2_tagged, s3_unblocked, said_at, says, step_is_repeated, worked_opening}
-use Rattle.clr_rules.specs.declared.command.Kind.TheVariants.{Request, Order, Instruct, Repeat, Report, Grant, Test, Ground, Unground, SignOn, SignOff, Transfer, Release, Cancel, Restore, Amend, Switch, Show}
-use Rattle.clr_rules.specs.declared.refusal.Refusal.TheVariants.{UnknownCaller, WrongRole, UnknownSection, TooManyClearances, UnknownClearance, NotHolder, Earlier, WrongPhase, EmptyOrder, NoStep, OutOfTurn, StepState, InHand, Held, RepeatDiffers, WrongReporter, StepsLeft, OutsideFence, NotTested, Grounded, NotGrounded, CrewsOn, CrewState, BadTransfer, NotAttested}
+use Rattle.clr_rules.specs.Worked.{C1, JONES, KIM, L2, L3, OPS, REED, S2, S3, Saying, ZZ}
+use Rattle.clr_rules.specs.Worked.{answer_after, c1_is_off, c1_is_on, does, jones_1, kim_1}
+use Rattle.clr_rules.specs.Worked.{l2_asked, l2_granted, l2_grounded, l2_ordered, l2_released}
+use Rattle.clr_rules.specs.Worked.{l2_restoring, l2_tested, ops_1, refused, register_after}
+use Rattle.clr_rules.specs.Worked.{s2_opened, s2_tagged, s3_unblocked, said_at, says}
+use Rattle.clr_rules.specs.Worked.{step_is_repeated, worked_opening}
+use Rattle.clr_rules.specs.declared.command.Kind.TheVariants.{Request, Order, Instruct, Repeat}
+use Rattle.clr_rules.specs.declared.command.Kind.TheVariants.{Report, Grant, Test, Ground, Unground}
+use Rattle.clr_rules.specs.declared.command.Kind.TheVariants.{SignOn, SignOff, Transfer, Release}
+use Rattle.clr_rules.specs.declared.command.Kind.TheVariants.{Cancel, Restore, Amend, Switch, Show}
+use Rattle.clr_rules.specs.declared.refusal.Refusal.TheVariants.{UnknownCaller, WrongRole}
+use Rattle.clr_rules.specs.declared.refusal.Refusal.TheVariants.{UnknownSection, TooManyClearances}
+use Rattle.clr_rules.specs.declared.refusal.Refusal.TheVariants.{UnknownClearance, NotHolder}
+use Rattle.clr_rules.specs.declared.refusal.Refusal.TheVariants.{Earlier, WrongPhase, EmptyOrder}
+use Rattle.clr_rules.specs.declared.refusal.Refusal.TheVariants.{NoStep, OutOfTurn, StepState}
+use Rattle.clr_rules.specs.declared.refusal.Refusal.TheVariants.{InHand, Held, RepeatDiffers}
+use Rattle.clr_rules.specs.declared.refusal.Refusal.TheVariants.{WrongReporter, StepsLeft}
+use Rattle.clr_rules.specs.declared.refusal.Refusal.TheVariants.{OutsideFence, NotTested, Grounded}
+use Rattle.clr_rules.specs.declared.refusal.Refusal.TheVariants.{NotGrounded, CrewsOn, CrewState}
+use Rattle.clr_rules.specs.declared.refusal.Refusal.TheVariants.{BadTransfer, NotAttested}
 
 -- after all this was said, what is said next is refused
 abbrev pub tells : List Saying → Saying → Refusal → Type 0
@@ -19,15 +36,24 @@ tells_early said next refusal = answer (register_after said) (said_at 0 next) �
 -- a requester's clearance of the last number stands, and no other
 abbrev pub last_number : List ℕ → Register
 last_number requester = record worked_opening {
-  records = record { id = record { requester = requester; number = 9999 }; holder = requester; work = Some L2; phase = Requested; last = 100 } ∷ [];
+  records =
+      record {
+        id = record { requester = requester; number = 9999 };
+        holder = requester;
+        work = Some L2;
+        phase = Requested;
+        last = 100;
+      } ∷ [];
 }
 
 abbrev pub tells_at_last : List ℕ → Saying → Refusal → Type 0
-tells_at_last requester next refusal = answer (last_number requester) (said_at 101 next) ≡ refused refusal
+tells_at_last requester next refusal =
+    answer (last_number requester) (said_at 101 next) ≡ refused refusal
 
 -- OPS has a point in hand for a switch order of its own
 abbrev pub in_hand_of_ops : List ℕ → List Saying
-in_hand_of_ops point = says OPS (Switch (does actions.Open point ∷ [])) ∷ says OPS (Instruct ops_1 1) ∷ []
+in_hand_of_ops point =
+    says OPS (Switch (does actions.Open point ∷ [])) ∷ says OPS (Instruct ops_1 1) ∷ []
 
 -- in each record a field is named after the check that speaks
 
@@ -56,8 +82,10 @@ pub record InstructAsks : Type 0 where
   -- the step is done, and OPS has its point in hand
   pub wrong_state : tells (s2_opened ++ in_hand_of_ops S2) (says OPS (Instruct jones_1 1)) StepState
   -- KIM's step closes S3, which JONES holds open and OPS has in hand
-  pub in_hand : tells (l2_granted ++ s3_unblocked ++ in_hand_of_ops S3) (says OPS (Instruct kim_1 3)) (InHand ops_1)
-  pub held : tells (l2_granted ++ s3_unblocked) (says OPS (Instruct kim_1 3)) (Held jones_1 HeldOpen)
+  pub in_hand : tells (l2_granted ++ s3_unblocked
+      ++ in_hand_of_ops S3) (says OPS (Instruct kim_1 3)) (InHand ops_1)
+  pub held : tells (l2_granted
+      ++ s3_unblocked) (says OPS (Instruct kim_1 3)) (Held jones_1 HeldOpen)
 
 pub record RepeatAsks : Type 0 where
   pub unknown_caller : tells [] (says ZZ (Repeat jones_1 1 [])) UnknownCaller
@@ -68,7 +96,8 @@ pub record RepeatAsks : Type 0 where
   pub no_step : tells l2_ordered (says REED (Repeat jones_1 7 [])) NoStep
   -- the step waits, and the text is not its own
   pub wrong_state : tells l2_ordered (says REED (Repeat jones_1 1 [])) StepState
-  pub repeat_differs : tells (l2_ordered ++ says OPS (Instruct jones_1 1) ∷ []) (says REED (Repeat jones_1 1 [])) RepeatDiffers
+  pub repeat_differs : tells (l2_ordered ++ says OPS (Instruct jones_1 1)
+      ∷ []) (says REED (Repeat jones_1 1 [])) RepeatDiffers
 
 pub record ReportAsks : Type 0 where
   pub unknown_caller : tells [] (says ZZ (Report jones_1 1 true)) UnknownCaller
@@ -78,8 +107,11 @@ pub record ReportAsks : Type 0 where
   pub wrong_phase : tells l2_granted (says REED (Report jones_1 7 true)) WrongPhase
   pub no_step : tells l2_ordered (says REED (Report jones_1 7 true)) NoStep
   -- the step is given out, and nobody has repeated it
-  pub wrong_state : tells (l2_ordered ++ says OPS (Instruct jones_1 1) ∷ []) (says REED (Report jones_1 1 true)) StepState
-  pub wrong_reporter : tells (l2_ordered ++ step_is_repeated jones_1 1 (codes "OPEN S2")) (says (codes "DALE") (Report jones_1 1 true)) WrongReporter
+  pub wrong_state : tells (l2_ordered ++ says OPS (Instruct jones_1 1)
+      ∷ []) (says REED (Report jones_1 1 true)) StepState
+  pub wrong_reporter : tells (l2_ordered
+      ++ step_is_repeated jones_1 1 (codes "OPEN S2"))
+      (says (codes "DALE") (Report jones_1 1 true)) WrongReporter
 
 pub record GrantAsks : Type 0 where
   pub unknown_caller : tells [] (says ZZ (Grant jones_1)) UnknownCaller
@@ -87,7 +119,8 @@ pub record GrantAsks : Type 0 where
   pub unknown_clearance : tells [] (says OPS (Grant jones_1)) UnknownClearance
   pub earlier : tells_early l2_granted (says OPS (Grant jones_1)) Earlier
   -- the order was given up with steps left
-  pub wrong_phase : tells (s2_opened ++ says JONES (Cancel jones_1) ∷ []) (says OPS (Grant jones_1)) WrongPhase
+  pub wrong_phase : tells (s2_opened ++ says JONES (Cancel jones_1)
+      ∷ []) (says OPS (Grant jones_1)) WrongPhase
   pub steps_left : tells s2_tagged (says OPS (Grant jones_1)) StepsLeft
 
 pub record TestAsks : Type 0 where
@@ -108,7 +141,8 @@ pub record GroundAsks : Type 0 where
   pub wrong_phase : tells l2_ordered (says JONES (Ground jones_1 L3)) WrongPhase
   pub outside_fence : tells l2_granted (says JONES (Ground jones_1 L3)) OutsideFence
   -- a ground stands, and a later test found the section live
-  pub not_tested : tells (l2_grounded ++ says JONES (Test jones_1 L2 false) ∷ []) (says JONES (Ground jones_1 L2)) NotTested
+  pub not_tested : tells (l2_grounded ++ says JONES (Test jones_1 L2 false)
+      ∷ []) (says JONES (Ground jones_1 L2)) NotTested
   pub grounded : tells l2_grounded (says JONES (Ground jones_1 L2)) Grounded
 
 pub record UngroundAsks : Type 0 where
@@ -169,8 +203,10 @@ pub record CancelAsks : Type 0 where
   pub not_holder : tells_early l2_asked (says KIM (Cancel jones_1)) NotHolder
   pub earlier : tells_early l2_granted (says JONES (Cancel jones_1)) Earlier
   -- a restoring step is given out
-  pub wrong_phase : tells (l2_restoring ++ says OPS (Instruct jones_1 1) ∷ []) (says JONES (Cancel jones_1)) WrongPhase
-  pub step_given_out : tells (l2_ordered ++ says OPS (Instruct jones_1 1) ∷ []) (says JONES (Cancel jones_1)) StepState
+  pub wrong_phase : tells (l2_restoring ++ says OPS (Instruct jones_1 1)
+      ∷ []) (says JONES (Cancel jones_1)) WrongPhase
+  pub step_given_out : tells (l2_ordered ++ says OPS (Instruct jones_1 1)
+      ∷ []) (says JONES (Cancel jones_1)) StepState
 
 pub record RestoreAsks : Type 0 where
   pub unknown_caller : tells [] (says ZZ (Restore jones_1 [])) UnknownCaller
@@ -189,8 +225,10 @@ pub record AmendAsks : Type 0 where
   pub no_step : tells l2_restoring (says OPS (Amend jones_1 7)) NoStep
   -- the first step waits, but it is no Close; KIM's third is one, but it is amended already
   pub not_a_close : tells l2_restoring (says OPS (Amend jones_1 1)) StepState
-  pub no_longer_a_close : tells (s3_unblocked ++ says OPS (Amend kim_1 3) ∷ []) (says OPS (Amend kim_1 3)) StepState
-  pub given_out : tells (s3_unblocked ++ says OPS (Instruct kim_1 3) ∷ []) (says OPS (Amend kim_1 3)) StepState
+  pub no_longer_a_close : tells (s3_unblocked ++ says OPS (Amend kim_1 3)
+      ∷ []) (says OPS (Amend kim_1 3)) StepState
+  pub given_out : tells (s3_unblocked ++ says OPS (Instruct kim_1 3)
+      ∷ []) (says OPS (Amend kim_1 3)) StepState
 
 pub record SwitchAsks : Type 0 where
   pub unknown_caller : tells [] (says ZZ (Switch [])) UnknownCaller

@@ -7,14 +7,17 @@ use Rattle.clr_net.specs.declared.point.PointRow.{PointRow}
 use Rattle.clr_rules.specs.Prelude.{Record, StepRow, Id, Register, record_of, points_of, steps_in}
 use Rattle.clr_rules.specs.Records.{is_fenced}
 
--- the sections of the fence of a work section that is cut at these points; a switch order has no work section, and no fence
+-- the sections of the fence of a work section that is cut at these points; a switch order has no
+-- work section, and no fence
 abbrev pub work_fence : Grid → Option (List ℕ) → List (List ℕ) → List (List ℕ)
 work_fence g None cut = []
 work_fence g (Some work) cut = section_names (FenceRows.sections (fence_of g work cut))
 
--- the sections of a record's fence: it is cut at the points of the first round. A record that is Requested or Closed has none
+-- the sections of a record's fence: it is cut at the points of the first round. A record that is
+-- Requested or Closed has none
 abbrev pub record_fence : Grid → List StepRow → Record → List (List ℕ)
-record_fence g steps r = if is_fenced r.phase then work_fence g r.work (points_of (steps_in steps r.id 1)) else []
+record_fence g steps r =
+    if is_fenced r.phase then work_fence g r.work (points_of (steps_in steps r.id 1)) else []
 
 abbrev pub found_fence : Grid → List StepRow → Option Record → List (List ℕ)
 found_fence g steps None = []

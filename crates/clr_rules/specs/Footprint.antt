@@ -3,18 +3,23 @@ use Rattle.std.specs.Prelude.{◌≡◌, ℕ, Bool, true, false, not, ◌&&◌, 
 use Rattle.std.specs.List.{list_all}
 use Rattle.clr_net.specs.declared.point.Position.{Position}
 use Rattle.clr_net.specs.declared.point.Position.TheVariants.{Opened, Closed as Shut}
-use Rattle.clr_rules.specs.Prelude.{Edit, SetPosition, SetHand, PutHold, TakeHold, PutRecord, PutStep, HeldOpen, Id, same_id, Register, has_in_hand, position_of, record_of, steps_of, has_hold, holds_of, after_edits}
+use Rattle.clr_rules.specs.Prelude.{Edit, SetPosition, SetHand, PutHold, TakeHold, PutRecord}
+use Rattle.clr_rules.specs.Prelude.{PutStep, HeldOpen, Id, same_id, Register, has_in_hand}
+use Rattle.clr_rules.specs.Prelude.{position_of, record_of, steps_of, has_hold, holds_of}
+use Rattle.clr_rules.specs.Prelude.{after_edits}
 use Rattle.clr_rules.specs.Good.{ListsAreInOrder}
 use Rattle.clr_rules.specs.States.{is_hand}
 
--- FRAME: the record, the steps and the holds of a clearance are the same in both registers; what it has in hand in the first it has in hand
--- in the second; and a point that it holds open, if it is open in the first, is open in the second
+-- FRAME: the record, the steps and the holds of a clearance are the same in both registers; what it
+-- has in hand in the first it has in hand in the second; and a point that it holds open, if it is
+-- open in the first, is open in the second
 pub record Frame (c : Id) (R S : Register) : Type 0 where
   pub same_record : record_of S.records c ≡ record_of R.records c
   pub same_steps : steps_of S.steps c ≡ steps_of R.steps c
   pub same_holds : holds_of S.holds c ≡ holds_of R.holds c
   pub hands_stay : (p : List ℕ) → has_in_hand R.states c p ≡ true → has_in_hand S.states c p ≡ true
-  pub closes_nothing : (p : List ℕ) → has_hold R.holds c HeldOpen p ≡ true → position_of R.states p ≡ Some Opened → position_of S.states p ≡ Some Opened
+  pub closes_nothing : (p : List ℕ) → has_hold R.holds c HeldOpen p ≡ true
+      → position_of R.states p ≡ Some Opened → position_of S.states p ≡ Some Opened
 
 abbrev pub is_shut : Position → Bool
 is_shut Shut = true
@@ -24,8 +29,9 @@ abbrev pub both_or_neither : Bool → Bool → Bool
 both_or_neither true b = b
 both_or_neither false b = not b
 
--- WHETHER AN EDIT SPARES A CLEARANCE in a register: it is of another's record, step or hold, takes no point out of the clearance's hand and puts
--- none into it, and closes no point that it holds open
+-- WHETHER AN EDIT SPARES A CLEARANCE in a register: it is of another's record, step or hold, takes
+-- no point out of the clearance's hand and puts none into it, and closes no point that it holds
+-- open
 abbrev pub spares : Id → Register → Edit → Bool
 spares c R (SetPosition p position) = not (is_shut position && has_hold R.holds c HeldOpen p)
 spares c R (SetHand p hand) = both_or_neither (has_in_hand R.states c p) (is_hand c hand)
@@ -39,4 +45,6 @@ all_spare c R edits = list_all (spares c R) edits
 
 -- EDITS THAT SPARE A CLEARANCE leave it alone: each is judged by the register before the first
 abbrev pub SparingEditsLeaveAlone : Type 0
-SparingEditsLeaveAlone = (c : Id) (R : Register) (edits : List Edit) → ListsAreInOrder R → all_spare c R edits ≡ true → Frame c R (after_edits edits R)
+SparingEditsLeaveAlone =
+    (c : Id) (R : Register) (edits : List Edit) → ListsAreInOrder R → all_spare c R edits ≡ true
+    → Frame c R (after_edits edits R)

@@ -15,19 +15,24 @@ abbrev pub is_report : Kind → Bool
 is_report (Report c n done) = true
 is_report _ = false
 
--- THE EDITS OF A COMMAND ABOUT ANOTHER CLEARANCE spare a clearance: those of a report where the hands match the steps,
+-- THE EDITS OF A COMMAND ABOUT ANOTHER CLEARANCE spare a clearance: those of a report where the
+-- hands match the steps,
 abbrev pub OthersEditsSpare : Type 0
-OthersEditsSpare = (R : Register) (c : Id) (q : Command) → HandMatchesStep R → is_others c R q ≡ true
+OthersEditsSpare =
+    (R : Register) (c : Id) (q : Command) → HandMatchesStep R → is_others c R q ≡ true
     → all_spare c R (Answer.edits (answer R q)) ≡ true
 
 -- and those of any other command in every register
 abbrev pub OthersEditsSpareAnywhere : Type 0
-OthersEditsSpareAnywhere = (R : Register) (c : Id) (q : Command) → is_report q.kind ≡ false → is_others c R q ≡ true
+OthersEditsSpareAnywhere =
+    (R : Register) (c : Id) (q : Command) → is_report q.kind ≡ false → is_others c R q ≡ true
     → all_spare c R (Answer.edits (answer R q)) ≡ true
 
--- WHAT THE REGISTER HAS OF A CLEARANCE, its record, its steps, its holds and what it has in hand, stays after edits that spare it,
+-- WHAT THE REGISTER HAS OF A CLEARANCE, its record, its steps, its holds and what it has in hand,
+-- stays after edits that spare it,
 abbrev pub SparingEditsKeepOutlook : Type 0
-SparingEditsKeepOutlook = (c : Id) (R : Register) (edits : List Edit) → ListsAreInOrder R → all_spare c R edits ≡ true
+SparingEditsKeepOutlook =
+    (c : Id) (R : Register) (edits : List Edit) → ListsAreInOrder R → all_spare c R edits ≡ true
     → outlook_of (after_edits edits R) c ≡ outlook_of R c
 
 -- the clearance that a command is about: the one that it names, or the one that it makes
@@ -36,14 +41,20 @@ subject_of R q = reply_clearance (Known.greatest (known_of R q)) q.caller (named
 
 -- so after a command it stays of every clearance but the one that the command is about,
 abbrev pub OneOutlookChanges : Type 0
-OneOutlookChanges = (R : Register) (c : Id) (q : Command) → ListsAreInOrder R → HandMatchesStep R → same_id c (subject_of R q) ≡ false
+OneOutlookChanges =
+    (R : Register) (c : Id) (q : Command) → ListsAreInOrder R → HandMatchesStep R
+    → same_id c (subject_of R q) ≡ false
     → outlook_of (after R q) c ≡ outlook_of R c
 
 -- in a word, after a command about another,
 abbrev pub OthersKeepOutlook : Type 0
-OthersKeepOutlook = (R : Register) (c : Id) (q : Command) → ListsAreInOrder R → HandMatchesStep R → is_others c R q ≡ true
+OthersKeepOutlook =
+    (R : Register) (c : Id) (q : Command) → ListsAreInOrder R → HandMatchesStep R
+    → is_others c R q ≡ true
     → outlook_of (after R q) c ≡ outlook_of R c
 
 -- and the points that it holds are open then
 abbrev pub OthersKeepHeldOpen : Type 0
-OthersKeepHeldOpen = (R : Register) (c : Id) (q : Command) → IsGood R → is_others c R q ≡ true → HeldStayOpen c (after R q)
+OthersKeepHeldOpen =
+    (R : Register) (c : Id) (q : Command) → IsGood R → is_others c R q ≡ true
+    → HeldStayOpen c (after R q)

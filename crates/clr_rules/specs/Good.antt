@@ -1,6 +1,7 @@
--- GOOD REGISTERS: what holds in every register that commands have made from an opening one. Fourteen parts, each in its own words;
--- GoodByPhase says the same phase by phase.
-use Rattle.std.specs.Prelude.{◌≡◌, ℕ, Bool, true, false, not, ◌&&◌, ◌||◌, IsTrue, List, [], length, map, filter, All, Contains, Option, None, Some}
+-- GOOD REGISTERS: what holds in every register that commands have made from an opening one.
+-- Fourteen parts, each in its own words; GoodByPhase says the same phase by phase.
+use Rattle.std.specs.Prelude.{◌≡◌, ℕ, Bool, true, false, not, ◌&&◌, ◌||◌, IsTrue, List, [], length}
+use Rattle.std.specs.Prelude.{map, filter, All, Contains, Option, None, Some}
 use Rattle.std.specs.List.{list_any, range_with_len}
 use Rattle.std.specs.Option.{is_some}
 use Rattle.clr_net.specs.Grid.{Grid, IsNetwork, point_names, section_names}
@@ -18,46 +19,61 @@ use Rattle.clr_order.specs.declared.action.Action.TheVariants as actions
 use Rattle.clr_shelf.specs.Rows.{in_key_order}
 use Rattle.clr_rules.specs.Checks.{employee, has_role, is_operator}
 use Rattle.clr_rules.specs.Fences.{clearance_fence}
-use Rattle.clr_rules.specs.Prelude.{Hold, HoldKind, HeldOpen, Block, Control, Tag, Tested, Ground, Crew, Record, StepRow, Id, id_cmp, Register, has_in_hand, position_of, state_key, record_key, record_of, is_running, is_standing}
-use Rattle.clr_rules.specs.Prelude.{is_granted, is_restoring, step_key, step_key_cmp, all_done, is_active, is_done, is_some_step, is_waiting, points_of, present_round, steps_in, steps_of, tasks_of, hold_cmp, is_point_kind, has_hold}
+use Rattle.clr_rules.specs.Prelude.{Hold, HoldKind, HeldOpen, Block, Control, Tag, Tested, Ground}
+use Rattle.clr_rules.specs.Prelude.{Crew, Record, StepRow, Id, id_cmp, Register, has_in_hand}
+use Rattle.clr_rules.specs.Prelude.{position_of, state_key, record_key, record_of, is_running}
+use Rattle.clr_rules.specs.Prelude.{is_standing}
+use Rattle.clr_rules.specs.Prelude.{is_granted, is_restoring, step_key, step_key_cmp, all_done}
+use Rattle.clr_rules.specs.Prelude.{is_active, is_done, is_some_step, is_waiting, points_of}
+use Rattle.clr_rules.specs.Prelude.{present_round, steps_in, steps_of, tasks_of, hold_cmp}
+use Rattle.clr_rules.specs.Prelude.{is_point_kind, has_hold}
 use Rattle.clr_rules.specs.Prelude.{held_at, hold_key, first_of_each}
 use Rattle.clr_rules.specs.Live.{is_live}
-use Rattle.clr_rules.specs.Records.{is_closed, is_in_switching, is_requested, is_switch_order, numbers_of}
+use Rattle.clr_rules.specs.Records.{is_closed, is_in_switching, is_requested, is_switch_order}
+use Rattle.clr_rules.specs.Records.{numbers_of}
 use Rattle.clr_rules.specs.Register.{unplaced_net}
 use Rattle.clr_rules.specs.Steps.{is_close, is_in_turn}
 
--- HELD POINTS ARE OPEN: a point with a HeldOpen, Block, Control or Tag is open, and the last three stand only beside a HeldOpen of
--- the same clearance
+-- HELD POINTS ARE OPEN: a point with a HeldOpen, Block, Control or Tag is open, and the last three
+-- stand only beside a HeldOpen of the same clearance
 pub record HeldPointsAreOpen (R : Register) : Type 0 where
-  pub open_there : (c : Id) (kind : HoldKind) (p : List ℕ) → is_point_kind kind ≡ true → has_hold R.holds c kind p ≡ true
+  pub open_there : (c : Id) (kind : HoldKind) (p : List ℕ) → is_point_kind kind ≡ true
+      → has_hold R.holds c kind p ≡ true
       → position_of R.states p ≡ Some Opened
-  pub beside_held_open : (c : Id) (kind : HoldKind) (p : List ℕ) → is_point_kind kind ≡ true → has_hold R.holds c kind p ≡ true
+  pub beside_held_open : (c : Id) (kind : HoldKind) (p : List ℕ) → is_point_kind kind ≡ true
+      → has_hold R.holds c kind p ≡ true
       → has_hold R.holds c HeldOpen p ≡ true
 
 -- whether a clearance has a step at a point that is given out and not reported
 unfoldable pub is_active_at : List StepRow → Id → List ℕ → Bool
-is_active_at steps c p = list_any (λ row. is_active row.step.state && same_name p row.step.point) (steps_of steps c)
+is_active_at steps c p =
+    list_any (λ row. is_active row.step.state && same_name p row.step.point) (steps_of steps c)
 
 -- whether such a step is a Close
 unfoldable pub is_closing_at : List StepRow → Id → List ℕ → Bool
-is_closing_at steps c p = list_any (λ row. (is_active row.step.state && is_close row.step.action) && same_name p row.step.point) (steps_of steps c)
+is_closing_at steps c p =
+    list_any (λ row. (is_active row.step.state && is_close row.step.action)
+    && same_name p row.step.point) (steps_of steps c)
 
--- HAND MATCHES STEP: a clearance has a point in hand exactly where a step of its order there is given out and not reported; and while
--- that step is a Close, nothing stands at the point but the clearance's own HeldOpen
+-- HAND MATCHES STEP: a clearance has a point in hand exactly where a step of its order there is
+-- given out and not reported; and while that step is a Close, nothing stands at the point but the
+-- clearance's own HeldOpen
 pub record HandMatchesStep (R : Register) : Type 0 where
   pub hand : (c : Id) (p : List ℕ) → has_in_hand R.states c p ≡ is_active_at R.steps c p
   pub closing : (c : Id) (p : List ℕ) → is_closing_at R.steps c p ≡ true
-      → (d : Id) (kind : HoldKind) → is_point_kind kind ≡ true → has_hold R.holds d kind p ≡ true → (d ≡ c) × (kind ≡ HeldOpen)
+      → (d : Id) (kind : HoldKind) → is_point_kind kind ≡ true → has_hold R.holds d kind p ≡ true
+      → (d ≡ c) × (kind ≡ HeldOpen)
 
 -- there is a work section, and the order isolates it
 abbrev pub IsSoundFor : Grid → Option (List ℕ) → List StepRow → Type 0
 IsSoundFor g None rows = ⊥
 IsSoundFor g (Some work) rows = IsSoundOrder g work (first_of_each (points_of rows)) (tasks_of rows)
 
--- STANDING ORDERS ARE SOUND: from its acceptance on until all is restored, the first round of an order isolates its work section.
--- 1910.269(m)(3)(ii), (iii)
+-- STANDING ORDERS ARE SOUND: from its acceptance on until all is restored, the first round of an
+-- order isolates its work section. 1910.269(m)(3)(ii), (iii)
 abbrev pub StandingOrdersAreSound : Register → Type 0
-StandingOrdersAreSound R = (c : Id) (r : Record) → record_of R.records c ≡ Some r → is_standing r.phase ≡ true
+StandingOrdersAreSound R =
+    (c : Id) (r : Record) → record_of R.records c ≡ Some r → is_standing r.phase ≡ true
     → IsSoundFor R.net r.work (steps_in R.steps c 1)
 
 -- what a clearance needs at a point before work begins
@@ -67,17 +83,21 @@ pub record IsFullyHeld (holds : List Hold) (c : Id) (point : PointRow) : Type 0 
   pub blocked : point.lockable ≡ true → has_hold holds c Block point.name ≡ true
   pub controlled : point.remote ≡ true → has_hold holds c Control point.name ≡ true
 
--- A GRANTED POINT IS FULLY HELD: a granted clearance has all steps of its order Done, and holds each of its points open, tagged,
--- blocked where it can be locked, and controlled where it is controlled from afar
+-- A GRANTED POINT IS FULLY HELD: a granted clearance has all steps of its order Done, and holds
+-- each of its points open, tagged, blocked where it can be locked, and controlled where it is
+-- controlled from afar
 pub record GrantedPointsAreHeld (R : Register) : Type 0 where
-  pub done : (c : Id) (r : Record) → record_of R.records c ≡ Some r → is_granted r.phase ≡ true → all_done (steps_in R.steps c 1) ≡ true
+  pub done : (c : Id) (r : Record) → record_of R.records c ≡ Some r → is_granted r.phase ≡ true
+      → all_done (steps_in R.steps c 1) ≡ true
   pub held : (c : Id) (r : Record) → record_of R.records c ≡ Some r → is_granted r.phase ≡ true
-      → (point : PointRow) → Contains (Grid.points R.net) point → has_name (points_of (steps_in R.steps c 1)) point.name ≡ true
+      → (point : PointRow) → Contains (Grid.points R.net) point
+      → has_name (points_of (steps_in R.steps c 1)) point.name ≡ true
       → IsFullyHeld R.holds c point
 
 -- GRANTED FENCES ARE DEAD: no section in the fence of a granted clearance is live
 abbrev pub GrantedFencesAreDead : Register → Type 0
-GrantedFencesAreDead R = (c : Id) (r : Record) → record_of R.records c ≡ Some r → is_granted r.phase ≡ true
+GrantedFencesAreDead R =
+    (c : Id) (r : Record) → record_of R.records c ≡ Some r → is_granted r.phase ≡ true
     → (s : List ℕ) → has_name (clearance_fence R c) s ≡ true → is_live R.net R.states s ≡ false
 
 -- whether the work section of a record bears a hold of the clearance
@@ -85,14 +105,19 @@ abbrev pub works_on : List Hold → Id → HoldKind → Option (List ℕ) → Bo
 works_on holds c kind None = false
 works_on holds c kind (Some work) = has_hold holds c kind work
 
--- WORK HOLDS BELONG TO GRANTED RECORDS: tests, grounds and crews; tests and grounds stand at sections of the clearance's fence,
--- and where a crew is on, the clearance's own ground stands at its work section
+-- WORK HOLDS BELONG TO GRANTED RECORDS: tests, grounds and crews; tests and grounds stand at
+-- sections of the clearance's fence, and where a crew is on, the clearance's own ground stands at
+-- its work section
 pub record WorkHoldsBelong (R : Register) : Type 0 where
-  pub granted : (c : Id) (kind : HoldKind) (place : List ℕ) → is_point_kind kind ≡ false → has_hold R.holds c kind place ≡ true
+  pub granted : (c : Id) (kind : HoldKind) (place : List ℕ) → is_point_kind kind ≡ false
+      → has_hold R.holds c kind place ≡ true
       → (r : Record) × (record_of R.records c ≡ Some r) × (is_granted r.phase ≡ true)
-  pub tested_inside : (c : Id) (place : List ℕ) → has_hold R.holds c Tested place ≡ true → has_name (clearance_fence R c) place ≡ true
-  pub grounded_inside : (c : Id) (place : List ℕ) → has_hold R.holds c Ground place ≡ true → has_name (clearance_fence R c) place ≡ true
-  pub crews_grounded : (c : Id) (crew : List ℕ) (r : Record) → has_hold R.holds c Crew crew ≡ true → record_of R.records c ≡ Some r
+  pub tested_inside : (c : Id) (place : List ℕ) → has_hold R.holds c Tested place ≡ true
+      → has_name (clearance_fence R c) place ≡ true
+  pub grounded_inside : (c : Id) (place : List ℕ) → has_hold R.holds c Ground place ≡ true
+      → has_name (clearance_fence R c) place ≡ true
+  pub crews_grounded : (c : Id) (crew : List ℕ) (r : Record) → has_hold R.holds c Crew crew ≡ true
+      → record_of R.records c ≡ Some r
       → works_on R.holds c Ground r.work ≡ true
 
 -- whether a clearance has a record
@@ -104,26 +129,36 @@ abbrev pub is_known_work : List (List ℕ) → Option (List ℕ) → Bool
 is_known_work sections None = true
 is_known_work sections (Some work) = has_name sections work
 
--- NUMBERS HAVE NO GAPS: a requester's clearances are numbered 1, 2, 3 and so on; each clearance in a step, a hold or a hand has a
--- record; each work section is in the network
+-- NUMBERS HAVE NO GAPS: a requester's clearances are numbered 1, 2, 3 and so on; each clearance in
+-- a step, a hold or a hand has a record; each work section is in the network
 pub record NumbersHaveNoGaps (R : Register) : Type 0 where
-  pub numbered : (requester : List ℕ) → numbers_of R.records requester ≡ range_with_len 1 (length (numbers_of R.records requester))
+  pub numbered : (requester : List ℕ)
+      → numbers_of R.records requester ≡ range_with_len 1 (length (numbers_of R.records requester))
   pub steps_recorded : All (λ row. IsTrue (has_record R.records row.id)) R.steps
   pub holds_recorded : All (λ h. IsTrue (has_record R.records h.id)) R.holds
-  pub hands_recorded : (c : Id) (p : List ℕ) → has_in_hand R.states c p ≡ true → has_record R.records c ≡ true
-  pub work_known : All (λ r. IsTrue (is_known_work (section_names (Grid.sections R.net)) r.work)) R.records
+  pub hands_recorded : (c : Id) (p : List ℕ) → has_in_hand R.states c p ≡ true
+      → has_record R.records c ≡ true
+  pub work_known : All
+      (λ r. IsTrue (is_known_work (section_names (Grid.sections R.net)) r.work)) R.records
 
--- STEPS GO IN TURN: a step that does not wait has only Done steps before it in its round; steps that are given out and not reported are in
--- the present round of an Ordered, Restoring or Switching record; a Requested record has no steps, only a Restoring or Closed one a
--- second round, and a Switching one only Open and Close
+-- STEPS GO IN TURN: a step that does not wait has only Done steps before it in its round; steps
+-- that are given out and not reported are in the present round of an Ordered, Restoring or
+-- Switching record; a Requested record has no steps, only a Restoring or Closed one a second round,
+-- and a Switching one only Open and Close
 pub record StepsGoInTurn (R : Register) : Type 0 where
-  pub in_turn : All (λ row. is_waiting row.step.state ≡ false → is_in_turn (steps_in R.steps row.id row.round) row.ordinal ≡ true) R.steps
+  pub in_turn : All (λ row. is_waiting row.step.state ≡ false
+      → is_in_turn (steps_in R.steps row.id row.round) row.ordinal ≡ true) R.steps
   pub active_running : (c : Id) (r : Record) → record_of R.records c ≡ Some r
-      → All (λ row. is_active row.step.state ≡ true → (is_running r.phase ≡ true) × (row.round ≡ present_round R.steps c)) (steps_of R.steps c)
-  pub none_requested : (c : Id) (r : Record) → record_of R.records c ≡ Some r → is_requested r.phase ≡ true → steps_of R.steps c ≡ []
-  pub second_round : (c : Id) (r : Record) → record_of R.records c ≡ Some r → is_some_step (steps_in R.steps c 2) ≡ true
+      → All (λ row. is_active row.step.state ≡ true
+      → (is_running r.phase ≡ true)
+      × (row.round ≡ present_round R.steps c)) (steps_of R.steps c)
+  pub none_requested : (c : Id) (r : Record) → record_of R.records c ≡ Some r
+      → is_requested r.phase ≡ true → steps_of R.steps c ≡ []
+  pub second_round : (c : Id) (r : Record) → record_of R.records c ≡ Some r
+      → is_some_step (steps_in R.steps c 2) ≡ true
       → (is_restoring r.phase || is_closed r.phase) ≡ true
-  pub only_switching : (c : Id) (r : Record) → record_of R.records c ≡ Some r → is_in_switching r.phase ≡ true
+  pub only_switching : (c : Id) (r : Record) → record_of R.records c ≡ Some r
+      → is_in_switching r.phase ≡ true
       → All (λ row. is_switching row.step.action ≡ true) (steps_of R.steps c)
 
 -- the hold at its point that an action puts
@@ -136,7 +171,9 @@ puts action kind = false
 
 -- whether the Done steps put a hold of this kind at a point
 abbrev pub put_by : List StepRow → HoldKind → List ℕ → Bool
-put_by rows kind p = list_any (λ row. (is_done row.step.state && puts row.step.action kind) && same_name p row.step.point) rows
+put_by rows kind p =
+    list_any (λ row. (is_done row.step.state && puts row.step.action kind)
+    && same_name p row.step.point) rows
 
 -- the steps that are not Done
 abbrev pub steps_left_of : List StepRow → List StepRow
@@ -146,45 +183,60 @@ steps_left_of rows = filter (λ row. not (is_done row.step.state)) rows
 abbrev pub still_to_do : List StepRow → Id → List ℕ → List Action
 still_to_do steps c p = actions_at (tasks_of (steps_left_of (steps_in steps c 2))) p
 
--- HOLDS ARE WHAT THE DONE STEPS PUT: holds at points belong to Ordered, Granted, Released and Restoring records, and stand at points of
--- their first round; in the first three phases they are exactly what the Done steps of that round put; in Restoring the steps that are left
--- in the second round undo what is held at each held point, and stand at no other point
+-- HOLDS ARE WHAT THE DONE STEPS PUT: holds at points belong to Ordered, Granted, Released and
+-- Restoring records, and stand at points of their first round; in the first three phases they are
+-- exactly what the Done steps of that round put; in Restoring the steps that are left in the second
+-- round undo what is held at each held point, and stand at no other point
 pub record HoldsAreWhatDoneStepsPut (R : Register) : Type 0 where
-  pub standing : (c : Id) (kind : HoldKind) (p : List ℕ) → is_point_kind kind ≡ true → has_hold R.holds c kind p ≡ true
+  pub standing : (c : Id) (kind : HoldKind) (p : List ℕ) → is_point_kind kind ≡ true
+      → has_hold R.holds c kind p ≡ true
       → (r : Record) × (record_of R.records c ≡ Some r) × (is_standing r.phase ≡ true)
-  pub at_points : (c : Id) (kind : HoldKind) (p : List ℕ) → is_point_kind kind ≡ true → has_hold R.holds c kind p ≡ true
+  pub at_points : (c : Id) (kind : HoldKind) (p : List ℕ) → is_point_kind kind ≡ true
+      → has_hold R.holds c kind p ≡ true
       → has_name (points_of (steps_in R.steps c 1)) p ≡ true
-  pub as_put : (c : Id) (r : Record) → record_of R.records c ≡ Some r → is_standing r.phase ≡ true → is_restoring r.phase ≡ false
-      → (kind : HoldKind) (p : List ℕ) → is_point_kind kind ≡ true → has_hold R.holds c kind p ≡ put_by (steps_in R.steps c 1) kind p
+  pub as_put : (c : Id) (r : Record) → record_of R.records c ≡ Some r → is_standing r.phase ≡ true
+      → is_restoring r.phase ≡ false
+      → (kind : HoldKind) (p : List ℕ) → is_point_kind kind ≡ true
+      → has_hold R.holds c kind p ≡ put_by (steps_in R.steps c 1) kind p
   pub undone : (c : Id) (r : Record) → record_of R.records c ≡ Some r → is_restoring r.phase ≡ true
-      → (p : List ℕ) → has_hold R.holds c HeldOpen p ≡ true → Undoes (held_at R.holds c p) (still_to_do R.steps c p)
-  pub nowhere_else : (c : Id) (r : Record) → record_of R.records c ≡ Some r → is_restoring r.phase ≡ true
-      → All (λ row. has_hold R.holds c HeldOpen row.step.point ≡ true) (steps_left_of (steps_in R.steps c 2))
+      → (p : List ℕ) → has_hold R.holds c HeldOpen p ≡ true
+      → Undoes (held_at R.holds c p) (still_to_do R.steps c p)
+  pub nowhere_else : (c : Id) (r : Record) → record_of R.records c ≡ Some r
+      → is_restoring r.phase ≡ true
+      → All (λ row. has_hold R.holds c HeldOpen row.step.point
+      ≡ true) (steps_left_of (steps_in R.steps c 2))
 
 -- RESTORING RECORDS HAVE A SECOND ROUND
 abbrev pub RestoringHaveSecondRound : Register → Type 0
-RestoringHaveSecondRound R = (c : Id) (r : Record) → record_of R.records c ≡ Some r → is_restoring r.phase ≡ true
+RestoringHaveSecondRound R =
+    (c : Id) (r : Record) → record_of R.records c ≡ Some r → is_restoring r.phase ≡ true
     → is_some_step (steps_in R.steps c 2) ≡ true
 
 -- whether a name is that of an operator
 abbrev pub is_operators : Register → List ℕ → Bool
 is_operators R name = has_role is_operator (employee R.staff name)
 
--- SWITCH ORDERS ARE OPERATORS': a record has no work section exactly where its requester is an operator; such a record is Switching or
--- Closed, and only such a one is Switching
+-- SWITCH ORDERS ARE OPERATORS': a record has no work section exactly where its requester is an
+-- operator; such a record is Switching or Closed, and only such a one is Switching
 pub record SwitchOrdersAreOperators (R : Register) : Type 0 where
-  pub without_work : (c : Id) (r : Record) → record_of R.records c ≡ Some r → is_switch_order r ≡ is_operators R c.requester
-  pub phases : (c : Id) (r : Record) → record_of R.records c ≡ Some r → is_switch_order r ≡ true → (is_in_switching r.phase || is_closed r.phase) ≡ true
-  pub switching : (c : Id) (r : Record) → record_of R.records c ≡ Some r → is_in_switching r.phase ≡ true → is_switch_order r ≡ true
+  pub without_work : (c : Id) (r : Record) → record_of R.records c ≡ Some r
+      → is_switch_order r ≡ is_operators R c.requester
+  pub phases : (c : Id) (r : Record) → record_of R.records c ≡ Some r → is_switch_order r ≡ true
+      → (is_in_switching r.phase || is_closed r.phase) ≡ true
+  pub switching : (c : Id) (r : Record) → record_of R.records c ≡ Some r
+      → is_in_switching r.phase ≡ true → is_switch_order r ≡ true
 
--- THE NETWORK HAS NO POSITIONS: each row of a point is Opened, since where the point stands is in its state
+-- THE NETWORK HAS NO POSITIONS: each row of a point is Opened, since where the point stands is in
+-- its state
 abbrev pub NetworkIsUnplaced : Register → Type 0
 NetworkIsUnplaced R = unplaced_net R.net ≡ R.net
 
--- POINTS ARE THOSE OF THE NETWORK: each point has a state, no other name has one, and each step is at a point
+-- POINTS ARE THOSE OF THE NETWORK: each point has a state, no other name has one, and each step is
+-- at a point
 pub record PointsAreKnown (R : Register) : Type 0 where
   pub states : map state_key R.states ≡ point_names (Grid.points R.net)
-  pub steps : All (λ row. IsTrue (has_name (point_names (Grid.points R.net)) row.step.point)) R.steps
+  pub steps : All
+      (λ row. IsTrue (has_name (point_names (Grid.points R.net)) row.step.point)) R.steps
 
 -- LISTS ARE IN KEY ORDER, one row a key
 pub record ListsAreInOrder (R : Register) : Type 0 where

@@ -1,5 +1,6 @@
 -- The kinds of holds: where they stand, and their two orders.
-use Rattle.std.specs.Prelude.{◌≡◌, ℕ, Bool, true, false, List, [], ◌∷◌, codes, find, refl, Option, Some}
+use Rattle.std.specs.Prelude.{◌≡◌, ℕ, Bool, true, false, List, [], ◌∷◌, codes, find, refl, Option}
+use Rattle.std.specs.Prelude.{Some}
 use Rattle.std.specs.Option.{unwrap_or}
 use Rattle.std.specs.Str.{bytes_eq}
 use Rattle.std.specs.Cmp.{IsTotalOrder}
@@ -11,7 +12,8 @@ use Rattle.std.proofs.lemmas.Cmp.{on_total, nat_list_cmp_total, nat_cmp_total}
 use Rattle.clr_net.specs.Name.{name_cmp}
 use Rattle.clr_shelf.proofs.Keys.{same_text}
 use Rattle.clr_rules.specs.declared.hold_kind.HoldKind.{HoldKind}
-use Rattle.clr_rules.specs.declared.hold_kind.HoldKind.TheVariants.{HeldOpen, Block, Control, Tag, Tested, Ground, Crew}
+use Rattle.clr_rules.specs.declared.hold_kind.HoldKind.TheVariants.{HeldOpen, Block, Control, Tag}
+use Rattle.clr_rules.specs.declared.hold_kind.HoldKind.TheVariants.{Tested, Ground, Crew}
 
 -- the kinds that stand at switching points, and keep them from being closed
 abbrev pub is_point_kind : HoldKind → Bool
@@ -66,7 +68,8 @@ hold_kind_text Tested = codes "Tested"
 hold_kind_text Ground = codes "Ground"
 hold_kind_text Crew = codes "Crew"
 
--- THE ORDER OF THEIR TEXTS (Block, Control, Crew, Ground, HeldOpen, Tag, Tested): keys, in lists, tables and edits
+-- THE ORDER OF THEIR TEXTS (Block, Control, Crew, Ground, HeldOpen, Tag, Tested): keys, in lists,
+-- tables and edits
 abbrev pub kind_text_cmp : HoldKind → HoldKind → Ordering
 kind_text_cmp a b = name_cmp (hold_kind_text a) (hold_kind_text b)
 
@@ -96,4 +99,6 @@ named_by_text Crew = refl
 -- kinds that tie are one
 pub same_kind_text : (a b : HoldKind) → kind_text_cmp a b ≡ Equal → a ≡ b
 same_kind_text a b ties =
-    ap (λ o. unwrap_or o a) (sym (named_by_text a) ∙ ap hold_kind_named (same_text (hold_kind_text a) (hold_kind_text b) ties) ∙ named_by_text b)
+    ap (λ o. unwrap_or o a) (sym (named_by_text a)
+    ∙ ap hold_kind_named (same_text (hold_kind_text a) (hold_kind_text b) ties)
+    ∙ named_by_text b)

@@ -1,5 +1,7 @@
--- The holds: what stands at points and sections for a clearance, and which crews are signed on to it.
-use Rattle.std.specs.Prelude.{ℕ, Bool, false, not, ◌&&◌, ◌||◌, if◌then◌else◌, List, [], ◌∷◌, ◌++◌, filter, map, Option, None, Some}
+-- The holds: what stands at points and sections for a clearance, and which crews are signed on to
+-- it.
+use Rattle.std.specs.Prelude.{ℕ, Bool, false, not, ◌&&◌, ◌||◌, if◌then◌else◌, List, [], ◌∷◌, ◌++◌}
+use Rattle.std.specs.Prelude.{filter, map, Option, None, Some}
 use Rattle.std.specs.List.{list_any, fold}
 use Rattle.std.specs.Option.{is_some}
 use Rattle.std.specs.Ordering.{is_eq, is_lt, ordering_then}
@@ -8,7 +10,8 @@ use Rattle.clr_order.specs.declared.held.Held.{Held}
 use Rattle.clr_shelf.specs.Rows.{row_of}
 use Rattle.clr_rules.specs.Id.{Id, id_cmp, same_id}
 use Rattle.clr_rules.specs.Hold.{hold_cmp}
-use Rattle.clr_rules.specs.HoldKind.{all_hold_kinds, is_crew, is_point_kind, is_section_kind, kind_cmp}
+use Rattle.clr_rules.specs.HoldKind.{all_hold_kinds, is_crew, is_point_kind, is_section_kind}
+use Rattle.clr_rules.specs.HoldKind.{kind_cmp}
 use Rattle.clr_rules.specs.declared.hold.Hold.{Hold}
 use Rattle.clr_rules.specs.declared.hold_kind.HoldKind.{HoldKind}
 use Rattle.clr_rules.specs.declared.hold_kind.HoldKind.TheVariants.{HeldOpen, Block, Control, Tag}
@@ -37,7 +40,8 @@ same_kind a b = is_eq (kind_cmp a b)
 
 -- the places where a clearance has holds of a kind, in the order of names
 unfoldable pub places_of : List Hold → Id → HoldKind → List (List ℕ)
-places_of holds c kind = map (λ h. h.place) (filter (λ h. same_id c h.id && same_kind kind h.kind) holds)
+places_of holds c kind =
+    map (λ h. h.place) (filter (λ h. same_id c h.id && same_kind kind h.kind) holds)
 
 -- whether a clearance has a hold of this kind anywhere
 unfoldable pub has_some_hold : List Hold → Id → HoldKind → Bool
@@ -47,11 +51,15 @@ has_some_hold holds c kind = list_any (λ h. same_id c h.id && same_kind kind h.
 unfoldable pub has_any_hold : List Hold → Id → Bool
 has_any_hold holds c = list_any (λ h. same_id c h.id) holds
 
--- a hold at a point that keeps a clearance from closing it: any but its own HeldOpen. 1910.269(m)(3)(xiii)
+-- a hold at a point that keeps a clearance from closing it: any but its own HeldOpen.
+-- 1910.269(m)(3)(xiii)
 abbrev pub hinders : Id → List ℕ → Hold → Bool
-hinders c p h = (is_point_kind h.kind && same_name p h.place) && not (same_id c h.id && same_kind HeldOpen h.kind)
+hinders c p h =
+    (is_point_kind h.kind && same_name p h.place)
+    && not (same_id c h.id && same_kind HeldOpen h.kind)
 
--- of two holds the first: that of the lesser clearance, then that of the first kind, in the kinds' own order
+-- of two holds the first: that of the lesser clearance, then that of the first kind, in the kinds'
+-- own order
 abbrev pub stands_before : Hold → Hold → Bool
 stands_before a b = is_lt (ordering_then (id_cmp a.id b.id) (kind_cmp a.kind b.kind))
 
@@ -74,18 +82,29 @@ first_of_each (p ∷ ps) = p ∷ filter (λ q. not (same_name p q)) (first_of_ea
 
 -- what a clearance has at a point that it holds open
 abbrev pub held_at : List Hold → Id → List ℕ → Held
-held_at holds c p = record { point = p; block = has_hold holds c Block p; control = has_hold holds c Control p; tag = has_hold holds c Tag p }
+held_at holds c p =
+    record {
+      point = p;
+      block = has_hold holds c Block p;
+      control = has_hold holds c Control p;
+      tag = has_hold holds c Tag p;
+    }
 
--- of these points those that a clearance holds open, in the order of their first appearance, with what it has there
+-- of these points those that a clearance holds open, in the order of their first appearance, with
+-- what it has there
 unfoldable pub held_among : List Hold → Id → List (List ℕ) → List Held
-held_among holds c points = map (held_at holds c) (filter (has_hold holds c HeldOpen) (first_of_each points))
+held_among holds c points =
+    map (held_at holds c) (filter (has_hold holds c HeldOpen) (first_of_each points))
 
--- which holds are near: at a point, at a section, and the crews of a clearance. Holds go by kind: a point and a section may have one name
+-- which holds are near: at a point, at a section, and the crews of a clearance. Holds go by kind: a
+-- point and a section may have one name
 abbrev pub is_near_hold : (List ℕ → Bool) → (List ℕ → Bool) → Option Id → Hold → Bool
 is_near_hold inside beside own h =
-    (is_point_kind h.kind && beside h.place) || ((is_section_kind h.kind && inside h.place) || (is_crew h.kind && is_own own h.id))
+    (is_point_kind h.kind && beside h.place)
+    || ((is_section_kind h.kind && inside h.place) || (is_crew h.kind && is_own own h.id))
 
--- the holds by kind, in the kinds' own order, those of a kind as they stand: by place, then by clearance
+-- the holds by kind, in the kinds' own order, those of a kind as they stand: by place, then by
+-- clearance
 abbrev pub of_kinds : List HoldKind → List Hold → List Hold
 of_kinds [] holds = []
 of_kinds (kind ∷ kinds) holds = filter (λ h. same_kind kind h.kind) holds ++ of_kinds kinds holds

@@ -1,5 +1,6 @@
 -- THE STATEMENTS OF ISOLATION. Each is proved, by a law in src/laws.
-use Rattle.std.specs.Prelude.{◌≡◌, ℕ, Bool, true, false, not, ◌||◌, IsTrue, List, [], ◌∷◌, map, filter, Some, Option, None}
+use Rattle.std.specs.Prelude.{◌≡◌, ℕ, Bool, true, false, not, ◌||◌, IsTrue, List, [], ◌∷◌, map}
+use Rattle.std.specs.Prelude.{filter, Some, Option, None}
 use Rattle.std.specs.List.{list_all}
 use Rattle.clr_net.specs.Fence.{FenceRows, fence_of, in_fence}
 use Rattle.clr_net.specs.Grid.{Grid, IsNetwork, section_names}
@@ -16,25 +17,34 @@ use Rattle.clr_rules.specs.Prelude.{Command, HeldOpen, Id, same_id, Register, po
 use Rattle.clr_rules.specs.Near.{near_of}
 use Rattle.clr_rules.specs.Register.{unplaced}
 use Rattle.clr_rules.specs.Run.{IsReached, after, after_all}
-use Rattle.clr_rules.specs.Shown.{Item, asked_row, covers, is_own_command, marks_of, own_answers, items_shown}
+use Rattle.clr_rules.specs.Shown.{Item, asked_row, covers, is_own_command, marks_of, own_answers}
+use Rattle.clr_rules.specs.Shown.{items_shown}
 
--- the sections of a set, and the points with an end in it, have the same rows in two networks, the points' positions aside
+-- the sections of a set, and the points with an end in it, have the same rows in two networks, the
+-- points' positions aside
 pub record SameRowsAt (inside : List ℕ → Bool) (g h : Grid) : Type 0 where
-  pub sections : filter (λ row. inside row.name) g.sections ≡ filter (λ row. inside row.name) h.sections
-  pub points : map unplaced (filter (touches inside) g.points) ≡ map unplaced (filter (touches inside) h.points)
+  pub sections : filter (λ row. inside row.name) g.sections
+      ≡ filter (λ row. inside row.name) h.sections
+  pub points : map unplaced (filter (touches inside) g.points)
+      ≡ map unplaced (filter (touches inside) h.points)
 
 -- LOCALITY: two networks that have the same rows at a fence of the first have the same fence
 abbrev pub Locality : Type 0
-Locality = (g h : Grid) → IsNetwork g → IsNetwork h → (work : List ℕ) (cut : List (List ℕ)) → IsTrue (has_name (section_names g.sections) work)
+Locality =
+    (g h : Grid) → IsNetwork g → IsNetwork h → (work : List ℕ) (cut : List (List ℕ))
+    → IsTrue (has_name (section_names g.sections) work)
     → SameRowsAt (in_fence g work cut) g h
     → FenceRows.sections (fence_of g work cut) ≡ FenceRows.sections (fence_of h work cut)
 
--- INDEPENDENCE: good registers with the same near part for a command give the same answer to it, the reply and the edits
+-- INDEPENDENCE: good registers with the same near part for a command give the same answer to it,
+-- the reply and the edits
 abbrev pub Independence : Type 0
-Independence = (R S : Register) (q : Command) → IsGood R → IsGood S → near_of R q ≡ near_of S q → answer R q ≡ answer S q
+Independence =
+    (R S : Register) (q : Command) → IsGood R → IsGood S → near_of R q ≡ near_of S q
+    → answer R q ≡ answer S q
 
--- whether a command that names this clearance, or none, is about another than c; a command that makes a new clearance of c's requester is so
--- while c has a record
+-- whether a command that names this clearance, or none, is about another than c; a command that
+-- makes a new clearance of c's requester is so while c has a record
 abbrev pub is_about_another : Id → Register → List ℕ → Option Id → Bool
 is_about_another c R caller (Some d) = not (same_id c d)
 is_about_another c R caller None = not (same_name c.requester caller) || has_record R.records c
@@ -42,64 +52,82 @@ is_about_another c R caller None = not (same_name c.requester caller) || has_rec
 abbrev pub is_others : Id → Register → Command → Bool
 is_others c R q = is_about_another c R q.caller (named_clearance q.kind)
 
--- FRAME: a command about another clearance leaves the record, the steps and the holds of a clearance as they are, clears no hand of it, and
--- closes no point that it holds open
+-- FRAME: a command about another clearance leaves the record, the steps and the holds of a
+-- clearance as they are, clears no hand of it, and closes no point that it holds open
 abbrev pub OthersSpare : Type 0
-OthersSpare = (R : Register) (c : Id) (q : Command) → IsGood R → is_others c R q ≡ true → Frame c R (after R q)
+OthersSpare =
+    (R : Register) (c : Id) (q : Command) → IsGood R → is_others c R q ≡ true
+    → Frame c R (after R q)
 
--- two good registers that agree near a clearance whose requester is no operator, on a set that covers the run of the first
-pub record AreAlike (c : Id) (inside : List ℕ → Bool) (R S : Register) (commands : List Command) : Type 0 where
+-- two good registers that agree near a clearance whose requester is no operator, on a set that
+-- covers the run of the first
+pub record AreAlike (c : Id) (inside : List ℕ
+    → Bool) (R S : Register) (commands : List Command) : Type 0 where
   pub first_good : IsGood R
   pub second_good : IsGood S
   pub no_operator : is_operators R c.requester ≡ false
   pub agree : Agree c inside R S
   pub covered : covers c inside R commands ≡ true
 
--- STEP, own commands: the same own command is answered alike in both, and they agree again. A request asks for the same row, or for
--- none, in both
+-- STEP, own commands: the same own command is answered alike in both, and they agree again. A
+-- request asks for the same row, or for none, in both
 abbrev pub OwnStep : Type 0
-OwnStep = (c : Id) (inside : List ℕ → Bool) (R S : Register) (q : Command) → AreAlike c inside R S (q ∷ [])
+OwnStep =
+    (c : Id) (inside : List ℕ → Bool) (R S : Register) (q : Command)
+    → AreAlike c inside R S (q ∷ [])
     → is_own_command c q ≡ true → asked_row R q.kind ≡ asked_row S q.kind
     → (answer R q ≡ answer S q) × Agree c inside (after R q) (after S q)
 
 -- STEP, other commands: they agree again after one on each side with the same marks
 abbrev pub OthersStep : Type 0
-OthersStep = (c : Id) (inside : List ℕ → Bool) (R S : Register) (q p : Command) → AreAlike c inside R S (q ∷ [])
+OthersStep =
+    (c : Id) (inside : List ℕ → Bool) (R S : Register) (q p : Command)
+    → AreAlike c inside R S (q ∷ [])
     → is_own_command c q ≡ false → is_own_command c p ≡ false
-    → marks_of R.net inside (Answer.edits (answer R q)) ≡ marks_of S.net inside (Answer.edits (answer S p))
+    → marks_of R.net inside (Answer.edits (answer R q))
+    ≡ marks_of S.net inside (Answer.edits (answer S p))
     → Agree c inside (after R q) (after S p)
 
 -- or after one on one side that leaves no marks
 abbrev pub LoneStep : Type 0
 LoneStep = (c : Id) (inside : List ℕ → Bool) (R S : Register) (q : Command)
     → is_own_command c q ≡ false
-    → (AreAlike c inside R S (q ∷ []) → marks_of R.net inside (Answer.edits (answer R q)) ≡ [] → Agree c inside (after R q) S)
-    × (AreAlike c inside R S [] → marks_of S.net inside (Answer.edits (answer S q)) ≡ [] → Agree c inside R (after S q))
+    → (AreAlike c inside R S (q ∷ []) → marks_of R.net inside (Answer.edits (answer R q)) ≡ []
+    → Agree c inside (after R q) S)
+    × (AreAlike c inside R S [] → marks_of S.net inside (Answer.edits (answer S q)) ≡ []
+    → Agree c inside R (after S q))
 
--- THE HEADLINE, FIRST HALF: two reached registers agree near a clearance on a set that covers the run of the first, and two lists of commands show
--- it the same own commands and marks. Then every reply about it and every change in its fence are equal, and the registers agree again
+-- THE HEADLINE, FIRST HALF: two reached registers agree near a clearance on a set that covers the
+-- run of the first, and two lists of commands show it the same own commands and marks. Then every
+-- reply about it and every change in its fence are equal, and the registers agree again
 abbrev pub SameShownSameAnswers : Type 0
-SameShownSameAnswers = (c : Id) (inside : List ℕ → Bool) (R S : Register) (commands others : List Command)
-    → IsReached R → IsReached S → is_operators R c.requester ≡ false → Agree c inside R S → covers c inside R commands ≡ true
+SameShownSameAnswers =
+    (c : Id) (inside : List ℕ → Bool) (R S : Register) (commands others : List Command)
+    → IsReached R → IsReached S → is_operators R c.requester ≡ false → Agree c inside R S
+    → covers c inside R commands ≡ true
     → items_shown c inside R commands ≡ items_shown c inside S others
-    → (own_answers c R commands ≡ own_answers c S others) × Agree c inside (after_all R commands) (after_all S others)
+    → (own_answers c R commands ≡ own_answers c S others)
+    × Agree c inside (after_all R commands) (after_all S others)
 
 -- the points that a clearance holds are open
 abbrev pub HeldStayOpen : Id → Register → Type 0
-HeldStayOpen c R = (p : List ℕ) → has_hold R.holds c HeldOpen p ≡ true → position_of R.states p ≡ Some Opened
+HeldStayOpen c R =
+    (p : List ℕ) → has_hold R.holds c HeldOpen p ≡ true → position_of R.states p ≡ Some Opened
 
--- THE HEADLINE, SECOND HALF: at each place of a run, no command about another clearance closes a point that a clearance holds, or takes
--- away its tags, grounds, order or record
+-- THE HEADLINE, SECOND HALF: at each place of a run, no command about another clearance closes a
+-- point that a clearance holds, or takes away its tags, grounds, order or record
 abbrev pub NothingIsTakenAway : Type 0
 NothingIsTakenAway = (R : Register) (commands : List Command) (c : Id) (q : Command) → IsReached R
     → is_others c (after_all R commands) q ≡ true
-    → Frame c (after_all R commands) (after (after_all R commands) q) × HeldStayOpen c (after (after_all R commands) q)
+    → Frame c (after_all R commands) (after (after_all R commands) q)
+    × HeldStayOpen c (after (after_all R commands) q)
 
 abbrev pub is_own_item : Item → Bool
 is_own_item (Item.own q row) = true
 is_own_item (Item.marks edit edits) = false
 
--- THE CONSEQUENCE: where no command of others marks the set, a clearance is answered as if its own commands stood alone
+-- THE CONSEQUENCE: where no command of others marks the set, a clearance is answered as if its own
+-- commands stood alone
 abbrev pub OwnCommandsAlone : Type 0
 OwnCommandsAlone = (c : Id) (inside : List ℕ → Bool) (R : Register) (commands : List Command)
     → IsReached R → is_operators R c.requester ≡ false → covers c inside R commands ≡ true

@@ -3,7 +3,8 @@ use Rattle.clr_rules.specs.Good.{IsGood}
 use Rattle.clr_rules.specs.Prelude.{Command, Register}
 use Rattle.clr_rules.specs.Run.{IsReached, after}
 
--- EVERY COMMAND KEEPS A GOOD REGISTER GOOD, whatever its kind, and whether it is accepted, shown or refused
+-- EVERY COMMAND KEEPS A GOOD REGISTER GOOD, whatever its kind, and whether it is accepted, shown or
+-- refused
 abbrev pub CommandsKeepGood : Type 0
 CommandsKeepGood = (R : Register) (q : Command) → IsGood R → IsGood (after R q)
 

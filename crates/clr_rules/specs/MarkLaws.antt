@@ -2,7 +2,8 @@
 use Rattle.std.specs.Prelude.{◌≡◌, ◌↔◌, ◌⊎◌, ℕ, Bool, IsTrue, List, Contains}
 use Rattle.clr_net.specs.Grid.{Grid}
 use Rattle.clr_net.specs.declared.point.PointRow.{PointRow}
-use Rattle.clr_rules.specs.Prelude.{Edit, SetPosition, SetHand, PutHold, TakeHold, PutRecord, PutStep, Hold, is_point_kind, is_section_kind}
+use Rattle.clr_rules.specs.Prelude.{Edit, SetPosition, SetHand, PutHold, TakeHold, PutRecord}
+use Rattle.clr_rules.specs.Prelude.{PutStep, Hold, is_point_kind, is_section_kind}
 use Rattle.clr_rules.specs.Shown.{is_mark}
 
 -- a point of this name has an end among these sections
@@ -14,7 +15,9 @@ pub record HasEndIn (g : Grid) (Among : List ℕ → Type 0) (point : List ℕ) 
 
 -- a hold that stands at such a section, or at such a point: holds go by kind
 abbrev pub StandsAmong : (List ℕ → Type 0) → (List ℕ → Type 0) → Hold → Type 0
-StandsAmong AtPoint AtSection h = (IsTrue (is_point_kind h.kind) × AtPoint h.place) ⊎ (IsTrue (is_section_kind h.kind) × AtSection h.place)
+StandsAmong AtPoint AtSection h =
+    (IsTrue (is_point_kind h.kind) × AtPoint h.place)
+    ⊎ (IsTrue (is_section_kind h.kind) × AtSection h.place)
 
 -- an edit concerns a point or a section of these
 abbrev pub IsEditAmong : (List ℕ → Type 0) → (List ℕ → Type 0) → Edit → Type 0
@@ -25,8 +28,9 @@ IsEditAmong AtPoint AtSection (TakeHold h) = StandsAmong AtPoint AtSection h
 IsEditAmong AtPoint AtSection (PutRecord r) = ⊥
 IsEditAmong AtPoint AtSection (PutStep row) = ⊥
 
--- a mark is an edit that concerns a section inside, or a point with an end inside. A record and a step are none, and neither is a crew,
--- which stands at no section and at no point
+-- a mark is an edit that concerns a section inside, or a point with an end inside. A record and a
+-- step are none, and neither is a crew, which stands at no section and at no point
 abbrev pub MarksConcernTheSet : Type 0
 MarksConcernTheSet = (g : Grid) (inside : List ℕ → Bool) (edit : Edit)
-    → IsTrue (is_mark g inside edit) ↔ IsEditAmong (HasEndIn g (λ s. IsTrue (inside s))) (λ s. IsTrue (inside s)) edit
+    → IsTrue (is_mark g inside edit)
+    ↔ IsEditAmong (HasEndIn g (λ s. IsTrue (inside s))) (λ s. IsTrue (inside s)) edit

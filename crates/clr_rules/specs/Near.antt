@@ -1,5 +1,7 @@
 -- THE NEAR PART: what a command looks at. It is a small register, made of rows of the whole one.
-use Rattle.std.specs.Prelude.{ℕ, Bool, false, ◌||◌, if◌then◌else◌, List, [], filter, Option, None, Some}
+use Rattle.std.specs.Prelude.{ℕ, Bool, false, ◌||◌, if◌then◌else◌, List, [], filter, Option, None}
+use Rattle.std.specs.Prelude.{Some}
+use Rattle.clr_net.specs.Grid.{Grid}
 use Rattle.clr_net.specs.Name.{same_name}
 use Rattle.clr_net.specs.Names.{has_name}
 use Rattle.clr_order.specs.Step.{task_points}
@@ -8,20 +10,33 @@ use Rattle.clr_rules.specs.Answer.{known_of}
 use Rattle.clr_rules.specs.Command.{named_clearance}
 use Rattle.clr_rules.specs.Fences.{touching_names}
 use Rattle.clr_rules.specs.Holds.{is_near_hold, is_own}
-use Rattle.clr_rules.specs.Prelude.{Command, Kind, Record, Id, Register, record_of, points_of, steps_of}
+use Rattle.clr_rules.specs.Prelude.{Command, Kind, Record, Id, Register, record_of, points_of}
+use Rattle.clr_rules.specs.Prelude.{steps_of}
 use Rattle.clr_rules.specs.Records.{is_switch_order}
 use Rattle.clr_rules.specs.declared.command.Kind.TheVariants.{Request, Switch}
 
--- a part of a register: the staff; the rows of the listed sections; the rows, positions and hands of the points; the holds at these
--- points and at the sections inside; of the clearance, if one is meant, its record, its steps and its crews
-abbrev pub part : Register → (List ℕ → Bool) → (List ℕ → Bool) → (List ℕ → Bool) → Option Id → Register
-part R listed inside beside own = record {
-  net = record { sections = filter (λ row. listed row.name) R.net.sections; points = filter (λ p. beside p.name) R.net.points };
+-- what a part takes of a register: the sections whose rows it has, those whose holds it has, the
+-- points, and a clearance, if one is meant
+pub record Extent : Type 0 where
+  pub sections : List ℕ → Bool
+  pub holds_at : List ℕ → Bool
+  pub points : List ℕ → Bool
+  pub clearance : Option Id
+
+-- THE PART OF A REGISTER: the staff; the rows of the sections; the rows, positions and hands of the
+-- points; the holds at these points, and at the sections whose holds it has; of the clearance its
+-- record, its steps and its crews
+abbrev pub part : Register → Extent → Register
+part R of = record {
+  net = record {
+    sections = filter (λ row. of.sections row.name) R.net.sections;
+    points = filter (λ p. of.points p.name) R.net.points;
+  };
   staff = R.staff;
-  states = filter (λ state. beside state.point) R.states;
-  records = filter (λ r. is_own own r.id) R.records;
-  steps = filter (λ row. is_own own row.id) R.steps;
-  holds = filter (is_near_hold inside beside own) R.holds;
+  states = filter (λ state. of.points state.point) R.states;
+  records = filter (λ r. is_own of.clearance r.id) R.records;
+  steps = filter (λ row. is_own of.clearance row.id) R.steps;
+  holds = filter (is_near_hold of.holds_at of.points of.clearance) R.holds;
 }
 
 -- the points of a record that is a switch order
@@ -43,15 +58,29 @@ abbrev pub is_asked : Kind → List ℕ → Bool
 is_asked (Request section) s = same_name section s
 is_asked kind s = false
 
+-- whether a point touches these sections
+abbrev pub touches_fence : Grid → (List ℕ → Bool) → List ℕ → Bool
+touches_fence g inside p = has_name (touching_names g inside) p
+
 -- the points near a command: those that touch the fence, and those of the switch order
 abbrev pub is_beside : Register → Known → Kind → List ℕ → Bool
-is_beside R k kind p = has_name (touching_names R.net (has_name k.fence)) p || has_name (switched_points R kind) p
+is_beside R k kind p =
+    touches_fence R.net (has_name k.fence) p || has_name (switched_points R kind) p
+
+-- what is near a command: the sections of the fence, with their holds; the section that a request
+-- asks for; the points that touch the fence, and those of the switch order; and the clearance that
+-- is named
+abbrev pub extent_of : Register → Known → Kind → Extent
+extent_of R k kind = record {
+  sections = λ s. has_name k.fence s || is_asked kind s;
+  holds_at = has_name k.fence;
+  points = is_beside R k kind;
+  clearance = named_clearance kind;
+}
 
 -- the near part, read as a register
 abbrev pub near_part : Register → Command → Register
-near_part R q =
-    let k = known_of R q in
-    part R (λ s. has_name k.fence s || is_asked q.kind s) (has_name k.fence) (is_beside R k q.kind) (named_clearance q.kind)
+near_part R q = part R (extent_of R (known_of R q) q.kind)
 
 -- THE NEAR PART OF A REGISTER FOR A COMMAND: what is known beside the rows, and the rows
 pub record Near : Type 0 where

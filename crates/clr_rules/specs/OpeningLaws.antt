@@ -8,4 +8,5 @@ use Rattle.clr_rules.specs.Register.{opening}
 
 -- the opening register of a network and a staff is good
 abbrev pub OpeningRegistersAreGood : Type 0
-OpeningRegistersAreGood = (g : Grid) (staff : List StaffRow) → IsNetwork g → IsStaff staff → IsGood (opening g staff)
+OpeningRegistersAreGood =
+    (g : Grid) (staff : List StaffRow) → IsNetwork g → IsStaff staff → IsGood (opening g staff)

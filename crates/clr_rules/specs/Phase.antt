@@ -1,7 +1,8 @@
 -- The texts of phases.
 use Rattle.std.specs.Prelude.{ℕ, List, [], ◌∷◌, codes, find, Option}
 use Rattle.std.specs.Str.{bytes_eq}
-use Rattle.clr_rules.specs.Prelude.{Phase, Requested, Ordered, Granted, Released, Restoring, Switching, Closed}
+use Rattle.clr_rules.specs.Prelude.{Phase, Requested, Ordered, Granted, Released, Restoring}
+use Rattle.clr_rules.specs.Prelude.{Switching, Closed}
 
 abbrev pub phase_text : Phase → List ℕ
 phase_text Requested = codes "Requested"

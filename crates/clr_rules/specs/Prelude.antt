@@ -1,13 +1,17 @@
 -- The names that most proofs take: the rows, their keys and readings, and the edits.
 pub use Rattle.clr_rules.specs.declared.change.Edit.{Edit}
-pub use Rattle.clr_rules.specs.declared.change.Edit.TheVariants.{SetPosition, SetHand, PutHold, TakeHold, PutRecord, PutStep}
+pub use Rattle.clr_rules.specs.declared.change.Edit.TheVariants.{SetPosition, SetHand, PutHold}
+pub use Rattle.clr_rules.specs.declared.change.Edit.TheVariants.{TakeHold, PutRecord, PutStep}
 pub use Rattle.clr_rules.specs.declared.command.Command.{Command}
 pub use Rattle.clr_rules.specs.declared.command.Kind.{Kind}
 pub use Rattle.clr_rules.specs.declared.hold.Hold.{Hold}
 pub use Rattle.clr_rules.specs.declared.hold_kind.HoldKind.{HoldKind}
-pub use Rattle.clr_rules.specs.declared.hold_kind.HoldKind.TheVariants.{HeldOpen, Block, Control, Tag, Tested, Ground, Crew}
+pub use Rattle.clr_rules.specs.declared.hold_kind.HoldKind.TheVariants.{HeldOpen, Block, Control}
+pub use Rattle.clr_rules.specs.declared.hold_kind.HoldKind.TheVariants.{Tag, Tested, Ground, Crew}
 pub use Rattle.clr_rules.specs.declared.phase.Phase.{Phase}
-pub use Rattle.clr_rules.specs.declared.phase.Phase.TheVariants.{Requested, Ordered, Granted, Released, Restoring, Switching, Closed}
+pub use Rattle.clr_rules.specs.declared.phase.Phase.TheVariants.{Requested, Ordered, Granted}
+pub use Rattle.clr_rules.specs.declared.phase.Phase.TheVariants.{Released, Restoring, Switching}
+pub use Rattle.clr_rules.specs.declared.phase.Phase.TheVariants.{Closed}
 pub use Rattle.clr_rules.specs.declared.point_state.PointState.{PointState}
 pub use Rattle.clr_rules.specs.declared.record.Record.{Record}
 pub use Rattle.clr_rules.specs.declared.refusal.Refusal.{Refusal}
@@ -16,13 +20,17 @@ pub use Rattle.clr_rules.specs.declared.step_row.StepRow.{StepRow}
 pub use Rattle.clr_rules.specs.Id.{Id, id_cmp, id_cmp_total, same_id}
 pub use Rattle.clr_rules.specs.Register.{Register}
 pub use Rattle.clr_rules.specs.States.{hand_of, has_in_hand, position_of, state_key, state_of}
-unfoldable pub use Rattle.clr_rules.specs.Records.{greatest_number, record_key, record_of, is_running, is_standing}
+unfoldable pub use Rattle.clr_rules.specs.Records.{greatest_number, record_key, record_of}
+unfoldable pub use Rattle.clr_rules.specs.Records.{is_running, is_standing}
 unfoldable pub use Rattle.clr_rules.specs.Records.{is_granted, is_restoring, is_ordered}
 pub use Rattle.clr_rules.specs.StepKey.{step_key, step_key_cmp, step_key_cmp_total}
-unfoldable pub use Rattle.clr_rules.specs.Steps.{all_done, is_active, is_done, is_some_step, is_waiting, points_of}
-unfoldable pub use Rattle.clr_rules.specs.Steps.{present_steps, present_round, step_at, steps_in, steps_of, tasks_of}
+unfoldable pub use Rattle.clr_rules.specs.Steps.{all_done, is_active, is_done, is_some_step}
+unfoldable pub use Rattle.clr_rules.specs.Steps.{is_waiting, points_of}
+unfoldable pub use Rattle.clr_rules.specs.Steps.{present_steps, present_round, step_at, steps_in}
+unfoldable pub use Rattle.clr_rules.specs.Steps.{steps_of, tasks_of}
 pub use Rattle.clr_rules.specs.Hold.{hold_cmp, hold_cmp_total}
 pub use Rattle.clr_rules.specs.HoldKind.{is_crew, is_point_kind, is_section_kind}
-unfoldable pub use Rattle.clr_rules.specs.Holds.{has_any_hold, has_hold, has_some_hold, held_at, hold_key, hold_of}
+unfoldable pub use Rattle.clr_rules.specs.Holds.{has_any_hold, has_hold, has_some_hold, held_at}
+unfoldable pub use Rattle.clr_rules.specs.Holds.{hold_key, hold_of}
 unfoldable pub use Rattle.clr_rules.specs.Holds.{holds_of, first_of_each, places_of, same_kind}
 unfoldable pub use Rattle.clr_rules.specs.Edits.{after_edit, after_edits}

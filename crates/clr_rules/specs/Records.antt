@@ -1,11 +1,13 @@
 -- The records of clearances, and their numbers.
-use Rattle.std.specs.Prelude.{ℕ, Bool, true, false, nat_le, if◌then◌else◌, List, map, filter, Option, None, Some}
+use Rattle.std.specs.Prelude.{ℕ, Bool, true, false, nat_le, if◌then◌else◌, List, map, filter}
+use Rattle.std.specs.Prelude.{Option, None, Some}
 use Rattle.std.specs.List.{fold}
 use Rattle.clr_net.specs.Name.{same_name}
 use Rattle.clr_shelf.specs.Rows.{row_of}
 use Rattle.clr_rules.specs.Id.{Id, id_cmp}
 use Rattle.clr_rules.specs.declared.phase.Phase.{Phase}
-use Rattle.clr_rules.specs.declared.phase.Phase.TheVariants.{Requested, Ordered, Granted, Released, Restoring, Switching, Closed}
+use Rattle.clr_rules.specs.declared.phase.Phase.TheVariants.{Requested, Ordered, Granted, Released}
+use Rattle.clr_rules.specs.declared.phase.Phase.TheVariants.{Restoring, Switching, Closed}
 use Rattle.clr_rules.specs.declared.record.Record.{Record}
 
 abbrev pub record_key : Record → Id
@@ -16,7 +18,8 @@ record_of records c = row_of id_cmp record_key c records
 
 -- the numbers of a requester's clearances, in rising order
 abbrev pub numbers_of : List Record → List ℕ → List ℕ
-numbers_of records requester = map (λ r. r.id.number) (filter (λ r. same_name requester r.id.requester) records)
+numbers_of records requester =
+    map (λ r. r.id.number) (filter (λ r. same_name requester r.id.requester) records)
 
 abbrev pub greater_of : ℕ → ℕ → ℕ
 greater_of a b = if nat_le a b then b else a
@@ -40,7 +43,8 @@ is_running Restoring = true
 is_running Switching = true
 is_running _ = false
 
--- phases in which the fence of a work section is looked for; a switch order is in the midst of its steps too, and has no work section
+-- phases in which the fence of a work section is looked for; a switch order is in the midst of its
+-- steps too, and has no work section
 abbrev pub is_fenced : Phase → Bool
 is_fenced Requested = false
 is_fenced Closed = false

@@ -1,7 +1,19 @@
 -- Refusals and their numbers.
 use Rattle.std.specs.Prelude.{ℕ}
 use Rattle.clr_rules.specs.declared.refusal.Refusal.{Refusal}
-use Rattle.clr_rules.specs.declared.refusal.Refusal.TheVariants.{UnknownCaller, WrongRole, UnknownSection, TooManyClearances, UnknownClearance, NotHolder, Earlier, WrongPhase, EmptyOrder, LongOrder, PointTwice, SourceInside, NotOnFence, StepsWrong, UnknownPoint, NoStep, OutOfTurn, StepState, InHand, Held, RepeatDiffers, WrongReporter, StepsLeft, OutsideFence, NotTested, Grounded, NotGrounded, CrewsOn, CrewState, BadTransfer, NotAttested}
+use Rattle.clr_rules.specs.declared.refusal.Refusal.TheVariants.{UnknownCaller, WrongRole}
+use Rattle.clr_rules.specs.declared.refusal.Refusal.TheVariants.{UnknownSection, TooManyClearances}
+use Rattle.clr_rules.specs.declared.refusal.Refusal.TheVariants.{UnknownClearance, NotHolder}
+use Rattle.clr_rules.specs.declared.refusal.Refusal.TheVariants.{Earlier, WrongPhase, EmptyOrder}
+use Rattle.clr_rules.specs.declared.refusal.Refusal.TheVariants.{LongOrder, PointTwice}
+use Rattle.clr_rules.specs.declared.refusal.Refusal.TheVariants.{SourceInside, NotOnFence}
+use Rattle.clr_rules.specs.declared.refusal.Refusal.TheVariants.{StepsWrong, UnknownPoint, NoStep}
+use Rattle.clr_rules.specs.declared.refusal.Refusal.TheVariants.{OutOfTurn, StepState, InHand, Held}
+use Rattle.clr_rules.specs.declared.refusal.Refusal.TheVariants.{RepeatDiffers, WrongReporter}
+use Rattle.clr_rules.specs.declared.refusal.Refusal.TheVariants.{StepsLeft, OutsideFence, NotTested}
+use Rattle.clr_rules.specs.declared.refusal.Refusal.TheVariants.{Grounded, NotGrounded, CrewsOn}
+use Rattle.clr_rules.specs.declared.refusal.Refusal.TheVariants.{CrewState, BadTransfer}
+use Rattle.clr_rules.specs.declared.refusal.Refusal.TheVariants.{NotAttested}
 
 abbrev pub number_of : Refusal → ℕ
 number_of UnknownCaller = 1

@@ -3,9 +3,12 @@ use Rattle.std.specs.Prelude.{Option, None, Some}
 use Rattle.clr_order.specs.declared.order_fault.OrderFault.{OrderFault}
 use Rattle.clr_order.specs.declared.order_fault.OrderFault.TheVariants as faults
 use Rattle.clr_rules.specs.declared.refusal.Refusal.{Refusal}
-use Rattle.clr_rules.specs.declared.refusal.Refusal.TheVariants.{EmptyOrder, LongOrder, PointTwice, SourceInside, NotOnFence, StepsWrong, UnknownPoint}
+use Rattle.clr_rules.specs.declared.refusal.Refusal.TheVariants.{EmptyOrder, LongOrder, PointTwice}
+use Rattle.clr_rules.specs.declared.refusal.Refusal.TheVariants.{SourceInside, NotOnFence}
+use Rattle.clr_rules.specs.declared.refusal.Refusal.TheVariants.{StepsWrong, UnknownPoint}
 
--- the refusal of a command whose order has this fault; out of memory is no refusal, and no check of an order names it
+-- the refusal of a command whose order has this fault; out of memory is no refusal, and no check of
+-- an order names it
 abbrev pub order_refusal : Option OrderFault → Option Refusal
 order_refusal None = None
 order_refusal (Some faults.EmptyOrder) = Some EmptyOrder

@@ -1,5 +1,5 @@
--- The register: the network, the staff, and what is written down of points, clearances, steps and holds. Each list stands in the
--- order of its keys, one row a key.
+-- The register: the network, the staff, and what is written down of points, clearances, steps and
+-- holds. Each list stands in the order of its keys, one row a key.
 use Rattle.std.specs.Prelude.{List, [], map, None}
 use Rattle.clr_net.specs.Grid.{Grid}
 use Rattle.clr_net.specs.declared.point.PointRow.{PointRow}
@@ -11,8 +11,8 @@ use Rattle.clr_rules.specs.declared.record.Record.{Record}
 use Rattle.clr_rules.specs.declared.step_row.StepRow.{StepRow}
 
 pub record Register : Type 0 where
-  -- a point's position is no part of the network: it stands in its state, and here each point is Opened, in an opening register and so in
-  -- each that is reached
+  -- a point's position is no part of the network: it stands in its state, and here each point is
+  -- Opened, in an opening register and so in each that is reached
   pub net : Grid
   pub staff : List StaffRow
   pub states : List PointState
@@ -33,4 +33,12 @@ first_state p = record { point = p.name; position = p.position; hand = None }
 
 -- THE OPENING REGISTER of a network and a staff: nothing is asked for, ordered or held
 abbrev pub opening : Grid → List StaffRow → Register
-opening g staff = record { net = unplaced_net g; staff = staff; states = map first_state g.points; records = []; steps = []; holds = [] }
+opening g staff =
+    record {
+      net = unplaced_net g;
+      staff = staff;
+      states = map first_state g.points;
+      records = [];
+      steps = [];
+      holds = [];
+    }

@@ -1,4 +1,5 @@
--- Runs as laws: what no command changes, one reply a command, and a run that goes on where another ended.
+-- Runs as laws: what no command changes, one reply a command, and a run that goes on where another
+-- ended.
 use Rattle.std.specs.Prelude.{◌≡◌, List, ◌++◌, length, map}
 use Rattle.clr_csv.specs.Staff.{IsStaff}
 use Rattle.clr_csv.specs.declared.employee.StaffRow.{StaffRow}
@@ -12,7 +13,8 @@ use Rattle.clr_rules.specs.Run.{IsReached, after_all, replies}
 abbrev pub ReachedListsAreInOrder : Type 0
 ReachedListsAreInOrder = (R : Register) → IsReached R → ListsAreInOrder R
 
--- a register has the network and the staff of the opening one, and a state for each point, and for no other name
+-- a register has the network and the staff of the opening one, and a state for each point, and for
+-- no other name
 pub record KeepsOpening (g : Grid) (staff : List StaffRow) (R : Register) : Type 0 where
   pub same_net : R.net ≡ unplaced_net g
   pub same_staff : R.staff ≡ staff
@@ -25,20 +27,24 @@ RunsKeepOpening = (g : Grid) (staff : List StaffRow) → IsNetwork g → (comman
 
 -- each command has one reply
 abbrev pub CommandsAreReplied : Type 0
-CommandsAreReplied = (R : Register) (commands : List Command) → length (replies R commands) ≡ length commands
+CommandsAreReplied =
+    (R : Register) (commands : List Command) → length (replies R commands) ≡ length commands
 
 -- a run goes on where another ended
 pub record GoesOn (R : Register) (earlier later : List Command) : Type 0 where
   pub register : after_all R (earlier ++ later) ≡ after_all (after_all R earlier) later
-  pub replied : replies R (earlier ++ later) ≡ replies R earlier ++ replies (after_all R earlier) later
+  pub replied : replies R (earlier ++ later)
+      ≡ replies R earlier ++ replies (after_all R earlier) later
 
 abbrev pub RunsGoOn : Type 0
 RunsGoOn = (R : Register) (earlier later : List Command) → GoesOn R earlier later
 
 -- the opening register of a network and a staff is reached, by a run of no commands
 abbrev pub OpeningRegistersAreReached : Type 0
-OpeningRegistersAreReached = (g : Grid) (staff : List StaffRow) → IsNetwork g → IsStaff staff → IsReached (opening g staff)
+OpeningRegistersAreReached =
+    (g : Grid) (staff : List StaffRow) → IsNetwork g → IsStaff staff → IsReached (opening g staff)
 
 -- what a run makes of a reached register is reached
 abbrev pub ReachedGoOn : Type 0
-ReachedGoOn = (R : Register) → IsReached R → (commands : List Command) → IsReached (after_all R commands)
+ReachedGoOn =
+    (R : Register) → IsReached R → (commands : List Command) → IsReached (after_all R commands)

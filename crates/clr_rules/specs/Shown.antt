@@ -1,5 +1,6 @@
 -- WHAT A RUN SHOWS A CLEARANCE: its own commands, and the marks that others leave in its fence.
-use Rattle.std.specs.Prelude.{ℕ, Bool, false, ◌&&◌, if◌then◌else◌, List, [], ◌∷◌, filter, find, Option, None, Some}
+use Rattle.std.specs.Prelude.{ℕ, Bool, false, ◌&&◌, if◌then◌else◌, List, [], ◌∷◌, filter, find}
+use Rattle.std.specs.Prelude.{Option, None, Some}
 use Rattle.std.specs.List.{list_all}
 use Rattle.clr_net.specs.Grid.{Grid}
 use Rattle.clr_net.specs.Name.{same_name}
@@ -9,7 +10,9 @@ use Rattle.clr_rules.specs.Answer.{Answer, answer}
 use Rattle.clr_rules.specs.Command.{named_clearance}
 use Rattle.clr_rules.specs.Fences.{clearance_fence, order_fence, touching_names}
 use Rattle.clr_rules.specs.Holds.{is_near_hold}
-use Rattle.clr_rules.specs.Prelude.{Edit, SetPosition, SetHand, PutHold, TakeHold, PutRecord, PutStep, Command, Kind, Record, Id, same_id, Register, record_of}
+use Rattle.clr_rules.specs.Prelude.{Edit, SetPosition, SetHand, PutHold, TakeHold, PutRecord}
+use Rattle.clr_rules.specs.Prelude.{PutStep, Command, Kind, Record, Id, same_id, Register}
+use Rattle.clr_rules.specs.Prelude.{record_of}
 use Rattle.clr_rules.specs.Records.{is_requested}
 use Rattle.clr_rules.specs.Run.{after}
 use Rattle.clr_rules.specs.declared.command.Kind.TheVariants.{Request, Order}
@@ -27,7 +30,8 @@ is_own_kind c caller kind None = is_request_of c.requester caller kind
 abbrev pub is_own_command : Id → Command → Bool
 is_own_command c q = is_own_kind c q.caller q.kind (named_clearance q.kind)
 
--- an edit is a mark where it concerns a section inside, or a point with an end inside. A record, a step and a crew are none
+-- an edit is a mark where it concerns a section inside, or a point with an end inside. A record, a
+-- step and a crew are none
 abbrev pub is_mark : Grid → (List ℕ → Bool) → Edit → Bool
 is_mark g inside (SetPosition point position) = has_name (touching_names g inside) point
 is_mark g inside (SetHand point hand) = has_name (touching_names g inside) point
@@ -44,7 +48,8 @@ abbrev pub asked_row : Register → Kind → Option SectionRow
 asked_row R (Request section) = find (λ row. same_name section row.name) (Grid.sections R.net)
 asked_row R kind = None
 
--- what is shown: an own command, with the row that it asks for; or the marks of another command, at least one
+-- what is shown: an own command, with the row that it asks for; or the marks of another command, at
+-- least one
 pub data Item : Type 0 where
   own : Command → Option SectionRow → Item
   marks : Edit → List Edit → Item
@@ -62,13 +67,15 @@ shown_first c inside R q items =
 -- WHAT A RUN SHOWS
 unfoldable pub items_shown : Id → (List ℕ → Bool) → Register → List Command → List Item
 items_shown c inside R [] = []
-items_shown c inside R (q ∷ commands) = shown_first c inside R q (items_shown c inside (after R q) commands)
+items_shown c inside R (q ∷ commands) =
+    shown_first c inside R q (items_shown c inside (after R q) commands)
 
 -- the answers to its own commands
 unfoldable pub own_answers : Id → Register → List Command → List Answer
 own_answers c R [] = []
 own_answers c R (q ∷ commands) =
-    if is_own_command c q then answer R q ∷ own_answers c (after R q) commands else own_answers c (after R q) commands
+    if is_own_command c q then answer R q ∷ own_answers c (after R q) commands
+    else own_answers c (after R q) commands
 
 abbrev pub found_phase_requested : Option Record → Bool
 found_phase_requested None = false
@@ -77,14 +84,17 @@ found_phase_requested (Some r) = is_requested r.phase
 -- the fence that a command would make for a clearance: that of an order of it while it is Requested
 abbrev pub fence_to_come : Id → Register → Kind → List (List ℕ)
 fence_to_come c R (Order d points tasks) =
-    if same_id c d && found_phase_requested (record_of R.records c) then order_fence R c points else []
+    if same_id c d && found_phase_requested (record_of R.records c) then order_fence R c points
+    else []
 fence_to_come c R kind = []
 
 abbrev pub includes : (List ℕ → Bool) → List (List ℕ) → Bool
 includes inside names = list_all inside names
 
--- A SET COVERS A RUN: at each place it includes the clearance's fence, and the fence that an order of it would make
+-- A SET COVERS A RUN: at each place it includes the clearance's fence, and the fence that an order
+-- of it would make
 unfoldable pub covers : Id → (List ℕ → Bool) → Register → List Command → Bool
 covers c inside R [] = includes inside (clearance_fence R c)
 covers c inside R (q ∷ commands) =
-    (includes inside (clearance_fence R c) && includes inside (fence_to_come c R q.kind)) && covers c inside (after R q) commands
+    (includes inside (clearance_fence R c) && includes inside (fence_to_come c R q.kind))
+    && covers c inside (after R q) commands

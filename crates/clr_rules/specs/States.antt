@@ -20,7 +20,8 @@ abbrev pub hand_in : Option PointState → Option Id
 hand_in None = None
 hand_in (Some state) = state.hand
 
--- the clearance that has a point in hand: one of its steps there was given out, and is not reported yet
+-- the clearance that has a point in hand: one of its steps there was given out, and is not reported
+-- yet
 abbrev pub hand_of : List PointState → List ℕ → Option Id
 hand_of states p = hand_in (state_of states p)
 
@@ -33,7 +34,8 @@ abbrev pub has_in_hand : List PointState → Id → List ℕ → Bool
 has_in_hand states c p = is_hand c (hand_of states p)
 
 -- not reached without a state: each point of a step has one
-abbrev pub changed_state : Option PointState → (PointState → PointState) → List PointState → List PointState
+abbrev pub changed_state : Option PointState → (PointState → PointState) → List PointState
+    → List PointState
 changed_state None change states = states
 changed_state (Some state) change states = with_row name_cmp state_key (change state) states
 

@@ -1,4 +1,5 @@
--- The key of a step row: the clearance, the round, the place in the round. Its order is that of these in turn.
+-- The key of a step row: the clearance, the round, the place in the round. Its order is that of
+-- these in turn.
 use Rattle.std.specs.Prelude.{◌≡◌}
 use Rattle.std.specs.Cmp.{IsTotalOrder}
 use Rattle.std.specs.Ordering.{nat_cmp, ordering_then}
@@ -14,12 +15,15 @@ abbrev pub step_key : StepRow → StepKey
 step_key row = record { id = row.id; round = row.round; ordinal = row.ordinal }
 
 abbrev pub step_key_cmp : StepKey → StepKey → Ordering
-step_key_cmp a b = ordering_then (id_cmp a.id b.id) (ordering_then (nat_cmp a.round b.round) (nat_cmp a.ordinal b.ordinal))
+step_key_cmp a b =
+    ordering_then (id_cmp a.id b.id)
+    (ordering_then (nat_cmp a.round b.round) (nat_cmp a.ordinal b.ordinal))
 
 pub step_key_cmp_total : IsTotalOrder step_key_cmp
 step_key_cmp_total =
     then_total (on_total (λ (k : StepKey). k.id) id_cmp_total)
-    (then_total (on_total (λ (k : StepKey). k.round) nat_cmp_total) (on_total (λ (k : StepKey). k.ordinal) nat_cmp_total))
+    (then_total (on_total (λ (k : StepKey). k.round) nat_cmp_total)
+    (on_total (λ (k : StepKey). k.ordinal) nat_cmp_total))
 
 -- keys that tie are one
 pub same_step_key : (a b : StepKey) → step_key_cmp a b ≡ Equal → a ≡ b

@@ -1,5 +1,7 @@
--- The steps of a clearance, round by round: the first round isolates, or switches; the second restores.
-use Rattle.std.specs.Prelude.{ℕ, Bool, true, false, not, ◌&&◌, ◌||◌, ◌==◌, nat_lt, if◌then◌else◌, List, length, map, filter, find, Option}
+-- The steps of a clearance, round by round: the first round isolates, or switches; the second
+-- restores.
+use Rattle.std.specs.Prelude.{ℕ, Bool, true, false, not, ◌&&◌, ◌||◌, ◌==◌, nat_lt, if◌then◌else◌}
+use Rattle.std.specs.Prelude.{List, length, map, filter, find, Option}
 use Rattle.std.specs.List.{list_any, list_all}
 use Rattle.clr_order.specs.Step.{Task, task, task_points}
 use Rattle.clr_order.specs.declared.action.Action.{Action}
@@ -54,10 +56,13 @@ is_some_step rows = nat_lt 0 (length rows)
 
 -- THE PRESENT ROUND: the second where there is one, else the first; 0 without steps in either
 abbrev pub present_round : List StepRow → Id → ℕ
-present_round steps c = if is_some_step (steps_in steps c 2) then 2 else if is_some_step (steps_in steps c 1) then 1 else 0
+present_round steps c =
+    if is_some_step (steps_in steps c 2) then 2 else if is_some_step (steps_in steps c 1) then 1
+    else 0
 
 abbrev pub present_steps : List StepRow → Id → List StepRow
-present_steps steps c = if is_some_step (steps_in steps c 2) then steps_in steps c 2 else steps_in steps c 1
+present_steps steps c =
+    if is_some_step (steps_in steps c 2) then steps_in steps c 2 else steps_in steps c 1
 
 -- the step of a number, from 1
 abbrev pub step_at : List StepRow → ℕ → Option StepRow

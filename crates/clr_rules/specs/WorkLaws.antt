@@ -1,4 +1,5 @@
--- What work on a line rests on, as laws of good registers: it is dead, it is grounded, and the points around it are held.
+-- What work on a line rests on, as laws of good registers: it is dead, it is grounded, and the
+-- points around it are held.
 use Rattle.std.specs.Prelude.{◌≡◌, ℕ, true, false, List, Contains, Some}
 use Rattle.clr_net.specs.Grid.{Grid}
 use Rattle.clr_net.specs.Names.{has_name}
@@ -7,40 +8,56 @@ use Rattle.clr_net.specs.declared.point.Position.TheVariants.{Opened}
 use Rattle.clr_net.specs.declared.section.SectionRow.{SectionRow}
 use Rattle.clr_rules.specs.Fences.{clearance_fence}
 use Rattle.clr_rules.specs.Good.{IsFullyHeld, IsGood}
-use Rattle.clr_rules.specs.Prelude.{Command, Ground, Crew, Record, Id, Register, position_of, record_of, is_granted, points_of, steps_in, has_hold}
+use Rattle.clr_rules.specs.Prelude.{Command, Ground, Crew, Record, Id, Register, position_of}
+use Rattle.clr_rules.specs.Prelude.{record_of, is_granted, points_of, steps_in, has_hold}
 use Rattle.clr_rules.specs.Live.{is_live}
 use Rattle.clr_rules.specs.LiveLaws.{ClosedWalk}
 use Rattle.clr_rules.specs.Run.{after}
 
 -- while a clearance is granted, no section of its fence is live
 abbrev pub GrantedFencesStayDead : Type 0
-GrantedFencesStayDead = (R : Register) → IsGood R → (c : Id) (r : Record) → record_of R.records c ≡ Some r → is_granted r.phase ≡ true
+GrantedFencesStayDead =
+    (R : Register) → IsGood R → (c : Id) (r : Record) → record_of R.records c ≡ Some r
+    → is_granted r.phase ≡ true
     → (s : List ℕ) → has_name (clearance_fence R c) s ≡ true → is_live R.net R.states s ≡ false
 
 -- and its work section is one of these
 abbrev pub GrantedWorkIsDead : Type 0
-GrantedWorkIsDead = (R : Register) → IsGood R → (c : Id) (r : Record) → record_of R.records c ≡ Some r → is_granted r.phase ≡ true
-    → (work : List ℕ) → r.work ≡ Some work → (has_name (clearance_fence R c) work ≡ true) × (is_live R.net R.states work ≡ false)
+GrantedWorkIsDead =
+    (R : Register) → IsGood R → (c : Id) (r : Record) → record_of R.records c ≡ Some r
+    → is_granted r.phase ≡ true
+    → (work : List ℕ) → r.work ≡ Some work
+    → (has_name (clearance_fence R c) work ≡ true) × (is_live R.net R.states work ≡ false)
 
 -- no section that bears a ground is live
 abbrev pub GroundedSectionsAreDead : Type 0
-GroundedSectionsAreDead = (R : Register) → IsGood R → (c : Id) (s : List ℕ) → has_hold R.holds c Ground s ≡ true → is_live R.net R.states s ≡ false
+GroundedSectionsAreDead =
+    (R : Register) → IsGood R → (c : Id) (s : List ℕ) → has_hold R.holds c Ground s ≡ true
+    → is_live R.net R.states s ≡ false
 
--- NO COMMAND FEEDS A GROUND: after each command, a report of a closing too, no section that bears a ground is live
+-- NO COMMAND FEEDS A GROUND: after each command, a report of a closing too, no section that bears a
+-- ground is live
 abbrev pub ClosingsFeedNoGround : Type 0
-ClosingsFeedNoGround = (R : Register) (q : Command) → IsGood R → (c : Id) (s : List ℕ) → has_hold (Register.holds (after R q)) c Ground s ≡ true
+ClosingsFeedNoGround =
+    (R : Register) (q : Command) → IsGood R → (c : Id) (s : List ℕ)
+    → has_hold (Register.holds (after R q)) c Ground s ≡ true
     → is_live (Register.net (after R q)) (Register.states (after R q)) s ≡ false
 
 -- in other words: closed points lead from no source to a ground
 abbrev pub NoSourceFeedsGrounds : Type 0
-NoSourceFeedsGrounds = (R : Register) → IsGood R → (c : Id) (s : List ℕ) → has_hold R.holds c Ground s ≡ true
-    → (source : SectionRow) → Contains (Grid.sections R.net) source → source.source ≡ true → ClosedWalk (Grid.points R.net) R.states source.name s → ⊥
+NoSourceFeedsGrounds =
+    (R : Register) → IsGood R → (c : Id) (s : List ℕ) → has_hold R.holds c Ground s ≡ true
+    → (source : SectionRow) → Contains (Grid.sections R.net) source → source.source ≡ true
+    → ClosedWalk (Grid.points R.net) R.states source.name s → ⊥
 
--- a point that was opened for a granted clearance is open, held open and tagged, blocked where it can be locked, and controlled where it
--- is controlled from afar
+-- a point that was opened for a granted clearance is open, held open and tagged, blocked where it
+-- can be locked, and controlled where it is controlled from afar
 abbrev pub GrantedPointsBearAllHolds : Type 0
-GrantedPointsBearAllHolds = (R : Register) → IsGood R → (c : Id) (r : Record) → record_of R.records c ≡ Some r → is_granted r.phase ≡ true
-    → (point : PointRow) → Contains (Grid.points R.net) point → has_name (points_of (steps_in R.steps c 1)) point.name ≡ true
+GrantedPointsBearAllHolds =
+    (R : Register) → IsGood R → (c : Id) (r : Record) → record_of R.records c ≡ Some r
+    → is_granted r.phase ≡ true
+    → (point : PointRow) → Contains (Grid.points R.net) point
+    → has_name (points_of (steps_in R.steps c 1)) point.name ≡ true
     → (position_of R.states point.name ≡ Some Opened) × IsFullyHeld R.holds c point
 
 -- where a crew is on, the clearance is granted, and its work section is grounded for it and dead
@@ -54,4 +71,6 @@ pub record IsSafeWork (R : Register) (c : Id) : Type 0 where
   pub dead : is_live R.net R.states work ≡ false
 
 abbrev pub CrewsWorkSafely : Type 0
-CrewsWorkSafely = (R : Register) → IsGood R → (c : Id) (crew : List ℕ) → has_hold R.holds c Crew crew ≡ true → IsSafeWork R c
+CrewsWorkSafely =
+    (R : Register) → IsGood R → (c : Id) (crew : List ℕ) → has_hold R.holds c Crew crew ≡ true
+    → IsSafeWork R c

@@ -6,10 +6,11 @@ use crate::record::Record;
 use crate::step_row::StepRow;
 use clr_net::{Name, Position};
 
-/// One edit of the register's rows. To put a row is to replace the row of its key; all other rows stay.
+/// One edit of the register's rows. To put a row is to replace the row of its key; all other rows
+/// stay.
 ///
-/// The kinds of edits stand in this order in a change, and those of a kind in the order of their keys; putting and
-/// taking a hold are one kind.
+/// The kinds of edits stand in this order in a change, and those of a kind in the order of their
+/// keys; putting and taking a hold are one kind.
 #[derive(Clone, Copy, Debug, PartialEq, Eq)]
 pub enum Edit {
     SetPosition {

@@ -5,7 +5,8 @@ ghost use Rattle.std.specs.List.{after_first, before_first, list_all};
 ghost use Rattle.std.specs.Ordering.{as_partial_cmp};
 ghost use Rattle.std.specs.Char.{is_ascii_digit};
 ghost use Rattle.std.specs.Fmt.{padded};
-ghost use Rattle.clr_rules.specs.Id.{Id, id_cmp, id_cmp_total, id_text, is_id, new_id, same_id, same_id_equiv, same_id_ties};
+ghost use Rattle.clr_rules.specs.Id.{Id, id_cmp, id_cmp_total, id_text, is_id, new_id, same_id};
+ghost use Rattle.clr_rules.specs.Id.{same_id_equiv, same_id_ties};
 ghost use Rattle.clr_rules.specs.IdText.{is_numeral, is_slash, read_id, read_number};
 
 use clr_net::Name;
@@ -32,11 +33,13 @@ pub enum IdFault {
     NoMemory,
 }
 
-/// The name of a clearance, as `JONES/1`: who asked for it, and which of the asker's clearances it is.
+/// The name of a clearance, as `JONES/1`: who asked for it, and which of the asker's clearances it
+/// is.
 ///
-/// Switch orders are named in the same way by their operator. A transfer does not change the name. Clearances stand in
-/// the order of their requesters' names, those of one requester in the order of their numbers. One employee in charge
-/// for each clearance comes from 29 CFR 1910.269(m)(2)(i); numbers counted for each requester are the project's own.
+/// Switch orders are named in the same way by their operator. A transfer does not change the name.
+/// Clearances stand in the order of their requesters' names, those of one requester in the order of
+/// their numbers. One employee in charge for each clearance comes from 29 CFR 1910.269(m)(2)(i);
+/// numbers counted for each requester are the project's own.
 #[derive(Clone, Copy)]
 pub struct ClearanceId {
     requester: Name,
@@ -107,7 +110,8 @@ fn read_id(text: &str) -> Option<ClearanceId>
     }
 }
 
-/// What stands before the first slash and what stands after it; where there is none, the text and nothing.
+/// What stands before the first slash and what stands after it; where there is none, the text and
+/// nothing.
 fn halves(text: &str) -> (&str, &str)
     ensures name { result.0.now ≡ before_first is_slash text.now }
     ensures digits { result.1.now ≡ after_first is_slash text.now }
@@ -134,7 +138,8 @@ fn is_numeral(text: &[u8]) -> bool
     }
 }
 
-/// The number of a text of one to four digits, the first not 0: how a clearance's number is written.
+/// The number of a text of one to four digits, the first not 0: how a clearance's number is
+/// written.
 pub fn read_number(text: &str) -> Option<u16>
     ensures { result ≡ read_number text.now }
 {
@@ -161,7 +166,8 @@ impl Eq for ClearanceId {
 impl PartialOrd for ClearanceId {
     ghost partial_cmp = { as_partial_cmp id_cmp };
 
-    ghost laws = { partial_order_from_agreeing_total id_cmp id_cmp_total (λ x y. refl) same_id_ties };
+    ghost laws = { partial_order_from_agreeing_total id_cmp id_cmp_total
+        (λ x y. refl) same_id_ties };
 
     fn partial_cmp(&self, other: &ClearanceId) -> Option<Ordering> {
         Some(self.cmp(other))

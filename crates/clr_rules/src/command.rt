@@ -81,7 +81,8 @@ pub enum Kind {
         clearance: ClearanceId,
         crew: Name,
     },
-    /// The clearance goes to another holder; in an emergency the holder's supervisor may say so: (m)(3)(ix).
+    /// The clearance goes to another holder; in an emergency the holder's supervisor may say so:
+    /// (m)(3)(ix).
     Transfer {
         clearance: ClearanceId,
         to: Name,
@@ -120,7 +121,8 @@ pub enum Kind {
 }
 
 impl Kind {
-    /// The clearance that the command names. A request and a switch order make a new one and name none.
+    /// The clearance that the command names. A request and a switch order make a new one and name
+    /// none.
     pub fn clearance(&self) -> Option<ClearanceId>
         ensures { result ≡ named_clearance self.now }
     {

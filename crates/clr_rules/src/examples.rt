@@ -1,5 +1,5 @@
-//! Worked examples: what the definitions give on a small network, answer by answer. The contract of each function is its
-//! examples, and its body is empty.
+//! Worked examples: what the definitions give on a small network, answer by answer. The contract of
+//! each function is its examples, and its body is empty.
 pub mod changes;
 pub mod first_checks;
 pub mod isolation;

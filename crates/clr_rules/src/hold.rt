@@ -7,8 +7,8 @@ use std::cmp::Ordering;
 
 /// What a clearance holds at a place. It holds one of a kind at a place.
 ///
-/// It is its own key: holds stand in the order of their kinds' texts, then the place, then the clearance. Its group is
-/// where it stands.
+/// It is its own key: holds stand in the order of their kinds' texts, then the place, then the
+/// clearance. Its group is where it stands.
 #[derive(Clone, Copy, Debug, PartialEq, Eq)]
 pub struct Hold {
     pub kind: HoldKind,
@@ -57,7 +57,9 @@ impl HoldGroup {
 }
 
 impl Row for Hold {
-    ghost use Rattle.clr_rules.specs.Hold.{hold_cmp, hold_cmp_total, hold_group, hold_group_cmp, hold_group_cmp_total, in_hold_group, is_in_hold_group, same_hold};
+    ghost use Rattle.clr_rules.specs.Hold.{hold_cmp, hold_cmp_total, hold_group, hold_group_cmp};
+    ghost use Rattle.clr_rules.specs.Hold.{hold_group_cmp_total, in_hold_group, is_in_hold_group};
+    ghost use Rattle.clr_rules.specs.Hold.{same_hold};
 
     type Key = Hold;
 

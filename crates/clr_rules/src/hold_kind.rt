@@ -1,15 +1,17 @@
 //! The kinds of holds, their texts and their two orders.
 ghost use Rattle.std.specs.Prelude.{◌≡◌, Some};
 ghost use Rattle.std.specs.Fmt.{padded};
-ghost use Rattle.clr_rules.specs.HoldKind.{hold_kind_named, hold_kind_text, is_crew, is_point_kind, is_section_kind, kind_cmp, kind_place, kind_text_cmp};
+ghost use Rattle.clr_rules.specs.HoldKind.{hold_kind_named, hold_kind_text, is_crew, is_point_kind};
+ghost use Rattle.clr_rules.specs.HoldKind.{is_section_kind, kind_cmp, kind_place, kind_text_cmp};
 
 use std::cmp::Ordering;
 use std::fmt;
 
 /// What a clearance may hold, and where.
 ///
-/// The kinds have two orders, and so no `<`. Their own, in which they are declared here, is that of views and of the
-/// refusal that names a hold. That of their texts is that of keys: Block, Control, Crew, Ground, HeldOpen, Tag, Tested.
+/// The kinds have two orders, and so no `<`. Their own, in which they are declared here, is that of
+/// views and of the refusal that names a hold. That of their texts is that of keys: Block, Control,
+/// Crew, Ground, HeldOpen, Tag, Tested.
 #[derive(Clone, Copy, Debug, PartialEq, Eq)]
 pub enum HoldKind {
     /// A switching point stands open for the clearance: 29 CFR 1910.269(m)(3)(ii).

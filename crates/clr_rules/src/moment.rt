@@ -7,7 +7,8 @@ use std::marker::Model;
 /// The last moment, 2099-12-31T23:59:59Z.
 pub const MAX_MOMENT: u64 = 4102444799;
 
-/// A moment, in whole seconds since 1970-01-01T00:00:00Z and up to the end of 2099. A command states its own.
+/// A moment, in whole seconds since 1970-01-01T00:00:00Z and up to the end of 2099. A command
+/// states its own.
 #[derive(Clone, Copy, Debug, PartialEq, Eq, PartialOrd, Ord)]
 pub struct Moment {
     seconds: u64,

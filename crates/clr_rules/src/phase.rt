@@ -2,15 +2,19 @@
 ghost use Rattle.std.specs.Prelude.{◌≡◌, Some};
 ghost use Rattle.std.specs.Fmt.{padded};
 ghost use Rattle.clr_rules.specs.Phase.{phase_named, phase_text};
-ghost use Rattle.clr_rules.specs.Records.{ends_with_steps, is_cancellable, is_fenced, is_granted, is_ordered, is_released, is_requested, is_restoring, is_running, is_transferable};
+ghost use Rattle.clr_rules.specs.Records.{ends_with_steps, is_cancellable, is_fenced, is_granted};
+ghost use Rattle.clr_rules.specs.Records.{is_ordered, is_released, is_requested, is_restoring};
+ghost use Rattle.clr_rules.specs.Records.{is_running, is_transferable};
 
 use std::fmt;
 
 /// Where a clearance stands in its life.
 ///
-/// A clearance on a work section goes from `Requested` to `Ordered`, `Granted`, `Released`, `Restoring` and `Closed`,
-/// the steps of 29 CFR 1910.269(m)(3) in their order; one that is cancelled goes from `Ordered` to `Released`, or at
-/// once to `Closed` where it holds nothing, as one that is cancelled while it is `Requested` does. A switch order is `Switching` until it is `Closed`.
+/// A clearance on a work section goes from `Requested` to `Ordered`, `Granted`, `Released`,
+/// `Restoring` and `Closed`, the steps of 29 CFR 1910.269(m)(3) in their order; one that is
+/// cancelled goes from `Ordered` to `Released`, or at once to `Closed` where it holds nothing, as
+/// one that is cancelled while it is `Requested` does. A switch order is `Switching` until it is
+/// `Closed`.
 #[derive(Clone, Copy, Debug, PartialEq, Eq)]
 pub enum Phase {
     /// The employee in charge has asked for the section: (m)(3)(i).

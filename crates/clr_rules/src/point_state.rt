@@ -16,8 +16,8 @@ use std::cmp::Ordering;
 pub struct PointState {
     pub point: Name,
     pub position: Position,
-    /// The clearance of which a step at this point is instructed or repeated and not yet reported. While it has the
-    /// point in hand no other is instructed there: the project's own.
+    /// The clearance of which a step at this point is instructed or repeated and not yet reported.
+    /// While it has the point in hand no other is instructed there: the project's own.
     pub hand: Option<ClearanceId>,
 }
 

@@ -8,7 +8,8 @@ use clr_net::Name;
 
 /// Why a command is refused. A refusal changes nothing.
 ///
-/// Their numbers count from 1. Which of them a command asks about, and in which order, is said with the command.
+/// Their numbers count from 1. Which of them a command asks about, and in which order, is said with
+/// the command.
 #[derive(Clone, Copy, Debug, PartialEq, Eq)]
 pub enum Refusal {
     /// The caller is not in the staff.
@@ -21,8 +22,8 @@ pub enum Refusal {
     TooManyClearances,
     /// The register has no record of this clearance.
     UnknownClearance,
-    /// The caller is not the holder: 29 CFR 1910.269(m)(3)(ix) to (xi). A transfer that is named an emergency is open to
-    /// the holder's supervisor too.
+    /// The caller is not the holder: 29 CFR 1910.269(m)(3)(ix) to (xi). A transfer that is named an
+    /// emergency is open to the holder's supervisor too.
     NotHolder,
     /// The command's moment is before the record's last.
     Earlier,
@@ -34,12 +35,15 @@ pub enum Refusal {
     LongOrder,
     /// A point stands twice among the points.
     PointTwice,
-    /// A source lies inside the fence, of which this is the least in the order of names: (m)(3)(ii).
+    /// A source lies inside the fence, of which this is the least in the order of names:
+    /// (m)(3)(ii).
     SourceInside(Name),
-    /// The first of the points that is not on the border of the fence: it is unknown, elsewhere or inside.
+    /// The first of the points that is not on the border of the fence: it is unknown, elsewhere or
+    /// inside.
     NotOnFence(Name),
-    /// The first point whose steps are not those that it has to have, else the point of the first step elsewhere; of a
-    /// switch order the point of the first step that neither opens nor closes: (m)(3)(ii), (iii), (xii), (xiii).
+    /// The first point whose steps are not those that it has to have, else the point of the first
+    /// step elsewhere; of a switch order the point of the first step that neither opens nor closes:
+    /// (m)(3)(ii), (iii), (xii), (xiii).
     StepsWrong(Name),
     /// The point of the first step whose point the network lacks, in a switch order alone.
     UnknownPoint(Name),
@@ -47,13 +51,13 @@ pub enum Refusal {
     NoStep,
     /// An earlier step of the round is not done: (m)(2)(i).
     OutOfTurn,
-    /// The step is not in the state that the command asks for, a cancel finds one given out and not yet
-    /// reported, or the step to amend is no Close.
+    /// The step is not in the state that the command asks for, a cancel finds one given out and not
+    /// yet reported, or the step to amend is no Close.
     StepState,
     /// Another clearance has the point in hand: this one.
     InHand(ClearanceId),
-    /// The point is to be closed, and bears a hold that forbids it: (m)(3)(v), (xiii). The least clearance, then the
-    /// first kind in the kinds' own order.
+    /// The point is to be closed, and bears a hold that forbids it: (m)(3)(v), (xiii). The least
+    /// clearance, then the first kind in the kinds' own order.
     Held(ClearanceId, HoldKind),
     /// The text is not the step's.
     RepeatDiffers,
@@ -69,7 +73,8 @@ pub enum Refusal {
     Grounded,
     /// The clearance's ground does not stand there: (m)(3)(vii), (viii).
     NotGrounded,
-    /// A crew is signed on: (m)(3)(x), (xi). A ground may be taken all the same, but not that of the work section.
+    /// A crew is signed on: (m)(3)(x), (xi). A ground may be taken all the same, but not that of
+    /// the work section.
     CrewsOn,
     /// The crew is on already, or is not on.
     CrewState,

@@ -36,10 +36,11 @@ pub struct View {
     pub card: Card,
     /// The crews that are signed on, by name.
     pub crews: Names,
-    /// The sections of the fence, by name. A requested or closed record and a switch order have none.
+    /// The sections of the fence, by name. A requested or closed record and a switch order have
+    /// none.
     pub fence: Names,
-    /// The holds of any clearance at the fence's sections and at the points that touch it, in the order of the kinds
-    /// themselves, then the place, then the clearance.
+    /// The holds of any clearance at the fence's sections and at the points that touch it, in the
+    /// order of the kinds themselves, then the place, then the clearance.
     pub holds: Holds,
     /// The points that touch the fence, by name.
     pub points: PointStates,

@@ -7,7 +7,8 @@ use clr_order::{Step, StepState};
 use clr_shelf::Row;
 use std::cmp::Ordering;
 
-/// What tells step rows apart. Keys stand in the order of the clearance, then the round, then the ordinal.
+/// What tells step rows apart. Keys stand in the order of the clearance, then the round, then the
+/// ordinal.
 #[derive(Clone, Copy, Debug, PartialEq, Eq)]
 pub struct StepKey {
     pub id: ClearanceId,
@@ -23,7 +24,8 @@ pub struct StepRow {
     pub id: ClearanceId,
     /// 1 for isolating steps and those of a switch order, 2 for restoring steps.
     pub round: u8,
-    /// The step's place in its round, counted from 1. Steps are done in this order: 29 CFR 1910.269(m)(2)(i).
+    /// The step's place in its round, counted from 1. Steps are done in this order: 29 CFR
+    /// 1910.269(m)(2)(i).
     pub ordinal: u16,
     pub step: Step,
 }
@@ -63,7 +65,8 @@ impl StepRow {
 }
 
 impl Row for StepRow {
-    ghost use Rattle.clr_rules.specs.StepKey.{same_step_key, step_key, step_key_cmp, step_key_cmp_total};
+    ghost use Rattle.clr_rules.specs.StepKey.{same_step_key, step_key, step_key_cmp};
+    ghost use Rattle.clr_rules.specs.StepKey.{step_key_cmp_total};
     ghost use Rattle.clr_rules.specs.Id.{id_cmp, id_cmp_total, same_id, same_id_ties_back};
 
     type Key = StepKey;

@@ -5,8 +5,8 @@ ghost use Rattle.clr_order.specs.Step.{task};
 use clr_order::Step;
 use std::marker::Model;
 
-/// The steps of an order as a command states them: what each does, and where. How far they have come, and who read
-/// them, is no part of it.
+/// The steps of an order as a command states them: what each does, and where. How far they have
+/// come, and who read them, is no part of it.
 #[derive(Debug, Drop)]
 pub struct Tasks {
     steps: Vec<Step>,

@@ -8,7 +8,8 @@ use crate::row::Row;
 use crate::shelf::Shelf;
 use std::alloc::{AllocError, Global};
 
-/// Rows in a `Vec`, in key order. A key is looked up by halves, and a group by a walk over all rows.
+/// Rows in a `Vec`, in key order. A key is looked up by halves, and a group by a walk over all
+/// rows.
 #[derive(Drop)]
 pub struct ListShelf<R: Row> {
     list: Vec<R>,

@@ -12,7 +12,8 @@ pub trait Row: Drop {
     /// What tells rows apart, as a record of fields of the row. Keys are in a total order.
     type Key: Drop;
 
-    /// What gathers the rows that are asked for together. It follows from the key. Groups are in a total order.
+    /// What gathers the rows that are asked for together. It follows from the key. Groups are in a
+    /// total order.
     type Group: Drop;
 
     ghost key_of: { Self → Self.Key };
@@ -52,5 +53,6 @@ pub trait Row: Drop {
     ghost group_order: { IsTotalOrder group_cmp };
 
     // A row is in the group of its key.
-    ghost in_one_group: { (group : Self.Group) (row : Self) → is_in group row ≡ is_eq (group_cmp (group_of (key_of row)) group) };
+    ghost in_one_group: { (group : Self.Group) (row : Self)
+        → is_in group row ≡ is_eq (group_cmp (group_of (key_of row)) group) };
 }

@@ -1,5 +1,7 @@
 //! Shelves: finite maps from a key to its row.
-ghost use Rattle.std.specs.Prelude.{◌≡◌, ℕ, ◌+◌, ◌<◌, ◌≤◌, List, [], Option, Some, length, map, filter, slice_get, IsTrue, IsOk, OnOk, OnErr, IfOk, OnSome, IfNone, option_copied};
+ghost use Rattle.std.specs.Prelude.{◌≡◌, ℕ, ◌+◌, ◌<◌, ◌≤◌, List, [], Option, Some, length, map};
+ghost use Rattle.std.specs.Prelude.{filter, slice_get, IsTrue, IsOk, OnOk, OnErr, IfOk, OnSome};
+ghost use Rattle.std.specs.Prelude.{IfNone, option_copied};
 ghost use Rattle.std.specs.List.{last_or};
 ghost use Rattle.std.specs.List.Sorted.{IsPermutation};
 ghost use Rattle.clr_shelf.specs.Rows.{in_key_order, row_of, with_row, without_row};
@@ -37,11 +39,13 @@ pub trait Shelf<R: Row>: Drop {
 
     /// The rows of a group, in key order.
     fn group(&self, group: &R::Group) -> Result<Vec<&R>, AllocError>
-        ensures { IfOk result (λ found. map (λ row. row.now) found.items ≡ filter (R.is_in group.now) (rows self.now)) };
+        ensures { IfOk result (λ found. map (λ row. row.now) found.items
+            ≡ filter (R.is_in group.now) (rows self.now)) };
 
     /// The last row of a group in key order, if it has one.
     fn last(&self, group: &R::Group) -> Option<&R>
-        ensures { option_copied result ≡ last_or None (filter (R.is_in group.now) (rows self.now)) };
+        ensures { option_copied result
+            ≡ last_or None (filter (R.is_in group.now) (rows self.now)) };
 
     /// Makes room for `n` puts. It fails only where the room was less and memory is refused.
     fn reserve(&mut self, n: usize) -> Result<(), AllocError>
@@ -63,7 +67,8 @@ pub trait Shelf<R: Row>: Drop {
         ensures given { result ≡ row_of R.key_cmp R.key_of key.now (rows self.old) }
         ensures rows { rows self.new ≡ without_row R.key_cmp R.key_of key.now (rows self.old) }
         ensures room { OnSome result (room self.old + 1 ≤ room self.new) }
-        ensures missing { IfNone result ((room self.new ≡ room self.old) × (places self.new ≡ places self.old)) };
+        ensures missing { IfNone result ((room self.new ≡ room self.old)
+            × (places self.new ≡ places self.old)) };
 
     ghost in_order: { (shelf : Self) → IsTrue (in_key_order R.key_cmp R.key_of (rows shelf)) };
 

@@ -1,5 +1,6 @@
 //! A shelf over a list of rows by group and then key.
-ghost use Rattle.std.specs.Prelude.{◌≡◌, ◌-◌, ◌≤◌, true, false, length, map, filter, IsTrue, IfOk, IfErr, vec_len, vec_capacity};
+ghost use Rattle.std.specs.Prelude.{◌≡◌, ◌-◌, ◌≤◌, true, false, length, map, filter, IsTrue, IfOk};
+ghost use Rattle.std.specs.Prelude.{IfErr, vec_len, vec_capacity};
 ghost use Rattle.std.specs.List.Sorted.{IsPartitionPoint};
 ghost use Rattle.std.specs.Ordering.{is_lt, is_le};
 ghost use Rattle.clr_shelf.specs.ByKey.{rows_by_key, IsPermutation-rows_by_key};
@@ -18,15 +19,21 @@ use std::ops::Range;
 #[derive(Drop)]
 pub struct SortedShelf<R: Row> {
     list: Vec<R>,
-    ghost in_place: { IsTrue (in_key_order (place_cmp R.key_cmp R.group_of R.group_cmp) R.key_of list.items) },
-    ghost in_order: { IsTrue (in_key_order R.key_cmp R.key_of (rows_by_key R.key_cmp R.key_of list.items)) },
+    ghost in_place: { IsTrue (in_key_order
+        (place_cmp R.key_cmp R.group_of R.group_cmp) R.key_of list.items) },
+    ghost in_order: { IsTrue (in_key_order
+        R.key_cmp R.key_of (rows_by_key R.key_cmp R.key_of list.items)) },
 }
 
 impl<R: Row> SortedShelf<R> {
     // Where the row of a key stands, or where it would go.
     fn place_of(&self, key: &R::Key) -> Result<usize, usize>
-        ensures found { IfOk result (IsPlaceOf (place_cmp R.key_cmp R.group_of R.group_cmp) R.key_of key.now self.now.list.items) }
-        ensures absent { IfErr result (IsGapFor (place_cmp R.key_cmp R.group_of R.group_cmp) R.key_of key.now self.now.list.items) }
+        ensures found { IfOk result
+            (IsPlaceOf (place_cmp R.key_cmp R.group_of R.group_cmp) R.key_of key.now
+            self.now.list.items) }
+        ensures absent { IfErr result
+            (IsGapFor (place_cmp R.key_cmp R.group_of R.group_cmp) R.key_of key.now
+            self.now.list.items) }
     {
         let group = R::group_of(key);
         self.list
@@ -36,7 +43,10 @@ impl<R: Row> SortedShelf<R> {
     // Where the rows of a group begin, or would.
     fn start_of(&self, group: &R::Group) -> usize
         ensures in_range { result ≤ vec_len self.now.list }
-        ensures parts { IsPartitionPoint (λ row. is_lt (R.group_cmp (R.group_of (R.key_of row)) group.now) ≡ true) (λ row. is_lt (R.group_cmp (R.group_of (R.key_of row)) group.now) ≡ false) self.now.list.items result }
+        ensures parts { IsPartitionPoint
+            (λ row. is_lt (R.group_cmp (R.group_of (R.key_of row)) group.now)
+            ≡ true) (λ row. is_lt (R.group_cmp (R.group_of (R.key_of row)) group.now)
+            ≡ false) self.now.list.items result }
     {
         self.list
             .partition_point(|row| row.compare_group(group).is_lt())
@@ -45,7 +55,10 @@ impl<R: Row> SortedShelf<R> {
     // Where the rows of a group end, or would.
     fn end_of(&self, group: &R::Group) -> usize
         ensures in_range { result ≤ vec_len self.now.list }
-        ensures parts { IsPartitionPoint (λ row. is_le (R.group_cmp (R.group_of (R.key_of row)) group.now) ≡ true) (λ row. is_le (R.group_cmp (R.group_of (R.key_of row)) group.now) ≡ false) self.now.list.items result }
+        ensures parts { IsPartitionPoint
+            (λ row. is_le (R.group_cmp (R.group_of (R.key_of row)) group.now)
+            ≡ true) (λ row. is_le (R.group_cmp (R.group_of (R.key_of row)) group.now)
+            ≡ false) self.now.list.items result }
     {
         self.list
             .partition_point(|row| row.compare_group(group).is_le())

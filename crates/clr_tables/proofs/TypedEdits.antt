@@ -20,7 +20,7 @@ use Rattle.clr_shelf.proofs.Members.{member-row_of}
 use Rattle.clr_shelf.specs.Rows.{with_row, without_row}
 use Rattle.clr_rules.specs.Answer.{Answer, known_of, answer_by_checks}
 use Rattle.clr_rules.specs.Commands.{checks, edits_of}
-use Rattle.clr_rules.specs.Changes.{cancelled_phase, done_edits, hold_edits, step_moved, new_steps, phase_after, position_edits, put_steps, undone_edits}
+use Rattle.clr_rules.specs.Changes.{cancelled_phase, done_edits, step_moved, new_steps, phase_after, point_edits, put_steps, undone_edits}
 use Rattle.clr_rules.specs.Checks.{too_many_clearances, unsound_order}
 use Rattle.clr_rules.specs.EditLaws.{refusal_of}
 use Rattle.clr_rules.specs.Edits.{after_edit, after_edits}
@@ -228,7 +228,7 @@ module _ (R : Register) (typed : IsTyped R) (by : List ℕ) (at : ℕ) (caller :
   -- the edits of a step that is done
   done_typed : (switching : Bool) (d : Id) (a : Action) (p : List ℕ) (s : Record) (row : StepRow) → is_id d ≡ true → is_name p ≡ true
       → is_typed_record s ≡ true → is_typed_step row ≡ true
-      → AllTyped (position_edits a p ++ SetHand p None ∷ hold_edits switching d a p ++ PutRecord s ∷ PutStep row ∷ [])
+      → AllTyped (point_edits switching d a p ++ PutRecord s ∷ PutStep row ∷ [])
   done_typed true d actions.Open p s row id named h k = (tt, (refl, (h, (k, tt))))
   done_typed false d actions.Open p s row id named h k = (tt, (refl, (rw (named, id) refl, (h, (k, tt)))))
   done_typed switching d actions.Close p s row id named h k = (tt, (refl, (tt, (h, (k, tt)))))
@@ -266,9 +266,13 @@ module _ (R : Register) (typed : IsTyped R) (by : List ℕ) (at : ℕ) (caller :
 
   all_typed : (kind : Kind) → is_typed_kind kind ≡ true → Pass (checks (known_of R (asked by at kind)) R by at kind)
       → AllTyped (edits_of (known_of R (asked by at kind)).greatest R by at kind)
-  all_typed (kinds.Request section) is passed = (rw (next_id passed.1.1.1.0, caller, is, time) refl, tt)
-  all_typed (kinds.Order c points tasks) is passed = by_record AllTyped tt R c _ (λ r found.
-      let few = order_fits R _ points tasks passed.1.1.1.1.1.0 in
+  all_typed (kinds.Request section) is passed =
+      let (_, (_, (_, (number_passes, _)))) = passed in
+      (rw (next_id number_passes, caller, is, time) refl, tt)
+  all_typed (kinds.Order c points tasks) is passed =
+      let (_, (_, (_, (_, (_, (order_passes, _)))))) = passed in
+      by_record AllTyped tt R c _ (λ r found.
+      let few = order_fits R _ points tasks order_passes in
       let steps = (and_parts (list_all is_name points) (list_all is_typed_task tasks) (and_parts (is_id c) (list_all is_name points && list_all is_typed_task tasks) is).1).1 in
       (put_back c r Ordered found, new_typed c 1 1 tasks (named_typed c r found) refl (omega arith) steps))
   all_typed (kinds.Instruct c n) is passed = by_step AllTyped tt R c n _ (λ r row found step.
@@ -304,15 +308,18 @@ module _ (R : Register) (typed : IsTyped R) (by : List ℕ) (at : ℕ) (caller :
   all_typed (kinds.Release c notified clear) is passed = by_record AllTyped tt R c _ (λ r found.
       takes_typed c (places_of R.holds c Tested) _ (put_back c r Released found, tt))
   all_typed (kinds.Cancel c) is passed = by_record AllTyped tt R c _ (λ r found. (put_back c r (cancelled_phase R r) found, tt))
-  all_typed (kinds.Restore c tasks) is passed = by_record AllTyped tt R c _ (λ r found.
-      let few = (restoring_passed R c tasks passed.1.1.1.1.1.0).steps_fit in
+  all_typed (kinds.Restore c tasks) is passed =
+      let (_, (_, (_, (_, (_, (order_passes, _)))))) = passed in
+      by_record AllTyped tt R c _ (λ r found.
+      let few = (restoring_passed R c tasks order_passes).steps_fit in
       (put_back c r Restoring found, new_typed c 2 1 tasks (named_typed c r found) refl (omega arith) (and_parts (is_id c) (list_all is_typed_task tasks) is).1))
   all_typed (kinds.Amend c n) is passed = by_step AllTyped tt R c n _ (λ r row found step.
       let row_is = step_typed c n row step in
       (put_back c r r.phase found, (step_later actions.Leave row.step.state row.step.reader row row_is.reader row_is, tt)))
   all_typed (kinds.Switch tasks) is passed =
-      let id = next_id passed.1.1.0 in
-      let few = (switching_passed R tasks passed.1.1.1.0).steps_fit in
+      let (_, (_, (number_passes, (order_passes, _)))) = passed in
+      let id = next_id number_passes in
+      let few = (switching_passed R tasks order_passes).steps_fit in
       (rw (id, caller, time) refl, new_typed _ 1 1 tasks id refl (omega arith) is)
   all_typed (kinds.Show c) is passed = tt
 

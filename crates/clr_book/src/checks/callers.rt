@@ -1,6 +1,7 @@
 //! Checks of the caller.
 ghost use Rattle.std.specs.Prelude.{◌≡◌};
-ghost use Rattle.clr_rules.specs.Checks.{is_charge, is_charge_or_operator, is_field, is_operator, unknown_caller, wrong_role};
+ghost use Rattle.clr_rules.specs.Checks.{is_charge, is_charge_or_operator, is_field, is_operator};
+ghost use Rattle.clr_rules.specs.Checks.{unknown_caller, wrong_role};
 
 use crate::checks::refuse;
 use crate::near::Near;

@@ -1,8 +1,13 @@
 //! Checks of the clearance that is named.
 ghost use Rattle.std.specs.Prelude.{◌≡◌, ◌≤◌, IfSome, option_copied};
-ghost use Rattle.clr_rules.specs.Checks.{bad_transfer, earlier_moment, is_charge, is_in_charge, is_supervisor, may_not_transfer, not_holder, too_many_clearances, unknown_clearance, unknown_section, wrong_phase};
+ghost use Rattle.clr_rules.specs.Checks.{bad_transfer, earlier_moment, is_charge, is_in_charge};
+ghost use Rattle.clr_rules.specs.Checks.{is_supervisor, may_not_transfer, not_holder};
+ghost use Rattle.clr_rules.specs.Checks.{too_many_clearances, unknown_clearance, unknown_section};
+ghost use Rattle.clr_rules.specs.Checks.{wrong_phase};
 ghost use Rattle.clr_rules.specs.Checks.{employee};
-ghost use Rattle.clr_rules.specs.Records.{is_cancellable, is_granted, is_ordered, is_released, is_requested, is_restoring, is_running, is_transferable, record_of};
+ghost use Rattle.clr_rules.specs.Records.{is_cancellable, is_granted, is_ordered, is_released};
+ghost use Rattle.clr_rules.specs.Records.{is_requested, is_restoring, is_running, is_transferable};
+ghost use Rattle.clr_rules.specs.Records.{record_of};
 
 use crate::checks::refuse;
 use crate::checks::rows::find_row;
@@ -80,7 +85,8 @@ fn is_supervisor(near: &Near, of: Name, by: Name) -> bool
     }
 }
 
-/// Whether the caller is neither the employee in charge nor, in an emergency, that employee's supervisor.
+/// Whether the caller is neither the employee in charge nor, in an emergency, that employee's
+/// supervisor.
 pub(crate) fn may_not_transfer(
     near: &Near,
     id: ClearanceId,

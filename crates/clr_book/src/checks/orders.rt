@@ -22,13 +22,15 @@ use clr_rules::{ClearanceId, HoldKind, Refusal};
 use std::alloc::{AllocError, Global};
 use std::collections::BTreeSet;
 
-/// Why an order with these points and steps does not isolate the sections of the fence that it would make, if it does not.
+/// Why an order with these points and steps does not isolate the sections of the fence that it
+/// would make, if it does not.
 pub(crate) fn unsound_order(
     near: &Near,
     points: &[Name],
     steps: &[Step],
 ) -> Result<Option<Refusal>, AllocError>
-    ensures { IfOk result (λ refusal. refusal ≡ unsound_order near.now.rows near.now.known.fence points.now (map task steps.now)) }
+    ensures { IfOk result (λ refusal. refusal
+        ≡ unsound_order near.now.rows near.now.known.fence points.now (map task steps.now)) }
 {
     let sections = fence_sections(near.alloc, &near.sections, &near.fence)?;
     let touching = touching_points(near.alloc, &near.points, &near.fence)?;
@@ -43,7 +45,8 @@ fn fence_sections<'a>(
     fence: &[Name],
 ) -> Result<Vec<&'a SectionRow>, AllocError>
     requires { IsStrictlySortedBy name_cmp fence.now }
-    ensures { IfOk result (λ kept. map (λ row. row.now) kept.items ≡ filter (λ row. has_name fence.now row.name) (map (λ row. row.now) rows.now)) }
+    ensures { IfOk result (λ kept. map (λ row. row.now) kept.items
+        ≡ filter (λ row. has_name fence.now row.name) (map (λ row. row.now) rows.now)) }
 {
     let mut kept = Vec::new(alloc);
     for row in rows {
@@ -60,7 +63,8 @@ pub(crate) fn wrong_restoring(
     id: ClearanceId,
     steps: &[Step],
 ) -> Result<Option<Refusal>, AllocError>
-    ensures { IfOk result (λ refusal. refusal ≡ wrong_restoring near.now.rows id (map task steps.now)) }
+    ensures { IfOk result (λ refusal. refusal
+        ≡ wrong_restoring near.now.rows id (map task steps.now)) }
 {
     let points = first_points(near, id)?;
     let places = each_once(near.alloc, &points)?;
@@ -99,7 +103,9 @@ fn each_once(alloc: Global, names: &[Name]) -> Result<Vec<Name>, AllocError>
 
 /// What a clearance has at those of the points that it holds open.
 fn held_among(near: &Near, id: ClearanceId, points: &[Name]) -> Result<Vec<Held>, AllocError>
-    ensures { IfOk result (λ held. held.items ≡ map (held_at near.now.rows.holds id) (filter (has_hold near.now.rows.holds id HeldOpen) points.now)) }
+    ensures { IfOk result (λ held. held.items
+        ≡ map (held_at near.now.rows.holds id)
+        (filter (has_hold near.now.rows.holds id HeldOpen) points.now)) }
 {
     let mut held = Vec::new(near.alloc);
     for point in points {
@@ -139,7 +145,8 @@ fn refusal_of(told: Result<(), OrderFault>) -> Option<Refusal>
     }
 }
 
-/// The refusal of a command whose order has this fault. Want of memory is none, and no check of an order answers it.
+/// The refusal of a command whose order has this fault. Want of memory is none, and no check of an
+/// order answers it.
 fn order_refusal(fault: OrderFault) -> Option<Refusal>
     ensures { result ≡ order_refusal (Some fault) }
 {

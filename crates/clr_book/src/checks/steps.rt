@@ -1,9 +1,13 @@
 //! Checks of the step that is named.
 ghost use Rattle.std.specs.Prelude.{◌≡◌, IfOk, option_copied};
-ghost use Rattle.clr_rules.specs.Checks.{hold_hinders, in_hand, no_step, not_a_waiting_close, step_given_out, out_of_turn, repeat_differs, steps_left, wrong_reporter, wrong_state};
+ghost use Rattle.clr_rules.specs.Checks.{hold_hinders, in_hand, no_step, not_a_waiting_close};
+ghost use Rattle.clr_rules.specs.Checks.{step_given_out, out_of_turn, repeat_differs, steps_left};
+ghost use Rattle.clr_rules.specs.Checks.{wrong_reporter, wrong_state};
 ghost use Rattle.clr_rules.specs.Holds.{earlier_hold, hinders, hindering_hold, stands_before};
 ghost use Rattle.clr_rules.specs.States.{hand_of};
-ghost use Rattle.clr_rules.specs.Steps.{all_done, is_active, is_in_turn, is_repeated, is_some_step, is_waiting, present_steps, some_active, step_at, steps_in, steps_of};
+ghost use Rattle.clr_rules.specs.Steps.{all_done, is_active, is_in_turn, is_repeated, is_some_step};
+ghost use Rattle.clr_rules.specs.Steps.{is_waiting, present_steps, some_active, step_at, steps_in};
+ghost use Rattle.clr_rules.specs.Steps.{steps_of};
 
 use crate::checks::refuse;
 use crate::checks::rows::find_row;
@@ -197,7 +201,8 @@ fn hinders(hold: &Hold, id: ClearanceId, point: Name) -> bool
     stands_there && !holds_open
 }
 
-/// Whether a hold stands before another: by its clearance, then by its kind in the kinds' own order.
+/// Whether a hold stands before another: by its clearance, then by its kind in the kinds' own
+/// order.
 fn stands_before(hold: &Hold, other: &Hold) -> bool
     ensures { result ≡ stands_before hold.now other.now }
 {

@@ -1,6 +1,8 @@
 //! Checks of tests, grounds and crews.
 ghost use Rattle.std.specs.Prelude.{◌≡◌, IfOk};
-ghost use Rattle.clr_rules.specs.Checks.{at_work, crew_is_off, crew_is_on, crews_on, crews_on_work, any_ground, has_ground, not_attested, no_ground, not_tested, outside_fence};
+ghost use Rattle.clr_rules.specs.Checks.{at_work, crew_is_off, crew_is_on, crews_on, crews_on_work};
+ghost use Rattle.clr_rules.specs.Checks.{any_ground, has_ground, not_attested, no_ground};
+ghost use Rattle.clr_rules.specs.Checks.{not_tested, outside_fence};
 ghost use Rattle.clr_rules.specs.Holds.{has_any_hold, has_hold, has_some_hold, places_of};
 
 use crate::checks::clearances::record;

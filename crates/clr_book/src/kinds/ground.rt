@@ -46,7 +46,8 @@ pub(crate) fn effect(
     section: Name,
 ) -> Result<Effect, AllocError>
     requires { near_refusal near.now by at (kinds.Ground id section) ≡ None }
-    ensures edits { IfOk result (λ effect. near_edits near.now by at (kinds.Ground id section) ≡ edits_in effect) }
+    ensures edits { IfOk result (λ effect. near_edits near.now by at (kinds.Ground id section)
+        ≡ edits_in effect) }
     ensures of { IfOk result (IsOf id) }
 {
     let Some(found) = record(near, id) else {

@@ -47,7 +47,8 @@ pub(crate) fn effect(
     number: u16,
 ) -> Result<Effect, AllocError>
     requires { near_refusal near.now by at (kinds.Instruct id number) ≡ None }
-    ensures edits { IfOk result (λ effect. near_edits near.now by at (kinds.Instruct id number) ≡ edits_in effect) }
+    ensures edits { IfOk result (λ effect. near_edits near.now by at (kinds.Instruct id number)
+        ≡ edits_in effect) }
     ensures of { IfOk result (IsOf id) }
 {
     let Some(found) = record(near, id) else {

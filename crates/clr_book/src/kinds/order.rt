@@ -23,7 +23,8 @@ pub(crate) fn refusal_of(
     points: &[Name],
     tasks: &Tasks,
 ) -> Result<Option<Refusal>, AllocError>
-    ensures { IfOk result (λ refusal. refusal ≡ near_refusal near.now by at (kinds.Order id points.now tasks.now)) }
+    ensures { IfOk result (λ refusal. refusal
+        ≡ near_refusal near.now by at (kinds.Order id points.now tasks.now)) }
 {
     let unsound = unsound_order(near, points, tasks.as_slice())?;
     let refusal = first_of(&[
@@ -46,7 +47,9 @@ pub(crate) fn effect(
     tasks: &Tasks,
 ) -> Result<Effect, AllocError>
     requires { near_refusal near.now by at (kinds.Order id points.now tasks.now) ≡ None }
-    ensures edits { IfOk result (λ effect. near_edits near.now by at (kinds.Order id points.now tasks.now) ≡ edits_in effect) }
+    ensures edits { IfOk result
+        (λ effect. near_edits near.now by at (kinds.Order id points.now tasks.now)
+        ≡ edits_in effect) }
     ensures of { IfOk result (IsOf id) }
 {
     let Some(found) = record(near, id) else {

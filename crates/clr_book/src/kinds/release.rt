@@ -55,7 +55,8 @@ fn test_taken(id: ClearanceId, section: Name) -> Edit
 
 /// The tests of these sections are taken.
 fn tests_taken(alloc: Global, id: ClearanceId, sections: &[Name]) -> Result<Vec<Edit>, AllocError>
-    ensures { IfOk result (λ lead. lead.items ≡ map (λ place. TakeHold (hold_of id Tested place)) sections.now) }
+    ensures { IfOk result (λ lead. lead.items
+        ≡ map (λ place. TakeHold (hold_of id Tested place)) sections.now) }
 {
     sections
         .iter()
@@ -72,7 +73,8 @@ pub(crate) fn effect(
     clear: bool,
 ) -> Result<Effect, AllocError>
     requires { near_refusal near.now by at (kinds.Release id notified clear) ≡ None }
-    ensures edits { IfOk result (λ effect. near_edits near.now by at (kinds.Release id notified clear) ≡ edits_in effect) }
+    ensures edits { IfOk result
+        (λ effect. near_edits near.now by at (kinds.Release id notified clear) ≡ edits_in effect) }
     ensures of { IfOk result (IsOf id) }
 {
     let Some(found) = record(near, id) else {

@@ -24,7 +24,8 @@ pub(crate) fn refusal_of(
     number: u16,
     text: &Text,
 ) -> Result<Option<Refusal>, AllocError>
-    ensures { IfOk result (λ refusal. refusal ≡ near_refusal near.now by at (kinds.Repeat id number text.now)) }
+    ensures { IfOk result (λ refusal. refusal
+        ≡ near_refusal near.now by at (kinds.Repeat id number text.now)) }
 {
     let differs = repeat_differs(near, id, number, text)?;
     let refusal = first_of(&[
@@ -49,7 +50,8 @@ pub(crate) fn effect(
     text: &Text,
 ) -> Result<Effect, AllocError>
     requires { near_refusal near.now by at (kinds.Repeat id number text.now) ≡ None }
-    ensures edits { IfOk result (λ effect. near_edits near.now by at (kinds.Repeat id number text.now) ≡ edits_in effect) }
+    ensures edits { IfOk result
+        (λ effect. near_edits near.now by at (kinds.Repeat id number text.now) ≡ edits_in effect) }
     ensures of { IfOk result (IsOf id) }
 {
     let Some(found) = record(near, id) else {

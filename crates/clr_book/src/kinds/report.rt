@@ -1,10 +1,11 @@
 //! The reader of a step reports that it was done, or that it was not.
 ghost use Rattle.std.specs.Prelude.{◌≡◌, ◌++◌, true, IfOk, [], ◌∷◌, None};
-ghost use Rattle.clr_rules.specs.Changes.{done_edits, hold_edits, step_moved, phase_after, position_edits, undone_edits};
+ghost use Rattle.clr_rules.specs.Changes.{done_edits, phase_after, point_edits, step_moved};
+ghost use Rattle.clr_rules.specs.Changes.{undone_edits};
 ghost use Rattle.clr_rules.specs.Records.{is_switch_order};
 ghost use Rattle.clr_order.specs.declared.step.StepState.TheVariants.{Done};
 ghost use Rattle.clr_rules.specs.declared.command.Kind.TheVariants as kinds;
-ghost use Rattle.clr_book.specs.Decision.{done_lead, one_edit, near_edits, near_refusal};
+ghost use Rattle.clr_book.specs.Decision.{near_edits, near_refusal};
 ghost use Rattle.clr_book.specs.Effect.{IsOf, edits_in};
 
 use crate::card::progress_with;
@@ -42,79 +43,43 @@ pub(crate) fn refusal_of(
     ])
 }
 
-/// The position that an action puts a point in, if it does.
-fn position_edit(action: Action, point: Name) -> Option<Edit>
-    ensures { one_edit result ≡ position_edits action point }
+/// What an action that was done changes at its point. A switch order holds nothing open.
+fn point_edits(
+    alloc: Global,
+    switching: bool,
+    id: ClearanceId,
+    action: Action,
+    point: Name,
+) -> Result<Vec<Edit>, AllocError>
+    ensures { IfOk result (λ edits. edits.items ≡ point_edits switching id action point) }
 {
-    let position = match action {
-        Action::Open => Position::Opened,
-        Action::Close => Position::Closed,
-        _ => return None,
+    let opened = Edit::SetPosition {
+        point,
+        position: Position::Opened,
     };
-    Some(Edit::SetPosition { point, position })
-}
-
-/// The hold that an action puts or takes, if it does. A switch order holds nothing open.
-fn hold_edit(switching: bool, id: ClearanceId, action: Action, point: Name) -> Option<Edit>
-    ensures { one_edit result ≡ hold_edits switching id action point }
-{
+    let closed = Edit::SetPosition {
+        point,
+        position: Position::Closed,
+    };
+    let free = Edit::SetHand { point, hand: None };
     let hold = |kind: HoldKind| Hold {
         kind,
         place: point,
         id,
     };
-    match action {
-        Action::Open if switching => None,
-        Action::Open => Some(Edit::PutHold(hold(HoldKind::HeldOpen))),
-        Action::Block => Some(Edit::PutHold(hold(HoldKind::Block))),
-        Action::Control => Some(Edit::PutHold(hold(HoldKind::Control))),
-        Action::Tag => Some(Edit::PutHold(hold(HoldKind::Tag))),
-        Action::Untag => Some(Edit::TakeHold(hold(HoldKind::Tag))),
-        Action::Uncontrol => Some(Edit::TakeHold(hold(HoldKind::Control))),
-        Action::Unblock => Some(Edit::TakeHold(hold(HoldKind::Block))),
-        Action::Close | Action::Leave => Some(Edit::TakeHold(hold(HoldKind::HeldOpen))),
-    }
-}
-
-/// The position that a step puts its point in, if it does.
-fn first_edits(alloc: Global, row: &StepRow) -> Result<Vec<Edit>, AllocError>
-    ensures { IfOk result (λ edits. edits.items ≡ position_edits row.now.step.action row.now.step.point) }
-{
-    match position_edit(row.step.action, row.step.point) {
-        Some(edit) => {
-            let edits = vec![in alloc; edit]?;
-            Ok(edits)
-        }
-        None => Ok(Vec::new(alloc)),
-    }
-}
-
-/// Edits, and behind them the hold that a step puts or takes, if it does.
-fn with_hold(edits: Vec<Edit>, clearance: &Record, row: &StepRow) -> Result<Vec<Edit>, AllocError>
-    ensures { IfOk result (λ all. all.items ≡ edits.items ++ hold_edits (is_switch_order clearance.now) clearance.now.id row.now.step.action row.now.step.point) }
-{
-    let switching = clearance.is_switch_order();
-    let mut all = edits;
-    match hold_edit(switching, clearance.id, row.step.action, row.step.point) {
-        Some(edit) => {
-            all.push(edit)?;
-            Ok(all)
-        }
-        None => Ok(all),
-    }
-}
-
-/// What a step that was done changes at its point.
-fn point_edits(alloc: Global, clearance: &Record, row: &StepRow) -> Result<Vec<Edit>, AllocError>
-    ensures { IfOk result (λ edits. edits.items ≡ done_lead clearance.now row.now) }
-{
-    let mut edits = first_edits(alloc, row)?;
-    edits.push(Edit::SetHand {
-        point: row.step.point,
-        hand: None,
-    })?;
-    let all = with_hold(edits, clearance, row)?;
-    Ok(all)
+    let edits = match action {
+        Action::Open if switching => vec![in alloc; opened, free]?,
+        Action::Open => vec![in alloc; opened, free, Edit::PutHold(hold(HoldKind::HeldOpen))]?,
+        Action::Block => vec![in alloc; free, Edit::PutHold(hold(HoldKind::Block))]?,
+        Action::Control => vec![in alloc; free, Edit::PutHold(hold(HoldKind::Control))]?,
+        Action::Tag => vec![in alloc; free, Edit::PutHold(hold(HoldKind::Tag))]?,
+        Action::Untag => vec![in alloc; free, Edit::TakeHold(hold(HoldKind::Tag))]?,
+        Action::Uncontrol => vec![in alloc; free, Edit::TakeHold(hold(HoldKind::Control))]?,
+        Action::Unblock => vec![in alloc; free, Edit::TakeHold(hold(HoldKind::Block))]?,
+        Action::Close => vec![in alloc; closed, free, Edit::TakeHold(hold(HoldKind::HeldOpen))]?,
+        Action::Leave => vec![in alloc; free, Edit::TakeHold(hold(HoldKind::HeldOpen))]?,
+    };
+    Ok(edits)
 }
 
 /// A step that was done.
@@ -145,7 +110,8 @@ fn done_effect(
     clearance: &Record,
     row: &StepRow,
 ) -> Result<Effect, AllocError>
-    ensures edits { IfOk result (λ effect. done_edits near.now.rows at clearance.now row.now ≡ edits_in effect) }
+    ensures edits { IfOk result (λ effect. done_edits near.now.rows at clearance.now row.now
+        ≡ edits_in effect) }
     ensures of { IfOk result (IsOf clearance.now.id) }
 {
     let after = Record {
@@ -153,7 +119,9 @@ fn done_effect(
         last: at,
         ..*clearance
     };
-    let lead = point_edits(near.alloc, clearance, row)?;
+    let switching = clearance.is_switch_order();
+    let step = row.step;
+    let lead = point_edits(near.alloc, switching, clearance.id, step.action, step.point)?;
     let steps = vec![in near.alloc; done(row)]?;
     Ok(Effect {
         lead,
@@ -169,7 +137,8 @@ fn undone_effect(
     clearance: &Record,
     row: &StepRow,
 ) -> Result<Effect, AllocError>
-    ensures edits { IfOk result (λ effect. undone_edits at clearance.now row.now ≡ edits_in effect) }
+    ensures edits { IfOk result (λ effect. undone_edits at clearance.now row.now
+        ≡ edits_in effect) }
     ensures of { IfOk result (IsOf clearance.now.id) }
 {
     let freed = Edit::SetHand {
@@ -199,7 +168,8 @@ pub(crate) fn effect(
     done: bool,
 ) -> Result<Effect, AllocError>
     requires { near_refusal near.now by at (kinds.Report id number done) ≡ None }
-    ensures edits { IfOk result (λ effect. near_edits near.now by at (kinds.Report id number done) ≡ edits_in effect) }
+    ensures edits { IfOk result (λ effect. near_edits near.now by at (kinds.Report id number done)
+        ≡ edits_in effect) }
     ensures of { IfOk result (IsOf id) }
 {
     let Some(found) = record(near, id) else {

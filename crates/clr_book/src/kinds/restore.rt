@@ -22,7 +22,8 @@ pub(crate) fn refusal_of(
     id: ClearanceId,
     tasks: &Tasks,
 ) -> Result<Option<Refusal>, AllocError>
-    ensures { IfOk result (λ refusal. refusal ≡ near_refusal near.now by at (kinds.Restore id tasks.now)) }
+    ensures { IfOk result (λ refusal. refusal
+        ≡ near_refusal near.now by at (kinds.Restore id tasks.now)) }
 {
     let wrong = wrong_restoring(near, id, tasks.as_slice())?;
     let refusal = first_of(&[
@@ -44,7 +45,8 @@ pub(crate) fn effect(
     tasks: &Tasks,
 ) -> Result<Effect, AllocError>
     requires { near_refusal near.now by at (kinds.Restore id tasks.now) ≡ None }
-    ensures edits { IfOk result (λ effect. near_edits near.now by at (kinds.Restore id tasks.now) ≡ edits_in effect) }
+    ensures edits { IfOk result (λ effect. near_edits near.now by at (kinds.Restore id tasks.now)
+        ≡ edits_in effect) }
     ensures of { IfOk result (IsOf id) }
 {
     let Some(found) = record(near, id) else {

@@ -24,7 +24,9 @@ pub(crate) fn refusal_of(near: &Near, by: Name, at: Moment, id: ClearanceId) -> 
 /// What is shown. Nothing changes.
 pub(crate) fn view(near: &Near, by: Name, at: Moment, id: ClearanceId) -> Result<View, AllocError>
     requires { near_refusal near.now by at (kinds.Show id) ≡ None }
-    ensures { IfOk result (λ view. reply_of near.now.known near.now.rows (kinds.Show id) (record_of near.now.rows.records id) ≡ Shown view) }
+    ensures { IfOk result
+        (λ view. reply_of near.now.known near.now.rows (kinds.Show id)
+        (record_of near.now.rows.records id) ≡ Shown view) }
 {
     let Some(found) = record(near, id) else {
         unreachable!()

@@ -46,7 +46,8 @@ pub(crate) fn effect(
     crew: Name,
 ) -> Result<Effect, AllocError>
     requires { near_refusal near.now by at (kinds.SignOn id crew) ≡ None }
-    ensures edits { IfOk result (λ effect. near_edits near.now by at (kinds.SignOn id crew) ≡ edits_in effect) }
+    ensures edits { IfOk result (λ effect. near_edits near.now by at (kinds.SignOn id crew)
+        ≡ edits_in effect) }
     ensures of { IfOk result (IsOf id) }
 {
     let Some(found) = record(near, id) else {

@@ -30,8 +30,10 @@ pub(crate) fn refusal_of(near: &Near, by: Name, at: Moment, tasks: &Tasks) -> Op
 
 pub(crate) fn effect(near: &Near, by: Name, at: Moment, tasks: &Tasks) -> Result<Effect, AllocError>
     requires { near_refusal near.now by at (kinds.Switch tasks.now) ≡ None }
-    ensures edits { IfOk result (λ effect. near_edits near.now by at (kinds.Switch tasks.now) ≡ edits_in effect) }
-    ensures of { IfOk result (IsOf (record { requester = by; number = near.now.known.greatest + 1 })) }
+    ensures edits { IfOk result (λ effect. near_edits near.now by at (kinds.Switch tasks.now)
+        ≡ edits_in effect) }
+    ensures of { IfOk result
+        (IsOf (record { requester = by; number = near.now.known.greatest + 1 })) }
 {
     let clearance = new_record(near, by, at, None, Phase::Switching);
     let lead = Vec::new(near.alloc);

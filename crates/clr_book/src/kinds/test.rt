@@ -43,7 +43,9 @@ pub(crate) fn refusal_of(
 
 /// A dead section's test is put down, another's is taken.
 fn tested(id: ClearanceId, section: Name, dead: bool) -> Edit
-    ensures { result ≡ (if dead then PutHold (hold_of id Tested section) else TakeHold (hold_of id Tested section)) }
+    ensures { result
+        ≡ (if dead then PutHold (hold_of id Tested section)
+        else TakeHold (hold_of id Tested section)) }
 {
     let hold = Hold {
         kind: HoldKind::Tested,
@@ -66,7 +68,8 @@ pub(crate) fn effect(
     dead: bool,
 ) -> Result<Effect, AllocError>
     requires { near_refusal near.now by at (kinds.Test id section dead) ≡ None }
-    ensures edits { IfOk result (λ effect. near_edits near.now by at (kinds.Test id section dead) ≡ edits_in effect) }
+    ensures edits { IfOk result (λ effect. near_edits near.now by at (kinds.Test id section dead)
+        ≡ edits_in effect) }
     ensures of { IfOk result (IsOf id) }
 {
     let Some(found) = record(near, id) else {

@@ -1,4 +1,5 @@
-//! The clearance goes to another holder; in an emergency the holder's supervisor may say so: 29 CFR 1910.269(m)(3)(ix).
+//! The clearance goes to another holder; in an emergency the holder's supervisor may say so: 29 CFR
+//! 1910.269(m)(3)(ix).
 ghost use Rattle.std.specs.Prelude.{◌≡◌, None};
 ghost use Rattle.clr_rules.specs.declared.command.Kind.TheVariants as kinds;
 ghost use Rattle.clr_book.specs.Decision.{near_edits, near_refusal};

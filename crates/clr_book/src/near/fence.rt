@@ -1,4 +1,5 @@
-//! What is known of the register beside its rows: the greatest number of a requester, and the sections of a fence.
+//! What is known of the register beside its rows: the greatest number of a requester, and the
+//! sections of a fence.
 ghost use Rattle.std.specs.Prelude.{◌≡◌, ◌≤◌, ◌==◌, [], IfOk, map, filter};
 ghost use Rattle.std.specs.List.Sorted.{IsStrictlySortedBy};
 ghost use Rattle.clr_net.specs.Grid.{Grid};
@@ -27,7 +28,8 @@ impl FenceNames {
     /// Where there is no fence.
     fn none(alloc: Global) -> Self
         ensures sections { result.sections.items ≡ [] }
-        ensures touching { (g : Grid) → result.touching.items ≡ touching_names g (has_name result.sections.items) }
+        ensures touching { (g : Grid)
+            → result.touching.items ≡ touching_names g (has_name result.sections.items) }
         ensures rising { IsStrictlySortedBy name_cmp result.sections.items }
     {
         FenceNames {
@@ -38,10 +40,12 @@ impl FenceNames {
 }
 
 impl<P: Shelf<PointState>, C: Shelf<Record>, T: Shelf<StepRow>, H: Shelf<Hold>> Book<P, C, T, H> {
-    /// The greatest number of the clearances of the requester whose clearance is named, or of the caller; 0 where there is none.
-    /// It is that of the last.
+    /// The greatest number of the clearances of the requester whose clearance is named, or of the
+    /// caller; 0 where there is none. It is that of the last.
     pub(crate) fn greatest_for(&self, command: &Command) -> u16
-        ensures value { result ≡ greatest_number self.now.register.records (requester_for command.now.caller (named_clearance command.now.kind)) }
+        ensures value { result
+            ≡ greatest_number self.now.register.records
+            (requester_for command.now.caller (named_clearance command.now.kind)) }
         ensures range { result ≤ 9999 }
     {
         let requester = requester_for(command.caller, command.kind.clearance());
@@ -53,8 +57,10 @@ impl<P: Shelf<PointState>, C: Shelf<Record>, T: Shelf<StepRow>, H: Shelf<Hold>> 
 
     /// The clearance's fence, or the fence that the order would make.
     pub(crate) fn fence_for(&self, kind: &Kind) -> Result<FenceNames, AllocError>
-        ensures sections { IfOk result (λ fence. fence.sections.items ≡ fence_for self.now.register kind.now) }
-        ensures touching { IfOk result (λ fence. fence.touching.items ≡ touching_names self.now.register.net (has_name fence.sections.items)) }
+        ensures sections { IfOk result (λ fence. fence.sections.items
+            ≡ fence_for self.now.register kind.now) }
+        ensures touching { IfOk result (λ fence. fence.touching.items
+            ≡ touching_names self.now.register.net (has_name fence.sections.items)) }
         ensures rising { IfOk result (λ fence. IsStrictlySortedBy name_cmp fence.sections.items) }
     {
         let Some(id) = kind.clearance() else {
@@ -72,8 +78,10 @@ impl<P: Shelf<PointState>, C: Shelf<Record>, T: Shelf<StepRow>, H: Shelf<Hold>> 
 
     /// A clearance's fence, which is cut at the points of its first round.
     fn record_fence(&self, clearance: &Record) -> Result<FenceNames, AllocError>
-        ensures sections { IfOk result (λ fence. fence.sections.items ≡ record_fence self.now.register.net self.now.register.steps clearance.now) }
-        ensures touching { IfOk result (λ fence. fence.touching.items ≡ touching_names self.now.register.net (has_name fence.sections.items)) }
+        ensures sections { IfOk result (λ fence. fence.sections.items
+            ≡ record_fence self.now.register.net self.now.register.steps clearance.now) }
+        ensures touching { IfOk result (λ fence. fence.touching.items
+            ≡ touching_names self.now.register.net (has_name fence.sections.items)) }
         ensures rising { IfOk result (λ fence. IsStrictlySortedBy name_cmp fence.sections.items) }
     {
         if !clearance.phase.is_fenced() {
@@ -87,8 +95,10 @@ impl<P: Shelf<PointState>, C: Shelf<Record>, T: Shelf<StepRow>, H: Shelf<Hold>> 
 
     /// The fence of a work section, cut at these points; none without a work section.
     fn work_fence(&self, work: Option<Name>, cut: &[Name]) -> Result<FenceNames, AllocError>
-        ensures sections { IfOk result (λ fence. fence.sections.items ≡ work_fence self.now.register.net work cut.now) }
-        ensures touching { IfOk result (λ fence. fence.touching.items ≡ touching_names self.now.register.net (has_name fence.sections.items)) }
+        ensures sections { IfOk result (λ fence. fence.sections.items
+            ≡ work_fence self.now.register.net work cut.now) }
+        ensures touching { IfOk result (λ fence. fence.touching.items
+            ≡ touching_names self.now.register.net (has_name fence.sections.items)) }
         ensures rising { IfOk result (λ fence. IsStrictlySortedBy name_cmp fence.sections.items) }
     {
         let Some(work) = work else {
@@ -103,7 +113,8 @@ impl<P: Shelf<PointState>, C: Shelf<Record>, T: Shelf<StepRow>, H: Shelf<Hold>> 
     }
 }
 
-/// Whose numbers count: those of the requester of the clearance that is named; a new clearance is the caller's.
+/// Whose numbers count: those of the requester of the clearance that is named; a new clearance is
+/// the caller's.
 fn requester_for(caller: Name, named: Option<ClearanceId>) -> Name
     ensures { result ≡ requester_for caller named }
 {
@@ -115,7 +126,9 @@ fn requester_for(caller: Name, named: Option<ClearanceId>) -> Name
 
 /// The points of the first round of these steps, in their order.
 fn first_points(alloc: Global, steps: &[&StepRow]) -> Result<Vec<Name>, AllocError>
-    ensures { IfOk result (λ points. points.items ≡ map (λ row. row.step.point) (filter (λ row. row.round == 1) (map (λ row. row.now) steps.now))) }
+    ensures { IfOk result (λ points. points.items
+        ≡ map (λ row. row.step.point)
+        (filter (λ row. row.round == 1) (map (λ row. row.now) steps.now))) }
 {
     let mut points = Vec::new(alloc);
     for row in steps {

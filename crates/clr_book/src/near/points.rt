@@ -14,7 +14,8 @@ use clr_shelf::Shelf;
 use std::alloc::{AllocError, Global};
 
 impl<P: Shelf<PointState>, C: Shelf<Record>, T: Shelf<StepRow>, H: Shelf<Hold>> Book<P, C, T, H> {
-    /// The points that touch the fence, and those of the switch order that the command makes or names: in order, each once.
+    /// The points that touch the fence, and those of the switch order that the command makes or
+    /// names: in order, each once.
     pub(crate) fn points_beside(
         &self,
         kind: &Kind,
@@ -22,7 +23,9 @@ impl<P: Shelf<PointState>, C: Shelf<Record>, T: Shelf<StepRow>, H: Shelf<Hold>> 
     ) -> Result<Vec<Name>, AllocError>
         ensures rising { IfOk result (λ names. IsStrictlySortedBy name_cmp names.items) }
         ensures same { IfOk result (λ names. (p : List ℕ)
-            → has_name names.items p ≡ (has_name touching.items p || has_name (switched_points self.now.register kind.now) p)) }
+            → has_name names.items p
+            ≡ (has_name touching.items p
+            || has_name (switched_points self.now.register kind.now) p)) }
     {
         let mut names = touching;
         let switched = self.switched_points(kind)?;

@@ -49,7 +49,9 @@ impl<P: Shelf<PointState>, C: Shelf<Record>, T: Shelf<StepRow>, H: Shelf<Hold>> 
 
     /// The sections of the fence, and the one that a request asks for.
     fn sections_near(&self, kind: &Kind, fence: &[Name]) -> Result<Vec<&SectionRow>, AllocError>
-        ensures { IfOk result (λ found. map (λ row. row.now) found.items ≡ filter (λ row. has_name fence.now row.name || is_asked kind.now row.name) self.now.register.net.sections) }
+        ensures { IfOk result (λ found. map (λ row. row.now) found.items
+            ≡ filter (λ row. has_name fence.now row.name
+            || is_asked kind.now row.name) self.now.register.net.sections) }
     {
         let listed = listed_sections(self.alloc, kind, fence)?;
         let found = rows_named(self.alloc, self.network.sections(), &listed)?;
@@ -59,7 +61,8 @@ impl<P: Shelf<PointState>, C: Shelf<Record>, T: Shelf<StepRow>, H: Shelf<Hold>> 
     /// The positions of these points, and whose order is at work on them.
     fn states_near(&self, beside: &[Name]) -> Result<Vec<&PointState>, AllocError>
         requires { IsStrictlySortedBy name_cmp beside.now }
-        ensures { IfOk result (λ found. map (λ row. row.now) found.items ≡ filter (λ state. has_name beside.now state.point) self.now.register.states) }
+        ensures { IfOk result (λ found. map (λ row. row.now) found.items
+            ≡ filter (λ state. has_name beside.now state.point) self.now.register.states) }
     {
         let found = rows_in(self.alloc, &self.states, beside)?;
         Ok(found)
@@ -67,7 +70,8 @@ impl<P: Shelf<PointState>, C: Shelf<Record>, T: Shelf<StepRow>, H: Shelf<Hold>> 
 
     /// The record of the clearance that is named.
     fn own_records(&self, own: Option<ClearanceId>) -> Result<Vec<&Record>, AllocError>
-        ensures { IfOk result (λ found. map (λ row. row.now) found.items ≡ filter (λ r. is_own own r.id) self.now.register.records) }
+        ensures { IfOk result (λ found. map (λ row. row.now) found.items
+            ≡ filter (λ r. is_own own r.id) self.now.register.records) }
     {
         let Some(id) = own else {
             return Ok(Vec::new(self.alloc));
@@ -82,7 +86,8 @@ impl<P: Shelf<PointState>, C: Shelf<Record>, T: Shelf<StepRow>, H: Shelf<Hold>> 
 
     /// The steps of the clearance that is named.
     fn own_steps(&self, own: Option<ClearanceId>) -> Result<Vec<&StepRow>, AllocError>
-        ensures { IfOk result (λ found. map (λ row. row.now) found.items ≡ filter (λ row. is_own own row.id) self.now.register.steps) }
+        ensures { IfOk result (λ found. map (λ row. row.now) found.items
+            ≡ filter (λ row. is_own own row.id) self.now.register.steps) }
     {
         match own {
             Some(id) => self.steps.group(&id),
@@ -99,7 +104,9 @@ impl<P: Shelf<PointState>, C: Shelf<Record>, T: Shelf<StepRow>, H: Shelf<Hold>> 
     ) -> Result<Vec<&Hold>, AllocError>
         requires sections { IsStrictlySortedBy name_cmp fence.now }
         requires points { IsStrictlySortedBy name_cmp beside.now }
-        ensures { IfOk result (λ found. map (λ row. row.now) found.items ≡ filter (is_near_hold (has_name fence.now) (has_name beside.now) own) self.now.register.holds) }
+        ensures { IfOk result (λ found. map (λ row. row.now) found.items
+            ≡ filter (is_near_hold (has_name fence.now)
+            (has_name beside.now) own) self.now.register.holds) }
     {
         let groups = groups_near(self.alloc, fence, beside, own)?;
         let found = rows_in(self.alloc, &self.holds, &groups)?;
@@ -110,7 +117,8 @@ impl<P: Shelf<PointState>, C: Shelf<Record>, T: Shelf<StepRow>, H: Shelf<Hold>> 
 /// The sections of a fence and the one that a request asks for, in order, each once.
 fn listed_sections(alloc: Global, kind: &Kind, fence: &[Name]) -> Result<Vec<Name>, AllocError>
     ensures rising { IfOk result (λ names. IsStrictlySortedBy name_cmp names.items) }
-    ensures same { IfOk result (λ names. (s : List ℕ) → has_name names.items s ≡ (has_name fence.now s || is_asked kind.now s)) }
+    ensures same { IfOk result (λ names. (s : List ℕ)
+        → has_name names.items s ≡ (has_name fence.now s || is_asked kind.now s)) }
 {
     let mut names = fence.to_vec(alloc)?;
     match kind {
@@ -134,7 +142,8 @@ fn groups_at_points(alloc: Global, points: &[Name]) -> Result<Vec<HoldGroup>, Al
 
 /// The groups of the holds at these sections.
 fn groups_at_sections(alloc: Global, sections: &[Name]) -> Result<Vec<HoldGroup>, AllocError>
-    ensures { IfOk result (λ groups. groups.items ≡ map (λ section. group.AtSection section) sections.now) }
+    ensures { IfOk result (λ groups. groups.items
+        ≡ map (λ section. group.AtSection section) sections.now) }
 {
     sections
         .iter()
@@ -142,7 +151,8 @@ fn groups_at_sections(alloc: Global, sections: &[Name]) -> Result<Vec<HoldGroup>
         .collect(alloc)
 }
 
-/// The groups of the holds at these sections and points, and of the crews of the clearance that is named; in their order.
+/// The groups of the holds at these sections and points, and of the crews of the clearance that is
+/// named; in their order.
 fn groups_near(
     alloc: Global,
     fence: &[Name],
@@ -152,7 +162,9 @@ fn groups_near(
     requires sections { IsStrictlySortedBy name_cmp fence.now }
     requires points { IsStrictlySortedBy name_cmp beside.now }
     ensures rising { IfOk result (λ groups. IsStrictlySortedBy hold_group_cmp groups.items) }
-    ensures same { IfOk result (λ groups. (hold : Hold) → list_any (λ group. is_in_hold_group group hold) groups.items ≡ is_near_hold (has_name fence.now) (has_name beside.now) own hold) }
+    ensures same { IfOk result (λ groups. (hold : Hold)
+        → list_any (λ group. is_in_hold_group group hold) groups.items
+        ≡ is_near_hold (has_name fence.now) (has_name beside.now) own hold) }
 {
     let mut groups = groups_at_points(alloc, beside)?;
     let sections = groups_at_sections(alloc, fence)?;

@@ -14,7 +14,7 @@ use Rattle.clr_shelf.proofs.KeyOrder.{in_key_order-filter, in_key_order-first, i
 use Rattle.clr_shelf.specs.Rows.{in_key_order}
 use Rattle.clr_rules.specs.Answer.{Answer, answer, first_refusal, known_of, answer_by_checks}
 use Rattle.clr_rules.specs.Commands.{Known, checks, edits_of}
-use Rattle.clr_rules.specs.Changes.{done_edits, edits_by, hold_edits, new_record, new_steps, position_edits, put_steps, undone_edits}
+use Rattle.clr_rules.specs.Changes.{done_edits, edits_by, new_record, new_steps, point_edits, put_steps, undone_edits}
 use Rattle.clr_rules.specs.EditOrder.{are_in_order, edit_cmp}
 use Rattle.clr_rules.specs.Good.{ListsAreInOrder}
 use Rattle.clr_rules.specs.Prelude.{Edit, SetHand, PutHold, TakeHold, PutRecord, PutStep, Command, Kind, Hold, HoldKind, Tested, Ordered, Restoring, Switching, Record, Refusal, StepRow, Id}
@@ -105,7 +105,7 @@ release_in_order c holds r ordered =
 -- ---- each kind of command
 
 done_in_order : (action : Action) (switching : Bool) (c : Id) (p : List ℕ) (r : Record) (row : StepRow)
-    → are_in_order (position_edits action p ++ SetHand p None ∷ hold_edits switching c action p ++ PutRecord r ∷ PutStep row ∷ []) ≡ true
+    → are_in_order (point_edits switching c action p ++ PutRecord r ∷ PutStep row ∷ []) ≡ true
 done_in_order actions.Open true c p r row = refl
 done_in_order actions.Open false c p r row = refl
 done_in_order actions.Block switching c p r row = refl

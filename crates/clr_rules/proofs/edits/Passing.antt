@@ -50,24 +50,27 @@ IsRecorded R (Some c) = has_record R.records c ≡ true
 
 pub named_is_recorded : (k : Known) (R : Register) (by : List ℕ) (at : ℕ) (kind : Kind)
     → first_refusal (checks k R by at kind) ≡ None → IsRecorded R (named_clearance kind)
-named_is_recorded k R by at (Request section) h = tt
-named_is_recorded k R by at (Order c points tasks) h = is_recorded R c (all_pass (checks k R by at (Order c points tasks)) h).1.1.0
-named_is_recorded k R by at (Instruct c n) h = is_recorded R c (all_pass (checks k R by at (Instruct c n)) h).1.1.0
-named_is_recorded k R by at (Repeat c n text) h = is_recorded R c (all_pass (checks k R by at (Repeat c n text)) h).1.1.0
-named_is_recorded k R by at (Report c n done) h = is_recorded R c (all_pass (checks k R by at (Report c n done)) h).1.1.0
-named_is_recorded k R by at (Grant c) h = is_recorded R c (all_pass (checks k R by at (Grant c)) h).1.1.0
-named_is_recorded k R by at (Test c section dead) h = is_recorded R c (all_pass (checks k R by at (Test c section dead)) h).1.1.0
-named_is_recorded k R by at (Ground c section) h = is_recorded R c (all_pass (checks k R by at (Ground c section)) h).1.1.0
-named_is_recorded k R by at (Unground c section) h = is_recorded R c (all_pass (checks k R by at (Unground c section)) h).1.1.0
-named_is_recorded k R by at (SignOn c crew) h = is_recorded R c (all_pass (checks k R by at (SignOn c crew)) h).1.1.0
-named_is_recorded k R by at (SignOff c crew) h = is_recorded R c (all_pass (checks k R by at (SignOff c crew)) h).1.1.0
-named_is_recorded k R by at (Transfer c to emergency) h = is_recorded R c (all_pass (checks k R by at (Transfer c to emergency)) h).1.0
-named_is_recorded k R by at (Release c notified clear) h = is_recorded R c (all_pass (checks k R by at (Release c notified clear)) h).1.1.0
-named_is_recorded k R by at (Cancel c) h = is_recorded R c (all_pass (checks k R by at (Cancel c)) h).1.1.0
-named_is_recorded k R by at (Restore c tasks) h = is_recorded R c (all_pass (checks k R by at (Restore c tasks)) h).1.1.0
-named_is_recorded k R by at (Amend c n) h = is_recorded R c (all_pass (checks k R by at (Amend c n)) h).1.1.0
-named_is_recorded k R by at (Switch tasks) h = tt
-named_is_recorded k R by at (Show c) h = is_recorded R c (all_pass (checks k R by at (Show c)) h).1.0
+named_is_recorded k R by at kind h = recorded kind (all_pass (checks k R by at kind) h)
+  where
+    recorded : (kind : Kind) → Pass (checks k R by at kind) → IsRecorded R (named_clearance kind)
+    recorded (Request section) passed = tt
+    recorded (Order c points tasks) passed = let (_, (_, (clearance_passes, _))) = passed in is_recorded R c clearance_passes
+    recorded (Instruct c n) passed = let (_, (_, (clearance_passes, _))) = passed in is_recorded R c clearance_passes
+    recorded (Repeat c n text) passed = let (_, (_, (clearance_passes, _))) = passed in is_recorded R c clearance_passes
+    recorded (Report c n done) passed = let (_, (_, (clearance_passes, _))) = passed in is_recorded R c clearance_passes
+    recorded (Grant c) passed = let (_, (_, (clearance_passes, _))) = passed in is_recorded R c clearance_passes
+    recorded (Test c section dead) passed = let (_, (_, (clearance_passes, _))) = passed in is_recorded R c clearance_passes
+    recorded (Ground c section) passed = let (_, (_, (clearance_passes, _))) = passed in is_recorded R c clearance_passes
+    recorded (Unground c section) passed = let (_, (_, (clearance_passes, _))) = passed in is_recorded R c clearance_passes
+    recorded (SignOn c crew) passed = let (_, (_, (clearance_passes, _))) = passed in is_recorded R c clearance_passes
+    recorded (SignOff c crew) passed = let (_, (_, (clearance_passes, _))) = passed in is_recorded R c clearance_passes
+    recorded (Transfer c to emergency) passed = let (_, (clearance_passes, _)) = passed in is_recorded R c clearance_passes
+    recorded (Release c notified clear) passed = let (_, (_, (clearance_passes, _))) = passed in is_recorded R c clearance_passes
+    recorded (Cancel c) passed = let (_, (_, (clearance_passes, _))) = passed in is_recorded R c clearance_passes
+    recorded (Restore c tasks) passed = let (_, (_, (clearance_passes, _))) = passed in is_recorded R c clearance_passes
+    recorded (Amend c n) passed = let (_, (_, (clearance_passes, _))) = passed in is_recorded R c clearance_passes
+    recorded (Switch tasks) passed = tt
+    recorded (Show c) passed = let (_, (clearance_passes, _)) = passed in is_recorded R c clearance_passes
 
 -- the clearance that a command names, if it names one, has a record
 pub named_recorded : (k : Known) (R : Register) (by : List ℕ) (at : ℕ) (kind : Kind) (c : Id)

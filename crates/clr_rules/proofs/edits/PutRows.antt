@@ -5,7 +5,7 @@ use Rattle.std.proofs.Math.Bool.{or-true}
 use Rattle.std.proofs.lemmas.Option.{same_Some}
 use Rattle.clr_order.specs.declared.action.Action.{Action}
 use Rattle.clr_order.specs.declared.action.Action.TheVariants as actions
-use Rattle.clr_rules.specs.Changes.{edits_by, hold_edits, position_edits, put_steps, with_record, with_step}
+use Rattle.clr_rules.specs.Changes.{edits_by, point_edits, put_steps, with_record, with_step}
 use Rattle.clr_rules.specs.EditLaws.{is_hold}
 use Rattle.clr_rules.specs.Prelude.{Edit, SetPosition, SetHand, PutHold, TakeHold, PutRecord, PutStep, HoldKind, Tested, Record, StepRow, Id, same_id, Register, record_of, present_steps, step_at, has_hold, hold_of, after_edit, after_edits}
 use Rattle.clr_rules.proofs.edits.EditReading.{has_hold-put, has_hold-taken, record_of-put}
@@ -60,7 +60,7 @@ module _ (P : Record → Type 0) (Q : StepRow → Type 0) where
 
   -- the edits of a step that is reported done put one record and one step
   pub done_put : (switching : Bool) (d : Id) (a : Action) (p : List ℕ) (s : Record) (row : StepRow) → P s → Q row
-      → AllPutSuch P Q (position_edits a p ++ SetHand p None ∷ hold_edits switching d a p ++ PutRecord s ∷ PutStep row ∷ [])
+      → AllPutSuch P Q (point_edits switching d a p ++ PutRecord s ∷ PutStep row ∷ [])
   done_put true d actions.Open p s row h k = (tt, (tt, (h, (k, tt))))
   done_put false d actions.Open p s row h k = (tt, (tt, (tt, (h, (k, tt)))))
   done_put switching d actions.Close p s row h k = (tt, (tt, (tt, (h, (k, tt)))))

@@ -65,7 +65,9 @@ module _ (R : Register) (bounded : IsBounded R) (by : List ℕ) (at : ℕ) where
       below n differs small = let other = eqb-false n 9999 differs in omega (arith, other)
 
   all_in_bounds : (kind : Kind) → Pass (checks (known_of R (asked by at kind)) R by at kind) → PutInBounds (edits_of (known_of R (asked by at kind)).greatest R by at kind)
-  all_in_bounds (kinds.Request section) passed = (next_number passed.1.1.1.0, tt)
+  all_in_bounds (kinds.Request section) passed =
+      let (_, (_, (_, (number_passes, _)))) = passed in
+      (next_number number_passes, tt)
   all_in_bounds (kinds.Order c points tasks) passed = by_record PutInBounds tt R c _ (λ r found. (of_record c r found, new_put c 1 tasks (inl refl)))
   all_in_bounds (kinds.Instruct c n) passed = by_step PutInBounds tt R c n _ (λ r row found step. (tt, (of_record c r found, (of_step c n row step, tt))))
   all_in_bounds (kinds.Repeat c n text) passed = by_step PutInBounds tt R c n _ (λ r row found step. (of_record c r found, (of_step c n row step, tt)))
@@ -91,7 +93,9 @@ module _ (R : Register) (bounded : IsBounded R) (by : List ℕ) (at : ℕ) where
   all_in_bounds (kinds.Cancel c) passed = by_record PutInBounds tt R c _ (λ r found. (of_record c r found, tt))
   all_in_bounds (kinds.Restore c tasks) passed = by_record PutInBounds tt R c _ (λ r found. (of_record c r found, new_put c 2 tasks (inr refl)))
   all_in_bounds (kinds.Amend c n) passed = by_step PutInBounds tt R c n _ (λ r row found step. (of_record c r found, (of_step c n row step, tt)))
-  all_in_bounds (kinds.Switch tasks) passed = (next_number passed.1.1.0, new_put _ 1 tasks (inl refl))
+  all_in_bounds (kinds.Switch tasks) passed =
+      let (_, (_, (number_passes, _))) = passed in
+      (next_number number_passes, new_put _ 1 tasks (inl refl))
   all_in_bounds (kinds.Show c) passed = tt
 
 -- edits that put in bounds

@@ -13,7 +13,7 @@ use Rattle.clr_shelf.proofs.Keys.{equal}
 use Rattle.clr_shelf.specs.Rows.{with_row}
 use Rattle.clr_rules.specs.Answer.{Answer, known_of, answer_by_checks}
 use Rattle.clr_rules.specs.Commands.{Known, checks, edits_of}
-use Rattle.clr_rules.specs.Changes.{done_edits, hold_edits, step_moved, new_steps, phase_after, position_edits, put_steps, undone_edits}
+use Rattle.clr_rules.specs.Changes.{done_edits, step_moved, new_steps, phase_after, point_edits, put_steps, undone_edits}
 use Rattle.clr_rules.specs.Checks.{not_attested}
 use Rattle.clr_rules.specs.EditLaws.{is_hold, refusal_of}
 use Rattle.clr_rules.specs.Prelude.{Edit, SetHand, PutHold, TakeHold, PutRecord, PutStep, Command, Kind, Hold, Tag, Tested, Phase, Requested, Ordered, Granted, Released, Restoring, Switching, Closed, Record, Refusal, StepRow, Id}
@@ -139,24 +139,28 @@ module _ (R : Register) (k : Known) (by : List ℕ) (at : ℕ) where
       (tt, (same_phase R (kinds.SignOff c crew) r c found r.holder at, tt)))
   all_came (kinds.Transfer c to emergency) passed = by_record (AllPutSuch (CameSo R (kinds.Transfer c to emergency)) AnyStep) tt R c _ (λ r found.
       (same_phase R (kinds.Transfer c to emergency) r c found to at, tt))
-  all_came (kinds.Release c notified clear) passed = by_record (AllPutSuch (CameSo R (kinds.Release c notified clear)) AnyStep) tt R c _ (λ r found.
+  all_came (kinds.Release c notified clear) passed =
+      let (_, (_, (_, (_, (_, (phase_passes, (_, (_, (attested_passes, _))))))))) = passed in
+      by_record (AllPutSuch (CameSo R (kinds.Release c notified clear)) AnyStep) tt R c _ (λ r found.
       both_put (CameSo R (kinds.Release c notified clear)) AnyStep (map (λ place. TakeHold (hold_of c Tested place)) (places_of R.holds c Tested)) _
       (takes_put (CameSo R (kinds.Release c notified clear)) AnyStep c (places_of R.holds c Tested)) (
-        let said = attested notified clear passed.1.1.1.1.1.1.1.1.0 in
+        let said = attested notified clear attested_passes in
             let own_id = record_id R.records c r found in (
               r,
               ap (record_of R.records) own_id ∙ found,
               inr (inl
-                  (granted_is r.phase (phase_fits R c r is_granted found passed.1.1.1.1.1.0), λ i. kinds.Release (sym own_id i) (said.0 i) (said.1 i))),
+                  (granted_is r.phase (phase_fits R c r is_granted found phase_passes), λ i. kinds.Release (sym own_id i) (said.0 i) (said.1 i))),
             ),
         tt,
       ))
   all_came (kinds.Cancel c) passed = by_record (AllPutSuch (CameSo R (kinds.Cancel c)) AnyStep) tt R c _ (λ r found.
       (cancelled R (kinds.Cancel c) r c found at (is_ordered r.phase && has_any_hold R.holds r.id) refl refl, tt))
-  all_came (kinds.Restore c tasks) passed = by_record (AllPutSuch (CameSo R (kinds.Restore c tasks)) AnyStep) tt R c _ (λ r found. (
-    (r, here R (kinds.Restore c tasks) r c found, inr (released_is r.phase (phase_fits R c r is_released found passed.1.1.1.1.0))),
-    new_only (CameSo R (kinds.Restore c tasks)) c 2 1 tasks,
-  ))
+  all_came (kinds.Restore c tasks) passed =
+      let (_, (_, (_, (_, (phase_passes, _))))) = passed in
+      by_record (AllPutSuch (CameSo R (kinds.Restore c tasks)) AnyStep) tt R c _ (λ r found. (
+        (r, here R (kinds.Restore c tasks) r c found, inr (released_is r.phase (phase_fits R c r is_released found phase_passes))),
+        new_only (CameSo R (kinds.Restore c tasks)) c 2 1 tasks,
+      ))
   all_came (kinds.Amend c n) passed = by_step (AllPutSuch (CameSo R (kinds.Amend c n)) AnyStep) tt R c n _ (λ r row found step.
       (same_phase R (kinds.Amend c n) r c found r.holder at, (tt, tt)))
   all_came (kinds.Switch tasks) passed = (tt, new_only (CameSo R (kinds.Switch tasks)) _ 1 1 tasks)
@@ -229,7 +233,7 @@ module _ (R : Register) (c : Id) (p : List ℕ) where
   -- the edits of a step that is reported done take a tag only where it is the Untag of that tag
   done_leaves : (switching : Bool) (d : Id) (a : Action) (point : List ℕ) (s : Record) (row : StepRow)
       → (a ≡ actions.Untag → is_hold (hold_of d Tag point) c Tag p ≡ false)
-      → AllLeave c Tag p (position_edits a point ++ SetHand point None ∷ hold_edits switching d a point ++ PutRecord s ∷ PutStep row ∷ [])
+      → AllLeave c Tag p (point_edits switching d a point ++ PutRecord s ∷ PutStep row ∷ [])
   done_leaves true d actions.Open point s row other = (tt, (tt, (tt, (tt, tt))))
   done_leaves false d actions.Open point s row other = (tt, (tt, (tt, (tt, (tt, tt)))))
   done_leaves switching d actions.Close point s row other = (tt, (tt, (refl, (tt, (tt, tt)))))
@@ -289,9 +293,11 @@ module _ (R : Register) (good : IsGoodByPhase R) (c : Id) (p : List ℕ) (k : Kn
   leaves_or_untags (kinds.Order d points tasks) passed = inl (by_record (AllLeave c Tag p) tt R d _ (λ r found. (tt, steps_leave c Tag p (new_steps d 1 1 tasks))))
   leaves_or_untags (kinds.Instruct d n) passed = inl (by_step (AllLeave c Tag p) tt R d n _ (λ r row found step. (tt, (tt, (tt, tt)))))
   leaves_or_untags (kinds.Repeat d n text) passed = inl (by_step (AllLeave c Tag p) tt R d n _ (λ r row found step. (tt, (tt, tt))))
-  leaves_or_untags (kinds.Report d n done) passed = by_step (λ edits. AllLeave c Tag p edits ⊎ IsUntag R c p (asked by at (kinds.Report d n done))) (inl tt) R d n _ (λ r row found step.
-      let s = step_there R d n passed.1.1.1.1.1.0 in
-      report_leaves R c p good by at d n r found (phase_fits R d r is_running found passed.1.1.1.1.0) row step
+  leaves_or_untags (kinds.Report d n done) passed =
+      let (_, (_, (_, (_, (phase_passes, (step_passes, _)))))) = passed in
+      by_step (λ edits. AllLeave c Tag p edits ⊎ IsUntag R c p (asked by at (kinds.Report d n done))) (inl tt) R d n _ (λ r row found step.
+      let s = step_there R d n step_passes in
+      report_leaves R c p good by at d n r found (phase_fits R d r is_running found phase_passes) row step
       (subst (IsPresent R d) (same_Some s.row row (sym s.found ∙ step)) s.is_present) done)
   leaves_or_untags (kinds.Grant d) passed = inl (by_record (AllLeave c Tag p) tt R d _ (λ r found. (tt, tt)))
   leaves_or_untags (kinds.Test d section dead) passed = inl (by_record (AllLeave c Tag p) tt R d _ (λ r found. test_leaves R c p d section dead (record r { last = at })))

@@ -18,7 +18,7 @@ use Rattle.clr_net.specs.declared.section.SectionRow.{SectionRow}
 use Rattle.clr_net.proofs.Walks.{one_name}
 use Rattle.clr_csv.specs.declared.employee.StaffRow.{StaffRow}
 use Rattle.clr_shelf.proofs.Lists.{filter-filter_wider}
-use Rattle.clr_rules.specs.Agreement.{Agree, part_near}
+use Rattle.clr_rules.specs.Agreement.{Agree, extent_near, part_near}
 use Rattle.clr_rules.specs.Answer.{fence_for, known_of, requester_for}
 use Rattle.clr_rules.specs.Checks.{employee, has_role, is_operator}
 use Rattle.clr_rules.specs.Command.{named_clearance}
@@ -41,7 +41,7 @@ use Rattle.clr_rules.proofs.isolation.SameFences.{included, points-part, same_cl
 
 -- the part of a register at some sections, for a clearance
 abbrev at_sections : Register → List (List ℕ) → Id → Register
-at_sections R fence c = part R (has_name fence) (has_name fence) (has_name (touching_names R.net (has_name fence))) (Some c)
+at_sections R fence c = part R (extent_near R.net c (has_name fence))
 
 module _ (R : Register) (c : Id) (inside : List ℕ → Bool) (fence : List (List ℕ)) (wider : (s : List ℕ) → has_name fence s ≡ true → inside s ≡ true) where
   touching_within : touching_names (Register.net (part_near R c inside)) (has_name fence) ≡ touching_names R.net (has_name fence)
@@ -87,7 +87,8 @@ module _ (R : Register) (c : Id) (inside : List ℕ → Bool) (fence : List (Lis
       let holds : filter (is_near_hold (has_name fence) beside (Some c)) (filter (is_near_hold inside (has_name (touching_names R.net inside)) (Some c)) R.holds)
       ≡ filter (is_near_hold (has_name fence) beside (Some c)) R.holds =
       filter-filter_wider (is_near_hold (has_name fence) beside (Some c)) (is_near_hold inside (has_name (touching_names R.net inside)) (Some c)) hold_wider R.holds in
-      ap (λ (names : List (List ℕ)). part (part_near R c inside) (has_name fence) (has_name fence) (has_name names) (Some c)) touching_within
+      ap (λ (names : List (List ℕ)). part (part_near R c inside)
+      (record { sections = has_name fence; holds_at = has_name fence; points = has_name names; clearance = Some c })) touching_within
       ∙ (λ i. record {
         net = record { sections = sections i; points = points i };
         staff = R.staff;
@@ -112,7 +113,12 @@ module _ (R : Register) (c : Id) (good : IsGood R) (no_operator : is_operators R
       λ p. or_false (beside p) (has_name (switched_points R q.kind) p) (ap (λ (names : List (List ℕ)). has_name names p) none) in
       let listed : (s : List ℕ) → (has_name (fence_for R q.kind) s || is_asked q.kind s) ≡ has_name (fence_for R q.kind) s =
       λ s. or_false (has_name (fence_for R q.kind) s) (is_asked q.kind s) (not_asked q.kind c named s) in
-      λ i. part R (λ s. listed s i) (has_name (fence_for R q.kind)) (λ p. by_fence p i) (named i)
+      λ i. part R (record {
+        sections = λ s. listed s i;
+        holds_at = has_name (fence_for R q.kind);
+        points = λ p. by_fence p i;
+        clearance = named i;
+      })
 
 -- ---- an own command that names the clearance
 

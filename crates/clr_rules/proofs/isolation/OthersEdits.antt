@@ -9,7 +9,7 @@ use Rattle.clr_order.specs.declared.action.Action.{Action}
 use Rattle.clr_order.specs.declared.action.Action.TheVariants as actions
 use Rattle.clr_rules.specs.Answer.{Answer, answer, reply_clearance, first_refusal, known_of, requester_for, answer_by_checks}
 use Rattle.clr_rules.specs.Commands.{Known, checks, edits_of}
-use Rattle.clr_rules.specs.Changes.{done_edits, edits_by, hold_edits, new_steps, position_edits, put_steps, undone_edits, with_record, with_step}
+use Rattle.clr_rules.specs.Changes.{done_edits, edits_by, new_steps, point_edits, put_steps, undone_edits, with_record, with_step}
 use Rattle.clr_rules.specs.Checks.{other_hand, refuse, where_some}
 use Rattle.clr_rules.specs.Command.{named_clearance}
 use Rattle.clr_rules.specs.Prelude.{Edit, SetPosition, SetHand, TakeHold, PutRecord, PutStep, Command, Kind, HeldOpen, Tested, Record, Refusal, StepRow, Id, same_id, Register, hand_of, has_in_hand, greatest_number, record_of}
@@ -91,7 +91,7 @@ module _ (c : Id) (R : Register) where
   -- the edits of a step that is done
   done_spares : (action : Action) (switching : Bool) (p : List ℕ) (r r2 : Record) (row : StepRow) → spares c R (SetHand p None) ≡ true
       → (is_close action ≡ true → spares c R (SetPosition p Shut) ≡ true) → not (same_id c r.id) ≡ true → not (same_id c r2.id) ≡ true → not (same_id c row.id) ≡ true
-      → all_spare c R (position_edits action p ++ SetHand p None ∷ hold_edits switching r.id action p ++ PutRecord r2 ∷ PutStep row ∷ []) ≡ true
+      → all_spare c R (point_edits switching r.id action p ++ PutRecord r2 ∷ PutStep row ∷ []) ≡ true
   done_spares actions.Open true p r r2 row hand shut own kept step = and_from _ _ hand (and_from _ _ kept (and_from _ _ step refl))
   done_spares actions.Open false p r r2 row hand shut own kept step = and_from _ _ hand (and_from _ _ own (and_from _ _ kept (and_from _ _ step refl)))
   done_spares actions.Block switching p r r2 row hand shut own kept step = and_from _ _ hand (and_from _ _ own (and_from _ _ kept (and_from _ _ step refl)))
@@ -140,17 +140,18 @@ module _ (c : Id) (R : Register) (k : Known) (by : List ℕ) (at : ℕ) where
   edits_spare (kinds.Order d points tasks) matches others passed =
       by_record c R d _ others (λ r own. and_from _ _ own (steps_spare c R d 1 1 tasks others))
   edits_spare (kinds.Instruct d n) matches others passed = by_step c R d n _ others (λ r row found own step.
+      let (_, (_, (_, (_, (_, (_, (_, (_, (hand_passes, _))))))))) = all_pass (checks k R by at (kinds.Instruct d n)) passed in
       let free : other_hand d (hand_of R.states row.step.point) ≡ None =
-      check_of_found (step_at (present_steps R.steps d) n) row (λ row. other_hand d (hand_of R.states row.step.point)) found
-      (all_pass (checks k R by at (kinds.Instruct d n)) passed).1.1.1.1.1.1.1.1.0 in
+      check_of_found (step_at (present_steps R.steps d) n) row (λ row. other_hand d (hand_of R.states row.step.point)) found hand_passes in
       and_from _ _ (spares_hand c R row.step.point (Some d) (no_other_hand c d (hand_of R.states row.step.point) (not-true (same_id c d) others) free) (not-true (same_id c d) others))
       (and_from _ _ own (and_from _ _ step refl)))
   edits_spare (kinds.Repeat d n text) matches others passed =
       by_step c R d n _ others (λ r row found own step. and_from _ _ own (and_from _ _ step refl))
   edits_spare (kinds.Report d n done) matches others passed = by_step c R d n _ others (λ r row found own step.
+      let (_, (_, (_, (_, (_, (_, (state_passes, _))))))) = all_pass (checks k R by at (kinds.Report d n done)) passed in
       let check : refuse (not (is_repeated row.step.state)) WrongState ≡ None =
       check_of_found (step_at (present_steps R.steps d) n) row (λ row. refuse (not (is_repeated row.step.state)) WrongState) found
-      (all_pass (checks k R by at (kinds.Report d n done)) passed).1.1.1.1.1.1.0 in
+      state_passes in
       report_spares c R d row n (matches refl) others found (not_refused_true (is_repeated row.step.state) WrongState check) at done r own step)
   edits_spare (kinds.Grant d) matches others passed = by_record c R d _ others (λ r own. and_from _ _ own refl)
   edits_spare (kinds.Test d section true) matches others passed = by_record c R d _ others (λ r own. and_from _ _ others (and_from _ _ own refl))

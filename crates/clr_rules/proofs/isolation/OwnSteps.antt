@@ -35,9 +35,9 @@ module _ (by : List ℕ) (at : ℕ) (c : Id) (points : List (List ℕ)) (tasks :
   -- one of these applies
   too_late : (R : Register) → found_phase_requested (record_of R.records c) ≡ false → first_refusal (early R) ≡ None → ⊥
   too_late R late h =
-      let passed = all_pass (early R) h in
-      let (r, read) = record_there R c passed.1.1.0 in
-      both_ways (found_phase_requested (record_of R.records c)) late (rw read (phase_fits R c r is_requested read passed.1.1.1.1.0))
+      let (_, (_, (clearance_passes, (_, (phase_passes, _))))) = all_pass (early R) h in
+      let (r, read) = record_there R c clearance_passes in
+      both_ways (found_phase_requested (record_of R.records c)) late (rw read (phase_fits R c r is_requested read phase_passes))
 
   refused : (T : Register) (refusal : Refusal) → first_refusal (early T) ≡ Some refusal → answer T ordered ≡ record { reply = Refused refusal; edits = [] }
   refused T refusal h = ap (answer_by_checks (known_of T ordered) T ordered)

@@ -21,7 +21,7 @@ use Rattle.clr_rules.specs.Good.{ListsAreInOrder}
 use Rattle.clr_rules.specs.Hold.{same_hold}
 use Rattle.clr_rules.specs.Holds.{is_near_hold}
 use Rattle.clr_rules.specs.Id.{same_id_from_tie}
-use Rattle.clr_rules.specs.Near.{part}
+use Rattle.clr_rules.specs.Near.{Extent, part}
 use Rattle.clr_rules.specs.Shown.{is_mark, marks_of}
 use Rattle.clr_rules.specs.StepKey.{same_step_key}
 use Rattle.clr_rules.specs.States.{change_state, changed_state}
@@ -66,6 +66,10 @@ module _ (beside : List ℕ → Bool) (point : List ℕ) (change : PointState �
 
 -- ---- one edit
 
+-- the sections inside with their holds, these points, and a clearance
+abbrev around : (List ℕ → Bool) → (List ℕ → Bool) → Id → Extent
+around inside beside c = record { sections = inside; holds_at = inside; points = beside; clearance = Some c }
+
 -- the part after an edit that concerns it, and after one that does not
 abbrev part_after : Bool → Edit → Register → Register
 part_after true edit P = after_edit edit P
@@ -73,19 +77,19 @@ part_after false edit P = P
 
 module _ (R : Register) (ordered : ListsAreInOrder R) (inside beside : List ℕ → Bool) (c : Id) where
   at_position : (point : List ℕ) (position : Position) (b : Bool) → beside point ≡ b
-      → part (after_edit (SetPosition point position) R) inside inside beside (Some c)
-      ≡ part_after b (SetPosition point position) (part R inside inside beside (Some c))
-  at_position point position true is = ap (λ (l : List PointState). record (part R inside inside beside (Some c)) { states = l })
+      → part (after_edit (SetPosition point position) R) (around inside beside c)
+      ≡ part_after b (SetPosition point position) (part R (around inside beside c))
+  at_position point position true is = ap (λ (l : List PointState). record (part R (around inside beside c)) { states = l })
       (filter-change_near beside point (λ state. record state { position = position }) (λ state. refl) R.states is)
-  at_position point position false is = ap (λ (l : List PointState). record (part R inside inside beside (Some c)) { states = l })
+  at_position point position false is = ap (λ (l : List PointState). record (part R (around inside beside c)) { states = l })
       (filter-change_far beside point (λ state. record state { position = position }) (λ state. refl) R.states ordered.states is)
 
   at_hand : (point : List ℕ) (hand : Option Id) (b : Bool) → beside point ≡ b
-      → part (after_edit (SetHand point hand) R) inside inside beside (Some c)
-      ≡ part_after b (SetHand point hand) (part R inside inside beside (Some c))
-  at_hand point hand true is = ap (λ (l : List PointState). record (part R inside inside beside (Some c)) { states = l })
+      → part (after_edit (SetHand point hand) R) (around inside beside c)
+      ≡ part_after b (SetHand point hand) (part R (around inside beside c))
+  at_hand point hand true is = ap (λ (l : List PointState). record (part R (around inside beside c)) { states = l })
       (filter-change_near beside point (λ state. record state { hand = hand }) (λ state. refl) R.states is)
-  at_hand point hand false is = ap (λ (l : List PointState). record (part R inside inside beside (Some c)) { states = l })
+  at_hand point hand false is = ap (λ (l : List PointState). record (part R (around inside beside c)) { states = l })
       (filter-change_far beside point (λ state. record state { hand = hand }) (λ state. refl) R.states ordered.states is)
 
   -- a hold that ties with one is near where that is
@@ -94,38 +98,38 @@ module _ (R : Register) (ordered : ListsAreInOrder R) (inside beside : List ℕ 
   far_hold h is other tied = rw (same_hold other h (equal (hold_cmp other h) tied)) is
 
   at_put : (h : Hold) (b : Bool) → is_near_hold inside beside (Some c) h ≡ b
-      → part (after_edit (PutHold h) R) inside inside beside (Some c) ≡ part_after b (PutHold h) (part R inside inside beside (Some c))
-  at_put h true is = ap (λ (l : List Hold). record (part R inside inside beside (Some c)) { holds = l })
+      → part (after_edit (PutHold h) R) (around inside beside c) ≡ part_after b (PutHold h) (part R (around inside beside c))
+  at_put h true is = ap (λ (l : List Hold). record (part R (around inside beside c)) { holds = l })
       (filter-with_inside hold_cmp hold_key hold_cmp_total (is_near_hold inside beside (Some c)) h R.holds is)
-  at_put h false is = ap (λ (l : List Hold). record (part R inside inside beside (Some c)) { holds = l })
+  at_put h false is = ap (λ (l : List Hold). record (part R (around inside beside c)) { holds = l })
       (filter-with_far hold_cmp hold_key hold_cmp_total (is_near_hold inside beside (Some c)) h R.holds ordered.holds (far_hold h is))
 
   at_take : (h : Hold) (b : Bool) → is_near_hold inside beside (Some c) h ≡ b
-      → part (after_edit (TakeHold h) R) inside inside beside (Some c) ≡ part_after b (TakeHold h) (part R inside inside beside (Some c))
-  at_take h true is = ap (λ (l : List Hold). record (part R inside inside beside (Some c)) { holds = l })
+      → part (after_edit (TakeHold h) R) (around inside beside c) ≡ part_after b (TakeHold h) (part R (around inside beside c))
+  at_take h true is = ap (λ (l : List Hold). record (part R (around inside beside c)) { holds = l })
       (filter-without_row hold_cmp hold_key hold_cmp_total (is_near_hold inside beside (Some c)) h R.holds)
-  at_take h false is = ap (λ (l : List Hold). record (part R inside inside beside (Some c)) { holds = l })
+  at_take h false is = ap (λ (l : List Hold). record (part R (around inside beside c)) { holds = l })
       (filter-without_far hold_cmp hold_key hold_cmp_total (is_near_hold inside beside (Some c)) h R.holds (far_hold h is))
 
   at_record : (r : Record) (b : Bool) → same_id c r.id ≡ b
-      → part (after_edit (PutRecord r) R) inside inside beside (Some c) ≡ part_after b (PutRecord r) (part R inside inside beside (Some c))
-  at_record r true is = ap (λ (l : List Record). record (part R inside inside beside (Some c)) { records = l })
+      → part (after_edit (PutRecord r) R) (around inside beside c) ≡ part_after b (PutRecord r) (part R (around inside beside c))
+  at_record r true is = ap (λ (l : List Record). record (part R (around inside beside c)) { records = l })
       (filter-with_inside id_cmp record_key id_cmp_total (λ other. same_id c other.id) r R.records is)
-  at_record r false is = ap (λ (l : List Record). record (part R inside inside beside (Some c)) { records = l })
+  at_record r false is = ap (λ (l : List Record). record (part R (around inside beside c)) { records = l })
       (filter-with_far id_cmp record_key id_cmp_total (λ other. same_id c other.id) r R.records ordered.records
       (λ other tied. rw (same_id_from_tie other.id r.id (equal (id_cmp other.id r.id) tied)) is))
 
   at_step : (row : StepRow) (b : Bool) → same_id c row.id ≡ b
-      → part (after_edit (PutStep row) R) inside inside beside (Some c) ≡ part_after b (PutStep row) (part R inside inside beside (Some c))
-  at_step row true is = ap (λ (l : List StepRow). record (part R inside inside beside (Some c)) { steps = l })
+      → part (after_edit (PutStep row) R) (around inside beside c) ≡ part_after b (PutStep row) (part R (around inside beside c))
+  at_step row true is = ap (λ (l : List StepRow). record (part R (around inside beside c)) { steps = l })
       (filter-with_inside step_key_cmp step_key step_key_cmp_total (λ other. same_id c other.id) row R.steps is)
-  at_step row false is = ap (λ (l : List StepRow). record (part R inside inside beside (Some c)) { steps = l })
+  at_step row false is = ap (λ (l : List StepRow). record (part R (around inside beside c)) { steps = l })
       (filter-with_far step_key_cmp step_key step_key_cmp_total (λ other. same_id c other.id) row R.steps ordered.steps
       (λ other tied. rw (ap (λ key. key.id) (same_step_key (step_key other) (step_key row) (equal (step_key_cmp (step_key other) (step_key row)) tied))) is))
 
   -- an edit changes the part where it concerns it, and else leaves it
-  pub part-edited : (edit : Edit) → part (after_edit edit R) inside inside beside (Some c)
-      ≡ part_after (concerns c inside beside edit) edit (part R inside inside beside (Some c))
+  pub part-edited : (edit : Edit) → part (after_edit edit R) (around inside beside c)
+      ≡ part_after (concerns c inside beside edit) edit (part R (around inside beside c))
   part-edited (SetPosition point position) = at_position point position (beside point) refl
   part-edited (SetHand point hand) = at_hand point hand (beside point) refl
   part-edited (PutHold h) = at_put h (is_near_hold inside beside (Some c) h) refl
@@ -143,20 +147,20 @@ first_tested p edit edits P true is = rw is refl
 first_tested p edit edits P false is = rw is refl
 
 pub part-edited_all : (R : Register) → ListsAreInOrder R → (inside beside : List ℕ → Bool) (c : Id) (edits : List Edit)
-    → part (after_edits edits R) inside inside beside (Some c)
-    ≡ after_edits (filter (concerns c inside beside) edits) (part R inside inside beside (Some c))
+    → part (after_edits edits R) (around inside beside c)
+    ≡ after_edits (filter (concerns c inside beside) edits) (part R (around inside beside c))
 unfolding after_edits
 part-edited_all R ordered inside beside c [] = refl
 part-edited_all R ordered inside beside c (edit ∷ edits) =
     part-edited_all (after_edit edit R) (edited-in_order edit R ordered) inside beside c edits
     ∙ ap (after_edits (filter (concerns c inside beside) edits)) (part-edited R ordered inside beside c edit)
-    ∙ first_tested (concerns c inside beside) edit edits (part R inside inside beside (Some c)) (concerns c inside beside edit) refl
+    ∙ first_tested (concerns c inside beside) edit edits (part R (around inside beside c)) (concerns c inside beside edit) refl
 
 -- edits change what stands near a clearance exactly by those of them that concern it
 pub part_near-edited_all : (R : Register) → ListsAreInOrder R → (c : Id) (inside : List ℕ → Bool) (edits : List Edit)
     → part_near (after_edits edits R) c inside ≡ after_edits (concerning R.net c inside edits) (part_near R c inside)
 part_near-edited_all R ordered c inside edits =
-    ap (λ (g : Grid). part (after_edits edits R) inside inside (has_name (touching_names g inside)) (Some c)) (edited_all-network R edits ordered).same_net
+    ap (λ (g : Grid). part (after_edits edits R) (around inside (has_name (touching_names g inside)) c)) (edited_all-network R edits ordered).same_net
     ∙ part-edited_all R ordered inside (has_name (touching_names R.net inside)) c edits
 
 -- ---- edits of others

@@ -142,8 +142,9 @@ module _ (R : Register) (good : IsGoodByPhase R) (c : Id) (r : Record) (found : 
 
 pub releases_keep : (c : Id) (notified clear : Bool) → KeepsGood (Release c notified clear)
 releases_keep c notified clear = commands_keep (Release c notified clear) (λ R by at good passed.
-    let (r, found) = record_there R c passed.1.1.0 in
-    let w = granted_work R c r good found (phase_fits R c r is_granted found passed.1.1.1.1.1.0) in
+    let (_, (_, (clearance_passes, (_, (_, (phase_passes, (crews_passes, (grounds_passes, _)))))))) = passed in
+    let (r, found) = record_there R c clearance_passes in
+    let w = granted_work R c r good found (phase_fits R c r is_granted found phase_passes) in
     found_edits R c r (λ r. map (λ place. TakeHold (hold_of c Tested place)) (places_of R.holds c Tested) ++ PutRecord (record r { phase = Released; last = at }) ∷ []) found
-    (release_keeps R good c r found w at (not_refused (has_some_hold R.holds c Crew) CrewsOn passed.1.1.1.1.1.1.0)
-    (not_refused (has_some_hold R.holds c Ground) Grounded passed.1.1.1.1.1.1.1.0)))
+    (release_keeps R good c r found w at (not_refused (has_some_hold R.holds c Crew) CrewsOn crews_passes)
+    (not_refused (has_some_hold R.holds c Ground) Grounded grounds_passes)))

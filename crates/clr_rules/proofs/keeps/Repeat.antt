@@ -66,7 +66,8 @@ repeat_keeps R by at c r row good found runs p active =
 
 pub repeats_keep : (c : Id) (n : ℕ) (text : List ℕ) → KeepsGood (Repeat c n text)
 repeats_keep c n text = commands_keep (Repeat c n text) (λ R by at good passed.
-    let (r, found) = record_there R c passed.1.1.0 in
-    let s = step_there R c n passed.1.1.1.1.1.0 in
+    let (_, (_, (clearance_passes, (_, (phase_passes, (step_passes, (state_passes, _))))))) = passed in
+    let (r, found) = record_there R c clearance_passes in
+    let s = step_there R c n step_passes in
     found_step_edits R c n r s.row (λ r row. PutRecord (record r { last = at }) ∷ PutStep (step_moved Repeated (Some by) row) ∷ []) found s.found
-    (repeat_keeps R by at c r s.row good found (phase_fits R c r is_running found passed.1.1.1.1.0) s.is_present (state_fits R c n s is_active passed.1.1.1.1.1.1.0)))
+    (repeat_keeps R by at c r s.row good found (phase_fits R c r is_running found phase_passes) s.is_present (state_fits R c n s is_active state_passes)))

@@ -10,7 +10,7 @@ use Rattle.clr_order.specs.declared.action.Action.{Action}
 use Rattle.clr_order.specs.declared.step.StepState.TheVariants.{Waiting, Done}
 use Rattle.clr_order.specs.declared.action.Action.TheVariants as actions
 use Rattle.clr_shelf.specs.Rows.{with_row, without_row}
-use Rattle.clr_rules.specs.Changes.{done_edits, hold_edits, step_moved, phase_after, position_edits, undone_edits}
+use Rattle.clr_rules.specs.Changes.{done_edits, step_moved, phase_after, point_edits, undone_edits}
 use Rattle.clr_rules.specs.Prelude.{Edit, SetHand, PutRecord, PutStep, Hold, HoldKind, HeldOpen, Block, Control, Tag, Phase, Ordered, Restoring, Switching, Closed, PointState, Record, StepRow, Id, Register}
 use Rattle.clr_rules.specs.Prelude.{hand_of, has_in_hand, position_of, record_of, is_running, all_done, is_active, is_done, is_some_step, present_steps, steps_in, steps_of, hold_cmp, is_point_kind, has_hold, hold_key, hold_of, same_kind}
 use Rattle.clr_rules.specs.Prelude.{after_edits}
@@ -42,7 +42,7 @@ use Rattle.clr_rules.proofs.lists.StepSplits.{All-before, repeated_is_active}
 -- the edits by clearance, action, work section and phase
 abbrev edits_as : ℕ → Record → StepRow → Id → Action → Bool → Phase → List Edit
 edits_as at r row d action switching phase =
-    position_edits action row.step.point ++ SetHand row.step.point None ∷ hold_edits switching d action row.step.point
+    point_edits switching d action row.step.point
     ++ PutRecord (record r { phase = phase; last = at }) ∷ PutStep (step_moved Done row.step.reader row) ∷ []
 
 module _ (R : Register) (good : IsGoodByPhase R) (c : Id) (r : Record) (found : record_of R.records c ≡ Some r) (row : StepRow) (p : IsPresent R c row)
@@ -286,10 +286,11 @@ undone_report R good c r found row p active runs at =
 
 pub reports_keep : (c : Id) (n : ℕ) (done : Bool) → KeepsGood (Report c n done)
 reports_keep c n done = commands_keep (Report c n done) (λ R by at good passed.
-    let (r, found) = record_there R c passed.1.1.0 in
-    let s = step_there R c n passed.1.1.1.1.1.0 in
-    let active = repeated_is_active s.row.step.state (state_fits R c n s is_repeated passed.1.1.1.1.1.1.0) in
-    let runs = phase_fits R c r is_running found passed.1.1.1.1.0 in
+    let (_, (_, (clearance_passes, (_, (phase_passes, (step_passes, (state_passes, _))))))) = passed in
+    let (r, found) = record_there R c clearance_passes in
+    let s = step_there R c n step_passes in
+    let active = repeated_is_active s.row.step.state (state_fits R c n s is_repeated state_passes) in
+    let runs = phase_fits R c r is_running found phase_passes in
     found_step_edits R c n r s.row (λ r row. cond done (done_edits R at r row) (undone_edits at r row)) found s.found
     (by_report R good c r found s.row s.is_present active runs at done))
   where

@@ -64,6 +64,7 @@ request_keeps R by at section good known not_operator =
 
 pub requests_keep : (section : List ℕ) → KeepsGood (Request section)
 requests_keep section = commands_keep (Request section) (λ R by at good passed.
-    let (row, found, charge) = caller_role R by is_charge passed.0 passed.1.0 in
-    request_keeps R by at section good (not_refused_true (has_name (section_names (Grid.sections R.net)) section) UnknownSection passed.1.1.0)
+    let (caller_passes, (role_passes, (section_passes, _))) = passed in
+    let (row, found, charge) = caller_role R by is_charge caller_passes role_passes in
+    request_keeps R by at section good (not_refused_true (has_name (section_names (Grid.sections R.net)) section) UnknownSection section_passes)
     (ap (has_role is_operator) found ∙ charge_operates_not row.role charge))

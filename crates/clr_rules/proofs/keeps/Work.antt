@@ -213,9 +213,10 @@ module _ (R : Register) (good : IsGoodByPhase R) (c : Id) (r : Record) (found : 
 
 pub tests_keep : (c : Id) (section : List ℕ) (dead : Bool) → KeepsGood (Test c section dead)
 tests_keep c section dead = commands_keep (Test c section dead) (λ R by at good passed.
-    let (r, found) = record_there R c passed.1.1.0 in
-    let w = granted_work R c r good found (phase_fits R c r is_granted found passed.1.1.1.1.1.0) in
-    let fenced = not_refused_true (has_name (clearance_fence R c) section) OutsideFence passed.1.1.1.1.1.1.0 in
+    let (_, (_, (clearance_passes, (_, (_, (phase_passes, (inside_passes, _))))))) = passed in
+    let (r, found) = record_there R c clearance_passes in
+    let w = granted_work R c r good found (phase_fits R c r is_granted found phase_passes) in
+    let fenced = not_refused_true (has_name (clearance_fence R c) section) OutsideFence inside_passes in
     found_edits R c r (λ r. cond dead (PutHold (hold_of c Tested section)) (TakeHold (hold_of c Tested section)) ∷ PutRecord (record r { last = at }) ∷ []) found
     (by_test R good c r found w at section fenced dead))
   where
@@ -227,10 +228,11 @@ tests_keep c section dead = commands_keep (Test c section dead) (λ R by at good
 
 pub grounds_keep : (c : Id) (section : List ℕ) → KeepsGood (GroundIt c section)
 grounds_keep c section = commands_keep (GroundIt c section) (λ R by at good passed.
-    let (r, found) = record_there R c passed.1.1.0 in
-    let w = granted_work R c r good found (phase_fits R c r is_granted found passed.1.1.1.1.1.0) in
+    let (_, (_, (clearance_passes, (_, (_, (phase_passes, (inside_passes, _))))))) = passed in
+    let (r, found) = record_there R c clearance_passes in
+    let w = granted_work R c r good found (phase_fits R c r is_granted found phase_passes) in
     found_edits R c r (λ r. PutHold (hold_of c Ground section) ∷ PutRecord (record r { last = at }) ∷ []) found
-    (ground_keeps R good c r found w at section (not_refused_true (has_name (clearance_fence R c) section) OutsideFence passed.1.1.1.1.1.1.0)))
+    (ground_keeps R good c r found w at section (not_refused_true (has_name (clearance_fence R c) section) OutsideFence inside_passes)))
 
 -- what is checked at the work section
 work_check : (R : Register) (c : Id) (r : Record) (w : GrantedWork R c r) (check : List ℕ → Option Refusal) → record_of R.records c ≡ Some r → at_work R c check ≡ None → check w.work ≡ None
@@ -238,23 +240,26 @@ work_check R c r w check found passed = check_of_found r.work w.work check w.has
 
 pub ungrounds_keep : (c : Id) (section : List ℕ) → KeepsGood (Unground c section)
 ungrounds_keep c section = commands_keep (Unground c section) (λ R by at good passed.
-    let (r, found) = record_there R c passed.1.1.0 in
-    let w = granted_work R c r good found (phase_fits R c r is_granted found passed.1.1.1.1.1.0) in
+    let (_, (_, (clearance_passes, (_, (_, (phase_passes, (_, (_, (crews_passes, _))))))))) = passed in
+    let (r, found) = record_there R c clearance_passes in
+    let w = granted_work R c r good found (phase_fits R c r is_granted found phase_passes) in
     found_edits R c r (λ r. TakeHold (hold_of c Ground section) ∷ TakeHold (hold_of c Tested section) ∷ PutRecord (record r { last = at }) ∷ []) found
     (unground_keeps R good c r found w at section (not_refused (same_name w.work section && has_some_hold R.holds c Crew) CrewsOn
-    (work_check R c r w (λ work. refuse (same_name work section && has_some_hold R.holds c Crew) CrewsOn) found passed.1.1.1.1.1.1.1.1.0))))
+    (work_check R c r w (λ work. refuse (same_name work section && has_some_hold R.holds c Crew) CrewsOn) found crews_passes))))
 
 pub sign_ons_keep : (c : Id) (crew : List ℕ) → KeepsGood (SignOn c crew)
 sign_ons_keep c crew = commands_keep (SignOn c crew) (λ R by at good passed.
-    let (r, found) = record_there R c passed.1.1.0 in
-    let w = granted_work R c r good found (phase_fits R c r is_granted found passed.1.1.1.1.1.0) in
+    let (_, (_, (clearance_passes, (_, (_, (phase_passes, (_, (ground_passes, _)))))))) = passed in
+    let (r, found) = record_there R c clearance_passes in
+    let w = granted_work R c r good found (phase_fits R c r is_granted found phase_passes) in
     found_edits R c r (λ r. PutHold (hold_of c Crew crew) ∷ PutRecord (record r { last = at }) ∷ []) found
     (sign_on_keeps R good c r found w at crew (not_refused_true (has_hold R.holds c Ground w.work) NotGrounded
-    (work_check R c r w (λ section. refuse (not (has_hold R.holds c Ground section)) NotGrounded) found passed.1.1.1.1.1.1.1.0))))
+    (work_check R c r w (λ section. refuse (not (has_hold R.holds c Ground section)) NotGrounded) found ground_passes))))
 
 pub sign_offs_keep : (c : Id) (crew : List ℕ) → KeepsGood (SignOff c crew)
 sign_offs_keep c crew = commands_keep (SignOff c crew) (λ R by at good passed.
-    let (r, found) = record_there R c passed.1.1.0 in
-    let w = granted_work R c r good found (phase_fits R c r is_granted found passed.1.1.1.1.1.0) in
+    let (_, (_, (clearance_passes, (_, (_, (phase_passes, _)))))) = passed in
+    let (r, found) = record_there R c clearance_passes in
+    let w = granted_work R c r good found (phase_fits R c r is_granted found phase_passes) in
     found_edits R c r (λ r. TakeHold (hold_of c Crew crew) ∷ PutRecord (record r { last = at }) ∷ []) found
     (sign_off_keeps R good c r found w at crew))

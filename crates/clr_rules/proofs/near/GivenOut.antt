@@ -170,10 +170,11 @@ module _ (R : Register) (good : IsGood R) (by : List ℕ) (at : ℕ) (c : Id) (n
 
   same_point : first_refusal (early R) ≡ None → at_point R ≡ at_point (near_part R given)
   same_point h =
-      let passed = all_pass (early R) h in
-      let (r, read) = record_there R c passed.1.1.0 in
-      let s = step_there R c n passed.1.1.1.1.1.0 in
-      point_checks s.row s.found (point_beside R good c n r read (phase_fits R c r is_running read passed.1.1.1.1.0) s (state_fits R c n s is_waiting passed.1.1.1.1.1.1.1.0))
+      let (_, (_, (clearance_passes, (_, (phase_passes, (step_passes, (_, (state_passes, _)))))))) = all_pass (early R) h in
+      let (r, read) = record_there R c clearance_passes in
+      let s = step_there R c n step_passes in
+      point_checks s.row s.found
+      (point_beside R good c n r read (phase_fits R c r is_running read phase_passes) s (state_fits R c n s is_waiting state_passes))
 
   same_refusal : first_refusal (checks (known_of R given) R by at (Instruct c n)) ≡ first_refusal (checks (known_of R given) (near_part R given) by at (Instruct c n))
   same_refusal = first_after (early R) (at_point R) (at_point (near_part R given)) (λ h. ap first_refusal (same_point h))

@@ -98,7 +98,8 @@ module _ (R : Register) (good : IsGood R) (by : List ℕ) (at : ℕ) (c : Id) (p
   order_settled (Some refusal) refused = refl
   order_settled None passed =
       let there = some_record (record_of R.records c) (named_recorded (known_of R ordered) R by at (Order c points tasks) c passed refl) in
-      let requested = requested_here (record_of R.records c) there.0 there.1 (all_pass (checks (known_of R ordered) R by at (Order c points tasks)) passed).1.1.1.1.0 in
+      let (_, (_, (_, (_, (phase_passes, _))))) = all_pass (checks (known_of R ordered) R by at (Order c points tasks)) passed in
+      let requested = requested_here (record_of R.records c) there.0 there.1 phase_passes in
       let same : SameOwn c R (near_part R ordered) = record {
         staff = refl;
         own_record = same_but_holds.own_record;

@@ -5,7 +5,7 @@ use Rattle.clr_order.specs.declared.step.StepState.TheVariants.{Done}
 use Rattle.clr_shelf.proofs.Groups.{filter-with_far, filter-with_inside}
 use Rattle.clr_shelf.proofs.Keys.{equal}
 use Rattle.clr_shelf.specs.Rows.{in_key_order, with_row}
-use Rattle.clr_rules.specs.Changes.{cancelled_phase, done_edits, edits_by, hold_edits, step_moved, phase_after, position_edits, undone_edits, with_record, with_step}
+use Rattle.clr_rules.specs.Changes.{cancelled_phase, done_edits, edits_by, step_moved, phase_after, point_edits, undone_edits, with_record, with_step}
 use Rattle.clr_rules.specs.Commands.{edits_of}
 use Rattle.clr_rules.specs.Command.{named_clearance}
 use Rattle.clr_rules.specs.Prelude.{Edit, SetPosition, SetHand, PutHold, TakeHold, PutRecord, PutStep, Kind, Tested, Phase, Released, Closed, Record, StepRow, Id, same_id, Register, record_of, is_ordered, step_key, step_key_cmp}
@@ -114,7 +114,7 @@ module _ (c : Id) (R S : Register) (R_order : ListsAreInOrder R) (S_order : List
 
   same_done : (at : ℕ) (r : Record) (row : StepRow) → r.id ≡ c → done_edits R at r row ≡ done_edits S at r row
   same_done at r row own =
-      ap (λ (phase : Phase). position_edits row.step.action row.step.point ++ SetHand row.step.point None ∷ hold_edits (is_switch_order r) r.id row.step.action row.step.point
+      ap (λ (phase : Phase). point_edits (is_switch_order r) r.id row.step.action row.step.point
       ++ PutRecord (record r { phase = phase; last = at }) ∷ PutStep (step_moved Done row.step.reader row) ∷ [])
       (same_phase_after r (step_moved Done row.step.reader row) own)
 

@@ -1,5 +1,26 @@
 //! Each kind of command, its reply and its edits.
-ghost use Rattle.clr_rules.specs.ExamplesOfChanges.{AmendedClosesLeave, BlocksArePut, BlocksAreTaken, CancelledHoldersAreReleased, CancelledOrdersAreClosed, CancelledRequestsAreClosed, CancelledSwitchOrdersAreClosed, ClosedPointsAreHeldNoLonger, ControlsArePut, ControlsAreTaken, CrewsArePut, CrewsAreTaken, DeadTestsArePut, GrantsChangeThePhase, GroundsArePut, GroundsAreTakenWithTests, HoldersHandOn, InstructionsTakeInHand, JonesCountsOn, KimCountsFromOne, LastStepsCloseRecords, LaterReadersTakeOver, LeftPointsStayOpen, LiveTestsAreTaken, NineStepsAreNeeded, OpenedPointsAreHeld, OrdersPutSteps, ReleasesTakeAllTests, ReleasesTakeTests, RepeatsNameReaders, RequestsHaveNoFence, RequestsMakeRecords, RestoringOrdersPutSteps, SupervisorsHandOn, SwitchOrdersClose, SwitchOrdersHaveNoWork, SwitchOrdersHoldNothing, TagsArePut, TagsAreTaken, UndoneStepsWaitAgain, ViewsHaveAllHolds, ViewsHaveTheFence};
+ghost use Rattle.clr_rules.specs.ExamplesOfChanges.{AmendedClosesLeave, BlocksArePut};
+ghost use Rattle.clr_rules.specs.ExamplesOfChanges.{BlocksAreTaken, CancelledHoldersAreReleased};
+ghost use Rattle.clr_rules.specs.ExamplesOfChanges.{CancelledOrdersAreClosed};
+ghost use Rattle.clr_rules.specs.ExamplesOfChanges.{CancelledRequestsAreClosed};
+ghost use Rattle.clr_rules.specs.ExamplesOfChanges.{CancelledSwitchOrdersAreClosed};
+ghost use Rattle.clr_rules.specs.ExamplesOfChanges.{ClosedPointsAreHeldNoLonger, ControlsArePut};
+ghost use Rattle.clr_rules.specs.ExamplesOfChanges.{ControlsAreTaken, CrewsArePut, CrewsAreTaken};
+ghost use Rattle.clr_rules.specs.ExamplesOfChanges.{DeadTestsArePut, GrantsChangeThePhase};
+ghost use Rattle.clr_rules.specs.ExamplesOfChanges.{GroundsArePut, GroundsAreTakenWithTests};
+ghost use Rattle.clr_rules.specs.ExamplesOfChanges.{HoldersHandOn, InstructionsTakeInHand};
+ghost use Rattle.clr_rules.specs.ExamplesOfChanges.{JonesCountsOn, KimCountsFromOne};
+ghost use Rattle.clr_rules.specs.ExamplesOfChanges.{LastStepsCloseRecords, LaterReadersTakeOver};
+ghost use Rattle.clr_rules.specs.ExamplesOfChanges.{LeftPointsStayOpen, LiveTestsAreTaken};
+ghost use Rattle.clr_rules.specs.ExamplesOfChanges.{NineStepsAreNeeded, OpenedPointsAreHeld};
+ghost use Rattle.clr_rules.specs.ExamplesOfChanges.{OrdersPutSteps, ReleasesTakeAllTests};
+ghost use Rattle.clr_rules.specs.ExamplesOfChanges.{ReleasesTakeTests, RepeatsNameReaders};
+ghost use Rattle.clr_rules.specs.ExamplesOfChanges.{RequestsHaveNoFence, RequestsMakeRecords};
+ghost use Rattle.clr_rules.specs.ExamplesOfChanges.{RestoringOrdersPutSteps, SupervisorsHandOn};
+ghost use Rattle.clr_rules.specs.ExamplesOfChanges.{SwitchOrdersClose, SwitchOrdersHaveNoWork};
+ghost use Rattle.clr_rules.specs.ExamplesOfChanges.{SwitchOrdersHoldNothing, TagsArePut};
+ghost use Rattle.clr_rules.specs.ExamplesOfChanges.{TagsAreTaken, UndoneStepsWaitAgain};
+ghost use Rattle.clr_rules.specs.ExamplesOfChanges.{ViewsHaveAllHolds, ViewsHaveTheFence};
 
 /// A request makes a record; the numbers are counted for each requester.
 pub fn request()

@@ -1,5 +1,22 @@
 //! Where two checks of a command apply, the earlier answers.
-ghost use Rattle.clr_rules.specs.ExamplesOfFirstChecks.{ActionsComeBeforePoints, CallersComeBeforeClearances, CrewsThenGroundsThenNotice, FencesComeBeforeGrounds, HandsComeBeforeHolds, HoldersComeBeforeCrews, HoldersComeBeforeStates, HoldersComeBeforeTransfers, MomentsComeBeforeSteps, PhasesComeBeforeFences, PhasesComeBeforeOrders, PhasesThenNumbersThenActions, RolesComeBeforeSections, SourcesComeBeforeSteps, StatesComeBeforeReaders, StatesComeBeforeTexts, TestsComeBeforeMissingGrounds, TestsComeBeforeSecondGrounds};
+ghost use Rattle.clr_rules.specs.ExamplesOfFirstChecks.{ActionsComeBeforePoints};
+ghost use Rattle.clr_rules.specs.ExamplesOfFirstChecks.{CallersComeBeforeClearances};
+ghost use Rattle.clr_rules.specs.ExamplesOfFirstChecks.{CrewsThenGroundsThenNotice};
+ghost use Rattle.clr_rules.specs.ExamplesOfFirstChecks.{FencesComeBeforeGrounds};
+ghost use Rattle.clr_rules.specs.ExamplesOfFirstChecks.{HandsComeBeforeHolds};
+ghost use Rattle.clr_rules.specs.ExamplesOfFirstChecks.{HoldersComeBeforeCrews};
+ghost use Rattle.clr_rules.specs.ExamplesOfFirstChecks.{HoldersComeBeforeStates};
+ghost use Rattle.clr_rules.specs.ExamplesOfFirstChecks.{HoldersComeBeforeTransfers};
+ghost use Rattle.clr_rules.specs.ExamplesOfFirstChecks.{MomentsComeBeforeSteps};
+ghost use Rattle.clr_rules.specs.ExamplesOfFirstChecks.{PhasesComeBeforeFences};
+ghost use Rattle.clr_rules.specs.ExamplesOfFirstChecks.{PhasesComeBeforeOrders};
+ghost use Rattle.clr_rules.specs.ExamplesOfFirstChecks.{PhasesThenNumbersThenActions};
+ghost use Rattle.clr_rules.specs.ExamplesOfFirstChecks.{RolesComeBeforeSections};
+ghost use Rattle.clr_rules.specs.ExamplesOfFirstChecks.{SourcesComeBeforeSteps};
+ghost use Rattle.clr_rules.specs.ExamplesOfFirstChecks.{StatesComeBeforeReaders};
+ghost use Rattle.clr_rules.specs.ExamplesOfFirstChecks.{StatesComeBeforeTexts};
+ghost use Rattle.clr_rules.specs.ExamplesOfFirstChecks.{TestsComeBeforeMissingGrounds};
+ghost use Rattle.clr_rules.specs.ExamplesOfFirstChecks.{TestsComeBeforeSecondGrounds};
 
 /// Of the commands that make a clearance and its order: request, order, switch.
 pub fn making()

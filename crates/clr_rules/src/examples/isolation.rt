@@ -1,8 +1,21 @@
 //! A clearance that lives its life in two registers.
-ghost use Rattle.clr_rules.specs.ExamplesOfIsolation.{AnotherNumberDisagrees, AnotherPointDisagrees, AnotherPositionDisagrees, AnotherStaffDisagrees, AnotherSwitchIsSeen, BothAreReached, BothSectionsCover, FortyNineAreShown, ItsMarksAreSeen, JonesIsNoOperator, KimChangesNoAnswer, KimLeavesNoMark, KimLeavesS3, KimsTagHangs, L2CoversKimsRun, L2CoversTheRun, L2DoesNotCoverL3, NoMarkIsSeen, OneEndsSo, RequestsShowTheirSection, TheAnswersAreTheSame, TheListsShowTheSame, TheRegistersAgree, TheRegistersStillAgree, TwoEndsSo};
+ghost use Rattle.clr_rules.specs.ExamplesOfIsolation.{AnotherNumberDisagrees};
+ghost use Rattle.clr_rules.specs.ExamplesOfIsolation.{AnotherPointDisagrees};
+ghost use Rattle.clr_rules.specs.ExamplesOfIsolation.{AnotherPositionDisagrees};
+ghost use Rattle.clr_rules.specs.ExamplesOfIsolation.{AnotherStaffDisagrees, AnotherSwitchIsSeen};
+ghost use Rattle.clr_rules.specs.ExamplesOfIsolation.{BothAreReached, BothSectionsCover};
+ghost use Rattle.clr_rules.specs.ExamplesOfIsolation.{FortyNineAreShown, ItsMarksAreSeen};
+ghost use Rattle.clr_rules.specs.ExamplesOfIsolation.{JonesIsNoOperator, KimChangesNoAnswer};
+ghost use Rattle.clr_rules.specs.ExamplesOfIsolation.{KimLeavesNoMark, KimLeavesS3, KimsTagHangs};
+ghost use Rattle.clr_rules.specs.ExamplesOfIsolation.{L2CoversKimsRun, L2CoversTheRun};
+ghost use Rattle.clr_rules.specs.ExamplesOfIsolation.{L2DoesNotCoverL3, NoMarkIsSeen, OneEndsSo};
+ghost use Rattle.clr_rules.specs.ExamplesOfIsolation.{RequestsShowTheirSection};
+ghost use Rattle.clr_rules.specs.ExamplesOfIsolation.{TheAnswersAreTheSame, TheListsShowTheSame};
+ghost use Rattle.clr_rules.specs.ExamplesOfIsolation.{TheRegistersAgree, TheRegistersStillAgree};
+ghost use Rattle.clr_rules.specs.ExamplesOfIsolation.{TwoEndsSo};
 
-/// What isolation asks of two registers and two lists: the registers agree, the set covers the run, and the lists show the
-/// same.
+/// What isolation asks of two registers and two lists: the registers agree, the set covers the run,
+/// and the lists show the same.
 pub fn premises()
     ensures agree { TheRegistersAgree }
     ensures covered { L2CoversTheRun }
@@ -17,7 +30,8 @@ pub fn reached()
     ensures no_operator { JonesIsNoOperator }
 {}
 
-/// A neighbour's order, whose steps at other points run: the set covers it, the same is shown, and the answers are the same.
+/// A neighbour's order, whose steps at other points run: the set covers it, the same is shown, and
+/// the answers are the same.
 pub fn neighbours_order()
     ensures covered { L2CoversKimsRun }
     ensures same_shown { KimLeavesNoMark }

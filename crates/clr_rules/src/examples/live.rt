@@ -1,5 +1,7 @@
 //! Which sections are live.
-ghost use Rattle.clr_rules.specs.ExamplesOfLive.{AllAreLiveAtFirst, BothWorkSectionsAreDead, OneOpenPointIsNotEnough, OpenBordersAreDead, StatelessPointsAreNotClosed};
+ghost use Rattle.clr_rules.specs.ExamplesOfLive.{AllAreLiveAtFirst, BothWorkSectionsAreDead};
+ghost use Rattle.clr_rules.specs.ExamplesOfLive.{OneOpenPointIsNotEnough, OpenBordersAreDead};
+ghost use Rattle.clr_rules.specs.ExamplesOfLive.{StatelessPointsAreNotClosed};
 
 /// All at first; a section whose border is open is not.
 pub fn sections()

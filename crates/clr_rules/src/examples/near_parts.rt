@@ -1,5 +1,6 @@
 //! What a command looks at, and no row more.
-ghost use Rattle.clr_rules.specs.ExamplesOfNearParts.{NearARequest, NearASwitchOrder, NearAnOrder, NearJones};
+ghost use Rattle.clr_rules.specs.ExamplesOfNearParts.{NearARequest, NearASwitchOrder, NearAnOrder};
+ghost use Rattle.clr_rules.specs.ExamplesOfNearParts.{NearJones};
 
 /// The near part of JONES/1, beside which KIM/1 stands.
 pub fn show()

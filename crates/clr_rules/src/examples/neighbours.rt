@@ -1,5 +1,8 @@
 //! Two clearances whose fences overlap.
-ghost use Rattle.clr_rules.specs.ExamplesOfNeighbours.{GroundsAreOnesOwn, GroundsDoNotHinder, GroundsStandSideBySide, OwnHoldsDoNotHinder, ReleasesAreOnesOwn, TestsAreOnesOwn, TheLesserIsNamed};
+ghost use Rattle.clr_rules.specs.ExamplesOfNeighbours.{GroundsAreOnesOwn, GroundsDoNotHinder};
+ghost use Rattle.clr_rules.specs.ExamplesOfNeighbours.{GroundsStandSideBySide, OwnHoldsDoNotHinder};
+ghost use Rattle.clr_rules.specs.ExamplesOfNeighbours.{ReleasesAreOnesOwn, TestsAreOnesOwn};
+ghost use Rattle.clr_rules.specs.ExamplesOfNeighbours.{TheLesserIsNamed};
 
 /// Each tests, grounds and releases for itself.
 pub fn work()

@@ -1,5 +1,6 @@
 //! Each fault of an order, before the next.
-ghost use Rattle.clr_rules.specs.ExamplesOfOrders.{IsolatingFaults, RestoringFaults, SwitchingFaults};
+ghost use Rattle.clr_rules.specs.ExamplesOfOrders.{IsolatingFaults, RestoringFaults};
+ghost use Rattle.clr_rules.specs.ExamplesOfOrders.{SwitchingFaults};
 
 /// Of an isolating order.
 pub fn isolating()

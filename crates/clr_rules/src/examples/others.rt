@@ -1,5 +1,9 @@
 //! What does not serve, and what does not hinder.
-ghost use Rattle.clr_rules.specs.ExamplesOfOthers.{AnothersHoldsDoNotHinder, AnothersHoldsDoNotServe, HoldsGoByKind, KindsStandInOrder, LesserClearancesAreNamed, OwnHandsDoNotHinder, StrangersHaveNoSupervisor, WhoMayHold, WorkSectionsCount};
+ghost use Rattle.clr_rules.specs.ExamplesOfOthers.{AnothersHoldsDoNotHinder};
+ghost use Rattle.clr_rules.specs.ExamplesOfOthers.{AnothersHoldsDoNotServe, HoldsGoByKind};
+ghost use Rattle.clr_rules.specs.ExamplesOfOthers.{KindsStandInOrder, LesserClearancesAreNamed};
+ghost use Rattle.clr_rules.specs.ExamplesOfOthers.{OwnHandsDoNotHinder, StrangersHaveNoSupervisor};
+ghost use Rattle.clr_rules.specs.ExamplesOfOthers.{WhoMayHold, WorkSectionsCount};
 
 /// Holds of another clearance.
 pub fn anothers_do_not_serve()

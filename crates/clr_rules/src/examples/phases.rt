@@ -1,5 +1,9 @@
 //! What each command is answered in each phase, and from each role.
-ghost use Rattle.clr_rules.specs.ExamplesOfPhases.{CommandsInCharge, CommandsOfSeveralRoles, CommandsOfTheField, HoldersByPhase, OperatorsCommands, OrdersByPhase, StepsByPhase, StepsByState, SwitchOrdersByPhase, ViewsByPhase, WorkByPhase};
+ghost use Rattle.clr_rules.specs.ExamplesOfPhases.{CommandsInCharge, CommandsOfSeveralRoles};
+ghost use Rattle.clr_rules.specs.ExamplesOfPhases.{CommandsOfTheField, HoldersByPhase};
+ghost use Rattle.clr_rules.specs.ExamplesOfPhases.{OperatorsCommands, OrdersByPhase, StepsByPhase};
+ghost use Rattle.clr_rules.specs.ExamplesOfPhases.{StepsByState, SwitchOrdersByPhase, ViewsByPhase};
+ghost use Rattle.clr_rules.specs.ExamplesOfPhases.{WorkByPhase};
 
 /// Orders, and their grant.
 pub fn orders()

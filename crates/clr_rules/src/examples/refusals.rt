@@ -1,7 +1,34 @@
 //! Each refusal, and the clearance that meets it.
-ghost use Rattle.clr_rules.specs.ExamplesOfRefusals.{AllAreClear, AllStepsAreDoneFirst, AnothersHoldsStand, ClearancesAreKnown, CrewsLeaveBeforeRelease, CrewsLeaveBeforeTheGround, CrewsSignOnOnce, GivenOutStepsAreReported, GroundsAreLaidOnce, GroundsComeBeforeCrews, GroundsComeOffBeforeRelease, HeldPointsAreNotClosed, InnerPointsAreRefused, LiveTestsDoNotServe, MomentsDoNotGoBack, NoLessThanIsNeeded, NoMoreThanIsNeeded, NumbersEnd, OldHoldersMayNotRelease, OnlyWhatIsHeldIsUndone, OpenTiesLeadIn, OperatorsMayNotRequest, OrdersAreShort, OrdersNamePoints, OtherPointsAreLeftAlone, OthersMayNotTransfer, PointsAreInOneHand, PointsComeOnce, ReadersReport, ReleasesComeOnce, RestoringTakesSteps, SectionsAreKnown, StepsAreDoneInTurn, StepsAreGivenOutOnce, StepsAreNumbered, StrangersAreUnknown, SupervisorsNeedEmergencies, SwitchedPointsAreKnown, SwitchingOpensAndCloses, TestsComeBeforeGrounds, TextsAreRepeated, TransfersGoToAnother, UnknownPointsAreOffTheFence, UnknownSectionsAreOutside, WorkStaysInside};
+ghost use Rattle.clr_rules.specs.ExamplesOfRefusals.{AllAreClear, AllStepsAreDoneFirst};
+ghost use Rattle.clr_rules.specs.ExamplesOfRefusals.{AnothersHoldsStand, ClearancesAreKnown};
+ghost use Rattle.clr_rules.specs.ExamplesOfRefusals.{CrewsLeaveBeforeRelease};
+ghost use Rattle.clr_rules.specs.ExamplesOfRefusals.{CrewsLeaveBeforeTheGround, CrewsSignOnOnce};
+ghost use Rattle.clr_rules.specs.ExamplesOfRefusals.{GivenOutStepsAreReported, GroundsAreLaidOnce};
+ghost use Rattle.clr_rules.specs.ExamplesOfRefusals.{GroundsComeBeforeCrews};
+ghost use Rattle.clr_rules.specs.ExamplesOfRefusals.{GroundsComeOffBeforeRelease};
+ghost use Rattle.clr_rules.specs.ExamplesOfRefusals.{HeldPointsAreNotClosed, InnerPointsAreRefused};
+ghost use Rattle.clr_rules.specs.ExamplesOfRefusals.{LiveTestsDoNotServe, MomentsDoNotGoBack};
+ghost use Rattle.clr_rules.specs.ExamplesOfRefusals.{NoLessThanIsNeeded, NoMoreThanIsNeeded};
+ghost use Rattle.clr_rules.specs.ExamplesOfRefusals.{NumbersEnd, OldHoldersMayNotRelease};
+ghost use Rattle.clr_rules.specs.ExamplesOfRefusals.{OnlyWhatIsHeldIsUndone, OpenTiesLeadIn};
+ghost use Rattle.clr_rules.specs.ExamplesOfRefusals.{OperatorsMayNotRequest, OrdersAreShort};
+ghost use Rattle.clr_rules.specs.ExamplesOfRefusals.{OrdersNamePoints, OtherPointsAreLeftAlone};
+ghost use Rattle.clr_rules.specs.ExamplesOfRefusals.{OthersMayNotTransfer, PointsAreInOneHand};
+ghost use Rattle.clr_rules.specs.ExamplesOfRefusals.{PointsComeOnce, ReadersReport};
+ghost use Rattle.clr_rules.specs.ExamplesOfRefusals.{ReleasesComeOnce, RestoringTakesSteps};
+ghost use Rattle.clr_rules.specs.ExamplesOfRefusals.{SectionsAreKnown, StepsAreDoneInTurn};
+ghost use Rattle.clr_rules.specs.ExamplesOfRefusals.{StepsAreGivenOutOnce, StepsAreNumbered};
+ghost use Rattle.clr_rules.specs.ExamplesOfRefusals.{StrangersAreUnknown};
+ghost use Rattle.clr_rules.specs.ExamplesOfRefusals.{SupervisorsNeedEmergencies};
+ghost use Rattle.clr_rules.specs.ExamplesOfRefusals.{SwitchedPointsAreKnown};
+ghost use Rattle.clr_rules.specs.ExamplesOfRefusals.{SwitchingOpensAndCloses};
+ghost use Rattle.clr_rules.specs.ExamplesOfRefusals.{TestsComeBeforeGrounds, TextsAreRepeated};
+ghost use Rattle.clr_rules.specs.ExamplesOfRefusals.{TransfersGoToAnother};
+ghost use Rattle.clr_rules.specs.ExamplesOfRefusals.{UnknownPointsAreOffTheFence};
+ghost use Rattle.clr_rules.specs.ExamplesOfRefusals.{UnknownSectionsAreOutside, WorkStaysInside};
 
-/// Of a caller: that the staff lacks, of another role, of a section that the network lacks, after the last number.
+/// Of a caller: that the staff lacks, of another role, of a section that the network lacks, after
+/// the last number.
 pub fn callers()
     ensures unknown_caller { StrangersAreUnknown }
     ensures wrong_role { OperatorsMayNotRequest }
@@ -9,7 +36,8 @@ pub fn callers()
     ensures too_many_clearances { NumbersEnd }
 {}
 
-/// By the record: there is none, the caller is not the holder, the moment is earlier, the phase is another.
+/// By the record: there is none, the caller is not the holder, the moment is earlier, the phase is
+/// another.
 pub fn records()
     ensures unknown_clearance { ClearancesAreKnown }
     ensures not_holder { OthersMayNotTransfer }

@@ -1,5 +1,12 @@
 //! Lists of commands, answered one after the other.
-ghost use Rattle.clr_rules.specs.ExamplesOfRuns.{AClearanceIsHandedOn, AnOrderIsGivenUp, ClosedClearancesHaveNoFence, HeldPointsAreLeftOpen, JonesStillHolds, OnlyS4IsClosedAgain, OrdersRunSideBySide, ReleaseComesLast, RestoringKeepsTheFence, S2StaysInHand, TheFirstStepRuns, TheRegisterOfAGrant, TheWholeLife, WorkGoesInItsOrder};
+ghost use Rattle.clr_rules.specs.ExamplesOfRuns.{AClearanceIsHandedOn, AnOrderIsGivenUp};
+ghost use Rattle.clr_rules.specs.ExamplesOfRuns.{ClosedClearancesHaveNoFence};
+ghost use Rattle.clr_rules.specs.ExamplesOfRuns.{HeldPointsAreLeftOpen, JonesStillHolds};
+ghost use Rattle.clr_rules.specs.ExamplesOfRuns.{OnlyS4IsClosedAgain, OrdersRunSideBySide};
+ghost use Rattle.clr_rules.specs.ExamplesOfRuns.{ReleaseComesLast, RestoringKeepsTheFence};
+ghost use Rattle.clr_rules.specs.ExamplesOfRuns.{S2StaysInHand, TheFirstStepRuns};
+ghost use Rattle.clr_rules.specs.ExamplesOfRuns.{TheRegisterOfAGrant, TheWholeLife};
+ghost use Rattle.clr_rules.specs.ExamplesOfRuns.{WorkGoesInItsOrder};
 
 /// A clearance from its request to the last restoring step, and the register that its grant leaves.
 pub fn whole_life()

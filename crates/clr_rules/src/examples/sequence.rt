@@ -1,5 +1,10 @@
 //! Which check of a command speaks first.
-ghost use Rattle.clr_rules.specs.ExamplesOfSequence.{AmendAsks, CancelAsks, GrantAsks, GroundAsks, InstructAsks, OrderAsks, ReleaseAsks, RepeatAsks, ReportAsks, RequestAsks, RestoreAsks, ShowAsks, SignOffAsks, SignOnAsks, SwitchAsks, TestAsks, TransferAsks, UngroundAsks};
+ghost use Rattle.clr_rules.specs.ExamplesOfSequence.{AmendAsks, CancelAsks, GrantAsks, GroundAsks};
+ghost use Rattle.clr_rules.specs.ExamplesOfSequence.{InstructAsks, OrderAsks, ReleaseAsks};
+ghost use Rattle.clr_rules.specs.ExamplesOfSequence.{RepeatAsks, ReportAsks, RequestAsks};
+ghost use Rattle.clr_rules.specs.ExamplesOfSequence.{RestoreAsks, ShowAsks, SignOffAsks};
+ghost use Rattle.clr_rules.specs.ExamplesOfSequence.{SignOnAsks, SwitchAsks, TestAsks};
+ghost use Rattle.clr_rules.specs.ExamplesOfSequence.{TransferAsks, UngroundAsks};
 
 /// A request.
 pub fn request()

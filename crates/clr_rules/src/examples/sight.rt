@@ -1,5 +1,9 @@
 //! What a clearance sees, and what is near.
-ghost use Rattle.clr_rules.specs.ExamplesOfSight.{AgreementLooksAtTheNearPart, Covering, FortyNineAreAnswered, Marks, NearAClosedClearance, NearASwitchOrderThatStands, NoMarks, OwnCommands, OwnHoldsElsewhereAreNotNear, SectionsAreShown};
+ghost use Rattle.clr_rules.specs.ExamplesOfSight.{AgreementLooksAtTheNearPart, Covering};
+ghost use Rattle.clr_rules.specs.ExamplesOfSight.{FortyNineAreAnswered, Marks};
+ghost use Rattle.clr_rules.specs.ExamplesOfSight.{NearAClosedClearance, NearASwitchOrderThatStands};
+ghost use Rattle.clr_rules.specs.ExamplesOfSight.{NoMarks, OwnCommands};
+ghost use Rattle.clr_rules.specs.ExamplesOfSight.{OwnHoldsElsewhereAreNotNear, SectionsAreShown};
 
 /// Its own commands.
 pub fn own_commands()

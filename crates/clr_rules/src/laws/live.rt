@@ -1,5 +1,6 @@
 //! Laws of live sections: what closed points join to a source.
-ghost use Rattle.clr_rules.specs.LiveLaws.{ClosedPointsCarryOn, LiveIsClosedWalks, LiveIsLeast, LiveIsWalks, SoundOrdersKeepFencesDead, SourcesAreLive};
+ghost use Rattle.clr_rules.specs.LiveLaws.{ClosedPointsCarryOn, LiveIsClosedWalks, LiveIsLeast};
+ghost use Rattle.clr_rules.specs.LiveLaws.{LiveIsWalks, SoundOrdersKeepFencesDead, SourcesAreLive};
 
 /// Each source of the network is live.
 pub fn sources_are_live()
@@ -11,13 +12,14 @@ pub fn closed_points_carry_on()
     ensures { ClosedPointsCarryOn }
 {}
 
-/// Nothing else is live: each set of sections that has the sources and that no closed point leaves has every live section.
+/// Nothing else is live: each set of sections that has the sources and that no closed point leaves
+/// has every live section.
 pub fn live_is_least()
     ensures { LiveIsLeast }
 {}
 
-/// A section is live exactly where a walk leads to it from a source over points that are not open, which is one over
-/// closed points.
+/// A section is live exactly where a walk leads to it from a source over points that are not open,
+/// which is one over closed points.
 pub fn live_is_walks()
     ensures walks { LiveIsWalks }
     ensures closed_walks { LiveIsClosedWalks }

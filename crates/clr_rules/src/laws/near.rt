@@ -1,8 +1,14 @@
 //! The near part: which rows of the register a command looks at.
-ghost use Rattle.clr_rules.specs.NearLaws.{GreatestIsGreatest, NamedLooksAtItsFence, NearHasNoOtherRows, NearIsInOrder, OrderLooksAtFenceToBe, OrderPointsTouchTheFence, OwnHoldsAreNear, PointsHaveOneRow, RequestLooksAtItsSection, SwitchLooksAtItsPoints, SwitchOrderHasItsPoints};
+ghost use Rattle.clr_rules.specs.NearLaws.{GreatestIsGreatest, NamedLooksAtItsFence};
+ghost use Rattle.clr_rules.specs.NearLaws.{NearHasNoOtherRows, NearIsInOrder};
+ghost use Rattle.clr_rules.specs.NearLaws.{OrderLooksAtFenceToBe, OrderPointsTouchTheFence};
+ghost use Rattle.clr_rules.specs.NearLaws.{OwnHoldsAreNear, PointsHaveOneRow};
+ghost use Rattle.clr_rules.specs.NearLaws.{RequestLooksAtItsSection, SwitchLooksAtItsPoints};
+ghost use Rattle.clr_rules.specs.NearLaws.{SwitchOrderHasItsPoints};
 
-/// A command that names a clearance looks at its record, steps and crews, at the sections of its fence, at the points that
-/// touch the fence with their positions and hands, and at all holds at these sections and points.
+/// A command that names a clearance looks at its record, steps and crews, at the sections of its
+/// fence, at the points that touch the fence with their positions and hands, and at all holds at
+/// these sections and points.
 pub fn named_looks_at_its_fence()
     ensures { NamedLooksAtItsFence }
 {}
@@ -43,8 +49,8 @@ pub fn near_has_no_other_rows()
     ensures order { NearIsInOrder }
 {}
 
-/// In a good register all holds of a clearance are near a command that names it: the points of a standing order touch its
-/// fence.
+/// In a good register all holds of a clearance are near a command that names it: the points of a
+/// standing order touch its fence.
 pub fn own_holds_are_near()
     ensures points { OrderPointsTouchTheFence }
     ensures holds { OwnHoldsAreNear }

@@ -1,6 +1,8 @@
 //! Laws of runs: what no command changes, one reply a command, and what every reached register has.
 ghost use Rattle.clr_rules.specs.BoundLaws.{ReachedRegistersAreBounded};
-ghost use Rattle.clr_rules.specs.RunLaws.{CommandsAreReplied, OpeningRegistersAreReached, ReachedGoOn, ReachedListsAreInOrder, RunsGoOn, RunsKeepOpening};
+ghost use Rattle.clr_rules.specs.RunLaws.{CommandsAreReplied, OpeningRegistersAreReached};
+ghost use Rattle.clr_rules.specs.RunLaws.{ReachedGoOn, ReachedListsAreInOrder, RunsGoOn};
+ghost use Rattle.clr_rules.specs.RunLaws.{RunsKeepOpening};
 
 /// In a reached register each list is in key order, one row a key.
 pub fn reached_lists_are_in_order()
@@ -12,8 +14,8 @@ pub fn runs_keep_opening()
     ensures { RunsKeepOpening }
 {}
 
-/// Each command of a run has one reply. A run goes on where another ended, and what it makes of a reached register is
-/// reached.
+/// Each command of a run has one reply. A run goes on where another ended, and what it makes of a
+/// reached register is reached.
 pub fn runs_go_on()
     ensures replied { CommandsAreReplied }
     ensures together { RunsGoOn }
@@ -25,7 +27,8 @@ pub fn opening_registers_are_reached()
     ensures { OpeningRegistersAreReached }
 {}
 
-/// In a reached register no clearance has a number over 9,999, and each step is of the first round or the second.
+/// In a reached register no clearance has a number over 9,999, and each step is of the first round
+/// or the second.
 pub fn reached_registers_are_bounded()
     ensures { ReachedRegistersAreBounded }
 {}

@@ -1,7 +1,11 @@
 //! Laws of work: what those who work on a line rest on.
-ghost use Rattle.clr_rules.specs.WorkLaws.{ClosingsFeedNoGround, CrewsWorkSafely, GrantedFencesStayDead, GrantedPointsBearAllHolds, GrantedWorkIsDead, GroundedSectionsAreDead, NoSourceFeedsGrounds};
+ghost use Rattle.clr_rules.specs.WorkLaws.{ClosingsFeedNoGround, CrewsWorkSafely};
+ghost use Rattle.clr_rules.specs.WorkLaws.{GrantedFencesStayDead, GrantedPointsBearAllHolds};
+ghost use Rattle.clr_rules.specs.WorkLaws.{GrantedWorkIsDead, GroundedSectionsAreDead};
+ghost use Rattle.clr_rules.specs.WorkLaws.{NoSourceFeedsGrounds};
 
-/// While a clearance is granted, no section of its fence is live, and its work section is one of these.
+/// While a clearance is granted, no section of its fence is live, and its work section is one of
+/// these.
 pub fn granted_fences_stay_dead()
     ensures fence { GrantedFencesStayDead }
     ensures work { GrantedWorkIsDead }
@@ -18,8 +22,8 @@ pub fn closings_feed_no_ground()
     ensures { ClosingsFeedNoGround }
 {}
 
-/// A point that was opened for a granted clearance is open, held open and tagged, blocked where it can be locked, and
-/// controlled where it is controlled from afar.
+/// A point that was opened for a granted clearance is open, held open and tagged, blocked where it
+/// can be locked, and controlled where it is controlled from afar.
 pub fn granted_points_bear_all_holds()
     ensures { GrantedPointsBearAllHolds }
 {}
