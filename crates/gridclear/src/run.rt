@@ -14,7 +14,7 @@ use clr_book::Book;
 use clr_csv::{CountedRead, Staff, StaffRow, read_whole};
 use clr_net::{Network, PointRow, SectionRow};
 use clr_rules::{Hold, PointState, Record, StepRow};
-use clr_shelf::{ListShelf, Shelf};
+use clr_shelf::{Shelf, SortedShelf};
 use std::alloc::Global;
 use std::rt::Files;
 
@@ -23,10 +23,10 @@ pub const MAX_INPUT_BYTES: usize = 16_777_216;
 
 /// A book in memory.
 pub type MemoryBook = Book<
-    ListShelf<PointState>,
-    ListShelf<Record>,
-    ListShelf<StepRow>,
-    ListShelf<Hold>,
+    SortedShelf<PointState>,
+    SortedShelf<Record>,
+    SortedShelf<StepRow>,
+    SortedShelf<Hold>,
 >;
 
 /// What `run SECTIONS POINTS STAFF` prints.
