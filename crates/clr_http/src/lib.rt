@@ -1,6 +1,7 @@
 //! One request to the register over HTTP, and its response.
 #![tactic(auto)]
 
+mod desk;
 mod head;
 mod length;
 mod registrar;
