@@ -2,3 +2,4 @@ pub mod Filled
 pub mod OneCommand
 pub mod Opened
 pub mod RunSteps
+pub mod Keeping

@@ -3,3 +3,4 @@ pub mod Opening
 pub mod Faults
 pub mod Answering
 pub mod Crash
+pub mod Kept

@@ -18,6 +18,7 @@ ghost use Rattle.clr_tables.specs.TypedRows.{IsTyped};
 ghost use Rattle.clr_desk.specs.Opening.{OpensAs};
 ghost use Rattle.clr_desk.specs.Answering.{fault_of, has_accepted, near_after, near_answer, replies_of};
 ghost use Rattle.clr_desk.specs.Faults.{IsOfCommand, count_after, of_store};
+ghost use Rattle.clr_desk.specs.Kept.{Keeps};
 
 use crate::carrying_out::{is_accepted, prepare};
 use crate::desk_fault::DeskFault;
@@ -170,6 +171,9 @@ impl<S: Alter + Drop> Desk<S> {
             → HasCleanDisk (state S.Store self.new.store)
             → IsTrue (state S.Store self.new.store).is_open
             → (state S.Store self.new.store).now ≡ (state S.Store self.old.store).now }
+        ensures was_open { HasCleanDisk (state S.Store self.new.store)
+            → IsTrue (state S.Store self.new.store).is_open
+            → IsTrue (state S.Store self.old.store).is_open }
         ensures saved { HasCleanDisk (state S.Store self.new.store)
             → IsSaved (state S.Store self.old.store)
             → OnOk result (IsSaved (state S.Store self.new.store)) }
@@ -209,6 +213,9 @@ impl<S: Alter + Drop> Desk<S> {
             → HasCleanDisk (state S.Store self.new.store)
             → IsTrue (state S.Store self.new.store).is_open
             → (state S.Store self.new.store).now ≡ (state S.Store self.old.store).now }
+        ensures was_open { HasCleanDisk (state S.Store self.new.store)
+            → IsTrue (state S.Store self.new.store).is_open
+            → IsTrue (state S.Store self.old.store).is_open }
         ensures saved { HasCleanDisk (state S.Store self.new.store)
             → IsSaved (state S.Store self.old.store)
             → OnOk result (IsSaved (state S.Store self.new.store)) }
@@ -266,6 +273,9 @@ impl<S: Alter + Drop> Desk<S> {
             → HasCleanDisk (state S.Store self.new.store)
             → IsTrue (state S.Store self.new.store).is_open
             → (state S.Store self.new.store).now ≡ (state S.Store self.old.store).now }
+        ensures was_open { HasCleanDisk (state S.Store self.new.store)
+            → IsTrue (state S.Store self.new.store).is_open
+            → IsTrue (state S.Store self.old.store).is_open }
         ensures saved { HasCleanDisk (state S.Store self.new.store)
             → IsSaved (state S.Store self.old.store)
             → OnOk result (IsSaved (state S.Store self.new.store)) }
@@ -279,6 +289,8 @@ impl<S: Alter + Drop> Desk<S> {
             → LeavesSome (state S.Store self.old.store)
             (state S.Store self.new.store) self.old.book.register (command ∷ [])
             (length (replies_of result)) }
+        ensures keeps { Keeps (state S.Store self.old.store) self.old.book.register
+            (state S.Store self.new.store) self.new.book.register }
     {
         self.answer(&command)
     }

@@ -1,5 +1,8 @@
 //! A desk keeps a register that can be served.
 ghost use Rattle.std.specs.Prelude.{◌≡◌};
+ghost use Rattle.sqlite.specs.Held.{state};
+ghost use Rattle.clr_desk.specs.Kept.{Keeps};
+ghost use Rattle.clr_desk.proofs.Keeping.{keeps_itself, keeps_on};
 
 use crate::registrar::Registrar;
 use clr_desk::Desk;
@@ -12,6 +15,13 @@ impl<S: Alter + Drop> Registrar for Desk<S> {
     ghost register = { λ d. d.book.register };
 
     ghost fault_count = { λ d. d.faults };
+
+    ghost leads_to = { λ before behind. Keeps (state S.Store before.store) before.book.register
+        (state S.Store behind.store) behind.book.register };
+
+    ghost stays = { λ _. keeps_itself _ _ };
+
+    ghost goes_on = { λ _ _ _. keeps_on _ _ _ _ _ _ };
 
     fn faults(&self) -> u64 {
         self.faults()

@@ -20,6 +20,10 @@ pub trait Registrar {
     /// How many commands were not answered.
     ghost fault_count: { Self → ℕ };
 
+    /// What ties a state to each later one, beside the register: what a command does to the rest of
+    /// what is kept.
+    ghost leads_to: { Self → Self → Type 0 };
+
     /// How many commands were not answered, since the store or memory refused. The count stays at
     /// 2^64 - 1.
     fn faults(&self) -> u64
@@ -33,7 +37,8 @@ pub trait Registrar {
         ensures left { IsGood (register self.old)
             → OnSome result (register self.new ≡ after (register self.old) command) }
         ensures refused { result ≡ None → register self.new ≡ register self.old }
-        ensures faults { fault_count self.new ≡ faults_after result (fault_count self.old) };
+        ensures faults { fault_count self.new ≡ faults_after result (fault_count self.old) }
+        ensures led { leads_to self.old self.new };
 
     /// A round of an order as it is printed, by a clock at offset 0. `None` where it is not there.
     fn order(
@@ -50,4 +55,9 @@ pub trait Registrar {
     fn board(&self, alloc: Global) -> Result<String, AllocError>
         ensures { IfOk result (λ text. string_bytes text
             ≡ board_text (Register.records (register self.now)) (pos 0)) };
+
+    ghost stays: { (keeper : Self) → leads_to keeper keeper };
+
+    ghost goes_on: { (before between behind : Self) → leads_to before between
+        → leads_to between behind → leads_to before behind };
 }

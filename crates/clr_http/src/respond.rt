@@ -21,10 +21,11 @@ pub(crate) fn response_to<D: Registrar>(
     asked: Asked,
     body: &[u8],
 ) -> Result<Response, AllocError>
-    ensures { IsGood (D.register desk.old)
+    ensures turn { IsGood (D.register desk.old)
         → IsTurned (answered (D.register desk.old) asked body.now)
         (D.register desk.old) (D.fault_count desk.old)
         (D.register desk.new) (D.fault_count desk.new) result }
+    ensures led { D.leads_to desk.old desk.new }
 {
     match asked {
         Asked::Command => body_answered(alloc, desk, body),
@@ -43,10 +44,11 @@ fn body_answered<D: Registrar>(
     desk: &mut D,
     body: &[u8],
 ) -> Result<Response, AllocError>
-    ensures { IsGood (D.register desk.old)
+    ensures turn { IsGood (D.register desk.old)
         → IsTurned (body_answered (D.register desk.old) (read_command body.now))
         (D.register desk.old) (D.fault_count desk.old)
         (D.register desk.new) (D.fault_count desk.new) result }
+    ensures led { D.leads_to desk.old desk.new }
 {
     match command_of(alloc, body) {
         Ok(command) => commanded(alloc, desk, command),
@@ -64,10 +66,11 @@ fn view_answered<D: Registrar>(
     desk: &mut D,
     viewing: Option<Viewing>,
 ) -> Result<Response, AllocError>
-    ensures { IsGood (D.register desk.old)
+    ensures turn { IsGood (D.register desk.old)
         → IsTurned (view_answered (D.register desk.old) viewing)
         (D.register desk.old) (D.fault_count desk.old)
         (D.register desk.new) (D.fault_count desk.new) result }
+    ensures led { D.leads_to desk.old desk.new }
 {
     match viewing {
         Some(viewing) => commanded(alloc, desk, show_of(viewing)),
@@ -94,10 +97,11 @@ fn order_answered<D: Registrar>(
     desk: &mut D,
     printing: Option<Printing>,
 ) -> Result<Response, AllocError>
-    ensures { IsGood (D.register desk.old)
+    ensures turn { IsGood (D.register desk.old)
         → IsTurned (order_answered (D.register desk.old) printing)
         (D.register desk.old) (D.fault_count desk.old)
         (D.register desk.new) (D.fault_count desk.new) result }
+    ensures led { D.leads_to desk.old desk.new }
 {
     let Some(printing) = printing else {
         return Response::of_fault(alloc, Fault::NoSuch);
@@ -114,10 +118,11 @@ fn commanded<D: Registrar>(
     desk: &mut D,
     command: Command,
 ) -> Result<Response, AllocError>
-    ensures { IsGood (D.register desk.old)
+    ensures turn { IsGood (D.register desk.old)
         → IsTurned (commanded (D.register desk.old) command)
         (D.register desk.old) (D.fault_count desk.old)
         (D.register desk.new) (D.fault_count desk.new) result }
+    ensures led { D.leads_to desk.old desk.new }
 {
     let Some(reply) = desk.answer(command) else {
         return Response::of_fault(alloc, Fault::Unavailable);

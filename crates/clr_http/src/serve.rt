@@ -113,6 +113,7 @@ pub fn serve_one<D: Registrar, R: CountedRead, W: CountedWrite>(
         ⊎ (W.stalled writer.new ≡ true) }
     ensures good { IsGood (D.register desk.old) → IsGood (D.register desk.new) }
     ensures reached { IsReached (D.register desk.old) → IsReached (D.register desk.new) }
+    ensures led { D.leads_to desk.old desk.new }
 {
     match read_request(alloc, reader)? {
         None => Ok(Served::Nothing),

@@ -31,6 +31,7 @@ pub fn serve_all<D: Registrar>(
         (map (λ request. request.items) requests.now)
         (map (λ response. response.items) responses.items) (D.register desk.new)) }
     ensures reached { IsReached (D.register desk.old) → IsReached (D.register desk.new) }
+    ensures led { D.leads_to desk.old desk.new }
 {
     let mut responses = Vec::new(alloc);
     for request in requests {
@@ -51,6 +52,7 @@ fn response_bytes<D: Registrar>(
         (D.register desk.new) (D.fault_count desk.new) request.now response.items) }
     ensures good { IsGood (D.register desk.old) → IsGood (D.register desk.new) }
     ensures reached { IsReached (D.register desk.old) → IsReached (D.register desk.new) }
+    ensures led { D.leads_to desk.old desk.new }
 {
     let mut reader = Counted::new(request);
     let mut writer = Counted::new(Vec::new(alloc));

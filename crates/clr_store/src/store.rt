@@ -170,6 +170,8 @@ impl<S: Alter + Drop> Store<S> {
         ensures none { HasCleanDisk (state S.Store self.new)
             → IsTrue (state S.Store self.new).is_open → OnErr result
             ((state S.Store self.new).now ≡ (state S.Store self.old).now) }
+        ensures was_open { HasCleanDisk (state S.Store self.new)
+            → IsTrue (state S.Store self.new).is_open → IsTrue (state S.Store self.old).is_open }
         ensures crash { Survives (state S.Store self.old) (state S.Store self.new)
             (AreEdited (state S.Store self.old).now change.now.edits) }
     {
@@ -190,6 +192,8 @@ fn commit_change<S: Alter>(conn: &mut Connection<S>, change: &Change) -> Result<
     ensures fault { IfErr result IsOfDatabase }
     ensures none { HasCleanDisk (state S.Store conn.new) → IsTrue (state S.Store conn.new).is_open
         → OnErr result ((state S.Store conn.new).now ≡ (state S.Store conn.old).now) }
+    ensures was_open { HasCleanDisk (state S.Store conn.new)
+        → IsTrue (state S.Store conn.new).is_open → IsTrue (state S.Store conn.old).is_open }
     ensures crash { Survives (state S.Store conn.old) (state S.Store conn.new)
         (AreEdited (state S.Store conn.old).now change.now.edits) }
 {

@@ -21,7 +21,7 @@ returns-in_err-response-in-Some-Asks-clause-served g c input rest head e begins 
     let same : respond_to R head rest ≡ answered R c.in-Some-Asks.asked c.as_slice.result.now =
     sym (ap (reading_answered R) read) ∙ ap (answered R c.in-Some-Asks.asked) (sym c.as_slice.ensures.value) in
     let unmade : c.from_residual-in_err-response-in-Some-Asks.result ≡ Err NoMemory = search rules in
-    served_as _ _ _ _ _ _ _ _ _ same (unmade_served _ _ _ _ _ _ _ unmade (c.in_err-response-in-Some-Asks.ensures good))
+    served_as _ _ _ _ _ _ _ _ _ same (unmade_served _ _ _ _ _ _ _ unmade (c.in_err-response-in-Some-Asks.ensures.turn good))
 
 pub returns-in_err-response-in-Some-Asks-clause-outside : goal.returns-in_err-response-in-Some-Asks-clause-outside
 returns-in_err-response-in-Some-Asks-clause-outside g c input e none =
@@ -32,12 +32,12 @@ returns-in_err-response-in-Some-Asks-clause-outside g c input e none =
 
 pub returns-in_err-response-in-Some-Asks-clause-good : goal.returns-in_err-response-in-Some-Asks-clause-good
 returns-in_err-response-in-Some-Asks-clause-good g c good =
-    stays_good _ _ c.in-Some-Asks.asked c.as_slice.result.now good (c.in_err-response-in-Some-Asks.ensures good)
+    stays_good _ _ c.in-Some-Asks.asked c.as_slice.result.now good (c.in_err-response-in-Some-Asks.ensures.turn good)
 
 pub returns-in_err-response-in-Some-Asks-clause-reached : goal.returns-in_err-response-in-Some-Asks-clause-reached
 returns-in_err-response-in-Some-Asks-clause-reached g c reached =
     let good = reached_are_good (g.D.Registrar.register c.args.desk.now) reached in
-    stays_reached _ _ c.in-Some-Asks.asked c.as_slice.result.now reached (c.in_err-response-in-Some-Asks.ensures good)
+    stays_reached _ _ c.in-Some-Asks.asked c.as_slice.result.now reached (c.in_err-response-in-Some-Asks.ensures.turn good)
 
 pub returns-in-None-clause-served : goal.returns-in-None-clause-served
 returns-in-None-clause-served g c input rest head e begins good =
@@ -71,7 +71,7 @@ returns-in_ok-response-in-Some-Asks-clause-served g c input rest head e begins g
     subst (λ o. IsSomeAnd o (λ r. reading r ≡ request_read head rest)) found whole in
     let same : respond_to R head rest ≡ answered R c.in-Some-Asks.asked c.as_slice.result.now =
     sym (ap (reading_answered R) read) ∙ ap (answered R c.in-Some-Asks.asked) (sym c.as_slice.ensures.value) in
-    let turn = c.in_ok-response-in-Some-Asks.ensures good in
+    let turn = c.in_ok-response-in-Some-Asks.ensures.turn good in
     served_as _ _ _ _ _ _ _ _ _ same (answered_served _ _ _ _ _ _ _ _ _ turn c.send-in-Some-Asks.ensures.written c.send-in-Some-Asks.ensures.some)
 
 pub returns-in_ok-response-in-Some-Asks-clause-outside : goal.returns-in_ok-response-in-Some-Asks-clause-outside
@@ -83,11 +83,11 @@ returns-in_ok-response-in-Some-Asks-clause-outside g c input e none =
 
 pub returns-in_ok-response-in-Some-Asks-clause-good : goal.returns-in_ok-response-in-Some-Asks-clause-good
 returns-in_ok-response-in-Some-Asks-clause-good g c good =
-    let turn = c.in_ok-response-in-Some-Asks.ensures good in
+    let turn = c.in_ok-response-in-Some-Asks.ensures.turn good in
     stays_good _ _ c.in-Some-Asks.asked c.as_slice.result.now good (turn_leaves _ _ _ _ _ _ turn)
 
 pub returns-in_ok-response-in-Some-Asks-clause-reached : goal.returns-in_ok-response-in-Some-Asks-clause-reached
 returns-in_ok-response-in-Some-Asks-clause-reached g c reached =
     let good = reached_are_good (g.D.Registrar.register c.args.desk.now) reached in
-    let turn = c.in_ok-response-in-Some-Asks.ensures good in
+    let turn = c.in_ok-response-in-Some-Asks.ensures.turn good in
     stays_reached _ _ c.in-Some-Asks.asked c.as_slice.result.now reached (turn_leaves _ _ _ _ _ _ turn)

@@ -6,6 +6,7 @@ loop-request-init g c = record {
   good = λ h. h;
   reached = λ h. h;
   far = λ good heads small. rw c.new-responses.ensures.items (none_yet (g.D.Registrar.register c.args.desk.now) (g.D.Registrar.fault_count c.args.desk.now) small);
+  led = g.met.D.Registrar.stays c.args.desk.now;
 }
 
 pub returns-in_err-push-clause-reached : goal.returns-in_err-push-clause-reached
@@ -19,4 +20,8 @@ loop-request-preserved g c = record {
       next_far (λ request. request.items) (λ response. response.items) _ _ _ _ _ _ _ _ c.request-item.result _ _ _ _ small heads c.loop-request-test.true
       c.request-item.is c.as_slice.ensures.value c.in_ok-push.ensures.items (c.loop-request.invariant.far good heads small)
       (c.in_ok-response.ensures.exchange (c.loop-request.invariant.good good));
+  led = g.met.D.Registrar.goes_on _ _ _ c.loop-request.invariant.led c.response_bytes.ensures.led;
 }
+
+pub returns-in_err-push-clause-led : goal.returns-in_err-push-clause-led
+returns-in_err-push-clause-led g c = g.met.D.Registrar.goes_on _ _ _ c.loop-request.invariant.led c.response_bytes.ensures.led

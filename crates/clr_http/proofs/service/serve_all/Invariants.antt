@@ -15,4 +15,5 @@ invariant-loop-request g l = record {
       → IsFar (g.D.Registrar.register l.fn.desk) (g.D.Registrar.fault_count l.fn.desk)
       (g.D.Registrar.register l.desk) (g.D.Registrar.fault_count l.desk)
       (take l.request-index (map (λ request. request.items) l.requests)) (map (λ response. response.items) l.responses.items);
+  led : g.D.Registrar.leads_to l.fn.desk l.desk;
 }

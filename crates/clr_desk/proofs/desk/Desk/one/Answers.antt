@@ -1,9 +1,10 @@
-use Rattle.std.proofs.Common.{◌∷◌, [], inl, inr, ⊎_elim}
+use Rattle.std.proofs.Common.{◌∷◌, [], arith, inl, inr, ⊎_elim}
 use Rattle.sqlite.specs.Held.{state}
 use Rattle.clr_rules.specs.Run.{after}
 use Rattle.clr_rules.specs.RunHeadline.{with_reply}
 use Rattle.clr_rules.proofs.isolation.RunReplies.{others_take_nothing}
 use Rattle.clr_desk.specs.Answering.{replies_of}
+use Rattle.clr_desk.proofs.Keeping.{one_keeps}
 use Rattle.clr_desk.proofs.OneCommand.{leaves_whole, replies_whole, tables_left}
 use Rattle.clr_desk.proofs.RunSteps.{no_reply_changed, one_ran, one_survives, standing_alone}
 use Rattle.clr_desk.proofs.desk.Desk.one.Goals as goal
@@ -44,3 +45,11 @@ returns-clause-crash g c clean saved good has trees may =
     c.answer.result trees saved has (c.answer.ensures.saved clean saved) (c.answer.ensures.tables clean good has)
     (g.met.S.Store.settled c.args.self.now.store.store trees) (g.met.S.Store.settled c.answer.new.self.store.store trees)
     may (⊎_elim (λ before. inl before) (λ made. inr (made good has)) (c.answer.ensures.survives.crash clean trees may))
+
+pub returns-clause-keeps : goal.returns-clause-keeps
+returns-clause-keeps g c =
+    one_keeps (state g.S.Store c.args.self.now.store) (state g.S.Store c.answer.new.self.store) c.args.self.now.book.register
+    c.answer.new.self.book.register c.args.command c.answer.result
+    (λ clean. omega (arith, c.answer.ensures.survives.clean)) c.answer.ensures.was_open
+    (returns-clause-register g c) c.answer.ensures.unchanged (returns-clause-tables g c) c.answer.ensures.unwritten
+    c.answer.ensures.saved c.answer.ensures.still_saved
