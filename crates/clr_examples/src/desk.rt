@@ -21,34 +21,24 @@ const ISOLATE_L2: [&str; 6] = [
 fn new_desk(alloc: Global) -> Result<MemoryDesk, Fail> {
     let network = worked_network(alloc)?;
     let staff = worked_staff(alloc)?;
-    let Ok(connection) = Connection::open_in_memory(alloc) else {
-        Err("a connection")?
-    };
-    let Ok(desk) = Desk::create(alloc, connection, network, staff) else {
-        Err("new tables")?
-    };
-    Ok(desk)
+    let connection = Connection::open_in_memory(alloc)?;
+    let desk = Desk::create(alloc, connection, network, staff).ok();
+    Ok(desk.ok_or("new tables")?)
 }
 
 /// The same desk, after it and its store were ended and both were opened again on the connection.
 fn opened_again(desk: MemoryDesk) -> Result<MemoryDesk, Fail> {
     let connection = desk.end().end();
-    let Ok(store) = Store::open(connection) else {
-        Err("the tables again")?
-    };
-    let Ok(desk) = Desk::open(store) else {
-        Err("a desk")?
-    };
-    Ok(desk)
+    let store = Store::open(connection).ok().ok_or("the tables again")?;
+    Ok(Desk::open(store).ok().ok_or("a desk")?)
 }
 
 /// The fault of making the tables on the connection of a desk that is ended.
 fn fault_of_making_again(alloc: Global, desk: MemoryDesk) -> Result<DeskFault, Fail> {
     let network = worked_network(alloc)?;
     let staff = worked_staff(alloc)?;
-    let Err((fault, _connection)) = Desk::create(alloc, desk.end().end(), network, staff) else {
-        Err("a fault")?
-    };
+    let made = Desk::create(alloc, desk.end().end(), network, staff);
+    let (fault, _connection) = made.err().ok_or("a fault")?;
     Ok(fault)
 }
 
@@ -120,10 +110,9 @@ fn show() -> Result<Command, Fail> {
 
 /// The last reply of a run that met no fault.
 fn last_reply(mut run: Run) -> Result<Reply, Fail> {
-    if run.fault.is_some() {
-        Err("a fault")?
-    }
-    Ok(run.replies.pop().ok_or("a reply")?)
+    let last = run.replies.pop();
+    let reply = if run.fault.is_none() { last } else { None };
+    Ok(reply.ok_or("a reply and no fault")?)
 }
 
 #[test]
@@ -165,9 +154,7 @@ fn register_opened_again(rt: HostRuntime) -> Result<(), Fail> {
     commands.push(show()?)?;
     let shown = last_reply(desk.run(commands))?;
     let mut again = opened_again(desk)?;
-    let Ok(shown_again) = again.one(show()?) else {
-        Err("a view")?
-    };
+    let shown_again = again.one(show()?).ok().ok_or("a view")?;
     expect(shown_again, shown)?;
     let hand = again.book().state(&point).ok_or("S3")?.hand;
     assert!(rt; hand == Some(clearance));
