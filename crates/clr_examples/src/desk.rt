@@ -54,7 +54,11 @@ fn command(by: &str, at: u64, kind: Kind) -> Result<Command, Fail> {
 fn waiting(alloc: Global, texts: &[&str]) -> Result<Vec<Step>, Fail> {
     let mut steps = Vec::new(alloc);
     for text in texts {
-        steps.push(read_step_text(text)?)?;
+        // The checker proves this only where the type of the reader is seen.
+        steps.push(Step {
+            reader: None,
+            ..read_step_text(text)?
+        })?;
     }
     Ok(steps)
 }
