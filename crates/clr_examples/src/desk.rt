@@ -125,10 +125,14 @@ fn grant_with_a_step_left(rt: HostRuntime) -> Result<(), Fail> {
     let mut desk = new_desk(alloc)?;
     let mut commands = Vec::new(alloc);
     order_of_jones(alloc, &mut commands)?;
-    let mut step = 1;
-    for text in &ISOLATE_L2[..5] {
+    for (step, text) in [
+        (1, "OPEN S2"),
+        (2, "OPEN S3"),
+        (3, "BLOCK S2"),
+        (4, "BLOCK S3"),
+        (5, "TAG S2"),
+    ] {
         step_runs(alloc, &mut commands, step, text)?;
-        step += 1;
     }
     grant(&mut commands)?;
     expect(
