@@ -6,6 +6,8 @@ mod books;
 #[cfg(test)]
 mod csv;
 #[cfg(test)]
+mod desk;
+#[cfg(test)]
 mod driver;
 #[cfg(test)]
 mod fences;

@@ -21,6 +21,8 @@ pub enum Line<'a> {
     Board(&'a str),
     /// A printed line that must come.
     Printed(&'a str),
+    /// The register is closed, and opened again from its tables.
+    Reopen,
     /// None of these.
     Unknown,
 }
@@ -37,6 +39,8 @@ pub fn line_of(text: &str) -> Line<'_> {
         Line::Order(words)
     } else if let Some(words) = text.strip_prefix("= board ") {
         Line::Board(words)
+    } else if text == "= reopen" {
+        Line::Reopen
     } else {
         exchanged(text)
     }

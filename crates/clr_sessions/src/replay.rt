@@ -145,6 +145,7 @@ impl Course {
             Line::Printed(awaited) => self.compare(number, awaited),
             Line::Order(words) => self.print(number, Printed::Order, words),
             Line::Board(words) => self.print(number, Printed::Board, words),
+            Line::Reopen => self.reopen(number),
             Line::Unknown => Ok(Some(differs(
                 self.alloc,
                 number,
@@ -178,6 +179,20 @@ impl Course {
         }
         self.awaited.push_back(reply)?;
         self.replies = self.replies.saturating_add(1);
+        Ok(None)
+    }
+
+    /// Closes the register, and opens it again. Nothing that came before is still to be compared
+    /// then.
+    fn reopen(&mut self, number: usize) -> anyhow::Result<Option<Outcome>> {
+        if let Some(came) = self.awaited.pop_front() {
+            return Ok(Some(differs(self.alloc, number, "the end of what came", came)?));
+        }
+        let room = self
+            .room
+            .take()
+            .context("a session begins with its network")?;
+        self.room = Some(room.opened_again()?);
         Ok(None)
     }
 

@@ -1,23 +1,23 @@
-//! The control room of a session: a register in memory, to which lines are given.
+//! The control room of a session: a desk over tables in memory, to which lines are given.
 ghost use Rattle.std.specs.Prelude.{IfOk, neg_ℤ, pos, ◌≤ℤ◌};
 
 use anyhow::Context;
-use clr_book::{Book, ClearanceId, Hold, PointState, Record, StepRow};
+use clr_book::ClearanceId;
 use clr_csv::{Counted, Staff, read_points, read_sections, read_staff};
+use clr_desk::Desk;
 use clr_net::Network;
-use clr_shelf::ListShelf;
+use clr_store::Store;
 use clr_text::{TextFault, command_of, fault_text, print_board, print_order, reply_text};
+use sqlite::{Connection, MemStore};
 use std::alloc::{AllocError, Global};
 use std::rt::Files;
 use std::{fmt, fs};
 
-type ListBook = Book<ListShelf<PointState>, ListShelf<Record>, ListShelf<StepRow>, ListShelf<Hold>>;
-
-/// A register in memory.
+/// A register in memory, with its tables.
 #[derive(Drop)]
 pub struct Room {
     alloc: Global,
-    book: ListBook,
+    desk: Desk<MemStore>,
 }
 
 impl Room {
@@ -31,8 +31,23 @@ impl Room {
         let staff = read_staff(alloc, &mut Counted::new(fs::open(rt, &path)?))?;
         let network = Network::build(alloc, sections, points)?;
         let staff = Staff::build(alloc, staff)?;
-        let book = Book::opening(alloc, network, staff)?;
-        Ok(Room { alloc, book })
+        let connection = Connection::open_in_memory(alloc)?;
+        let desk = Desk::create(alloc, connection, network, staff)
+            .ok()
+            .context("the tables are not made")?;
+        Ok(Room { alloc, desk })
+    }
+
+    /// The same room: desk and store are ended, and opened again on the connection.
+    pub fn opened_again(self) -> anyhow::Result<Room> {
+        let Room { alloc, desk } = self;
+        let store = Store::open(desk.end().end())
+            .ok()
+            .context("the tables are not opened")?;
+        let desk = Desk::open(store)
+            .ok()
+            .context("the register is not opened")?;
+        Ok(Room { alloc, desk })
     }
 
     /// The reply line to a line that `gridclear run` reads.
@@ -42,11 +57,8 @@ impl Room {
             Err(TextFault::NoMemory) => return Err(AllocError.into()),
             Err(fault) => return Ok(fault_text(self.alloc, &fault)?),
         };
-        let decision = self.book.answer(&command)?;
-        let reply = reply_text(self.alloc, &decision.reply)?;
-        self.book.reserve(&decision.change)?;
-        self.book.apply(decision.change);
-        Ok(reply)
+        let reply = self.desk.one(command).ok().context("a fault of the desk")?;
+        Ok(reply_text(self.alloc, &reply)?)
     }
 
     /// The printed order of a clearance: its name, the round and the offset.
@@ -60,7 +72,7 @@ impl Room {
         let id = ClearanceId::read(clearance)?;
         let round = round.parse::<u8>()?;
         let offset = offset_of(offset)?;
-        match print_order(self.alloc, &self.book, &id, round, offset)? {
+        match print_order(self.alloc, self.desk.book(), &id, round, offset)? {
             Some(text) => Ok(text),
             None => Ok("no such order".to_string(self.alloc)?),
         }
@@ -69,7 +81,7 @@ impl Room {
     /// The board at an offset.
     pub fn board(&self, offset: &str) -> anyhow::Result<String> {
         let offset = offset_of(offset)?;
-        Ok(print_board(self.alloc, &self.book, offset)?)
+        Ok(print_board(self.alloc, self.desk.book(), offset)?)
     }
 }
 
