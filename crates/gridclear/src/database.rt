@@ -7,25 +7,21 @@ use clr_csv::Staff;
 use clr_desk::Desk;
 use clr_net::Network;
 use clr_store::{Back, Store, StoreFault};
-use sqlite::{Alter, Connection, File, FileStore};
+use sqlite::{Connection, File, FileStore};
 use std::alloc::Global;
 
 /// What opens the database in a file.
 pub trait Databases {
-    type Disk: Alter + Drop;
-
     /// Opens the database in a file. A file that is not there is made, and its database is empty.
-    fn database(&self, path: &str) -> Result<Connection<Self::Disk>, Fault>
+    fn database(&self, path: &str) -> Result<Connection<FileStore<File>>, Fault>
         ensures fault { IfErr result IsOfLine };
 
     /// Closes a database.
-    fn close(&self, connection: Connection<Self::Disk>) -> Result<(), Fault>
+    fn close(&self, connection: Connection<FileStore<File>>) -> Result<(), Fault>
         ensures fault { IfErr result IsOfLine };
 }
 
 impl Databases for HostRuntime {
-    type Disk = FileStore<File>;
-
     fn database(&self, path: &str) -> Result<Connection<FileStore<File>>, Fault>
         ensures fault { IfErr result IsOfLine }
     {
@@ -67,7 +63,7 @@ pub fn store_register<D: Databases>(
 }
 
 /// Opens a desk over the register that the database at a path has.
-pub fn open_desk<D: Databases>(databases: &D, path: &str) -> Result<Desk<D::Disk>, Fault> {
+pub fn open_desk<D: Databases>(databases: &D, path: &str) -> Result<Desk<FileStore<File>>, Fault> {
     let connection = databases.database(path)?;
     let store = match Store::open(connection) {
         Ok(store) => store,
@@ -86,7 +82,7 @@ pub fn open_desk<D: Databases>(databases: &D, path: &str) -> Result<Desk<D::Disk
 }
 
 /// Ends a desk, and closes its database.
-pub fn close_desk<D: Databases>(databases: &D, desk: Desk<D::Disk>) -> Result<(), Fault>
+pub fn close_desk<D: Databases>(databases: &D, desk: Desk<FileStore<File>>) -> Result<(), Fault>
     ensures fault { IfErr result IsOfLine }
 {
     databases.close(desk.end().end())
