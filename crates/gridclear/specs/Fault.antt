@@ -1,6 +1,7 @@
 -- The line that each fault prints: `fault: `, what it is about, a blank, the fault's name, and where it is or what it
 -- names. Want of memory is about memory, whatever answered it.
 use Rattle.std.specs.Prelude.{◌≡◌, ℕ, List, [], ◌++◌, codes, decimal}
+use Rattle.std.specs.Fmt.{signed_decimal}
 use Rattle.clr_net.specs.declared.name.NameFault.{NameFault}
 use Rattle.clr_net.specs.declared.name.NameFault.TheVariants as name
 use Rattle.clr_net.specs.declared.net_fault.NetFault.{NetFault}
@@ -9,6 +10,11 @@ use Rattle.clr_csv.specs.declared.fault.CsvFault.{CsvFault}
 use Rattle.clr_csv.specs.declared.fault.CsvFault.TheVariants as csv
 use Rattle.clr_csv.specs.declared.staff_fault.StaffFault.{StaffFault}
 use Rattle.clr_csv.specs.declared.staff_fault.StaffFault.TheVariants as staff
+use Rattle.clr_tables.specs.TableText.{table_text}
+use Rattle.clr_store.specs.declared.fault.StoreFault.{StoreFault}
+use Rattle.clr_store.specs.declared.fault.StoreFault.TheVariants as store
+use Rattle.clr_desk.specs.declared.desk_fault.DeskFault.{DeskFault}
+use Rattle.clr_desk.specs.declared.desk_fault.DeskFault.TheVariants as desk
 use Rattle.gridclear.specs.declared.fault.ImportFile.{ImportFile}
 use Rattle.gridclear.specs.declared.fault.ImportFile.TheVariants.{Sections, Points, Staff}
 use Rattle.gridclear.specs.declared.fault.InputFault.{InputFault}
@@ -34,6 +40,8 @@ subject_of (fault.Name cause) = codes "name"
 subject_of (fault.UnknownSection section) = codes "network"
 subject_of (fault.UnknownPoint point) = codes "network"
 subject_of (fault.Input cause) = codes "input"
+subject_of (fault.Store cause) = codes "store"
+subject_of fault.NoSuch = codes "clearance"
 subject_of fault.Output = codes "output"
 
 abbrev pub file_fault_name : CsvFault → List ℕ
@@ -72,6 +80,12 @@ abbrev pub input_fault_name : InputFault → List ℕ
 input_fault_name input.ReadFailed = codes "ReadFailed"
 input_fault_name input.TooLong = codes "TooLong"
 
+abbrev pub store_fault_name : StoreFault → List ℕ
+store_fault_name store.Sql = codes "Sql"
+store_fault_name (store.WrongVersion n) = codes "WrongVersion"
+store_fault_name (store.BadRow table) = codes "BadRow"
+store_fault_name store.NoMemory = codes "NoMemory"
+
 -- the fault's name
 abbrev pub name_of : Fault → List ℕ
 name_of fault.Memory = codes "NoMemory"
@@ -82,6 +96,8 @@ name_of (fault.Name cause) = name_fault_name cause
 name_of (fault.UnknownSection section) = codes "UnknownSection"
 name_of (fault.UnknownPoint point) = codes "UnknownPoint"
 name_of (fault.Input cause) = input_fault_name cause
+name_of (fault.Store cause) = store_fault_name cause
+name_of fault.NoSuch = codes "NoSuch"
 name_of fault.Output = codes "WriteFailed"
 
 abbrev pub file_fault_detail : CsvFault → Detail
@@ -108,12 +124,18 @@ abbrev pub name_fault_detail : NameFault → Detail
 name_fault_detail (name.BadByte place) = detail.Place place
 name_fault_detail cause = detail.Nothing
 
+abbrev pub store_fault_detail : StoreFault → Detail
+store_fault_detail (store.WrongVersion n) = detail.Version n
+store_fault_detail (store.BadRow table) = detail.Table table
+store_fault_detail cause = detail.Nothing
+
 -- where a fault is, or what it names
 abbrev pub detail_of : Fault → Detail
 detail_of (fault.File file cause) = file_fault_detail cause
 detail_of (fault.Network cause) = network_fault_detail cause
 detail_of (fault.Staff cause) = staff_fault_detail cause
 detail_of (fault.Name cause) = name_fault_detail cause
+detail_of (fault.Store cause) = store_fault_detail cause
 detail_of (fault.UnknownSection section) = detail.Named section
 detail_of (fault.UnknownPoint point) = detail.Named point
 detail_of cause = detail.Nothing
@@ -125,6 +147,8 @@ detail_text (detail.Row row) = codes " row " ++ decimal row
 detail_text (detail.Field row column) = (codes " row " ++ decimal row) ++ (codes " column " ++ decimal column)
 detail_text (detail.Place place) = codes " place " ++ decimal place
 detail_text (detail.Named found) = codes " " ++ found
+detail_text (detail.Version n) = codes " " ++ signed_decimal n
+detail_text (detail.Table table) = codes " " ++ table_text table
 
 abbrev pub fault_line : Fault → List ℕ
 fault_line cause = codes "fault: " ++ (subject_of cause ++ (codes " " ++ (name_of cause ++ detail_text (detail_of cause))))
@@ -150,6 +174,14 @@ of_staff cause = fault.Staff cause
 abbrev pub of_name : NameFault → Fault
 of_name name.NoMemory = fault.Memory
 of_name cause = fault.Name cause
+
+abbrev pub of_store : StoreFault → Fault
+of_store store.NoMemory = fault.Memory
+of_store cause = fault.Store cause
+
+abbrev pub of_desk : DeskFault → Fault
+of_desk desk.NoMemory = fault.Memory
+of_desk (desk.Store cause) = of_store cause
 
 -- the fault is one of this file's, or want of memory
 abbrev pub IsOfFile : ImportFile → Fault → Type 0

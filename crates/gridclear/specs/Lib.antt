@@ -4,7 +4,9 @@ pub mod Fence
 pub mod Files
 pub mod Init
 pub mod Lines
+pub mod Order
 pub mod Outcome
 pub mod Replies
 pub mod Run
+pub mod Stored
 pub mod Syntax

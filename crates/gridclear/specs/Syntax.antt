@@ -1,7 +1,8 @@
 -- The command line: its subcommands, and the arguments of each.
-use Rattle.std.specs.Prelude.{codes, true, Some, List, ℕ}
+use Rattle.std.specs.Prelude.{codes, true, neg_ℤ, pos, Some, List, ℕ}
 use Rattle.clap.specs.Words.{App, Rule, new_app, new_rule, with_rule, with_subcommand}
 use Rattle.clap.specs.declared.builder.action.ArgAction.TheVariants.{Append}
+use Rattle.clap.specs.declared.builder.value_parser.ValueParser.TheVariants.{Signed}
 
 -- an argument that has to be given, by its place
 abbrev pub required_rule : List ℕ → Rule
@@ -11,6 +12,14 @@ required_rule id = record (new_rule id) { required = true }
 abbrev pub repeated_rule : List ℕ → Rule
 repeated_rule id = record (new_rule id) { action = Some Append }
 
+-- an argument that may be given once, by its name and a value
+abbrev pub option_rule : List ℕ → Rule
+option_rule id = record (new_rule id) { long = Some id; value_names = 1 }
+
+-- `--offset MINUTES`, from -720 to 840
+abbrev pub offset_rule : Rule
+offset_rule = record (option_rule (codes "offset")) { parser = Some (Signed (neg_ℤ (pos 720)) (pos 840)) }
+
 -- the arguments of the two files of a network
 abbrev pub with_files : App → App
 with_files app = with_rule (with_rule app (required_rule (codes "SECTIONS"))) (required_rule (codes "POINTS"))
@@ -19,14 +28,26 @@ with_files app = with_rule (with_rule app (required_rule (codes "SECTIONS"))) (r
 abbrev pub fence : App
 fence = with_rule (with_rule (with_files (new_app (codes "fence"))) (required_rule (codes "WORK"))) (repeated_rule (codes "CUT"))
 
--- `init SECTIONS POINTS STAFF`
+-- `init SECTIONS POINTS STAFF [--db FILE]`
 abbrev pub init : App
-init = with_rule (with_files (new_app (codes "init"))) (required_rule (codes "STAFF"))
+init = with_rule (with_rule (with_files (new_app (codes "init"))) (required_rule (codes "STAFF"))) (option_rule (codes "db"))
 
--- `run SECTIONS POINTS STAFF`
+-- `run [--db FILE] [FILES]...`
 abbrev pub run : App
-run = with_rule (with_files (new_app (codes "run"))) (required_rule (codes "STAFF"))
+run = with_rule (with_rule (new_app (codes "run")) (option_rule (codes "db"))) (repeated_rule (codes "FILES"))
+
+-- `order DB CLEARANCE ROUND [--offset MINUTES]`
+abbrev pub order : App
+order =
+    with_rule (with_rule (with_rule (with_rule (new_app (codes "order")) (required_rule (codes "DB"))) (required_rule (codes "CLEARANCE")))
+    (required_rule (codes "ROUND"))) offset_rule
+
+-- `board DB [--offset MINUTES]`
+abbrev pub board : App
+board = with_rule (with_rule (new_app (codes "board")) (required_rule (codes "DB"))) offset_rule
 
 -- the program with its subcommands
 abbrev pub gridclear : App
-gridclear = with_subcommand (with_subcommand (with_subcommand (new_app (codes "gridclear")) fence.top) init.top) run.top
+gridclear =
+    with_subcommand (with_subcommand (with_subcommand (with_subcommand (with_subcommand (new_app (codes "gridclear")) fence.top) init.top) run.top)
+    order.top) board.top

@@ -6,19 +6,26 @@ ghost use Rattle.clap.specs.Words.{fault_of, kind_of};
 ghost use Rattle.gridclear.specs.Outcome.{IsAnswer, IsTold, IsUnread, MayAnswer, Sends, stream, told_line};
 ghost use Rattle.gridclear.specs.Syntax.{gridclear};
 
+use crate::board::board;
+use crate::database::Databases;
 use crate::fault::Fault;
 use crate::fence::fence;
 use crate::init::init;
+use crate::order::order;
 use crate::outcome::{Outcome, tell, tell_fault, write_out};
 use crate::replies::Printed;
 use crate::run::run;
 use crate::syntax;
 use clap::error::ErrorKind;
 use clr_csv::{CountedRead, CountedWrite};
-use std::alloc::Global;
+use std::alloc::{AllocError, Global};
 use std::convert::AsStr;
 use std::io;
 use std::rt::Files;
+
+/// Why a `run` is not taken that names both a database and files, or neither, or files that are not
+/// three.
+const RUN_USAGE: &str = "error: run takes three files, or --db FILE and no files\n";
 
 /// Does what the words ask, of which the first is the program's name. The answer, and help that is
 /// asked for, go to `output`; a fault, and why words do not parse, to `errors`. Returns the exit
@@ -31,7 +38,7 @@ pub fn command_line<R, S, I, W, E>(
     errors: &mut E,
 ) -> u8
 where
-    R: Files + AllocGlobal,
+    R: Files + Databases + AllocGlobal,
     S: AsStr,
     I: CountedRead,
     W: CountedWrite,
@@ -79,7 +86,7 @@ pub fn no_words<E: CountedWrite>(cause: &io::Error, errors: &mut E) -> u8
 /// What the words come to.
 fn answer<R, S, I>(rt: &R, words: &[S], input: &mut I) -> Result<Outcome, Fault>
 where
-    R: Files + AllocGlobal,
+    R: Files + Databases + AllocGlobal,
     S: AsStr,
     I: CountedRead,
     ensures answers { IfOk result (λ outcome. IsAnswer outcome
@@ -105,15 +112,38 @@ where
             Ok(Outcome::Answer(text))
         }
         Some(("run", matches)) => {
-            let Printed { text, fault } = run(rt, matches, input)?;
+            let printed = run(rt, matches, input)?;
+            let outcome = outcome_of(rt.alloc(), printed)?;
+            Ok(outcome)
+        }
+        Some(("order", matches)) => {
+            let text = order(rt, matches)?;
+            Ok(Outcome::Answer(text))
+        }
+        Some(("board", matches)) => {
+            let text = board(rt, matches)?;
+            Ok(Outcome::Answer(text))
+        }
+        _ => {
+            let help = command.render_help()?;
+            Ok(Outcome::Unread(help))
+        }
+    }
+}
+
+/// What a run comes to.
+fn outcome_of(alloc: Global, printed: Option<Printed>) -> Result<Outcome, AllocError> {
+    match printed {
+        Some(printed) => {
+            let Printed { text, fault } = printed;
             match fault {
                 Some(fault) => Ok(Outcome::Stopped(text, fault)),
                 None => Ok(Outcome::Answer(text)),
             }
         }
-        _ => {
-            let help = command.render_help()?;
-            Ok(Outcome::Unread(help))
+        None => {
+            let text = format!(in alloc; "{RUN_USAGE}")?;
+            Ok(Outcome::Unread(text))
         }
     }
 }

@@ -1,9 +1,12 @@
 //! What ends a command before it has its answer.
 ghost use Rattle.std.specs.Prelude.{◌≡◌, ◌≤◌, length};
-ghost use Rattle.gridclear.specs.Fault.{file_fault_detail, file_fault_name, file_text, input_fault_name, name_fault_detail, name_fault_name, network_fault_detail, network_fault_name, staff_fault_detail, staff_fault_name};
+ghost use Rattle.gridclear.specs.Fault.{file_fault_detail, file_fault_name, file_text, input_fault_name, name_fault_detail, name_fault_name, network_fault_detail, network_fault_name, staff_fault_detail, staff_fault_name, store_fault_detail, store_fault_name};
 
 use clr_csv::{CsvFault, StaffFault};
+use clr_desk::DeskFault;
 use clr_net::{Name, NameFault, NetFault};
+use clr_store::StoreFault;
+use clr_tables::TableName;
 use std::alloc::{AllocError, AllocFailed};
 
 /// One of the files that a network and its staff are read from.
@@ -60,6 +63,10 @@ pub enum Fault {
     UnknownPoint(Name),
     /// Standard input could not be read, or is too long.
     Input(InputFault),
+    /// The database could not be opened, its tables are no register, or it refused or failed.
+    Store(StoreFault),
+    /// An argument names no clearance, or none that has steps in the round that is named.
+    NoSuch,
     /// The answer could not be written to standard output.
     Output,
 }
@@ -123,6 +130,32 @@ impl From<NameFault> for Fault {
     }
 }
 
+impl From<StoreFault> for Fault {
+    ghost use Rattle.gridclear.specs.Fault.{of_store};
+
+    ghost from_gives = { λ cause fault. fault ≡ of_store cause };
+
+    fn from(cause: StoreFault) -> Fault {
+        match cause {
+            StoreFault::NoMemory => Fault::Memory,
+            _ => Fault::Store(cause),
+        }
+    }
+}
+
+impl From<DeskFault> for Fault {
+    ghost use Rattle.gridclear.specs.Fault.{of_desk};
+
+    ghost from_gives = { λ cause fault. fault ≡ of_desk cause };
+
+    fn from(cause: DeskFault) -> Fault {
+        match cause {
+            DeskFault::NoMemory => Fault::Memory,
+            DeskFault::Store(cause) => Fault::from(cause),
+        }
+    }
+}
+
 impl Fault {
     ghost use Rattle.gridclear.specs.Fault.{of_file, of_input};
 
@@ -161,6 +194,10 @@ pub enum Detail {
     Place(usize),
     /// The section or the point that the network lacks.
     Named(Name),
+    /// The version of the tables.
+    Version(i64),
+    /// The table with a row that does not read.
+    Table(TableName),
 }
 
 impl Fault {
@@ -169,7 +206,7 @@ impl Fault {
     /// What the fault is about, with which its line begins.
     pub fn subject(&self) -> &'static str
         ensures text { result.now ≡ subject_of self.now }
-        ensures short { length result.now ≤ 8 }
+        ensures short { length result.now ≤ 9 }
     {
         match *self {
             Fault::Memory => "memory",
@@ -178,6 +215,8 @@ impl Fault {
             Fault::Staff(_) => "staff",
             Fault::Name(_) => "name",
             Fault::Input(_) => "input",
+            Fault::Store(_) => "store",
+            Fault::NoSuch => "clearance",
             Fault::Output => "output",
         }
     }
@@ -196,6 +235,8 @@ impl Fault {
             Fault::UnknownSection(_) => "UnknownSection",
             Fault::UnknownPoint(_) => "UnknownPoint",
             Fault::Input(fault) => input_fault_name(fault),
+            Fault::Store(fault) => store_fault_name(fault),
+            Fault::NoSuch => "NoSuch",
             Fault::Output => "WriteFailed",
         }
     }
@@ -205,11 +246,12 @@ impl Fault {
         ensures { result ≡ detail_of self.now }
     {
         match *self {
-            Fault::Memory | Fault::Input(_) | Fault::Output => Detail::Nothing,
+            Fault::Memory | Fault::Input(_) | Fault::NoSuch | Fault::Output => Detail::Nothing,
             Fault::File(_, fault) => file_fault_detail(fault),
             Fault::Network(fault) => network_fault_detail(fault),
             Fault::Staff(fault) => staff_fault_detail(fault),
             Fault::Name(fault) => name_fault_detail(fault),
+            Fault::Store(fault) => store_fault_detail(fault),
             Fault::UnknownSection(name) | Fault::UnknownPoint(name) => Detail::Named(name),
         }
     }
@@ -321,5 +363,27 @@ fn name_fault_detail(fault: NameFault) -> Detail
     match fault {
         NameFault::BadByte(place) => Detail::Place(place),
         NameFault::Empty | NameFault::TooLong | NameFault::NoMemory => Detail::Nothing,
+    }
+}
+
+fn store_fault_name(fault: StoreFault) -> &'static str
+    ensures text { result.now ≡ store_fault_name fault }
+    ensures short { length result.now ≤ 17 }
+{
+    match fault {
+        StoreFault::Sql => "Sql",
+        StoreFault::WrongVersion(_) => "WrongVersion",
+        StoreFault::BadRow(_) => "BadRow",
+        StoreFault::NoMemory => "NoMemory",
+    }
+}
+
+fn store_fault_detail(fault: StoreFault) -> Detail
+    ensures { result ≡ store_fault_detail fault }
+{
+    match fault {
+        StoreFault::WrongVersion(version) => Detail::Version(version),
+        StoreFault::BadRow(table) => Detail::Table(table),
+        StoreFault::Sql | StoreFault::NoMemory => Detail::Nothing,
     }
 }

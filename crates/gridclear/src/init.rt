@@ -1,8 +1,10 @@
 //! The subcommand `init`: the check of the files of a network and its staff.
-ghost use Rattle.std.specs.Prelude.{◌≡◌, IfOk, IfSome, string_bytes};
+ghost use Rattle.std.specs.Prelude.{◌≡◌, ◌⊎◌, Err, IfErr, IfOk, IfSome, Ok, string_bytes};
 ghost use Rattle.gridclear.specs.Answers.{Gives};
 ghost use Rattle.gridclear.specs.Init.{CountsFiles, counts_line, counts_of};
+ghost use Rattle.gridclear.specs.Stored.{IsOfLine};
 
+use crate::database::{Databases, store_register};
 use crate::fault::Fault;
 use crate::files::{AtPath, Source, points_from, sections_from, staff_from};
 use crate::words::word_of;
@@ -12,13 +14,59 @@ use clr_net::{Network, PointRow, SectionRow};
 use std::alloc::{AllocError, Global};
 use std::rt::Files;
 
-/// What `init SECTIONS POINTS STAFF` prints.
-pub fn init<R: Files + AllocGlobal>(rt: &R, matches: &ArgMatches<'_>) -> Result<String, Fault> {
+/// What `init SECTIONS POINTS STAFF [--db FILE]` prints.
+pub fn init<R: Files + Databases + AllocGlobal>(
+    rt: &R,
+    matches: &ArgMatches<'_>,
+) -> Result<String, Fault> {
     let sections = AtPath::new(rt, word_of(matches, "SECTIONS"));
     let points = AtPath::new(rt, word_of(matches, "POINTS"));
     let staff = AtPath::new(rt, word_of(matches, "STAFF"));
-    let text = counts_of_files(rt.alloc(), &sections, &points, &staff)?;
+    let text = match matches.get_str("db") {
+        Some(path) => register_of_files(rt.alloc(), &sections, &points, &staff, rt, path)?,
+        None => counts_of_files(rt.alloc(), &sections, &points, &staff)?,
+    };
     Ok(text)
+}
+
+/// The same line as by `counts_of_files`, once the register of the files is made in the database at
+/// a path. The database is opened behind the files.
+pub fn register_of_files<S: Source, P: Source, E: Source, D: Databases>(
+    alloc: Global,
+    sections: &S,
+    points: &P,
+    staff: &E,
+    databases: &D,
+    path: &str,
+) -> Result<String, Fault> {
+    let section_rows = sections_from(alloc, sections)?;
+    let point_rows = points_from(alloc, points)?;
+    let staff_rows = staff_from(alloc, staff)?;
+    let text = register_of_rows(alloc, section_rows, point_rows, staff_rows, databases, path)?;
+    Ok(text)
+}
+
+/// The same line as by `counts_of_rows`, once the register of the rows is made in the database at a
+/// path.
+pub fn register_of_rows<D: Databases>(
+    alloc: Global,
+    sections: Vec<SectionRow>,
+    points: Vec<PointRow>,
+    staff: Vec<StaffRow>,
+    databases: &D,
+    path: &str,
+) -> Result<String, Fault>
+    ensures made { IfOk result (λ text. counts_of sections.items points.items staff.items
+        ≡ Ok (string_bytes text)) }
+    ensures fault { IfErr result (λ fault. IsOfLine fault
+        ⊎ (counts_of sections.items points.items staff.items ≡ Err fault)) }
+{
+    let (section_count, point_count, staff_count) = (sections.len(), points.len(), staff.len());
+    let network = Network::build(alloc, sections, points)?;
+    let staff = Staff::build(alloc, staff)?;
+    let line = counts_text(alloc, section_count, point_count, staff_count)?;
+    store_register(alloc, databases, path, network, staff)?;
+    Ok(line)
 }
 
 /// The line that says how many rows of each kind three files have, if they hold a network and a

@@ -1,11 +1,14 @@
 //! The line that tells a fault. It is made whole, in place, before any of it is written.
 ghost use Rattle.std.specs.Prelude.{◌≡◌, ◌+◌, ◌++◌, ◌≤◌, codes, decimal, length};
+ghost use Rattle.std.specs.Fmt.{signed_decimal};
+ghost use Rattle.clr_tables.specs.TableText.{table_text};
 ghost use Rattle.arrayvec.specs.ArrayString.{array_string_len};
 ghost use Rattle.gridclear.specs.Fault.{detail_text};
 ghost use Rattle.gridclear.specs.Outcome.{told_line};
 
 use crate::fault::{Detail, Fault};
 use arrayvec::ArrayString;
+use clr_tables::TableName;
 use itoa::Buffer;
 
 /// Room for the longest line, which names a row and a column, each of 20 digits.
@@ -46,7 +49,31 @@ fn push_detail(line: &mut Line, detail: Detail)
             line.push_str(" ");
             line.push_str(name.as_str());
         }
+        Detail::Version(version) => push_version(line, version),
+        Detail::Table(table) => {
+            line.push_str(" ");
+            line.push_str(table_word(table));
+        }
     }
+}
+
+/// The name that a table has in the database.
+fn table_word(table: TableName) -> &'static str
+    ensures text { result.now ≡ table_text table }
+    ensures short { length result.now ≤ 9 }
+{
+    table.text()
+}
+
+/// Adds a version, behind a blank.
+fn push_version(line: &mut Line, version: i64)
+    requires { array_string_len line.old + 21 ≤ 96 }
+    ensures text { line.new.bytes ≡ line.old.bytes ++ (codes " " ++ signed_decimal version) }
+    ensures short { array_string_len line.new ≤ array_string_len line.old + 21 }
+{
+    let mut digits = Buffer::new();
+    line.push_str(" ");
+    line.push_str(digits.format(version));
 }
 
 /// Adds words and a number.

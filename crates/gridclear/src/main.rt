@@ -1,15 +1,19 @@
 //! The switching order and clearance register of a system operator: the program.
 #![tactic(auto)]
 
+mod board;
 mod command_line;
+mod database;
 mod fault;
 mod fence;
 mod files;
 mod init;
 mod line;
+mod order;
 mod outcome;
 mod replies;
 mod run;
+mod stored;
 mod syntax;
 mod words;
 

@@ -4,8 +4,10 @@ ghost use Rattle.clap.specs.Words.{app_of};
 ghost use Rattle.gridclear.specs.Syntax.{gridclear};
 
 mod arguments;
+mod board;
 mod fence;
 mod init;
+mod order;
 mod run;
 
 use clap::Command;
@@ -18,9 +20,13 @@ pub fn command<'a>(alloc: Global) -> Result<Command<'a>, AllocError>
     let fence = fence::command(alloc)?;
     let init = init::command(alloc)?;
     let run = run::command(alloc)?;
+    let order = order::command(alloc)?;
+    let board = board::command(alloc)?;
     let command = Command::new(alloc, "gridclear")
         .subcommand(fence)?
         .subcommand(init)?
-        .subcommand(run)?;
+        .subcommand(run)?
+        .subcommand(order)?
+        .subcommand(board)?;
     Ok(command)
 }

@@ -1,5 +1,6 @@
 //! Whole command lines, over files of their own and writers in memory.
 use super::command_line;
+use crate::database::Databases;
 use clr_csv::Counted;
 use std::env::Env;
 use std::io::Write;
@@ -53,7 +54,7 @@ fn new_tables<R: Env + AllocGlobal>(rt: &R, id: u32) -> Result<Tables, Fail> {
     })
 }
 
-fn write_tables<R: Files + AllocGlobal>(
+fn write_tables<R: Files + Databases + AllocGlobal>(
     rt: &R,
     tables: &Tables,
     sections: &str,
@@ -79,10 +80,19 @@ fn errors_told(status: u8, errors: Vec<u8>) -> Result<String, Fail> {
     Ok(errors)
 }
 
-fn run_words<R: Files + AllocGlobal>(rt: &R, words: &[&str]) -> Result<Run, Fail> {
+fn run_words<R: Files + Databases + AllocGlobal>(rt: &R, words: &[&str]) -> Result<Run, Fail> {
+    run_lines(rt, words, "")
+}
+
+/// Runs a command line whose standard input is a text.
+fn run_lines<R: Files + Databases + AllocGlobal>(
+    rt: &R,
+    words: &[&str],
+    lines: &str,
+) -> Result<Run, Fail> {
     let mut output = Counted::new(Vec::new(rt.alloc()));
     let mut errors = Counted::new(Vec::new(rt.alloc()));
-    let mut input = Counted::new(io::empty());
+    let mut input = Counted::new(lines.as_bytes());
     let status = command_line(rt, words, &mut input, &mut output, &mut errors);
     let errors = errors_told(status, errors.into_inner())?;
     // The output is memory, and fails for want of memory alone.
@@ -97,7 +107,11 @@ fn run_words<R: Files + AllocGlobal>(rt: &R, words: &[&str]) -> Result<Run, Fail
 }
 
 /// Runs `fence` over these files with further words.
-fn run_fence<R: Files + AllocGlobal>(rt: &R, tables: &Tables, more: &[&str]) -> Result<Run, Fail> {
+fn run_fence<R: Files + Databases + AllocGlobal>(
+    rt: &R,
+    tables: &Tables,
+    more: &[&str],
+) -> Result<Run, Fail> {
     let mut words = Vec::new(rt.alloc());
     words.push("gridclear")?;
     words.push("fence")?;
@@ -291,7 +305,7 @@ fn long_fault_lines(rt: HostRuntime) -> Result<(), Fail> {
 }
 
 /// Runs `init` over the worked network and a staff file of this text, with further words.
-fn run_init<R: Files + AllocGlobal>(
+fn run_init<R: Files + Databases + AllocGlobal>(
     rt: &R,
     tables: &Tables,
     staff: &str,
@@ -321,9 +335,6 @@ fn import_of_the_worked_files(rt: HostRuntime) -> Result<(), Fail> {
     assert_eq!(rt; import.errors.as_str(), "");
     assert_eq!(rt; import.output.as_str(), "sections 5 points 5 staff 6\n");
     assert_eq!(rt; import.status, 0);
-    let stored = run_init(&rt, &tables, STAFF, &["--db", "register"])?;
-    assert_eq!(rt; stored.output.as_str(), "");
-    assert_eq!(rt; stored.status, 2);
     Ok(())
 }
 
@@ -440,5 +451,69 @@ fn answer_that_cannot_be_written(rt: HostRuntime) -> Result<(), Fail> {
     let errors = errors_told(status, errors.into_inner().bytes)?;
     assert_eq!(rt; status, 1);
     assert_eq!(rt; errors.as_str(), "fault: output WriteFailed\n");
+    Ok(())
+}
+
+/// The line of a run that asks for a clearance, and the reply to it.
+const REQUEST: &str = "{\"at\":100,\"by\":\"JONES\",\"do\":\"request\",\"section\":\"L2\"}\n";
+
+const REQUESTED: &str = "{\"card\":{\"clearance\":\"JONES/1\",\"done\":0,\
+    \"holder\":\"JONES\",\"phase\":\"Requested\",\"round\":0,\"steps\":0},\
+    \"reply\":\"accepted\"}\n";
+
+#[test]
+fn register_in_a_file(rt: HostRuntime) -> Result<(), Fail> {
+    let tables = new_tables(&rt, process::id(rt.process()))?;
+    let staff = tables.staff.as_str();
+    let path = format!(in rt.alloc(); "{staff}.db")?;
+    let db = path.as_str();
+    let made = run_init(&rt, &tables, STAFF, &["--db", db])?;
+    assert_eq!(rt; made.errors.as_str(), "");
+    assert_eq!(rt; made.output.as_str(), "sections 5 points 5 staff 6\n");
+    let again = run_init(&rt, &tables, STAFF, &["--db", db])?;
+    assert_eq!(rt; again.errors.as_str(), "fault: store Sql\n");
+    assert_eq!(rt; again.status, 1);
+    let words = ["gridclear", "run", "--db", db];
+    let run = run_lines(&rt, words.as_slice(), REQUEST)?;
+    assert_eq!(rt; run.errors.as_str(), "");
+    assert_eq!(rt; run.output.as_str(), REQUESTED);
+    let board = run_words(&rt, &["gridclear", "board", db])?;
+    assert_eq!(rt; board.errors.as_str(), "");
+    assert!(rt; board.output.as_str().starts_with("BOARD 1\nJONES/1 "));
+    assert!(rt;
+        board
+            .output
+            .as_str()
+            .ends_with(" 1970-01-01 00:01:40 +00:00 JONES\n")
+    );
+    let order = run_words(&rt, &["gridclear", "order", db, "JONES/1", "1"])?;
+    assert_eq!(rt; order.errors.as_str(), "fault: clearance NoSuch\n");
+    assert_eq!(rt; order.status, 1);
+    fs::remove_file(&rt, db)?;
+    Ok(())
+}
+
+#[test]
+fn run_with_both_kinds_of_argument_or_neither(rt: HostRuntime) -> Result<(), Fail> {
+    let none = run_words(&rt, &["gridclear", "run"])?;
+    assert_eq!(rt; none.status, 2);
+    assert_eq!(rt; none.output.as_str(), "");
+    let two = run_words(&rt, &["gridclear", "run", "sections.csv", "points.csv"])?;
+    assert_eq!(rt; two.status, 2);
+    let both = run_words(
+        &rt,
+        &[
+            "gridclear",
+            "run",
+            "--db",
+            "register",
+            "s.csv",
+            "p.csv",
+            "e.csv",
+        ],
+    )?;
+    assert_eq!(rt; both.status, 2);
+    let far = run_words(&rt, &["gridclear", "board", "register", "--offset=-721"])?;
+    assert_eq!(rt; far.status, 2);
     Ok(())
 }

@@ -1,8 +1,9 @@
 //! The kinds of argument that the subcommands share.
-ghost use Rattle.std.specs.Prelude.{◌≡◌, false};
+ghost use Rattle.std.specs.Prelude.{◌≡◌, codes, false};
 ghost use Rattle.clap.specs.Words.{rule_of};
-ghost use Rattle.gridclear.specs.Syntax.{repeated_rule, required_rule};
+ghost use Rattle.gridclear.specs.Syntax.{offset_rule, option_rule, repeated_rule, required_rule};
 
+use clap::builder::ValueParser;
 use clap::{Arg, ArgAction};
 use std::alloc::Global;
 
@@ -20,4 +21,26 @@ pub fn repeated<'a>(alloc: Global, id: &'a str, help: &'a str) -> Arg<'a>
     ensures local { result.global ≡ false }
 {
     Arg::new(alloc, id).action(ArgAction::Append).help(help)
+}
+
+/// An argument that may be given once, by its name and a value.
+pub fn option<'a>(alloc: Global, id: &'a str, value: &'a str, help: &'a str) -> Arg<'a>
+    ensures rule { rule_of result ≡ option_rule id.entry.now }
+    ensures local { result.global ≡ false }
+{
+    Arg::new(alloc, id).long(id).value_name(value).help(help)
+}
+
+/// `--offset MINUTES`, from -720 to 840.
+pub fn offset<'a>(alloc: Global) -> Arg<'a>
+    ensures rule { rule_of result ≡ offset_rule }
+    ensures local { result.global ≡ false }
+{
+    option(
+        alloc,
+        "offset",
+        "MINUTES",
+        "Minutes east of Greenwich, where the clock stands",
+    )
+    .value_parser(ValueParser::signed(-720, 840))
 }
