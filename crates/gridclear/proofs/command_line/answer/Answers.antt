@@ -22,6 +22,20 @@ returns-in_err-text-in-Some-init-default-clause-faults g c = IfErr-parsed c.from
 pub returns-in-Some-clause-answers : goal.returns-in-Some-clause-answers
 returns-in-Some-clause-answers g c = λ _. MayAnswer-parsed _ _ c.in_ok-command.ensures c.in-Ok.ensures.kinds
 
-pub returns-in_err-text-in-Some-run-default-clause-faults :
-    goal.returns-in_err-text-in-Some-run-default-clause-faults
-returns-in_err-text-in-Some-run-default-clause-faults g c = IfErr-parsed c.from_residual-in_err-text-in-Some-run-default.result _ _ c.in_ok-command.ensures c.in-Ok.ensures.kinds
+pub returns-in-Some-run-default-clause-answers : goal.returns-in-Some-run-default-clause-answers
+returns-in-Some-run-default-clause-answers g c = λ _. MayAnswer-parsed _ _ c.in_ok-command.ensures c.in-Ok.ensures.kinds
+
+pub returns-in_err-printed-in-Some-run-default-clause-faults : goal.returns-in_err-printed-in-Some-run-default-clause-faults
+returns-in_err-printed-in-Some-run-default-clause-faults g c = IfErr-parsed c.from_residual-in_err-printed-in-Some-run-default.result _ _ c.in_ok-command.ensures c.in-Ok.ensures.kinds
+
+pub returns-in-Some-order-default-clause-answers : goal.returns-in-Some-order-default-clause-answers
+returns-in-Some-order-default-clause-answers g c = λ _. MayAnswer-parsed _ _ c.in_ok-command.ensures c.in-Ok.ensures.kinds
+
+pub returns-in_err-text-in-Some-order-default-clause-faults : goal.returns-in_err-text-in-Some-order-default-clause-faults
+returns-in_err-text-in-Some-order-default-clause-faults g c = IfErr-parsed c.from_residual-in_err-text-in-Some-order-default.result _ _ c.in_ok-command.ensures c.in-Ok.ensures.kinds
+
+pub returns-in-Some-board-default-clause-answers : goal.returns-in-Some-board-default-clause-answers
+returns-in-Some-board-default-clause-answers g c = λ _. MayAnswer-parsed _ _ c.in_ok-command.ensures c.in-Ok.ensures.kinds
+
+pub returns-in_err-text-in-Some-board-default-clause-faults : goal.returns-in_err-text-in-Some-board-default-clause-faults
+returns-in_err-text-in-Some-board-default-clause-faults g c = IfErr-parsed c.from_residual-in_err-text-in-Some-board-default.result _ _ c.in_ok-command.ensures c.in-Ok.ensures.kinds
