@@ -19,9 +19,6 @@ returns-in_err-text-in-Some-fence-default-clause-faults g c = IfErr-parsed c.fro
 pub returns-in_err-text-in-Some-init-default-clause-faults : goal.returns-in_err-text-in-Some-init-default-clause-faults
 returns-in_err-text-in-Some-init-default-clause-faults g c = IfErr-parsed c.from_residual-in_err-text-in-Some-init-default.result _ _ c.in_ok-command.ensures c.in-Ok.ensures.kinds
 
-pub returns-in-Some-clause-answers : goal.returns-in-Some-clause-answers
-returns-in-Some-clause-answers g c = λ _. MayAnswer-parsed _ _ c.in_ok-command.ensures c.in-Ok.ensures.kinds
-
 pub returns-in-Some-run-default-clause-answers : goal.returns-in-Some-run-default-clause-answers
 returns-in-Some-run-default-clause-answers g c = λ _. MayAnswer-parsed _ _ c.in_ok-command.ensures c.in-Ok.ensures.kinds
 
