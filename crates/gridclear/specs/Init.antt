@@ -1,5 +1,5 @@
 -- What `init` answers of the rows of its three files.
-use Rattle.std.specs.Prelude.{◌≡◌, ℕ, List, ◌++◌, length, codes, decimal, option_map, Result, Ok, Err}
+use Rattle.std.specs.Prelude.{◌≡◌, ℕ, List, ◌++◌, length, codes, decimal, Option, option_map, Result, Ok, Err, IfSome}
 use Rattle.clr_net.specs.Network as network
 use Rattle.clr_net.specs.declared.section.SectionRow.{SectionRow}
 use Rattle.clr_net.specs.declared.point.PointRow.{PointRow}
@@ -8,7 +8,9 @@ use Rattle.clr_csv.specs.Sections.{sections_of}
 use Rattle.clr_csv.specs.Staff as staff
 use Rattle.clr_csv.specs.StaffRows.{staff_of}
 use Rattle.clr_csv.specs.declared.employee.StaffRow.{StaffRow}
+use Rattle.clap.specs.Words.{Row}
 use Rattle.gridclear.specs.Answers.{◌>>=◌, unless}
+use Rattle.gridclear.specs.Asked.{word_in}
 use Rattle.gridclear.specs.Fault.{of_network, of_staff}
 use Rattle.gridclear.specs.Files.{IsUnread, told_of}
 use Rattle.gridclear.specs.declared.fault.Fault.{Fault}
@@ -39,3 +41,11 @@ abbrev pub CountsFiles : {T : Type 0} → (T → List ℕ) → List ℕ → List
 CountsFiles view section_file point_file staff_file (Ok value) = counts_of_files section_file point_file staff_file ≡ Ok (view value)
 CountsFiles view section_file point_file staff_file (Err fault) =
     (IsUnread Sections fault → ⊥) → (IsUnread Points fault → ⊥) → (IsUnread Staff fault → ⊥) → counts_of_files section_file point_file staff_file ≡ Err fault
+
+-- the same at paths: SECTIONS, POINTS and STAFF name the files
+abbrev pub CountsAt : {T : Type 0} → (T → List ℕ) → (List ℕ → Option (List ℕ)) → List Row → Result T Fault → Type 0
+CountsAt view bytes_at rows result =
+    IfSome (bytes_at (word_in rows (codes "SECTIONS"))) (λ section_file.
+    IfSome (bytes_at (word_in rows (codes "POINTS"))) (λ point_file.
+    IfSome (bytes_at (word_in rows (codes "STAFF"))) (λ staff_file.
+    CountsFiles view section_file point_file staff_file result)))

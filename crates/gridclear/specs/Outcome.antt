@@ -1,13 +1,13 @@
 -- How an outcome is told: the status, and what is written where.
-use Rattle.std.specs.Prelude.{ℕ, Bool, true, ◌≡◌, ◌≤◌, ◌⊎◌, List, [], ◌∷◌, ◌++◌, Option, Result, Ok, Err, string_bytes}
-use Rattle.clap.specs.Words.{IsAmong, Kinds}
-use Rattle.clap.specs.declared.error.kind.ErrorKind.TheVariants.{DisplayHelp, DisplayVersion}
+use Rattle.std.specs.Prelude.{ℕ, Bool, true, ◌≡◌, ◌≤◌, ◌⊎◌, List, [], ◌∷◌, ◌++◌, Option, Some, None, Result, Ok, Err, String, string_bytes}
+use Rattle.std.specs.declared.alloc.Global.{Global}
 use Rattle.std.specs.Io.KnownBytes.{Appends}
 use Rattle.clr_csv.specs.Failures.{Rose}
 use Rattle.gridclear.specs.declared.outcome.Outcome.{Outcome}
 use Rattle.gridclear.specs.declared.outcome.Outcome.TheVariants.{Answer, Stopped, Unread}
 use Rattle.gridclear.specs.declared.fault.Fault.{Fault}
-use Rattle.gridclear.specs.declared.fault.Fault.TheVariants.{Output}
+use Rattle.gridclear.specs.declared.fault.Fault.TheVariants.{Memory, Output}
+use Rattle.gridclear.specs.declared.replies.Printed.{Printed}
 use Rattle.gridclear.specs.Fault.{fault_line}
 
 -- the line of a fault, with its line feed
@@ -80,7 +80,21 @@ IsUnread (Answer text) = ⊥
 IsUnread (Stopped text fault) = ⊥
 IsUnread (Unread text) = Unit {0}
 
--- The words may have an answer: clap finds nothing wrong with them, or they ask for help. The kinds are those of the
--- errors that it may find.
-abbrev pub MayAnswer : Kinds → Type 0
-MayAnswer kinds = (kinds ≡ []) ⊎ IsAmong DisplayHelp kinds ⊎ IsAmong DisplayVersion kinds
+-- no answer: why the words do not parse, unless memory ran out
+abbrev pub IsNoAnswer : Result Outcome Fault → Type 0
+IsNoAnswer (Ok outcome) = IsUnread outcome
+IsNoAnswer (Err fault) = fault ≡ Memory
+
+-- an answer that is whole, as a command comes to it
+abbrev pub answer_of : Result (String Global) Fault → Result Outcome Fault
+answer_of (Ok text) = Ok (Answer text)
+answer_of (Err fault) = Err fault
+
+abbrev pub printed_as : String Global → Option Fault → Outcome
+printed_as text None = Answer text
+printed_as text (Some fault) = Stopped text fault
+
+-- replies, whole or as far as they came, as a command comes to them
+abbrev pub replies_as : Result Printed Fault → Result Outcome Fault
+replies_as (Ok printed) = Ok (printed_as printed.text printed.fault)
+replies_as (Err fault) = Err fault

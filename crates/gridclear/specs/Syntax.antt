@@ -1,6 +1,7 @@
 -- The command line: its subcommands, and the arguments of each.
-use Rattle.std.specs.Prelude.{codes, true, Some, List, ℕ}
+use Rattle.std.specs.Prelude.{codes, true, Some, List, [], ℕ}
 use Rattle.clap.specs.Words.{App, Rule, new_app, new_rule, with_rule, with_subcommand}
+use Rattle.clap.specs.Simple.{new_shape}
 use Rattle.clap.specs.declared.builder.action.ArgAction.TheVariants.{Append}
 
 -- an argument that has to be given, by its place
@@ -27,6 +28,13 @@ init = with_rule (with_files (new_app (codes "init"))) (required_rule (codes "ST
 abbrev pub run : App
 run = with_rule (with_files (new_app (codes "run"))) (required_rule (codes "STAFF"))
 
+-- `gridclear` alone: it has a version, and asks for a subcommand
+abbrev pub top : App
+top = record {
+  top = record (new_shape (codes "gridclear")) { has_version = true; arg_required_else_help = true; subcommand_required = true };
+  subs = [];
+}
+
 -- the program with its subcommands
 abbrev pub gridclear : App
-gridclear = with_subcommand (with_subcommand (with_subcommand (new_app (codes "gridclear")) fence.top) init.top) run.top
+gridclear = with_subcommand (with_subcommand (with_subcommand top fence.top) init.top) run.top

@@ -1,41 +1,57 @@
 //! Whole command lines: from the words to the exit status.
-ghost use Rattle.std.specs.Prelude.{◌≡◌, ◌≢◌, ◌⊎◌, [], Err, IfErr, IfOk, codes, map};
+ghost use Rattle.std.specs.Prelude.{◌≡◌, ◌≢◌, ◌⊎◌, ◌≤◌, Err, IfErr, IfOk, Result, codes, map};
 ghost use Rattle.std.specs.IoError.{error_kind};
 ghost use Rattle.std.specs.declared.io.ErrorKind.TheVariants as io_kind;
-ghost use Rattle.clap.specs.Words.{fault_of, kind_of};
-ghost use Rattle.gridclear.specs.Outcome.{IsAnswer, IsTold, IsUnread, MayAnswer, Sends, stream, told_line};
+ghost use Rattle.clap.specs.Words.{fault_of, found_of, kind_of, rows_of};
+ghost use Rattle.gridclear.specs.CommandLine.{AnswersTo, AnswersWords, MayAnswer};
+ghost use Rattle.gridclear.specs.Outcome.{IsAnswer, IsTold, IsUnread, Sends, Tells, answer_of, replies_as, stream, told_line};
 ghost use Rattle.gridclear.specs.Syntax.{gridclear};
+ghost use Rattle.gridclear.specs.declared.fault.Fault.{Fault as AnyFault};
+ghost use Rattle.gridclear.specs.declared.outcome.Outcome.{Outcome as AnyOutcome};
 
 use crate::fault::Fault;
 use crate::fence::fence;
 use crate::init::init;
 use crate::outcome::{Outcome, tell, tell_fault, write_out};
+use crate::paths::Opens;
 use crate::replies::Printed;
 use crate::run::run;
 use crate::syntax;
+use clap::ArgMatches;
 use clap::error::ErrorKind;
 use clr_csv::{CountedRead, CountedWrite};
 use std::alloc::Global;
 use std::convert::AsStr;
 use std::io;
-use std::rt::Files;
 
-/// Does what the words ask, of which the first is the program's name. The answer, and help that is
-/// asked for, go to `output`; a fault, and why words do not parse, to `errors`. Returns the exit
-/// status: 0; 1 after a fault; 2 for words that do not parse.
-pub fn command_line<R, S, I, W, E>(
-    rt: &R,
-    words: &[S],
+/// Does what the words ask, of which the first is the program's name, over the files that `paths`
+/// has. The answer, and help that is asked for, go to `output`; a fault, and why words do not parse,
+/// to `errors`. Returns the exit status: 0; 1 after a fault; 2 for words that do not parse.
+pub fn command_line<'a, O, S, I, W, E>(
+    alloc: Global,
+    paths: &O,
+    words: &'a [S],
     input: &mut I,
     output: &mut W,
     errors: &mut E,
 ) -> u8
 where
-    R: Files + AllocGlobal,
+    O: Opens<'a>,
     S: AsStr,
     I: CountedRead,
     W: CountedWrite,
     E: CountedWrite,
+    ensures answer { (told : Result AnyOutcome AnyFault)
+        × AnswersWords (O.bytes_at paths.now) (I.remaining input.old) (map S.text words.now) told
+        × Tells told result
+        (stream (W.contents output.old) (W.failure_count output.old) (W.stalled output.old)
+        (W.flushed output.old))
+        (stream (W.contents output.new) (W.failure_count output.new) (W.stalled output.new)
+        (W.flushed output.new))
+        (stream (E.contents errors.old) (E.failure_count errors.old) (E.stalled errors.old)
+        (E.flushed errors.old))
+        (stream (E.contents errors.new) (E.failure_count errors.new) (E.stalled errors.new)
+        (E.flushed errors.new)) }
     ensures told { IsTold result
         (stream (W.contents output.old) (W.failure_count output.old) (W.stalled output.old)
         (W.flushed output.old))
@@ -47,11 +63,12 @@ where
         (E.flushed errors.new)) }
     ensures words { result ≡ 0 → MayAnswer (fault_of gridclear (map S.text words.now)) }
 {
-    tell(answer(rt, words, input), output, errors)
+    tell(answer(alloc, paths, words, input), output, errors)
 }
 
 /// Tells why the arguments of the program could not be had: one is no text, or memory ran out.
 pub fn no_words<E: CountedWrite>(cause: &io::Error, errors: &mut E) -> u8
+    ensures statuses { result ≤ 2 }
     ensures memory { error_kind cause.now ≡ io_kind.OutOfMemory → result ≡ 1 }
     ensures no_text { error_kind cause.now ≢ io_kind.OutOfMemory → result ≡ 2 }
     ensures memory_line { error_kind cause.now ≡ io_kind.OutOfMemory → Sends
@@ -77,44 +94,81 @@ pub fn no_words<E: CountedWrite>(cause: &io::Error, errors: &mut E) -> u8
 }
 
 /// What the words come to.
-fn answer<R, S, I>(rt: &R, words: &[S], input: &mut I) -> Result<Outcome, Fault>
+fn answer<'a, O, S, I>(
+    alloc: Global,
+    paths: &O,
+    words: &'a [S],
+    input: &mut I,
+) -> Result<Outcome, Fault>
 where
-    R: Files + AllocGlobal,
+    O: Opens<'a>,
     S: AsStr,
     I: CountedRead,
-    ensures answers { IfOk result (λ outcome. IsAnswer outcome
-        → MayAnswer (fault_of gridclear (map S.text words.now))) }
-    ensures faults { IfErr result (λ fault. (fault ≡ Fault.Memory)
-        ⊎ (fault_of gridclear (map S.text words.now) ≡ [])) }
+    ensures { AnswersWords (O.bytes_at paths.now) (I.remaining input.old) (map S.text words.now)
+        result }
 {
-    let mut command = syntax::command(rt.alloc())?;
+    let mut command = syntax::command(alloc)?;
     let matches = match command.try_get_matches_from_mut(words) {
         Ok(matches) => matches,
         Err(error) => {
-            let outcome = unparsed(rt.alloc(), &error)?;
+            let outcome = unparsed(alloc, &error)?;
             return Ok(outcome);
         }
     };
     match matches.subcommand() {
-        Some(("fence", matches)) => {
-            let text = fence(rt, matches)?;
-            Ok(Outcome::Answer(text))
-        }
-        Some(("init", matches)) => {
-            let text = init(rt, matches)?;
-            Ok(Outcome::Answer(text))
-        }
-        Some(("run", matches)) => {
-            let Printed { text, fault } = run(rt, matches, input)?;
-            match fault {
-                Some(fault) => Ok(Outcome::Stopped(text, fault)),
-                None => Ok(Outcome::Answer(text)),
-            }
-        }
-        _ => {
+        Some((name, matches)) => answer_to(alloc, paths, name, matches, input),
+        None => {
             let help = command.render_help()?;
             Ok(Outcome::Unread(help))
         }
+    }
+}
+
+/// What the subcommand of this name comes to.
+fn answer_to<'a, O, I>(
+    alloc: Global,
+    paths: &O,
+    name: &str,
+    matches: &ArgMatches<'a>,
+    input: &mut I,
+) -> Result<Outcome, Fault>
+where
+    O: Opens<'a>,
+    I: CountedRead,
+    ensures { AnswersTo (O.bytes_at paths.now) (I.remaining input.old) name.now
+        (rows_of (found_of matches.now)) result }
+{
+    match name {
+        "fence" => whole(fence(alloc, paths, matches)),
+        "init" => whole(init(alloc, paths, matches)),
+        "run" => replies(run(alloc, paths, matches, input)),
+        _ => {
+            let text = format!(in alloc; "error: there is no subcommand {name}\n")?;
+            Ok(Outcome::Unread(text))
+        }
+    }
+}
+
+/// An answer that is whole, if there is no fault.
+fn whole(told: Result<String, Fault>) -> Result<Outcome, Fault>
+    ensures { result ≡ answer_of told }
+{
+    match told {
+        Ok(text) => Ok(Outcome::Answer(text)),
+        Err(fault) => Err(fault),
+    }
+}
+
+/// Replies as an answer, whole or as far as they came.
+fn replies(told: Result<Printed, Fault>) -> Result<Outcome, Fault>
+    ensures { result ≡ replies_as told }
+{
+    match told {
+        Ok(Printed { text, fault }) => match fault {
+            Some(fault) => Ok(Outcome::Stopped(text, fault)),
+            None => Ok(Outcome::Answer(text)),
+        },
+        Err(fault) => Err(fault),
     }
 }
 

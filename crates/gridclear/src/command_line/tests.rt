@@ -1,5 +1,6 @@
 //! Whole command lines, over files of their own and writers in memory.
 use super::command_line;
+use crate::paths::Paths;
 use clr_csv::Counted;
 use std::env::Env;
 use std::io::Write;
@@ -83,7 +84,14 @@ fn run_words<R: Files + AllocGlobal>(rt: &R, words: &[&str]) -> Result<Run, Fail
     let mut output = Counted::new(Vec::new(rt.alloc()));
     let mut errors = Counted::new(Vec::new(rt.alloc()));
     let mut input = Counted::new(io::empty());
-    let status = command_line(rt, words, &mut input, &mut output, &mut errors);
+    let status = command_line(
+        rt.alloc(),
+        &Paths::new(rt),
+        words,
+        &mut input,
+        &mut output,
+        &mut errors,
+    );
     let errors = errors_told(status, errors.into_inner())?;
     // The output is memory, and fails for want of memory alone.
     if errors.as_str() == "fault: output WriteFailed\n" {
@@ -141,6 +149,9 @@ fn faults_and_their_lines(rt: HostRuntime) -> Result<(), Fail> {
     let missing = run_fence(&rt, &tables, &["L2"])?;
     assert_eq!(rt; missing.status, 1);
     assert_eq!(rt; missing.errors.as_str(), "fault: sections ReadFailed\n");
+    fs::write(&rt, tables.sections.as_str(), "section;source\n")?;
+    let headless = run_fence(&rt, &tables, &["L2"])?;
+    assert_eq!(rt; headless.errors.as_str(), "fault: sections Header\n");
     fs::write(&rt, tables.sections.as_str(), SECTIONS)?;
     let missing = run_fence(&rt, &tables, &["L2"])?;
     assert_eq!(rt; missing.errors.as_str(), "fault: points ReadFailed\n");
@@ -371,6 +382,10 @@ fn help_and_words_that_do_not_parse(rt: HostRuntime) -> Result<(), Fail> {
     assert_eq!(rt; help.status, 0);
     assert!(rt; help.output.as_str().contains("Usage: gridclear"));
     assert_eq!(rt; help.errors.as_str(), "");
+    assert!(rt; help.output.as_str().contains("point,from,to,lockable,remote,position"));
+    let version = run_words(&rt, &["gridclear", "--version"])?;
+    assert_eq!(rt; version.status, 0);
+    assert_eq!(rt; version.output.as_str(), "gridclear 1.0.0\n");
     let bare = run_words(&rt, &["gridclear"])?;
     assert_eq!(rt; bare.status, 2);
     assert_eq!(rt; bare.output.as_str(), "");
@@ -436,7 +451,14 @@ fn answer_that_cannot_be_written(rt: HostRuntime) -> Result<(), Fail> {
     });
     let words = ["gridclear", "--help"];
     let mut input = Counted::new(io::empty());
-    let status = command_line(&rt, words.as_slice(), &mut input, &mut output, &mut errors);
+    let status = command_line(
+        rt.alloc(),
+        &Paths::new(&rt),
+        words.as_slice(),
+        &mut input,
+        &mut output,
+        &mut errors,
+    );
     let errors = errors_told(status, errors.into_inner().bytes)?;
     assert_eq!(rt; status, 1);
     assert_eq!(rt; errors.as_str(), "fault: output WriteFailed\n");
