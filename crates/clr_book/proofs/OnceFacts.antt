@@ -1,10 +1,14 @@
 -- Names that stand once, and those that are not among others.
 use Rattle.std.proofs.Common.{◌≡◌, ◌<◌, ℕ, ◌+◌, Bool, true, false, cond, not, ◌||◌, List, [], ◌∷◌, ◌++◌, filter, drop, get_or, length, refl, sym, ◌∙◌, ap}
+use Rattle.std.specs.BTreeSet.{BTreeSet, Updates, contains}
+use Rattle.std.specs.Cmp.Lexicographic.{texts_ties}
+use Rattle.std.specs.Ordering.{is_eq}
+use Rattle.std.proofs.Math.Bool.{not-not}
 use Rattle.std.proofs.lemmas.Cmp.{nat_list_eq_equiv}
 use Rattle.std.proofs.lemmas.List.{append_assoc, drop_more}
 use Rattle.std.proofs.lemmas.List.Folds.{list_any-append}
 use Rattle.clr_net.proofs.Walks.{one_name}
-use Rattle.clr_net.specs.Name.{same_name}
+use Rattle.clr_net.specs.Name.{name_cmp, same_name}
 use Rattle.clr_net.specs.Names.{has_name}
 use Rattle.clr_rules.specs.Holds.{once}
 use Rattle.clr_shelf.proofs.Lists.{filter-filter_wider}
@@ -73,3 +77,31 @@ met_now kept all names i p inside is new before =
     append_assoc kept (p ∷ []) (others (kept ++ p ∷ []) (once left))
     ∙ ap (λ rest. kept ++ p ∷ rest) (others_more kept p (once left))
     ∙ ap (λ rest. kept ++ rest) (sym (ap (λ rest. others kept (once rest)) here ∙ put)) ∙ before
+
+-- whether a name was met, as its insertion tells
+pub was_met : (met : BTreeSet (List ℕ)) (kept : List (List ℕ)) (p : List ℕ) (added : Bool) → ((q : List ℕ) → contains name_cmp met q ≡ has_name kept q)
+    → added ≡ not (contains name_cmp met p) → has_name kept p ≡ not added
+was_met met kept p added same told = sym (same p) ∙ sym (not-not (contains name_cmp met p)) ∙ ap not (sym told)
+
+-- the names that were met, with one that was not
+pub met_more : (old new : BTreeSet (List ℕ)) (kept : List (List ℕ)) (p : List ℕ) → ((q : List ℕ) → contains name_cmp old q ≡ has_name kept q)
+    → Updates name_cmp old new p true → (q : List ℕ) → contains name_cmp new q ≡ has_name (kept ++ p ∷ []) q
+met_more old new kept p same updates q =
+    updates.0 q ∙ at (is_eq (name_cmp p q)) (has_name kept q) (same q)
+    ∙ ap (λ b. has_name kept q || b) (sym (texts_ties p q) ∙ nat_list_eq_equiv.symm p q ∙ sym (or_false (same_name q p)))
+    ∙ sym (list_any-append (same_name q) kept (p ∷ []))
+  where
+    at : (tie there : Bool) → contains name_cmp old q ≡ there → cond tie true (contains name_cmp old q) ≡ (there || tie)
+    at true true is = refl
+    at true false is = refl
+    at false true is = is
+    at false false is = is
+
+-- and with one that was
+pub met_still : (old new : BTreeSet (List ℕ)) (kept : List (List ℕ)) (p : List ℕ) → ((q : List ℕ) → contains name_cmp old q ≡ has_name kept q)
+    → Updates name_cmp old new p true → has_name kept p ≡ true → (q : List ℕ) → contains name_cmp new q ≡ has_name kept q
+met_still old new kept p same updates has q = updates.0 q ∙ at (is_eq (name_cmp p q)) (texts_ties p q)
+  where
+    at : (tie : Bool) → same_name p q ≡ tie → cond tie true (contains name_cmp old q) ≡ has_name kept q
+    at true is = sym has ∙ ap (has_name kept) (one_name p q is)
+    at false is = same q

@@ -1,10 +1,11 @@
 -- What an accepted command changes, as its edits.
 use Rattle.std.specs.Prelude.{◌≡◌, Bool, true, false, List}
 use Rattle.std.specs.List.{list_all}
+use Rattle.clr_shelf.specs.Rows.{in_key_order}
 use Rattle.clr_rules.specs.Id.{Id}
+use Rattle.clr_rules.specs.StepKey.{step_key, step_key_cmp}
 use Rattle.clr_rules.specs.declared.change.Edit.{Edit}
 use Rattle.clr_rules.specs.declared.change.Edit.TheVariants.{SetPosition, SetHand, PutHold, TakeHold, PutRecord, PutStep}
-use Rattle.clr_book.specs.Card.{each_once}
 use Rattle.clr_book.specs.Decision.{ended}
 use Rattle.clr_book.specs.declared.effect.Effect.{Effect}
 
@@ -20,8 +21,8 @@ leaves_rows (TakeHold h) = true
 leaves_rows (PutRecord r) = false
 leaves_rows (PutStep row) = false
 
--- an effect on a clearance: the record is its own, and each of the steps stands once
+-- an effect on a clearance: the record is its own, and the steps stand in key order
 pub record IsOf (c : Id) (e : Effect) : Type 0 where
   pub own : e.clearance.id ≡ c
   pub lead : list_all leaves_rows e.lead.items ≡ true
-  pub once : each_once e.steps.items ≡ true
+  pub rising : in_key_order step_key_cmp step_key e.steps.items ≡ true

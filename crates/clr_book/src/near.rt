@@ -34,12 +34,18 @@ pub struct Near<'a> {
 }
 
 impl<'a> Model for Near<'a> {
-    ghost use Rattle.std.specs.Prelude.{◌≤◌, map};
+    ghost use Rattle.std.specs.Prelude.{◌≡◌, ◌≤◌, true, map};
     ghost use Rattle.std.specs.List.Sorted.{IsStrictlySortedBy};
     ghost use Rattle.clr_net.specs.Grid.{point_names, section_names};
     ghost use Rattle.clr_net.specs.Name.{name_cmp};
+    ghost use Rattle.clr_rules.specs.Hold.{hold_cmp};
+    ghost use Rattle.clr_rules.specs.Holds.{hold_key};
+    ghost use Rattle.clr_rules.specs.Id.{id_cmp};
     ghost use Rattle.clr_rules.specs.Near.{Near};
+    ghost use Rattle.clr_rules.specs.Records.{record_key};
     ghost use Rattle.clr_rules.specs.Register.{unplaced};
+    ghost use Rattle.clr_rules.specs.States.{state_key};
+    ghost use Rattle.clr_shelf.specs.Rows.{in_key_order};
 
     ghost Value = { Near };
 
@@ -55,5 +61,11 @@ impl<'a> Model for Near<'a> {
       };
     } };
 
-    ghost invariant = { λ n. (n.greatest ≤ 9999) × IsStrictlySortedBy name_cmp (section_names (map (λ row. row.now) n.sections.items)) × IsStrictlySortedBy name_cmp (point_names (map (λ row. row.now) n.points.items)) };
+    ghost invariant = { λ n. (n.greatest ≤ 9999)
+        × IsStrictlySortedBy name_cmp (section_names (map (λ row. row.now) n.sections.items))
+        × IsStrictlySortedBy name_cmp (point_names (map (λ row. row.now) n.points.items))
+        × IsStrictlySortedBy name_cmp n.fence.items
+        × (in_key_order name_cmp state_key (map (λ row. row.now) n.states.items) ≡ true)
+        × (in_key_order id_cmp record_key (map (λ row. row.now) n.records.items) ≡ true)
+        × (in_key_order hold_cmp hold_key (map (λ row. row.now) n.holds.items) ≡ true) };
 }

@@ -1,5 +1,7 @@
 //! The view of a clearance: its card, and all that stands at its fence.
 ghost use Rattle.std.specs.Prelude.{◌≡◌, ◌++◌, [], None, IfOk, filter, map};
+ghost use Rattle.std.specs.List.Sorted.{IsStrictlySortedBy};
+ghost use Rattle.clr_net.specs.Name.{name_cmp};
 ghost use Rattle.clr_net.specs.Names.{has_name};
 ghost use Rattle.clr_rules.specs.Answer.{card_of, view_of};
 ghost use Rattle.clr_rules.specs.Fences.{touches, touching_names};
@@ -13,7 +15,8 @@ use crate::checks::steps::last_round;
 use crate::checks::work::places_of;
 use crate::fences::{is_near_hold, touches};
 use crate::near::Near;
-use clr_net::{Name, PointRow, has_name};
+use crate::near::names::{in_order, is_among};
+use clr_net::{Name, PointRow};
 use clr_order::Step;
 use clr_rules::{
     Card, ClearanceId, Hold, HoldKind, Holds, Names, PointState, PointStates, Record, Steps, View,
@@ -22,7 +25,8 @@ use std::alloc::{AllocError, Global};
 
 /// The names of the fence's sections.
 fn fence_names(near: &Near) -> Result<Vec<Name>, AllocError>
-    ensures { IfOk result (λ names. names.items ≡ near.now.known.fence) }
+    ensures names { IfOk result (λ names. names.items ≡ near.now.known.fence) }
+    ensures rising { IfOk result (λ names. IsStrictlySortedBy name_cmp names.items) }
 {
     near.fence.iter().copied().collect(near.alloc)
 }
@@ -30,6 +34,7 @@ fn fence_names(near: &Near) -> Result<Vec<Name>, AllocError>
 /// The points with an end among these sections.
 #[tactic(auto, unfolding(clr_rules::specs::Fences::touching_names))]
 fn touching_names(near: &Near, fence: &[Name]) -> Result<Vec<Name>, AllocError>
+    requires { IsStrictlySortedBy name_cmp fence.now }
     ensures { IfOk result (λ names. names.items ≡ touching_names near.now.rows.net (has_name fence.now)) }
 {
     let mut names = Vec::new(near.alloc);
@@ -43,11 +48,12 @@ fn touching_names(near: &Near, fence: &[Name]) -> Result<Vec<Name>, AllocError>
 
 /// The states of the points that touch the fence.
 fn touching_states(near: &Near, touching: &[Name]) -> Result<Vec<PointState>, AllocError>
+    requires { IsStrictlySortedBy name_cmp touching.now }
     ensures { IfOk result (λ states. states.items ≡ filter (λ state. has_name touching.now state.point) near.now.rows.states) }
 {
     let mut states = Vec::new(near.alloc);
     for state in &near.states {
-        if has_name(touching, state.point) {
+        if is_among(touching, state.point) {
             states.push(**state)?;
         }
     }
@@ -70,6 +76,8 @@ fn steps_in(near: &Near, id: ClearanceId, round: u8) -> Result<Vec<Step>, AllocE
 
 /// The holds at these sections and points.
 fn holds_at(near: &Near, fence: &[Name], touching: &[Name]) -> Result<Vec<Hold>, AllocError>
+    requires sections { IsStrictlySortedBy name_cmp fence.now }
+    requires points { IsStrictlySortedBy name_cmp touching.now }
     ensures { IfOk result (λ holds. holds.items ≡ filter (is_near_hold (has_name fence.now) (has_name touching.now) None) near.now.rows.holds) }
 {
     let mut holds = Vec::new(near.alloc);
@@ -134,7 +142,8 @@ pub(crate) fn view_of(near: &Near, clearance: &Record) -> Result<View, AllocErro
     ensures { IfOk result (λ view. view ≡ view_of near.now.known near.now.rows clearance.now) }
 {
     let fence = fence_names(near)?;
-    let touching = touching_names(near, &fence)?;
+    let named = touching_names(near, &fence)?;
+    let touching = in_order(named);
     let crews = places_of(near, clearance.id, HoldKind::Crew)?;
     let near_holds = holds_at(near, &fence, &touching)?;
     let holds = in_kind_order(near.alloc, &near_holds)?;

@@ -1,5 +1,5 @@
 //! Replays the worked examples. Each session file has commands and the lines that have to come; the words of the command line name
-//! the sessions, in order.
+//! the sessions, in order. They are replayed over sorted shelves, and those behind the word `lists` over list shelves.
 #![tactic(auto)]
 
 mod line;
@@ -7,6 +7,7 @@ mod replay;
 mod room;
 
 use replay::Replays;
+use room::Shelves;
 use std::process::ExitCode;
 use std::{env, fs};
 
@@ -26,10 +27,15 @@ fn replay_all(rt: &HostRuntime) -> anyhow::Result<bool> {
     let alloc = rt.alloc();
     let mut replays = Replays::new(alloc);
     let mut all_went = true;
+    let mut shelves = Shelves::Sorted;
     for name in env::args(rt)?.skip(1) {
+        if name.as_str() == "lists" {
+            shelves = Shelves::Lists;
+            continue;
+        }
         let path = format!(in alloc; "{name}.session")?;
         let text = fs::read_to_string(rt, &path)?;
-        let outcome = replays.replay(rt, &name, &text)?;
+        let outcome = replays.replay(rt, shelves, &name, &text)?;
         println!(rt; "{name}: {outcome}")?;
         all_went = all_went && outcome.went();
     }

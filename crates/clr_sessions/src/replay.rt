@@ -1,6 +1,6 @@
 //! A session is replayed: each command is answered, and what comes is compared with what must come.
 use crate::line::{Line, line_of};
-use crate::room::Room;
+use crate::room::{Room, Shelves};
 use anyhow::Context;
 use std::alloc::{AllocError, Global};
 use std::collections::VecDeque;
@@ -61,6 +61,7 @@ pub struct Replays {
 #[derive(Drop)]
 struct Course {
     alloc: Global,
+    shelves: Shelves,
     room: Option<Room>,
     awaited: VecDeque<String>,
     same_as: Option<String>,
@@ -77,9 +78,15 @@ impl Replays {
         }
     }
 
-    /// Replays a session.
-    pub fn replay<R: Files>(&mut self, rt: &R, name: &str, text: &str) -> anyhow::Result<Outcome> {
-        let mut course = Course::new(self.alloc);
+    /// Replays a session over these shelves.
+    pub fn replay<R: Files>(
+        &mut self,
+        rt: &R,
+        shelves: Shelves,
+        name: &str,
+        text: &str,
+    ) -> anyhow::Result<Outcome> {
+        let mut course = Course::new(self.alloc, shelves);
         let mut number: usize = 0;
         for line in text.lines() {
             number = number.saturating_add(1);
@@ -111,9 +118,10 @@ impl Replays {
 }
 
 impl Course {
-    fn new(alloc: Global) -> Course {
+    fn new(alloc: Global, shelves: Shelves) -> Course {
         Course {
             alloc,
+            shelves,
             room: None,
             awaited: VecDeque::new(alloc),
             same_as: None,
@@ -132,7 +140,7 @@ impl Course {
         match line_of(text) {
             Line::Remark => Ok(None),
             Line::Network(name) => {
-                self.room = Some(Room::open(rt, self.alloc, name)?);
+                self.room = Some(Room::open(rt, self.alloc, name, self.shelves)?);
                 Ok(None)
             }
             Line::SameAs(name) => {

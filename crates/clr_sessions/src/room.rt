@@ -5,24 +5,50 @@ use anyhow::Context;
 use clr_book::{Book, ClearanceId, Hold, PointState, Record, StepRow};
 use clr_csv::{Counted, Staff, read_points, read_sections, read_staff};
 use clr_net::Network;
-use clr_shelf::ListShelf;
+use clr_shelf::{ListShelf, SortedShelf};
 use clr_text::{TextFault, command_of, fault_text, print_board, print_order, reply_text};
 use std::alloc::{AllocError, Global};
 use std::rt::Files;
 use std::{fmt, fs};
 
+type SortedBook = Book<
+    SortedShelf<PointState>,
+    SortedShelf<Record>,
+    SortedShelf<StepRow>,
+    SortedShelf<Hold>,
+>;
+
 type ListBook = Book<ListShelf<PointState>, ListShelf<Record>, ListShelf<StepRow>, ListShelf<Hold>>;
+
+/// What the rows of a register lie on.
+#[derive(Clone, Copy)]
+pub enum Shelves {
+    Sorted,
+    Lists,
+}
+
+/// A book over either kind of shelves.
+#[derive(Drop)]
+enum RoomBook {
+    Sorted(SortedBook),
+    Lists(ListBook),
+}
 
 /// A register in memory.
 #[derive(Drop)]
 pub struct Room {
     alloc: Global,
-    book: ListBook,
+    book: RoomBook,
 }
 
 impl Room {
     /// The register of the three files of a network, before the first command.
-    pub fn open<R: Files>(rt: &R, alloc: Global, network: &str) -> anyhow::Result<Room> {
+    pub fn open<R: Files>(
+        rt: &R,
+        alloc: Global,
+        network: &str,
+        shelves: Shelves,
+    ) -> anyhow::Result<Room> {
         let path = format!(in alloc; "{network}-sections.csv")?;
         let sections = read_sections(alloc, &mut Counted::new(fs::open(rt, &path)?))?;
         let path = format!(in alloc; "{network}-points.csv")?;
@@ -31,7 +57,10 @@ impl Room {
         let staff = read_staff(alloc, &mut Counted::new(fs::open(rt, &path)?))?;
         let network = Network::build(alloc, sections, points)?;
         let staff = Staff::build(alloc, staff)?;
-        let book = Book::opening(alloc, network, staff)?;
+        let book = match shelves {
+            Shelves::Sorted => RoomBook::Sorted(Book::opening(alloc, network, staff)?),
+            Shelves::Lists => RoomBook::Lists(Book::opening(alloc, network, staff)?),
+        };
         Ok(Room { alloc, book })
     }
 
@@ -42,11 +71,11 @@ impl Room {
             Err(TextFault::NoMemory) => return Err(AllocError.into()),
             Err(fault) => return Ok(fault_text(self.alloc, &fault)?),
         };
-        let decision = self.book.answer(&command)?;
-        let reply = reply_text(self.alloc, &decision.reply)?;
-        self.book.reserve(&decision.change)?;
-        self.book.apply(decision.change);
-        Ok(reply)
+        let reply = match &mut self.book {
+            RoomBook::Sorted(book) => book.answer_and_apply(&command)?,
+            RoomBook::Lists(book) => book.answer_and_apply(&command)?,
+        };
+        Ok(reply_text(self.alloc, &reply)?)
     }
 
     /// The printed order of a clearance: its name, the round and the offset.
@@ -60,7 +89,11 @@ impl Room {
         let id = ClearanceId::read(clearance)?;
         let round = round.parse::<u8>()?;
         let offset = offset_of(offset)?;
-        match print_order(self.alloc, &self.book, &id, round, offset)? {
+        let printed = match &self.book {
+            RoomBook::Sorted(book) => print_order(self.alloc, book, &id, round, offset)?,
+            RoomBook::Lists(book) => print_order(self.alloc, book, &id, round, offset)?,
+        };
+        match printed {
             Some(text) => Ok(text),
             None => Ok("no such order".to_string(self.alloc)?),
         }
@@ -69,7 +102,11 @@ impl Room {
     /// The board at an offset.
     pub fn board(&self, offset: &str) -> anyhow::Result<String> {
         let offset = offset_of(offset)?;
-        Ok(print_board(self.alloc, &self.book, offset)?)
+        let board = match &self.book {
+            RoomBook::Sorted(book) => print_board(self.alloc, book, offset)?,
+            RoomBook::Lists(book) => print_board(self.alloc, book, offset)?,
+        };
+        Ok(board)
     }
 }
 

@@ -1,5 +1,7 @@
 //! The checks of orders over what is lent.
 ghost use Rattle.std.specs.Prelude.{◌≡◌, IfOk, Some, filter, map};
+ghost use Rattle.std.specs.List.Sorted.{IsStrictlySortedBy};
+ghost use Rattle.clr_net.specs.Name.{name_cmp};
 ghost use Rattle.clr_net.specs.Names.{has_name};
 ghost use Rattle.clr_order.specs.Step.{task};
 ghost use Rattle.clr_rules.specs.Checks.{unsound_order, wrong_restoring, wrong_switching};
@@ -13,10 +15,12 @@ ghost use Rattle.clr_book.specs.Orders.{refusal_of};
 use crate::checks::work::has_hold;
 use crate::fences::touching_points;
 use crate::near::Near;
-use clr_net::{Fence, Name, SectionRow, has_name};
+use crate::near::names::is_among;
+use clr_net::{Fence, Name, SectionRow};
 use clr_order::{Held, OrderFault, Step, check_isolating, check_restoring, check_switching};
 use clr_rules::{ClearanceId, HoldKind, Refusal};
 use std::alloc::{AllocError, Global};
+use std::collections::BTreeSet;
 
 /// Why an order with these points and steps does not isolate the sections of the fence that it would make, if it does not.
 pub(crate) fn unsound_order(
@@ -38,11 +42,12 @@ fn fence_sections<'a>(
     rows: &[&'a SectionRow],
     fence: &[Name],
 ) -> Result<Vec<&'a SectionRow>, AllocError>
+    requires { IsStrictlySortedBy name_cmp fence.now }
     ensures { IfOk result (λ kept. map (λ row. row.now) kept.items ≡ filter (λ row. has_name fence.now row.name) (map (λ row. row.now) rows.now)) }
 {
     let mut kept = Vec::new(alloc);
     for row in rows {
-        if has_name(fence, row.name) {
+        if is_among(fence, row.name) {
             kept.push(*row)?;
         }
     }
@@ -82,9 +87,10 @@ fn first_points(near: &Near, id: ClearanceId) -> Result<Vec<Name>, AllocError>
 fn each_once(alloc: Global, names: &[Name]) -> Result<Vec<Name>, AllocError>
     ensures { IfOk result (λ kept. kept.items ≡ once names.now) }
 {
+    let mut met = BTreeSet::new(alloc);
     let mut kept = Vec::new(alloc);
     for name in names {
-        if !has_name(&kept, *name) {
+        if met.insert(*name)? {
             kept.push(*name)?;
         }
     }

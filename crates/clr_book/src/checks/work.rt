@@ -7,7 +7,8 @@ use crate::checks::clearances::record;
 use crate::checks::refuse;
 use crate::checks::rows::find_row;
 use crate::near::Near;
-use clr_net::{Name, has_name};
+use crate::near::names::is_among;
+use clr_net::Name;
 use clr_rules::{ClearanceId, Hold, HoldKind, Refusal};
 use std::alloc::AllocError;
 
@@ -66,7 +67,7 @@ pub(crate) fn places_of(
 pub(crate) fn outside_fence(near: &Near, section: Name) -> Option<Refusal>
     ensures { result ≡ outside_fence near.now.known.fence section }
 {
-    let inside = has_name(&near.fence, section);
+    let inside = is_among(&near.fence, section);
     refuse(!inside, Refusal::OutsideFence)
 }
 

@@ -1,7 +1,8 @@
 //! The steps of a new round.
 ghost use Rattle.std.specs.Prelude.{◌≡◌, ◌≤◌, true, IfOk, length};
 ghost use Rattle.clr_rules.specs.Changes.{new_steps};
-ghost use Rattle.clr_book.specs.Card.{each_once};
+ghost use Rattle.clr_rules.specs.StepKey.{step_key, step_key_cmp};
+ghost use Rattle.clr_shelf.specs.Rows.{in_key_order};
 
 use clr_order::{Step, StepState};
 use clr_rules::{ClearanceId, StepRow, Tasks};
@@ -16,7 +17,7 @@ pub(crate) fn new_steps(
 ) -> Result<Vec<StepRow>, AllocError>
     requires { length tasks.now ≤ 256 }
     ensures rows { IfOk result (λ rows. rows.items ≡ new_steps id round 1 tasks.now) }
-    ensures once { IfOk result (λ rows. each_once rows.items ≡ true) }
+    ensures rising { IfOk result (λ rows. in_key_order step_key_cmp step_key rows.items ≡ true) }
 {
     let rows = numbered(alloc, id, round, tasks)?;
     Ok(rows)

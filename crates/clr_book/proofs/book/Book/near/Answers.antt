@@ -1,14 +1,20 @@
-use Rattle.std.proofs.Common.{◌≡◌, ◌∙◌, ◌||◌, ap, filter, map, refl, Bor, List, ℕ, Bool, Option, sym}
+use Rattle.std.proofs.Common.{◌≡◌, ◌∙◌, ◌||◌, ap, filter, map, refl, subst, Bor, List, ℕ, Bool, Option, sym}
+use Rattle.std.proofs.lemmas.Cmp.{nat_list_cmp_total}
 use Rattle.clr_net.specs.Name.{name_cmp}
 use Rattle.clr_net.specs.Names.{has_name}
 use Rattle.clr_net.specs.declared.point.PointRow.{PointRow}
 use Rattle.clr_net.specs.declared.section.SectionRow.{SectionRow}
 use Rattle.clr_rules.specs.Answer.{known_of}
 use Rattle.clr_rules.specs.Fences.{touching_names}
-use Rattle.clr_rules.specs.Holds.{is_near_hold, is_own}
-use Rattle.clr_rules.specs.Id.{Id}
+use Rattle.clr_rules.specs.Good.{ListsAreInOrder}
+use Rattle.clr_rules.specs.Hold.{hold_cmp, hold_cmp_total}
+use Rattle.clr_rules.specs.Holds.{hold_key, is_near_hold, is_own}
+use Rattle.clr_rules.specs.Id.{Id, id_cmp, id_cmp_total}
 use Rattle.clr_rules.specs.Near.{is_asked, is_beside, near_part, switched}
+use Rattle.clr_rules.specs.Records.{record_key}
 use Rattle.clr_rules.specs.Register.{unplaced}
+use Rattle.clr_rules.specs.States.{state_key}
+use Rattle.clr_shelf.proofs.KeyOrder.{in_key_order-filter}
 use Rattle.clr_book.specs.Book.{Shelved}
 use Rattle.clr_book.proofs.NearFacts.{lent_whole, unplaced_shown}
 use Rattle.clr_book.proofs.OrderPositions.{unplaced_kept}
@@ -46,10 +52,23 @@ invariant_of-near g c =
     let R = c.args.self.now.register in
     let fence = c.deref.result.now in
     let beside = c.deref-2.result.now in
-    let sections : R.net.sections ≡ c.self.inside.network.sections = ap (λ (v : Shelved). v.register.net.sections) (sym c.self.view_is) in (
+    let sections : R.net.sections ≡ c.self.inside.network.sections = ap (λ (v : Shelved). v.register.net.sections) (sym c.self.view_is) in
+    let lists : ListsAreInOrder R = subst (λ (v : Shelved). ListsAreInOrder v.register) c.self.view_is (record {
+      states = g.met.P.Shelf.in_order c.self.inside.states;
+      records = g.met.C.Shelf.in_order c.self.inside.records;
+      steps = g.met.T.Shelf.in_order c.self.inside.steps;
+      holds = g.met.H.Shelf.in_order c.self.inside.holds;
+    }) in (
       c.greatest_for.ensures.range,
       rw (c.in_ok-sections_near.ensures, sections)
           (rising-filter name_cmp (λ (row : SectionRow). row.name) (λ row. has_name fence row.name || is_asked c.args.command.now.kind row.name) c.self.inside.network.sections c.points.ensures.network.sections_rise),
       rw (c.in_ok-rows_named.ensures, c.points.ensures.rows)
           (rising-filter name_cmp (λ (row : PointRow). row.name) (λ row. has_name beside row.name) c.self.inside.network.points c.points.ensures.network.points_rise),
+      c.in_ok-fence.ensures.rising,
+      rw c.in_ok-states_near.ensures
+          (in_key_order-filter name_cmp state_key nat_list_cmp_total (λ state. has_name c.deref-3.result.now state.point) R.states lists.states),
+      rw c.in_ok-own_records.ensures
+          (in_key_order-filter id_cmp record_key id_cmp_total (λ r. is_own c.clearance-own.result r.id) R.records lists.records),
+      rw c.in_ok-holds_near.ensures
+          (in_key_order-filter hold_cmp hold_key hold_cmp_total (is_near_hold (has_name c.deref-4.result.now) (has_name c.deref-5.result.now) c.clearance-own.result) R.holds lists.holds),
     )

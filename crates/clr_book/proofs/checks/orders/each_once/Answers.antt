@@ -1,13 +1,18 @@
-use Rattle.std.proofs.Common.{◌≡◌, ◌∙◌, ◌++◌, ℕ, [], ◌∷◌, List, Vec, Global, ap, arith, sym}
+use Rattle.std.proofs.Common.{◌≡◌, ◌∙◌, ◌++◌, ℕ, [], ◌∷◌, List, Vec, Global, Bool, true, false, not, ap, arith, sym}
+use Rattle.std.specs.BTreeSet.{contains}
+use Rattle.clr_net.specs.Name.{name_cmp}
 use Rattle.clr_net.specs.Names.{has_name}
 use Rattle.clr_net.specs.declared.name.Name.{Name}
 use Rattle.clr_rules.specs.Holds.{once}
-use Rattle.clr_book.proofs.OnceFacts.{met_before, met_now, others, others_none}
+use Rattle.clr_book.proofs.OnceFacts.{met_before, met_more, met_now, met_still, others, others_none, was_met}
 use Rattle.clr_book.proofs.checks.orders.each_once.Goals as goal
-use Rattle.clr_book.proofs.checks.orders.each_once.Goals.{then-not-has_name+in_ok-push, else-not-has_name}
+use Rattle.clr_book.proofs.checks.orders.each_once.Goals.{then-branch+in_ok-push, else-branch}
 
 pub loop-name-init : goal.loop-name-init
-loop-name-init c = ap (λ kept. kept ++ others kept (once c.args.names.now)) c.new-kept.ensures.items ∙ others_none (once c.args.names.now)
+loop-name-init c = record {
+  met = λ q. search rules;
+  once = ap (λ kept. kept ++ others kept (once c.args.names.now)) c.new-kept.ensures.items ∙ others_none (once c.args.names.now);
+}
 
 pub loop-name-preserved : goal.loop-name-preserved
 loop-name-preserved c =
@@ -15,12 +20,19 @@ loop-name-preserved c =
     let kept = c.loop-name.kept.items in
     let i = c.loop-name.name-index in
     let name = c.name-item.result in
-    let met : has_name kept name ≡ c.has_name.result = ap (λ (kept : List (List ℕ)). has_name kept name) (sym c.deref.ensures.value) ∙ sym c.has_name.ensures in
-    elim c.if-not-has_name.branch [
-      | then-not-has_name+in_ok-push w ↦
-          let items : c.if-not-has_name.kept.items ≡ kept ++ name ∷ [] = ap (λ (v : Vec Name Global). v.items) w.kept-is ∙ w.in_ok-push.ensures.items in
-          rw items (met_now kept (once names) names i name (omega arith) c.name-item.is (met ∙ w.if-not-has_name.true) c.loop-name.invariant)
-      | else-not-has_name w ↦
-          let items : c.if-not-has_name.kept.items ≡ kept = ap (λ (v : Vec Name Global). v.items) w.kept-is in
-          rw items (met_before kept (once names) names i name (omega arith) c.name-item.is (met ∙ w.if-not-has_name.false) c.loop-name.invariant)
+    let updates = c.in_ok-insert.ensures.updates in
+    let met : has_name kept name ≡ not c.in_ok-insert.field-0 = was_met c.loop-name.met kept name c.in_ok-insert.field-0 c.loop-name.invariant.met c.in_ok-insert.ensures.added in
+    elim c.if-branch.branch [
+      | then-branch+in_ok-push w ↦
+          let items : c.if-branch.kept.items ≡ kept ++ name ∷ [] = ap (λ (v : Vec Name Global). v.items) w.kept-is ∙ w.in_ok-push.ensures.items in
+          record {
+            met = rw items (met_more c.loop-name.met c.insert.new.self kept name c.loop-name.invariant.met updates);
+            once = rw items (met_now kept (once names) names i name (omega arith) c.name-item.is (met ∙ ap not w.if-branch.true) c.loop-name.invariant.once);
+          }
+      | else-branch w ↦
+          let items : c.if-branch.kept.items ≡ kept = ap (λ (v : Vec Name Global). v.items) w.kept-is in
+          record {
+            met = rw items (met_still c.loop-name.met c.insert.new.self kept name c.loop-name.invariant.met updates (met ∙ ap not w.if-branch.false));
+            once = rw items (met_before kept (once names) names i name (omega arith) c.name-item.is (met ∙ ap not w.if-branch.false) c.loop-name.invariant.once);
+          }
     ]

@@ -54,3 +54,9 @@ returns c =
     ∙ ap order_refusal (order_told S T known c.of_rows-fence.result g points tasks sections touching
     (ap (λ (n : Near). n.rows.net.sections) c.near.view_is)
     (sym (unplaced_shown (λ (row : Bor PointRow). row.now) c.near.inside.points.items) ∙ ap (λ (n : Near). n.rows.net.points) c.near.view_is))
+
+pub fence_sections-sections-requires : goal.fence_sections-sections-requires
+fence_sections-sections-requires c = rw c.deref-2.ensures.value c.near.invariant.3
+
+pub touching_points-touching-requires : goal.touching_points-touching-requires
+touching_points-touching-requires c = rw c.deref-4.ensures.value c.near.invariant.3

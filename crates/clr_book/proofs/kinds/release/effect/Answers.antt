@@ -15,5 +15,5 @@ pub returns-clause-of : goal.returns-clause-of
 returns-clause-of c = record {
   own = search rules;
   lead = ap (list_all leaves_rows) c.in_ok-lead.ensures ∙ takes_leave c.args.id c.deref.result.now;
-  once = search rules;
+  rising = search rules;
 }
