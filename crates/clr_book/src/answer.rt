@@ -4,7 +4,7 @@ ghost use Rattle.clr_rules.specs.Answer.{Answer, answer, answer_with};
 ghost use Rattle.clr_rules.specs.Good.{IsGood};
 ghost use Rattle.clr_rules.specs.Near.{Near, near_of};
 ghost use Rattle.clr_rules.specs.Run.{after};
-ghost use Rattle.clr_book.specs.Decision.{ChangesIfAccepted, answered, is_accepted};
+ghost use Rattle.clr_book.specs.Decision.{ChangesIfAccepted, answer_of_decision, is_accepted};
 
 use crate::book::Book;
 use crate::decision::Decision;
@@ -19,9 +19,9 @@ impl<P: Shelf<PointState>, C: Shelf<Record>, T: Shelf<StepRow>, H: Shelf<Hold>> 
     pub fn answer(&self, command: &Command) -> Result<Decision, AllocError>
         ensures lent { IfOk result (λ d.
             answer_with (Near.known (near_of self.now.register command.now)) (Near.rows (near_of self.now.register command.now)) command.now
-            ≡ answered d) }
+            ≡ answer_of_decision d) }
         ensures whole { IsGood self.now.register
-            → IfOk result (λ d. answer self.now.register command.now ≡ answered d) }
+            → IfOk result (λ d. answer self.now.register command.now ≡ answer_of_decision d) }
         ensures nothing { IfOk result ChangesIfAccepted }
     {
         let near = self.near(command)?;
