@@ -15,7 +15,6 @@ pub mod OnceFacts
 pub mod FenceNames
 pub mod Grouped
 pub mod LookedUp
-pub mod LentRows
 pub mod NameLists
 pub mod PutSteps
 pub mod NearGroups

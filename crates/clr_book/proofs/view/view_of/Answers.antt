@@ -29,14 +29,14 @@ returns c =
       work = c.args.clearance.now.work;
     }
 
-pub touching_names-named-requires : goal.touching_names-named-requires
-touching_names-named-requires c = rw c.deref.ensures.value c.in_ok-fence.ensures.rising
+pub touching_names-requires : goal.touching_names-requires
+touching_names-requires c = rw c.deref.ensures.value c.in_ok-fence.ensures.rising
 
-pub holds_at-near_holds-requires-clause-sections : goal.holds_at-near_holds-requires-clause-sections
-holds_at-near_holds-requires-clause-sections c = rw c.deref-2.ensures.value c.in_ok-fence.ensures.rising
+pub holds_at-requires-clause-sections : goal.holds_at-requires-clause-sections
+holds_at-requires-clause-sections c = rw c.deref-2.ensures.value c.in_ok-fence.ensures.rising
 
-pub holds_at-near_holds-requires-clause-points : goal.holds_at-near_holds-requires-clause-points
-holds_at-near_holds-requires-clause-points c = rw c.deref-3.ensures.value c.in_order-touching.ensures.rising
+pub holds_at-requires-clause-points : goal.holds_at-requires-clause-points
+holds_at-requires-clause-points c = rw c.deref-3.ensures.value c.in_order-touching.ensures.rising
 
-pub touching_states-points-requires : goal.touching_states-points-requires
-touching_states-points-requires c = rw c.deref-5.ensures.value c.in_order-touching.ensures.rising
+pub touching_states-requires : goal.touching_states-requires
+touching_states-requires c = rw c.deref-5.ensures.value c.in_order-touching.ensures.rising

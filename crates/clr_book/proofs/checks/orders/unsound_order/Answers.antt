@@ -55,8 +55,8 @@ returns c =
     (ap (λ (n : Near). n.rows.net.sections) c.near.view_is)
     (sym (unplaced_shown (λ (row : Bor PointRow). row.now) c.near.inside.points.items) ∙ ap (λ (n : Near). n.rows.net.points) c.near.view_is))
 
-pub fence_sections-sections-requires : goal.fence_sections-sections-requires
-fence_sections-sections-requires c = rw c.deref-2.ensures.value c.near.invariant.3
+pub fence_sections-requires : goal.fence_sections-requires
+fence_sections-requires c = rw c.deref-2.ensures.value c.near.invariant.3
 
-pub touching_points-touching-requires : goal.touching_points-touching-requires
-touching_points-touching-requires c = rw c.deref-4.ensures.value c.near.invariant.3
+pub touching_points-requires : goal.touching_points-requires
+touching_points-requires c = rw c.deref-4.ensures.value c.near.invariant.3
