@@ -28,12 +28,14 @@ use Rattle.clr_shelf.specs.Rows.{in_key_order}
 use Rattle.clr_tables.specs.Tables.{Tables}
 use Rattle.clr_tables.specs.declared.table_name.TableName.{TableName}
 use Rattle.clr_tables.specs.declared.table_name.TableName.TheVariants.{Meta, Section, Point, Staff, Clearance, Step, Hold}
-use Rattle.clr_store.specs.Change.{Listed}
+use Rattle.clr_store.specs.Change.{Finds}
+use Rattle.clr_store.specs.Listed.{both_of}
 use Rattle.clr_store.specs.Schema.{columns_in, keys_in, tree_of, register_schema}
 use Rattle.clr_store.specs.Sql.{select_sql}
 use Rattle.clr_store.specs.Stored.{HasRows, Holds, IsInOrder, bodies, fits_columns, rows_in}
 use Rattle.clr_store.proofs.Columns.{both_true, fits_length, key_order, met_values, values_all, values_from, values_shift, values_take}
 use Rattle.clr_store.proofs.Effects.{columns_width, laid}
+use Rattle.clr_store.proofs.Inside.{then_kept}
 use Rattle.clr_store.proofs.Texts.{listing, order_from, select_is, select_plain, select_unlisted, width_of}
 
 values_none : (n at : ℕ) → values_from (suc at) n [] ≡ values_from at n []
@@ -181,11 +183,60 @@ stays old new name rows has h =
     let it = subst (ShowsRows old new (select_sql name) h.0 (timed [] h.0.formats h.1.now) rows) none h.2 in
     it.3.0.now_is
 
-pub listed : (old new : State) (name : TableName) (rows : List Row) → IsTrue old.in_transaction → Shown (select_sql name) [] old new rows → Listed old new name rows
+pub listed : (old new : State) (name : TableName) (rows : List Row) → IsTrue old.in_transaction
+    → Shown (select_sql name) [] old new rows → Finds old new (rows_in name) rows
 listed old new name rows inside shown =
     let keeps = shown_keeps (select_sql name) [] old new rows inside shown in
     record {
       inside = keeps.0;
       kept = keeps.1;
-      rows_are = λ t has ordered. (lists old new name t rows has ordered shown, subst (λ (db : Database). Holds db t) (sym (stays old new name rows has.schema shown)) has);
+      found_is = λ t has ordered.
+          let same = stays old new name rows has.schema shown in
+          (lists old new name t rows has ordered shown, subst (λ (db : Database). Holds db t) (sym same) has);
     }
+
+-- ---- one thing found after another
+pub then_finds : {A B : Type 0} (a b c : State) (f : Tables → A) (g : Tables → B) (x : A) (y : B)
+    → Finds a b f x → Finds b c g y → Finds {A = A × B} a c (λ t. (f t, g t)) (x, y)
+then_finds a b c f g x y p q = record {
+  inside = q.inside;
+  kept = then_kept a b c p.kept q.kept;
+  found_is = λ t has ordered.
+      let first = p.found_is t has ordered in
+      let second = q.found_is t first.1 ordered in
+      (λ i. (first.0 i, second.0 i), second.1);
+}
+
+-- the rows of all tables, found one after the other, are the tables
+pub all_found : (old a b c new : State) (meta sections points staff clearances steps holds : List Row)
+    → Finds old a (rows_in Meta) meta → Finds a b (both_of Section Point) (sections, points)
+    → Finds b c (both_of Staff Clearance) (staff, clearances) → Finds c new (both_of Step Hold) (steps, holds)
+    → Finds {A = Tables} old new (λ t. t) (record {
+      meta = meta;
+      sections = sections;
+      points = points;
+      staff = staff;
+      clearances = clearances;
+      steps = steps;
+      holds = holds;
+    })
+all_found old a b c new meta sections points staff clearances steps holds p q r s = record {
+  inside = s.inside;
+  kept = then_kept old c new (then_kept old b c (then_kept old a b p.kept q.kept) r.kept) s.kept;
+  found_is = λ t has ordered.
+      let one = p.found_is t has ordered in
+      let two = q.found_is t one.1 ordered in
+      let three = r.found_is t two.1 ordered in
+      let four = s.found_is t three.1 ordered in (
+        λ i. record {
+          meta = one.0 i;
+          sections = (two.0 i).0;
+          points = (two.0 i).1;
+          staff = (three.0 i).0;
+          clearances = (three.0 i).1;
+          steps = (four.0 i).0;
+          holds = (four.0 i).1;
+        },
+        four.1,
+      );
+}
