@@ -98,7 +98,7 @@ rises_from n [] low pairs = tt
 rises_from n (p ∷ places) low pairs = (
   low 0 p (omega arith),
   rises_from (p + 1) places (λ k d inside. let next : p < get_or places k d = pairs 0 (suc k) d (omega arith) (omega arith) in omega arith)
-  (λ i j d before inside. pairs (suc i) (suc j) d (omega arith) (omega arith)),
+      (λ i j d before inside. pairs (suc i) (suc j) d (omega arith) (omega arith)),
 )
 
 none_below : (n i : ℕ) (places : List ℕ) → RisesFrom n places → i < n → has_place places i ≡ false

@@ -101,12 +101,7 @@ fn has_place(places: &[usize], place: usize) -> bool
 }
 
 /// The places of the sections that a walk over points that are not cut leads to from the section at `start`.
-fn reach(
-    alloc: Global,
-    ways: &Ways,
-    cuts: &[usize],
-    start: usize,
-) -> Result<Vec<usize>, AllocError>
+fn reach(alloc: Global, ways: &Ways, cuts: &[usize], start: usize) -> Result<Vec<usize>, AllocError>
     requires start { start < vec_len ways.now.around }
     requires cuts { IsStrictlyIncreasing cuts.now }
     requires fit { (m : ℕ) × WaysFit (around_of ways.now) (vec_len ways.now.around) m }

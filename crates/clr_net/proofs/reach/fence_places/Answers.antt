@@ -18,8 +18,8 @@ reach-requires-clause-fit c =
     let g : Grid = record { sections = c.args.sections.now; points = c.args.points.now } in (
       length c.args.points.now,
       λ i w there.
-      let (point, to) = index_fits g c.requires.network c.args.ways.now c.requires.index i w there in
-      (point, omega (arith, c.args.ways.now.around.ok)),
+          let (point, to) = index_fits g c.requires.network c.args.ways.now c.requires.index i w there in
+          (point, omega (arith, c.args.ways.now.around.ok)),
     )
 
 pub returns-clause-inside : goal.returns-clause-inside

@@ -37,5 +37,10 @@ of_rows-requires-clause-points_rise c =
 
 pub returns : goal.returns
 returns c =
+    let g : Grid = record { sections = c.self.inside.sections.items; points = c.self.inside.points.items } in
+    let (net, index) = c.self.invariant in
+    let rows = picked_fence g net c.self.inside.ways index c.args.work.now c.args.cut.now c.in_ok-inside.inside.items c.in_ok-beside.beside.items
+    c.in_ok-inside.ensures.rising (rw (c.deref.ensures.value, c.deref-2.ensures.value) at c.in_ok-inside.ensures.fence) (rw c.deref.ensures.value at c.in_ok-inside.ensures.inside)
+    c.in_ok-beside.ensures.rising (rw c.deref-3.ensures.value at c.in_ok-beside.ensures.same) in
     c.of_rows.ensures
-    ∙ rw (c.in_ok-sections.ensures, c.in_ok-touching.ensures, c.deref-4.ensures.value, c.deref-5.ensures.value, c.deref-6.ensures.value, c.deref-7.ensures.value, ← c.self.view_is) (picked c)
+    ∙ rw (c.in_ok-sections.ensures, c.in_ok-touching.ensures, c.deref-4.ensures.value, c.deref-5.ensures.value, c.deref-6.ensures.value, c.deref-7.ensures.value, ← c.self.view_is) rows
