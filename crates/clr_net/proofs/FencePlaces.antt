@@ -1,7 +1,8 @@
 -- The search over places finds the fence of the names.
 use Rattle.std.proofs.Common.{◌≡◌, ◌∙◌, ℕ, zero, suc, ◌<◌, inl, inr, ◌&&◌, ◌||◌, Bool, true, false, not, Some, Vec, Global, List, [], ◌∷◌, length, get_or, map, filter, position, refl, sym, ap, arith}
-use Rattle.std.specs.Prelude.{All, Contains, IsTrue, is_some}
-use Rattle.std.specs.List.Sorted.{IsStrictlySortedBy}
+use Rattle.std.specs.Prelude.{All, Contains, IsTrue, is_some, slice_get}
+use Rattle.std.specs.List.{filter_map}
+use Rattle.std.specs.List.Sorted.{IsStrictlyIncreasing, IsStrictlySortedBy}
 use Rattle.std.specs.declared.cmp.Ordering.TheVariants.{Less}
 use Rattle.std.proofs.lemmas.Bool.{and_from, and_left, and_parts, not-true, not_from_false, or_cases, or_left, or_right}
 use Rattle.std.proofs.lemmas.List.{get_or-map, length-map}
@@ -16,12 +17,11 @@ use Rattle.clr_net.specs.Grid.{Grid, IsNetwork, has_ends, point_names, section_n
 use Rattle.clr_net.specs.Walk.{Walk, joins}
 use Rattle.clr_net.specs.Walk.Walk.{goes_on, stays}
 use Rattle.clr_net.specs.Fence.{fence_of, in_fence}
-use Rattle.clr_net.specs.Kept.{kept}
 use Rattle.clr_net.proofs.IndexSteps.{ends_below}
-use Rattle.clr_net.proofs.KeptFacts.{kept_is_filter}
-use Rattle.clr_net.specs.Index.{AreBelow, PlaceWalk, WaysFit, ends_at, ends_in, place_in, way}
+use Rattle.clr_net.proofs.PlaceLists.{around_has, has_around, picked_is_filter}
+use Rattle.clr_net.specs.Index.{AreBelow, PlaceWalk, WaysFit, ends_at, ends_in, has_place, place_in, way}
 use Rattle.clr_net.specs.Index.PlaceWalk.{begins, follows}
-use Rattle.clr_net.specs.Search.{Marks, MarksFence, is_marked, touches}
+use Rattle.clr_net.specs.Search.{Finds, ListsCut, ListsFence, points_around}
 use Rattle.clr_net.specs.Ways.{IsIndexOf, around_of}
 use Rattle.clr_net.specs.declared.ways.Ends.{Ends}
 use Rattle.clr_net.specs.declared.ways.Way.{Way}
@@ -66,19 +66,20 @@ point_ends : (g : Grid) (ways : Ways) → IsIndexOf g ways → (k : ℕ) (p : Po
 point_ends g ways index k p inside is =
     rw index.ends (get_or-map (ends_in (section_names g.sections)) g.points k p (record { from = 0; to = 0 }) inside ∙ ap (ends_in (section_names g.sections)) is)
 
-module _ (g : Grid) (net : IsNetwork g) (ways : Ways) (index : IsIndexOf g ways) (work : List ℕ) (cut : List (List ℕ)) (uncut : List Bool)
-    (flags : (k : ℕ) → k < length g.points → is_marked uncut k ≡ not (has_name cut (get_or (point_names g.points) k []))) (start : ℕ) where
+module _ (g : Grid) (net : IsNetwork g) (ways : Ways) (index : IsIndexOf g ways) (work : List ℕ) (cut : List (List ℕ)) (cuts : List ℕ)
+    (listed : ListsCut (point_names g.points) cut cuts) (start : ℕ) where
   -- whether the point at a place is cut
-  flag_of : (k : ℕ) (p : PointRow) → k < length g.points → get_or g.points k p ≡ p → is_marked uncut k ≡ not (has_name cut p.name)
-  flag_of k p inside is =
-      flags k inside ∙ ap (λ n. not (has_name cut n)) (get_or-map (λ (row : PointRow). row.name) g.points k p [] inside ∙ ap (λ (row : PointRow). row.name) is)
+  cut_at : (k : ℕ) (p : PointRow) → k < length g.points → get_or g.points k p ≡ p → has_place cuts k ≡ has_name cut p.name
+  cut_at k p inside is =
+      let size = length-map g.points (λ (row : PointRow). row.name) in
+      listed k (omega arith) ∙ ap (has_name cut) (get_or-map (λ (row : PointRow). row.name) g.points k p [] inside ∙ ap (λ (row : PointRow). row.name) is)
 
   known_ends : (p : PointRow) → Contains g.points p → (has_name (section_names g.sections) p.from_end ≡ true) × (has_name (section_names g.sections) p.to_end ≡ true)
   known_ends p there = and_parts _ _ (All-contains (λ p. IsTrue (has_ends (section_names g.sections) p)) g.points p net.ends_known there)
 
   module _ (started : position (same_name work) (section_names g.sections) ≡ Some start) where
     -- a walk over places is a walk over names
-    walk_of_places : (i : ℕ) → PlaceWalk (around_of ways) uncut start i → Walk g.points cut work (get_or (section_names g.sections) i [])
+    walk_of_places : (i : ℕ) → PlaceWalk (around_of ways) cuts start i → Walk g.points cut work (get_or (section_names g.sections) i [])
     walk_of_places i (begins i' same) =
         let here = (position-Some (same_name work) (section_names g.sections) start [] started).1 in
         stays _ (rw (← same) (one_name work _ here))
@@ -88,7 +89,7 @@ module _ (g : Grid) (net : IsNetwork g) (ways : Ways) (index : IsIndexOf g ways)
         let at_point = point_ends g ways index w.point p below is in
         let in_points : Contains g.points p = (w.point, below, is) in
         let (from, to) = known_ends p in_points in
-        let free = not-true (has_name cut p.name) (sym (flag_of w.point p below is) ∙ passes) in
+        let free = sym (cut_at w.point p below is) ∙ passes in
         goes_on p (get_or (section_names g.sections) j []) (get_or (section_names g.sections) w.to []) (walk_of_places j walk) in_points free
         (elim joined [
           | inl forth ↦ joins_forth (section_names g.sections) p j w.to from to (sym at_point ∙ forth)
@@ -96,13 +97,13 @@ module _ (g : Grid) (net : IsNetwork g) (ways : Ways) (index : IsIndexOf g ways)
         ])
 
     -- a walk over names is a walk over places
-    places_of_walk : (s : List ℕ) → Walk g.points cut work s → PlaceWalk (around_of ways) uncut start (place_in (section_names g.sections) s)
+    places_of_walk : (s : List ℕ) → Walk g.points cut work s → PlaceWalk (around_of ways) cuts start (place_in (section_names g.sections) s)
     places_of_walk s (stays s' same) =
         let known = sym (is_some-position (same_name work) (section_names g.sections)) ∙ ap is_some started in
         begins _ (rw (← same) (same_Some _ _ (sym started ∙ place_of_name (section_names g.sections) work known)))
     places_of_walk s (goes_on p a b walk there free joined) =
         let (k, inside, is) = there in
-        let passes : is_marked uncut k ≡ true = flag_of k p inside is ∙ not_from_false _ free in
+        let passes : has_place cuts k ≡ false = cut_at k p inside is ∙ free in
         let (from_way, to_way) = rw (point_ends g ways index k p inside is) at (index.around.whole k inside) in
         let at_a = places_of_walk a walk in
         elim (or_cases (same_name p.from_end a && same_name p.to_end s) (same_name p.to_end a && same_name p.from_end s) joined) [
@@ -114,16 +115,16 @@ module _ (g : Grid) (net : IsNetwork g) (ways : Ways) (index : IsIndexOf g ways)
               follows (place_in (section_names g.sections) a) (way k (place_in (section_names g.sections) s)) at_a (rw (← one_name p.to_end a to, ← one_name p.from_end s from) to_way) passes
         ]
 
-  -- the marks of the search are the fence
-  pub marks_fence : (marked : List Bool) → position (same_name work) (section_names g.sections) ≡ Some start → Marks (around_of ways) uncut start marked → MarksFence g work cut marked
-  marks_fence marked started marks i inside =
+  -- what the search finds is the fence
+  pub finds_fence : (found : List ℕ) → position (same_name work) (section_names g.sections) ≡ Some start → Finds (around_of ways) cuts start found → ListsFence g work cut found
+  finds_fence found started finds i inside =
       let known = sym (is_some-position (same_name work) (section_names g.sections)) ∙ ap is_some started in
       let s = get_or (section_names g.sections) i [] in
       let size = length-map g.sections (λ (row : SectionRow). row.name) in
       let around_size = length-map ways.around.items (λ (out : Vec Way Global). out.items) in
       let count = index.count in
-      let (on, back) = marks i (omega arith) in
-      same_tests (is_marked marked i) (in_fence g work cut s)
+      let (on, back) = finds i (omega arith) in
+      same_tests (has_place found i) (in_fence g work cut s)
       (λ e. (fence_is_walks g net work cut s).1 (known, walk_of_places started i (on e)))
       (λ e. back (rw (place_at (section_names g.sections) i net.sections_rise (omega arith)) at (places_of_walk started s ((fence_is_walks g net work cut s).0 e).1)))
 
@@ -153,27 +154,55 @@ module _ (g : Grid) (net : IsNetwork g) (ways : Ways) (index : IsIndexOf g ways)
         ],
       )
 
-  -- the rows that are marked are the fence
-  pub kept_fence : (work : List ℕ) (cut : List (List ℕ)) (inside touching : List Bool) → length inside ≡ length g.sections → MarksFence g work cut inside → touching ≡ map (touches inside) ways.ends.items
-      → record { sections = kept inside g.sections; touching = kept touching g.points } ≡ fence_of g work cut
-  kept_fence work cut inside touching size marks touched = λ i. record { sections = sections_kept i; touching = points_kept i }
+  -- the rows at the places that were found, and at those of the points beside them, are the fence
+  pub picked_fence : (work : List ℕ) (cut : List (List ℕ)) (inside beside : List ℕ) → IsStrictlyIncreasing inside → ListsFence g work cut inside
+      → All (λ i. i < length g.sections) inside → IsStrictlyIncreasing beside → ((k : ℕ) → has_place beside k ≡ has_place (points_around (around_of ways) inside) k)
+      → record { sections = filter_map (slice_get g.sections) inside; touching = filter_map (slice_get g.points) beside } ≡ fence_of g work cut
+  picked_fence work cut inside beside rise listed below beside_rise around = λ i. record { sections = sections_picked i; touching = points_picked i }
     where
-      sections_kept : kept inside g.sections ≡ filter (λ row. in_fence g work cut row.name) g.sections
-      sections_kept = kept_is_filter (λ row. in_fence g work cut row.name) inside g.sections size
-          (λ i x below is. marks i below ∙ ap (in_fence g work cut) (get_or-map (λ (row : SectionRow). row.name) g.sections i x [] below ∙ ap (λ (row : SectionRow). row.name) is))
+      sections_picked : filter_map (slice_get g.sections) inside ≡ filter (λ row. in_fence g work cut row.name) g.sections
+      sections_picked = picked_is_filter (λ row. in_fence g work cut row.name) g.sections inside rise
+          (λ i x here is. listed i here ∙ ap (in_fence g work cut) (get_or-map (λ (row : SectionRow). row.name) g.sections i x [] here ∙ ap (λ (row : SectionRow). row.name) is))
 
-      at_end : (n : List ℕ) → has_name (section_names g.sections) n ≡ true → is_marked inside (place_in (section_names g.sections) n) ≡ in_fence g work cut n
+      names : List (List ℕ)
+      names = section_names g.sections
+
+      -- the place of an end that lies inside
+      at_end : (n : List ℕ) → has_name names n ≡ true → has_place inside (place_in names n) ≡ in_fence g work cut n
       at_end n known =
           let names_size = length-map g.sections (λ (row : SectionRow). row.name) in
-          let below = place_inside (same_name n) (section_names g.sections) known in
-          marks (place_in (section_names g.sections) n) (omega arith) ∙ ap (in_fence g work cut) (name_at_place (section_names g.sections) n known)
+          let here = place_inside (same_name n) names known in
+          listed (place_in names n) (omega arith) ∙ ap (in_fence g work cut) (name_at_place names n known)
 
-      points_kept : kept touching g.points ≡ filter (λ p. in_fence g work cut p.from_end || in_fence g work cut p.to_end) g.points
-      points_kept =
-          let ends_size : length ways.ends.items ≡ length g.points = rw index.ends (length-map g.points (ends_in (section_names g.sections))) in
-          let marks_size : length touching ≡ length g.points = rw touched (length-map ways.ends.items (touches inside) ∙ ends_size) in
-          kept_is_filter (λ p. in_fence g work cut p.from_end || in_fence g work cut p.to_end) touching g.points marks_size
-          (λ k p below is.
-          let (from, to) = and_parts (has_name (section_names g.sections) p.from_end) (has_name (section_names g.sections) p.to_end) (All-contains (λ p. IsTrue (has_ends (section_names g.sections) p)) g.points p net.ends_known (k, below, is)) in
-          rw touched (get_or-map (touches inside) ways.ends.items k (record { from = 0; to = 0 }) false (omega arith)
-          ∙ rw (point_ends g ways index k p below is, at_end p.from_end from, at_end p.to_end to) refl))
+      ends : (k : ℕ) (p : PointRow) → k < length g.points → get_or g.points k p ≡ p → (has_name names p.from_end ≡ true) × (has_name names p.to_end ≡ true)
+      ends k p here is = and_parts (has_name names p.from_end) (has_name names p.to_end) (All-contains (λ p. IsTrue (has_ends names p)) g.points p net.ends_known (k, here, is))
+
+      inside_from : (k : ℕ) (p : PointRow) → k < length g.points → get_or g.points k p ≡ p → has_place (points_around (around_of ways) inside) k ≡ true
+          → (in_fence g work cut p.from_end || in_fence g work cut p.to_end) ≡ true
+      inside_from k p here is there =
+          let (i, found, (w, in_ways, same)) = has_around (around_of ways) inside k there in
+          let (low, joined) = index.around.real i w in_ways in
+          let at_k : ends_at ways.ends.items w.point ≡ ends_in names p = ap (ends_at ways.ends.items) same ∙ point_ends g ways index k p here is in
+          let (from, to) = ends k p here is in
+          elim joined [
+            | inl forth ↦
+                let at_from : place_in names p.from_end ≡ i = ap (λ (e : Ends). e.from) (sym at_k ∙ forth) in
+                or_left _ _ (sym (at_end p.from_end from) ∙ ap (has_place inside) at_from ∙ found)
+            | inr back ↦
+                let at_to : place_in names p.to_end ≡ i = ap (λ (e : Ends). e.to) (sym at_k ∙ back) in
+                or_right _ _ (sym (at_end p.to_end to) ∙ ap (has_place inside) at_to ∙ found)
+          ]
+
+      from_inside : (k : ℕ) (p : PointRow) → k < length g.points → get_or g.points k p ≡ p → (in_fence g work cut p.from_end || in_fence g work cut p.to_end) ≡ true
+          → has_place (points_around (around_of ways) inside) k ≡ true
+      from_inside k p here is some =
+          let (from_way, to_way) = rw (point_ends g ways index k p here is) at (index.around.whole k here) in
+          let (from, to) = ends k p here is in
+          elim (or_cases (in_fence g work cut p.from_end) (in_fence g work cut p.to_end) some) [
+            | inl begins_inside ↦ around_has (around_of ways) inside (place_in names p.from_end) (way k (place_in names p.to_end)) (at_end p.from_end from ∙ begins_inside) from_way
+            | inr ends_inside ↦ around_has (around_of ways) inside (place_in names p.to_end) (way k (place_in names p.from_end)) (at_end p.to_end to ∙ ends_inside) to_way
+          ]
+
+      points_picked : filter_map (slice_get g.points) beside ≡ filter (λ p. in_fence g work cut p.from_end || in_fence g work cut p.to_end) g.points
+      points_picked = picked_is_filter (λ p. in_fence g work cut p.from_end || in_fence g work cut p.to_end) g.points beside beside_rise
+          (λ k p here is. around k ∙ same_tests _ _ (inside_from k p here is) (from_inside k p here is))

@@ -6,5 +6,5 @@ pub mod ListFacts
 pub mod BuildFacts
 pub mod Walks
 pub mod FencePlaces
-pub mod KeptFacts
-pub mod CutMarks
+pub mod PlaceLists
+pub mod CutPlaces

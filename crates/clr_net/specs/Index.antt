@@ -1,6 +1,6 @@
 -- The index of a network, by the places of its rows: the ends of each point, and the ways out of each section.
-use Rattle.std.specs.Prelude.{◌∷◌, ◌++◌, slice_set, ◌≡◌, ◌<◌, ◌⊎◌, ℕ, Bool, true, false, List, [], Contains}
-use Rattle.std.specs.List.{position_or_len, slice_index_or}
+use Rattle.std.specs.Prelude.{◌∷◌, ◌++◌, slice_set, ◌≡◌, ◌==◌, ◌<◌, ◌⊎◌, ℕ, Bool, false, List, [], Contains}
+use Rattle.std.specs.List.{list_any, position_or_len, slice_index_or}
 use Rattle.clr_net.specs.Name.{same_name}
 use Rattle.clr_net.specs.declared.point.PointRow.{PointRow}
 use Rattle.clr_net.specs.declared.ways.Way.{Way}
@@ -35,10 +35,14 @@ pub record IsAround (ends : List Ends) (n : ℕ) (around : List (List Way)) : Ty
   pub real : (i : ℕ) (w : Way) → Contains (ways_at around i) w → (w.point < n) × ((ends_at ends w.point ≡ record { from = i; to = w.to }) ⊎ (ends_at ends w.point ≡ record { from = w.to; to = i }))
   pub whole : (k : ℕ) → k < n → Contains (ways_at around (ends_at ends k).from) (way k (ends_at ends k).to) × Contains (ways_at around (ends_at ends k).to) (way k (ends_at ends k).from)
 
--- a walk over the places of sections, along ways over points that are not cut
-pub data PlaceWalk (around : List (List Way)) (uncut : List Bool) (start : ℕ) : ℕ → Type 0 where
-  begins : (i : ℕ) → start ≡ i → PlaceWalk around uncut start i
-  follows : (i : ℕ) (w : Way) → PlaceWalk around uncut start i → Contains (ways_at around i) w → slice_index_or uncut w.point false ≡ true → PlaceWalk around uncut start w.to
+-- whether a place is among these
+abbrev pub has_place : List ℕ → ℕ → Bool
+has_place places i = list_any (λ place. i == place) places
+
+-- a walk over the places of sections, along ways over points whose places are not among the cuts
+pub data PlaceWalk (around : List (List Way)) (cuts : List ℕ) (start : ℕ) : ℕ → Type 0 where
+  begins : (i : ℕ) → start ≡ i → PlaceWalk around cuts start i
+  follows : (i : ℕ) (w : Way) → PlaceWalk around cuts start i → Contains (ways_at around i) w → has_place cuts w.point ≡ false → PlaceWalk around cuts start w.to
 
 -- each way leads to one of n sections over one of m points
 abbrev pub WaysFit : List (List Way) → ℕ → ℕ → Type 0

@@ -8,5 +8,4 @@ pub mod Fence
 pub mod Index
 pub mod Search
 pub mod Ways
-pub mod Kept
 pub mod Laws

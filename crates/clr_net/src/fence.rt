@@ -1,8 +1,7 @@
 //! The fence of a section, and what touches it.
-ghost use Rattle.std.specs.Prelude.{◌≡◌, ℕ, length, map, IfOk};
+ghost use Rattle.std.specs.Prelude.{◌≡◌, ℕ, map, filter_map, slice_get, IfOk};
 ghost use Rattle.std.specs.List.Sorted.{IsStrictlySortedBy};
 ghost use Rattle.clr_net.specs.Name.{name_cmp};
-ghost use Rattle.clr_net.specs.Kept.{kept};
 ghost use Rattle.clr_net.specs.Fence.{FenceRows, fence_has, sides_of};
 ghost use Rattle.clr_net.specs.Grid.{section_names, point_names};
 
@@ -44,28 +43,6 @@ impl<'a> Model for Fence<'a> {
 }
 
 impl<'a> Fence<'a> {
-    /// The fence of the rows that are marked, which stand in the order of their names.
-    pub(crate) fn of_marked(
-        alloc: Global,
-        sections: &'a [SectionRow],
-        inside: &[bool],
-        points: &'a [PointRow],
-        touching: &[bool],
-    ) -> Result<Self, AllocError>
-        requires sections_rise { IsStrictlySortedBy name_cmp (section_names sections.now) }
-        requires points_rise { IsStrictlySortedBy name_cmp (point_names points.now) }
-        requires sections_marked { length inside.now ≡ length sections.now }
-        requires points_marked { length touching.now ≡ length points.now }
-        ensures { IfOk result (λ fence. fence ≡ record {
-          sections = kept inside.now sections.now;
-          touching = kept touching.now points.now;
-        }) }
-    {
-        let sections = kept_rows(alloc, sections, inside)?;
-        let touching = kept_rows(alloc, points, touching)?;
-        Ok(Fence { sections, touching })
-    }
-
     /// The fence that has these rows, each list in the order of names: one whose rows were lent apart from their network.
     pub fn of_rows(sections: Vec<&'a SectionRow>, touching: Vec<&'a PointRow>) -> Self
         requires sections_rise { IsStrictlySortedBy name_cmp
@@ -111,14 +88,17 @@ impl<'a> Fence<'a> {
     }
 }
 
-/// The rows that are marked.
-fn kept_rows<'a, R>(alloc: Global, rows: &'a [R], marks: &[bool]) -> Result<Vec<&'a R>, AllocError>
-    requires { length marks.now ≡ length rows.now }
-    ensures { IfOk result (λ found. map (λ row. row.now) found.items ≡ kept marks.now rows.now) }
+/// The rows at these places.
+pub(crate) fn rows_at<'a, R>(
+    alloc: Global,
+    rows: &'a [R],
+    places: &[usize],
+) -> Result<Vec<&'a R>, AllocError>
+    ensures { IfOk result (λ found. map (λ row. row.now) found.items ≡ filter_map (slice_get rows.now) places.now) }
 {
     let mut found = Vec::new(alloc);
-    for (place, row) in rows.iter().enumerate() {
-        if marks[place] {
+    for place in places {
+        if let Some(row) = rows.get(*place) {
             found.push(row)?;
         }
     }

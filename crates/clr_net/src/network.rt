@@ -9,12 +9,12 @@ ghost use Rattle.clr_net.specs.Network.{Builds, Passes, size_fault, twice_fault,
 ghost use Rattle.clr_net.specs.Names.{has_name};
 ghost use Rattle.clr_net.specs.Fence.{fence_of};
 
-use crate::fence::Fence;
+use crate::fence::{Fence, rows_at};
 use crate::name::Name;
 use crate::named::{in_order, place_of, repeat_place_beside, row_of};
 use crate::net_fault::NetFault;
 use crate::point::PointRow;
-use crate::reach::{mark_fence, mark_touching};
+use crate::reach::{fence_places, places_beside};
 use crate::section::SectionRow;
 use crate::ways::{Ways, all_ends, index};
 use std::alloc::{AllocError, Global};
@@ -117,10 +117,11 @@ impl Network {
         ensures { IfOk result (λ fence. fence ≡ fence_of self.now work.now cut.now) }
     {
         let alloc = *self.sections.allocator();
-        let inside = mark_fence(alloc, &self.sections, &self.points, &self.ways, *work, cut)?;
-        let touching = mark_touching(alloc, &self.ways.ends, &inside)?;
-        let fence = Fence::of_marked(alloc, &self.sections, &inside, &self.points, &touching)?;
-        Ok(fence)
+        let inside = fence_places(alloc, &self.sections, &self.points, &self.ways, *work, cut)?;
+        let beside = places_beside(alloc, &self.ways, &inside)?;
+        let sections = rows_at(alloc, &self.sections, &inside)?;
+        let touching = rows_at(alloc, &self.points, &beside)?;
+        Ok(Fence::of_rows(sections, touching))
     }
 }
 

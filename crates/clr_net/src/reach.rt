@@ -1,9 +1,10 @@
-//! Which sections a walk over points that are not cut leads to: a search over the index.
-ghost use Rattle.std.specs.Prelude.{◌≡◌, ◌<◌, ℕ, List, All, length, map, IfOk, OnOk, vec_len};
-ghost use Rattle.clr_net.specs.Index.{AreBelow, WaysFit};
+//! Which sections a walk over points that are not cut leads to: a search over the index. It looks at the ways out of the
+//! sections that it finds, and at no others.
+ghost use Rattle.std.specs.Prelude.{◌≡◌, ◌<◌, ◌++◌, ℕ, All, length, map, IfOk, OnOk, vec_len};
+ghost use Rattle.clr_net.specs.Index.{WaysFit, has_place};
 ghost use Rattle.clr_net.specs.Ways.{IsIndexOf, around_of};
-ghost use Rattle.clr_net.specs.Search.{Follows, Marks, MarksFence, MarksUncut, touches};
-ghost use Rattle.std.specs.List.Sorted.{IsStrictlySortedBy};
+ghost use Rattle.clr_net.specs.Search.{Finds, Follows, ListsCut, ListsFence, points_around};
+ghost use Rattle.std.specs.List.Sorted.{IsStrictlyIncreasing, IsStrictlySortedBy};
 ghost use Rattle.clr_net.specs.Grid.{Grid, IsNetwork, point_names};
 ghost use Rattle.clr_net.specs.Name.{name_cmp};
 
@@ -11,99 +12,128 @@ use crate::name::Name;
 use crate::named::place_of;
 use crate::point::PointRow;
 use crate::section::SectionRow;
-use crate::ways::{Ends, Way, Ways};
+use crate::ways::{Way, Ways};
 use std::alloc::{AllocError, Global};
 
-/// Marks each section of the fence of the work section, cut at these points.
-pub(crate) fn mark_fence(
+/// The places of the sections in the fence of the work section, cut at these points.
+pub(crate) fn fence_places(
     alloc: Global,
     sections: &[SectionRow],
     points: &[PointRow],
     ways: &Ways,
     work: Name,
     cut: &[Name],
-) -> Result<Vec<bool>, AllocError>
+) -> Result<Vec<usize>, AllocError>
     requires network { IsNetwork (record { sections = sections.now; points = points.now }) }
     requires index { IsIndexOf (record { sections = sections.now; points = points.now }) ways.now }
-    ensures len { IfOk result (λ marked. length marked.items ≡ length sections.now) }
-    ensures marks { IfOk result (λ marked. MarksFence
-        (record { sections = sections.now; points = points.now }) work cut.now marked.items) }
+    ensures rising { IfOk result (λ found. IsStrictlyIncreasing found.items) }
+    ensures inside { IfOk result (λ found. All (λ i. i < length sections.now) found.items) }
+    ensures fence { IfOk result (λ found. ListsFence
+        (record { sections = sections.now; points = points.now }) work cut.now found.items) }
 {
-    match place_of(sections, work) {
-        Some(start) => {
-            let uncut = uncut_points(alloc, points, cut)?;
-            let marked = reach(alloc, ways, &uncut, start)?;
-            Ok(marked)
-        }
-        None => {
-            let unmarked = vec![in alloc; false; sections.len()]?;
-            Ok(unmarked)
-        }
-    }
+    let Some(start) = place_of(sections, work) else {
+        return Ok(Vec::new(alloc));
+    };
+    let cuts = cut_places(alloc, points, cut)?;
+    let found = reach(alloc, ways, &cuts, start)?;
+    Ok(in_order(found))
 }
 
-/// Marks each point that is not cut.
-fn uncut_points(alloc: Global, points: &[PointRow], cut: &[Name]) -> Result<Vec<bool>, AllocError>
-    requires { IsStrictlySortedBy name_cmp (point_names points.now) }
-    ensures len { IfOk result (λ uncut. length uncut.items ≡ length points.now) }
-    ensures marks { IfOk result (λ uncut. MarksUncut (point_names points.now) cut.now uncut.items) }
+/// The places of the points with an end in one of these sections.
+pub(crate) fn places_beside(
+    alloc: Global,
+    ways: &Ways,
+    inside: &[usize],
+) -> Result<Vec<usize>, AllocError>
+    requires { All (λ i. i < vec_len ways.now.around) inside.now }
+    ensures rising { IfOk result (λ places. IsStrictlyIncreasing places.items) }
+    ensures same { IfOk result (λ places. (k : ℕ)
+        → has_place places.items k ≡ has_place (points_around (around_of ways.now) inside.now) k) }
 {
-    let mut uncut = vec![in alloc; true; points.len()]?;
+    let mut points = Vec::new(alloc);
+    for place in inside {
+        push_points(&mut points, &ways.around[*place])?;
+    }
+    Ok(in_order(points))
+}
+
+/// The places of the points of these ways, behind others.
+fn push_points(points: &mut Vec<usize>, ways: &[Way]) -> Result<(), AllocError>
+    ensures { OnOk result (points.new.items ≡ points.old.items ++ map (λ way. way.point) ways.now) }
+{
+    for way in ways {
+        points.push(way.point)?;
+    }
+    Ok(())
+}
+
+/// The places of the points that are cut.
+fn cut_places(alloc: Global, points: &[PointRow], cut: &[Name]) -> Result<Vec<usize>, AllocError>
+    requires { IsStrictlySortedBy name_cmp (point_names points.now) }
+    ensures rising { IfOk result (λ places. IsStrictlyIncreasing places.items) }
+    ensures cut { IfOk result (λ places. ListsCut (point_names points.now) cut.now places.items) }
+{
+    let mut places = Vec::new(alloc);
     for name in cut {
         if let Some(place) = place_of(points, *name) {
-            uncut[place] = false;
+            places.push(place)?;
         }
     }
-    Ok(uncut)
+    Ok(in_order(places))
 }
 
-/// Marks each point with a marked section at an end.
-pub(crate) fn mark_touching(
-    alloc: Global,
-    ends: &[Ends],
-    marked: &[bool],
-) -> Result<Vec<bool>, AllocError>
-    requires { All (AreBelow (length marked.now)) ends.now }
-    ensures { IfOk result (λ touching. touching.items ≡ map (touches marked.now) ends.now) }
+/// These places in their order, each once.
+fn in_order(mut places: Vec<usize>) -> Vec<usize>
+    ensures rising { IsStrictlyIncreasing result.items }
+    ensures same { (i : ℕ) → has_place result.items i ≡ has_place places.items i }
 {
-    let mut touching = Vec::with_capacity(alloc, ends.len())?;
-    for end in ends {
-        touching.push(marked[end.from] || marked[end.to])?;
-    }
-    Ok(touching)
+    places.sort_unstable();
+    places.dedup();
+    places
 }
 
-/// Marks each section that a walk over points that are not cut leads to from the section at `start`.
-fn reach(alloc: Global, ways: &Ways, uncut: &[bool], start: usize) -> Result<Vec<bool>, AllocError>
+/// Whether a place is among these, which is looked up by halves.
+fn has_place(places: &[usize], place: usize) -> bool
+    requires { IsStrictlyIncreasing places.now }
+    ensures { result ≡ has_place places.now place }
+{
+    places.binary_search(&place).is_ok()
+}
+
+/// The places of the sections that a walk over points that are not cut leads to from the section at `start`.
+fn reach(alloc: Global, ways: &Ways, cuts: &[usize], start: usize) -> Result<Vec<usize>, AllocError>
     requires start { start < vec_len ways.now.around }
-    requires fit { WaysFit (around_of ways.now) (vec_len ways.now.around) (length uncut.now) }
-    ensures len { IfOk result (λ marked. vec_len marked ≡ vec_len ways.now.around) }
-    ensures marks { IfOk result (λ marked.
-        Marks (around_of ways.now) uncut.now start marked.items) }
+    requires cuts { IsStrictlyIncreasing cuts.now }
+    requires fit { (m : ℕ) × WaysFit (around_of ways.now) (vec_len ways.now.around) m }
+    ensures inside { IfOk result (λ found. All (λ i. i < vec_len ways.now.around) found.items) }
+    ensures finds { IfOk result (λ found. Finds (around_of ways.now) cuts.now start found.items) }
 {
     let mut marked = vec![in alloc; false; ways.around.len()]?;
     let mut waiting = Vec::new(alloc);
+    let mut found = Vec::new(alloc);
     marked[start] = true;
     waiting.push(start)?;
     while let Some(place) = waiting.pop() {
-        follow(&ways.around[place], uncut, &mut marked, &mut waiting)?;
+        found.push(place)?;
+        follow(&ways.around[place], cuts, &mut marked, &mut waiting)?;
     }
-    Ok(marked)
+    Ok(found)
 }
 
-/// Marks the sections that open ways lead to, and lets those wait that were not marked before.
+/// Marks the sections that ways over points that are not cut lead to, and lets those wait that were not marked before.
 fn follow(
     ways: &[Way],
-    uncut: &[bool],
+    cuts: &[usize],
     marked: &mut [bool],
     waiting: &mut Vec<usize>,
 ) -> Result<(), AllocError>
-    requires { All (λ w. (w.point < length uncut.now) × (w.to < length marked.old)) ways.now }
+    requires cuts { IsStrictlyIncreasing cuts.now }
+    requires fit { All (λ w. w.to < length marked.old) ways.now }
     ensures { OnOk result
-        (Follows ways.now uncut.now marked.old waiting.old.items marked.new waiting.new.items) }
+        (Follows ways.now cuts.now marked.old waiting.old.items marked.new waiting.new.items) }
 {
     for way in ways {
-        if uncut[way.point] && !marked[way.to] {
+        if !has_place(cuts, way.point) && !marked[way.to] {
             marked[way.to] = true;
             waiting.push(way.to)?;
         }

@@ -1,25 +1,25 @@
-use Rattle.std.proofs.Common.{arith, get_or}
+use Rattle.std.proofs.Common.{◌∙◌, arith, get_or, sym}
 use Rattle.std.proofs.lemmas.Bool.{both_ways}
 use Rattle.std.proofs.lemmas.List.{take_more}
 use Rattle.clr_net.specs.declared.ways.Way.{Way}
 use Rattle.clr_net.proofs.SearchSteps.{follows_skip, follows_mark}
 use Rattle.clr_net.proofs.reach.follow.Goals as goal
-use Rattle.clr_net.proofs.reach.follow.Goals.{then-uncut-way+then-not-marked-way+in_ok-push, else-uncut-way, else-uncut-way-via-then-uncut-way+else-not-marked-way, else-uncut-way-via-else-uncut-way}
+use Rattle.clr_net.proofs.reach.follow.Goals.{then-not-has_place+then-not-marked-way+in_ok-push, else-not-has_place, else-not-has_place-via-then-not-has_place+else-not-marked-way, else-not-has_place-via-else-not-has_place}
 
 pub loop-way-preserved : goal.loop-way-preserved
 loop-way-preserved c =
     let no_way : Way = record { point = 0; to = 0 } in
     let way = get_or c.args.ways.now c.loop-way.way-index no_way in
     let more = take_more c.args.ways.now c.loop-way.way-index no_way c.loop-way-test.true in
-    let fits = c.requires c.loop-way.way-index no_way c.loop-way-test.true in
-    elim c.if-uncut-way.branch [
-      | then-uncut-way+then-not-marked-way+in_ok-push w ↦
+    let fits = c.requires.fit c.loop-way.way-index no_way c.loop-way-test.true in
+    elim c.if-not-has_place.branch [
+      | then-not-has_place+then-not-marked-way+in_ok-push w ↦
           rw (more, w.marked-is, w.waiting-is, w.in_ok-push.ensures.items)
-          (follows_mark _ way _ _ _ _ _ c.loop-way.invariant (omega arith) w.if-uncut-way.true w.if-not-marked-way.true)
-      | else-uncut-way w ↦ elim w.else-uncut-way.branch [
-        | else-uncut-way-via-then-uncut-way+else-not-marked-way w' ↦
+          (follows_mark _ way _ _ _ _ _ c.loop-way.invariant (omega arith) (sym c.has_place.ensures ∙ w.if-not-has_place.true) w.if-not-marked-way.true)
+      | else-not-has_place w ↦ elim w.else-not-has_place.branch [
+        | else-not-has_place-via-then-not-has_place+else-not-marked-way w' ↦
             rw (more, w.marked-is, w.waiting-is) (follows_skip _ way _ _ _ _ _ c.loop-way.invariant (λ _. w'.if-not-marked-way.false))
-        | else-uncut-way-via-else-uncut-way w' ↦
-            rw (more, w.marked-is, w.waiting-is) (follows_skip _ way _ _ _ _ _ c.loop-way.invariant (λ passes. absurd (both_ways _ w'.if-uncut-way.false passes)))
+        | else-not-has_place-via-else-not-has_place w' ↦
+            rw (more, w.marked-is, w.waiting-is) (follows_skip _ way _ _ _ _ _ c.loop-way.invariant (λ passes. absurd (both_ways _ passes (sym c.has_place.ensures ∙ w'.if-not-has_place.false))))
       ]
     ]

@@ -6,7 +6,7 @@ use Rattle.clr_net.proofs.reach.reach.Given as goal
 
 abbrev pub invariant-loop-place : goal.invariant-loop-place
 invariant-loop-place l = record {
-  search : IsSearching (around_of l.ways) l.uncut l.start l.marked.items l.waiting.items;
+  search : IsSearching (around_of l.ways) l.cuts l.start l.marked.items l.waiting.items l.found.items;
   len : length l.marked.items ≡ vec_len l.ways.around;
 }
 

@@ -1,21 +1,46 @@
-use Rattle.std.proofs.Common.{◌≡◌, ◌∙◌, arith, length}
+use Rattle.std.proofs.Common.{◌≡◌, ◌∙◌, ◌||◌, ap}
+use Rattle.std.specs.Prelude.{slice_get}
+use Rattle.std.specs.List.{filter_map}
 use Rattle.clr_net.specs.Grid.{Grid}
-use Rattle.clr_net.proofs.FencePlaces.{ends_fit, kept_fence}
+use Rattle.clr_net.specs.Fence.{FenceRows, fence_of, in_fence}
+use Rattle.clr_net.specs.Name.{name_cmp}
+use Rattle.clr_net.specs.declared.point.PointRow.{PointRow}
+use Rattle.clr_net.specs.declared.section.SectionRow.{SectionRow}
+use Rattle.clr_net.proofs.FencePlaces.{picked_fence}
+use Rattle.clr_net.proofs.ListFacts.{rising-filter}
 use Rattle.clr_net.proofs.network.Network.fence.Goals as goal
 
-pub mark_touching-requires : goal.mark_touching-requires
-mark_touching-requires c =
+-- the rows at the places that were found are the fence
+picked : (c : goal.In_ok-touching) → record {
+  sections = filter_map (slice_get c.self.inside.sections.items) c.in_ok-inside.inside.items;
+  touching = filter_map (slice_get c.self.inside.points.items) c.in_ok-beside.beside.items;
+} ≡ fence_of (record { sections = c.self.inside.sections.items; points = c.self.inside.points.items }) c.args.work.now c.args.cut.now
+picked c =
     let g : Grid = record { sections = c.self.inside.sections.items; points = c.self.inside.points.items } in
     let (net, index) = c.self.invariant in
-    let size : length c.deref-4.result.now ≡ length g.sections = omega (arith, c.deref-4.ensures.len, c.in_ok-inside.ensures.len, c.in_ok-inside.inside.ok, c.deref.ensures.len, c.self.inside.sections.ok) in
-    rw (c.deref-3.ensures.value, size) (ends_fit g net c.self.inside.ways index)
+    picked_fence g net c.self.inside.ways index c.args.work.now c.args.cut.now c.in_ok-inside.inside.items c.in_ok-beside.beside.items
+    c.in_ok-inside.ensures.rising (rw (c.deref.ensures.value, c.deref-2.ensures.value) at c.in_ok-inside.ensures.fence) (rw c.deref.ensures.value at c.in_ok-inside.ensures.inside)
+    c.in_ok-beside.ensures.rising (rw c.deref-3.ensures.value at c.in_ok-beside.ensures.same)
+
+pub of_rows-requires-clause-sections_rise : goal.of_rows-requires-clause-sections_rise
+of_rows-requires-clause-sections_rise c =
+    let g : Grid = record { sections = c.self.inside.sections.items; points = c.self.inside.points.items } in
+    let same = c.in_ok-sections.ensures ∙ (λ i. filter_map (slice_get (c.deref-4.ensures.value i)) (c.deref-5.ensures.value i)) ∙ ap FenceRows.sections (picked c) in
+    rw same (rising-filter name_cmp (λ (row : SectionRow). row.name) (λ row. in_fence g c.args.work.now c.args.cut.now row.name) g.sections c.self.invariant.0.sections_rise)
+
+pub of_rows-requires-clause-points_rise : goal.of_rows-requires-clause-points_rise
+of_rows-requires-clause-points_rise c =
+    let g : Grid = record { sections = c.self.inside.sections.items; points = c.self.inside.points.items } in
+    let same = c.in_ok-touching.ensures ∙ (λ i. filter_map (slice_get (c.deref-6.ensures.value i)) (c.deref-7.ensures.value i)) ∙ ap FenceRows.touching (picked c) in
+    rw same (rising-filter name_cmp (λ (row : PointRow). row.name) (λ row. in_fence g c.args.work.now c.args.cut.now row.from_end || in_fence g c.args.work.now c.args.cut.now row.to_end) g.points
+    c.self.invariant.0.points_rise)
 
 pub returns : goal.returns
 returns c =
     let g : Grid = record { sections = c.self.inside.sections.items; points = c.self.inside.points.items } in
     let (net, index) = c.self.invariant in
-    let touched = rw (c.deref-3.ensures.value, c.deref-4.ensures.value) at c.in_ok-touching.ensures in
-    let size : length c.in_ok-inside.inside.items ≡ length g.sections = omega (arith, c.in_ok-inside.ensures.len, c.deref.ensures.len, c.self.inside.sections.ok) in
-    let marks = rw (c.deref.ensures.value, c.deref-2.ensures.value) at c.in_ok-inside.ensures.marks in
-    c.in_ok-fence.ensures ∙ rw (c.deref-5.ensures.value, c.deref-6.ensures.value, c.deref-7.ensures.value, c.deref-8.ensures.value, ← c.self.view_is)
-    (kept_fence g net c.self.inside.ways index c.args.work.now c.args.cut.now c.in_ok-inside.inside.items c.in_ok-touching.touching.items size marks touched)
+    let rows = picked_fence g net c.self.inside.ways index c.args.work.now c.args.cut.now c.in_ok-inside.inside.items c.in_ok-beside.beside.items
+    c.in_ok-inside.ensures.rising (rw (c.deref.ensures.value, c.deref-2.ensures.value) at c.in_ok-inside.ensures.fence) (rw c.deref.ensures.value at c.in_ok-inside.ensures.inside)
+    c.in_ok-beside.ensures.rising (rw c.deref-3.ensures.value at c.in_ok-beside.ensures.same) in
+    c.of_rows.ensures
+    ∙ rw (c.in_ok-sections.ensures, c.in_ok-touching.ensures, c.deref-4.ensures.value, c.deref-5.ensures.value, c.deref-6.ensures.value, c.deref-7.ensures.value, ← c.self.view_is) rows
