@@ -4,7 +4,7 @@ ghost use Rattle.std.specs.List.{count_by};
 ghost use Rattle.clr_rules.specs.Steps.{is_done, is_of_round, steps_in};
 ghost use Rattle.clr_rules.specs.StepKey.{step_key, step_key_cmp};
 ghost use Rattle.clr_shelf.specs.Rows.{in_key_order};
-ghost use Rattle.clr_book.specs.Card.{has_key_of, is_put, progress_of, put_all};
+ghost use Rattle.clr_book.specs.Card.{is_put, progress_of, put_all};
 
 use crate::near::Near;
 use clr_rules::{Card, ClearanceId, Record, StepRow};
@@ -25,15 +25,18 @@ struct Tally {
     steps: usize,
 }
 
-/// Whether one of the rows has the key of this one.
+/// Whether one of the rows, which stand in key order, has the key of this one.
 fn is_put(rows: &[StepRow], row: &StepRow) -> bool
+    requires { in_key_order step_key_cmp step_key rows.now ≡ true }
     ensures { result ≡ is_put rows.now row.now }
 {
-    rows.iter().any(|new| row.compare_key(&new.key()).is_eq())
+    let key = row.key();
+    rows.binary_search_by(|new| new.compare_key(&key)).is_ok()
 }
 
 /// The steps of a round that stay where others are put.
 fn kept_tally(near: &Near, put: &[StepRow], id: ClearanceId, round: u8) -> Tally
+    requires { in_key_order step_key_cmp step_key put.now ≡ true }
     ensures steps { result.steps ≡ count_by (λ row. is_of_round id round row && not (is_put put.now row)) near.now.rows.steps }
     ensures done { result.done ≡ count_by (λ row. (is_of_round id round row && is_done row.step.state) && not (is_put put.now row)) near.now.rows.steps }
     ensures fewer { result.done ≤ result.steps }

@@ -94,7 +94,8 @@ pub(crate) fn rows_at<'a, R>(
     rows: &'a [R],
     places: &[usize],
 ) -> Result<Vec<&'a R>, AllocError>
-    ensures { IfOk result (λ found. map (λ row. row.now) found.items ≡ filter_map (slice_get rows.now) places.now) }
+    ensures { IfOk result (λ found.
+        map (λ row. row.now) found.items ≡ filter_map (slice_get rows.now) places.now) }
 {
     let mut found = Vec::new(alloc);
     for place in places {
