@@ -10,6 +10,8 @@ mod driver;
 #[cfg(test)]
 mod fences;
 #[cfg(test)]
+mod http;
+#[cfg(test)]
 mod ids;
 #[cfg(test)]
 mod life;
