@@ -49,7 +49,7 @@ pub fn stands(
 }
 
 /// A record of a clearance that its requester holds.
-fn record(id: &str, phase: Phase) -> Result<Record, Fail> {
+pub fn record(id: &str, phase: Phase) -> Result<Record, Fail> {
     let id = ClearanceId::read(id)?;
     Ok(Record {
         id,
@@ -61,7 +61,7 @@ fn record(id: &str, phase: Phase) -> Result<Record, Fail> {
 }
 
 /// A step that opens S2.
-fn step(id: &str, round: u8, ordinal: u16, state: StepState) -> Result<StepRow, Fail> {
+pub fn step(id: &str, round: u8, ordinal: u16, state: StepState) -> Result<StepRow, Fail> {
     Ok(StepRow {
         id: ClearanceId::read(id)?,
         round,

@@ -20,6 +20,8 @@ mod shelves;
 #[cfg(test)]
 mod staff;
 #[cfg(test)]
+mod store;
+#[cfg(test)]
 mod worked;
 #[cfg(test)]
 mod writers;

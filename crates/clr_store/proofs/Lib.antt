@@ -8,3 +8,6 @@ pub mod Loading
 pub mod Given
 pub mod Creating
 pub mod Versions
+pub mod TextsRead
+pub mod AllRead
+pub mod AllGiven

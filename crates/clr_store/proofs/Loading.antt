@@ -28,12 +28,14 @@ use Rattle.clr_shelf.specs.Rows.{in_key_order}
 use Rattle.clr_tables.specs.Tables.{Tables}
 use Rattle.clr_tables.specs.declared.table_name.TableName.{TableName}
 use Rattle.clr_tables.specs.declared.table_name.TableName.TheVariants.{Meta, Section, Point, Staff, Clearance, Step, Hold}
-use Rattle.clr_store.specs.Change.{Listed}
+use Rattle.clr_store.specs.Change.{Finds}
+use Rattle.clr_store.specs.Listed.{both_of}
 use Rattle.clr_store.specs.Schema.{columns_in, keys_in, tree_of, register_schema}
 use Rattle.clr_store.specs.Sql.{select_sql}
 use Rattle.clr_store.specs.Stored.{HasRows, Holds, IsInOrder, bodies, fits_columns, rows_in}
 use Rattle.clr_store.proofs.Columns.{both_true, fits_length, key_order, met_values, values_all, values_from, values_shift, values_take}
 use Rattle.clr_store.proofs.Effects.{columns_width, laid}
+use Rattle.clr_store.proofs.Inside.{then_kept}
 use Rattle.clr_store.proofs.Texts.{listing, order_from, select_is, select_plain, select_unlisted, width_of}
 
 values_none : (n at : ℕ) → values_from (suc at) n [] ≡ values_from at n []
@@ -181,11 +183,68 @@ stays old new name rows has h =
     let it = subst (ShowsRows old new (select_sql name) h.0 (timed [] h.0.formats h.1.now) rows) none h.2 in
     it.3.0.now_is
 
-pub listed : (old new : State) (name : TableName) (rows : List Row) → IsTrue old.in_transaction → Shown (select_sql name) [] old new rows → Listed old new name rows
+pub listed : (old new : State) (name : TableName) (rows : List Row) → IsTrue old.in_transaction
+    → Shown (select_sql name) [] old new rows → Finds old new (rows_in name) rows
 listed old new name rows inside shown =
     let keeps = shown_keeps (select_sql name) [] old new rows inside shown in
     record {
       inside = keeps.0;
       kept = keeps.1;
-      rows_are = λ t has ordered. (lists old new name t rows has ordered shown, subst (λ (db : Database). Holds db t) (sym (stays old new name rows has.schema shown)) has);
+      found_is = λ t has ordered.
+          let same = stays old new name rows has.schema shown in
+          (lists old new name t rows has ordered shown, subst (λ (db : Database). Holds db t) (sym same) has);
     }
+
+-- ---- one thing found after another
+pub then_finds : {A B : Type 0} (a b c : State) (f : Tables → A) (g : Tables → B) (x : A) (y : B)
+    → Finds a b f x → Finds b c g y → Finds a c (λ t. (f t, g t)) (x, y)
+then_finds a b c f g x y p q = record {
+  inside = q.inside;
+  kept = then_kept a b c p.kept q.kept;
+  found_is = λ t has ordered.
+      let first = p.found_is t has ordered in
+      let second = q.found_is t first.1 ordered in
+      (λ i. (first.0 i, second.0 i), second.1);
+}
+
+-- what is found of the same tables, told in another way
+pub finds_as : {A B : Type 0} (a b : State) (f : Tables → A) (g : Tables → B) (k : A → B) (x : A)
+    → ((t : Tables) → k (f t) ≡ g t) → Finds a b f x → Finds a b g (k x)
+finds_as a b f g k x same p = record {
+  inside = p.inside;
+  kept = p.kept;
+  found_is = λ t has ordered.
+      let it = p.found_is t has ordered in
+      (ap k it.0 ∙ same t, it.1);
+}
+
+-- the rows of meta, and then of the other tables two at a time
+abbrev Pair : Type 0
+Pair = List Row × List Row
+
+abbrev found_tables : ((List Row × Pair) × Pair) × Pair → Tables
+found_tables (((meta, (sections, points)), (staff, clearances)), (steps, holds)) = record {
+  meta = meta;
+  sections = sections;
+  points = points;
+  staff = staff;
+  clearances = clearances;
+  steps = steps;
+  holds = holds;
+}
+
+-- where the rows of all tables are found, the tables are
+pub all_found : (old new : State) (meta : List Row) (network people work : List Row × List Row)
+    → Finds old new (λ t. (((rows_in Meta t, both_of Section Point t), both_of Staff Clearance t), both_of Step Hold t))
+    (((meta, network), people), work)
+    → Finds old new (λ t. t) (record {
+      meta = meta;
+      sections = network.0;
+      points = network.1;
+      staff = people.0;
+      clearances = people.1;
+      steps = work.0;
+      holds = work.1;
+    })
+all_found old new meta network people work found =
+    finds_as old new _ (λ t. t) found_tables (((meta, network), people), work) (λ t. refl) found

@@ -50,14 +50,17 @@ pub record Makes (old new : State) (From To : Database → Type 0) : Type 0 wher
 abbrev pub StepsTo : {X : Type 0} → State → State → (Database → Type 0) → (Database → Type 0) → Result X StoreFault → Type 0
 StepsTo old new From To result = HasCleanDisk new → IsTrue old.in_transaction → MatchResult result (λ _. Makes old new From To) (λ _. KeepsCommit old new)
 
--- the rows of a table are listed, and the tables stay
-pub record Listed (old new : State) (name : TableName) (rows : List Row) : Type 0 where
+-- something that the tables tell is found, the tables stay, and nothing is committed
+pub record Finds {A : Type 0} (old new : State) (tells : Tables → A) (found : A) : Type 0 where
   pub inside : IsTrue new.in_transaction
   pub kept : KeepsCommit old new
-  pub rows_are : (t : Tables) → Holds old.now t → IsInOrder t → (rows ≡ rows_in name t) × Holds new.now t
+  pub found_is : (t : Tables) → Holds old.now t → IsInOrder t → (found ≡ tells t) × Holds new.now t
 
-abbrev pub Lists : {X : Type 0} → State → State → TableName → (X → List Row) → Result X StoreFault → Type 0
-Lists old new name items result = HasCleanDisk new → IsTrue old.in_transaction → MatchResult result (λ listed. Listed old new name (items listed)) (λ _. KeepsCommit old new)
+-- a call inside a transaction finds it, or fails; it commits nothing
+abbrev pub Lists : {A X : Type 0} → State → State → (Tables → A) → (X → A) → Result X StoreFault → Type 0
+Lists old new tells items result =
+    HasCleanDisk new → IsTrue old.in_transaction
+    → MatchResult result (λ listed. Finds old new tells (items listed)) (λ _. KeepsCommit old new)
 
 -- the database has these tables alone, and they are empty
 pub record HasEmpty (names : List TableName) (db : Database) : Type 0 where

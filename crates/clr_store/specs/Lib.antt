@@ -4,3 +4,5 @@ pub mod Stored
 pub mod Fault
 pub mod Change
 pub mod Contract
+pub mod Reading
+pub mod Listed

@@ -3,8 +3,10 @@ ghost use Rattle.std.specs.Prelude.{IfErr, ◌≡◌, [], ◌∷◌, ◌++◌, f
 ghost use Rattle.sqlite.specs.Held.{state};
 ghost use Rattle.sqlite.specs.State.{HasCleanDisk, Survives};
 ghost use Rattle.clr_rules.specs.Register.{first_state, opening};
-ghost use Rattle.clr_tables.specs.Tables.{point_row, section_row, staff_row, tables_of, version_row};
-ghost use Rattle.clr_store.specs.Change.{HasEmpty, Steps, StepsTo, added, opening_points, filled, with_rows};
+ghost use Rattle.clr_tables.specs.Tables.{point_row, section_row, staff_row, tables_of};
+ghost use Rattle.clr_tables.specs.Tables.{version_row};
+ghost use Rattle.clr_store.specs.Change.{HasEmpty, Steps, StepsTo, added, opening_points, filled};
+ghost use Rattle.clr_store.specs.Change.{with_rows};
 ghost use Rattle.clr_store.specs.Fault.{IsOfDatabase};
 ghost use Rattle.clr_store.specs.Contract.{IsSaved};
 ghost use Rattle.clr_store.specs.Schema.{all_names, names_before, no_schema};
@@ -25,9 +27,11 @@ use sqlite_schema::schema::Schema;
 
 fn make_table<S: Alter>(tx: &mut Transaction<'_, S>, table: TableName) -> Result<(), StoreFault>
     ensures same_reference { tx.new.conn.ghost_name ≡ tx.old.conn.ghost_name }
-    ensures step { StepsTo (state S.Store tx.old.conn.now) (state S.Store tx.new.conn.now) (HasEmpty (names_before table)) (HasEmpty (names_before table ++ table ∷ [])) result }
+    ensures step { StepsTo (state S.Store tx.old.conn.now) (state S.Store tx.new.conn.now)
+        (HasEmpty (names_before table)) (HasEmpty (names_before table ++ table ∷ [])) result }
     ensures fault { IfErr result IsOfDatabase }
-    ensures survives { Survives (state S.Store tx.old.conn.now) (state S.Store tx.new.conn.now) (λ _. ⊥) }
+    ensures survives { Survives (state S.Store tx.old.conn.now) (state S.Store tx.new.conn.now)
+        (λ _. ⊥) }
 {
     tx.execute(create_sql(table), &[])?;
     Ok(())
@@ -35,9 +39,11 @@ fn make_table<S: Alter>(tx: &mut Transaction<'_, S>, table: TableName) -> Result
 
 fn make_first_tables<S: Alter>(tx: &mut Transaction<'_, S>) -> Result<(), StoreFault>
     ensures same_reference { tx.new.conn.ghost_name ≡ tx.old.conn.ghost_name }
-    ensures step { StepsTo (state S.Store tx.old.conn.now) (state S.Store tx.new.conn.now) (HasEmpty []) (HasEmpty (names_before TableName.Staff)) result }
+    ensures step { StepsTo (state S.Store tx.old.conn.now) (state S.Store tx.new.conn.now)
+        (HasEmpty []) (HasEmpty (names_before TableName.Staff)) result }
     ensures fault { IfErr result IsOfDatabase }
-    ensures survives { Survives (state S.Store tx.old.conn.now) (state S.Store tx.new.conn.now) (λ _. ⊥) }
+    ensures survives { Survives (state S.Store tx.old.conn.now) (state S.Store tx.new.conn.now)
+        (λ _. ⊥) }
 {
     make_table(tx, TableName::Meta)?;
     make_table(tx, TableName::Section)?;
@@ -46,9 +52,11 @@ fn make_first_tables<S: Alter>(tx: &mut Transaction<'_, S>) -> Result<(), StoreF
 
 fn make_next_tables<S: Alter>(tx: &mut Transaction<'_, S>) -> Result<(), StoreFault>
     ensures same_reference { tx.new.conn.ghost_name ≡ tx.old.conn.ghost_name }
-    ensures step { StepsTo (state S.Store tx.old.conn.now) (state S.Store tx.new.conn.now) (HasEmpty (names_before TableName.Staff)) (HasEmpty (names_before TableName.Hold)) result }
+    ensures step { StepsTo (state S.Store tx.old.conn.now) (state S.Store tx.new.conn.now)
+        (HasEmpty (names_before TableName.Staff)) (HasEmpty (names_before TableName.Hold)) result }
     ensures fault { IfErr result IsOfDatabase }
-    ensures survives { Survives (state S.Store tx.old.conn.now) (state S.Store tx.new.conn.now) (λ _. ⊥) }
+    ensures survives { Survives (state S.Store tx.old.conn.now) (state S.Store tx.new.conn.now)
+        (λ _. ⊥) }
 {
     make_table(tx, TableName::Staff)?;
     make_table(tx, TableName::Clearance)?;
@@ -58,9 +66,11 @@ fn make_next_tables<S: Alter>(tx: &mut Transaction<'_, S>) -> Result<(), StoreFa
 /// Makes the seven tables, without a row.
 fn make_tables<S: Alter>(tx: &mut Transaction<'_, S>) -> Result<(), StoreFault>
     ensures same_reference { tx.new.conn.ghost_name ≡ tx.old.conn.ghost_name }
-    ensures step { StepsTo (state S.Store tx.old.conn.now) (state S.Store tx.new.conn.now) (HasEmpty []) (HasEmpty all_names) result }
+    ensures step { StepsTo (state S.Store tx.old.conn.now) (state S.Store tx.new.conn.now)
+        (HasEmpty []) (HasEmpty all_names) result }
     ensures fault { IfErr result IsOfDatabase }
-    ensures survives { Survives (state S.Store tx.old.conn.now) (state S.Store tx.new.conn.now) (λ _. ⊥) }
+    ensures survives { Survives (state S.Store tx.old.conn.now) (state S.Store tx.new.conn.now)
+        (λ _. ⊥) }
 {
     make_first_tables(tx)?;
     make_next_tables(tx)?;
@@ -69,9 +79,11 @@ fn make_tables<S: Alter>(tx: &mut Transaction<'_, S>) -> Result<(), StoreFault>
 
 fn add_version<S: Alter>(tx: &mut Transaction<'_, S>) -> Result<(), StoreFault>
     ensures same_reference { tx.new.conn.ghost_name ≡ tx.old.conn.ghost_name }
-    ensures step { Steps (state S.Store tx.old.conn.now) (state S.Store tx.new.conn.now) (with_rows TableName.Meta (λ rows. version_row 1 ∷ rows)) result }
+    ensures step { Steps (state S.Store tx.old.conn.now) (state S.Store tx.new.conn.now)
+        (with_rows TableName.Meta (λ rows. version_row 1 ∷ rows)) result }
     ensures fault { IfErr result IsOfDatabase }
-    ensures survives { Survives (state S.Store tx.old.conn.now) (state S.Store tx.new.conn.now) (λ _. ⊥) }
+    ensures survives { Survives (state S.Store tx.old.conn.now) (state S.Store tx.new.conn.now)
+        (λ _. ⊥) }
 {
     let row = [text_value("version"), number_value(1)];
     insert_row(tx, TableName::Meta, &row)
@@ -82,9 +94,11 @@ fn add_section<S: Alter>(
     section: &SectionRow,
 ) -> Result<(), StoreFault>
     ensures same_reference { tx.new.conn.ghost_name ≡ tx.old.conn.ghost_name }
-    ensures step { Steps (state S.Store tx.old.conn.now) (state S.Store tx.new.conn.now) (with_rows TableName.Section (λ rows. section_row section.now ∷ rows)) result }
+    ensures step { Steps (state S.Store tx.old.conn.now) (state S.Store tx.new.conn.now)
+        (with_rows TableName.Section (λ rows. section_row section.now ∷ rows)) result }
     ensures fault { IfErr result IsOfDatabase }
-    ensures survives { Survives (state S.Store tx.old.conn.now) (state S.Store tx.new.conn.now) (λ _. ⊥) }
+    ensures survives { Survives (state S.Store tx.old.conn.now) (state S.Store tx.new.conn.now)
+        (λ _. ⊥) }
 {
     let row = [name_value(&section.name), flag_value(section.source)];
     insert_row(tx, TableName::Section, &row)
@@ -95,9 +109,11 @@ fn add_sections<S: Alter>(
     sections: &[SectionRow],
 ) -> Result<(), StoreFault>
     ensures same_reference { tx.new.conn.ghost_name ≡ tx.old.conn.ghost_name }
-    ensures step { Steps (state S.Store tx.old.conn.now) (state S.Store tx.new.conn.now) (with_rows TableName.Section (added (map section_row sections.now))) result }
+    ensures step { Steps (state S.Store tx.old.conn.now) (state S.Store tx.new.conn.now)
+        (with_rows TableName.Section (added (map section_row sections.now))) result }
     ensures fault { IfErr result IsOfDatabase }
-    ensures survives { Survives (state S.Store tx.old.conn.now) (state S.Store tx.new.conn.now) (λ _. ⊥) }
+    ensures survives { Survives (state S.Store tx.old.conn.now) (state S.Store tx.new.conn.now)
+        (λ _. ⊥) }
 {
     for section in sections {
         add_section(tx, section)?;
@@ -108,9 +124,12 @@ fn add_sections<S: Alter>(
 /// Adds a point in the position of its row, in nobody's hand.
 fn add_point<S: Alter>(tx: &mut Transaction<'_, S>, point: &PointRow) -> Result<(), StoreFault>
     ensures same_reference { tx.new.conn.ghost_name ≡ tx.old.conn.ghost_name }
-    ensures step { Steps (state S.Store tx.old.conn.now) (state S.Store tx.new.conn.now) (with_rows TableName.Point (λ rows. point_row point.now (first_state point.now) ∷ rows)) result }
+    ensures step { Steps (state S.Store tx.old.conn.now) (state S.Store tx.new.conn.now)
+        (with_rows TableName.Point (λ rows. point_row point.now (first_state point.now) ∷ rows))
+        result }
     ensures fault { IfErr result IsOfDatabase }
-    ensures survives { Survives (state S.Store tx.old.conn.now) (state S.Store tx.new.conn.now) (λ _. ⊥) }
+    ensures survives { Survives (state S.Store tx.old.conn.now) (state S.Store tx.new.conn.now)
+        (λ _. ⊥) }
 {
     let row = [
         name_value(&point.name),
@@ -127,9 +146,11 @@ fn add_point<S: Alter>(tx: &mut Transaction<'_, S>, point: &PointRow) -> Result<
 
 fn add_points<S: Alter>(tx: &mut Transaction<'_, S>, points: &[PointRow]) -> Result<(), StoreFault>
     ensures same_reference { tx.new.conn.ghost_name ≡ tx.old.conn.ghost_name }
-    ensures step { Steps (state S.Store tx.old.conn.now) (state S.Store tx.new.conn.now) (with_rows TableName.Point (added (opening_points points.now))) result }
+    ensures step { Steps (state S.Store tx.old.conn.now) (state S.Store tx.new.conn.now)
+        (with_rows TableName.Point (added (opening_points points.now))) result }
     ensures fault { IfErr result IsOfDatabase }
-    ensures survives { Survives (state S.Store tx.old.conn.now) (state S.Store tx.new.conn.now) (λ _. ⊥) }
+    ensures survives { Survives (state S.Store tx.old.conn.now) (state S.Store tx.new.conn.now)
+        (λ _. ⊥) }
 {
     for point in points {
         add_point(tx, point)?;
@@ -142,9 +163,11 @@ fn add_employee<S: Alter>(
     employee: &StaffRow,
 ) -> Result<(), StoreFault>
     ensures same_reference { tx.new.conn.ghost_name ≡ tx.old.conn.ghost_name }
-    ensures step { Steps (state S.Store tx.old.conn.now) (state S.Store tx.new.conn.now) (with_rows TableName.Staff (λ rows. staff_row employee.now ∷ rows)) result }
+    ensures step { Steps (state S.Store tx.old.conn.now) (state S.Store tx.new.conn.now)
+        (with_rows TableName.Staff (λ rows. staff_row employee.now ∷ rows)) result }
     ensures fault { IfErr result IsOfDatabase }
-    ensures survives { Survives (state S.Store tx.old.conn.now) (state S.Store tx.new.conn.now) (λ _. ⊥) }
+    ensures survives { Survives (state S.Store tx.old.conn.now) (state S.Store tx.new.conn.now)
+        (λ _. ⊥) }
 {
     let row = [
         name_value(&employee.name),
@@ -156,9 +179,11 @@ fn add_employee<S: Alter>(
 
 fn add_staff<S: Alter>(tx: &mut Transaction<'_, S>, staff: &[StaffRow]) -> Result<(), StoreFault>
     ensures same_reference { tx.new.conn.ghost_name ≡ tx.old.conn.ghost_name }
-    ensures step { Steps (state S.Store tx.old.conn.now) (state S.Store tx.new.conn.now) (with_rows TableName.Staff (added (map staff_row staff.now))) result }
+    ensures step { Steps (state S.Store tx.old.conn.now) (state S.Store tx.new.conn.now)
+        (with_rows TableName.Staff (added (map staff_row staff.now))) result }
     ensures fault { IfErr result IsOfDatabase }
-    ensures survives { Survives (state S.Store tx.old.conn.now) (state S.Store tx.new.conn.now) (λ _. ⊥) }
+    ensures survives { Survives (state S.Store tx.old.conn.now) (state S.Store tx.new.conn.now)
+        (λ _. ⊥) }
 {
     for employee in staff {
         add_employee(tx, employee)?;
@@ -173,9 +198,12 @@ fn add_network<S: Alter>(
     points: &[PointRow],
 ) -> Result<(), StoreFault>
     ensures same_reference { tx.new.conn.ghost_name ≡ tx.old.conn.ghost_name }
-    ensures step { Steps (state S.Store tx.old.conn.now) (state S.Store tx.new.conn.now) (λ t. with_rows TableName.Point (added (opening_points points.now)) (with_rows TableName.Section (added (map section_row sections.now)) t)) result }
+    ensures step { Steps (state S.Store tx.old.conn.now) (state S.Store tx.new.conn.now)
+        (λ t. with_rows TableName.Point (added (opening_points points.now))
+        (with_rows TableName.Section (added (map section_row sections.now)) t)) result }
     ensures fault { IfErr result IsOfDatabase }
-    ensures survives { Survives (state S.Store tx.old.conn.now) (state S.Store tx.new.conn.now) (λ _. ⊥) }
+    ensures survives { Survives (state S.Store tx.old.conn.now) (state S.Store tx.new.conn.now)
+        (λ _. ⊥) }
 {
     add_sections(tx, sections)?;
     add_points(tx, points)
@@ -189,9 +217,11 @@ fn fill<S: Alter>(
     staff: &[StaffRow],
 ) -> Result<(), StoreFault>
     ensures same_reference { tx.new.conn.ghost_name ≡ tx.old.conn.ghost_name }
-    ensures step { Steps (state S.Store tx.old.conn.now) (state S.Store tx.new.conn.now) (filled sections.now points.now staff.now) result }
+    ensures step { Steps (state S.Store tx.old.conn.now) (state S.Store tx.new.conn.now)
+        (filled sections.now points.now staff.now) result }
     ensures fault { IfErr result IsOfDatabase }
-    ensures survives { Survives (state S.Store tx.old.conn.now) (state S.Store tx.new.conn.now) (λ _. ⊥) }
+    ensures survives { Survives (state S.Store tx.old.conn.now) (state S.Store tx.new.conn.now)
+        (λ _. ⊥) }
 {
     add_version(tx)?;
     add_network(tx, sections, points)?;
@@ -214,11 +244,15 @@ pub(crate) fn make_register<S: Alter>(
     staff: &Staff,
 ) -> Result<(), StoreFault>
     ensures mode { conn.old.in_transaction ≡ false → conn.new.in_transaction ≡ false }
-    ensures made { HasCleanDisk (state S.Store conn.new) → OnOk result (HasTables (state S.Store conn.new).now (tables_of (opening network.now staff.now))) }
-    ensures saved { HasCleanDisk (state S.Store conn.new) → OnOk result (IsSaved (state S.Store conn.new)) }
+    ensures made { HasCleanDisk (state S.Store conn.new) → OnOk result
+        (HasTables (state S.Store conn.new).now (tables_of (opening network.now staff.now))) }
+    ensures saved { HasCleanDisk (state S.Store conn.new) → OnOk result
+        (IsSaved (state S.Store conn.new)) }
     ensures fault { IfErr result IsOfDatabase }
-    ensures none { HasCleanDisk (state S.Store conn.new) → IsTrue (state S.Store conn.new).is_open → OnErr result ((state S.Store conn.new).now ≡ (state S.Store conn.old).now) }
-    ensures crash { Survives (state S.Store conn.old) (state S.Store conn.new) (λ trees. AreTables trees (tables_of (opening network.now staff.now))) }
+    ensures none { HasCleanDisk (state S.Store conn.new) → IsTrue (state S.Store conn.new).is_open
+        → OnErr result ((state S.Store conn.new).now ≡ (state S.Store conn.old).now) }
+    ensures crash { Survives (state S.Store conn.old) (state S.Store conn.new)
+        (λ trees. AreTables trees (tables_of (opening network.now staff.now))) }
 {
     if !conn.is_autocommit() || !is_bare(conn.schema()) {
         return Err(StoreFault::Sql);

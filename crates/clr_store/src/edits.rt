@@ -3,7 +3,8 @@ ghost use Rattle.std.specs.Prelude.{IfErr, ◌≡◌, true, take, Some, None};
 ghost use Rattle.sqlite.specs.Held.{state};
 ghost use Rattle.sqlite.specs.State.{Survives};
 ghost use Rattle.sqlite.specs.Values.{bound};
-ghost use Rattle.clr_rules.specs.declared.change.Edit.TheVariants.{SetPosition, SetHand, PutHold, TakeHold, PutRecord, PutStep};
+ghost use Rattle.clr_rules.specs.declared.change.Edit.TheVariants.{SetPosition, SetHand, PutHold};
+ghost use Rattle.clr_rules.specs.declared.change.Edit.TheVariants.{TakeHold, PutRecord, PutStep};
 ghost use Rattle.clr_tables.specs.TableEdits.{table_edited, tables_edited, with_table_row};
 ghost use Rattle.clr_store.specs.Change.{Steps, with_rows};
 ghost use Rattle.clr_store.specs.Fault.{IsOfDatabase};
@@ -29,9 +30,11 @@ fn put_row<S: Alter>(
     requires fits { fits_columns (columns_in table) (bound row.now) ≡ true }
     requires keyed { has_key (keys_in table) (take (keys_in table) (bound row.now)) ≡ true }
     ensures same_reference { tx.new.conn.ghost_name ≡ tx.old.conn.ghost_name }
-    ensures step { Steps (state S.Store tx.old.conn.now) (state S.Store tx.new.conn.now) (with_rows table (with_table_row (keys_in table) (bound row.now))) result }
+    ensures step { Steps (state S.Store tx.old.conn.now) (state S.Store tx.new.conn.now)
+        (with_rows table (with_table_row (keys_in table) (bound row.now))) result }
     ensures fault { IfErr result IsOfDatabase }
-    ensures survives { Survives (state S.Store tx.old.conn.now) (state S.Store tx.new.conn.now) (λ _. ⊥) }
+    ensures survives { Survives (state S.Store tx.old.conn.now) (state S.Store tx.new.conn.now)
+        (λ _. ⊥) }
 {
     let key = &row[..keys_in(table)];
     delete_row(tx, table, key)?;
@@ -40,9 +43,11 @@ fn put_row<S: Alter>(
 
 fn put_hold<S: Alter>(tx: &mut Transaction<'_, S>, hold: &Hold) -> Result<(), StoreFault>
     ensures same_reference { tx.new.conn.ghost_name ≡ tx.old.conn.ghost_name }
-    ensures step { Steps (state S.Store tx.old.conn.now) (state S.Store tx.new.conn.now) (table_edited (PutHold hold.now)) result }
+    ensures step { Steps (state S.Store tx.old.conn.now) (state S.Store tx.new.conn.now)
+        (table_edited (PutHold hold.now)) result }
     ensures fault { IfErr result IsOfDatabase }
-    ensures survives { Survives (state S.Store tx.old.conn.now) (state S.Store tx.new.conn.now) (λ _. ⊥) }
+    ensures survives { Survives (state S.Store tx.old.conn.now) (state S.Store tx.new.conn.now)
+        (λ _. ⊥) }
 {
     let requester = hold.id.requester();
     let row = [
@@ -56,9 +61,11 @@ fn put_hold<S: Alter>(tx: &mut Transaction<'_, S>, hold: &Hold) -> Result<(), St
 
 fn take_hold<S: Alter>(tx: &mut Transaction<'_, S>, hold: &Hold) -> Result<(), StoreFault>
     ensures same_reference { tx.new.conn.ghost_name ≡ tx.old.conn.ghost_name }
-    ensures step { Steps (state S.Store tx.old.conn.now) (state S.Store tx.new.conn.now) (table_edited (TakeHold hold.now)) result }
+    ensures step { Steps (state S.Store tx.old.conn.now) (state S.Store tx.new.conn.now)
+        (table_edited (TakeHold hold.now)) result }
     ensures fault { IfErr result IsOfDatabase }
-    ensures survives { Survives (state S.Store tx.old.conn.now) (state S.Store tx.new.conn.now) (λ _. ⊥) }
+    ensures survives { Survives (state S.Store tx.old.conn.now) (state S.Store tx.new.conn.now)
+        (λ _. ⊥) }
 {
     let requester = hold.id.requester();
     let key = [
@@ -72,9 +79,11 @@ fn take_hold<S: Alter>(tx: &mut Transaction<'_, S>, hold: &Hold) -> Result<(), S
 
 fn put_record<S: Alter>(tx: &mut Transaction<'_, S>, row: &Record) -> Result<(), StoreFault>
     ensures same_reference { tx.new.conn.ghost_name ≡ tx.old.conn.ghost_name }
-    ensures step { Steps (state S.Store tx.old.conn.now) (state S.Store tx.new.conn.now) (table_edited (PutRecord row.now)) result }
+    ensures step { Steps (state S.Store tx.old.conn.now) (state S.Store tx.new.conn.now)
+        (table_edited (PutRecord row.now)) result }
     ensures fault { IfErr result IsOfDatabase }
-    ensures survives { Survives (state S.Store tx.old.conn.now) (state S.Store tx.new.conn.now) (λ _. ⊥) }
+    ensures survives { Survives (state S.Store tx.old.conn.now) (state S.Store tx.new.conn.now)
+        (λ _. ⊥) }
 {
     let requester = row.id.requester();
     let values = [
@@ -90,9 +99,11 @@ fn put_record<S: Alter>(tx: &mut Transaction<'_, S>, row: &Record) -> Result<(),
 
 fn put_step<S: Alter>(tx: &mut Transaction<'_, S>, row: &StepRow) -> Result<(), StoreFault>
     ensures same_reference { tx.new.conn.ghost_name ≡ tx.old.conn.ghost_name }
-    ensures step { Steps (state S.Store tx.old.conn.now) (state S.Store tx.new.conn.now) (table_edited (PutStep row.now)) result }
+    ensures step { Steps (state S.Store tx.old.conn.now) (state S.Store tx.new.conn.now)
+        (table_edited (PutStep row.now)) result }
     ensures fault { IfErr result IsOfDatabase }
-    ensures survives { Survives (state S.Store tx.old.conn.now) (state S.Store tx.new.conn.now) (λ _. ⊥) }
+    ensures survives { Survives (state S.Store tx.old.conn.now) (state S.Store tx.new.conn.now)
+        (λ _. ⊥) }
 {
     let requester = row.id.requester();
     let values = [
@@ -114,9 +125,11 @@ fn set_position<S: Alter>(
     position: Position,
 ) -> Result<(), StoreFault>
     ensures same_reference { tx.new.conn.ghost_name ≡ tx.old.conn.ghost_name }
-    ensures step { Steps (state S.Store tx.old.conn.now) (state S.Store tx.new.conn.now) (table_edited (SetPosition point.now position)) result }
+    ensures step { Steps (state S.Store tx.old.conn.now) (state S.Store tx.new.conn.now)
+        (table_edited (SetPosition point.now position)) result }
     ensures fault { IfErr result IsOfDatabase }
-    ensures survives { Survives (state S.Store tx.old.conn.now) (state S.Store tx.new.conn.now) (λ _. ⊥) }
+    ensures survives { Survives (state S.Store tx.old.conn.now) (state S.Store tx.new.conn.now)
+        (λ _. ⊥) }
 {
     let given = [name_value(point), position_value(position)];
     tx.execute("UPDATE point SET position = ?2 WHERE name = ?1", &given)?;
@@ -125,9 +138,11 @@ fn set_position<S: Alter>(
 
 fn clear_hand<S: Alter>(tx: &mut Transaction<'_, S>, point: &Name) -> Result<(), StoreFault>
     ensures same_reference { tx.new.conn.ghost_name ≡ tx.old.conn.ghost_name }
-    ensures step { Steps (state S.Store tx.old.conn.now) (state S.Store tx.new.conn.now) (table_edited (SetHand point.now None)) result }
+    ensures step { Steps (state S.Store tx.old.conn.now) (state S.Store tx.new.conn.now)
+        (table_edited (SetHand point.now None)) result }
     ensures fault { IfErr result IsOfDatabase }
-    ensures survives { Survives (state S.Store tx.old.conn.now) (state S.Store tx.new.conn.now) (λ _. ⊥) }
+    ensures survives { Survives (state S.Store tx.old.conn.now) (state S.Store tx.new.conn.now)
+        (λ _. ⊥) }
 {
     let given = [name_value(point), ValueRef::Null, ValueRef::Null];
     tx.execute(
@@ -143,9 +158,11 @@ fn give_hand<S: Alter>(
     id: ClearanceId,
 ) -> Result<(), StoreFault>
     ensures same_reference { tx.new.conn.ghost_name ≡ tx.old.conn.ghost_name }
-    ensures step { Steps (state S.Store tx.old.conn.now) (state S.Store tx.new.conn.now) (table_edited (SetHand point.now (Some id))) result }
+    ensures step { Steps (state S.Store tx.old.conn.now) (state S.Store tx.new.conn.now)
+        (table_edited (SetHand point.now (Some id))) result }
     ensures fault { IfErr result IsOfDatabase }
-    ensures survives { Survives (state S.Store tx.old.conn.now) (state S.Store tx.new.conn.now) (λ _. ⊥) }
+    ensures survives { Survives (state S.Store tx.old.conn.now) (state S.Store tx.new.conn.now)
+        (λ _. ⊥) }
 {
     let requester = id.requester();
     let number = number_value(u64::from(id.number()));
@@ -163,9 +180,11 @@ fn set_hand<S: Alter>(
     hand: Option<ClearanceId>,
 ) -> Result<(), StoreFault>
     ensures same_reference { tx.new.conn.ghost_name ≡ tx.old.conn.ghost_name }
-    ensures step { Steps (state S.Store tx.old.conn.now) (state S.Store tx.new.conn.now) (table_edited (SetHand point.now hand)) result }
+    ensures step { Steps (state S.Store tx.old.conn.now) (state S.Store tx.new.conn.now)
+        (table_edited (SetHand point.now hand)) result }
     ensures fault { IfErr result IsOfDatabase }
-    ensures survives { Survives (state S.Store tx.old.conn.now) (state S.Store tx.new.conn.now) (λ _. ⊥) }
+    ensures survives { Survives (state S.Store tx.old.conn.now) (state S.Store tx.new.conn.now)
+        (λ _. ⊥) }
 {
     match hand {
         Some(id) => give_hand(tx, point, id),
@@ -176,9 +195,11 @@ fn set_hand<S: Alter>(
 /// Makes one edit.
 fn make<S: Alter>(tx: &mut Transaction<'_, S>, edit: &Edit) -> Result<(), StoreFault>
     ensures same_reference { tx.new.conn.ghost_name ≡ tx.old.conn.ghost_name }
-    ensures step { Steps (state S.Store tx.old.conn.now) (state S.Store tx.new.conn.now) (table_edited edit.now) result }
+    ensures step { Steps (state S.Store tx.old.conn.now) (state S.Store tx.new.conn.now)
+        (table_edited edit.now) result }
     ensures fault { IfErr result IsOfDatabase }
-    ensures survives { Survives (state S.Store tx.old.conn.now) (state S.Store tx.new.conn.now) (λ _. ⊥) }
+    ensures survives { Survives (state S.Store tx.old.conn.now) (state S.Store tx.new.conn.now)
+        (λ _. ⊥) }
 {
     match edit {
         Edit::SetPosition { point, position } => set_position(tx, point, *position),
@@ -196,9 +217,11 @@ pub(crate) fn make_all<S: Alter>(
     edits: &[Edit],
 ) -> Result<(), StoreFault>
     ensures same_reference { tx.new.conn.ghost_name ≡ tx.old.conn.ghost_name }
-    ensures step { Steps (state S.Store tx.old.conn.now) (state S.Store tx.new.conn.now) (tables_edited edits.now) result }
+    ensures step { Steps (state S.Store tx.old.conn.now) (state S.Store tx.new.conn.now)
+        (tables_edited edits.now) result }
     ensures fault { IfErr result IsOfDatabase }
-    ensures survives { Survives (state S.Store tx.old.conn.now) (state S.Store tx.new.conn.now) (λ _. ⊥) }
+    ensures survives { Survives (state S.Store tx.old.conn.now) (state S.Store tx.new.conn.now)
+        (λ _. ⊥) }
 {
     for edit in edits {
         make(tx, edit)?;

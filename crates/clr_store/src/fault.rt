@@ -1,10 +1,11 @@
 //! Why the store did not do what it was asked.
 ghost use Rattle.std.specs.Prelude.{◌≡◌};
 ghost use Rattle.clr_store.specs.Fault.{IsOfDatabase};
-ghost use Rattle.clr_store.specs.declared.fault.StoreFault.TheVariants.{BadRow};
+ghost use Rattle.clr_store.specs.declared.fault.StoreFault.TheVariants.{BadRow, NoMemory};
 
 use clr_tables::TableName;
 use sqlite::{Error, ErrorCode};
+use std::alloc::{AllocError, AllocFailed};
 
 /// Why the store did not do what it was asked.
 #[derive(Clone, Copy, Debug, PartialEq, Eq)]
@@ -35,5 +36,21 @@ impl From<TableName> for StoreFault {
 
     fn from(table: TableName) -> StoreFault {
         StoreFault::BadRow(table)
+    }
+}
+
+impl From<AllocError> for StoreFault {
+    ghost from_gives = { λ _ fault. fault ≡ NoMemory };
+
+    fn from(_error: AllocError) -> StoreFault {
+        StoreFault::NoMemory
+    }
+}
+
+impl<T: Drop> From<AllocFailed<T>> for StoreFault {
+    ghost from_gives = { λ _ fault. fault ≡ NoMemory };
+
+    fn from(_error: AllocFailed<T>) -> StoreFault {
+        StoreFault::NoMemory
     }
 }

@@ -22,19 +22,28 @@ pub(crate) fn create_sql(table: TableName) -> &'static str
 {
     match table {
         TableName::Meta =>
-            "CREATE TABLE meta (name TEXT NOT NULL, value INTEGER NOT NULL, PRIMARY KEY (name)) STRICT",
-        TableName::Section =>
-            "CREATE TABLE section (name TEXT NOT NULL, source INTEGER NOT NULL, PRIMARY KEY (name)) STRICT",
-        TableName::Point =>
-            "CREATE TABLE point (name TEXT NOT NULL, from_end TEXT NOT NULL, to_end TEXT NOT NULL, lockable INTEGER NOT NULL, remote INTEGER NOT NULL, position INTEGER NOT NULL, hand_requester TEXT, hand_number INTEGER, PRIMARY KEY (name)) STRICT",
+            "CREATE TABLE meta (name TEXT NOT NULL, value INTEGER NOT NULL, PRIMARY KEY (name)) \
+             STRICT",
+        TableName::Section => "CREATE TABLE section (name TEXT NOT NULL, source INTEGER NOT NULL, \
+             PRIMARY KEY (name)) STRICT",
+        TableName::Point => "CREATE TABLE point (name TEXT NOT NULL, from_end TEXT NOT NULL, \
+             to_end TEXT NOT NULL, lockable INTEGER NOT NULL, remote INTEGER NOT NULL, \
+             position INTEGER NOT NULL, hand_requester TEXT, hand_number INTEGER, \
+             PRIMARY KEY (name)) STRICT",
         TableName::Staff =>
-            "CREATE TABLE staff (name TEXT NOT NULL, role TEXT NOT NULL, supervisor TEXT, PRIMARY KEY (name)) STRICT",
+            "CREATE TABLE staff (name TEXT NOT NULL, role TEXT NOT NULL, supervisor TEXT, \
+             PRIMARY KEY (name)) STRICT",
         TableName::Clearance =>
-            "CREATE TABLE clearance (requester TEXT NOT NULL, number INTEGER NOT NULL, holder TEXT NOT NULL, work TEXT, phase TEXT NOT NULL, last_at INTEGER NOT NULL, PRIMARY KEY (requester, number)) STRICT",
-        TableName::Step =>
-            "CREATE TABLE step (requester TEXT NOT NULL, number INTEGER NOT NULL, round INTEGER NOT NULL, ordinal INTEGER NOT NULL, action TEXT NOT NULL, point TEXT NOT NULL, state TEXT NOT NULL, reader TEXT, PRIMARY KEY (requester, number, round, ordinal)) STRICT",
+            "CREATE TABLE clearance (requester TEXT NOT NULL, number INTEGER NOT NULL, \
+             holder TEXT NOT NULL, work TEXT, phase TEXT NOT NULL, last_at INTEGER NOT NULL, \
+             PRIMARY KEY (requester, number)) STRICT",
+        TableName::Step => "CREATE TABLE step (requester TEXT NOT NULL, \
+             number INTEGER NOT NULL, round INTEGER NOT NULL, ordinal INTEGER NOT NULL, \
+             action TEXT NOT NULL, point TEXT NOT NULL, state TEXT NOT NULL, reader TEXT, \
+             PRIMARY KEY (requester, number, round, ordinal)) STRICT",
         TableName::Hold =>
-            "CREATE TABLE hold (kind TEXT NOT NULL, place TEXT NOT NULL, requester TEXT NOT NULL, number INTEGER NOT NULL, PRIMARY KEY (kind, place, requester, number)) STRICT",
+            "CREATE TABLE hold (kind TEXT NOT NULL, place TEXT NOT NULL, requester TEXT NOT NULL, \
+             number INTEGER NOT NULL, PRIMARY KEY (kind, place, requester, number)) STRICT",
     }
 }
 
@@ -78,13 +87,17 @@ pub(crate) fn select_sql(table: TableName) -> &'static str
         TableName::Meta => "SELECT name, value FROM meta ORDER BY name",
         TableName::Section => "SELECT name, source FROM section ORDER BY name",
         TableName::Point =>
-            "SELECT name, from_end, to_end, lockable, remote, position, hand_requester, hand_number FROM point ORDER BY name",
+            "SELECT name, from_end, to_end, lockable, remote, position, hand_requester, \
+             hand_number FROM point ORDER BY name",
         TableName::Staff => "SELECT name, role, supervisor FROM staff ORDER BY name",
         TableName::Clearance =>
-            "SELECT requester, number, holder, work, phase, last_at FROM clearance ORDER BY requester, number",
+            "SELECT requester, number, holder, work, phase, last_at FROM clearance \
+             ORDER BY requester, number",
         TableName::Step =>
-            "SELECT requester, number, round, ordinal, action, point, state, reader FROM step ORDER BY requester, number, round, ordinal",
+            "SELECT requester, number, round, ordinal, action, point, state, reader FROM step \
+             ORDER BY requester, number, round, ordinal",
         TableName::Hold =>
-            "SELECT kind, place, requester, number FROM hold ORDER BY kind, place, requester, number",
+            "SELECT kind, place, requester, number FROM hold ORDER BY kind, place, requester, \
+             number",
     }
 }

@@ -7,7 +7,7 @@ ghost use Rattle.clr_tables.specs.TableEdits.{without_table_row};
 ghost use Rattle.clr_store.specs.Change.{Lists, Steps, with_rows};
 ghost use Rattle.clr_store.specs.Fault.{IsOfDatabase};
 ghost use Rattle.clr_store.specs.Schema.{columns_in, keys_in};
-ghost use Rattle.clr_store.specs.Stored.{fits_columns, has_key};
+ghost use Rattle.clr_store.specs.Stored.{fits_columns, has_key, rows_in};
 
 use crate::fault::StoreFault;
 use crate::sql::{delete_sql, insert_sql, keys_in, select_sql};
@@ -23,9 +23,11 @@ pub(crate) fn insert_row<S: Alter>(
 ) -> Result<(), StoreFault>
     requires { fits_columns (columns_in table) (bound row.now) ≡ true }
     ensures same_reference { tx.new.conn.ghost_name ≡ tx.old.conn.ghost_name }
-    ensures step { Steps (state S.Store tx.old.conn.now) (state S.Store tx.new.conn.now) (with_rows table (λ rows. bound row.now ∷ rows)) result }
+    ensures step { Steps (state S.Store tx.old.conn.now) (state S.Store tx.new.conn.now)
+        (with_rows table (λ rows. bound row.now ∷ rows)) result }
     ensures fault { IfErr result IsOfDatabase }
-    ensures survives { Survives (state S.Store tx.old.conn.now) (state S.Store tx.new.conn.now) (λ _. ⊥) }
+    ensures survives { Survives (state S.Store tx.old.conn.now) (state S.Store tx.new.conn.now)
+        (λ _. ⊥) }
 {
     tx.execute(insert_sql(table), row)?;
     Ok(())
@@ -39,9 +41,11 @@ pub(crate) fn delete_row<S: Alter>(
 ) -> Result<(), StoreFault>
     requires { has_key (keys_in table) (bound key.now) ≡ true }
     ensures same_reference { tx.new.conn.ghost_name ≡ tx.old.conn.ghost_name }
-    ensures step { Steps (state S.Store tx.old.conn.now) (state S.Store tx.new.conn.now) (with_rows table (without_table_row (keys_in table) (bound key.now))) result }
+    ensures step { Steps (state S.Store tx.old.conn.now) (state S.Store tx.new.conn.now)
+        (with_rows table (without_table_row (keys_in table) (bound key.now))) result }
     ensures fault { IfErr result IsOfDatabase }
-    ensures survives { Survives (state S.Store tx.old.conn.now) (state S.Store tx.new.conn.now) (λ _. ⊥) }
+    ensures survives { Survives (state S.Store tx.old.conn.now) (state S.Store tx.new.conn.now)
+        (λ _. ⊥) }
 {
     tx.execute(delete_sql(table), key)?;
     Ok(())
@@ -53,9 +57,11 @@ pub(crate) fn list_rows<S: Alter>(
     table: TableName,
 ) -> Result<Vec<Row>, StoreFault>
     ensures same_reference { tx.new.conn.ghost_name ≡ tx.old.conn.ghost_name }
-    ensures step { Lists (state S.Store tx.old.conn.now) (state S.Store tx.new.conn.now) table (λ rows. rows.items) result }
+    ensures step { Lists (state S.Store tx.old.conn.now) (state S.Store tx.new.conn.now)
+        (rows_in table) (λ rows. rows.items) result }
     ensures fault { IfErr result IsOfDatabase }
-    ensures survives { Survives (state S.Store tx.old.conn.now) (state S.Store tx.new.conn.now) (λ _. ⊥) }
+    ensures survives { Survives (state S.Store tx.old.conn.now) (state S.Store tx.new.conn.now)
+        (λ _. ⊥) }
 {
     let rows = tx.query_all(select_sql(table), &[])?;
     Ok(rows)

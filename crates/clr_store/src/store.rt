@@ -2,16 +2,21 @@
 ghost use Rattle.std.specs.Prelude.{◌≡◌, false, pos, IsTrue, IfErr, IfOk, Ok, OnErr, OnOk};
 ghost use Rattle.sqlite.specs.Held.{state};
 ghost use Rattle.sqlite.specs.State.{HasCleanDisk, Survives};
-ghost use Rattle.clr_rules.specs.Register.{opening};
-ghost use Rattle.clr_tables.specs.RowsRead.{read_version};
+ghost use Rattle.clr_rules.specs.Good.{IsGood};
+ghost use Rattle.clr_rules.specs.Register.{Register, opening};
+ghost use Rattle.clr_tables.specs.RowsRead.{read_version, rows_read};
 ghost use Rattle.clr_tables.specs.Tables.{Tables, tables_of};
+ghost use Rattle.clr_tables.specs.TypedRows.{IsTyped};
 ghost use Rattle.clr_store.specs.Stored.{AreTables, HasTables};
 ghost use Rattle.clr_store.specs.Fault.{IsOfDatabase};
-ghost use Rattle.clr_store.specs.Contract.{AreEdited, IsSaved, MakesEdits, RefusesVersion};
+ghost use Rattle.clr_store.specs.Contract.{AreEdited, GivesRows, IsSaved, MakesEdits};
+ghost use Rattle.clr_store.specs.Contract.{RefusesVersion};
 
 use crate::create::make_register;
 use crate::edits::make_all;
 use crate::fault::StoreFault;
+use crate::load::load_rows;
+use crate::rows::Rows;
 use crate::version::read_version;
 use clr_csv::Staff;
 use clr_net::Network;
@@ -21,8 +26,7 @@ use std::marker::Model;
 
 /// The register of a database. Between calls no transaction is open.
 ///
-/// A store makes the tables, opens them and writes changes into them. No call reads a register back from them yet:
-/// of a database that is opened, only the version is read.
+/// A store makes the tables or opens them, reads them back and writes changes into them.
 #[derive(Drop)]
 pub struct Store<S: Alter + Drop> {
     connection: Connection<S>,
@@ -51,18 +55,27 @@ pub struct Back<S: Alter + Drop> {
 impl<S: Alter + Drop> Store<S> {
     /// Makes the tables of an opening register in a database that is empty, in one transaction.
     ///
-    /// `Sql` where anything is in the database already, a transaction is open, or the database fails; `NoMemory` where
-    /// memory runs out. A fault hands the connection back, with the database as it was.
+    /// `Sql` where anything is in the database already, a transaction is open, or the database
+    /// fails; `NoMemory` where memory runs out. A fault hands the connection back, with the
+    /// database as it was.
     pub fn create(
         mut connection: Connection<S>,
         network: &Network,
         staff: &Staff,
     ) -> Result<Store<S>, Back<S>>
-        ensures made { IfOk result (λ store. HasCleanDisk (state S.Store store) → IsSaved (state S.Store store) × HasTables (state S.Store store).now (tables_of (opening network.now staff.now))) }
+        ensures made { IfOk result (λ store. HasCleanDisk (state S.Store store)
+            → IsSaved (state S.Store store) × HasTables (state S.Store store).now
+            (tables_of (opening network.now staff.now))) }
         ensures fault { IfErr result (λ back. IsOfDatabase back.fault) }
-        ensures none { IfErr result (λ back. HasCleanDisk (state S.Store back.connection) → IsTrue (state S.Store back.connection).is_open → (state S.Store back.connection).now ≡ (state S.Store connection).now) }
-        ensures crash_made { IfOk result (λ store. Survives (state S.Store connection) (state S.Store store) (λ trees. AreTables trees (tables_of (opening network.now staff.now)))) }
-        ensures crash_none { IfErr result (λ back. Survives (state S.Store connection) (state S.Store back.connection) (λ trees. AreTables trees (tables_of (opening network.now staff.now)))) }
+        ensures none { IfErr result (λ back. HasCleanDisk (state S.Store back.connection)
+            → IsTrue (state S.Store back.connection).is_open
+            → (state S.Store back.connection).now ≡ (state S.Store connection).now) }
+        ensures crash_made { IfOk result (λ store. Survives (state S.Store connection)
+            (state S.Store store) (λ trees. AreTables trees (tables_of
+            (opening network.now staff.now)))) }
+        ensures crash_none { IfErr result (λ back. Survives (state S.Store connection)
+            (state S.Store back.connection) (λ trees. AreTables trees
+            (tables_of (opening network.now staff.now)))) }
     {
         if !connection.is_autocommit() {
             let fault = StoreFault::Sql;
@@ -76,16 +89,25 @@ impl<S: Alter + Drop> Store<S> {
 
     /// Opens the store of a database that has the tables, and changes nothing.
     ///
-    /// `Sql` where it has no tables or a transaction is open, `BadRow` of `meta` where that has no version,
-    /// `WrongVersion` where the version is not the one that is read. The other rows are not looked at. A fault hands
-    /// the connection back.
+    /// `Sql` where it has no tables or a transaction is open, `BadRow` of `meta` where that has no
+    /// version, `WrongVersion` where the version is not the one that is read. The other rows are
+    /// not looked at. A fault hands the connection back.
     pub fn open(mut connection: Connection<S>) -> Result<Store<S>, Back<S>>
-        ensures opened { IfOk result (λ store. HasCleanDisk (state S.Store store) → IsTrue (state S.Store store).is_open → (state S.Store store).now ≡ (state S.Store connection).now) }
-        ensures version { IfOk result (λ store. HasCleanDisk (state S.Store store) → (t : Tables) → HasTables (state S.Store connection).now t → read_version t.meta ≡ Ok (pos 1)) }
-        ensures none { IfErr result (λ back. HasCleanDisk (state S.Store back.connection) → IsTrue (state S.Store back.connection).is_open → (state S.Store back.connection).now ≡ (state S.Store connection).now) }
-        ensures refused { IfErr result (λ back. HasCleanDisk (state S.Store back.connection) → (t : Tables) → HasTables (state S.Store connection).now t → RefusesVersion (read_version t.meta) back.fault) }
-        ensures crash_opened { IfOk result (λ store. Survives (state S.Store connection) (state S.Store store) (λ _. ⊥)) }
-        ensures crash_none { IfErr result (λ back. Survives (state S.Store connection) (state S.Store back.connection) (λ _. ⊥)) }
+        ensures opened { IfOk result (λ store. HasCleanDisk (state S.Store store)
+            → IsTrue (state S.Store store).is_open → (state S.Store store).now
+            ≡ (state S.Store connection).now) }
+        ensures version { IfOk result (λ store. HasCleanDisk (state S.Store store) → (t : Tables)
+            → HasTables (state S.Store connection).now t → read_version t.meta ≡ Ok (pos 1)) }
+        ensures none { IfErr result (λ back. HasCleanDisk (state S.Store back.connection)
+            → IsTrue (state S.Store back.connection).is_open
+            → (state S.Store back.connection).now ≡ (state S.Store connection).now) }
+        ensures refused { IfErr result (λ back. HasCleanDisk (state S.Store back.connection)
+            → (t : Tables) → HasTables (state S.Store connection).now t
+            → RefusesVersion (read_version t.meta) back.fault) }
+        ensures crash_opened { IfOk result (λ store. Survives (state S.Store connection)
+            (state S.Store store) (λ _. ⊥)) }
+        ensures crash_none { IfErr result (λ back. Survives (state S.Store connection)
+            (state S.Store back.connection) (λ _. ⊥)) }
     {
         if !connection.is_autocommit() {
             let fault = StoreFault::Sql;
@@ -109,15 +131,44 @@ impl<S: Alter + Drop> Store<S> {
         self.connection
     }
 
+    /// Reads all rows of the tables, in one transaction that changes nothing.
+    ///
+    /// `BadRow` names the first table, of meta, section, point, staff, clearance, step and hold,
+    /// with a row that reads no value of its type. `Sql` where the database refuses or fails,
+    /// `NoMemory` where memory runs out. `WrongVersion` never comes: `open` has asked for the
+    /// version, and the rows tell it.
+    pub fn load(&mut self) -> Result<Rows, StoreFault>
+        ensures rows { HasCleanDisk (state S.Store self.new) → (t : Tables)
+            → HasTables (state S.Store self.old).now t → GivesRows (rows_read t) result }
+        ensures register { HasCleanDisk (state S.Store self.new) → (R : Register) → IsGood R
+            → IsTyped R → HasTables (state S.Store self.old).now (tables_of R)
+            → GivesBack R result }
+        ensures saved { HasCleanDisk (state S.Store self.new)
+            → IsTrue (state S.Store self.new).is_open → IsSaved (state S.Store self.new) }
+        ensures same { HasCleanDisk (state S.Store self.new)
+            → IsTrue (state S.Store self.new).is_open
+            → (state S.Store self.new).now ≡ (state S.Store self.old).now }
+        ensures crash { Survives (state S.Store self.old) (state S.Store self.new) (λ _. ⊥) }
+    {
+        load_rows(&mut self.connection)
+    }
+
     /// Makes the edits of a change, in one transaction.
     ///
-    /// `Sql` where the database refuses or fails, `NoMemory` where memory runs out. On a fault none of the edits is made.
+    /// `Sql` where the database refuses or fails, `NoMemory` where memory runs out. On a fault none
+    /// of the edits is made.
     pub fn commit(&mut self, change: &Change) -> Result<(), StoreFault>
-        ensures made { HasCleanDisk (state S.Store self.new) → OnOk result (MakesEdits (state S.Store self.old).now change.now.edits (state S.Store self.new).now) }
-        ensures saved { HasCleanDisk (state S.Store self.new) → OnOk result (IsSaved (state S.Store self.new)) }
+        ensures made { HasCleanDisk (state S.Store self.new)
+            → OnOk result (MakesEdits (state S.Store self.old).now change.now.edits
+            (state S.Store self.new).now) }
+        ensures saved { HasCleanDisk (state S.Store self.new)
+            → OnOk result (IsSaved (state S.Store self.new)) }
         ensures fault { IfErr result IsOfDatabase }
-        ensures none { HasCleanDisk (state S.Store self.new) → IsTrue (state S.Store self.new).is_open → OnErr result ((state S.Store self.new).now ≡ (state S.Store self.old).now) }
-        ensures crash { Survives (state S.Store self.old) (state S.Store self.new) (AreEdited (state S.Store self.old).now change.now.edits) }
+        ensures none { HasCleanDisk (state S.Store self.new)
+            → IsTrue (state S.Store self.new).is_open → OnErr result
+            ((state S.Store self.new).now ≡ (state S.Store self.old).now) }
+        ensures crash { Survives (state S.Store self.old) (state S.Store self.new)
+            (AreEdited (state S.Store self.old).now change.now.edits) }
     {
         commit_change(&mut self.connection, change)
     }
@@ -126,11 +177,15 @@ impl<S: Alter + Drop> Store<S> {
 /// Makes the edits in one transaction, or none.
 fn commit_change<S: Alter>(conn: &mut Connection<S>, change: &Change) -> Result<(), StoreFault>
     ensures mode { conn.old.in_transaction ≡ false → conn.new.in_transaction ≡ false }
-    ensures made { HasCleanDisk (state S.Store conn.new) → OnOk result (MakesEdits (state S.Store conn.old).now change.now.edits (state S.Store conn.new).now) }
-    ensures saved { HasCleanDisk (state S.Store conn.new) → OnOk result (IsSaved (state S.Store conn.new)) }
+    ensures made { HasCleanDisk (state S.Store conn.new) → OnOk result
+        (MakesEdits (state S.Store conn.old).now change.now.edits (state S.Store conn.new).now) }
+    ensures saved { HasCleanDisk (state S.Store conn.new) → OnOk result
+        (IsSaved (state S.Store conn.new)) }
     ensures fault { IfErr result IsOfDatabase }
-    ensures none { HasCleanDisk (state S.Store conn.new) → IsTrue (state S.Store conn.new).is_open → OnErr result ((state S.Store conn.new).now ≡ (state S.Store conn.old).now) }
-    ensures crash { Survives (state S.Store conn.old) (state S.Store conn.new) (AreEdited (state S.Store conn.old).now change.now.edits) }
+    ensures none { HasCleanDisk (state S.Store conn.new) → IsTrue (state S.Store conn.new).is_open
+        → OnErr result ((state S.Store conn.new).now ≡ (state S.Store conn.old).now) }
+    ensures crash { Survives (state S.Store conn.old) (state S.Store conn.new)
+        (AreEdited (state S.Store conn.old).now change.now.edits) }
 {
     if !conn.is_autocommit() {
         return Err(StoreFault::Sql);

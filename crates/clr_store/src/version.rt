@@ -43,7 +43,7 @@ fn version_row(rows: &[Row]) -> Option<&Row>
 }
 
 /// The version that the rows of `meta` tell.
-fn version_in(rows: &[Row]) -> Result<i64, TableName>
+pub(crate) fn version_in(rows: &[Row]) -> Result<i64, TableName>
     ensures { result ≡ read_version rows.now }
 {
     match version_row(rows) {
@@ -55,8 +55,10 @@ fn version_in(rows: &[Row]) -> Result<i64, TableName>
 /// Reads the version, in a transaction that changes nothing.
 pub(crate) fn read_version<S: Alter>(conn: &mut Connection<S>) -> Result<i64, StoreFault>
     ensures mode { conn.old.in_transaction ≡ false → conn.new.in_transaction ≡ false }
-    ensures version { HasCleanDisk (state S.Store conn.new) → (t : Tables) → HasTables (state S.Store conn.old).now t → Tells (read_version t.meta) result }
-    ensures same { HasCleanDisk (state S.Store conn.new) → IsTrue (state S.Store conn.new).is_open → (state S.Store conn.new).now ≡ (state S.Store conn.old).now }
+    ensures version { HasCleanDisk (state S.Store conn.new) → (t : Tables)
+        → HasTables (state S.Store conn.old).now t → Tells (read_version t.meta) result }
+    ensures same { HasCleanDisk (state S.Store conn.new) → IsTrue (state S.Store conn.new).is_open
+        → (state S.Store conn.new).now ≡ (state S.Store conn.old).now }
     ensures survives { Survives (state S.Store conn.old) (state S.Store conn.new) (λ _. ⊥) }
 {
     if !conn.is_autocommit() {

@@ -1,0 +1,21 @@
+//! All rows of the tables, as they are loaded.
+use clr_csv::StaffRow;
+use clr_net::{PointRow, SectionRow};
+use clr_rules::{Hold, PointState, Record, StepRow};
+
+/// All rows of the tables, each list in the order of its key.
+#[derive(Debug, Drop)]
+pub struct Rows {
+    /// The version that `meta` tells.
+    pub version: i64,
+    pub sections: Vec<SectionRow>,
+    /// The switching points, each in its present position.
+    pub points: Vec<PointRow>,
+    /// The states of the same points, in the same order: position and hand.
+    pub states: Vec<PointState>,
+    pub staff: Vec<StaffRow>,
+    /// Clearances and switch orders.
+    pub records: Vec<Record>,
+    pub steps: Vec<StepRow>,
+    pub holds: Vec<Hold>,
+}
