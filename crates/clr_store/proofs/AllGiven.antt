@@ -23,5 +23,5 @@ pub gives_back : (R : Register) (read : Result Rows TableName) (result : Result 
 gives_back R read (Ok rows) is gives = same_value (sym gives ∙ is)
 gives_back R read (Err Sql) is gives = tt
 gives_back R read (Err NoMemory) is gives = tt
-gives_back R read (Err (BadRow t)) is gives = let h : Ok (rows_of R) ≡ Err t = sym is ∙ gives in absurd (grind (arith, h))
+gives_back R read (Err (BadRow t)) is gives = let h : Ok (rows_of R) ≡ Err t = sym is ∙ gives in absurd cc
 gives_back R read (Err (WrongVersion n)) is gives = absurd gives

@@ -7,20 +7,20 @@ use Rattle.clr_tables.specs.declared.table_name.TableName.{TableName}
 use Rattle.clr_store.proofs.Effects.{same_value}
 
 -- what a row reads as, in front of what the others read as
-in_front : {A : Type 0} → Result A TableName → Result (List A) TableName → Result (List A) TableName
+abbrev in_front : {A : Type 0} → Result A TableName → Result (List A) TableName → Result (List A) TableName
 in_front first rest = first >>= λ x. rest >>= λ xs. Ok (x ∷ xs)
 
 -- where the rows before are read, so is one before them
 in_front_more : {A : Type 0} (first : Result A TableName) (before after : Result (List A) TableName) (xs : List A) (x : A)
     → ((ys : List A) → before ≡ Ok ys → after ≡ Ok (ys ++ x ∷ [])) → in_front first before ≡ Ok xs → in_front first after ≡ Ok (xs ++ x ∷ [])
-in_front_more (Err t) before after xs x more h = absurd (grind (arith, h))
-in_front_more (Ok y) (Err t) after xs x more h = absurd (grind (arith, h))
+in_front_more (Err t) before after xs x more h = absurd cc
+in_front_more (Ok y) (Err t) after xs x more h = absurd cc
 in_front_more (Ok y) (Ok ys) after xs x more h = rw (more ys refl) (ap (λ l. Ok (l ++ x ∷ [])) (same_value h))
 
 in_front_fails : {A : Type 0} (first : Result A TableName) (before after : Result (List A) TableName) (xs : List A) (t : TableName)
     → ((ys : List A) → before ≡ Ok ys → after ≡ Err t) → in_front first before ≡ Ok xs → in_front first after ≡ Err t
-in_front_fails (Err u) before after xs t more h = absurd (grind (arith, h))
-in_front_fails (Ok y) (Err u) after xs t more h = absurd (grind (arith, h))
+in_front_fails (Err u) before after xs t more h = absurd cc
+in_front_fails (Ok y) (Err u) after xs t more h = absurd cc
 in_front_fails (Ok y) (Ok ys) after xs t more h = rw (more ys refl) refl
 
 -- one row more

@@ -197,7 +197,7 @@ listed old new name rows inside shown =
 
 -- ---- one thing found after another
 pub then_finds : {A B : Type 0} (a b c : State) (f : Tables → A) (g : Tables → B) (x : A) (y : B)
-    → Finds a b f x → Finds b c g y → Finds a c (λ t. (f t, g t)) (x, y)
+    → Finds a b f x → Finds b c g y → Finds {A = A × B} a c (λ t. (f t, g t)) (x, y)
 then_finds a b c f g x y p q = record {
   inside = q.inside;
   kept = then_kept a b c p.kept q.kept;

@@ -9,8 +9,8 @@ ghost use Rattle.clr_tables.specs.Tables.{Tables, tables_of};
 ghost use Rattle.clr_tables.specs.TypedRows.{IsTyped};
 ghost use Rattle.clr_store.specs.Stored.{AreTables, HasTables};
 ghost use Rattle.clr_store.specs.Fault.{IsOfDatabase};
-ghost use Rattle.clr_store.specs.Contract.{AreEdited, GivesRows, IsSaved, MakesEdits};
-ghost use Rattle.clr_store.specs.Contract.{RefusesVersion};
+ghost use Rattle.clr_store.specs.Contract.{AreEdited, GivesBack, GivesRows};
+ghost use Rattle.clr_store.specs.Contract.{IsSaved, MakesEdits, RefusesVersion};
 
 use crate::create::make_register;
 use crate::edits::make_all;

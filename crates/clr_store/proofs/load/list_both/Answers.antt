@@ -1,6 +1,6 @@
-use Rattle.std.proofs.Common.{arith}
+use Rattle.std.proofs.Common.{arith, rules}
 use Rattle.sqlite.specs.Held.{state}
-use Rattle.sqlite.specs.State.{HasCleanDisk}
+use Rattle.sqlite.specs.State.{HasCleanDisk, KeepsCommit}
 use Rattle.clr_store.specs.Stored.{rows_in}
 use Rattle.clr_store.proofs.Inside.{then_kept}
 use Rattle.clr_store.proofs.Loading.{then_finds}
@@ -23,4 +23,5 @@ returns-in_err-second-clause-step g c clean inside =
     let new = state g.S.Store c.list_rows-2.new.tx.conn.now in
     let early : HasCleanDisk mid = omega (arith, c.list_rows-2.ensures.survives.clean) in
     let one = c.in_ok-first.ensures.step early inside in
-    then_kept old mid new one.kept (c.in_err-second.ensures.step clean one.inside)
+    let kept : KeepsCommit old new = then_kept old mid new one.kept (c.in_err-second.ensures.step clean one.inside) in
+    search rules

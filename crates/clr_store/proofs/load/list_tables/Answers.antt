@@ -1,9 +1,6 @@
-use Rattle.std.proofs.Common.{arith, refl}
+use Rattle.std.proofs.Common.{arith, rules}
 use Rattle.sqlite.specs.Held.{state}
-use Rattle.sqlite.specs.State.{HasCleanDisk}
-use Rattle.clr_tables.specs.declared.table_name.TableName.TheVariants.{Meta, Section, Point, Staff, Clearance, Step, Hold}
-use Rattle.clr_store.specs.Listed.{both_of}
-use Rattle.clr_store.specs.Stored.{rows_in}
+use Rattle.sqlite.specs.State.{HasCleanDisk, KeepsCommit}
 use Rattle.clr_store.proofs.Inside.{then_kept}
 use Rattle.clr_store.proofs.Loading.{all_found, then_finds}
 use Rattle.clr_store.proofs.load.list_tables.Goals as goal
@@ -32,7 +29,8 @@ returns-in_err-network-clause-step g c clean inside =
     let b = state g.S.Store c.list_both.new.tx.conn.now in
     let clean_a : HasCleanDisk a = omega (arith, c.list_both.ensures.survives.clean) in
     let meta = c.in_ok-meta.ensures.step clean_a inside in
-    then_kept old a b meta.kept (c.in_err-network.ensures.step clean meta.inside)
+    let kept : KeepsCommit old b = then_kept old a b meta.kept (c.in_err-network.ensures.step clean meta.inside) in
+    search rules
 
 pub returns-in_err-people-clause-step : goal.returns-in_err-people-clause-step
 returns-in_err-people-clause-step g c clean inside =
@@ -44,7 +42,8 @@ returns-in_err-people-clause-step g c clean inside =
     let clean_a : HasCleanDisk a = omega (arith, c.list_both.ensures.survives.clean) in
     let meta = c.in_ok-meta.ensures.step clean_a inside in
     let network = c.in_ok-network.ensures.step clean_b meta.inside in
-    then_kept old b d (then_kept old a b meta.kept network.kept) (c.in_err-people.ensures.step clean network.inside)
+    let kept : KeepsCommit old d = then_kept old b d (then_kept old a b meta.kept network.kept) (c.in_err-people.ensures.step clean network.inside) in
+    search rules
 
 pub returns-in_err-work-clause-step : goal.returns-in_err-work-clause-step
 returns-in_err-work-clause-step g c clean inside =
@@ -59,5 +58,6 @@ returns-in_err-work-clause-step g c clean inside =
     let meta = c.in_ok-meta.ensures.step clean_a inside in
     let network = c.in_ok-network.ensures.step clean_b meta.inside in
     let people = c.in_ok-people.ensures.step clean_d network.inside in
-    then_kept old d new (then_kept old b d (then_kept old a b meta.kept network.kept) people.kept)
-    (c.in_err-work.ensures.step clean people.inside)
+    let kept : KeepsCommit old new = then_kept old d new (then_kept old b d (then_kept old a b meta.kept network.kept) people.kept)
+    (c.in_err-work.ensures.step clean people.inside) in
+    search rules
