@@ -1,5 +1,6 @@
 -- The rows of a table, read one after the other.
 use Rattle.std.proofs.Common.{◌≡◌, ◌+◌, ◌<◌, ◌≤◌, ℕ, zero, suc, List, [], ◌∷◌, ◌++◌, take, get_or, length, Result, Ok, Err, refl, sym, ap, ◌∙◌, arith}
+use Rattle.std.proofs.lemmas.List.{take_more}
 use Rattle.sqlite.specs.Order.{Row}
 use Rattle.clr_csv.specs.Rows.{◌>>=◌}
 use Rattle.clr_tables.specs.RowsRead.{all_read}
@@ -24,16 +25,21 @@ in_front_fails (Ok y) (Err u) after xs t more h = absurd cc
 in_front_fails (Ok y) (Ok ys) after xs t more h = rw (more ys refl) refl
 
 -- one row more
-pub read_more : {A : Type 0} (read : Row → Result A TableName) (rows : List Row) (k : ℕ) (row : Row) (xs : List A) (x : A)
-    → k < length rows → row ≡ get_or rows k row → read row ≡ Ok x → all_read read (take k rows) ≡ Ok xs → all_read read (take (k + 1) rows) ≡ Ok (xs ++ x ∷ [])
+read_append : {A : Type 0} (read : Row → Result A TableName) (rows : List Row) (row : Row) (xs : List A) (x : A)
+    → read row ≡ Ok x → all_read read rows ≡ Ok xs → all_read read (rows ++ row ∷ []) ≡ Ok (xs ++ x ∷ [])
 unfolding all_read
-read_more read [] k row xs x within is gives so = absurd (omega arith)
-read_more read (r ∷ rows) zero row xs x within is gives so =
-    let none = same_value so in
-    let first : read r ≡ Ok x = ap read (sym is) ∙ gives in
-    rw first (ap (λ l. Ok (l ++ x ∷ [])) none)
-read_more read (r ∷ rows) (suc k) row xs x within is gives so =
-    in_front_more (read r) (all_read read (take k rows)) (all_read read (take (k + 1) rows)) xs x (λ ys f. read_more read rows k row ys x (omega arith) is gives f) so
+read_append read [] row xs x gives so = rw gives (ap (λ l. Ok (l ++ x ∷ [])) (same_value so))
+read_append read (r ∷ rows) row xs x gives so =
+    in_front_more (read r) (all_read read rows) (all_read read (rows ++ row ∷ [])) xs x
+    (λ ys f. read_append read rows row ys x gives f) so
+
+pub read_more : {A : Type 0} (read : Row → Result A TableName) (rows : List Row) (k : ℕ) (row : Row) (xs : List A) (x : A)
+    → k < length rows → row ≡ get_or rows k row → read row ≡ Ok x → all_read read (take k rows) ≡ Ok xs
+    → all_read read (take (k + 1) rows) ≡ Ok (xs ++ x ∷ [])
+read_more read rows k row xs x within is gives so =
+    let more : take (k + 1) rows ≡ take k rows ++ row ∷ [] =
+    take_more rows k row within ∙ ap (λ r. take k rows ++ r ∷ []) (sym is) in
+    ap (all_read read) more ∙ read_append read (take k rows) row xs x gives so
 
 -- a row that does not read, after others that do
 pub read_fails : {A : Type 0} (read : Row → Result A TableName) (rows : List Row) (k : ℕ) (row : Row) (xs : List A) (t : TableName)

@@ -207,44 +207,36 @@ then_finds a b c f g x y p q = record {
       (λ i. (first.0 i, second.0 i), second.1);
 }
 
--- what is found of the same tables, told in another way
-pub finds_as : {A B : Type 0} (a b : State) (f : Tables → A) (g : Tables → B) (k : A → B) (x : A)
-    → ((t : Tables) → k (f t) ≡ g t) → Finds a b f x → Finds a b g (k x)
-finds_as a b f g k x same p = record {
-  inside = p.inside;
-  kept = p.kept;
-  found_is = λ t has ordered.
-      let it = p.found_is t has ordered in
-      (ap k it.0 ∙ same t, it.1);
-}
-
--- the rows of meta, and then of the other tables two at a time
-abbrev Pair : Type 0
-Pair = List Row × List Row
-
-abbrev found_tables : ((List Row × Pair) × Pair) × Pair → Tables
-found_tables (((meta, (sections, points)), (staff, clearances)), (steps, holds)) = record {
-  meta = meta;
-  sections = sections;
-  points = points;
-  staff = staff;
-  clearances = clearances;
-  steps = steps;
-  holds = holds;
-}
-
--- where the rows of all tables are found, the tables are
-pub all_found : (old new : State) (meta : List Row) (network people work : List Row × List Row)
-    → Finds old new (λ t. (((rows_in Meta t, both_of Section Point t), both_of Staff Clearance t), both_of Step Hold t))
-    (((meta, network), people), work)
-    → Finds old new (λ t. t) (record {
+-- the rows of all tables, found one after the other, are the tables
+pub all_found : (old a b c new : State) (meta sections points staff clearances steps holds : List Row)
+    → Finds old a (rows_in Meta) meta → Finds a b (both_of Section Point) (sections, points)
+    → Finds b c (both_of Staff Clearance) (staff, clearances) → Finds c new (both_of Step Hold) (steps, holds)
+    → Finds {A = Tables} old new (λ t. t) (record {
       meta = meta;
-      sections = network.0;
-      points = network.1;
-      staff = people.0;
-      clearances = people.1;
-      steps = work.0;
-      holds = work.1;
+      sections = sections;
+      points = points;
+      staff = staff;
+      clearances = clearances;
+      steps = steps;
+      holds = holds;
     })
-all_found old new meta network people work found =
-    finds_as old new _ (λ t. t) found_tables (((meta, network), people), work) (λ t. refl) found
+all_found old a b c new meta sections points staff clearances steps holds p q r s = record {
+  inside = s.inside;
+  kept = then_kept old c new (then_kept old b c (then_kept old a b p.kept q.kept) r.kept) s.kept;
+  found_is = λ t has ordered.
+      let one = p.found_is t has ordered in
+      let two = q.found_is t one.1 ordered in
+      let three = r.found_is t two.1 ordered in
+      let four = s.found_is t three.1 ordered in (
+        λ i. record {
+          meta = one.0 i;
+          sections = (two.0 i).0;
+          points = (two.0 i).1;
+          staff = (three.0 i).0;
+          clearances = (three.0 i).1;
+          steps = (four.0 i).0;
+          holds = (four.0 i).1;
+        },
+        four.1,
+      );
+}

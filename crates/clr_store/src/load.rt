@@ -120,8 +120,8 @@ pub(crate) fn load_rows<S: Alter>(conn: &mut Connection<S>) -> Result<Rows, Stor
     ensures mode { conn.old.in_transaction ≡ false → conn.new.in_transaction ≡ false }
     ensures rows { HasCleanDisk (state S.Store conn.new) → (t : Tables)
         → HasTables (state S.Store conn.old).now t → GivesRows (rows_read t) result }
-    ensures saved { HasCleanDisk (state S.Store conn.new) → IsTrue (state S.Store conn.new).is_open
-        → IsSaved (state S.Store conn.new) }
+    ensures saved { conn.old.in_transaction ≡ false → HasCleanDisk (state S.Store conn.new)
+        → IsTrue (state S.Store conn.new).is_open → IsSaved (state S.Store conn.new) }
     ensures same { HasCleanDisk (state S.Store conn.new) → IsTrue (state S.Store conn.new).is_open
         → (state S.Store conn.new).now ≡ (state S.Store conn.old).now }
     ensures survives { Survives (state S.Store conn.old) (state S.Store conn.new) (λ _. ⊥) }

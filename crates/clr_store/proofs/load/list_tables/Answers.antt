@@ -2,7 +2,7 @@ use Rattle.std.proofs.Common.{arith, rules}
 use Rattle.sqlite.specs.Held.{state}
 use Rattle.sqlite.specs.State.{HasCleanDisk, KeepsCommit}
 use Rattle.clr_store.proofs.Inside.{then_kept}
-use Rattle.clr_store.proofs.Loading.{all_found, then_finds}
+use Rattle.clr_store.proofs.Loading.{all_found}
 use Rattle.clr_store.proofs.load.list_tables.Goals as goal
 
 pub returns-clause-step : goal.returns-clause-step
@@ -19,8 +19,7 @@ returns-clause-step g c clean inside =
     let network = c.in_ok-network.ensures.step clean_b meta.inside in
     let people = c.in_ok-people.ensures.step clean_d network.inside in
     let work = c.in_ok-work.ensures.step clean people.inside in
-    all_found old new _ _ _ _
-    (then_finds old d new _ _ _ _ (then_finds old b d _ _ _ _ (then_finds old a b _ _ _ _ meta network) people) work)
+    all_found old a b d new _ _ _ _ _ _ _ meta network people work
 
 pub returns-in_err-network-clause-step : goal.returns-in_err-network-clause-step
 returns-in_err-network-clause-step g c clean inside =

@@ -1,0 +1,26 @@
+use Rattle.std.proofs.Common.{◌≡◌, rules, subst}
+use Rattle.sqlite.specs.Held.{state}
+use Rattle.sqlite.specs.State.{HasCleanDisk}
+use Rattle.clr_tables.proofs.TablesRead.{tables_are_read}
+use Rattle.clr_tables.specs.RowsRead.{rows_read}
+use Rattle.clr_tables.specs.Tables.{Tables, tables_of}
+use Rattle.clr_store.specs.Contract.{GivesRows}
+use Rattle.clr_store.specs.Stored.{HasTables}
+use Rattle.clr_store.proofs.AllGiven.{gives_back}
+use Rattle.clr_store.proofs.store.Store.load.Goals as goal
+
+pub returns-clause-rows : goal.returns-clause-rows
+returns-clause-rows g c =
+    let new = state g.S.Store c.load_rows.new.conn in
+    let is : c.self.inside.connection ≡ c.args.self.now = search rules in
+    subst (λ h. HasCleanDisk new → (t : Tables) → HasTables (state g.S.Store h).now t → GivesRows (rows_read t) c.load_rows.result)
+    is c.load_rows.ensures.rows
+
+pub returns-clause-register : goal.returns-clause-register
+returns-clause-register g c clean R good typed has =
+    let new = state g.S.Store c.load_rows.new.conn in
+    let is : c.self.inside.connection ≡ c.args.self.now = search rules in
+    let rows = subst (λ h. HasCleanDisk new → (t : Tables) → HasTables (state g.S.Store h).now t → GivesRows (rows_read t) c.load_rows.result)
+    is c.load_rows.ensures.rows in
+    gives_back R (rows_read (tables_of R)) c.load_rows.result
+    (tables_are_read R good.points_known.states good.in_order typed) (rows clean (tables_of R) has)
