@@ -2,7 +2,9 @@
 //! that do not read.
 use crate::books::{hold, record, stands, step};
 use crate::worked::{worked_network, worked_staff};
-use clr_book::{Change, ClearanceId, Edit, Edits, Hold, HoldKind, Phase, PointState, Record, StepRow};
+use clr_book::{
+    Change, ClearanceId, Edit, Edits, Hold, HoldKind, Phase, PointState, Record, StepRow,
+};
 use clr_net::Position;
 use clr_order::StepState;
 use clr_store::{Rows, Store, StoreFault};
@@ -117,10 +119,12 @@ fn has_held(rows: &Rows, held: &Held) -> bool {
 fn is_worked(alloc: Global, rows: &Rows) -> Result<bool, Fail> {
     let network = worked_network(alloc)?;
     let staff = worked_staff(alloc)?;
-    Ok(rows.version == 1
-        && rows.sections.as_slice() == network.sections()
-        && rows.points.len() == network.points().len()
-        && rows.staff.as_slice() == staff.rows())
+    Ok(
+        rows.version == 1
+            && rows.sections.as_slice() == network.sections()
+            && rows.points.len() == network.points().len()
+            && rows.staff.as_slice() == staff.rows(),
+    )
 }
 
 #[test]
@@ -176,8 +180,14 @@ fn point_with_half_a_hand(rt: HostRuntime) -> Result<(), Fail> {
 #[test]
 fn rows_that_do_not_read(rt: HostRuntime) -> Result<(), Fail> {
     for (statement, table) in [
-        ("UPDATE section SET source = 2 WHERE name = 'L2'", TableName::Section),
-        ("UPDATE staff SET role = 'chief' WHERE name = 'KIM'", TableName::Staff),
+        (
+            "UPDATE section SET source = 2 WHERE name = 'L2'",
+            TableName::Section,
+        ),
+        (
+            "UPDATE staff SET role = 'chief' WHERE name = 'KIM'",
+            TableName::Staff,
+        ),
         (
             "INSERT INTO clearance VALUES ('JONES', 1, 'JONES', 'L2', 'Open', 100)",
             TableName::Clearance,
@@ -186,7 +196,10 @@ fn rows_that_do_not_read(rt: HostRuntime) -> Result<(), Fail> {
             "INSERT INTO step VALUES ('JONES', 1, 256, 1, 'Open', 'S2', 'Waiting', NULL)",
             TableName::Step,
         ),
-        ("INSERT INTO hold VALUES ('Tag', 'S2', 'JONES', 0)", TableName::Hold),
+        (
+            "INSERT INTO hold VALUES ('Tag', 'S2', 'JONES', 0)",
+            TableName::Hold,
+        ),
     ] {
         let fault = fault_of_loading(rt.alloc(), statement)?;
         assert_eq!(rt; fault, Some(StoreFault::BadRow(table)));

@@ -127,8 +127,8 @@ id_unless (Blob n) w row h = refl
 pub is_text_at : (t : TableName) (place : ℕ) (row : Row) (text : List ℕ) → column row place ≡ Text text → IsUtf8 text → utf8_at t place row ≡ Ok text
 is_text_at t place row text is utf8 = rw (is, is_utf8-from_IsUtf8 text utf8) refl
 
-pub is_no_text_at : (t : TableName) (place : ℕ) (row : Row) (text : List ℕ) → column row place ≡ Text text → ¬ IsUtf8 text → utf8_at t place row ≡ Err t
-is_no_text_at t place row text is isnt = rw is (at (is_utf8 text) refl)
+pub no_text_at : (t : TableName) (place : ℕ) (row : Row) (text : List ℕ) → column row place ≡ Text text → ¬ IsUtf8 text → utf8_at t place row ≡ Err t
+no_text_at t place row text is isnt = rw is (at (is_utf8 text) refl)
   where
     at : (b : Bool) → is_utf8 text ≡ b → (if b then Ok text else Err t) ≡ Err t
     at false e = refl

@@ -18,7 +18,7 @@ use sqlite::Row;
 use sqlite::types::ValueRef;
 
 /// A text.
-#[tactic(auto, using(crate::proofs::TextsRead::is_text_at, crate::proofs::TextsRead::is_no_text_at))]
+#[tactic(auto, using(crate::proofs::TextsRead::is_text_at, crate::proofs::TextsRead::no_text_at))]
 fn text_at(table: TableName, place: usize, row: &Row) -> Result<&str, TableName>
     ensures { Reads (λ text. text.now) (utf8_at table place row.now) result }
 {

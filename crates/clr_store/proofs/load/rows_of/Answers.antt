@@ -27,8 +27,8 @@ returns-in_err-sections c =
     let v : read_version t.meta ≡ Ok c.in_ok-version.version =
     sym (c.version_in.ensures ∙ ap read_version c.deref.ensures.value) ∙ c.in_ok-version.was in
     let told : c.from_residual-in_err-sections.result ≡ Err c.in_err-sections.field-0.0 = search rules in
-    let fails : (bad : TableName) → all_read read_section c.deref-2.result.now ≡ Err bad → rows_read t ≡ Err bad = λ bad e.
-    let here : all_read read_section t.sections ≡ Err bad = ap (all_read read_section) (sym c.deref-2.ensures.value) ∙ e in
+    let fails : (bad : TableName) → all_read read_section c.deref-2.result.now ≡ Err bad → rows_read t ≡ Err bad = λ bad is.
+    let here : all_read read_section t.sections ≡ Err bad = ap (all_read read_section) (sym c.deref-2.ensures.value) ∙ is in
     joined t ∙ (λ i. rows_joined (v i) (here i) (all_read read_point t.points) (all_read read_staff t.staff) (all_read read_clearance t.clearances) (all_read read_step t.steps) (all_read read_hold t.holds)) in
     subst (GivesRows (rows_read t)) (sym told)
     (fault_gives rows_told (all_read read_section c.deref-2.result.now) (rows_read t) c.in_err-sections.field-0.0 fails c.in_err-sections.ensures)
@@ -41,8 +41,8 @@ returns-in_err-read c =
     let s : all_read read_section t.sections ≡ Ok c.in_ok-sections.sections.items =
     ap (all_read read_section) (sym c.deref-2.ensures.value) ∙ c.in_ok-sections.ensures in
     let told : c.from_residual-in_err-read.result ≡ Err c.in_err-read.field-0.0 = search rules in
-    let fails : (bad : TableName) → all_read point_values c.deref-3.result.now ≡ Err bad → rows_read t ≡ Err bad = λ bad e.
-    let here : all_read read_point t.points ≡ Err bad = points_fail t.points bad (ap (all_read point_values) (sym c.deref-3.ensures.value) ∙ e) in
+    let fails : (bad : TableName) → all_read point_values c.deref-3.result.now ≡ Err bad → rows_read t ≡ Err bad = λ bad is.
+    let here : all_read read_point t.points ≡ Err bad = points_fail t.points bad (ap (all_read point_values) (sym c.deref-3.ensures.value) ∙ is) in
     joined t ∙ (λ i. rows_joined (v i) (s i) (here i) (all_read read_staff t.staff) (all_read read_clearance t.clearances) (all_read read_step t.steps) (all_read read_hold t.holds)) in
     subst (GivesRows (rows_read t)) (sym told)
     (fault_gives rows_told (all_read point_values c.deref-3.result.now) (rows_read t) c.in_err-read.field-0.0 fails c.in_err-read.ensures)
@@ -58,8 +58,8 @@ returns-in_err-staff c =
     ap (all_read point_values) (sym c.deref-3.ensures.value) ∙ c.in_ok-read.ensures in
     let them = points_are t.points _ p in
     let told : c.from_residual-in_err-staff.result ≡ Err c.in_err-staff.field-0.0 = search rules in
-    let fails : (bad : TableName) → all_read read_staff c.deref-4.result.now ≡ Err bad → rows_read t ≡ Err bad = λ bad e.
-    let here : all_read read_staff t.staff ≡ Err bad = ap (all_read read_staff) (sym c.deref-4.ensures.value) ∙ e in
+    let fails : (bad : TableName) → all_read read_staff c.deref-4.result.now ≡ Err bad → rows_read t ≡ Err bad = λ bad is.
+    let here : all_read read_staff t.staff ≡ Err bad = ap (all_read read_staff) (sym c.deref-4.ensures.value) ∙ is in
     joined t ∙ (λ i. rows_joined (v i) (s i) (them.read_is i) (here i) (all_read read_clearance t.clearances) (all_read read_step t.steps) (all_read read_hold t.holds)) in
     subst (GivesRows (rows_read t)) (sym told)
     (fault_gives rows_told (all_read read_staff c.deref-4.result.now) (rows_read t) c.in_err-staff.field-0.0 fails c.in_err-staff.ensures)
@@ -77,8 +77,8 @@ returns-in_err-records c =
     let e : all_read read_staff t.staff ≡ Ok c.in_ok-staff.staff.items =
     ap (all_read read_staff) (sym c.deref-4.ensures.value) ∙ c.in_ok-staff.ensures in
     let told : c.from_residual-in_err-records.result ≡ Err c.in_err-records.field-0.0 = search rules in
-    let fails : (bad : TableName) → all_read read_clearance c.deref-5.result.now ≡ Err bad → rows_read t ≡ Err bad = λ bad e.
-    let here : all_read read_clearance t.clearances ≡ Err bad = ap (all_read read_clearance) (sym c.deref-5.ensures.value) ∙ e in
+    let fails : (bad : TableName) → all_read read_clearance c.deref-5.result.now ≡ Err bad → rows_read t ≡ Err bad = λ bad is.
+    let here : all_read read_clearance t.clearances ≡ Err bad = ap (all_read read_clearance) (sym c.deref-5.ensures.value) ∙ is in
     joined t ∙ (λ i. rows_joined (v i) (s i) (them.read_is i) (e i) (here i) (all_read read_step t.steps) (all_read read_hold t.holds)) in
     subst (GivesRows (rows_read t)) (sym told)
     (fault_gives rows_told (all_read read_clearance c.deref-5.result.now) (rows_read t) c.in_err-records.field-0.0 fails c.in_err-records.ensures)
@@ -98,8 +98,8 @@ returns-in_err-steps c =
     let r : all_read read_clearance t.clearances ≡ Ok c.in_ok-records.records.items =
     ap (all_read read_clearance) (sym c.deref-5.ensures.value) ∙ c.in_ok-records.ensures in
     let told : c.from_residual-in_err-steps.result ≡ Err c.in_err-steps.field-0.0 = search rules in
-    let fails : (bad : TableName) → all_read read_step c.deref-6.result.now ≡ Err bad → rows_read t ≡ Err bad = λ bad e.
-    let here : all_read read_step t.steps ≡ Err bad = ap (all_read read_step) (sym c.deref-6.ensures.value) ∙ e in
+    let fails : (bad : TableName) → all_read read_step c.deref-6.result.now ≡ Err bad → rows_read t ≡ Err bad = λ bad is.
+    let here : all_read read_step t.steps ≡ Err bad = ap (all_read read_step) (sym c.deref-6.ensures.value) ∙ is in
     joined t ∙ (λ i. rows_joined (v i) (s i) (them.read_is i) (e i) (r i) (here i) (all_read read_hold t.holds)) in
     subst (GivesRows (rows_read t)) (sym told)
     (fault_gives rows_told (all_read read_step c.deref-6.result.now) (rows_read t) c.in_err-steps.field-0.0 fails c.in_err-steps.ensures)
@@ -121,8 +121,8 @@ returns-in_err-holds c =
     let w : all_read read_step t.steps ≡ Ok c.in_ok-steps.steps.items =
     ap (all_read read_step) (sym c.deref-6.ensures.value) ∙ c.in_ok-steps.ensures in
     let told : c.from_residual-in_err-holds.result ≡ Err c.in_err-holds.field-0.0 = search rules in
-    let fails : (bad : TableName) → all_read read_hold c.deref-7.result.now ≡ Err bad → rows_read t ≡ Err bad = λ bad e.
-    let here : all_read read_hold t.holds ≡ Err bad = ap (all_read read_hold) (sym c.deref-7.ensures.value) ∙ e in
+    let fails : (bad : TableName) → all_read read_hold c.deref-7.result.now ≡ Err bad → rows_read t ≡ Err bad = λ bad is.
+    let here : all_read read_hold t.holds ≡ Err bad = ap (all_read read_hold) (sym c.deref-7.ensures.value) ∙ is in
     joined t ∙ (λ i. rows_joined (v i) (s i) (them.read_is i) (e i) (r i) (w i) (here i)) in
     subst (GivesRows (rows_read t)) (sym told)
     (fault_gives rows_told (all_read read_hold c.deref-7.result.now) (rows_read t) c.in_err-holds.field-0.0 fails c.in_err-holds.ensures)
