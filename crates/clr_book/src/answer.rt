@@ -1,6 +1,7 @@
 //! The book's answer to a command.
 ghost use Rattle.std.specs.Prelude.{◌≡◌, false, IfOk, OnErr};
 ghost use Rattle.clr_rules.specs.Answer.{Answer, answer, answer_with};
+ghost use Rattle.clr_rules.specs.Edits.{edited_all};
 ghost use Rattle.clr_rules.specs.Good.{IsGood};
 ghost use Rattle.clr_rules.specs.Near.{Near, near_of};
 ghost use Rattle.clr_rules.specs.Run.{after};
@@ -34,6 +35,10 @@ impl<P: Shelf<PointState>, C: Shelf<Record>, T: Shelf<StepRow>, H: Shelf<Hold>> 
     /// Where memory is refused the book stays as it is.
     pub fn answer_and_apply(&mut self, command: &Command) -> Result<Reply, AllocError>
         ensures good { IsGood self.old.register → IsGood self.new.register }
+        ensures lent { let near = near_of self.old.register command.now in
+            let told = answer_with (Near.known near) (Near.rows near) command.now in
+            IfOk result (λ reply. (Answer.reply told ≡ reply)
+            × (edited_all (Answer.edits told) self.old.register ≡ self.new.register)) }
         ensures whole { IsGood self.old.register → IfOk result (λ reply.
             (Answer.reply (answer self.old.register command.now) ≡ reply)
             × (after self.old.register command.now ≡ self.new.register)) }
