@@ -66,6 +66,7 @@ fn fault_of_loading(alloc: Global, statement: &str) -> Result<Option<StoreFault>
 }
 
 /// What JONES/1 has after its first step and an instruct of the second, at S2 and S3.
+#[derive(Drop)]
 struct Held {
     states: [PointState; 2],
     record: Record,
