@@ -3,7 +3,7 @@ use Rattle.std.proofs.Common.{◌≡◌, ◌<◌, ℕ, ◌+◌, true, List, [], 
 use Rattle.std.proofs.lemmas.List.{append_assoc, drop_more}
 use Rattle.clr_net.specs.Name.{name_cmp}
 use Rattle.clr_shelf.specs.Rows.{in_key_order, with_row}
-use Rattle.clr_rules.specs.Edits.{edited, edited_all}
+use Rattle.clr_rules.specs.Edits.{after_edit, after_edits}
 use Rattle.clr_rules.specs.Register.{Register}
 use Rattle.clr_rules.specs.States.{state_key}
 use Rattle.clr_rules.specs.declared.change.Edit.{Edit}
@@ -19,13 +19,13 @@ drop_step xs ys i x same is inside =
 
 -- an edit is made, in the room for it and for those after it
 pub edit_step : (edit : Edit) (rest : List Edit) (before after : Shelved) → Fits (needs (edit ∷ rest)) before.room → Fits before.room (need_of edit after.room)
-    → after.register ≡ edited edit before.register
-    → Fits (needs rest) after.room × (edited_all rest after.register ≡ edited_all (edit ∷ rest) before.register)
-unfolding edited_all
-edit_step edit rest before after fits left made = (room_left edit (needs rest) before.room after.room fits left, ap (edited_all rest) made)
+    → after.register ≡ after_edit edit before.register
+    → Fits (needs rest) after.room × (after_edits rest after.register ≡ after_edits (edit ∷ rest) before.register)
+unfolding after_edits
+edit_step edit rest before after fits left made = (room_left edit (needs rest) before.room after.room fits left, ap (after_edits rest) made)
 
-pub edits_end : (R : Register) → edited_all [] R ≡ R
-unfolding edited_all
+pub edits_end : (R : Register) → after_edits [] R ≡ R
+unfolding after_edits
 edits_end R = refl
 
 -- a state is put behind those of lower points

@@ -2,11 +2,11 @@
 use Rattle.std.proofs.Common.{◌≡◌, true, false, List, [], ◌∷◌, Some, None, Option, refl, sym, ◌∙◌, ap}
 use Rattle.std.proofs.lemmas.Bool.{and_parts}
 use Rattle.std.specs.List.{list_all}
-use Rattle.clr_rules.specs.Answer.{Answer, answer_with, card_of, concerned, first_refusal, settled, told, told_after}
+use Rattle.clr_rules.specs.Answer.{Answer, answer_with, card_of, reply_clearance, first_refusal, answer_by_checks, reply_of, reply_after}
 use Rattle.clr_rules.specs.Commands.{Known, checks}
 use Rattle.clr_rules.specs.Commands.{edits_of}
 use Rattle.clr_rules.specs.Command.{named_clearance}
-use Rattle.clr_rules.specs.Edits.{edited, edited_all}
+use Rattle.clr_rules.specs.Edits.{after_edit, after_edits}
 use Rattle.clr_rules.specs.Id.{Id}
 use Rattle.clr_rules.specs.Records.{record_of}
 use Rattle.clr_rules.specs.Register.{Register}
@@ -20,18 +20,18 @@ use Rattle.clr_rules.specs.declared.refusal.Refusal.{Refusal}
 use Rattle.clr_rules.specs.declared.reply.Reply.{Reply}
 use Rattle.clr_rules.specs.declared.reply.Reply.TheVariants.{Accepted}
 use Rattle.clr_rules.specs.declared.step_row.StepRow.{StepRow}
-use Rattle.clr_book.specs.Decision.{accepted_with, ended, is_question}
+use Rattle.clr_book.specs.Decision.{accepted_with, all_edits, is_question}
 use Rattle.clr_book.specs.Effect.{leaves_rows}
 use Rattle.clr_book.proofs.BookEdits.{edits_end}
 use Rattle.clr_book.proofs.CardFacts.{answer_of, record_after}
 
 -- the answer that a first refusal gives, or none
 pub settled_by : (k : Known) (R : Register) (q : Command) (refusal : Option Refusal) → first_refusal (checks k R q.caller q.moment q.kind) ≡ refusal
-    → answer_with k R q ≡ settled k R q refusal
-settled_by k R q refusal is = ap (settled k R q) is
+    → answer_with k R q ≡ answer_by_checks k R q refusal
+settled_by k R q refusal is = ap (answer_by_checks k R q) is
 
 -- a command that does not only ask is told the card
-tells_card : (k : Known) (S : Register) (kind : Kind) (r : Record) → is_question kind ≡ false → told k S kind (Some r) ≡ Accepted (card_of S r)
+tells_card : (k : Known) (S : Register) (kind : Kind) (r : Record) → is_question kind ≡ false → reply_of k S kind (Some r) ≡ Accepted (card_of S r)
 tells_card k S (Request section) r changes = refl
 tells_card k S (Order c points tasks) r changes = refl
 tells_card k S (Instruct c n) r changes = refl
@@ -54,29 +54,29 @@ tells_card k S (Show c) r changes = cc changes
 -- where its edits end with the record that the command is about, that is the card that is told
 pub accepted : (k : Known) (R : Register) (q : Command) (lead : List Edit) (r : Record) (rows : List StepRow)
     → first_refusal (checks k R q.caller q.moment q.kind) ≡ None → is_question q.kind ≡ false
-    → edits_of k.greatest R q.caller q.moment q.kind ≡ ended lead r rows
-    → r.id ≡ concerned k.greatest q.caller (named_clearance q.kind)
+    → edits_of k.greatest R q.caller q.moment q.kind ≡ all_edits lead r rows
+    → r.id ≡ reply_clearance k.greatest q.caller (named_clearance q.kind)
     → answer_with k R q ≡ accepted_with R lead r rows
 accepted k R q lead r rows passes changes made own =
-    let S = edited_all (ended lead r rows) R in
-    let told_with : List Edit → Answer = λ edits. answer_of (told_after k (edited_all edits R) q.caller q.kind) edits in
-    let found : record_of S.records (concerned k.greatest q.caller (named_clearance q.kind)) ≡ Some r = ap (record_of S.records) (sym own) ∙ record_after lead r rows R in
-    ap (settled k R q) passes ∙ ap told_with made
-    ∙ ap (λ reply. answer_of reply (ended lead r rows)) (ap (told k S q.kind) found ∙ tells_card k S q.kind r changes)
+    let S = after_edits (all_edits lead r rows) R in
+    let told_with : List Edit → Answer = λ edits. answer_of (reply_after k (after_edits edits R) q.caller q.kind) edits in
+    let found : record_of S.records (reply_clearance k.greatest q.caller (named_clearance q.kind)) ≡ Some r = ap (record_of S.records) (sym own) ∙ record_after lead r rows R in
+    ap (answer_by_checks k R q) passes ∙ ap told_with made
+    ∙ ap (λ reply. answer_of reply (all_edits lead r rows)) (ap (reply_of k S q.kind) found ∙ tells_card k S q.kind r changes)
 
 -- one that asks is told of the register as it is
 pub asked : (k : Known) (R : Register) (q : Command) (c : Id) (reply : Reply) → q.kind ≡ Show c → first_refusal (checks k R q.caller q.moment q.kind) ≡ None
-    → told k R (Show c) (record_of R.records c) ≡ reply
+    → reply_of k R (Show c) (record_of R.records c) ≡ reply
     → answer_with k R q ≡ answer_of reply []
 asked k R q c reply is passes tells =
-    let told_now : Register → Kind → Answer = λ S kind. answer_of (told_after k S q.caller kind) (edits_of k.greatest R q.caller q.moment kind) in
-    ap (settled k R q) passes
-    ∙ ap (λ kind. answer_of (told_after k (edited_all (edits_of k.greatest R q.caller q.moment kind) R) q.caller kind) (edits_of k.greatest R q.caller q.moment kind)) is
-    ∙ ap (λ S. answer_of (told_after k S q.caller (Show c)) []) (edits_end R)
+    let told_now : Register → Kind → Answer = λ S kind. answer_of (reply_after k S q.caller kind) (edits_of k.greatest R q.caller q.moment kind) in
+    ap (answer_by_checks k R q) passes
+    ∙ ap (λ kind. answer_of (reply_after k (after_edits (edits_of k.greatest R q.caller q.moment kind) R) q.caller kind) (edits_of k.greatest R q.caller q.moment kind)) is
+    ∙ ap (λ S. answer_of (reply_after k S q.caller (Show c)) []) (edits_end R)
     ∙ ap (λ reply. answer_of reply []) tells
 
 -- edits of points and holds leave all steps as they are
-stays : (edit : Edit) (R : Register) → leaves_rows edit ≡ true → Register.steps (edited edit R) ≡ R.steps
+stays : (edit : Edit) (R : Register) → leaves_rows edit ≡ true → Register.steps (after_edit edit R) ≡ R.steps
 stays (SetPosition point position) R leaves = refl
 stays (SetHand point hand) R leaves = refl
 stays (PutHold h) R leaves = refl
@@ -84,9 +84,9 @@ stays (TakeHold h) R leaves = refl
 stays (PutRecord r) R leaves = cc
 stays (PutStep row) R leaves = cc
 
-pub steps_stay : (lead : List Edit) (R : Register) → list_all leaves_rows lead ≡ true → Register.steps (edited_all lead R) ≡ R.steps
-unfolding edited_all
+pub steps_stay : (lead : List Edit) (R : Register) → list_all leaves_rows lead ≡ true → Register.steps (after_edits lead R) ≡ R.steps
+unfolding after_edits
 steps_stay [] R leaves = refl
 steps_stay (edit ∷ lead) R leaves =
     let (first, rest) = and_parts (leaves_rows edit) (list_all leaves_rows lead) leaves in
-    steps_stay lead (edited edit R) rest ∙ stays edit R first
+    steps_stay lead (after_edit edit R) rest ∙ stays edit R first

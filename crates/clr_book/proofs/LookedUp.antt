@@ -15,7 +15,7 @@ use Rattle.clr_net.specs.Name.{name_cmp, same_name}
 use Rattle.clr_net.specs.Names.{has_name}
 use Rattle.clr_rules.specs.Id.{Id, id_cmp, id_cmp_total, same_id, same_id_ties_back}
 use Rattle.clr_rules.specs.Holds.{is_own}
-use Rattle.clr_rules.specs.Records.{greater, greatest_number, record_key, record_of}
+use Rattle.clr_rules.specs.Records.{greater_of, greatest_number, record_key, record_of}
 use Rattle.clr_book.proofs.Grouped.{group_more, groups_done, rising-rest}
 use Rattle.clr_rules.specs.declared.record.Record.{Record}
 use Rattle.clr_shelf.proofs.KeyOrder.{in_key_order-filter, in_key_order-first, in_key_order-rest}
@@ -62,7 +62,7 @@ module _ {Key Row : Type 0} (compare : Key → Key → Ordering) (key_of : Row �
 below_from_less : (a b : ℕ) → nat_cmp a b ≡ Less → a ≤ b
 below_from_less a b is = grind (arith, nat_tests)
 
-greater_above : (a b : ℕ) → a ≤ b → greater a b ≡ b
+greater_above : (a b : ℕ) → a ≤ b → greater_of a b ≡ b
 greater_above a b le = grind (arith, nat_tests)
 
 -- of two clearances of one requester, the first has the lower number
@@ -79,7 +79,7 @@ number_of (Some r) = r.id.number
 
 last_greatest : (requester : List ℕ) (a : ℕ) (r : Record) (rest : List Record) → a ≤ r.id.number
     → list_all (λ r. same_name requester r.id.requester) (r ∷ rest) ≡ true → in_key_order id_cmp record_key (r ∷ rest) ≡ true
-    → fold greater a (map (λ r. r.id.number) (r ∷ rest)) ≡ number_of (last_or (Some r) rest)
+    → fold greater_of a (map (λ r. r.id.number) (r ∷ rest)) ≡ number_of (last_or (Some r) rest)
 last_greatest requester a r [] le all ordered = greater_above a r.id.number le
 last_greatest requester a r (s ∷ rest) le all ordered =
     let r_is : same_name requester r.id.requester ≡ true = grind (arith, common_steps) in
@@ -87,7 +87,7 @@ last_greatest requester a r (s ∷ rest) le all ordered =
     let s_is : same_name requester s.id.requester ≡ true = grind (arith, common_steps) in
     let above : list_all (λ next. is_lt (id_cmp r.id next.id)) (s ∷ rest) ≡ true = in_key_order-first id_cmp record_key id_cmp_total r (s ∷ rest) ordered in
     let below : is_lt (id_cmp r.id s.id) ≡ true = first_of_all (is_lt (id_cmp r.id s.id)) (list_all (λ next. is_lt (id_cmp r.id next.id)) rest) above in
-    ap (λ n. fold greater n (map (λ r. r.id.number) (s ∷ rest))) (greater_above a r.id.number le)
+    ap (λ n. fold greater_of n (map (λ r. r.id.number) (s ∷ rest))) (greater_above a r.id.number le)
     ∙ (last_greatest requester r.id.number s rest (lower_number requester r.id s.id r_is s_is (less (id_cmp r.id s.id) below)) others
     (in_key_order-rest id_cmp record_key id_cmp_total r (s ∷ rest) ordered))
   where
@@ -97,14 +97,14 @@ last_greatest requester a r (s ∷ rest) le all ordered =
 
 last_of_requester : (requester : List ℕ) (rows : List Record)
     → list_all (λ r. same_name requester r.id.requester) rows ≡ true → in_key_order id_cmp record_key rows ≡ true
-    → number_of (last_or None rows) ≡ fold greater 0 (map (λ r. r.id.number) rows)
+    → number_of (last_or None rows) ≡ fold greater_of 0 (map (λ r. r.id.number) rows)
 last_of_requester requester [] all ordered = refl
 last_of_requester requester (r ∷ rest) all ordered = sym (last_greatest requester 0 r rest (omega arith) all ordered)
 
 -- the last record of a requester has the greatest number
 pub last_number : (requester : List ℕ) (records : List Record) → in_key_order id_cmp record_key records ≡ true
     → number_of (last_or None (filter (λ r. same_name requester r.id.requester) records))
-    ≡ fold greater 0 (map (λ r. r.id.number) (filter (λ r. same_name requester r.id.requester) records))
+    ≡ fold greater_of 0 (map (λ r. r.id.number) (filter (λ r. same_name requester r.id.requester) records))
 last_number requester records ordered =
     let p = λ (r : Record). same_name requester r.id.requester in
     last_of_requester requester (filter p records) (list_all-filtered p p (λ _ h. h) records) (in_key_order-filter id_cmp record_key id_cmp_total p records ordered)

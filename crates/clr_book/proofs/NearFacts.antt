@@ -15,7 +15,7 @@ use Rattle.clr_rules.specs.Id.{Id, same_id}
 use Rattle.clr_order.specs.Step.{task, task_points}
 use Rattle.clr_order.specs.declared.step.Step.{Step}
 use Rattle.clr_rules.specs.Fences.{touches, touching_names}
-use Rattle.clr_rules.specs.Near.{Near, is_beside, switched, switched_in}
+use Rattle.clr_rules.specs.Near.{Near, is_beside, switched_points, switched_in}
 use Rattle.clr_rules.specs.Records.{is_switch_order, record_of}
 use Rattle.clr_rules.specs.declared.command.Command.{Command}
 use Rattle.clr_rules.specs.declared.record.Record.{Record}
@@ -94,9 +94,9 @@ pub has_name-append : (first rest : List (List ℕ)) (p : List ℕ) → has_name
 has_name-append first rest p = list_any-append (same_name p) first rest
 
 -- the points near a command, by their names
-pub beside_lent : (R : Register) (q : Command) (names fence : List (List ℕ)) → names ≡ touching_names R.net (has_name fence) ++ switched R q.kind → fence ≡ fence_for R q.kind
+pub beside_lent : (R : Register) (q : Command) (names fence : List (List ℕ)) → names ≡ touching_names R.net (has_name fence) ++ switched_points R q.kind → fence ≡ fence_for R q.kind
     → has_name names ≡ is_beside R (known_of R q) q.kind
-beside_lent R q names fence are fenced = rw (are, fenced) (λ i p. has_name-append (touching_names R.net (has_name (fence_for R q.kind))) (switched R q.kind) p i)
+beside_lent R q names fence are fenced = rw (are, fenced) (λ i p. has_name-append (touching_names R.net (has_name (fence_for R q.kind))) (switched_points R q.kind) p i)
 
 -- what is lent is a register with what is known of it, if each of its parts is
 pub lent_whole : (near : Near) (known : Known) (R : Register)

@@ -6,7 +6,7 @@ use Rattle.std.proofs.lemmas.List.Folds.{list_any-append}
 use Rattle.clr_net.proofs.Walks.{one_name}
 use Rattle.clr_net.specs.Name.{same_name}
 use Rattle.clr_net.specs.Names.{has_name}
-use Rattle.clr_rules.specs.Holds.{once}
+use Rattle.clr_rules.specs.Holds.{first_of_each}
 use Rattle.clr_shelf.proofs.Lists.{filter-filter_wider}
 
 -- the names that are not among these
@@ -52,24 +52,24 @@ others_more kept p (q ∷ names) =
 
 -- a name that was met before
 pub met_before : (kept all names : List (List ℕ)) (i : ℕ) (p : List ℕ) → i < length names → p ≡ get_or names i p → has_name kept p ≡ true
-    → kept ++ others kept (once (drop i names)) ≡ all → kept ++ others kept (once (drop (i + 1) names)) ≡ all
-unfolding once
+    → kept ++ others kept (first_of_each (drop i names)) ≡ all → kept ++ others kept (first_of_each (drop (i + 1) names)) ≡ all
+unfolding first_of_each
 met_before kept all names i p inside is has before =
     let left = drop (i + 1) names in
     let here : drop i names ≡ p ∷ left = drop_more names i p inside ∙ ap (λ q. q ∷ left) (sym is) in
-    let out : others kept (once (p ∷ left)) ≡ others kept (filter (λ q. not (same_name p q)) (once left)) =
-    ap (λ b. cond (not b) (p ∷ others kept (filter (λ q. not (same_name p q)) (once left))) (others kept (filter (λ q. not (same_name p q)) (once left)))) has in
-    ap (λ rest. kept ++ rest) (sym (ap (λ rest. others kept (once rest)) here ∙ out ∙ others_without kept p (once left) has)) ∙ before
+    let out : others kept (first_of_each (p ∷ left)) ≡ others kept (filter (λ q. not (same_name p q)) (first_of_each left)) =
+    ap (λ b. cond (not b) (p ∷ others kept (filter (λ q. not (same_name p q)) (first_of_each left))) (others kept (filter (λ q. not (same_name p q)) (first_of_each left)))) has in
+    ap (λ rest. kept ++ rest) (sym (ap (λ rest. others kept (first_of_each rest)) here ∙ out ∙ others_without kept p (first_of_each left) has)) ∙ before
 
 -- and one that was not
 pub met_now : (kept all names : List (List ℕ)) (i : ℕ) (p : List ℕ) → i < length names → p ≡ get_or names i p → has_name kept p ≡ false
-    → kept ++ others kept (once (drop i names)) ≡ all → (kept ++ p ∷ []) ++ others (kept ++ p ∷ []) (once (drop (i + 1) names)) ≡ all
-unfolding once
+    → kept ++ others kept (first_of_each (drop i names)) ≡ all → (kept ++ p ∷ []) ++ others (kept ++ p ∷ []) (first_of_each (drop (i + 1) names)) ≡ all
+unfolding first_of_each
 met_now kept all names i p inside is new before =
     let left = drop (i + 1) names in
     let here : drop i names ≡ p ∷ left = drop_more names i p inside ∙ ap (λ q. q ∷ left) (sym is) in
-    let put : others kept (once (p ∷ left)) ≡ p ∷ others kept (filter (λ q. not (same_name p q)) (once left)) =
-    ap (λ b. cond (not b) (p ∷ others kept (filter (λ q. not (same_name p q)) (once left))) (others kept (filter (λ q. not (same_name p q)) (once left)))) new in
-    append_assoc kept (p ∷ []) (others (kept ++ p ∷ []) (once left))
-    ∙ ap (λ rest. kept ++ p ∷ rest) (others_more kept p (once left))
-    ∙ ap (λ rest. kept ++ rest) (sym (ap (λ rest. others kept (once rest)) here ∙ put)) ∙ before
+    let put : others kept (first_of_each (p ∷ left)) ≡ p ∷ others kept (filter (λ q. not (same_name p q)) (first_of_each left)) =
+    ap (λ b. cond (not b) (p ∷ others kept (filter (λ q. not (same_name p q)) (first_of_each left))) (others kept (filter (λ q. not (same_name p q)) (first_of_each left)))) new in
+    append_assoc kept (p ∷ []) (others (kept ++ p ∷ []) (first_of_each left))
+    ∙ ap (λ rest. kept ++ p ∷ rest) (others_more kept p (first_of_each left))
+    ∙ ap (λ rest. kept ++ rest) (sym (ap (λ rest. others kept (first_of_each rest)) here ∙ put)) ∙ before

@@ -7,7 +7,7 @@ use Rattle.clr_order.specs.declared.order_fault.OrderFault.TheVariants.{EmptyOrd
 use Rattle.clr_order.proofs.SoundOrders.{sound_from_no_fault}
 use Rattle.clr_rules.specs.Commands.{Known, checks}
 use Rattle.clr_rules.specs.Answer.{first_refusal}
-use Rattle.clr_rules.specs.Checks.{earlier, is_operator, unknown_caller, unknown_clearance, unsound_order, wrong_phase, wrong_role}
+use Rattle.clr_rules.specs.Checks.{earlier_moment, is_operator, unknown_caller, unknown_clearance, unsound_order, wrong_phase, wrong_role}
 use Rattle.clr_rules.specs.Fences.{rows_of_fence}
 use Rattle.clr_rules.specs.Id.{Id}
 use Rattle.clr_rules.specs.Records.{is_requested}
@@ -47,7 +47,7 @@ pub order_fits : (k : Known) (R : Register) (by : List ℕ) (at : ℕ) (c : Id) 
 order_fits k R by at c points tasks none =
     let f = unsound_order R k.fence points tasks in
     let e = wrong_phase R c is_requested in
-    let d = earlier R c at in
+    let d = earlier_moment R c at in
     let u = unknown_clearance R c in
     let w = wrong_role R by is_operator in
     steps_fit R k.fence points tasks

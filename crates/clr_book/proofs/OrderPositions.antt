@@ -18,9 +18,9 @@ use Rattle.clr_rules.specs.Register.{unplaced}
 use Rattle.clr_book.specs.Orders.{refusal_of}
 
 -- what is told of a first refusal is that refusal
-pub told : (fault : Option OrderFault) → refusal_of (answer_of fault) ≡ order_refusal fault
-told None = refl
-told (Some fault) = refl
+pub refusal_of_answer : (fault : Option OrderFault) → refusal_of (answer_of fault) ≡ order_refusal fault
+refusal_of_answer None = refl
+refusal_of_answer (Some fault) = refl
 
 -- which points pass a test does not hang on positions, if the test does not
 pub unplaced_kept : (q : PointRow → Bool) → ((p : PointRow) → q (unplaced p) ≡ q p) → (points : List PointRow) → filter q (map unplaced points) ≡ map unplaced (filter q points)

@@ -5,7 +5,7 @@ use Rattle.std.specs.Ordering.{is_eq}
 use Rattle.clr_shelf.specs.Rows.{with_row}
 use Rattle.clr_rules.specs.Id.{Id}
 use Rattle.clr_rules.specs.StepKey.{step_key, step_key_cmp}
-use Rattle.clr_rules.specs.Steps.{is_done, present, present_round}
+use Rattle.clr_rules.specs.Steps.{is_done, present_steps, present_round}
 use Rattle.clr_rules.specs.declared.step_row.StepRow.{StepRow}
 use Rattle.clr_book.specs.declared.card.Progress.{Progress}
 
@@ -30,6 +30,6 @@ each_once (row ∷ rows) = not (is_put rows row) && each_once rows
 abbrev pub progress_of : List StepRow → Id → Progress
 progress_of steps c = record {
   round = present_round steps c;
-  done = count_by (λ row. is_done row.step.state) (present steps c);
-  steps = length (present steps c);
+  done = count_by (λ row. is_done row.step.state) (present_steps steps c);
+  steps = length (present_steps steps c);
 }

@@ -4,7 +4,7 @@ use Rattle.clr_rules.specs.Answer.{Answer, card_of, first_refusal}
 use Rattle.clr_rules.specs.Changes.{hold_edits, position_edits, put_steps}
 use Rattle.clr_rules.specs.Records.{is_switch_order}
 use Rattle.clr_rules.specs.Commands.{checks, edits_of}
-use Rattle.clr_rules.specs.Edits.{edited_all}
+use Rattle.clr_rules.specs.Edits.{after_edits}
 use Rattle.clr_rules.specs.Near.{Near}
 use Rattle.clr_rules.specs.Register.{Register}
 use Rattle.clr_rules.specs.declared.change.Edit.{Edit}
@@ -26,16 +26,16 @@ near_refusal near by at kind = first_refusal (checks near.known near.rows by at 
 abbrev pub near_edits : Near → List ℕ → ℕ → Kind → List Edit
 near_edits near by at kind = edits_of near.known.greatest near.rows by at kind
 
-abbrev pub answered : Decision → Answer
-answered d = record { reply = d.reply; edits = d.change.edits }
+abbrev pub answer_of_decision : Decision → Answer
+answer_of_decision d = record { reply = d.reply; edits = d.change.edits }
 
 -- the edits that end with a record and steps of it
-abbrev pub ended : List Edit → Record → List StepRow → List Edit
-ended lead r rows = lead ++ PutRecord r ∷ put_steps rows
+abbrev pub all_edits : List Edit → Record → List StepRow → List Edit
+all_edits lead r rows = lead ++ PutRecord r ∷ put_steps rows
 
 -- the answer by the card of a record that is put, after other edits, and steps of it
 abbrev pub accepted_with : Register → List Edit → Record → List StepRow → Answer
-accepted_with R lead r rows = record { reply = Accepted (card_of (edited_all (ended lead r rows) R) r); edits = ended lead r rows }
+accepted_with R lead r rows = record { reply = Accepted (card_of (after_edits (all_edits lead r rows) R) r); edits = all_edits lead r rows }
 
 -- an edit, where there is one
 abbrev pub one_edit : Option Edit → List Edit

@@ -5,11 +5,11 @@ use Rattle.clr_rules.specs.Id.{Id}
 use Rattle.clr_rules.specs.declared.change.Edit.{Edit}
 use Rattle.clr_rules.specs.declared.change.Edit.TheVariants.{SetPosition, SetHand, PutHold, TakeHold, PutRecord, PutStep}
 use Rattle.clr_book.specs.Card.{each_once}
-use Rattle.clr_book.specs.Decision.{ended}
+use Rattle.clr_book.specs.Decision.{all_edits}
 use Rattle.clr_book.specs.declared.effect.Effect.{Effect}
 
 abbrev pub edits_in : Effect → List Edit
-edits_in e = ended e.lead.items e.clearance e.steps.items
+edits_in e = all_edits e.lead.items e.clearance e.steps.items
 
 -- edits of points and holds
 abbrev pub leaves_rows : Edit → Bool

@@ -1,11 +1,11 @@
 //! The book's answer to a command.
 ghost use Rattle.std.specs.Prelude.{◌≡◌, false, IfOk, OnErr};
 ghost use Rattle.clr_rules.specs.Answer.{Answer, answer, answer_with};
-ghost use Rattle.clr_rules.specs.Edits.{edited_all};
+ghost use Rattle.clr_rules.specs.Edits.{after_edits};
 ghost use Rattle.clr_rules.specs.Good.{IsGood};
 ghost use Rattle.clr_rules.specs.Near.{Near, near_of};
 ghost use Rattle.clr_rules.specs.Run.{after};
-ghost use Rattle.clr_book.specs.Decision.{ChangesIfAccepted, answered, is_accepted};
+ghost use Rattle.clr_book.specs.Decision.{ChangesIfAccepted, answer_of_decision, is_accepted};
 
 use crate::book::Book;
 use crate::decision::Decision;
@@ -20,9 +20,9 @@ impl<P: Shelf<PointState>, C: Shelf<Record>, T: Shelf<StepRow>, H: Shelf<Hold>> 
     pub fn answer(&self, command: &Command) -> Result<Decision, AllocError>
         ensures lent { IfOk result (λ d.
             answer_with (Near.known (near_of self.now.register command.now)) (Near.rows (near_of self.now.register command.now)) command.now
-            ≡ answered d) }
+            ≡ answer_of_decision d) }
         ensures whole { IsGood self.now.register
-            → IfOk result (λ d. answer self.now.register command.now ≡ answered d) }
+            → IfOk result (λ d. answer self.now.register command.now ≡ answer_of_decision d) }
         ensures nothing { IfOk result ChangesIfAccepted }
     {
         let near = self.near(command)?;
@@ -38,7 +38,7 @@ impl<P: Shelf<PointState>, C: Shelf<Record>, T: Shelf<StepRow>, H: Shelf<Hold>> 
         ensures lent { let near = near_of self.old.register command.now in
             let told = answer_with (Near.known near) (Near.rows near) command.now in
             IfOk result (λ reply. (Answer.reply told ≡ reply)
-            × (edited_all (Answer.edits told) self.old.register ≡ self.new.register)) }
+            × (after_edits (Answer.edits told) self.old.register ≡ self.new.register)) }
         ensures whole { IsGood self.old.register → IfOk result (λ reply.
             (Answer.reply (answer self.old.register command.now) ≡ reply)
             × (after self.old.register command.now ≡ self.new.register)) }

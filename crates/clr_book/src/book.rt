@@ -1,6 +1,6 @@
 //! The book: the network, the staff, and the rows of the register on four shelves.
 ghost use Rattle.std.specs.Prelude.{◌≡◌, [], IfOk, IsOk, OnOk, map, option_copied};
-ghost use Rattle.clr_rules.specs.Edits.{edited, edited_all};
+ghost use Rattle.clr_rules.specs.Edits.{after_edit, after_edits};
 ghost use Rattle.clr_rules.specs.Good.{ListsAreInOrder};
 ghost use Rattle.clr_rules.specs.Records.{record_of};
 ghost use Rattle.clr_rules.specs.Register.{Register, opening, unplaced_net};
@@ -138,7 +138,7 @@ impl<P: Shelf<PointState>, C: Shelf<Record>, T: Shelf<StepRow>, H: Shelf<Hold>> 
     /// Makes a change, in the room that `reserve` made for it.
     pub fn apply(&mut self, change: Change)
         requires { Fits (needs change.edits) self.old.room }
-        ensures register { self.new.register ≡ edited_all change.edits self.old.register }
+        ensures register { self.new.register ≡ after_edits change.edits self.old.register }
         ensures network { self.new.network ≡ self.old.network }
     {
         for edit in change.edits.as_slice() {
@@ -149,7 +149,7 @@ impl<P: Shelf<PointState>, C: Shelf<Record>, T: Shelf<StepRow>, H: Shelf<Hold>> 
     /// Makes one edit.
     fn make(&mut self, edit: &Edit)
         requires { Fits (need_of edit.now (needs [])) self.old.room }
-        ensures register { self.new.register ≡ edited edit.now self.old.register }
+        ensures register { self.new.register ≡ after_edit edit.now self.old.register }
         ensures network { self.new.network ≡ self.old.network }
         ensures room { Fits self.old.room (need_of edit.now self.new.room) }
     {

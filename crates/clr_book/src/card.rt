@@ -31,7 +31,7 @@ fn is_put(rows: &[StepRow], row: &StepRow) -> bool
 }
 
 /// The steps of a round that stay where others are put.
-fn kept(near: &Near, put: &[StepRow], id: ClearanceId, round: u8) -> Tally
+fn kept_tally(near: &Near, put: &[StepRow], id: ClearanceId, round: u8) -> Tally
     ensures steps { result.steps ≡ count_by (λ row. is_of_round id round row && not (is_put put.now row)) near.now.rows.steps }
     ensures done { result.done ≡ count_by (λ row. (is_of_round id round row && is_done row.step.state) && not (is_put put.now row)) near.now.rows.steps }
     ensures fewer { result.done ≤ result.steps }
@@ -50,7 +50,7 @@ fn kept(near: &Near, put: &[StepRow], id: ClearanceId, round: u8) -> Tally
 }
 
 /// The steps of a round among those that are put.
-fn added(put: &[StepRow], id: ClearanceId, round: u8) -> Tally
+fn added_tally(put: &[StepRow], id: ClearanceId, round: u8) -> Tally
     ensures steps { result.steps ≡ count_by (is_of_round id round) put.now }
     ensures done { result.done ≡ count_by (λ row. is_of_round id round row && is_done row.step.state) put.now }
     ensures fewer { result.done ≤ result.steps }
@@ -74,8 +74,8 @@ fn tally_of(near: &Near, put: &[StepRow], id: ClearanceId, round: u8) -> Tally
     ensures steps { result.steps ≡ length (steps_in (put_all put.now near.now.rows.steps) id round) }
     ensures done { result.done ≡ count_by (λ row. is_done row.step.state) (steps_in (put_all put.now near.now.rows.steps) id round) }
 {
-    let kept = kept(near, put, id, round);
-    let added = added(put, id, round);
+    let kept = kept_tally(near, put, id, round);
+    let added = added_tally(put, id, round);
     Tally {
         done: kept.done + added.done,
         steps: kept.steps + added.steps,

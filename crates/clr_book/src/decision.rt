@@ -1,7 +1,7 @@
 //! What is decided: a reply, and what changes.
 ghost use Rattle.std.specs.Prelude.{◌≡◌, [], IfOk};
 ghost use Rattle.clr_rules.specs.declared.reply.Reply.TheVariants as replies;
-ghost use Rattle.clr_book.specs.Decision.{ChangesIfAccepted, accepted_with, answered, ended};
+ghost use Rattle.clr_book.specs.Decision.{ChangesIfAccepted, accepted_with, answer_of_decision, all_edits};
 ghost use Rattle.clr_book.specs.Effect.{IsOf};
 
 use crate::card::{card_with, progress_with};
@@ -19,7 +19,7 @@ pub struct Decision {
 
 /// The decision to refuse, which changes nothing.
 pub(crate) fn refused(alloc: Global, refusal: Refusal) -> Decision
-    ensures answer { answered result ≡ record { reply = replies.Refused refusal; edits = [] } }
+    ensures answer { answer_of_decision result ≡ record { reply = replies.Refused refusal; edits = [] } }
     ensures nothing { ChangesIfAccepted result }
 {
     Decision {
@@ -32,7 +32,7 @@ pub(crate) fn refused(alloc: Global, refusal: Refusal) -> Decision
 
 /// The decision to show a clearance, which changes nothing.
 pub(crate) fn shown(alloc: Global, view: View) -> Decision
-    ensures answer { answered result ≡ record { reply = replies.Shown view; edits = [] } }
+    ensures answer { answer_of_decision result ≡ record { reply = replies.Shown view; edits = [] } }
     ensures nothing { ChangesIfAccepted result }
 {
     Decision {
@@ -45,7 +45,7 @@ pub(crate) fn shown(alloc: Global, view: View) -> Decision
 
 /// Edits, and behind them those that put a record and some steps.
 fn end(edits: Vec<Edit>, clearance: Record, steps: &[StepRow]) -> Result<Vec<Edit>, AllocError>
-    ensures { IfOk result (λ all. all.items ≡ ended edits.items clearance steps.now) }
+    ensures { IfOk result (λ all. all.items ≡ all_edits edits.items clearance steps.now) }
 {
     let mut all = edits;
     all.push(Edit::PutRecord(clearance))?;
@@ -58,7 +58,7 @@ fn end(edits: Vec<Edit>, clearance: Record, steps: &[StepRow]) -> Result<Vec<Edi
 /// The decision to carry a command out. The reply is the card of its record, as it is then.
 pub(crate) fn accept(near: &Near, effect: Effect) -> Result<Decision, AllocError>
     requires { IsOf effect.clearance.id effect }
-    ensures answer { IfOk result (λ d. answered d
+    ensures answer { IfOk result (λ d. answer_of_decision d
         ≡ accepted_with near.now.rows effect.lead.items effect.clearance effect.steps.items) }
     ensures something { IfOk result ChangesIfAccepted }
 {

@@ -1,11 +1,11 @@
 //! The answer to each kind of command: its checks, then what it changes.
 ghost use Rattle.std.specs.Prelude.{◌≡◌, false, IfOk, None};
-ghost use Rattle.clr_rules.specs.Answer.{answer, answer_with, concerned};
+ghost use Rattle.clr_rules.specs.Answer.{answer, answer_with, reply_clearance};
 ghost use Rattle.clr_rules.specs.Command.{named_clearance};
 ghost use Rattle.clr_rules.specs.Good.{IsGood};
 ghost use Rattle.clr_rules.specs.Near.{near_of};
 ghost use Rattle.clr_rules.specs.Register.{Register};
-ghost use Rattle.clr_book.specs.Decision.{ChangesIfAccepted, answered, is_question, near_edits, near_refusal};
+ghost use Rattle.clr_book.specs.Decision.{ChangesIfAccepted, answer_of_decision, is_question, near_edits, near_refusal};
 ghost use Rattle.clr_book.specs.Effect.{IsOf, edits_in};
 
 mod amend;
@@ -13,7 +13,7 @@ mod cancel;
 mod grant;
 mod ground;
 mod instruct;
-mod moved;
+mod step_moves;
 mod new_record;
 mod new_steps;
 mod order;
@@ -39,9 +39,9 @@ use std::alloc::AllocError;
 /// What a command is answered, and what it changes. Of a good register the near part is enough.
 pub fn decide(near: &Near, command: &Command) -> Result<Decision, AllocError>
     ensures lent { IfOk result (λ d.
-        answer_with near.now.known near.now.rows command.now ≡ answered d) }
+        answer_with near.now.known near.now.rows command.now ≡ answer_of_decision d) }
     ensures whole { (R : Register) → IsGood R → near_of R command.now ≡ near.now
-        → IfOk result (λ d. answer R command.now ≡ answered d) }
+        → IfOk result (λ d. answer R command.now ≡ answer_of_decision d) }
     ensures nothing { IfOk result ChangesIfAccepted }
 {
     let decision = decision_of(near, command)?;
@@ -51,7 +51,7 @@ pub fn decide(near: &Near, command: &Command) -> Result<Decision, AllocError>
 /// The checks refuse a command, or it is shown what it asks for, or it is carried out.
 fn decision_of(near: &Near, command: &Command) -> Result<Decision, AllocError>
     ensures answer { IfOk result (λ d.
-        answer_with near.now.known near.now.rows command.now ≡ answered d) }
+        answer_with near.now.known near.now.rows command.now ≡ answer_of_decision d) }
     ensures nothing { IfOk result ChangesIfAccepted }
 {
     if let Some(refusal) = refusal_of(near, command)? {
@@ -127,7 +127,7 @@ fn effect_of(near: &Near, command: &Command) -> Result<Effect, AllocError>
     requires passes { near_refusal near.now command.now.caller command.now.moment command.now.kind ≡ None }
     requires changes { is_question command.now.kind ≡ false }
     ensures edits { IfOk result (λ effect. near_edits near.now command.now.caller command.now.moment command.now.kind ≡ edits_in effect) }
-    ensures of { IfOk result (IsOf (concerned near.now.known.greatest command.now.caller (named_clearance command.now.kind))) }
+    ensures of { IfOk result (IsOf (reply_clearance near.now.known.greatest command.now.caller (named_clearance command.now.kind))) }
 {
     let (by, at) = (command.caller, command.moment);
     let effect = match &command.kind {

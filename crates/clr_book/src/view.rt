@@ -5,7 +5,7 @@ ghost use Rattle.clr_rules.specs.Answer.{card_of, view_of};
 ghost use Rattle.clr_rules.specs.Fences.{touches, touching_names};
 ghost use Rattle.clr_rules.specs.Holds.{in_kind_order, is_near_hold, of_kinds, places_of, same_kind};
 ghost use Rattle.clr_rules.specs.Register.{unplaced};
-ghost use Rattle.clr_rules.specs.Steps.{present, steps_in};
+ghost use Rattle.clr_rules.specs.Steps.{present_steps, steps_in};
 ghost use Rattle.clr_rules.specs.declared.hold_kind.HoldKind.TheVariants as hold_kinds;
 
 use crate::card::{card_with, progress_with};

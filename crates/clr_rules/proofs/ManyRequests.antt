@@ -5,9 +5,9 @@ use Rattle.clr_shelf.proofs.KeyOrder.{in_key_order-with_row}
 use Rattle.clr_shelf.specs.Rows.{in_key_order, with_row}
 use Rattle.clr_rules.specs.Answer.{answer}
 use Rattle.clr_rules.specs.Changes.{new_record}
-use Rattle.clr_rules.specs.Prelude.{Requested, Record, id_cmp, id_cmp_total, Register, greatest_number, record_key, edited_all}
+use Rattle.clr_rules.specs.Prelude.{Requested, Record, id_cmp, id_cmp_total, Register, greatest_number, record_key, after_edits}
 use Rattle.clr_rules.specs.ExamplesOfRefusals.{NumbersEnd, jones_requests, times}
-use Rattle.clr_rules.specs.Records.{greater}
+use Rattle.clr_rules.specs.Records.{greater_of}
 use Rattle.clr_rules.specs.Run.{after, after_all}
 use Rattle.clr_rules.specs.Worked.{JONES, L2, refused, worked_opening}
 use Rattle.clr_rules.specs.declared.refusal.Refusal.TheVariants.{TooManyClearances}
@@ -22,14 +22,14 @@ next records = with_row id_cmp record_key (new_record (greatest_number records J
 
 -- below the last number a request makes a record
 makes_next : (records : List Record) → (greatest_number records JONES == 9999) ≡ false → after (holding records) jones_requests ≡ holding (next records)
-unfolding edited_all
+unfolding after_edits
 makes_next records e = rw e refl
 
 -- at the last it is refused
 ends_there : (records : List Record) → (greatest_number records JONES == 9999) ≡ true → answer (holding records) jones_requests ≡ refused TooManyClearances
 ends_there records e = rw e refl
 
-greater_next : (n : ℕ) → greater n (n + 1) ≡ n + 1
+greater_next : (n : ℕ) → greater_of n (n + 1) ≡ n + 1
 greater_next n = grind (arith, nat_tests)
 
 -- a register with records in order, the greatest number of JONES's being n

@@ -4,7 +4,7 @@ use Rattle.clr_net.specs.Grid.{Grid}
 use Rattle.clr_net.specs.Name.{same_name}
 use Rattle.clr_net.specs.Names.{has_name}
 use Rattle.clr_rules.specs.Agreement.{Agree, part_near}
-use Rattle.clr_rules.specs.Prelude.{Edit, SetPosition, SetHand, PutHold, TakeHold, PutRecord, PutStep, Record, Id, same_id, Register, edited, edited_all}
+use Rattle.clr_rules.specs.Prelude.{Edit, SetPosition, SetHand, PutHold, TakeHold, PutRecord, PutStep, Record, Id, same_id, Register, after_edit, after_edits}
 use Rattle.clr_rules.specs.Fences.{touching_names}
 use Rattle.clr_rules.specs.Good.{ListsAreInOrder, has_record}
 use Rattle.clr_rules.specs.Holds.{is_near_hold}
@@ -59,21 +59,21 @@ pub record LeavesAlone (c : Id) (inside : List ℕ → Bool) (R : Register) (edi
 -- edits change what stands near a clearance exactly by those of them that concern it
 abbrev pub EditsChangeWhatTheyConcern : Type 0
 EditsChangeWhatTheyConcern = (R : Register) → ListsAreInOrder R → (c : Id) (inside : List ℕ → Bool) (edits : List Edit)
-    → part_near (edited_all edits R) c inside ≡ edited_all (concerning R.net c inside edits) (part_near R c inside)
+    → part_near (after_edits edits R) c inside ≡ after_edits (concerning R.net c inside edits) (part_near R c inside)
 
 -- edits that are not about a clearance change what stands near it exactly by their marks
 abbrev pub OthersChangeByMarks : Type 0
 OthersChangeByMarks = (R : Register) → ListsAreInOrder R → (c : Id) (inside : List ℕ → Bool) (edits : List Edit) → All (λ edit. is_about c edit ≡ false) edits
-    → part_near (edited_all edits R) c inside ≡ edited_all (marks_of R.net inside edits) (part_near R c inside)
+    → part_near (after_edits edits R) c inside ≡ after_edits (marks_of R.net inside edits) (part_near R c inside)
 
 -- an edit that leaves a clearance alone keeps agreement, and so does a list of such edits
 abbrev pub AnEditOfOthersKeepsAgreement : Type 0
 AnEditOfOthersKeepsAgreement = (R : Register) → ListsAreInOrder R → (c : Id) (inside : List ℕ → Bool) (edit : Edit)
-    → LeavesAlone c inside R edit → Agree c inside R (edited edit R)
+    → LeavesAlone c inside R edit → Agree c inside R (after_edit edit R)
 
 abbrev pub EditsOfOthersKeepAgreement : Type 0
 EditsOfOthersKeepAgreement = (R : Register) → ListsAreInOrder R → (c : Id) (inside : List ℕ → Bool) (edits : List Edit)
-    → All (LeavesAlone c inside R) edits → Agree c inside R (edited_all edits R)
+    → All (LeavesAlone c inside R) edits → Agree c inside R (after_edits edits R)
 
 -- registers that agree take the same edits for marks
 abbrev pub AgreeingRegistersMarkAlike : Type 0
@@ -86,9 +86,9 @@ SameMarksKeepAgreement = (R S : Register) → ListsAreInOrder R → ListsAreInOr
     → All (λ edit. is_about c edit ≡ false) left → All (λ edit. is_new_of R.records c.requester edit ≡ false) left
     → All (λ edit. is_about c edit ≡ false) right → All (λ edit. is_new_of S.records c.requester edit ≡ false) right
     → marks_of R.net inside left ≡ marks_of S.net inside right
-    → Agree c inside R S → Agree c inside (edited_all left R) (edited_all right S)
+    → Agree c inside R S → Agree c inside (after_edits left R) (after_edits right S)
 
 -- and after the same edits, whatever these are about
 abbrev pub SameEditsKeepAgreement : Type 0
 SameEditsKeepAgreement = (R S : Register) → ListsAreInOrder R → ListsAreInOrder S → (c : Id) (inside : List ℕ → Bool) (edits : List Edit)
-    → Agree c inside R S → Agree c inside (edited_all edits R) (edited_all edits S)
+    → Agree c inside R S → Agree c inside (after_edits edits R) (after_edits edits S)

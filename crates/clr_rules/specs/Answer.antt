@@ -5,7 +5,7 @@ use Rattle.std.specs.List.{count_by}
 use Rattle.clr_net.specs.Names.{has_name}
 use Rattle.clr_rules.specs.Commands.{edits_of, Known, checks}
 use Rattle.clr_rules.specs.Command.{named_clearance}
-use Rattle.clr_rules.specs.Prelude.{Edit, Command, Kind, Crew, Record, Refusal, Reply, Id, Register, greatest_number, record_of, is_done, present, present_round, places_of, edited_all}
+use Rattle.clr_rules.specs.Prelude.{Edit, Command, Kind, Crew, Record, Refusal, Reply, Id, Register, greatest_number, record_of, is_done, present_steps, present_round, places_of, after_edits}
 use Rattle.clr_rules.specs.Fences.{clearance_fence, order_fence, touching_names}
 use Rattle.clr_rules.specs.Holds.{is_near_hold, in_kind_order}
 use Rattle.clr_rules.specs.declared.command.Kind.TheVariants.{Order, Show}
@@ -15,9 +15,9 @@ use Rattle.clr_rules.specs.declared.reply.Reply.TheVariants.{Accepted, Shown, Re
 use Rattle.clr_rules.specs.declared.reply.View.{View}
 
 -- whose numbers count: those of the requester of the clearance that is named; a new clearance is the caller's
-abbrev pub numbered_for : List ℕ → Option Id → List ℕ
-numbered_for by None = by
-numbered_for by (Some c) = c.requester
+abbrev pub requester_for : List ℕ → Option Id → List ℕ
+requester_for by None = by
+requester_for by (Some c) = c.requester
 
 -- the fence of the clearance that is named
 abbrev pub named_fence : Register → Option Id → List (List ℕ)
@@ -29,7 +29,7 @@ fence_for R (Order c points tasks) = order_fence R c points
 fence_for R kind = named_fence R (named_clearance kind)
 
 abbrev pub known_of : Register → Command → Known
-known_of R q = record { greatest = greatest_number R.records (numbered_for q.caller (named_clearance q.kind)); fence = fence_for R q.kind }
+known_of R q = record { greatest = greatest_number R.records (requester_for q.caller (named_clearance q.kind)); fence = fence_for R q.kind }
 
 -- the first check that applies
 abbrev pub first_refusal : List (Option Refusal) → Option Refusal
@@ -44,8 +44,8 @@ card_of R r = record {
   phase = r.phase;
   holder = r.holder;
   round = present_round R.steps r.id;
-  done = count_by (λ row. is_done row.step.state) (present R.steps r.id);
-  steps = length (present R.steps r.id);
+  done = count_by (λ row. is_done row.step.state) (present_steps R.steps r.id);
+  steps = length (present_steps R.steps r.id);
 }
 
 -- THE VIEW of a record, with all that anybody holds at its fence
@@ -58,38 +58,38 @@ view_of k R r =
       fence = k.fence;
       holds = in_kind_order (filter (is_near_hold (has_name k.fence) touching None) R.holds);
       points = filter (λ state. touching state.point) R.states;
-      steps = map (λ row. row.step) (present R.steps r.id);
+      steps = map (λ row. row.step) (present_steps R.steps r.id);
       work = r.work;
     }
 
 -- the reply of a command that was not refused, by the record after its edits. There is one: a clearance that is named has a record,
 -- and a new one was put
-abbrev pub told : Known → Register → Kind → Option Record → Reply
-told k R kind None = Refused UnknownClearance
-told k R (Show c) (Some r) = Shown (view_of k R r)
-told k R kind (Some r) = Accepted (card_of R r)
+abbrev pub reply_of : Known → Register → Kind → Option Record → Reply
+reply_of k R kind None = Refused UnknownClearance
+reply_of k R (Show c) (Some r) = Shown (view_of k R r)
+reply_of k R kind (Some r) = Accepted (card_of R r)
 
 -- the clearance that the reply is about
-abbrev pub concerned : ℕ → List ℕ → Option Id → Id
-concerned greatest by None = record { requester = by; number = greatest + 1 }
-concerned greatest by (Some c) = c
+abbrev pub reply_clearance : ℕ → List ℕ → Option Id → Id
+reply_clearance greatest by None = record { requester = by; number = greatest + 1 }
+reply_clearance greatest by (Some c) = c
 
-abbrev pub told_after : Known → Register → List ℕ → Kind → Reply
-told_after k R by kind = told k R kind (record_of R.records (concerned k.greatest by (named_clearance kind)))
+abbrev pub reply_after : Known → Register → List ℕ → Kind → Reply
+reply_after k R by kind = reply_of k R kind (record_of R.records (reply_clearance k.greatest by (named_clearance kind)))
 
 pub record Answer : Type 0 where
   pub reply : Reply
   pub edits : List Edit
 
-abbrev pub settled : Known → Register → Command → Option Refusal → Answer
-settled k R q (Some refusal) = record { reply = Refused refusal; edits = [] }
-settled k R q None =
+abbrev pub answer_by_checks : Known → Register → Command → Option Refusal → Answer
+answer_by_checks k R q (Some refusal) = record { reply = Refused refusal; edits = [] }
+answer_by_checks k R q None =
     let edits = edits_of k.greatest R q.caller q.moment q.kind in
-    record { reply = told_after k (edited_all edits R) q.caller q.kind; edits = edits }
+    record { reply = reply_after k (after_edits edits R) q.caller q.kind; edits = edits }
 
 -- the answer from what is known beside the rows
 abbrev pub answer_with : Known → Register → Command → Answer
-answer_with k R q = settled k R q (first_refusal (checks k R q.caller q.moment q.kind))
+answer_with k R q = answer_by_checks k R q (first_refusal (checks k R q.caller q.moment q.kind))
 
 abbrev pub answer : Register → Command → Answer
 answer R q = answer_with (known_of R q) R q

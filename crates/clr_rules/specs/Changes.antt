@@ -9,7 +9,7 @@ use Rattle.clr_order.specs.declared.step.StepState.TheVariants.{Waiting, Done}
 use Rattle.clr_order.specs.declared.action.Action.TheVariants as actions
 use Rattle.clr_shelf.specs.Rows.{with_row}
 use Rattle.clr_rules.specs.Prelude.{Edit, SetPosition, SetHand, PutHold, TakeHold, PutRecord, PutStep, HeldOpen, Block, Control, Tag, Phase, Released, Closed, Record, StepRow, Id, Register, record_of, is_ordered, step_key, step_key_cmp}
-use Rattle.clr_rules.specs.Prelude.{all_done, present, step_at, has_any_hold, hold_of}
+use Rattle.clr_rules.specs.Prelude.{all_done, present_steps, step_at, has_any_hold, hold_of}
 use Rattle.clr_rules.specs.Records.{ends_with_steps, is_switch_order}
 
 -- the steps of a round, numbered from n, each Waiting and without a reader
@@ -23,8 +23,8 @@ abbrev pub put_steps : List StepRow → List Edit
 put_steps rows = map PutStep rows
 
 -- a step come to another state, with its reader
-abbrev pub moved : StepState → Option (List ℕ) → StepRow → StepRow
-moved state reader row = record row { step = record (StepRow.step row) { state = state; reader = reader } }
+abbrev pub step_moved : StepState → Option (List ℕ) → StepRow → StepRow
+step_moved state reader row = record row { step = record (StepRow.step row) { state = state; reader = reader } }
 
 -- the position that an action puts a point in
 abbrev pub position_edits : Action → List ℕ → List Edit
@@ -47,19 +47,19 @@ hold_edits switching c actions.Leave p = TakeHold (hold_of c HeldOpen p) ∷ []
 -- the phase after a step is Done: a restoring or switching order ends with its last step
 abbrev pub phase_after : List StepRow → Record → StepRow → Phase
 phase_after steps r row =
-    if ends_with_steps r.phase && all_done (present (with_row step_key_cmp step_key row steps) r.id) then Closed else r.phase
+    if ends_with_steps r.phase && all_done (present_steps (with_row step_key_cmp step_key row steps) r.id) then Closed else r.phase
 
 -- the edits of a step that is reported done
 abbrev pub done_edits : Register → ℕ → Record → StepRow → List Edit
 done_edits R at r row =
     let p = row.step.point in
-    let done = moved Done row.step.reader row in
+    let done = step_moved Done row.step.reader row in
     position_edits row.step.action p ++ SetHand p None ∷ hold_edits (is_switch_order r) r.id row.step.action p
     ++ PutRecord (record r { phase = phase_after R.steps r done; last = at }) ∷ PutStep done ∷ []
 
 -- the edits of a step that is reported not done
 abbrev pub undone_edits : ℕ → Record → StepRow → List Edit
-undone_edits at r row = SetHand row.step.point None ∷ PutRecord (record r { last = at }) ∷ PutStep (moved Waiting None row) ∷ []
+undone_edits at r row = SetHand row.step.point None ∷ PutRecord (record r { last = at }) ∷ PutStep (step_moved Waiting None row) ∷ []
 
 -- a clearance that was ordered and holds something is released, so that a restoring order can undo it; any other is closed
 abbrev pub cancelled_phase : Register → Record → Phase
@@ -79,4 +79,4 @@ abbrev pub with_record : Register → Id → (Record → List Edit) → List Edi
 with_record R c edits = edits_by (record_of R.records c) edits
 
 abbrev pub with_step : Register → Id → ℕ → (Record → StepRow → List Edit) → List Edit
-with_step R c n edits = with_record R c (λ r. edits_by (step_at (present R.steps c) n) (edits r))
+with_step R c n edits = with_record R c (λ r. edits_by (step_at (present_steps R.steps c) n) (edits r))

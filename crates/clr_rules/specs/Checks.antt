@@ -18,7 +18,7 @@ use Rattle.clr_order.specs.Switching.{switching_fault}
 use Rattle.clr_order.specs.Texts.{step_text}
 use Rattle.clr_order.specs.declared.step.StepState.{StepState}
 use Rattle.clr_rules.specs.Fences.{rows_of_fence}
-use Rattle.clr_rules.specs.Prelude.{Hold, Tested, Ground, Crew, Phase, Refusal, StepRow, Id, same_id, Register, hand_of, record_of, all_done, is_waiting, points_of, present, step_at, steps_in, steps_of, has_hold, has_some_hold}
+use Rattle.clr_rules.specs.Prelude.{Hold, Tested, Ground, Crew, Phase, Refusal, StepRow, Id, same_id, Register, hand_of, record_of, all_done, is_waiting, points_of, present_steps, step_at, steps_in, steps_of, has_hold, has_some_hold}
 use Rattle.clr_rules.specs.Holds.{held_among, hindering_hold}
 use Rattle.clr_rules.specs.Refusals.{order_refusal}
 use Rattle.clr_rules.specs.Steps.{is_close, is_in_turn, some_active}
@@ -94,8 +94,8 @@ abbrev pub may_not_transfer : Register → Id → List ℕ → Bool → Option R
 may_not_transfer R c by emergency = where_some (record_of R.records c)
     (λ r. refuse (not (same_name by r.holder || (emergency && is_supervisor (employee R.staff r.holder) by))) NotHolder)
 
-abbrev pub earlier : Register → Id → ℕ → Option Refusal
-earlier R c at = where_some (record_of R.records c) (λ r. refuse (nat_lt at r.last) Earlier)
+abbrev pub earlier_moment : Register → Id → ℕ → Option Refusal
+earlier_moment R c at = where_some (record_of R.records c) (λ r. refuse (nat_lt at r.last) Earlier)
 
 abbrev pub wrong_phase : Register → Id → (Phase → Bool) → Option Refusal
 wrong_phase R c fits = where_some (record_of R.records c) (λ r. refuse (not (fits r.phase)) WrongPhase)
@@ -118,15 +118,15 @@ wrong_switching R tasks = order_refusal (switching_fault (point_names (Grid.poin
 -- STEPS
 
 abbrev pub no_step : Register → Id → ℕ → Option Refusal
-no_step R c n = refuse (not (is_some (step_at (present R.steps c) n))) NoStep
+no_step R c n = refuse (not (is_some (step_at (present_steps R.steps c) n))) NoStep
 
 -- the steps are followed in their order. 1910.269(m)(2)(i)
 abbrev pub out_of_turn : Register → Id → ℕ → Option Refusal
-out_of_turn R c n = refuse (not (is_in_turn (present R.steps c) n)) OutOfTurn
+out_of_turn R c n = refuse (not (is_in_turn (present_steps R.steps c) n)) OutOfTurn
 
 -- a check of the step of this number in the present round
 abbrev pub at_step : Register → Id → ℕ → (StepRow → Option Refusal) → Option Refusal
-at_step R c n check = where_some (step_at (present R.steps c) n) check
+at_step R c n check = where_some (step_at (present_steps R.steps c) n) check
 
 abbrev pub wrong_state : Register → Id → ℕ → (StepState → Bool) → Option Refusal
 wrong_state R c n fits = at_step R c n (λ row. refuse (not (fits row.step.state)) WrongState)
@@ -144,8 +144,8 @@ held_by None = None
 held_by (Some h) = Some (Held h.id h.kind)
 
 -- nothing is closed while a hold stands at the point, but for the own HeldOpen. 1910.269(m)(3)(v), (xiii)
-abbrev pub held : Register → Id → ℕ → Option Refusal
-held R c n = at_step R c n (λ row. if is_close row.step.action then held_by (hindering_hold R.holds c row.step.point) else None)
+abbrev pub hold_hinders : Register → Id → ℕ → Option Refusal
+hold_hinders R c n = at_step R c n (λ row. if is_close row.step.action then held_by (hindering_hold R.holds c row.step.point) else None)
 
 abbrev pub repeat_differs : Register → Id → ℕ → List ℕ → Option Refusal
 repeat_differs R c n text = at_step R c n (λ row. refuse (not (bytes_eq (step_text (task row.step)) text)) RepeatDiffers)
@@ -174,15 +174,15 @@ outside_fence fence section = refuse (not (has_name fence section)) OutsideFence
 abbrev pub not_tested : Register → Id → List ℕ → Option Refusal
 not_tested R c section = refuse (not (has_hold R.holds c Tested section)) NotTested
 
-abbrev pub grounded_there : Register → Id → List ℕ → Option Refusal
-grounded_there R c section = refuse (has_hold R.holds c Ground section) Grounded
+abbrev pub has_ground : Register → Id → List ℕ → Option Refusal
+has_ground R c section = refuse (has_hold R.holds c Ground section) Grounded
 
 -- the clearance's grounds are off before it is released. 1910.269(m)(3)(x), (xi)
-abbrev pub grounded : Register → Id → Option Refusal
-grounded R c = refuse (has_some_hold R.holds c Ground) Grounded
+abbrev pub any_ground : Register → Id → Option Refusal
+any_ground R c = refuse (has_some_hold R.holds c Ground) Grounded
 
-abbrev pub not_grounded : Register → Id → List ℕ → Option Refusal
-not_grounded R c section = refuse (not (has_hold R.holds c Ground section)) NotGrounded
+abbrev pub no_ground : Register → Id → List ℕ → Option Refusal
+no_ground R c section = refuse (not (has_hold R.holds c Ground section)) NotGrounded
 
 -- a check of the work section; a granted record has one
 abbrev pub at_work : Register → Id → (List ℕ → Option Refusal) → Option Refusal

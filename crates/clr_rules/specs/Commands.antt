@@ -3,8 +3,8 @@
 use Rattle.std.specs.Prelude.{ℕ, if◌then◌else◌, ◌+◌, List, [], ◌∷◌, map, Option, None, Some, ◌++◌}
 use Rattle.clr_order.specs.declared.step.StepState.TheVariants.{Instructed, Repeated}
 use Rattle.clr_order.specs.declared.action.Action.TheVariants as actions
-use Rattle.clr_rules.specs.Changes.{cancelled_phase, done_edits, undone_edits, moved, new_record, new_steps, put_steps, with_record, with_step}
-use Rattle.clr_rules.specs.Checks.{bad_transfer, crew_is_off, crew_is_on, crews_on, crews_on_work, earlier, grounded, grounded_there, held, in_hand, is_charge, is_charge_or_operator, is_field, is_operator, may_not_transfer, no_step, not_a_waiting_close, not_attested, not_grounded, not_holder, not_tested, at_work, out_of_turn, outside_fence, repeat_differs, step_given_out, steps_left, too_many_clearances, unknown_caller, unknown_clearance, unknown_section, unsound_order, wrong_phase, wrong_reporter, wrong_restoring, wrong_role, wrong_state, wrong_switching}
+use Rattle.clr_rules.specs.Changes.{cancelled_phase, done_edits, undone_edits, step_moved, new_record, new_steps, put_steps, with_record, with_step}
+use Rattle.clr_rules.specs.Checks.{bad_transfer, crew_is_off, crew_is_on, crews_on, crews_on_work, earlier_moment, any_ground, has_ground, hold_hinders, in_hand, is_charge, is_charge_or_operator, is_field, is_operator, may_not_transfer, no_step, not_a_waiting_close, not_attested, no_ground, not_holder, not_tested, at_work, out_of_turn, outside_fence, repeat_differs, step_given_out, steps_left, too_many_clearances, unknown_caller, unknown_clearance, unknown_section, unsound_order, wrong_phase, wrong_reporter, wrong_restoring, wrong_role, wrong_state, wrong_switching}
 use Rattle.clr_rules.specs.Prelude.{Edit, SetHand, PutHold, TakeHold, PutRecord, PutStep, Kind, Tested, Ground, Crew, Requested, Ordered, Granted, Released, Restoring, Switching, Refusal, StepRow, Register, is_running, is_granted}
 use Rattle.clr_rules.specs.Prelude.{is_restoring, is_ordered, is_active, is_waiting, hold_of, places_of}
 use Rattle.clr_rules.specs.Records.{is_cancellable, is_released, is_requested, is_transferable}
@@ -22,49 +22,49 @@ abbrev pub checks : Known → Register → List ℕ → ℕ → Kind → List (O
 checks k R by at (kinds.Request section) =
     unknown_caller R by ∷ wrong_role R by is_charge ∷ unknown_section R section ∷ too_many_clearances k.greatest ∷ []
 checks k R by at (kinds.Order c points tasks) =
-    unknown_caller R by ∷ wrong_role R by is_operator ∷ unknown_clearance R c ∷ earlier R c at ∷ wrong_phase R c is_requested
+    unknown_caller R by ∷ wrong_role R by is_operator ∷ unknown_clearance R c ∷ earlier_moment R c at ∷ wrong_phase R c is_requested
     ∷ unsound_order R k.fence points tasks ∷ []
 checks k R by at (kinds.Instruct c n) =
-    unknown_caller R by ∷ wrong_role R by is_operator ∷ unknown_clearance R c ∷ earlier R c at ∷ wrong_phase R c is_running
-    ∷ no_step R c n ∷ out_of_turn R c n ∷ wrong_state R c n is_waiting ∷ in_hand R c n ∷ held R c n ∷ []
+    unknown_caller R by ∷ wrong_role R by is_operator ∷ unknown_clearance R c ∷ earlier_moment R c at ∷ wrong_phase R c is_running
+    ∷ no_step R c n ∷ out_of_turn R c n ∷ wrong_state R c n is_waiting ∷ in_hand R c n ∷ hold_hinders R c n ∷ []
 checks k R by at (kinds.Repeat c n text) =
-    unknown_caller R by ∷ wrong_role R by is_field ∷ unknown_clearance R c ∷ earlier R c at ∷ wrong_phase R c is_running
+    unknown_caller R by ∷ wrong_role R by is_field ∷ unknown_clearance R c ∷ earlier_moment R c at ∷ wrong_phase R c is_running
     ∷ no_step R c n ∷ wrong_state R c n is_active ∷ repeat_differs R c n text ∷ []
 checks k R by at (kinds.Report c n done) =
-    unknown_caller R by ∷ wrong_role R by is_field ∷ unknown_clearance R c ∷ earlier R c at ∷ wrong_phase R c is_running
+    unknown_caller R by ∷ wrong_role R by is_field ∷ unknown_clearance R c ∷ earlier_moment R c at ∷ wrong_phase R c is_running
     ∷ no_step R c n ∷ wrong_state R c n is_repeated ∷ wrong_reporter R c n by ∷ []
 checks k R by at (kinds.Grant c) =
-    unknown_caller R by ∷ wrong_role R by is_operator ∷ unknown_clearance R c ∷ earlier R c at ∷ wrong_phase R c is_ordered
+    unknown_caller R by ∷ wrong_role R by is_operator ∷ unknown_clearance R c ∷ earlier_moment R c at ∷ wrong_phase R c is_ordered
     ∷ steps_left R c ∷ []
 checks k R by at (kinds.Test c section dead) =
-    unknown_caller R by ∷ wrong_role R by is_charge ∷ unknown_clearance R c ∷ not_holder R c by ∷ earlier R c at
+    unknown_caller R by ∷ wrong_role R by is_charge ∷ unknown_clearance R c ∷ not_holder R c by ∷ earlier_moment R c at
     ∷ wrong_phase R c is_granted ∷ outside_fence k.fence section ∷ []
 checks k R by at (kinds.Ground c section) =
-    unknown_caller R by ∷ wrong_role R by is_charge ∷ unknown_clearance R c ∷ not_holder R c by ∷ earlier R c at
-    ∷ wrong_phase R c is_granted ∷ outside_fence k.fence section ∷ not_tested R c section ∷ grounded_there R c section ∷ []
+    unknown_caller R by ∷ wrong_role R by is_charge ∷ unknown_clearance R c ∷ not_holder R c by ∷ earlier_moment R c at
+    ∷ wrong_phase R c is_granted ∷ outside_fence k.fence section ∷ not_tested R c section ∷ has_ground R c section ∷ []
 checks k R by at (kinds.Unground c section) =
-    unknown_caller R by ∷ wrong_role R by is_charge ∷ unknown_clearance R c ∷ not_holder R c by ∷ earlier R c at
-    ∷ wrong_phase R c is_granted ∷ outside_fence k.fence section ∷ not_grounded R c section ∷ crews_on_work R c section ∷ []
+    unknown_caller R by ∷ wrong_role R by is_charge ∷ unknown_clearance R c ∷ not_holder R c by ∷ earlier_moment R c at
+    ∷ wrong_phase R c is_granted ∷ outside_fence k.fence section ∷ no_ground R c section ∷ crews_on_work R c section ∷ []
 checks k R by at (kinds.SignOn c crew) =
-    unknown_caller R by ∷ wrong_role R by is_charge ∷ unknown_clearance R c ∷ not_holder R c by ∷ earlier R c at
-    ∷ wrong_phase R c is_granted ∷ at_work R c (not_tested R c) ∷ at_work R c (not_grounded R c) ∷ crew_is_on R c crew ∷ []
+    unknown_caller R by ∷ wrong_role R by is_charge ∷ unknown_clearance R c ∷ not_holder R c by ∷ earlier_moment R c at
+    ∷ wrong_phase R c is_granted ∷ at_work R c (not_tested R c) ∷ at_work R c (no_ground R c) ∷ crew_is_on R c crew ∷ []
 checks k R by at (kinds.SignOff c crew) =
-    unknown_caller R by ∷ wrong_role R by is_charge ∷ unknown_clearance R c ∷ not_holder R c by ∷ earlier R c at
+    unknown_caller R by ∷ wrong_role R by is_charge ∷ unknown_clearance R c ∷ not_holder R c by ∷ earlier_moment R c at
     ∷ wrong_phase R c is_granted ∷ crew_is_off R c crew ∷ []
 checks k R by at (kinds.Transfer c to emergency) =
-    unknown_caller R by ∷ unknown_clearance R c ∷ may_not_transfer R c by emergency ∷ earlier R c at ∷ wrong_phase R c is_transferable
+    unknown_caller R by ∷ unknown_clearance R c ∷ may_not_transfer R c by emergency ∷ earlier_moment R c at ∷ wrong_phase R c is_transferable
     ∷ bad_transfer R c to ∷ []
 checks k R by at (kinds.Release c notified clear) =
-    unknown_caller R by ∷ wrong_role R by is_charge ∷ unknown_clearance R c ∷ not_holder R c by ∷ earlier R c at
-    ∷ wrong_phase R c is_granted ∷ crews_on R c ∷ grounded R c ∷ not_attested notified clear ∷ []
+    unknown_caller R by ∷ wrong_role R by is_charge ∷ unknown_clearance R c ∷ not_holder R c by ∷ earlier_moment R c at
+    ∷ wrong_phase R c is_granted ∷ crews_on R c ∷ any_ground R c ∷ not_attested notified clear ∷ []
 checks k R by at (kinds.Cancel c) =
-    unknown_caller R by ∷ wrong_role R by is_charge_or_operator ∷ unknown_clearance R c ∷ not_holder R c by ∷ earlier R c at
+    unknown_caller R by ∷ wrong_role R by is_charge_or_operator ∷ unknown_clearance R c ∷ not_holder R c by ∷ earlier_moment R c at
     ∷ wrong_phase R c is_cancellable ∷ step_given_out R c ∷ []
 checks k R by at (kinds.Restore c tasks) =
-    unknown_caller R by ∷ wrong_role R by is_operator ∷ unknown_clearance R c ∷ earlier R c at ∷ wrong_phase R c is_released
+    unknown_caller R by ∷ wrong_role R by is_operator ∷ unknown_clearance R c ∷ earlier_moment R c at ∷ wrong_phase R c is_released
     ∷ wrong_restoring R c tasks ∷ []
 checks k R by at (kinds.Amend c n) =
-    unknown_caller R by ∷ wrong_role R by is_operator ∷ unknown_clearance R c ∷ earlier R c at ∷ wrong_phase R c is_restoring
+    unknown_caller R by ∷ wrong_role R by is_operator ∷ unknown_clearance R c ∷ earlier_moment R c at ∷ wrong_phase R c is_restoring
     ∷ no_step R c n ∷ not_a_waiting_close R c n ∷ []
 checks k R by at (kinds.Switch tasks) =
     unknown_caller R by ∷ wrong_role R by is_operator ∷ too_many_clearances k.greatest ∷ wrong_switching R tasks ∷ []
@@ -77,9 +77,9 @@ edits_of greatest R by at (kinds.Request section) = PutRecord (new_record greate
 edits_of greatest R by at (kinds.Order c points tasks) =
     with_record R c (λ r. PutRecord (record r { phase = Ordered; last = at }) ∷ put_steps (new_steps c 1 1 tasks))
 edits_of greatest R by at (kinds.Instruct c n) = with_step R c n (λ r row.
-    SetHand row.step.point (Some c) ∷ PutRecord (record r { last = at }) ∷ PutStep (moved Instructed row.step.reader row) ∷ [])
+    SetHand row.step.point (Some c) ∷ PutRecord (record r { last = at }) ∷ PutStep (step_moved Instructed row.step.reader row) ∷ [])
 edits_of greatest R by at (kinds.Repeat c n text) = with_step R c n (λ r row.
-    PutRecord (record r { last = at }) ∷ PutStep (moved Repeated (Some by) row) ∷ [])
+    PutRecord (record r { last = at }) ∷ PutStep (step_moved Repeated (Some by) row) ∷ [])
 edits_of greatest R by at (kinds.Report c n done) = with_step R c n (λ r row. if done then done_edits R at r row else undone_edits at r row)
 edits_of greatest R by at (kinds.Grant c) = with_record R c (λ r. PutRecord (record r { phase = Granted; last = at }) ∷ [])
 edits_of greatest R by at (kinds.Test c section dead) = with_record R c (λ r.

@@ -10,7 +10,7 @@ use Rattle.clr_shelf.specs.Rows.{row_of}
 use Rattle.clr_rules.specs.Answer.{Answer, answer, first_refusal, known_of}
 use Rattle.clr_rules.specs.Commands.{checks}
 use Rattle.clr_rules.specs.Prelude.{Edit, SetPosition, SetHand, PutHold, TakeHold, PutRecord, PutStep, Command, Hold, HoldKind, PointState, Record, Refusal, StepRow, Id, id_cmp, same_id, Register, state_key, state_of, record_key}
-use Rattle.clr_rules.specs.Prelude.{record_of, step_key, step_key_cmp, hold_cmp, has_hold, hold_key, hold_of, edited, edited_all}
+use Rattle.clr_rules.specs.Prelude.{record_of, step_key, step_key_cmp, hold_cmp, has_hold, hold_key, hold_of, after_edit, after_edits}
 use Rattle.clr_rules.specs.Good.{ListsAreInOrder}
 use Rattle.clr_rules.specs.Run.{after}
 use Rattle.clr_rules.specs.declared.reply.Card.{Card}
@@ -21,12 +21,12 @@ use Rattle.clr_rules.specs.declared.step_row.StepKey.{StepKey}
 -- A RECORD THAT IS PUT is read for its clearance, and for every other clearance what was read before
 abbrev pub PutRecordReplaces : Type 0
 PutRecordReplaces = (R : Register) (r : Record) (c : Id)
-    → record_of (Register.records (edited (PutRecord r) R)) c ≡ (if same_id r.id c then Some r else record_of R.records c)
+    → record_of (Register.records (after_edit (PutRecord r) R)) c ≡ (if same_id r.id c then Some r else record_of R.records c)
 
 -- A STEP THAT IS PUT is read for its key, and for every other key what was read before
 abbrev pub PutStepReplaces : Type 0
 PutStepReplaces = (R : Register) (row : StepRow) (key : StepKey)
-    → row_of step_key_cmp step_key key (Register.steps (edited (PutStep row) R))
+    → row_of step_key_cmp step_key key (Register.steps (after_edit (PutStep row) R))
     ≡ (if is_eq (step_key_cmp (step_key row) key) then Some row else row_of step_key_cmp step_key key R.steps)
 
 -- whether a hold is that of a clearance of a kind at a place
@@ -36,12 +36,12 @@ is_hold h c kind place = is_eq (hold_cmp h (hold_of c kind place))
 -- A HOLD THAT IS PUT is there, and all others are there where they were
 abbrev pub PutHoldAdds : Type 0
 PutHoldAdds = (R : Register) (h : Hold) (c : Id) (kind : HoldKind) (place : List ℕ)
-    → has_hold (Register.holds (edited (PutHold h) R)) c kind place ≡ (is_hold h c kind place || has_hold R.holds c kind place)
+    → has_hold (Register.holds (after_edit (PutHold h) R)) c kind place ≡ (is_hold h c kind place || has_hold R.holds c kind place)
 
 -- A HOLD THAT IS TAKEN is gone, and all others are there where they were
 abbrev pub TakeHoldTakes : Type 0
 TakeHoldTakes = (R : Register) (h : Hold) (c : Id) (kind : HoldKind) (place : List ℕ)
-    → has_hold (Register.holds (edited (TakeHold h) R)) c kind place ≡ (not (is_hold h c kind place) && has_hold R.holds c kind place)
+    → has_hold (Register.holds (after_edit (TakeHold h) R)) c kind place ≡ (not (is_hold h c kind place) && has_hold R.holds c kind place)
 
 -- what is found, changed where a test says so
 abbrev pub changed_where : Bool → (PointState → PointState) → Option PointState → Option PointState
@@ -50,13 +50,13 @@ changed_where here change found = if here then option_map change found else foun
 -- A POSITION THAT IS SET is that of the point, whose hand stays, and all other points stay as they are
 abbrev pub SetPositionSets : Type 0
 SetPositionSets = (R : Register) (p : List ℕ) (position : Position) (q : List ℕ)
-    → state_of (Register.states (edited (SetPosition p position) R)) q
+    → state_of (Register.states (after_edit (SetPosition p position) R)) q
     ≡ changed_where (same_name p q) (λ state. record state { position = position }) (state_of R.states q)
 
 -- A HAND THAT IS SET is that of the point, whose position stays, and all other points stay as they are
 abbrev pub SetHandSets : Type 0
 SetHandSets = (R : Register) (p : List ℕ) (hand : Option Id) (q : List ℕ)
-    → state_of (Register.states (edited (SetHand p hand) R)) q
+    → state_of (Register.states (after_edit (SetHand p hand) R)) q
     ≡ changed_where (same_name p q) (λ state. record state { hand = hand }) (state_of R.states q)
 
 -- after a put a list has the row that was put and the rows of other keys, and no other row
@@ -71,10 +71,10 @@ HasRowTaken {Key} {Row} compare key_of key before after = (other : Row)
 
 -- EVERY OTHER ROW STAYS, and no other row comes
 pub record OtherRowsStay (R : Register) : Type 0 where
-  pub record_put : (r : Record) → HasRowPut id_cmp record_key r R.records (Register.records (edited (PutRecord r) R))
-  pub step_put : (row : StepRow) → HasRowPut step_key_cmp step_key row R.steps (Register.steps (edited (PutStep row) R))
-  pub hold_put : (h : Hold) → HasRowPut hold_cmp hold_key h R.holds (Register.holds (edited (PutHold h) R))
-  pub hold_taken : (h : Hold) → HasRowTaken hold_cmp hold_key h R.holds (Register.holds (edited (TakeHold h) R))
+  pub record_put : (r : Record) → HasRowPut id_cmp record_key r R.records (Register.records (after_edit (PutRecord r) R))
+  pub step_put : (row : StepRow) → HasRowPut step_key_cmp step_key row R.steps (Register.steps (after_edit (PutStep row) R))
+  pub hold_put : (h : Hold) → HasRowPut hold_cmp hold_key h R.holds (Register.holds (after_edit (PutHold h) R))
+  pub hold_taken : (h : Hold) → HasRowTaken hold_cmp hold_key h R.holds (Register.holds (after_edit (TakeHold h) R))
 
 abbrev pub PutsKeepOtherRows : Type 0
 PutsKeepOtherRows = (R : Register) → ListsAreInOrder R → OtherRowsStay R
@@ -100,19 +100,19 @@ edits_holds _ = false
 
 -- AN EDIT LEAVES THE REST: the network, the staff, and each list that it is not of
 pub record LeavesTheRest (edit : Edit) (R : Register) : Type 0 where
-  pub same_net : Register.net (edited edit R) ≡ R.net
-  pub same_staff : Register.staff (edited edit R) ≡ R.staff
-  pub same_states : edits_states edit ≡ false → Register.states (edited edit R) ≡ R.states
-  pub same_records : edits_records edit ≡ false → Register.records (edited edit R) ≡ R.records
-  pub same_steps : edits_steps edit ≡ false → Register.steps (edited edit R) ≡ R.steps
-  pub same_holds : edits_holds edit ≡ false → Register.holds (edited edit R) ≡ R.holds
+  pub same_net : Register.net (after_edit edit R) ≡ R.net
+  pub same_staff : Register.staff (after_edit edit R) ≡ R.staff
+  pub same_states : edits_states edit ≡ false → Register.states (after_edit edit R) ≡ R.states
+  pub same_records : edits_records edit ≡ false → Register.records (after_edit edit R) ≡ R.records
+  pub same_steps : edits_steps edit ≡ false → Register.steps (after_edit edit R) ≡ R.steps
+  pub same_holds : edits_holds edit ≡ false → Register.holds (after_edit edit R) ≡ R.holds
 
 abbrev pub EditsLeaveTheRest : Type 0
 EditsLeaveTheRest = (edit : Edit) (R : Register) → LeavesTheRest edit R
 
 -- EDITS KEEP THE ORDER of every list
 abbrev pub EditsKeepOrder : Type 0
-EditsKeepOrder = (R : Register) (edits : List Edit) → ListsAreInOrder R → ListsAreInOrder (edited_all edits R)
+EditsKeepOrder = (R : Register) (edits : List Edit) → ListsAreInOrder R → ListsAreInOrder (after_edits edits R)
 
 -- EDITS KEEP THE NETWORK, the staff, and the points that have states
 pub record KeepsNetwork (R S : Register) : Type 0 where
@@ -121,7 +121,7 @@ pub record KeepsNetwork (R S : Register) : Type 0 where
   pub same_points : map state_key S.states ≡ map state_key R.states
 
 abbrev pub EditsKeepNetwork : Type 0
-EditsKeepNetwork = (R : Register) (edits : List Edit) → ListsAreInOrder R → KeepsNetwork R (edited_all edits R)
+EditsKeepNetwork = (R : Register) (edits : List Edit) → ListsAreInOrder R → KeepsNetwork R (after_edits edits R)
 
 -- the refusal of a command: that of the first check that applies
 abbrev pub refusal_of : Register → Command → Option Refusal

@@ -38,8 +38,8 @@ steps_after (PutStep row) steps = with_row step_key_cmp step_key row steps
 steps_after _ steps = steps
 
 -- AN EDIT changes one of the lists; the network and the staff stay
-abbrev pub edited : Edit → Register → Register
-edited edit R = record R {
+abbrev pub after_edit : Edit → Register → Register
+after_edit edit R = record R {
   states = states_after edit R.states;
   holds = holds_after edit R.holds;
   records = records_after edit R.records;
@@ -47,6 +47,6 @@ edited edit R = record R {
 }
 
 -- the edits, one after the other
-unfoldable pub edited_all : List Edit → Register → Register
-edited_all [] R = R
-edited_all (edit ∷ edits) R = edited_all edits (edited edit R)
+unfoldable pub after_edits : List Edit → Register → Register
+after_edits [] R = R
+after_edits (edit ∷ edits) R = after_edits edits (after_edit edit R)

@@ -16,7 +16,7 @@ use Rattle.clr_rules.specs.Good.{is_operators}
 use Rattle.clr_rules.specs.Prelude.{SetPosition, SetHand, Command, Tag, Closed, StepRow, Register, steps_of, has_hold}
 use Rattle.clr_rules.specs.Register.{opening}
 use Rattle.clr_rules.specs.Run.{IsReached, after_all}
-use Rattle.clr_rules.specs.Shown.{covers, marks, own, own_answers, shown}
+use Rattle.clr_rules.specs.Shown.{covers, marks, own, own_answers, items_shown}
 use Rattle.clr_rules.specs.Worked.{BOSS, DALE, JONES, KIM, L1, L2, L3, OPS, REED, S2, S3, S4, Saying, T1, does, from_moment, isolating_l2_and_l3, jones_1, jones_works_and_releases, kim_1, kim_asks, l2_asked, l2_granted, l2_is_restored, ops_1, said_at, says, step_runs, worked_opening, worked_staff}
 use Rattle.clr_rules.specs.WorkedRows.{done_step, jones_record}
 use Rattle.clr_rules.specs.declared.command.Kind.TheVariants.{Request, Order, Switch}
@@ -83,15 +83,15 @@ L2CoversTheRun = covers jones_1 in_l2 register_one with_s4_switched ≡ true
 
 -- both lists show JONES/1 the same: its own 49 commands, and no mark
 abbrev pub TheListsShowTheSame : Type 0
-TheListsShowTheSame = shown jones_1 in_l2 register_one with_s4_switched ≡ shown jones_1 in_l2 register_two list_two
+TheListsShowTheSame = items_shown jones_1 in_l2 register_one with_s4_switched ≡ items_shown jones_1 in_l2 register_two list_two
 
 -- the first of them is JONES's request, with the row of the section that it asks for
 abbrev pub RequestsShowTheirSection : Type 0
-RequestsShowTheirSection = shown jones_1 in_l2 register_one (from_moment 100 l2_asked)
+RequestsShowTheirSection = items_shown jones_1 in_l2 register_one (from_moment 100 l2_asked)
     ≡ own (said_at 100 (says JONES (Request L2))) (Some (record { name = L2; source = false })) ∷ []
 
 abbrev pub FortyNineAreShown : Type 0
-FortyNineAreShown = length (shown jones_1 in_l2 register_one with_s4_switched) ≡ 49
+FortyNineAreShown = length (items_shown jones_1 in_l2 register_one with_s4_switched) ≡ 49
 
 -- AND WHAT IT GIVES
 
@@ -180,7 +180,7 @@ abbrev pub L2CoversKimsRun : Type 0
 L2CoversKimsRun = covers jones_1 in_l2 register_one with_kim ≡ true
 
 abbrev pub KimLeavesNoMark : Type 0
-KimLeavesNoMark = shown jones_1 in_l2 register_one with_kim ≡ shown jones_1 in_l2 register_two list_two
+KimLeavesNoMark = items_shown jones_1 in_l2 register_one with_kim ≡ items_shown jones_1 in_l2 register_two list_two
 
 abbrev pub KimChangesNoAnswer : Type 0
 KimChangesNoAnswer = own_answers jones_1 register_one with_kim ≡ own_answers jones_1 register_two list_two
@@ -208,13 +208,13 @@ BothSectionsCover = covers jones_1 (has_name (L2 ∷ L3 ∷ [])) register_one wi
 
 -- OPS switches S3 in place of S4, and S3 has an end in L2
 abbrev pub AnotherSwitchIsSeen : Type 0
-AnotherSwitchIsSeen = shown jones_1 in_l2 register_one with_s3_switched ≡ shown jones_1 in_l2 register_two list_two → ⊥
+AnotherSwitchIsSeen = items_shown jones_1 in_l2 register_one with_s3_switched ≡ items_shown jones_1 in_l2 register_two list_two → ⊥
 
 -- the marks of that switch order: S3 is taken in hand; then it is open, and in nobody's hand
 abbrev pub ItsMarksAreSeen : Type 0
-ItsMarksAreSeen = shown jones_1 in_l2 register_one (from_moment 100 (ops_switches S3 (codes "OPEN S3"))) ≡
+ItsMarksAreSeen = items_shown jones_1 in_l2 register_one (from_moment 100 (ops_switches S3 (codes "OPEN S3"))) ≡
     marks (SetHand S3 (Some ops_1)) [] ∷ marks (SetPosition S3 Opened) (SetHand S3 None ∷ []) ∷ []
 
 -- of S4 nothing is seen
 abbrev pub NoMarkIsSeen : Type 0
-NoMarkIsSeen = shown jones_1 in_l2 register_one (from_moment 100 (ops_switches S4 (codes "OPEN S4"))) ≡ []
+NoMarkIsSeen = items_shown jones_1 in_l2 register_one (from_moment 100 (ops_switches S4 (codes "OPEN S4"))) ≡ []

@@ -3,7 +3,7 @@ use Rattle.std.specs.Prelude.{◌≡◌, ℕ, false, true, List, [], ◌∷◌, 
 use Rattle.clr_net.specs.declared.point.Position.TheVariants.{Closed as Shut}
 use Rattle.clr_order.specs.declared.action.Action.TheVariants as actions
 use Rattle.clr_rules.specs.Answer.{Answer, answer}
-use Rattle.clr_rules.specs.Prelude.{SetHand, PutHold, TakeHold, PutRecord, Hold, HoldKind, HeldOpen, Block, Control, Tag, Tested, Ground, Crew, Requested, Released, Closed, Register, hold_of, edited_all}
+use Rattle.clr_rules.specs.Prelude.{SetHand, PutHold, TakeHold, PutRecord, Hold, HoldKind, HeldOpen, Block, Control, Tag, Tested, Ground, Crew, Requested, Released, Closed, Register, hold_of, after_edits}
 use Rattle.clr_rules.specs.ExamplesOfChanges.{both_tested}
 use Rattle.clr_rules.specs.ExamplesOfPhases.{refusal_in, refused_after}
 use Rattle.clr_rules.specs.ExamplesOfSequence.{tells}
@@ -75,12 +75,12 @@ pub record WhoMayHold : Type 0 where
 -- JONES/1 has S3 in hand already: a hand of its own does not hinder
 abbrev pub OwnHandsDoNotHinder : Type 0
 OwnHandsDoNotHinder =
-    refusal_in (Answer.reply (answer (edited_all (SetHand S3 (Some jones_1) ∷ []) (register_after s2_opened)) (said_at 200 (says OPS (Instruct jones_1 2))))) ≡ None
+    refusal_in (Answer.reply (answer (after_edits (SetHand S3 (Some jones_1) ∷ []) (register_after s2_opened)) (said_at 200 (says OPS (Instruct jones_1 2))))) ≡ None
 
 -- S2 bears a tag of JONES/1, and is held open by KIM/1: the lesser clearance is named, although its hold is of a later kind
 abbrev pub LesserClearancesAreNamed : Type 0
 LesserClearancesAreNamed =
-    answer (edited_all (PutHold (hold_of jones_1 Tag S2) ∷ PutHold (hold_of kim_1 HeldOpen S2) ∷ []) (register_after (says OPS (Switch (does actions.Close S2 ∷ [])) ∷ [])))
+    answer (after_edits (PutHold (hold_of jones_1 Tag S2) ∷ PutHold (hold_of kim_1 HeldOpen S2) ∷ []) (register_after (says OPS (Switch (does actions.Close S2 ∷ [])) ∷ [])))
     (said_at 200 (says OPS (Instruct ops_1 1))) ≡ refused (Held jones_1 Tag)
 
 -- of one clearance's holds at a point the first is named: HeldOpen, then Block, then Control, then Tag
@@ -99,7 +99,7 @@ pub record KindsStandInOrder : Type 0 where
 -- a holder whom the staff lacks has no supervisor
 abbrev pub StrangersHaveNoSupervisor : Type 0
 StrangersHaveNoSupervisor =
-    answer (edited_all (PutRecord (record { id = jones_1; holder = ZZ; work = Some L2; phase = Requested; last = 100 }) ∷ []) (register_after []))
+    answer (after_edits (PutRecord (record { id = jones_1; holder = ZZ; work = Some L2; phase = Requested; last = 100 }) ∷ []) (register_after []))
     (said_at 200 (says BOSS (Transfer jones_1 BOSS true))) ≡ refused NotHolder
 
 -- ONE NAME FOR TWO: a section A and a point A, which joins the section to M; the point P joins M to the source G

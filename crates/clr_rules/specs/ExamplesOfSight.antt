@@ -5,11 +5,11 @@ use Rattle.clr_net.specs.declared.point.Position.TheVariants.{Opened, Closed as 
 use Rattle.clr_order.specs.declared.step.StepState.TheVariants.{Waiting}
 use Rattle.clr_order.specs.declared.action.Action.TheVariants as actions
 use Rattle.clr_rules.specs.Agreement.{part_near}
-use Rattle.clr_rules.specs.Prelude.{SetPosition, SetHand, PutHold, TakeHold, PutRecord, PutStep, HeldOpen, Block, Tag, Tested, Ground, Crew, Ordered, Granted, Closed, Id, Register, hold_of, edited_all}
+use Rattle.clr_rules.specs.Prelude.{SetPosition, SetHand, PutHold, TakeHold, PutRecord, PutStep, HeldOpen, Block, Tag, Tested, Ground, Crew, Ordered, Granted, Closed, Id, Register, hold_of, after_edits}
 use Rattle.clr_rules.specs.ExamplesOfIsolation.{in_l2, register_one, with_s4_switched}
 use Rattle.clr_rules.specs.ExamplesOfNearParts.{both_at_work}
 use Rattle.clr_rules.specs.Near.{Near, near_of}
-use Rattle.clr_rules.specs.Shown.{covers, is_own_command, marks_of, own, own_answers, shown}
+use Rattle.clr_rules.specs.Shown.{covers, is_own_command, marks_of, own, own_answers, items_shown}
 use Rattle.clr_rules.specs.Worked.{C1, JONES, KIM, L1, L2, L3, OPS, S1, S2, S3, S4, Saying, T1, ZZ, does, from_moment, isolating_l2_and_l3, jones_1, kim_1, kim_asks, l2_asked, l2_ordered, ops_1, register_after, said_at, says, worked_net, worked_staff}
 use Rattle.clr_rules.specs.WorkedRows.{done_step, jones_record, step_row}
 use Rattle.clr_rules.specs.declared.command.Kind.TheVariants.{Request, Order, Instruct, Cancel, Switch, Show}
@@ -50,7 +50,7 @@ NoMarks = marks_of worked_net in_l2
 
 -- what two requests and another's show JONES/1: its requester's, with the section that is asked for, if there is one
 abbrev pub SectionsAreShown : Type 0
-SectionsAreShown = shown jones_1 in_l2 (register_after l2_asked) (from_moment 101 (says JONES (Request L3) ∷ says KIM (Request L2) ∷ says JONES (Request ZZ) ∷ []))
+SectionsAreShown = items_shown jones_1 in_l2 (register_after l2_asked) (from_moment 101 (says JONES (Request L3) ∷ says KIM (Request L2) ∷ says JONES (Request ZZ) ∷ []))
     ≡ own (said_at 101 (says JONES (Request L3))) (Some (record { name = L3; source = false })) ∷ own (said_at 103 (says JONES (Request ZZ))) None ∷ []
 
 -- COVERING: the wide order has L2 and L3 in its fence
@@ -93,7 +93,7 @@ AgreementLooksAtTheNearPart = part_near (register_after both_at_work) jones_1 in
 -- in a register that no commands make JONES/1 has a tag at S4, outside its fence: it is not near
 abbrev pub OwnHoldsElsewhereAreNotNear : Type 0
 OwnHoldsElsewhereAreNotNear =
-    Register.holds (Near.rows (near_of (edited_all (PutHold (hold_of jones_1 Tag S4) ∷ []) (register_after l2_ordered)) (said_at 200 (says OPS (Show jones_1))))) ≡ []
+    Register.holds (Near.rows (near_of (after_edits (PutHold (hold_of jones_1 Tag S4) ∷ []) (register_after l2_ordered)) (said_at 200 (says OPS (Show jones_1))))) ≡ []
 
 -- a clearance that is Closed lends its record and its steps, and nothing of the network
 abbrev pub NearAClosedClearance : Type 0

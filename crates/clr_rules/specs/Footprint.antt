@@ -3,7 +3,7 @@ use Rattle.std.specs.Prelude.{◌≡◌, ℕ, Bool, true, false, not, ◌&&◌, 
 use Rattle.std.specs.List.{list_all}
 use Rattle.clr_net.specs.declared.point.Position.{Position}
 use Rattle.clr_net.specs.declared.point.Position.TheVariants.{Opened, Closed as Shut}
-use Rattle.clr_rules.specs.Prelude.{Edit, SetPosition, SetHand, PutHold, TakeHold, PutRecord, PutStep, HeldOpen, Id, same_id, Register, has_in_hand, position_of, record_of, steps_of, has_hold, holds_of, edited_all}
+use Rattle.clr_rules.specs.Prelude.{Edit, SetPosition, SetHand, PutHold, TakeHold, PutRecord, PutStep, HeldOpen, Id, same_id, Register, has_in_hand, position_of, record_of, steps_of, has_hold, holds_of, after_edits}
 use Rattle.clr_rules.specs.Good.{ListsAreInOrder}
 use Rattle.clr_rules.specs.States.{is_hand}
 
@@ -39,4 +39,4 @@ all_spare c R edits = list_all (spares c R) edits
 
 -- EDITS THAT SPARE A CLEARANCE leave it alone: each is judged by the register before the first
 abbrev pub SparingEditsLeaveAlone : Type 0
-SparingEditsLeaveAlone = (c : Id) (R : Register) (edits : List Edit) → ListsAreInOrder R → all_spare c R edits ≡ true → Frame c R (edited_all edits R)
+SparingEditsLeaveAlone = (c : Id) (R : Register) (edits : List Edit) → ListsAreInOrder R → all_spare c R edits ≡ true → Frame c R (after_edits edits R)

@@ -1,9 +1,9 @@
 -- What sparing edits and commands about others leave alone, as laws.
 use Rattle.std.specs.Prelude.{◌≡◌, Bool, true, false, List}
-use Rattle.clr_rules.specs.Answer.{Answer, answer, concerned, known_of}
+use Rattle.clr_rules.specs.Answer.{Answer, answer, reply_clearance, known_of}
 use Rattle.clr_rules.specs.Commands.{Known}
 use Rattle.clr_rules.specs.Command.{named_clearance}
-use Rattle.clr_rules.specs.Prelude.{Edit, Command, Kind, Id, same_id, Register, edited_all}
+use Rattle.clr_rules.specs.Prelude.{Edit, Command, Kind, Id, same_id, Register, after_edits}
 use Rattle.clr_rules.specs.Footprint.{all_spare}
 use Rattle.clr_rules.specs.Good.{HandMatchesStep, IsGood, ListsAreInOrder}
 use Rattle.clr_rules.specs.GoodByPhase.{outlook_of}
@@ -28,11 +28,11 @@ OthersEditsSpareAnywhere = (R : Register) (c : Id) (q : Command) → is_report q
 -- WHAT THE REGISTER HAS OF A CLEARANCE, its record, its steps, its holds and what it has in hand, stays after edits that spare it,
 abbrev pub SparingEditsKeepOutlook : Type 0
 SparingEditsKeepOutlook = (c : Id) (R : Register) (edits : List Edit) → ListsAreInOrder R → all_spare c R edits ≡ true
-    → outlook_of (edited_all edits R) c ≡ outlook_of R c
+    → outlook_of (after_edits edits R) c ≡ outlook_of R c
 
 -- the clearance that a command is about: the one that it names, or the one that it makes
 abbrev pub subject_of : Register → Command → Id
-subject_of R q = concerned (Known.greatest (known_of R q)) q.caller (named_clearance q.kind)
+subject_of R q = reply_clearance (Known.greatest (known_of R q)) q.caller (named_clearance q.kind)
 
 -- so after a command it stays of every clearance but the one that the command is about,
 abbrev pub OneOutlookChanges : Type 0

@@ -20,7 +20,7 @@ use Rattle.clr_rules.specs.Checks.{employee, has_role, is_operator}
 use Rattle.clr_rules.specs.Fences.{clearance_fence}
 use Rattle.clr_rules.specs.Prelude.{Hold, HoldKind, HeldOpen, Block, Control, Tag, Tested, Ground, Crew, Record, StepRow, Id, id_cmp, Register, has_in_hand, position_of, state_key, record_key, record_of, is_running, is_standing}
 use Rattle.clr_rules.specs.Prelude.{is_granted, is_restoring, step_key, step_key_cmp, all_done, is_active, is_done, is_some_step, is_waiting, points_of, present_round, steps_in, steps_of, tasks_of, hold_cmp, is_point_kind, has_hold}
-use Rattle.clr_rules.specs.Prelude.{held_at, hold_key, once}
+use Rattle.clr_rules.specs.Prelude.{held_at, hold_key, first_of_each}
 use Rattle.clr_rules.specs.Live.{is_live}
 use Rattle.clr_rules.specs.Records.{is_closed, is_in_switching, is_requested, is_switch_order, numbers_of}
 use Rattle.clr_rules.specs.Register.{unplaced_net}
@@ -52,7 +52,7 @@ pub record HandMatchesStep (R : Register) : Type 0 where
 -- there is a work section, and the order isolates it
 abbrev pub IsSoundFor : Grid → Option (List ℕ) → List StepRow → Type 0
 IsSoundFor g None rows = ⊥
-IsSoundFor g (Some work) rows = IsSoundOrder g work (once (points_of rows)) (tasks_of rows)
+IsSoundFor g (Some work) rows = IsSoundOrder g work (first_of_each (points_of rows)) (tasks_of rows)
 
 -- STANDING ORDERS ARE SOUND: from its acceptance on until all is restored, the first round of an order isolates its work section.
 -- 1910.269(m)(3)(ii), (iii)
@@ -139,12 +139,12 @@ abbrev pub put_by : List StepRow → HoldKind → List ℕ → Bool
 put_by rows kind p = list_any (λ row. (is_done row.step.state && puts row.step.action kind) && same_name p row.step.point) rows
 
 -- the steps that are not Done
-abbrev pub left : List StepRow → List StepRow
-left rows = filter (λ row. not (is_done row.step.state)) rows
+abbrev pub steps_left_of : List StepRow → List StepRow
+steps_left_of rows = filter (λ row. not (is_done row.step.state)) rows
 
 -- what the second round has still to do at a point
 abbrev pub still_to_do : List StepRow → Id → List ℕ → List Action
-still_to_do steps c p = actions_at (tasks_of (left (steps_in steps c 2))) p
+still_to_do steps c p = actions_at (tasks_of (steps_left_of (steps_in steps c 2))) p
 
 -- HOLDS ARE WHAT THE DONE STEPS PUT: holds at points belong to Ordered, Granted, Released and Restoring records, and stand at points of
 -- their first round; in the first three phases they are exactly what the Done steps of that round put; in Restoring the steps that are left
@@ -159,7 +159,7 @@ pub record HoldsAreWhatDoneStepsPut (R : Register) : Type 0 where
   pub undone : (c : Id) (r : Record) → record_of R.records c ≡ Some r → is_restoring r.phase ≡ true
       → (p : List ℕ) → has_hold R.holds c HeldOpen p ≡ true → Undoes (held_at R.holds c p) (still_to_do R.steps c p)
   pub nowhere_else : (c : Id) (r : Record) → record_of R.records c ≡ Some r → is_restoring r.phase ≡ true
-      → All (λ row. has_hold R.holds c HeldOpen row.step.point ≡ true) (left (steps_in R.steps c 2))
+      → All (λ row. has_hold R.holds c HeldOpen row.step.point ≡ true) (steps_left_of (steps_in R.steps c 2))
 
 -- RESTORING RECORDS HAVE A SECOND ROUND
 abbrev pub RestoringHaveSecondRound : Register → Type 0

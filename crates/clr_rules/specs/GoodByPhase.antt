@@ -12,9 +12,9 @@ use Rattle.clr_order.specs.Isolating.{IsSoundOrder}
 use Rattle.clr_order.specs.Needed.{undoes}
 use Rattle.clr_order.specs.Step.{actions_at}
 use Rattle.clr_rules.specs.Fences.{work_fence}
-use Rattle.clr_rules.specs.Good.{ListsAreInOrder, NetworkIsUnplaced, PointsAreKnown, is_closing_at, is_known_work, is_operators, left, put_by}
+use Rattle.clr_rules.specs.Good.{ListsAreInOrder, NetworkIsUnplaced, PointsAreKnown, is_closing_at, is_known_work, is_operators, steps_left_of, put_by}
 use Rattle.clr_rules.specs.Prelude.{HoldKind, HeldOpen, Block, Control, Tag, Tested, Ground, Crew, Phase, Requested, Ordered, Granted, Released, Restoring, Switching, Closed, Record, StepRow, Id, Register, has_in_hand, position_of}
-use Rattle.clr_rules.specs.Prelude.{record_of, all_done, is_active, is_done, is_some_step, is_waiting, points_of, steps_of, tasks_of, is_point_kind, has_hold, once}
+use Rattle.clr_rules.specs.Prelude.{record_of, all_done, is_active, is_done, is_some_step, is_waiting, points_of, steps_of, tasks_of, is_point_kind, has_hold, first_of_each}
 use Rattle.clr_rules.specs.Records.{is_switch_order, numbers_of}
 use Rattle.clr_rules.specs.Steps.{some_active}
 
@@ -55,7 +55,7 @@ ActiveInRound steps round = All (λ row. is_active row.step.state ≡ true → r
 
 -- the first round isolates the work section
 abbrev pub Isolates : Grid → List ℕ → Outlook → Type 0
-Isolates g work v = IsSoundOrder g work (once (points_of (of_round v.steps 1))) (tasks_of (of_round v.steps 1))
+Isolates g work v = IsSoundOrder g work (first_of_each (points_of (of_round v.steps 1))) (tasks_of (of_round v.steps 1))
 
 -- no hold stands anywhere
 abbrev pub HoldsNothing : Outlook → Type 0
@@ -112,7 +112,7 @@ pub record InRestoring (g : Grid) (work : List ℕ) (v : Outlook) : Type 0 where
   pub given_out : ActiveInRound v.steps 2
   pub at_points : (p : List ℕ) → v.has HeldOpen p ≡ true → has_name (points_of (of_round v.steps 1)) p ≡ true
   pub beside_held_open : (kind : HoldKind) (p : List ℕ) → is_point_kind kind ≡ true → v.has kind p ≡ true → v.has HeldOpen p ≡ true
-  pub undone : (p : List ℕ) → undoes (v.has Tag p) (v.has Control p) (v.has Block p) (v.has HeldOpen p) (actions_at (tasks_of (left (of_round v.steps 2))) p) ≡ true
+  pub undone : (p : List ℕ) → undoes (v.has Tag p) (v.has Control p) (v.has Block p) (v.has HeldOpen p) (actions_at (tasks_of (steps_left_of (of_round v.steps 2))) p) ≡ true
   pub no_work : HasNoWork v
 
 -- SWITCHING: points are opened and closed in one round, and none is held

@@ -68,9 +68,9 @@ unfoldable pub hindering_hold : List Hold → Id → List ℕ → Option Hold
 hindering_hold holds c p = first_hold (filter (hinders c p) holds)
 
 -- the names of a list, each once, where it stands first
-unfoldable pub once : List (List ℕ) → List (List ℕ)
-once [] = []
-once (p ∷ ps) = p ∷ filter (λ q. not (same_name p q)) (once ps)
+unfoldable pub first_of_each : List (List ℕ) → List (List ℕ)
+first_of_each [] = []
+first_of_each (p ∷ ps) = p ∷ filter (λ q. not (same_name p q)) (first_of_each ps)
 
 -- what a clearance has at a point that it holds open
 abbrev pub held_at : List Hold → Id → List ℕ → Held
@@ -78,7 +78,7 @@ held_at holds c p = record { point = p; block = has_hold holds c Block p; contro
 
 -- of these points those that a clearance holds open, in the order of their first appearance, with what it has there
 unfoldable pub held_among : List Hold → Id → List (List ℕ) → List Held
-held_among holds c points = map (held_at holds c) (filter (has_hold holds c HeldOpen) (once points))
+held_among holds c points = map (held_at holds c) (filter (has_hold holds c HeldOpen) (first_of_each points))
 
 -- which holds are near: at a point, at a section, and the crews of a clearance. Holds go by kind: a point and a section may have one name
 abbrev pub is_near_hold : (List ℕ → Bool) → (List ℕ → Bool) → Option Id → Hold → Bool

@@ -16,7 +16,7 @@ use Rattle.clr_rules.specs.Prelude.{Command, HeldOpen, Id, same_id, Register, po
 use Rattle.clr_rules.specs.Near.{near_of}
 use Rattle.clr_rules.specs.Register.{unplaced}
 use Rattle.clr_rules.specs.Run.{IsReached, after, after_all}
-use Rattle.clr_rules.specs.Shown.{Item, asked_row, covers, is_own_command, marks_of, own_answers, shown}
+use Rattle.clr_rules.specs.Shown.{Item, asked_row, covers, is_own_command, marks_of, own_answers, items_shown}
 
 -- the sections of a set, and the points with an end in it, have the same rows in two networks, the points' positions aside
 pub record SameRowsAt (inside : List ℕ → Bool) (g h : Grid) : Type 0 where
@@ -81,7 +81,7 @@ LoneStep = (c : Id) (inside : List ℕ → Bool) (R S : Register) (q : Command)
 abbrev pub SameShownSameAnswers : Type 0
 SameShownSameAnswers = (c : Id) (inside : List ℕ → Bool) (R S : Register) (commands others : List Command)
     → IsReached R → IsReached S → is_operators R c.requester ≡ false → Agree c inside R S → covers c inside R commands ≡ true
-    → shown c inside R commands ≡ shown c inside S others
+    → items_shown c inside R commands ≡ items_shown c inside S others
     → (own_answers c R commands ≡ own_answers c S others) × Agree c inside (after_all R commands) (after_all S others)
 
 -- the points that a clearance holds are open
@@ -103,5 +103,5 @@ is_own_item (Item.marks edit edits) = false
 abbrev pub OwnCommandsAlone : Type 0
 OwnCommandsAlone = (c : Id) (inside : List ℕ → Bool) (R : Register) (commands : List Command)
     → IsReached R → is_operators R c.requester ≡ false → covers c inside R commands ≡ true
-    → list_all is_own_item (shown c inside R commands) ≡ true
+    → list_all is_own_item (items_shown c inside R commands) ≡ true
     → own_answers c R commands ≡ own_answers c R (filter (is_own_command c) commands)

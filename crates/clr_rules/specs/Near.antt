@@ -34,9 +34,9 @@ switched_in R None = []
 switched_in R (Some c) = switched_by R c (record_of R.records c)
 
 -- the points of the switch order that a command makes or names
-abbrev pub switched : Register → Kind → List (List ℕ)
-switched R (Switch tasks) = task_points tasks
-switched R kind = switched_in R (named_clearance kind)
+abbrev pub switched_points : Register → Kind → List (List ℕ)
+switched_points R (Switch tasks) = task_points tasks
+switched_points R kind = switched_in R (named_clearance kind)
 
 -- whether a request asks for a section
 abbrev pub is_asked : Kind → List ℕ → Bool
@@ -45,7 +45,7 @@ is_asked kind s = false
 
 -- the points near a command: those that touch the fence, and those of the switch order
 abbrev pub is_beside : Register → Known → Kind → List ℕ → Bool
-is_beside R k kind p = has_name (touching_names R.net (has_name k.fence)) p || has_name (switched R kind) p
+is_beside R k kind p = has_name (touching_names R.net (has_name k.fence)) p || has_name (switched_points R kind) p
 
 -- the near part, read as a register
 abbrev pub near_part : Register → Command → Register

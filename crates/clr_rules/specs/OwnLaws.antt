@@ -3,7 +3,7 @@ use Rattle.std.specs.Prelude.{◌≡◌, ℕ, Bool, true, false, List, Some}
 use Rattle.clr_rules.specs.Agreement.{Agree}
 use Rattle.clr_rules.specs.Commands.{Known, checks, edits_of}
 use Rattle.clr_rules.specs.Answer.{answer, answer_with, known_of}
-use Rattle.clr_rules.specs.Prelude.{Edit, Command, Kind, Id, Register, record_of, steps_of, holds_of, edited_all}
+use Rattle.clr_rules.specs.Prelude.{Edit, Command, Kind, Id, Register, record_of, steps_of, holds_of, after_edits}
 use Rattle.clr_rules.specs.Command.{named_clearance}
 use Rattle.clr_rules.specs.Good.{IsGood, ListsAreInOrder}
 use Rattle.clr_rules.specs.Near.{near_part}
@@ -46,7 +46,7 @@ EditsAreOfTheOwn = (c : Id) (R S : Register) → ListsAreInOrder R → ListsAreI
 -- and both registers have the same of it after the same edits
 abbrev pub SameEditsKeepTheOwn : Type 0
 SameEditsKeepTheOwn = (c : Id) (R S : Register) → ListsAreInOrder R → ListsAreInOrder S → SameOwn c R S
-    → (edits : List Edit) → SameOwn c (edited_all edits R) (edited_all edits S)
+    → (edits : List Edit) → SameOwn c (after_edits edits R) (after_edits edits S)
 
 -- WHAT IS NEAR IS ENOUGH: in a good register a command is answered from its near part as from the whole register
 abbrev pub NearIsEnough : Type 0

@@ -20,9 +20,9 @@ unfoldable pub use Rattle.clr_rules.specs.Records.{greatest_number, record_key, 
 unfoldable pub use Rattle.clr_rules.specs.Records.{is_granted, is_restoring, is_ordered}
 pub use Rattle.clr_rules.specs.StepKey.{step_key, step_key_cmp, step_key_cmp_total}
 unfoldable pub use Rattle.clr_rules.specs.Steps.{all_done, is_active, is_done, is_some_step, is_waiting, points_of}
-unfoldable pub use Rattle.clr_rules.specs.Steps.{present, present_round, step_at, steps_in, steps_of, tasks_of}
+unfoldable pub use Rattle.clr_rules.specs.Steps.{present_steps, present_round, step_at, steps_in, steps_of, tasks_of}
 pub use Rattle.clr_rules.specs.Hold.{hold_cmp, hold_cmp_total}
 pub use Rattle.clr_rules.specs.HoldKind.{is_crew, is_point_kind, is_section_kind}
 unfoldable pub use Rattle.clr_rules.specs.Holds.{has_any_hold, has_hold, has_some_hold, held_at, hold_key, hold_of}
-unfoldable pub use Rattle.clr_rules.specs.Holds.{holds_of, once, places_of, same_kind}
-unfoldable pub use Rattle.clr_rules.specs.Edits.{edited, edited_all}
+unfoldable pub use Rattle.clr_rules.specs.Holds.{holds_of, first_of_each, places_of, same_kind}
+unfoldable pub use Rattle.clr_rules.specs.Edits.{after_edit, after_edits}

@@ -18,12 +18,12 @@ record_of records c = row_of id_cmp record_key c records
 abbrev pub numbers_of : List Record → List ℕ → List ℕ
 numbers_of records requester = map (λ r. r.id.number) (filter (λ r. same_name requester r.id.requester) records)
 
-abbrev pub greater : ℕ → ℕ → ℕ
-greater a b = if nat_le a b then b else a
+abbrev pub greater_of : ℕ → ℕ → ℕ
+greater_of a b = if nat_le a b then b else a
 
 -- the greatest number of a requester's clearances, 0 where there is none
 unfoldable pub greatest_number : List Record → List ℕ → ℕ
-greatest_number records requester = fold greater 0 (numbers_of records requester)
+greatest_number records requester = fold greater_of 0 (numbers_of records requester)
 
 abbrev pub lacks_work : Option (List ℕ) → Bool
 lacks_work None = true

@@ -4,12 +4,12 @@ use Rattle.clr_net.specs.Grid.{Grid, IsNetwork}
 use Rattle.clr_csv.specs.Staff.{IsStaff}
 use Rattle.clr_csv.specs.declared.employee.StaffRow.{StaffRow}
 use Rattle.clr_rules.specs.Answer.{Answer, answer}
-use Rattle.clr_rules.specs.Prelude.{Command, Reply, Register, edited_all}
+use Rattle.clr_rules.specs.Prelude.{Command, Reply, Register, after_edits}
 use Rattle.clr_rules.specs.Register.{opening}
 
 -- the register after a command
 abbrev pub after : Register → Command → Register
-after R q = edited_all (Answer.edits (answer R q)) R
+after R q = after_edits (Answer.edits (answer R q)) R
 
 -- the replies of a run
 unfoldable pub replies : Register → List Command → List Reply

@@ -8,7 +8,7 @@ use Rattle.clr_rules.specs.Good.{is_operators}
 use Rattle.clr_rules.specs.Prelude.{Command, Reply, Id, Register}
 use Rattle.clr_rules.specs.Isolation.{HeldStayOpen, is_others, is_own_item}
 use Rattle.clr_rules.specs.Run.{IsReached, after, after_all, replies}
-use Rattle.clr_rules.specs.Shown.{covers, is_own_command, own_answers, shown}
+use Rattle.clr_rules.specs.Shown.{covers, is_own_command, own_answers, items_shown}
 
 -- the commands that have a reply: a run that stops leaves the later ones without
 abbrev pub with_reply : List Command → List Reply → List Command
@@ -39,7 +39,7 @@ pub record TellsTheSame (c : Id) (inside : List ℕ → Bool) (R : Register) (co
 abbrev pub OthersChangeNoReply : Register → List Command → List Reply → Register → Type 0
 OthersChangeNoReply R commands told S = (c : Id) (inside : List ℕ → Bool) (T : Register) (others : List Command)
     → IsReached R → IsReached T → is_operators R c.requester ≡ false → Agree c inside R T → covers c inside R commands ≡ true
-    → shown c inside R commands ≡ shown c inside T others
+    → items_shown c inside R commands ≡ items_shown c inside T others
     → TellsTheSame c inside R commands told S T others
 
 -- SECOND HALF: at each place of the run, a command about another clearance leaves a clearance's record, steps and holds as they are, clears
@@ -53,7 +53,7 @@ OthersTakeNothing R commands = (c : Id) (earlier : List Command) (q : Command) (
 abbrev pub OwnStandAlone : Register → List Command → List Reply → Type 0
 OwnStandAlone R commands told = (c : Id) (inside : List ℕ → Bool)
     → IsReached R → is_operators R c.requester ≡ false → covers c inside R commands ≡ true
-    → list_all is_own_item (shown c inside R commands) ≡ true
+    → list_all is_own_item (items_shown c inside R commands) ≡ true
     → own_replies c commands told ≡ map (λ (a : Answer). a.reply) (own_answers c R (filter (is_own_command c) commands))
 
 -- all three hold of every run

@@ -50,19 +50,19 @@ pub data Item : Type 0 where
   marks : Edit → List Edit → Item
 
 -- marks come into the list where there are any
-abbrev pub heard : List Edit → List Item → List Item
-heard [] items = items
-heard (edit ∷ edits) items = marks edit edits ∷ items
+abbrev pub with_marks : List Edit → List Item → List Item
+with_marks [] items = items
+with_marks (edit ∷ edits) items = marks edit edits ∷ items
 
 abbrev pub shown_first : Id → (List ℕ → Bool) → Register → Command → List Item → List Item
 shown_first c inside R q items =
     if is_own_command c q then own q (asked_row R q.kind) ∷ items
-    else heard (marks_of R.net inside (Answer.edits (answer R q))) items
+    else with_marks (marks_of R.net inside (Answer.edits (answer R q))) items
 
 -- WHAT A RUN SHOWS
-unfoldable pub shown : Id → (List ℕ → Bool) → Register → List Command → List Item
-shown c inside R [] = []
-shown c inside R (q ∷ commands) = shown_first c inside R q (shown c inside (after R q) commands)
+unfoldable pub items_shown : Id → (List ℕ → Bool) → Register → List Command → List Item
+items_shown c inside R [] = []
+items_shown c inside R (q ∷ commands) = shown_first c inside R q (items_shown c inside (after R q) commands)
 
 -- the answers to its own commands
 unfoldable pub own_answers : Id → Register → List Command → List Answer

@@ -56,8 +56,8 @@ is_some_step rows = nat_lt 0 (length rows)
 abbrev pub present_round : List StepRow → Id → ℕ
 present_round steps c = if is_some_step (steps_in steps c 2) then 2 else if is_some_step (steps_in steps c 1) then 1 else 0
 
-abbrev pub present : List StepRow → Id → List StepRow
-present steps c = if is_some_step (steps_in steps c 2) then steps_in steps c 2 else steps_in steps c 1
+abbrev pub present_steps : List StepRow → Id → List StepRow
+present_steps steps c = if is_some_step (steps_in steps c 2) then steps_in steps c 2 else steps_in steps c 1
 
 -- the step of a number, from 1
 abbrev pub step_at : List StepRow → ℕ → Option StepRow

@@ -4,7 +4,7 @@ use Rattle.std.specs.Prelude.{◌≡◌, ℕ, true, false, List, Some}
 use Rattle.std.proofs.Common.{◌⊎◌}
 use Rattle.clr_order.specs.declared.action.Action.TheVariants.{Untag}
 use Rattle.clr_rules.specs.Good.{IsGood}
-use Rattle.clr_rules.specs.Prelude.{Command, Tag, Ordered, Granted, Released, Restoring, Record, StepRow, Id, Register, record_of, present, step_at, has_any_hold, has_hold}
+use Rattle.clr_rules.specs.Prelude.{Command, Tag, Ordered, Granted, Released, Restoring, Record, StepRow, Id, Register, record_of, present_steps, step_at, has_any_hold, has_hold}
 use Rattle.clr_rules.specs.Run.{after}
 use Rattle.clr_rules.specs.declared.command.Kind.TheVariants.{Cancel, Release, Report}
 
@@ -16,7 +16,7 @@ pub record IsUntag (R : Register) (c : Id) (p : List ℕ) (q : Command) : Type 0
   pub reported : q.kind ≡ Report c n true
   pub recorded : record_of R.records c ≡ Some clearance
   pub restoring : clearance.phase ≡ Restoring
-  pub found : step_at (present R.steps c) n ≡ Some row
+  pub found : step_at (present_steps R.steps c) n ≡ Some row
   pub untags : row.step.action ≡ Untag
   pub there : row.step.point ≡ p
 

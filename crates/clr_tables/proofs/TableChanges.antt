@@ -14,7 +14,7 @@ use Rattle.clr_net.specs.Names.{has_name}
 use Rattle.clr_net.specs.declared.point.PointRow.{PointRow}
 use Rattle.clr_net.specs.declared.point.Position.{Position}
 use Rattle.clr_rules.specs.EditLaws.{changed_where}
-use Rattle.clr_rules.specs.Edits.{edited, edited_all}
+use Rattle.clr_rules.specs.Edits.{after_edit, after_edits}
 use Rattle.clr_rules.specs.Good.{ListsAreInOrder}
 use Rattle.clr_rules.specs.Id.{Id}
 use Rattle.clr_rules.specs.Register.{Register}
@@ -96,7 +96,7 @@ handed_points hand = all_points (λ state. record state { hand = hand }) (handed
 
 -- ---- one edit, and all
 
-pub table_follows : (edit : Edit) (R : Register) → StatesAreThePoints R → tables_of (edited edit R) ≡ table_edited edit (tables_of R)
+pub table_follows : (edit : Edit) (R : Register) → StatesAreThePoints R → tables_of (after_edit edit R) ≡ table_edited edit (tables_of R)
 table_follows (SetPosition point position) R known = λ i. record (tables_of R) { points = placed_points position R.states point (Grid.points R.net) (have_states R known) i }
 table_follows (SetHand point hand) R known = λ i. record (tables_of R) { points = handed_points hand R.states point (Grid.points R.net) (have_states R known) i }
 table_follows (PutHold h) R known = λ i. record (tables_of R) { holds = hold_put h R.holds i }
@@ -105,14 +105,14 @@ table_follows (PutRecord r) R known = λ i. record (tables_of R) { clearances = 
 table_follows (PutStep row) R known = λ i. record (tables_of R) { steps = step_put row R.steps i }
 
 -- an edit leaves which points have states
-pub states_stay : (edit : Edit) (R : Register) → ListsAreInOrder R → StatesAreThePoints R → StatesAreThePoints (edited edit R)
-unfolding edited_all
+pub states_stay : (edit : Edit) (R : Register) → ListsAreInOrder R → StatesAreThePoints R → StatesAreThePoints (after_edit edit R)
+unfolding after_edits
 states_stay edit R ordered known =
     let same = edited_all-network R (edit ∷ []) ordered in
     same.same_points ∙ known ∙ ap (λ (g : Grid). point_names g.points) (sym same.same_net)
 
 pub tables_follow_edits : TablesFollowEdits
-unfolding edited_all tables_edited
+unfolding after_edits tables_edited
 tables_follow_edits R [] ordered known = refl
 tables_follow_edits R (edit ∷ edits) ordered known =
-    tables_follow_edits (edited edit R) edits (edited-in_order edit R ordered) (states_stay edit R ordered known) ∙ ap (tables_edited edits) (table_follows edit R known)
+    tables_follow_edits (after_edit edit R) edits (edited-in_order edit R ordered) (states_stay edit R ordered known) ∙ ap (tables_edited edits) (table_follows edit R known)

@@ -9,7 +9,7 @@ use Rattle.clr_net.proofs.ListFacts.{map-map}
 use Rattle.clr_rules.specs.Good.{ListsAreInOrder}
 use Rattle.clr_rules.specs.Register.{Register}
 use Rattle.clr_rules.specs.declared.point_state.PointState.{PointState}
-use Rattle.clr_tables.specs.RowsRead.{PointRead, Rows, all_read, placed, read_clearance, read_hold, read_point, read_section, read_staff, read_step, read_version, rows_by, rows_of, rows_read}
+use Rattle.clr_tables.specs.RowsRead.{PointRead, Rows, all_read, with_its_position, read_clearance, read_hold, read_point, read_section, read_staff, read_step, read_version, rows_by, rows_of, rows_read}
 use Rattle.clr_tables.specs.TableLaws.{StatesAreThePoints, TablesAreRead, TablesReadAsNoOthers}
 use Rattle.clr_tables.specs.Tables.{clearance_row, hold_row, point_row, section_row, staff_row, state_at, step_row, tables_of}
 use Rattle.clr_tables.specs.TypedRows.{IsTyped, is_id_or_none, is_typed_employee, is_typed_hold, is_typed_point, is_typed_record, is_typed_section, is_typed_state, is_typed_step}
@@ -39,7 +39,7 @@ module _ (R : Register) (known : StatesAreThePoints R) (ordered : ListsAreInOrde
       ≡ cond (list_all typed (Grid.points R.net)) (Ok (map said (Grid.points R.net))) (Err table.Point)
   points_read = all_back read_point (λ p. point_row p (state_at R.states p)) said typed table.Point (λ p. point_reads p (state_at R.states p)) (Grid.points R.net)
 
-  points_are : map (λ (p : PointRead). p.point) (map said (Grid.points R.net)) ≡ map (placed R.states) (Grid.points R.net)
+  points_are : map (λ (p : PointRead). p.point) (map said (Grid.points R.net)) ≡ map (with_its_position R.states) (Grid.points R.net)
   points_are = map-map (λ (p : PointRead). p.point) said (Grid.points R.net)
 
   states_are : map (λ (p : PointRead). p.state) (map said (Grid.points R.net)) ≡ R.states

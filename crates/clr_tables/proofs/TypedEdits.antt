@@ -18,12 +18,12 @@ use Rattle.clr_shelf.proofs.Groups.{All-with_row, All-without_row}
 use Rattle.clr_shelf.proofs.Lists.{list_all-contains}
 use Rattle.clr_shelf.proofs.Members.{member-row_of}
 use Rattle.clr_shelf.specs.Rows.{with_row, without_row}
-use Rattle.clr_rules.specs.Answer.{Answer, known_of, settled}
+use Rattle.clr_rules.specs.Answer.{Answer, known_of, answer_by_checks}
 use Rattle.clr_rules.specs.Commands.{checks, edits_of}
-use Rattle.clr_rules.specs.Changes.{cancelled_phase, done_edits, hold_edits, moved, new_steps, phase_after, position_edits, put_steps, undone_edits}
+use Rattle.clr_rules.specs.Changes.{cancelled_phase, done_edits, hold_edits, step_moved, new_steps, phase_after, position_edits, put_steps, undone_edits}
 use Rattle.clr_rules.specs.Checks.{too_many_clearances, unsound_order}
 use Rattle.clr_rules.specs.EditLaws.{refusal_of}
-use Rattle.clr_rules.specs.Edits.{edited, edited_all}
+use Rattle.clr_rules.specs.Edits.{after_edit, after_edits}
 use Rattle.clr_rules.specs.Hold.{hold_cmp, hold_cmp_total}
 use Rattle.clr_rules.specs.Holds.{hold_key, hold_of, places_of}
 use Rattle.clr_rules.specs.Id.{Id, id_cmp, id_cmp_total, is_clearance_number, is_id}
@@ -31,7 +31,7 @@ use Rattle.clr_rules.specs.Moment.{is_moment}
 use Rattle.clr_rules.specs.Records.{greatest_number, is_switch_order, record_key, record_of}
 use Rattle.clr_rules.specs.Register.{Register, first_state, unplaced}
 use Rattle.clr_rules.specs.StepKey.{step_key, step_key_cmp, step_key_cmp_total}
-use Rattle.clr_rules.specs.Steps.{present, step_at}
+use Rattle.clr_rules.specs.Steps.{present_steps, step_at}
 use Rattle.clr_rules.specs.States.{change_state, changed_state, state_key, state_of}
 use Rattle.clr_rules.specs.declared.change.Edit.{Edit}
 use Rattle.clr_rules.specs.declared.change.Edit.TheVariants.{SetPosition, SetHand, PutHold, TakeHold, PutRecord, PutStep}
@@ -89,7 +89,7 @@ changed_typed change keeps states p all = at (state_of states p) refl
     at (Some state) is = put_typed name_cmp state_key nat_list_cmp_total is_typed_state (change state) states
         (keeps state (list_all-contains is_typed_state states state all (member-row_of name_cmp state_key nat_list_cmp_total p state states is).0)) all
 
-edited_typed : (edit : Edit) (R : Register) → IsTypedEdit edit → IsTyped R → IsTyped (edited edit R)
+edited_typed : (edit : Edit) (R : Register) → IsTypedEdit edit → IsTyped R → IsTyped (after_edit edit R)
 edited_typed (SetPosition p position) R is typed = record {
   sections = typed.sections;
   points = typed.points;
@@ -145,10 +145,10 @@ edited_typed (PutStep row) R is typed = record {
   holds = typed.holds;
 }
 
-edited_all_typed : (edits : List Edit) (R : Register) → AllTyped edits → IsTyped R → IsTyped (edited_all edits R)
-unfolding edited_all
+edited_all_typed : (edits : List Edit) (R : Register) → AllTyped edits → IsTyped R → IsTyped (after_edits edits R)
+unfolding after_edits
 edited_all_typed [] R all typed = typed
-edited_all_typed (edit ∷ edits) R all typed = edited_all_typed edits (edited edit R) all.1 (edited_typed edit R all.0 typed)
+edited_all_typed (edit ∷ edits) R all typed = edited_all_typed edits (after_edit edit R) all.1 (edited_typed edit R all.0 typed)
 
 -- ---- the steps of an order
 
@@ -206,7 +206,7 @@ module _ (R : Register) (typed : IsTyped R) (by : List ℕ) (at : ℕ) (caller :
   record_typed : (c : Id) (r : Record) → record_of R.records c ≡ Some r → is_typed_record r ≡ true
   record_typed c r found = list_all-contains is_typed_record R.records r typed.records (member-row_of id_cmp record_key id_cmp_total c r R.records found).0
 
-  step_typed : (c : Id) (n : ℕ) (row : StepRow) → step_at (present R.steps c) n ≡ Some row → TypedStep row
+  step_typed : (c : Id) (n : ℕ) (row : StepRow) → step_at (present_steps R.steps c) n ≡ Some row → TypedStep row
   step_typed c n row found = step_parts row (list_all-contains is_typed_step R.steps row typed.steps (present_step R.steps c n row found).there)
 
   named_typed : (c : Id) (r : Record) → record_of R.records c ≡ Some r → is_id c ≡ true
@@ -280,7 +280,7 @@ module _ (R : Register) (typed : IsTyped R) (by : List ℕ) (at : ℕ) (caller :
     where
       by_done : (done : Bool) (r : Record) (row : StepRow) → record_of R.records c ≡ Some r → TypedStep row → AllTyped (cond done (done_edits R at r row) (undone_edits at r row))
       by_done true r row found row_is =
-          let now = moved Done row.step.reader row in
+          let now = step_moved Done row.step.reader row in
           done_typed (is_switch_order r) r.id row.step.action row.step.point (record r { phase = phase_after R.steps r now; last = at }) now
           (record_parts r (record_typed c r found)).id row_is.point (put_back c r (phase_after R.steps r now) found)
           (step_later row.step.action Done row.step.reader row row_is.reader row_is)
@@ -319,7 +319,7 @@ module _ (R : Register) (typed : IsTyped R) (by : List ℕ) (at : ℕ) (caller :
 pub commands_keep_typed : CommandsKeepTyped
 commands_keep_typed R q typed is = at (refusal_of R q) refl
   where
-    at : (refused : Option Refusal) → refusal_of R q ≡ refused → IsTyped (edited_all (Answer.edits (settled (known_of R q) R q refused)) R)
+    at : (refused : Option Refusal) → refusal_of R q ≡ refused → IsTyped (after_edits (Answer.edits (answer_by_checks (known_of R q) R q refused)) R)
     at None passed =
         let caller = and_parts (is_name q.caller) (is_moment q.moment && is_typed_kind q.kind) is in
         let rest = and_parts (is_moment q.moment) (is_typed_kind q.kind) caller.1 in

@@ -236,14 +236,14 @@ abbrev pub rows_read : Tables → Result Rows TableName
 rows_read t = rows_by read_point t
 
 -- THE ROWS OF A REGISTER, which its tables are to read as
-abbrev pub placed : List PointState → PointRow → PointRow
-placed states p = record p { position = (state_at states p).position }
+abbrev pub with_its_position : List PointState → PointRow → PointRow
+with_its_position states p = record p { position = (state_at states p).position }
 
 abbrev pub rows_of_version : Version → Register → Rows
 rows_of_version version R = record {
   version = pos version.number;
   sections = R.net.sections;
-  points = map (placed R.states) R.net.points;
+  points = map (with_its_position R.states) R.net.points;
   states = R.states;
   staff = R.staff;
   records = R.records;

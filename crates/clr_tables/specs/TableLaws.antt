@@ -3,7 +3,7 @@ use Rattle.std.specs.Prelude.{◌≡◌, IsTrue, List, map, Ok}
 use Rattle.std.specs.List.{list_all}
 use Rattle.clr_net.specs.Grid.{Grid, point_names}
 use Rattle.clr_csv.specs.declared.employee.StaffRow.{StaffRow}
-use Rattle.clr_rules.specs.Edits.{edited_all}
+use Rattle.clr_rules.specs.Edits.{after_edits}
 use Rattle.clr_rules.specs.Good.{IsGood, ListsAreInOrder}
 use Rattle.clr_rules.specs.Register.{Register, opening}
 use Rattle.clr_rules.specs.Run.{after}
@@ -43,4 +43,4 @@ TablesReadAsNoOthers = (R : Register) (rows : Rows) → StatesAreThePoints R →
 -- THE TABLES OF THE EDITED REGISTER are the edited tables
 abbrev pub TablesFollowEdits : Type 0
 TablesFollowEdits = (R : Register) (edits : List Edit) → ListsAreInOrder R → StatesAreThePoints R
-    → tables_of (edited_all edits R) ≡ tables_edited edits (tables_of R)
+    → tables_of (after_edits edits R) ≡ tables_edited edits (tables_of R)

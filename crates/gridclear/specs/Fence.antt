@@ -25,20 +25,20 @@ argument (Ok name) = Ok name
 argument (Err cause) = Err (of_name cause)
 
 -- a name, if it is one of these
-abbrev pub known : List (List ℕ) → (List ℕ → Fault) → List ℕ → Result (List ℕ) Fault
-known names unknown name = if has_name names name then Ok name else Err (unknown name)
+abbrev pub name_among : List (List ℕ) → (List ℕ → Fault) → List ℕ → Result (List ℕ) Fault
+name_among names unknown name = if has_name names name then Ok name else Err (unknown name)
 
 -- the section that a word names
 abbrev pub section_named : Grid → List ℕ → Result (List ℕ) Fault
 section_named g word = do
   name ← argument (read_name word)
-  known (section_names g.sections) UnknownSection name
+  name_among (section_names g.sections) UnknownSection name
 
 -- the point that a word names
 abbrev pub point_named : Grid → List ℕ → Result (List ℕ) Fault
 point_named g word = do
   name ← argument (read_name word)
-  known (point_names g.points) UnknownPoint name
+  name_among (point_names g.points) UnknownPoint name
 
 -- the points that words name, from the left
 unfoldable pub points_named : Grid → List (List ℕ) → Result (List (List ℕ)) Fault

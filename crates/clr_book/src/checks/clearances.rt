@@ -1,6 +1,6 @@
 //! Checks of the clearance that is named.
 ghost use Rattle.std.specs.Prelude.{◌≡◌, ◌≤◌, IfSome, option_copied};
-ghost use Rattle.clr_rules.specs.Checks.{bad_transfer, earlier, is_charge, is_in_charge, is_supervisor, may_not_transfer, not_holder, too_many_clearances, unknown_clearance, unknown_section, wrong_phase};
+ghost use Rattle.clr_rules.specs.Checks.{bad_transfer, earlier_moment, is_charge, is_in_charge, is_supervisor, may_not_transfer, not_holder, too_many_clearances, unknown_clearance, unknown_section, wrong_phase};
 ghost use Rattle.clr_rules.specs.Checks.{employee};
 ghost use Rattle.clr_rules.specs.Records.{is_cancellable, is_granted, is_ordered, is_released, is_requested, is_restoring, is_running, is_transferable, record_of};
 
@@ -117,8 +117,8 @@ pub(crate) fn bad_transfer(near: &Near, id: ClearanceId, to: Name) -> Option<Ref
 }
 
 /// Whether something later is written down of the clearance.
-pub(crate) fn earlier(near: &Near, id: ClearanceId, at: Moment) -> Option<Refusal>
-    ensures { result ≡ earlier near.now.rows id at }
+pub(crate) fn earlier_moment(near: &Near, id: ClearanceId, at: Moment) -> Option<Refusal>
+    ensures { result ≡ earlier_moment near.now.rows id at }
 {
     let record = record(near, id)?;
     refuse(at < record.last, Refusal::Earlier)

@@ -4,7 +4,7 @@ ghost use Rattle.clr_net.specs.Names.{has_name};
 ghost use Rattle.clr_order.specs.Step.{task};
 ghost use Rattle.clr_rules.specs.Checks.{unsound_order, wrong_restoring, wrong_switching};
 ghost use Rattle.clr_rules.specs.Fences.{rows_of_fence, touches};
-ghost use Rattle.clr_rules.specs.Holds.{has_hold, held_at, once};
+ghost use Rattle.clr_rules.specs.Holds.{has_hold, held_at, first_of_each};
 ghost use Rattle.clr_rules.specs.Refusals.{order_refusal};
 ghost use Rattle.clr_rules.specs.Steps.{points_of, steps_in};
 ghost use Rattle.clr_rules.specs.declared.hold_kind.HoldKind.TheVariants.{HeldOpen};
@@ -78,9 +78,9 @@ fn first_points(near: &Near, id: ClearanceId) -> Result<Vec<Name>, AllocError>
 }
 
 /// These names, each where it stands first.
-#[tactic(auto, unfolding(clr_rules::specs::Holds::once))]
+#[tactic(auto, unfolding(clr_rules::specs::Holds::first_of_each))]
 fn each_once(alloc: Global, names: &[Name]) -> Result<Vec<Name>, AllocError>
-    ensures { IfOk result (λ kept. kept.items ≡ once names.now) }
+    ensures { IfOk result (λ kept. kept.items ≡ first_of_each names.now) }
 {
     let mut kept = Vec::new(alloc);
     for name in names {

@@ -1,9 +1,9 @@
 //! Checks of the step that is named.
 ghost use Rattle.std.specs.Prelude.{◌≡◌, IfOk, option_copied};
-ghost use Rattle.clr_rules.specs.Checks.{held, in_hand, no_step, not_a_waiting_close, step_given_out, out_of_turn, repeat_differs, steps_left, wrong_reporter, wrong_state};
+ghost use Rattle.clr_rules.specs.Checks.{hold_hinders, in_hand, no_step, not_a_waiting_close, step_given_out, out_of_turn, repeat_differs, steps_left, wrong_reporter, wrong_state};
 ghost use Rattle.clr_rules.specs.Holds.{earlier_hold, hinders, hindering_hold, stands_before};
 ghost use Rattle.clr_rules.specs.States.{hand_of};
-ghost use Rattle.clr_rules.specs.Steps.{all_done, is_active, is_in_turn, is_repeated, is_some_step, is_waiting, present, some_active, step_at, steps_in, steps_of};
+ghost use Rattle.clr_rules.specs.Steps.{all_done, is_active, is_in_turn, is_repeated, is_some_step, is_waiting, present_steps, some_active, step_at, steps_in, steps_of};
 
 use crate::checks::refuse;
 use crate::checks::rows::find_row;
@@ -28,7 +28,7 @@ fn has_round(near: &Near, id: ClearanceId, round: u8) -> bool
 
 /// The round whose steps are the present ones.
 pub(crate) fn last_round(near: &Near, id: ClearanceId) -> u8
-    ensures { present near.now.rows.steps id ≡ steps_in near.now.rows.steps id result }
+    ensures { present_steps near.now.rows.steps id ≡ steps_in near.now.rows.steps id result }
 {
     if has_round(near, id, 2) { 2 } else { 1 }
 }
@@ -48,7 +48,7 @@ fn step_in<'a>(near: &Near<'a>, id: ClearanceId, round: u8, number: u16) -> Opti
 
 /// The step of a number in the present round.
 pub(crate) fn step<'a>(near: &Near<'a>, id: ClearanceId, number: u16) -> Option<&'a StepRow>
-    ensures { option_copied result ≡ step_at (present near.now.rows.steps id) number }
+    ensures { option_copied result ≡ step_at (present_steps near.now.rows.steps id) number }
 {
     let round = last_round(near, id);
     step_in(near, id, round, number)
@@ -231,8 +231,8 @@ fn hindering_hold(near: &Near, id: ClearanceId, point: Name) -> Option<Hold>
 }
 
 /// Whether the step would close a point at which a hold forbids it.
-pub(crate) fn held(near: &Near, id: ClearanceId, number: u16) -> Option<Refusal>
-    ensures { result ≡ held near.now.rows id number }
+pub(crate) fn hold_hinders(near: &Near, id: ClearanceId, number: u16) -> Option<Refusal>
+    ensures { result ≡ hold_hinders near.now.rows id number }
 {
     let Some(row) = step(near, id, number) else {
         return None;

@@ -1,6 +1,6 @@
 //! Checks of tests, grounds and crews.
 ghost use Rattle.std.specs.Prelude.{◌≡◌, IfOk};
-ghost use Rattle.clr_rules.specs.Checks.{at_work, crew_is_off, crew_is_on, crews_on, crews_on_work, grounded, grounded_there, not_attested, not_grounded, not_tested, outside_fence};
+ghost use Rattle.clr_rules.specs.Checks.{at_work, crew_is_off, crew_is_on, crews_on, crews_on_work, any_ground, has_ground, not_attested, no_ground, not_tested, outside_fence};
 ghost use Rattle.clr_rules.specs.Holds.{has_any_hold, has_hold, has_some_hold, places_of};
 
 use crate::checks::clearances::record;
@@ -79,24 +79,24 @@ pub(crate) fn not_tested(near: &Near, id: ClearanceId, section: Name) -> Option<
 }
 
 /// Whether the clearance has a ground at a section.
-pub(crate) fn grounded_there(near: &Near, id: ClearanceId, section: Name) -> Option<Refusal>
-    ensures { result ≡ grounded_there near.now.rows id section }
+pub(crate) fn has_ground(near: &Near, id: ClearanceId, section: Name) -> Option<Refusal>
+    ensures { result ≡ has_ground near.now.rows id section }
 {
     let grounded = has_hold(near, id, HoldKind::Ground, section);
     refuse(grounded, Refusal::Grounded)
 }
 
 /// Whether the clearance has no ground at a section.
-pub(crate) fn not_grounded(near: &Near, id: ClearanceId, section: Name) -> Option<Refusal>
-    ensures { result ≡ not_grounded near.now.rows id section }
+pub(crate) fn no_ground(near: &Near, id: ClearanceId, section: Name) -> Option<Refusal>
+    ensures { result ≡ no_ground near.now.rows id section }
 {
     let grounded = has_hold(near, id, HoldKind::Ground, section);
     refuse(!grounded, Refusal::NotGrounded)
 }
 
 /// Whether the clearance has a ground anywhere.
-pub(crate) fn grounded(near: &Near, id: ClearanceId) -> Option<Refusal>
-    ensures { result ≡ grounded near.now.rows id }
+pub(crate) fn any_ground(near: &Near, id: ClearanceId) -> Option<Refusal>
+    ensures { result ≡ any_ground near.now.rows id }
 {
     let grounded = has_some_hold(near, id, HoldKind::Ground);
     refuse(grounded, Refusal::Grounded)
@@ -113,11 +113,11 @@ pub(crate) fn work_not_tested(near: &Near, id: ClearanceId) -> Option<Refusal>
 
 /// Whether the clearance has no ground at its work section.
 pub(crate) fn work_not_grounded(near: &Near, id: ClearanceId) -> Option<Refusal>
-    ensures { result ≡ at_work near.now.rows id (not_grounded near.now.rows id) }
+    ensures { result ≡ at_work near.now.rows id (no_ground near.now.rows id) }
 {
     let record = record(near, id)?;
     let work = record.work?;
-    not_grounded(near, id, work)
+    no_ground(near, id, work)
 }
 
 /// Whether a crew is signed on to the clearance.

@@ -5,7 +5,7 @@ ghost use Rattle.clr_book.specs.Decision.{near_edits, near_refusal};
 ghost use Rattle.clr_book.specs.Effect.{IsOf, edits_in};
 
 use crate::checks::callers::{not_operator, unknown_caller};
-use crate::checks::clearances::{earlier, not_restoring, record, unknown_clearance};
+use crate::checks::clearances::{earlier_moment, not_restoring, record, unknown_clearance};
 use crate::checks::first_of;
 use crate::checks::steps::{no_step, not_a_waiting_close, step};
 use crate::effect::Effect;
@@ -28,7 +28,7 @@ pub(crate) fn refusal_of(
         unknown_caller(near, by),
         not_operator(near, by),
         unknown_clearance(near, id),
-        earlier(near, id, at),
+        earlier_moment(near, id, at),
         not_restoring(near, id),
         no_step(near, id, number),
         not_a_waiting_close(near, id, number),

@@ -5,7 +5,7 @@ ghost use Rattle.clr_book.specs.Decision.{near_edits, near_refusal};
 ghost use Rattle.clr_book.specs.Effect.{IsOf, edits_in};
 
 use crate::checks::callers::{not_operator, unknown_caller};
-use crate::checks::clearances::{earlier, not_ordered, record, unknown_clearance};
+use crate::checks::clearances::{earlier_moment, not_ordered, record, unknown_clearance};
 use crate::checks::first_of;
 use crate::checks::steps::steps_left;
 use crate::effect::Effect;
@@ -20,7 +20,7 @@ pub(crate) fn refusal_of(near: &Near, by: Name, at: Moment, id: ClearanceId) -> 
         unknown_caller(near, by),
         not_operator(near, by),
         unknown_clearance(near, id),
-        earlier(near, id, at),
+        earlier_moment(near, id, at),
         not_ordered(near, id),
         steps_left(near, id),
     ])

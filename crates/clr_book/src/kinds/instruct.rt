@@ -5,11 +5,11 @@ ghost use Rattle.clr_book.specs.Decision.{near_edits, near_refusal};
 ghost use Rattle.clr_book.specs.Effect.{IsOf, edits_in};
 
 use crate::checks::callers::{not_operator, unknown_caller};
-use crate::checks::clearances::{earlier, not_running, record, unknown_clearance};
+use crate::checks::clearances::{earlier_moment, not_running, record, unknown_clearance};
 use crate::checks::first_of;
-use crate::checks::steps::{held, in_hand, no_step, not_waiting, out_of_turn, step};
+use crate::checks::steps::{hold_hinders, in_hand, no_step, not_waiting, out_of_turn, step};
 use crate::effect::Effect;
-use crate::kinds::moved::moved;
+use crate::kinds::step_moves::step_moved;
 use crate::near::Near;
 use clr_net::Name;
 use clr_order::StepState;
@@ -29,13 +29,13 @@ pub(crate) fn refusal_of(
         unknown_caller(near, by),
         not_operator(near, by),
         unknown_clearance(near, id),
-        earlier(near, id, at),
+        earlier_moment(near, id, at),
         not_running(near, id),
         no_step(near, id, number),
         out_of_turn(near, id, number),
         not_waiting(near, id, number),
         in_hand(near, id, number),
-        held(near, id, number),
+        hold_hinders(near, id, number),
     ])
 }
 
@@ -60,7 +60,7 @@ pub(crate) fn effect(
         point: row.step.point,
         hand: Some(id),
     };
-    let instructed = moved(row, StepState::Instructed, row.step.reader);
+    let instructed = step_moved(row, StepState::Instructed, row.step.reader);
     let clearance = Record { last: at, ..*found };
     let lead = vec![in near.alloc; taken]?;
     let steps = vec![in near.alloc; instructed]?;

@@ -8,9 +8,9 @@ ghost use Rattle.clr_rules.specs.declared.change.Edit.TheVariants.{TakeHold};
 ghost use Rattle.clr_rules.specs.declared.hold_kind.HoldKind.TheVariants.{Tested};
 
 use crate::checks::callers::{not_charge, unknown_caller};
-use crate::checks::clearances::{earlier, not_granted, not_holder, record, unknown_clearance};
+use crate::checks::clearances::{earlier_moment, not_granted, not_holder, record, unknown_clearance};
 use crate::checks::first_of;
-use crate::checks::work::{crews_on, grounded, not_attested, places_of};
+use crate::checks::work::{crews_on, any_ground, not_attested, places_of};
 use crate::effect::Effect;
 use crate::near::Near;
 use clr_net::Name;
@@ -32,10 +32,10 @@ pub(crate) fn refusal_of(
         not_charge(near, by),
         unknown_clearance(near, id),
         not_holder(near, id, by),
-        earlier(near, id, at),
+        earlier_moment(near, id, at),
         not_granted(near, id),
         crews_on(near, id),
-        grounded(near, id),
+        any_ground(near, id),
         not_attested(notified, clear),
     ])
 }

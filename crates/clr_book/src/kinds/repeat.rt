@@ -5,11 +5,11 @@ ghost use Rattle.clr_book.specs.Decision.{near_edits, near_refusal};
 ghost use Rattle.clr_book.specs.Effect.{IsOf, edits_in};
 
 use crate::checks::callers::{not_field, unknown_caller};
-use crate::checks::clearances::{earlier, not_running, record, unknown_clearance};
+use crate::checks::clearances::{earlier_moment, not_running, record, unknown_clearance};
 use crate::checks::first_of;
 use crate::checks::steps::{no_step, not_active, repeat_differs, step};
 use crate::effect::Effect;
-use crate::kinds::moved::moved;
+use crate::kinds::step_moves::step_moved;
 use crate::near::Near;
 use clr_net::Name;
 use clr_order::StepState;
@@ -31,7 +31,7 @@ pub(crate) fn refusal_of(
         unknown_caller(near, by),
         not_field(near, by),
         unknown_clearance(near, id),
-        earlier(near, id, at),
+        earlier_moment(near, id, at),
         not_running(near, id),
         no_step(near, id, number),
         not_active(near, id, number),
@@ -58,7 +58,7 @@ pub(crate) fn effect(
     let Some(row) = step(near, id, number) else {
         unreachable!()
     };
-    let repeated = moved(row, StepState::Repeated, Some(by));
+    let repeated = step_moved(row, StepState::Repeated, Some(by));
     let clearance = Record { last: at, ..*found };
     let lead = Vec::new(near.alloc);
     let steps = vec![in near.alloc; repeated]?;

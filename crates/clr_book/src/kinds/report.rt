@@ -1,6 +1,6 @@
 //! The reader of a step reports that it was done, or that it was not.
 ghost use Rattle.std.specs.Prelude.{◌≡◌, ◌++◌, true, IfOk, [], ◌∷◌, None};
-ghost use Rattle.clr_rules.specs.Changes.{done_edits, hold_edits, moved, phase_after, position_edits, undone_edits};
+ghost use Rattle.clr_rules.specs.Changes.{done_edits, hold_edits, step_moved, phase_after, position_edits, undone_edits};
 ghost use Rattle.clr_rules.specs.Records.{is_switch_order};
 ghost use Rattle.clr_order.specs.declared.step.StepState.TheVariants.{Done};
 ghost use Rattle.clr_rules.specs.declared.command.Kind.TheVariants as kinds;
@@ -9,11 +9,11 @@ ghost use Rattle.clr_book.specs.Effect.{IsOf, edits_in};
 
 use crate::card::progress_with;
 use crate::checks::callers::{not_field, unknown_caller};
-use crate::checks::clearances::{earlier, not_running, record, unknown_clearance};
+use crate::checks::clearances::{earlier_moment, not_running, record, unknown_clearance};
 use crate::checks::first_of;
 use crate::checks::steps::{no_step, not_repeated, step, wrong_reporter};
 use crate::effect::Effect;
-use crate::kinds::moved::moved;
+use crate::kinds::step_moves::step_moved;
 use crate::near::Near;
 use clr_net::{Name, Position};
 use clr_order::{Action, StepState};
@@ -34,7 +34,7 @@ pub(crate) fn refusal_of(
         unknown_caller(near, by),
         not_field(near, by),
         unknown_clearance(near, id),
-        earlier(near, id, at),
+        earlier_moment(near, id, at),
         not_running(near, id),
         no_step(near, id, number),
         not_repeated(near, id, number),
@@ -119,9 +119,9 @@ fn point_edits(alloc: Global, clearance: &Record, row: &StepRow) -> Result<Vec<E
 
 /// A step that was done.
 fn done(row: &StepRow) -> StepRow
-    ensures { result ≡ moved Done row.now.step.reader row.now }
+    ensures { result ≡ step_moved Done row.now.step.reader row.now }
 {
-    moved(row, StepState::Done, row.step.reader)
+    step_moved(row, StepState::Done, row.step.reader)
 }
 
 /// The phase after a step is done.
@@ -176,7 +176,7 @@ fn undone_effect(
         point: row.step.point,
         hand: None,
     };
-    let waiting = moved(row, StepState::Waiting, None);
+    let waiting = step_moved(row, StepState::Waiting, None);
     let after = Record {
         last: at,
         ..*clearance

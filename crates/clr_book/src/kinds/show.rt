@@ -1,6 +1,6 @@
 //! Anyone of the staff asks how a clearance stands.
 ghost use Rattle.std.specs.Prelude.{◌≡◌, IfOk, None, Some};
-ghost use Rattle.clr_rules.specs.Answer.{told};
+ghost use Rattle.clr_rules.specs.Answer.{reply_of};
 ghost use Rattle.clr_rules.specs.Records.{record_of};
 ghost use Rattle.clr_rules.specs.declared.command.Kind.TheVariants as kinds;
 ghost use Rattle.clr_book.specs.Decision.{near_refusal};
@@ -24,7 +24,7 @@ pub(crate) fn refusal_of(near: &Near, by: Name, at: Moment, id: ClearanceId) -> 
 /// What is shown. Nothing changes.
 pub(crate) fn view(near: &Near, by: Name, at: Moment, id: ClearanceId) -> Result<View, AllocError>
     requires { near_refusal near.now by at (kinds.Show id) ≡ None }
-    ensures { IfOk result (λ view. told near.now.known near.now.rows (kinds.Show id) (record_of near.now.rows.records id) ≡ Shown view) }
+    ensures { IfOk result (λ view. reply_of near.now.known near.now.rows (kinds.Show id) (record_of near.now.rows.records id) ≡ Shown view) }
 {
     let Some(found) = record(near, id) else {
         unreachable!()

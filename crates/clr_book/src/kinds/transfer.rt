@@ -6,7 +6,7 @@ ghost use Rattle.clr_book.specs.Effect.{IsOf, edits_in};
 
 use crate::checks::callers::unknown_caller;
 use crate::checks::clearances::{
-    bad_transfer, earlier, may_not_transfer, not_transferable, record, unknown_clearance,
+    bad_transfer, earlier_moment, may_not_transfer, not_transferable, record, unknown_clearance,
 };
 use crate::checks::first_of;
 use crate::effect::Effect;
@@ -28,7 +28,7 @@ pub(crate) fn refusal_of(
         unknown_caller(near, by),
         unknown_clearance(near, id),
         may_not_transfer(near, id, by, emergency),
-        earlier(near, id, at),
+        earlier_moment(near, id, at),
         not_transferable(near, id),
         bad_transfer(near, id, to),
     ])

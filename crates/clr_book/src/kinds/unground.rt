@@ -5,9 +5,9 @@ ghost use Rattle.clr_book.specs.Decision.{near_edits, near_refusal};
 ghost use Rattle.clr_book.specs.Effect.{IsOf, edits_in};
 
 use crate::checks::callers::{not_charge, unknown_caller};
-use crate::checks::clearances::{earlier, not_granted, not_holder, record, unknown_clearance};
+use crate::checks::clearances::{earlier_moment, not_granted, not_holder, record, unknown_clearance};
 use crate::checks::first_of;
-use crate::checks::work::{crews_on_work, not_grounded, outside_fence};
+use crate::checks::work::{crews_on_work, no_ground, outside_fence};
 use crate::effect::Effect;
 use crate::near::Near;
 use clr_net::Name;
@@ -28,10 +28,10 @@ pub(crate) fn refusal_of(
         not_charge(near, by),
         unknown_clearance(near, id),
         not_holder(near, id, by),
-        earlier(near, id, at),
+        earlier_moment(near, id, at),
         not_granted(near, id),
         outside_fence(near, section),
-        not_grounded(near, id, section),
+        no_ground(near, id, section),
         crews_on_work(near, id, section),
     ])
 }

@@ -4,7 +4,7 @@ ghost use Rattle.std.specs.List.Sorted.{IsStrictlySortedBy};
 ghost use Rattle.clr_net.specs.Grid.{Grid};
 ghost use Rattle.clr_net.specs.Name.{name_cmp};
 ghost use Rattle.clr_net.specs.Names.{has_name};
-ghost use Rattle.clr_rules.specs.Answer.{fence_for, numbered_for};
+ghost use Rattle.clr_rules.specs.Answer.{fence_for, requester_for};
 ghost use Rattle.clr_rules.specs.Command.{named_clearance};
 ghost use Rattle.clr_rules.specs.Fences.{record_fence, touching_names, work_fence};
 ghost use Rattle.clr_rules.specs.Records.{greatest_number};
@@ -41,10 +41,10 @@ impl<P: Shelf<PointState>, C: Shelf<Record>, T: Shelf<StepRow>, H: Shelf<Hold>> 
     /// The greatest number of the clearances of the requester whose clearance is named, or of the caller; 0 where there is none.
     /// It is that of the last.
     pub(crate) fn greatest_for(&self, command: &Command) -> u16
-        ensures value { result ≡ greatest_number self.now.register.records (numbered_for command.now.caller (named_clearance command.now.kind)) }
+        ensures value { result ≡ greatest_number self.now.register.records (requester_for command.now.caller (named_clearance command.now.kind)) }
         ensures range { result ≤ 9999 }
     {
-        let requester = numbered_for(command.caller, command.kind.clearance());
+        let requester = requester_for(command.caller, command.kind.clearance());
         match self.records.last(&requester) {
             Some(record) => record.id.number(),
             None => 0,
@@ -104,8 +104,8 @@ impl<P: Shelf<PointState>, C: Shelf<Record>, T: Shelf<StepRow>, H: Shelf<Hold>> 
 }
 
 /// Whose numbers count: those of the requester of the clearance that is named; a new clearance is the caller's.
-fn numbered_for(caller: Name, named: Option<ClearanceId>) -> Name
-    ensures { result ≡ numbered_for caller named }
+fn requester_for(caller: Name, named: Option<ClearanceId>) -> Name
+    ensures { result ≡ requester_for caller named }
 {
     match named {
         Some(id) => id.requester(),

@@ -3,7 +3,7 @@ ghost use Rattle.std.specs.Prelude.{◌≡◌, ◌||◌, ℕ, List, IfOk, map};
 ghost use Rattle.std.specs.List.Sorted.{IsStrictlySortedBy};
 ghost use Rattle.clr_net.specs.Name.{name_cmp};
 ghost use Rattle.clr_net.specs.Names.{has_name};
-ghost use Rattle.clr_rules.specs.Near.{switched, switched_in};
+ghost use Rattle.clr_rules.specs.Near.{switched_points, switched_in};
 
 use crate::book::Book;
 use crate::near::names::in_order;
@@ -22,17 +22,17 @@ impl<P: Shelf<PointState>, C: Shelf<Record>, T: Shelf<StepRow>, H: Shelf<Hold>> 
     ) -> Result<Vec<Name>, AllocError>
         ensures rising { IfOk result (λ names. IsStrictlySortedBy name_cmp names.items) }
         ensures same { IfOk result (λ names. (p : List ℕ)
-            → has_name names.items p ≡ (has_name touching.items p || has_name (switched self.now.register kind.now) p)) }
+            → has_name names.items p ≡ (has_name touching.items p || has_name (switched_points self.now.register kind.now) p)) }
     {
         let mut names = touching;
-        let switched = self.switched(kind)?;
+        let switched = self.switched_points(kind)?;
         names.extend_from_slice(&switched)?;
         Ok(in_order(names))
     }
 
     /// The points of the switch order that a command makes or names.
-    fn switched(&self, kind: &Kind) -> Result<Vec<Name>, AllocError>
-        ensures { IfOk result (λ names. names.items ≡ switched self.now.register kind.now) }
+    fn switched_points(&self, kind: &Kind) -> Result<Vec<Name>, AllocError>
+        ensures { IfOk result (λ names. names.items ≡ switched_points self.now.register kind.now) }
     {
         match kind {
             Kind::Switch { steps } => {

@@ -2,13 +2,13 @@
 use Rattle.std.proofs.Common.{List, [], ◌∷◌, refl, ◌∙◌}
 use Rattle.clr_shelf.proofs.KeyOrder.{in_key_order-with_row, in_key_order-without_row}
 use Rattle.clr_rules.specs.EditLaws.{KeepsNetwork}
-use Rattle.clr_rules.specs.Prelude.{Edit, SetPosition, SetHand, PutHold, TakeHold, PutRecord, PutStep, id_cmp, id_cmp_total, Register, record_key, step_key, step_key_cmp, step_key_cmp_total, hold_cmp, hold_cmp_total, hold_key, edited}
-use Rattle.clr_rules.specs.Prelude.{edited_all}
+use Rattle.clr_rules.specs.Prelude.{Edit, SetPosition, SetHand, PutHold, TakeHold, PutRecord, PutStep, id_cmp, id_cmp_total, Register, record_key, step_key, step_key_cmp, step_key_cmp_total, hold_cmp, hold_cmp_total, hold_key, after_edit}
+use Rattle.clr_rules.specs.Prelude.{after_edits}
 use Rattle.clr_rules.specs.Good.{ListsAreInOrder}
 use Rattle.clr_rules.proofs.lists.StateFacts.{in_key_order-change, state_keys-change}
 
 -- an edit keeps the lists in order
-pub edited-in_order : (edit : Edit) (R : Register) → ListsAreInOrder R → ListsAreInOrder (edited edit R)
+pub edited-in_order : (edit : Edit) (R : Register) → ListsAreInOrder R → ListsAreInOrder (after_edit edit R)
 edited-in_order (SetPosition p position) R h = record {
   states = in_key_order-change (λ state. record state { position = position }) R.states p h.states;
   records = h.records;
@@ -46,13 +46,13 @@ edited-in_order (PutStep row) R h = record {
   steps = in_key_order-with_row step_key_cmp step_key step_key_cmp_total row R.steps h.steps;
 }
 
-pub edited_all-in_order : (R : Register) (edits : List Edit) → ListsAreInOrder R → ListsAreInOrder (edited_all edits R)
-unfolding edited_all
+pub edited_all-in_order : (R : Register) (edits : List Edit) → ListsAreInOrder R → ListsAreInOrder (after_edits edits R)
+unfolding after_edits
 edited_all-in_order R [] h = h
-edited_all-in_order R (edit ∷ edits) h = edited_all-in_order (edited edit R) edits (edited-in_order edit R h)
+edited_all-in_order R (edit ∷ edits) h = edited_all-in_order (after_edit edit R) edits (edited-in_order edit R h)
 
 -- an edit keeps the network, the staff and the points
-edited-network : (edit : Edit) (R : Register) → ListsAreInOrder R → KeepsNetwork R (edited edit R)
+edited-network : (edit : Edit) (R : Register) → ListsAreInOrder R → KeepsNetwork R (after_edit edit R)
 edited-network (SetPosition p position) R h = record {
   same_net = refl;
   same_staff = refl;
@@ -68,12 +68,12 @@ edited-network (TakeHold hold) R h = record { same_net = refl; same_staff = refl
 edited-network (PutRecord r) R h = record { same_net = refl; same_staff = refl; same_points = refl }
 edited-network (PutStep row) R h = record { same_net = refl; same_staff = refl; same_points = refl }
 
-pub edited_all-network : (R : Register) (edits : List Edit) → ListsAreInOrder R → KeepsNetwork R (edited_all edits R)
-unfolding edited_all
+pub edited_all-network : (R : Register) (edits : List Edit) → ListsAreInOrder R → KeepsNetwork R (after_edits edits R)
+unfolding after_edits
 edited_all-network R [] h = record { same_net = refl; same_staff = refl; same_points = refl }
 edited_all-network R (edit ∷ edits) h =
     let first = edited-network edit R h in
-    let rest = edited_all-network (edited edit R) edits (edited-in_order edit R h) in
+    let rest = edited_all-network (after_edit edit R) edits (edited-in_order edit R h) in
     record {
       same_net = rest.same_net ∙ first.same_net;
       same_staff = rest.same_staff ∙ first.same_staff;

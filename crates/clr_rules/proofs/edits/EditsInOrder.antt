@@ -12,13 +12,13 @@ use Rattle.clr_order.specs.declared.step.Step.{Step}
 use Rattle.clr_order.specs.declared.action.Action.TheVariants as actions
 use Rattle.clr_shelf.proofs.KeyOrder.{in_key_order-filter, in_key_order-first, in_key_order-rest}
 use Rattle.clr_shelf.specs.Rows.{in_key_order}
-use Rattle.clr_rules.specs.Answer.{Answer, answer, first_refusal, known_of, settled}
+use Rattle.clr_rules.specs.Answer.{Answer, answer, first_refusal, known_of, answer_by_checks}
 use Rattle.clr_rules.specs.Commands.{Known, checks, edits_of}
 use Rattle.clr_rules.specs.Changes.{done_edits, edits_by, hold_edits, new_record, new_steps, position_edits, put_steps, undone_edits}
 use Rattle.clr_rules.specs.EditOrder.{are_in_order, edit_cmp}
 use Rattle.clr_rules.specs.Good.{ListsAreInOrder}
 use Rattle.clr_rules.specs.Prelude.{Edit, SetHand, PutHold, TakeHold, PutRecord, PutStep, Command, Kind, Hold, HoldKind, Tested, Ordered, Restoring, Switching, Record, Refusal, StepRow, Id}
-use Rattle.clr_rules.specs.Prelude.{id_cmp, id_cmp_total, same_id, Register, record_of, present, step_at, hold_cmp, hold_cmp_total, hold_key, hold_of, places_of, same_kind}
+use Rattle.clr_rules.specs.Prelude.{id_cmp, id_cmp_total, same_id, Register, record_of, present_steps, step_at, hold_cmp, hold_cmp_total, hold_key, hold_of, places_of, same_kind}
 use Rattle.clr_rules.specs.Records.{is_switch_order}
 use Rattle.clr_rules.specs.declared.command.Kind.TheVariants as kinds
 use Rattle.clr_rules.proofs.lists.RoundSteps.{one_id}
@@ -134,11 +134,11 @@ edits_in_order : (k : ℕ) (R : Register) (by : List ℕ) (at : ℕ) (kind : Kin
 edits_in_order k R by at (kinds.Request section) ordered = refl
 edits_in_order k R by at (kinds.Order c points tasks) ordered = by_found (record_of R.records c) _ (λ r. round_in_order (record r { phase = Ordered; last = at }) c 1 tasks)
 edits_in_order k R by at (kinds.Instruct c n) ordered =
-    by_found (record_of R.records c) _ (λ r. by_found (step_at (present R.steps c) n) _ (λ row. refl))
+    by_found (record_of R.records c) _ (λ r. by_found (step_at (present_steps R.steps c) n) _ (λ row. refl))
 edits_in_order k R by at (kinds.Repeat c n text) ordered =
-    by_found (record_of R.records c) _ (λ r. by_found (step_at (present R.steps c) n) _ (λ row. refl))
+    by_found (record_of R.records c) _ (λ r. by_found (step_at (present_steps R.steps c) n) _ (λ row. refl))
 edits_in_order k R by at (kinds.Report c n done) ordered =
-    by_found (record_of R.records c) _ (λ r. by_found (step_at (present R.steps c) n) _ (λ row. report_in_order R at done r row))
+    by_found (record_of R.records c) _ (λ r. by_found (step_at (present_steps R.steps c) n) _ (λ row. report_in_order R at done r row))
 edits_in_order k R by at (kinds.Grant c) ordered = by_found (record_of R.records c) _ (λ r. refl)
 edits_in_order k R by at (kinds.Test c section dead) ordered = by_found (record_of R.records c) _ (λ r. test_in_order dead (hold_of c Tested section) _)
 edits_in_order k R by at (kinds.Ground c section) ordered = by_found (record_of R.records c) _ (λ r. refl)
@@ -150,12 +150,12 @@ edits_in_order k R by at (kinds.Release c notified clear) ordered = by_found (re
 edits_in_order k R by at (kinds.Cancel c) ordered = by_found (record_of R.records c) _ (λ r. refl)
 edits_in_order k R by at (kinds.Restore c tasks) ordered = by_found (record_of R.records c) _ (λ r. round_in_order (record r { phase = Restoring; last = at }) c 2 tasks)
 edits_in_order k R by at (kinds.Amend c n) ordered =
-    by_found (record_of R.records c) _ (λ r. by_found (step_at (present R.steps c) n) _ (λ row. refl))
+    by_found (record_of R.records c) _ (λ r. by_found (step_at (present_steps R.steps c) n) _ (λ row. refl))
 edits_in_order k R by at (kinds.Switch tasks) ordered =
     round_in_order (new_record k by at None Switching) (record { requester = by; number = k + 1 }) 1 tasks
 edits_in_order k R by at (kinds.Show c) ordered = refl
 
-settled_in_order : (k : Known) (R : Register) (q : Command) (found : Option Refusal) → ListsAreInOrder R → are_in_order (Answer.edits (settled k R q found)) ≡ true
+settled_in_order : (k : Known) (R : Register) (q : Command) (found : Option Refusal) → ListsAreInOrder R → are_in_order (Answer.edits (answer_by_checks k R q found)) ≡ true
 settled_in_order k R q None ordered = edits_in_order k.greatest R q.caller q.moment q.kind ordered
 settled_in_order k R q (Some refusal) ordered = refl
 

@@ -17,49 +17,49 @@ use Rattle.clr_shelf.specs.Rows.{with_row}
 use Rattle.clr_rules.specs.GoodByPhase.{IsGoodByPhase}
 use Rattle.clr_rules.specs.Prelude.{Record, Id, id_cmp, id_cmp_total, Register, greatest_number, record_key, record_of}
 use Rattle.clr_rules.specs.Id.{same_id_from_tie}
-use Rattle.clr_rules.specs.Records.{greater, numbers_of}
+use Rattle.clr_rules.specs.Records.{greater_of, numbers_of}
 use Rattle.clr_rules.proofs.lists.Filters.{there_mapped}
 use Rattle.clr_rules.proofs.lists.NamedRows.{Contains-filter}
 use Rattle.clr_rules.proofs.lists.RoundSteps.{record_id}
 
 -- ---- numbers
 
-at_least : (xs : List ℕ) (a : ℕ) → a ≤ fold greater a xs
+at_least : (xs : List ℕ) (a : ℕ) → a ≤ fold greater_of a xs
 at_least [] a = omega arith
-at_least (x ∷ xs) a = let more = at_least xs (greater a x) in let here : a ≤ greater a x = grind (arith, nat_tests) in omega arith
+at_least (x ∷ xs) a = let more = at_least xs (greater_of a x) in let here : a ≤ greater_of a x = grind (arith, nat_tests) in omega arith
 
 -- none is above the greatest
-below_greatest : (xs : List ℕ) (a x : ℕ) → Contains xs x → x ≤ fold greater a xs
+below_greatest : (xs : List ℕ) (a x : ℕ) → Contains xs x → x ≤ fold greater_of a xs
 below_greatest [] a x (k, within, is) = absurd (omega arith)
-below_greatest (y ∷ xs) a x there = at (below_greatest xs (greater a y) x) (Contains-cases y x xs there)
+below_greatest (y ∷ xs) a x there = at (below_greatest xs (greater_of a y) x) (Contains-cases y x xs there)
   where
-    at : (Contains xs x → x ≤ fold greater (greater a y) xs) → (y ≡ x) ⊎ Contains xs x → x ≤ fold greater a (y ∷ xs)
+    at : (Contains xs x → x ≤ fold greater_of (greater_of a y) xs) → (y ≡ x) ⊎ Contains xs x → x ≤ fold greater_of a (y ∷ xs)
     at later (inl here) =
-        let more = at_least xs (greater a y) in
-        let first : y ≤ greater a y = grind (arith, nat_tests) in
-        let same : x ≤ greater a y = rw (← here) first in
+        let more = at_least xs (greater_of a y) in
+        let first : y ≤ greater_of a y = grind (arith, nat_tests) in
+        let same : x ≤ greater_of a y = rw (← here) first in
         omega arith
     at later (inr there) = later there
 
 -- of numbers that run on from one, the last is the greatest
-greatest_of_range : (n a : ℕ) → fold greater a (range_with_len (a + 1) n) ≡ a + n
+greatest_of_range : (n a : ℕ) → fold greater_of a (range_with_len (a + 1) n) ≡ a + n
 greatest_of_range zero a = omega arith
 greatest_of_range (suc n) a =
-    let next : greater a (a + 1) ≡ a + 1 = grind (arith, nat_tests) in
+    let next : greater_of a (a + 1) ≡ a + 1 = grind (arith, nat_tests) in
     let more = greatest_of_range n (a + 1) in
-    ap (λ b. fold greater b (range_with_len (a + 1 + 1) n)) next ∙ more ∙ (omega arith)
+    ap (λ b. fold greater_of b (range_with_len (a + 1 + 1) n)) next ∙ more ∙ (omega arith)
 
 range_more : (n a j : ℕ) → a + n ≡ j → range_with_len a n ++ j ∷ [] ≡ range_with_len a (suc n)
 range_more zero a j is = let same : j ≡ a = omega arith in ap (λ k. k ∷ []) same
 range_more (suc n) a j is = ap (λ xs. a ∷ xs) (range_more n (a + 1) j (omega arith))
 
 -- numbers without a gap, and the next
-next_number : (ns : List ℕ) → ns ≡ range_with_len 1 (length ns) → ns ++ (fold greater 0 ns + 1) ∷ [] ≡ range_with_len 1 (length (ns ++ (fold greater 0 ns + 1) ∷ []))
+next_number : (ns : List ℕ) → ns ≡ range_with_len 1 (length ns) → ns ++ (fold greater_of 0 ns + 1) ∷ [] ≡ range_with_len 1 (length (ns ++ (fold greater_of 0 ns + 1) ∷ []))
 next_number ns h =
-    let last : fold greater 0 ns ≡ length ns = ap (fold greater 0) h ∙ greatest_of_range (length ns) 0 ∙ (omega arith) in
-    let count : length (ns ++ (fold greater 0 ns + 1) ∷ []) ≡ suc (length ns) = length-append ns ((fold greater 0 ns + 1) ∷ []) ∙ (omega arith) in
-    ap (λ xs. xs ++ (fold greater 0 ns + 1) ∷ []) h
-    ∙ range_more (length ns) 1 (fold greater 0 ns + 1) (omega arith)
+    let last : fold greater_of 0 ns ≡ length ns = ap (fold greater_of 0) h ∙ greatest_of_range (length ns) 0 ∙ (omega arith) in
+    let count : length (ns ++ (fold greater_of 0 ns + 1) ∷ []) ≡ suc (length ns) = length-append ns ((fold greater_of 0 ns + 1) ∷ []) ∙ (omega arith) in
+    ap (λ xs. xs ++ (fold greater_of 0 ns + 1) ∷ []) h
+    ∙ range_more (length ns) 1 (fold greater_of 0 ns + 1) (omega arith)
     ∙ ap (range_with_len 1) (sym count)
 
 -- ---- the record

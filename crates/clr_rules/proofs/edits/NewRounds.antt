@@ -20,7 +20,7 @@ use Rattle.clr_shelf.proofs.Keys.{equal}
 use Rattle.clr_shelf.proofs.Lists.{Contains-here, Contains-later}
 use Rattle.clr_shelf.specs.Rows.{in_key_order, with_row}
 use Rattle.clr_rules.specs.Changes.{new_steps, put_steps}
-use Rattle.clr_rules.specs.Prelude.{PutRecord, Record, StepRow, Id, id_cmp, id_cmp_total, same_id, Register, record_key, step_key, step_key_cmp, step_key_cmp_total, is_active, steps_in, steps_of, tasks_of, edited_all}
+use Rattle.clr_rules.specs.Prelude.{PutRecord, Record, StepRow, Id, id_cmp, id_cmp_total, same_id, Register, record_key, step_key, step_key_cmp, step_key_cmp_total, is_active, steps_in, steps_of, tasks_of, after_edits}
 use Rattle.clr_rules.specs.Good.{is_closing_at}
 use Rattle.clr_rules.specs.GoodByPhase.{ActiveInRound, InPhase, IsGoodByPhase, active_at, all_waiting, go_in_turn, of_round}
 use Rattle.clr_rules.specs.StepKey.{same_step_key}
@@ -38,8 +38,8 @@ put_all [] steps = steps
 put_all (row ∷ rows) steps = put_all rows (put_step row steps)
 
 -- only steps are put
-pub steps_put : (rows : List StepRow) (S : Register) → edited_all (put_steps rows) S ≡ record S { steps = put_all rows S.steps }
-unfolding edited_all
+pub steps_put : (rows : List StepRow) (S : Register) → after_edits (put_steps rows) S ≡ record S { steps = put_all rows S.steps }
+unfolding after_edits
 steps_put [] S = refl
 steps_put (row ∷ rows) S = steps_put rows (record S { steps = put_step row S.steps })
 
@@ -146,8 +146,8 @@ with_round R new round tasks = record R {
 }
 
 pub round_put : (R : Register) (new : Record) (round : ℕ) (tasks : List Task)
-    → edited_all (PutRecord new ∷ put_steps (new_steps new.id round 1 tasks)) R ≡ with_round R new round tasks
-unfolding edited_all
+    → after_edits (PutRecord new ∷ put_steps (new_steps new.id round 1 tasks)) R ≡ with_round R new round tasks
+unfolding after_edits
 round_put R new round tasks = steps_put (new_steps new.id round 1 tasks) (record R { records = with_row id_cmp record_key new R.records })
 
 -- a clearance of which no step is given out, and of whose new round there is none

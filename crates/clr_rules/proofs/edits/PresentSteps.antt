@@ -7,7 +7,7 @@ use Rattle.clr_order.specs.declared.step.StepState.{StepState}
 use Rattle.clr_order.specs.declared.step.StepState.TheVariants.{Waiting, Done}
 use Rattle.clr_rules.specs.Changes.{edits_by, with_step}
 use Rattle.clr_rules.specs.Checks.{no_step}
-use Rattle.clr_rules.specs.Prelude.{Edit, Record, StepRow, Id, Register, record_of, is_running, all_done, is_active, is_done, is_some_step, is_waiting, present, present_round, step_at, steps_in, steps_of, edited_all}
+use Rattle.clr_rules.specs.Prelude.{Edit, Record, StepRow, Id, Register, record_of, is_running, all_done, is_active, is_done, is_some_step, is_waiting, present_steps, present_round, step_at, steps_in, steps_of, after_edits}
 use Rattle.clr_rules.specs.GoodByPhase.{ActiveInRound, IsGoodByPhase, go_in_turn, of_round, outlook_of, present_of}
 use Rattle.clr_rules.specs.Steps.{is_in_turn, is_of_round}
 use Rattle.clr_rules.specs.declared.refusal.Refusal.TheVariants.{NoStep}
@@ -25,19 +25,19 @@ pub record IsPresent (R : Register) (c : Id) (row : StepRow) : Type 0 where
   pub own : row.id ≡ c
   pub there : Contains R.steps row
   pub now : row.round ≡ present_of (steps_of R.steps c)
-  pub round : present R.steps c ≡ steps_in R.steps c row.round
+  pub round : present_steps R.steps c ≡ steps_in R.steps c row.round
 
 in_steps : (steps : List StepRow) (c : Id) (k : ℕ) (row : StepRow) → Contains (steps_in steps c k) row → Contains steps row
 unfolding steps_in
 in_steps steps c k row there = kept_there (is_of_round c k) steps row there
 
-present_step : (R : Register) (c : Id) (row : StepRow) → Contains (present R.steps c) row → IsPresent R c row
+present_step : (R : Register) (c : Id) (row : StepRow) → Contains (present_steps R.steps c) row → IsPresent R c row
 present_step R c row there = at (is_some_step (steps_in R.steps c 2)) refl (is_some_step (steps_in R.steps c 1)) refl there
   where
     of : (k : ℕ) → Contains (steps_in R.steps c k) row → (row.id ≡ c) × (row.round ≡ k)
     of k among = All-contains (λ (row : StepRow). (row.id ≡ c) × (row.round ≡ k)) (steps_in R.steps c k) row (of_the_round R.steps c k) among
 
-    from : (k : ℕ) → present_round R.steps c ≡ k → present R.steps c ≡ steps_in R.steps c k → Contains (present R.steps c) row → IsPresent R c row
+    from : (k : ℕ) → present_round R.steps c ≡ k → present_steps R.steps c ≡ steps_in R.steps c k → Contains (present_steps R.steps c) row → IsPresent R c row
     from k round is among =
         let inside : Contains (steps_in R.steps c k) row = subst (λ (rows : List StepRow). Contains rows row) is among in
         record {
@@ -47,7 +47,7 @@ present_step R c row there = at (is_some_step (steps_in R.steps c 2)) refl (is_s
           round = is ∙ ap (steps_in R.steps c) (sym (of k inside).1);
         }
 
-    at : (a : Bool) → is_some_step (steps_in R.steps c 2) ≡ a → (b : Bool) → is_some_step (steps_in R.steps c 1) ≡ b → Contains (present R.steps c) row → IsPresent R c row
+    at : (a : Bool) → is_some_step (steps_in R.steps c 2) ≡ a → (b : Bool) → is_some_step (steps_in R.steps c 1) ≡ b → Contains (present_steps R.steps c) row → IsPresent R c row
     at true e b f among = from 2 (rw e refl) (rw e refl) among
     at false e true f among = from 1 (rw (e, f) refl) (rw e refl) among
     at false e false f among =
@@ -58,28 +58,28 @@ present_step R c row there = at (is_some_step (steps_in R.steps c 2)) refl (is_s
 -- the step that a command found
 pub record FoundStep (R : Register) (c : Id) (n : ℕ) : Type 0 where
   pub row : StepRow
-  pub found : step_at (present R.steps c) n ≡ Some row
+  pub found : step_at (present_steps R.steps c) n ≡ Some row
   pub ordinal : row.ordinal ≡ n
   pub is_present : IsPresent R c row
 
 pub step_there : (R : Register) (c : Id) (n : ℕ) → no_step R c n ≡ None → FoundStep R c n
-step_there R c n passed = at (step_at (present R.steps c) n) refl (not_refused_true (is_some (step_at (present R.steps c) n)) NoStep passed)
+step_there R c n passed = at (step_at (present_steps R.steps c) n) refl (not_refused_true (is_some (step_at (present_steps R.steps c) n)) NoStep passed)
   where
-    at : (o : Option StepRow) → step_at (present R.steps c) n ≡ o → is_some o ≡ true → FoundStep R c n
+    at : (o : Option StepRow) → step_at (present_steps R.steps c) n ≡ o → is_some o ≡ true → FoundStep R c n
     at None none there = absurd (false≢true there)
     at (Some row) found there = record {
       row = row;
       found = found;
-      ordinal = eqb-true row.ordinal n (found_passes (λ (row : StepRow). nat_eq row.ordinal n) (present R.steps c) row found);
-      is_present = present_step R c row (found_there (λ (row : StepRow). nat_eq row.ordinal n) (present R.steps c) row found);
+      ordinal = eqb-true row.ordinal n (found_passes (λ (row : StepRow). nat_eq row.ordinal n) (present_steps R.steps c) row found);
+      is_present = present_step R c row (found_there (λ (row : StepRow). nat_eq row.ordinal n) (present_steps R.steps c) row found);
     }
 
 -- the edits of a command that found its record and its step
 pub found_step_edits : (R : Register) (c : Id) (n : ℕ) (r : Record) (row : StepRow) (edits : Record → StepRow → List Edit) → record_of R.records c ≡ Some r
-    → step_at (present R.steps c) n ≡ Some row → IsGoodByPhase (edited_all (edits r row) R) → IsGoodByPhase (edited_all (with_step R c n edits) R)
+    → step_at (present_steps R.steps c) n ≡ Some row → IsGoodByPhase (after_edits (edits r row) R) → IsGoodByPhase (after_edits (with_step R c n edits) R)
 found_step_edits R c n r row edits found step h =
-    subst (λ (o : Option Record). IsGoodByPhase (edited_all (edits_by o (λ r. edits_by (step_at (present R.steps c) n) (edits r))) R)) (sym found)
-    (subst (λ (o : Option StepRow). IsGoodByPhase (edited_all (edits_by o (edits r)) R)) (sym step) h)
+    subst (λ (o : Option Record). IsGoodByPhase (after_edits (edits_by o (λ r. edits_by (step_at (present_steps R.steps c) n) (edits r))) R)) (sym found)
+    (subst (λ (o : Option StepRow). IsGoodByPhase (after_edits (edits_by o (edits r)) R)) (sym step) h)
 
 -- ---- its place among the clearance's steps
 
@@ -123,7 +123,7 @@ module _ (R : Register) (good : IsGoodByPhase R) (c : Id) (r : Record) (found : 
       }
 
   -- and of one that waits, when it has its turn
-  pub waiting_midst : is_waiting row.step.state ≡ true → is_in_turn (present R.steps c) row.ordinal ≡ true → InMidst before after row row.round
+  pub waiting_midst : is_waiting row.step.state ≡ true → is_in_turn (present_steps R.steps c) row.ordinal ≡ true → InMidst before after row row.round
   waiting_midst waiting turn =
       let steps_are : steps_in R.steps c row.round ≡ of_round before row.round ++ row ∷ of_round after row.round = sym (of_round_is R.steps c row.round) ∙ the_round in
       record {

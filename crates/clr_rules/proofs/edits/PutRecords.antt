@@ -86,9 +86,9 @@ module _ (R : Register) (good : IsGoodByPhase R) (c : Id) (new : Record) (own : 
       }
 
 -- a record put over that of its clearance
-pub moved : (R : Register) → IsGoodByPhase R → (c : Id) (r new : Record) → record_of R.records c ≡ Some r → new.id ≡ c → new.work ≡ r.work
+pub put_changes : (R : Register) → IsGoodByPhase R → (c : Id) (r new : Record) → record_of R.records c ≡ Some r → new.id ≡ c → new.work ≡ r.work
     → (S : Register) → S.records ≡ with_row id_cmp record_key new R.records → Moved R S c new → Changed R S c
-moved R good c r new found own same_work S puts move = changed_by R good c new own S puts move
+put_changes R good c r new found own same_work S puts move = changed_by R good c new own S puts move
     (ap (is_known_work (section_names (Grid.sections R.net))) same_work
     ∙ All-contains (λ (s : Record). is_known_work (section_names (Grid.sections R.net)) s.work ≡ true) R.records r good.work_known
     (member-row_of id_cmp record_key id_cmp_total c r R.records found).0)

@@ -7,7 +7,7 @@ use Rattle.clr_order.specs.declared.action.Action.{Action}
 use Rattle.clr_order.specs.declared.action.Action.TheVariants as actions
 use Rattle.clr_rules.specs.Changes.{edits_by, hold_edits, position_edits, put_steps, with_record, with_step}
 use Rattle.clr_rules.specs.EditLaws.{is_hold}
-use Rattle.clr_rules.specs.Prelude.{Edit, SetPosition, SetHand, PutHold, TakeHold, PutRecord, PutStep, HoldKind, Tested, Record, StepRow, Id, same_id, Register, record_of, present, step_at, has_hold, hold_of, edited, edited_all}
+use Rattle.clr_rules.specs.Prelude.{Edit, SetPosition, SetHand, PutHold, TakeHold, PutRecord, PutStep, HoldKind, Tested, Record, StepRow, Id, same_id, Register, record_of, present_steps, step_at, has_hold, hold_of, after_edit, after_edits}
 use Rattle.clr_rules.proofs.edits.EditReading.{has_hold-put, has_hold-taken, record_of-put}
 
 -- edits of a record that is found, and of its step
@@ -20,10 +20,10 @@ by_record T none R c edits each = at (record_of R.records c) refl
     at (Some r) is = each r is
 
 pub by_step : (T : List Edit → Type 0) → T [] → (R : Register) (c : Id) (n : ℕ) (edits : Record → StepRow → List Edit)
-    → ((r : Record) (row : StepRow) → record_of R.records c ≡ Some r → step_at (present R.steps c) n ≡ Some row → T (edits r row)) → T (with_step R c n edits)
-by_step T none R c n edits each = by_record T none R c (λ r. edits_by (step_at (present R.steps c) n) (edits r)) (λ r found. at r found (step_at (present R.steps c) n) refl)
+    → ((r : Record) (row : StepRow) → record_of R.records c ≡ Some r → step_at (present_steps R.steps c) n ≡ Some row → T (edits r row)) → T (with_step R c n edits)
+by_step T none R c n edits each = by_record T none R c (λ r. edits_by (step_at (present_steps R.steps c) n) (edits r)) (λ r found. at r found (step_at (present_steps R.steps c) n) refl)
   where
-    at : (r : Record) → record_of R.records c ≡ Some r → (step : Option StepRow) → step_at (present R.steps c) n ≡ step → T (edits_by step (edits r))
+    at : (r : Record) → record_of R.records c ≡ Some r → (step : Option StepRow) → step_at (present_steps R.steps c) n ≡ step → T (edits_by step (edits r))
     at r found None is = none
     at r found (Some row) is = each r row found is
 
@@ -72,7 +72,7 @@ module _ (P : Record → Type 0) (Q : StepRow → Type 0) where
   done_put switching d actions.Unblock p s row h k = (tt, (tt, (h, (k, tt))))
   done_put switching d actions.Leave p s row h k = (tt, (tt, (h, (k, tt))))
 
-  record_read : (edit : Edit) (R : Register) (c : Id) (s : Record) → PutsSuch P Q edit → record_of (Register.records (edited edit R)) c ≡ Some s
+  record_read : (edit : Edit) (R : Register) (c : Id) (s : Record) → PutsSuch P Q edit → record_of (Register.records (after_edit edit R)) c ≡ Some s
       → (record_of R.records c ≡ Some s) ⊎ P s
   record_read (PutRecord r) R c s such read = at (same_id r.id c) (sym (record_of-put r c R.records) ∙ read)
     where
@@ -86,12 +86,12 @@ module _ (P : Record → Type 0) (Q : StepRow → Type 0) where
   record_read (TakeHold h) R c s such read = inl read
 
   -- a record that is read after edits was read before them, or is such as they put
-  pub record_after : (edits : List Edit) (R : Register) (c : Id) (s : Record) → AllPutSuch P Q edits → record_of (Register.records (edited_all edits R)) c ≡ Some s
+  pub record_after : (edits : List Edit) (R : Register) (c : Id) (s : Record) → AllPutSuch P Q edits → record_of (Register.records (after_edits edits R)) c ≡ Some s
       → (record_of R.records c ≡ Some s) ⊎ P s
-  unfolding edited_all
+  unfolding after_edits
   record_after [] R c s such read = inl read
   record_after (edit ∷ edits) R c s such read =
-      ⊎_elim (λ before. record_read edit R c s such.0 before) (λ h. inr h) (record_after edits (edited edit R) c s such.1 read)
+      ⊎_elim (λ before. record_read edit R c s such.0 before) (λ h. inr h) (record_after edits (after_edit edit R) c s such.1 read)
 
 -- ---- holds that stay
 
@@ -104,7 +104,7 @@ abbrev pub AllLeave : Id → HoldKind → List ℕ → List Edit → Type 0
 AllLeave c kind place edits = AllByRecursion (Leaves c kind place) edits
 
 module _ (c : Id) (kind : HoldKind) (place : List ℕ) where
-  left_by : (edit : Edit) (R : Register) → Leaves c kind place edit → has_hold R.holds c kind place ≡ true → has_hold (Register.holds (edited edit R)) c kind place ≡ true
+  left_by : (edit : Edit) (R : Register) → Leaves c kind place edit → has_hold R.holds c kind place ≡ true → has_hold (Register.holds (after_edit edit R)) c kind place ≡ true
   left_by (TakeHold h) R leaves has = has_hold-taken h R.holds c kind place ∙ rw (leaves, has) refl
   left_by (PutHold h) R leaves has = has_hold-put h R.holds c kind place ∙ ap (λ b. is_hold h c kind place || b) has ∙ or-true (is_hold h c kind place)
   left_by (PutRecord r) R leaves has = has
@@ -113,10 +113,10 @@ module _ (c : Id) (kind : HoldKind) (place : List ℕ) where
   left_by (SetHand p hand) R leaves has = has
 
   pub left_by_all : (edits : List Edit) (R : Register) → AllLeave c kind place edits → has_hold R.holds c kind place ≡ true
-      → has_hold (Register.holds (edited_all edits R)) c kind place ≡ true
-  unfolding edited_all
+      → has_hold (Register.holds (after_edits edits R)) c kind place ≡ true
+  unfolding after_edits
   left_by_all [] R leave has = has
-  left_by_all (edit ∷ edits) R leave has = left_by_all edits (edited edit R) leave.1 (left_by edit R leave.0 has)
+  left_by_all (edit ∷ edits) R leave has = left_by_all edits (after_edit edit R) leave.1 (left_by edit R leave.0 has)
 
   pub steps_leave : (rows : List StepRow) → AllLeave c kind place (put_steps rows)
   steps_leave [] = tt

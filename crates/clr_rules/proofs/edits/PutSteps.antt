@@ -16,7 +16,7 @@ use Rattle.clr_rules.specs.Prelude.{HoldKind, PointState, Record, StepRow, Id, s
 use Rattle.clr_rules.specs.States.{is_hand}
 use Rattle.clr_rules.specs.Steps.{is_close}
 use Rattle.clr_rules.specs.declared.step_row.StepKey.{StepKey}
-use Rattle.clr_rules.proofs.lists.StateFacts.{hand_of-handed, hand_of-handed_other, handed, state_is_known}
+use Rattle.clr_rules.proofs.lists.StateFacts.{hand_of-handed, hand_of-handed_other, with_hand, state_is_known}
 use Rattle.clr_rules.proofs.edits.PresentSteps.{IsPresent}
 use Rattle.clr_rules.proofs.lists.RoundSteps.{among_own, one_id, own_id}
 use Rattle.clr_rules.proofs.isolation.Sparing.{steps_of-others}
@@ -84,11 +84,11 @@ closing_by steps c p rows is = ap (list_any (closes_at p)) is
 
 -- what is read of a hand that was set
 pub hand_read : (states : List PointState) (p q : List ℕ) (hand : Option Id) (d : Id) → is_some (state_of states p) ≡ true
-    → has_in_hand (handed states p hand) d q ≡ cond (same_name p q) (is_hand d hand) (has_in_hand states d q)
+    → has_in_hand (with_hand states p hand) d q ≡ cond (same_name p q) (is_hand d hand) (has_in_hand states d q)
 hand_read states p q hand d there = at (same_name p q) refl
   where
-    at : (b : Bool) → same_name p q ≡ b → has_in_hand (handed states p hand) d q ≡ cond b (is_hand d hand) (has_in_hand states d q)
-    at true is = subst (λ q. has_in_hand (handed states p hand) d q ≡ is_hand d hand) (one_name p q is) (ap (is_hand d) (hand_of-handed states p hand there))
+    at : (b : Bool) → same_name p q ≡ b → has_in_hand (with_hand states p hand) d q ≡ cond b (is_hand d hand) (has_in_hand states d q)
+    at true is = subst (λ q. has_in_hand (with_hand states p hand) d q ≡ is_hand d hand) (one_name p q is) (ap (is_hand d) (hand_of-handed states p hand there))
     at false differs = ap (is_hand d) (hand_of-handed_other states p hand q differs)
 
 -- a hand is that of one clearance
@@ -98,7 +98,7 @@ one_hand (Some by) b d has differs = rw (← one_id b by has) differs
 
 -- the hands of others, where the point was in nobody's hand or the clearance's own, and is so again
 pub other_hands : (states : List PointState) (p : List ℕ) (hand : Option Id) (d : Id) → is_some (state_of states p) ≡ true
-    → is_hand d hand ≡ false → has_in_hand states d p ≡ false → (q : List ℕ) → has_in_hand (handed states p hand) d q ≡ has_in_hand states d q
+    → is_hand d hand ≡ false → has_in_hand states d p ≡ false → (q : List ℕ) → has_in_hand (with_hand states p hand) d q ≡ has_in_hand states d q
 other_hands states p hand d there none before q = hand_read states p q hand d there ∙ at (same_name p q) refl
   where
     at : (b : Bool) → same_name p q ≡ b → cond b (is_hand d hand) (has_in_hand states d q) ≡ has_in_hand states d q

@@ -2,12 +2,12 @@
 use Rattle.std.proofs.Common.{◌≡◌, ℕ, Bool, true, false, List, [], ◌∷◌, Option, Some, None, is_some, refl, ap}
 use Rattle.std.specs.Prelude.{◌↔◌}
 use Rattle.clr_shelf.proofs.Reading.{row_of-with_row}
-use Rattle.clr_rules.specs.Answer.{Answer, answer, concerned, first_refusal, known_of, settled, told, told_after}
+use Rattle.clr_rules.specs.Answer.{Answer, answer, reply_clearance, first_refusal, known_of, answer_by_checks, reply_of, reply_after}
 use Rattle.clr_rules.specs.Commands.{Known, checks, edits_of}
 use Rattle.clr_rules.specs.Changes.{new_steps, put_steps}
 use Rattle.clr_rules.specs.Command.{named_clearance}
 use Rattle.clr_rules.specs.EditLaws.{refusal_of}
-use Rattle.clr_rules.specs.Prelude.{Edit, SetPosition, SetHand, PutHold, TakeHold, PutRecord, PutStep, Command, Kind, Record, Refusal, Reply, Id, id_cmp, id_cmp_total, Register, record_key, record_of, edited, edited_all}
+use Rattle.clr_rules.specs.Prelude.{Edit, SetPosition, SetHand, PutHold, TakeHold, PutRecord, PutStep, Command, Kind, Record, Refusal, Reply, Id, id_cmp, id_cmp_total, Register, record_key, record_of, after_edit, after_edits}
 use Rattle.clr_rules.specs.Good.{has_record}
 use Rattle.clr_rules.specs.Run.{after}
 use Rattle.clr_rules.specs.declared.reply.Card.{Card}
@@ -19,7 +19,7 @@ use Rattle.clr_rules.proofs.edits.Passing.{named_recorded}
 
 -- ---- records stay
 
-pub edited-has_record : (edit : Edit) (R : Register) (c : Id) → has_record R.records c ≡ true → has_record (Register.records (edited edit R)) c ≡ true
+pub edited-has_record : (edit : Edit) (R : Register) (c : Id) → has_record R.records c ≡ true → has_record (Register.records (after_edit edit R)) c ≡ true
 edited-has_record (PutRecord r) R c h = has_record-put c r R.records h
 edited-has_record (SetPosition p position) R c h = h
 edited-has_record (SetHand p hand) R c h = h
@@ -29,27 +29,27 @@ edited-has_record (PutStep row) R c h = h
 
 -- no edit takes a record away
 pub edited_all-has_record : (edits : List Edit) (R : Register) (c : Id) → has_record R.records c ≡ true
-    → has_record (Register.records (edited_all edits R)) c ≡ true
-unfolding edited_all
+    → has_record (Register.records (after_edits edits R)) c ≡ true
+unfolding after_edits
 edited_all-has_record [] R c h = h
-edited_all-has_record (edit ∷ edits) R c h = edited_all-has_record edits (edited edit R) c (edited-has_record edit R c h)
+edited_all-has_record (edit ∷ edits) R c h = edited_all-has_record edits (after_edit edit R) c (edited-has_record edit R c h)
 
-put_first : (r : Record) (edits : List Edit) (R : Register) → has_record (Register.records (edited_all (PutRecord r ∷ edits) R)) r.id ≡ true
-unfolding edited_all
+put_first : (r : Record) (edits : List Edit) (R : Register) → has_record (Register.records (after_edits (PutRecord r ∷ edits) R)) r.id ≡ true
+unfolding after_edits
 put_first r edits R =
-    edited_all-has_record edits (edited (PutRecord r) R) r.id (ap is_some (row_of-with_row id_cmp record_key id_cmp_total r R.records))
+    edited_all-has_record edits (after_edit (PutRecord r) R) r.id (ap is_some (row_of-with_row id_cmp record_key id_cmp_total r R.records))
 
 -- ---- the reply is about a clearance that has a record
 
 new_recorded : (k : Known) (R : Register) (by : List ℕ) (at : ℕ) (kind : Kind) → named_clearance kind ≡ None
-    → has_record (Register.records (edited_all (edits_of k.greatest R by at kind) R)) (concerned k.greatest by None) ≡ true
+    → has_record (Register.records (after_edits (edits_of k.greatest R by at kind) R)) (reply_clearance k.greatest by None) ≡ true
 new_recorded k R by at (kinds.Request section) none = put_first _ [] R
-new_recorded k R by at (kinds.Switch tasks) none = put_first _ (put_steps (new_steps (concerned k.greatest by None) 1 1 tasks)) R
+new_recorded k R by at (kinds.Switch tasks) none = put_first _ (put_steps (new_steps (reply_clearance k.greatest by None) 1 1 tasks)) R
 new_recorded k R by at _ none = cc
 
 concerned_is_recorded : (k : Known) (R : Register) (by : List ℕ) (at : ℕ) (kind : Kind) (named : Option Id) → named_clearance kind ≡ named
     → first_refusal (checks k R by at kind) ≡ None
-    → has_record (Register.records (edited_all (edits_of k.greatest R by at kind) R)) (concerned k.greatest by named) ≡ true
+    → has_record (Register.records (after_edits (edits_of k.greatest R by at kind) R)) (reply_clearance k.greatest by named) ≡ true
 concerned_is_recorded k R by at kind None names passed = new_recorded k R by at kind names
 concerned_is_recorded k R by at kind (Some c) names passed =
     edited_all-has_record (edits_of k.greatest R by at kind) R c (named_recorded k R by at kind c passed names)
@@ -58,57 +58,57 @@ abbrev pub is_refused : Reply → Bool
 is_refused (Refused refusal) = true
 is_refused _ = false
 
-told_of_record : (k : Known) (R : Register) (kind : Kind) (found : Option Record) → is_some found ≡ true → is_refused (told k R kind found) ≡ false
+told_of_record : (k : Known) (R : Register) (kind : Kind) (found : Option Record) → is_some found ≡ true → is_refused (reply_of k R kind found) ≡ false
 told_of_record k R kind None h = cc
 told_of_record k R (kinds.Show c) (Some r) h = refl
 told_of_record k R _ (Some r) h = refl
 
 -- where no check applies the reply is no refusal
 pub passed_is_told : (k : Known) (R : Register) (by : List ℕ) (at : ℕ) (kind : Kind) → first_refusal (checks k R by at kind) ≡ None
-    → is_refused (told_after k (edited_all (edits_of k.greatest R by at kind) R) by kind) ≡ false
+    → is_refused (reply_after k (after_edits (edits_of k.greatest R by at kind) R) by kind) ≡ false
 passed_is_told k R by at kind passed =
-    let after_edits = edited_all (edits_of k.greatest R by at kind) R in
-    told_of_record k after_edits kind (record_of (Register.records after_edits) (concerned k.greatest by (named_clearance kind)))
+    let next = after_edits (edits_of k.greatest R by at kind) R in
+    told_of_record k next kind (record_of (Register.records next) (reply_clearance k.greatest by (named_clearance kind)))
     (concerned_is_recorded k R by at kind (named_clearance kind) refl passed)
 
 -- ---- refused commands
 
 refused_by : (k : Known) (R : Register) (q : Command) (found : Option Refusal) → first_refusal (checks k R q.caller q.moment q.kind) ≡ found
-    → (refusal : Refusal) → Answer.reply (settled k R q found) ≡ Refused refusal → found ≡ Some refusal
+    → (refusal : Refusal) → Answer.reply (answer_by_checks k R q found) ≡ Refused refusal → found ≡ Some refusal
 refused_by k R q None passed refusal h = cc (passed_is_told k R q.caller q.moment q.kind passed)
 refused_by k R q (Some first) passed refusal h = cc
 
 pub refused_by_first_check : (R : Register) (q : Command) (refusal : Refusal)
     → (Answer.reply (answer R q) ≡ Refused refusal) ↔ (refusal_of R q ≡ Some refusal)
 refused_by_first_check R q refusal =
-    (refused_by (known_of R q) R q (refusal_of R q) refl refusal, λ h. ap (λ found. Answer.reply (settled (known_of R q) R q found)) h)
+    (refused_by (known_of R q) R q (refusal_of R q) refl refusal, λ h. ap (λ found. Answer.reply (answer_by_checks (known_of R q) R q found)) h)
 
-unchanged : (R : Register) (edits : List Edit) → edits ≡ [] → edited_all edits R ≡ R
-unfolding edited_all
-unchanged R edits h = ap (λ list. edited_all list R) h
+unchanged : (R : Register) (edits : List Edit) → edits ≡ [] → after_edits edits R ≡ R
+unfolding after_edits
+unchanged R edits h = ap (λ list. after_edits list R) h
 
 pub refused_changes_nothing : (R : Register) (q : Command) (refusal : Refusal) → Answer.reply (answer R q) ≡ Refused refusal
     → (Answer.edits (answer R q) ≡ []) × (after R q ≡ R)
 refused_changes_nothing R q refusal h =
     let none : Answer.edits (answer R q) ≡ [] =
-    ap (λ found. Answer.edits (settled (known_of R q) R q found)) (refused_by (known_of R q) R q (refusal_of R q) refl refusal h) in
+    ap (λ found. Answer.edits (answer_by_checks (known_of R q) R q found)) (refused_by (known_of R q) R q (refusal_of R q) refl refusal h) in
     (none, unchanged R (Answer.edits (answer R q)) none)
 
 -- ---- shown and accepted commands
 
 shown_has_none : (k : Known) (R S : Register) (by : List ℕ) (at : ℕ) (kind : Kind) (found : Option Record) (view : View)
-    → told k S kind found ≡ Shown view → edits_of k.greatest R by at kind ≡ []
+    → reply_of k S kind found ≡ Shown view → edits_of k.greatest R by at kind ≡ []
 shown_has_none k R S by at kind None view h = cc
 shown_has_none k R S by at (kinds.Show c) (Some r) view h = refl
 shown_has_none k R S by at _ (Some r) view h = cc
 
-settled_shown : (k : Known) (R : Register) (q : Command) (found : Option Refusal) (view : View) → Answer.reply (settled k R q found) ≡ Shown view
-    → (found ≡ None) × (Answer.edits (settled k R q found) ≡ [])
+settled_shown : (k : Known) (R : Register) (q : Command) (found : Option Refusal) (view : View) → Answer.reply (answer_by_checks k R q found) ≡ Shown view
+    → (found ≡ None) × (Answer.edits (answer_by_checks k R q found) ≡ [])
 settled_shown k R q None view h =
-    let after_edits = edited_all (edits_of k.greatest R q.caller q.moment q.kind) R in (
+    let next = after_edits (edits_of k.greatest R q.caller q.moment q.kind) R in (
       refl,
-      shown_has_none k R after_edits q.caller q.moment q.kind
-          (record_of (Register.records after_edits) (concerned k.greatest q.caller (named_clearance q.kind))) view h,
+      shown_has_none k R next q.caller q.moment q.kind
+          (record_of (Register.records next) (reply_clearance k.greatest q.caller (named_clearance q.kind))) view h,
     )
 settled_shown k R q (Some refusal) view h = cc
 
@@ -118,7 +118,7 @@ shown_changes_nothing R q view h =
     let (passed, none) = settled_shown (known_of R q) R q (refusal_of R q) view h in
     (passed, none, unchanged R (Answer.edits (answer R q)) none)
 
-settled_accepted : (k : Known) (R : Register) (q : Command) (found : Option Refusal) (card : Card) → Answer.reply (settled k R q found) ≡ Accepted card
+settled_accepted : (k : Known) (R : Register) (q : Command) (found : Option Refusal) (card : Card) → Answer.reply (answer_by_checks k R q found) ≡ Accepted card
     → found ≡ None
 settled_accepted k R q None card h = refl
 settled_accepted k R q (Some refusal) card h = cc

@@ -9,9 +9,9 @@ use Rattle.clr_order.specs.Action.{is_switching}
 use Rattle.clr_order.specs.Isolating.{IsSoundOrder}
 use Rattle.clr_order.specs.Step.{Task, task, task_points}
 use Rattle.clr_shelf.proofs.Lists.{list_all-contains}
-use Rattle.clr_rules.specs.Good.{left, put_by, puts}
+use Rattle.clr_rules.specs.Good.{steps_left_of, put_by, puts}
 use Rattle.clr_rules.specs.GoodByPhase.{ActiveInRound, InPhase, active_at, all_waiting, go_in_turn, of_round, present_of}
-use Rattle.clr_rules.specs.Prelude.{HoldKind, Phase, Ordered, Restoring, Switching, Record, StepRow, is_running, all_done, is_active, is_done, is_some_step, is_waiting, points_of, tasks_of, once}
+use Rattle.clr_rules.specs.Prelude.{HoldKind, Phase, Ordered, Restoring, Switching, Record, StepRow, is_running, all_done, is_active, is_done, is_some_step, is_waiting, points_of, tasks_of, first_of_each}
 use Rattle.clr_rules.specs.Steps.{some_active}
 use Rattle.clr_rules.proofs.good.PhaseFacts.{first_present}
 use Rattle.clr_rules.proofs.good.PlaceFacts.{done_rests, in_round}
@@ -125,9 +125,9 @@ module _ (before after : List StepRow) (row new : StepRow) (k : ℕ) (mid : InMi
     pub same_points : (round : ℕ) → points_of (of_round (before ++ new ∷ after) round) ≡ points_of (of_round (before ++ row ∷ after) round)
     same_points round = ap task_points (same_tasks round)
 
-    pub isolates_again : (g : Grid) (work : List ℕ) → IsSoundOrder g work (once (points_of (of_round (before ++ row ∷ after) 1))) (tasks_of (of_round (before ++ row ∷ after) 1))
-        → IsSoundOrder g work (once (points_of (of_round (before ++ new ∷ after) 1))) (tasks_of (of_round (before ++ new ∷ after) 1))
-    isolates_again g work sound = subst (λ (tasks : List Task). IsSoundOrder g work (once (task_points tasks)) tasks) (sym (same_tasks 1)) sound
+    pub isolates_again : (g : Grid) (work : List ℕ) → IsSoundOrder g work (first_of_each (points_of (of_round (before ++ row ∷ after) 1))) (tasks_of (of_round (before ++ row ∷ after) 1))
+        → IsSoundOrder g work (first_of_each (points_of (of_round (before ++ new ∷ after) 1))) (tasks_of (of_round (before ++ new ∷ after) 1))
+    isolates_again g work sound = subst (λ (tasks : List Task). IsSoundOrder g work (first_of_each (task_points tasks)) tasks) (sym (same_tasks 1)) sound
 
     -- and neither Done
     module _ (was_left : is_done row.step.state ≡ false) (is_left : is_done new.step.state ≡ false) where
@@ -136,15 +136,15 @@ module _ (before after : List StepRow) (row new : StepRow) (k : ℕ) (mid : InMi
           (any-swap (λ (row : StepRow). (is_done row.step.state && puts row.step.action kind) && same_name p row.step.point) (of_round before k) row new (of_round after k)
           (rw (was_left, is_left) refl))
 
-      same_left : (round : ℕ) → tasks_of (left (of_round (before ++ new ∷ after) round)) ≡ tasks_of (left (of_round (before ++ row ∷ after) round))
-      same_left = rounds_alike (λ rows. tasks_of (left rows))
+      same_left : (round : ℕ) → tasks_of (steps_left_of (of_round (before ++ new ∷ after) round)) ≡ tasks_of (steps_left_of (of_round (before ++ row ∷ after) round))
+      same_left = rounds_alike (λ rows. tasks_of (steps_left_of rows))
           (ap tasks_of (left_after_done (of_round before k) (new ∷ of_round after k) mid.done)
           ∙ one_left new row (of_round after k) is_left was_left same_task
           ∙ sym (ap tasks_of (left_after_done (of_round before k) (row ∷ of_round after k) mid.done)))
         where
           one_left : (new row : StepRow) (rows : List StepRow) → is_done new.step.state ≡ false → is_done row.step.state ≡ false → task new.step ≡ task row.step
-              → tasks_of (left (new ∷ rows)) ≡ tasks_of (left (row ∷ rows))
-          one_left new row rows e f same = rw (e, f) (ap (λ t. t ∷ tasks_of (left rows)) same)
+              → tasks_of (steps_left_of (new ∷ rows)) ≡ tasks_of (steps_left_of (row ∷ rows))
+          one_left new row rows e f same = rw (e, f) (ap (λ t. t ∷ tasks_of (steps_left_of rows)) same)
 
       -- the clearance is as its phase wants it still
       pub phase_again : (g : Grid) (phase : Phase) (work : Option (List ℕ)) (o q : Option Record) (has : HoldKind → List ℕ → Bool) (hand given : List ℕ → Bool)

@@ -9,14 +9,14 @@ use Rattle.clr_csv.specs.declared.employee.StaffRow.{StaffRow}
 use Rattle.clr_order.specs.Step.{Task}
 use Rattle.clr_shelf.proofs.Groups.{All-with_row}
 use Rattle.clr_shelf.proofs.Members.{member-row_of}
-use Rattle.clr_rules.specs.Answer.{Answer, known_of, settled}
+use Rattle.clr_rules.specs.Answer.{Answer, known_of, answer_by_checks}
 use Rattle.clr_rules.specs.Commands.{checks, edits_of}
 use Rattle.clr_rules.specs.BoundLaws.{IsBounded}
 use Rattle.clr_rules.specs.Changes.{done_edits, new_steps, put_steps, undone_edits}
 use Rattle.clr_rules.specs.Checks.{too_many_clearances}
 use Rattle.clr_rules.specs.EditLaws.{refusal_of}
 use Rattle.clr_rules.specs.Prelude.{Edit, SetPosition, SetHand, PutHold, TakeHold, PutRecord, PutStep, Command, Kind, Tested, Record, Refusal, StepRow, Id, id_cmp, id_cmp_total, Register, greatest_number, record_key, record_of, step_key}
-use Rattle.clr_rules.specs.Prelude.{step_key_cmp, step_key_cmp_total, present, step_at, hold_of, places_of, edited, edited_all}
+use Rattle.clr_rules.specs.Prelude.{step_key_cmp, step_key_cmp_total, present_steps, step_at, hold_of, places_of, after_edit, after_edits}
 use Rattle.clr_rules.proofs.good.Keeping.{asked}
 use Rattle.clr_rules.specs.Records.{is_switch_order}
 use Rattle.clr_rules.specs.Register.{opening}
@@ -50,7 +50,7 @@ module _ (R : Register) (bounded : IsBounded R) (by : List ℕ) (at : ℕ) where
   of_record : (c : Id) (r : Record) → record_of R.records c ≡ Some r → IsNumber r
   of_record c r found = All-contains IsNumber R.records r bounded.numbers (member-row_of id_cmp record_key id_cmp_total c r R.records found).0
 
-  of_step : (c : Id) (n : ℕ) (row : StepRow) → step_at (present R.steps c) n ≡ Some row → IsRound row
+  of_step : (c : Id) (n : ℕ) (row : StepRow) → step_at (present_steps R.steps c) n ≡ Some row → IsRound row
   of_step c n row found = All-contains IsRound R.steps row bounded.rounds (present_step R.steps c n row found).there
 
   -- the number after the greatest
@@ -95,7 +95,7 @@ module _ (R : Register) (bounded : IsBounded R) (by : List ℕ) (at : ℕ) where
   all_in_bounds (kinds.Show c) passed = tt
 
 -- edits that put in bounds
-edited_bounded : (edit : Edit) (R : Register) → PutsSuch IsNumber IsRound edit → IsBounded R → IsBounded (edited edit R)
+edited_bounded : (edit : Edit) (R : Register) → PutsSuch IsNumber IsRound edit → IsBounded R → IsBounded (after_edit edit R)
 edited_bounded (PutRecord r) R such bounded =
     record { numbers = All-with_row id_cmp record_key id_cmp_total IsNumber r R.records such bounded.numbers; rounds = bounded.rounds }
 edited_bounded (PutStep row) R such bounded =
@@ -105,15 +105,15 @@ edited_bounded (SetHand p hand) R such bounded = record { numbers = bounded.numb
 edited_bounded (PutHold h) R such bounded = record { numbers = bounded.numbers; rounds = bounded.rounds }
 edited_bounded (TakeHold h) R such bounded = record { numbers = bounded.numbers; rounds = bounded.rounds }
 
-edited_all_bounded : (edits : List Edit) (R : Register) → PutInBounds edits → IsBounded R → IsBounded (edited_all edits R)
-unfolding edited_all
+edited_all_bounded : (edits : List Edit) (R : Register) → PutInBounds edits → IsBounded R → IsBounded (after_edits edits R)
+unfolding after_edits
 edited_all_bounded [] R such bounded = bounded
-edited_all_bounded (edit ∷ edits) R such bounded = edited_all_bounded edits (edited edit R) such.1 (edited_bounded edit R such.0 bounded)
+edited_all_bounded (edit ∷ edits) R such bounded = edited_all_bounded edits (after_edit edit R) such.1 (edited_bounded edit R such.0 bounded)
 
 commands_bounded : (R : Register) (q : Command) → IsBounded R → IsBounded (after R q)
 commands_bounded R q bounded = at (refusal_of R q) refl
   where
-    at : (refused : Option Refusal) → refusal_of R q ≡ refused → IsBounded (edited_all (Answer.edits (settled (known_of R q) R q refused)) R)
+    at : (refused : Option Refusal) → refusal_of R q ≡ refused → IsBounded (after_edits (Answer.edits (answer_by_checks (known_of R q) R q refused)) R)
     at None passed = edited_all_bounded (edits_of (known_of R q).greatest R q.caller q.moment q.kind) R
         (all_in_bounds R bounded q.caller q.moment q.kind (all_pass (checks (known_of R q) R q.caller q.moment q.kind) passed)) bounded
     at (Some refusal) is = edited_all_bounded [] R tt bounded

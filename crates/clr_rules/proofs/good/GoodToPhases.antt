@@ -10,7 +10,7 @@ use Rattle.clr_order.specs.Needed.{undoes}
 use Rattle.clr_order.specs.Step.{actions_at}
 use Rattle.clr_order.proofs.Undoing.{rule_undoes}
 use Rattle.clr_rules.specs.Fences.{clearance_fence}
-use Rattle.clr_rules.specs.Good.{IsGood, has_record, is_active_at, left}
+use Rattle.clr_rules.specs.Good.{IsGood, has_record, is_active_at, steps_left_of}
 use Rattle.clr_rules.specs.GoodByPhase.{ActiveInRound, HasNoWork, HoldsAsPut, HoldsNothing, InPhase, InPlaceAs, IsGoodByPhase, IsInPlace, Isolates, active_at, go_in_turn, inner_fence, of_round, outlook_of, present_of}
 use Rattle.clr_rules.specs.Prelude.{Hold, HoldKind, HeldOpen, Block, Control, Tag, Phase, Requested, Ordered, Granted, Released, Restoring, Switching, Closed, Record, StepRow, Id, same_id, Register, has_in_hand, record_of, is_running}
 use Rattle.clr_rules.specs.Prelude.{is_standing, is_granted, is_restoring, is_active, is_some_step, is_waiting, present_round, steps_in, steps_of, tasks_of, is_point_kind, has_hold, held_at, hold_of}
@@ -115,19 +115,19 @@ module _ (R : Register) (good : IsGood R) (c : Id) where
 
     undone : is_restoring r.phase ≡ true → (p : List ℕ)
         → undoes (has_hold R.holds c Tag p) (has_hold R.holds c Control p) (has_hold R.holds c Block p) (has_hold R.holds c HeldOpen p)
-        (actions_at (tasks_of (left (of_round (steps_of R.steps c) 2))) p) ≡ true
+        (actions_at (tasks_of (steps_left_of (of_round (steps_of R.steps c) 2))) p) ≡ true
     undone restoring p = rw (of_round_is R.steps c 2) (at (has_hold R.holds c HeldOpen p) refl)
       where
         at : (b : Bool) → has_hold R.holds c HeldOpen p ≡ b
             → undoes (has_hold R.holds c Tag p) (has_hold R.holds c Control p) (has_hold R.holds c Block p) (has_hold R.holds c HeldOpen p)
-            (actions_at (tasks_of (left (steps_in R.steps c 2))) p) ≡ true
-        at true e = rw e (rule_undoes (held_at R.holds c p) (actions_at (tasks_of (left (steps_in R.steps c 2))) p) (good.holds_are_put.undone c r found restoring p e))
+            (actions_at (tasks_of (steps_left_of (steps_in R.steps c 2))) p) ≡ true
+        at true e = rw e (rule_undoes (held_at R.holds c p) (actions_at (tasks_of (steps_left_of (steps_in R.steps c 2))) p) (good.holds_are_put.undone c r found restoring p e))
         at false e = rw (
           e,
           beside Tag p refl e,
           beside Control p refl e,
           beside Block p refl e,
-          none_there (has_hold R.holds c HeldOpen) p (left (steps_in R.steps c 2)) (good.holds_are_put.nowhere_else c r found restoring) e,
+          none_there (has_hold R.holds c HeldOpen) p (steps_left_of (steps_in R.steps c 2)) (good.holds_are_put.nowhere_else c r found restoring) e,
         ) refl
 
     -- the phases in which a record has no work section

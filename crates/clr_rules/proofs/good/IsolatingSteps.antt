@@ -14,7 +14,7 @@ use Rattle.clr_order.specs.declared.action.Action.{Action}
 use Rattle.clr_order.specs.declared.action.Action.TheVariants as actions
 use Rattle.clr_shelf.proofs.Lists.{list_all-contains}
 use Rattle.clr_rules.specs.Good.{puts}
-use Rattle.clr_rules.specs.Prelude.{HoldKind, HeldOpen, Block, Control, Tag, Tested, Ground, Crew, StepRow, points_of, tasks_of, once, same_kind}
+use Rattle.clr_rules.specs.Prelude.{HoldKind, HeldOpen, Block, Control, Tag, Tested, Ground, Crew, StepRow, points_of, tasks_of, first_of_each, same_kind}
 use Rattle.clr_rules.proofs.lists.Filters.{there_mapped}
 use Rattle.clr_rules.proofs.lists.NamedRows.{Contains-filter, has_name-row}
 use Rattle.clr_rules.proofs.good.PutHolds.{needed_there}
@@ -80,7 +80,7 @@ needed_isolates row = at row.lockable refl row.remote refl
     at false e false f = rw (e, f) refl
 
 -- a step of a sound order
-pub isolating_step : (g : Grid) (work : List ℕ) (rows : List StepRow) (row : StepRow) → IsSoundOrder g work (once (points_of rows)) (tasks_of rows) → Contains rows row
+pub isolating_step : (g : Grid) (work : List ℕ) (rows : List StepRow) (row : StepRow) → IsSoundOrder g work (first_of_each (points_of rows)) (tasks_of rows) → Contains rows row
     → is_isolating row.step.action ≡ true
 isolating_step g work rows row sound there =
     let among : Contains (tasks_of rows) (task row.step) = there_mapped (λ (row : StepRow). task row.step) rows row there in

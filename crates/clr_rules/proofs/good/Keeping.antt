@@ -5,11 +5,11 @@ use Rattle.clr_net.specs.Grid.{Grid, point_names, section_names}
 use Rattle.clr_net.specs.Names.{has_name}
 use Rattle.clr_net.specs.declared.point.Position.TheVariants.{Opened}
 use Rattle.clr_csv.specs.declared.employee.StaffRow.{StaffRow}
-use Rattle.clr_rules.specs.Answer.{Answer, known_of, settled}
+use Rattle.clr_rules.specs.Answer.{Answer, known_of, answer_by_checks}
 use Rattle.clr_rules.specs.Commands.{checks, edits_of}
 use Rattle.clr_rules.specs.Checks.{employee, has_role, is_operator}
 use Rattle.clr_rules.specs.EditLaws.{KeepsNetwork, refusal_of}
-use Rattle.clr_rules.specs.Prelude.{Edit, Command, Kind, HoldKind, HeldOpen, Record, Refusal, Id, same_id, Register, has_in_hand, position_of, record_of, steps_of, is_point_kind, has_hold, edited_all}
+use Rattle.clr_rules.specs.Prelude.{Edit, Command, Kind, HoldKind, HeldOpen, Record, Refusal, Id, same_id, Register, has_in_hand, position_of, record_of, steps_of, is_point_kind, has_hold, after_edits}
 use Rattle.clr_rules.specs.Good.{is_closing_at, is_known_work, is_operators, IsGood}
 use Rattle.clr_rules.specs.GoodByPhase.{IsGoodByPhase, IsInPlace, outlook_of}
 use Rattle.clr_rules.specs.Records.{is_switch_order, numbers_of}
@@ -42,7 +42,7 @@ pub same_outlook : (R S : Register) (d : Id) → record_of S.records d ≡ recor
 same_outlook R S d records steps holds hands i = record { clearance = records i; steps = steps i; has = λ kind place. holds kind place i; hand = λ p. hands p i }
 
 -- EDITS KEEP A REGISTER GOOD where they change one clearance so
-pub keeps : (R : Register) (edits : List Edit) (c : Id) → IsGoodByPhase R → Changed R (edited_all edits R) c → IsGoodByPhase (edited_all edits R)
+pub keeps : (R : Register) (edits : List Edit) (c : Id) → IsGoodByPhase R → Changed R (after_edits edits R) c → IsGoodByPhase (after_edits edits R)
 keeps R edits c good changed = record {
   network = rw same.same_net good.network;
   staff = rw same.same_staff good.staff;
@@ -60,19 +60,19 @@ keeps R edits c good changed = record {
   in_order = edited_all-in_order R edits good.in_order;
 }
   where
-    same : KeepsNetwork R (edited_all edits R)
+    same : KeepsNetwork R (after_edits edits R)
     same = edited_all-network R edits good.in_order
 
-    placed : (d : Id) (b : Bool) → same_id d c ≡ b → IsInPlace R.net (outlook_of (edited_all edits R) d)
+    placed : (d : Id) (b : Bool) → same_id d c ≡ b → IsInPlace R.net (outlook_of (after_edits edits R) d)
     placed d true is = rw (one_id d c is) changed.own
     placed d false differs = rw (changed.others d differs) (good.in_place d)
 
     -- the staff is the same
-    by_staff : (name : List ℕ) → is_operators (edited_all edits R) name ≡ is_operators R name
+    by_staff : (name : List ℕ) → is_operators (after_edits edits R) name ≡ is_operators R name
     by_staff name = ap (λ (staff : List StaffRow). has_role is_operator (employee staff name)) same.same_staff
 
-    at_operator : (d : Id) (r : Record) → record_of (Register.records (edited_all edits R)) d ≡ Some r → (b : Bool) → same_id d c ≡ b
-        → is_switch_order r ≡ is_operators (edited_all edits R) d.requester
+    at_operator : (d : Id) (r : Record) → record_of (Register.records (after_edits edits R)) d ≡ Some r → (b : Bool) → same_id d c ≡ b
+        → is_switch_order r ≡ is_operators (after_edits edits R) d.requester
     at_operator d r found true is = rw (one_id d c is) (changed.operator r (rw (one_id d c is) at found) ∙ sym (by_staff c.requester))
     at_operator d r found false differs =
         good.operators d r (sym (ap (λ v. v.clearance) (changed.others d differs)) ∙ found) ∙ sym (by_staff d.requester)
@@ -89,10 +89,10 @@ KeepsGood kind = (R : Register) (by : List ℕ) (at : ℕ) → IsGood R → IsGo
 -- the edits of a command that no check refuses keep a register good
 abbrev pub EditsKeepGood : Kind → Type 0
 EditsKeepGood kind = (R : Register) (by : List ℕ) (at : ℕ) → IsGoodByPhase R → Pass (checks (known_of R (asked by at kind)) R by at kind)
-    → IsGoodByPhase (edited_all (edits_of (known_of R (asked by at kind)).greatest R by at kind) R)
+    → IsGoodByPhase (after_edits (edits_of (known_of R (asked by at kind)).greatest R by at kind) R)
 
-pub no_edits : (R : Register) → IsGoodByPhase R → IsGoodByPhase (edited_all [] R)
-unfolding edited_all
+pub no_edits : (R : Register) → IsGoodByPhase R → IsGoodByPhase (after_edits [] R)
+unfolding after_edits
 no_edits R h = h
 
 -- and then so do commands, since one that is refused has no edits
@@ -100,6 +100,6 @@ pub commands_keep : (kind : Kind) → EditsKeepGood kind → KeepsGood kind
 commands_keep kind edits_keep R by at good = from_phases (after R (asked by at kind)) (settle (refusal_of R (asked by at kind)) refl)
   where
     settle : (found : Option Refusal) → refusal_of R (asked by at kind) ≡ found
-        → IsGoodByPhase (edited_all (Answer.edits (settled (known_of R (asked by at kind)) R (asked by at kind) found)) R)
+        → IsGoodByPhase (after_edits (Answer.edits (answer_by_checks (known_of R (asked by at kind)) R (asked by at kind) found)) R)
     settle None passed = edits_keep R by at (to_phases R good) (all_pass (checks (known_of R (asked by at kind)) R by at kind) passed)
     settle (Some refusal) is = no_edits R (to_phases R good)

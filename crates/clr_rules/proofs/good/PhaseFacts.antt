@@ -13,7 +13,7 @@ use Rattle.clr_order.specs.declared.held.Held.{Held}
 use Rattle.clr_order.proofs.Undoing.{nothing_left, undoes_rule}
 use Rattle.clr_shelf.proofs.Lists.{Contains-cases}
 use Rattle.clr_rules.specs.Fences.{work_fence}
-use Rattle.clr_rules.specs.Good.{IsSoundFor, left}
+use Rattle.clr_rules.specs.Good.{IsSoundFor, steps_left_of}
 use Rattle.clr_rules.specs.GoodByPhase.{ActiveInRound, HasNoWork, HoldsAsPut, HoldsNothing, InPhase, InRestoring, Isolates, Outlook, go_in_turn, of_round, present_of}
 use Rattle.clr_rules.specs.Prelude.{HoldKind, HeldOpen, Block, Control, Tag, Tested, Ground, Crew, Phase, Requested, Ordered, Granted, Released, Restoring, Switching, Closed, StepRow, is_running, is_standing, is_granted, is_restoring}
 use Rattle.clr_rules.specs.Prelude.{all_done, is_active, is_some_step, points_of, tasks_of, is_point_kind}
@@ -182,8 +182,8 @@ pub record HoldFacts (phase : Phase) (v : Outlook) : Type 0 where
   pub at_points : (kind : HoldKind) (p : List ℕ) → is_point_kind kind ≡ true → v.has kind p ≡ true → has_name (points_of (of_round v.steps 1)) p ≡ true
   pub beside : (kind : HoldKind) (p : List ℕ) → is_point_kind kind ≡ true → v.has kind p ≡ true → v.has HeldOpen p ≡ true
   pub as_put : is_standing phase ≡ true → is_restoring phase ≡ false → HoldsAsPut v
-  pub undone : is_restoring phase ≡ true → (p : List ℕ) → v.has HeldOpen p ≡ true → Undoes (held_there v p) (actions_at (tasks_of (left (of_round v.steps 2))) p)
-  pub nowhere_else : is_restoring phase ≡ true → All (λ row. v.has HeldOpen row.step.point ≡ true) (left (of_round v.steps 2))
+  pub undone : is_restoring phase ≡ true → (p : List ℕ) → v.has HeldOpen p ≡ true → Undoes (held_there v p) (actions_at (tasks_of (steps_left_of (of_round v.steps 2))) p)
+  pub nowhere_else : is_restoring phase ≡ true → All (λ row. v.has HeldOpen row.step.point ≡ true) (steps_left_of (of_round v.steps 2))
 
 -- where nothing is held
 no_hold_facts : (phase : Phase) (v : Outlook) → is_standing phase ≡ false → is_restoring phase ≡ false → HoldsNothing v → HoldFacts phase v
@@ -225,16 +225,16 @@ restoring_facts g work v h = record {
   at_points = λ kind p at_point has. h.at_points p (h.beside_held_open kind p at_point has);
   beside = h.beside_held_open;
   as_put = λ _ never. absurd (false≢true (sym never));
-  undone = λ _ p held. undoes_rule (held_there v p) (actions_at (tasks_of (left (of_round v.steps 2))) p) (rw held at (h.undone p));
-  nowhere_else = λ _. All-from_each (λ (row : StepRow). v.has HeldOpen row.step.point ≡ true) (left (of_round v.steps 2)) (λ row there. held row there);
+  undone = λ _ p held. undoes_rule (held_there v p) (actions_at (tasks_of (steps_left_of (of_round v.steps 2))) p) (rw held at (h.undone p));
+  nowhere_else = λ _. All-from_each (λ (row : StepRow). v.has HeldOpen row.step.point ≡ true) (steps_left_of (of_round v.steps 2)) (λ row there. held row there);
 }
   where
     none_beside : (kind : HoldKind) (p : List ℕ) → is_point_kind kind ≡ true → v.has HeldOpen p ≡ false → v.has kind p ≡ false
     none_beside kind p at_point free = false_from_ne_true (v.has kind p) (λ has. both_ways (v.has HeldOpen p) free (h.beside_held_open kind p at_point has))
 
-    held : (row : StepRow) → Contains (left (of_round v.steps 2)) row → v.has HeldOpen row.step.point ≡ true
+    held : (row : StepRow) → Contains (steps_left_of (of_round v.steps 2)) row → v.has HeldOpen row.step.point ≡ true
     held row there = true_from_ne_false (v.has HeldOpen row.step.point) (λ free.
-        some_action (left (of_round v.steps 2)) row there (nothing_left (actions_at (tasks_of (left (of_round v.steps 2))) row.step.point)
+        some_action (steps_left_of (of_round v.steps 2)) row there (nothing_left (actions_at (tasks_of (steps_left_of (of_round v.steps 2))) row.step.point)
         (rw (none_beside Tag row.step.point refl free, none_beside Control row.step.point refl free, none_beside Block row.step.point refl free, free) at (h.undone row.step.point))))
 
 pub hold_facts : (g : Grid) (phase : Phase) (work : Option (List ℕ)) (v : Outlook) → go_in_turn (of_round v.steps 1) ≡ true → InPhase g phase work v → HoldFacts phase v

@@ -13,7 +13,7 @@ use Rattle.clr_rules.specs.Fences.{clearance_fence, work_fence}
 use Rattle.clr_rules.specs.Good.{GrantedPointsAreHeld, HandMatchesStep, HeldPointsAreOpen, HoldsAreWhatDoneStepsPut, IsFullyHeld, IsGood, IsSoundFor, NumbersHaveNoGaps, StepsGoInTurn, SwitchOrdersAreOperators, WorkHoldsBelong, has_record, is_active_at, puts, works_on}
 use Rattle.clr_rules.specs.GoodByPhase.{InPhase, InPlaceAs, IsBare, IsGoodByPhase, active_at, of_round, outlook_of, present_of}
 use Rattle.clr_rules.specs.Prelude.{Hold, HoldKind, HeldOpen, Block, Control, Tag, Tested, Ground, Phase, Granted, Record, StepRow, Id, Register, has_in_hand, record_of}
-use Rattle.clr_rules.specs.Prelude.{is_running, is_standing, is_granted, is_restoring, is_active, is_waiting, points_of, present_round, steps_in, steps_of, tasks_of, is_point_kind, has_hold, once}
+use Rattle.clr_rules.specs.Prelude.{is_running, is_standing, is_granted, is_restoring, is_active, is_waiting, points_of, present_round, steps_in, steps_of, tasks_of, is_point_kind, has_hold, first_of_each}
 use Rattle.clr_rules.specs.Live.{is_live, is_shut}
 use Rattle.clr_rules.specs.Steps.{is_in_turn}
 use Rattle.clr_rules.proofs.live.DeadFences.{dead_work_fence}
@@ -30,7 +30,7 @@ granted_is _ h = absurd (false≢true h)
 
 -- an order that isolates has a work section
 sound_work : (g : Grid) (work : Option (List ℕ)) (rows : List StepRow) → IsSoundFor g work rows
-    → (w : List ℕ) × (work ≡ Some w) × IsSoundOrder g w (once (points_of rows)) (tasks_of rows)
+    → (w : List ℕ) × (work ≡ Some w) × IsSoundOrder g w (first_of_each (points_of rows)) (tasks_of rows)
 sound_work g None rows sound = absurd sound
 sound_work g (Some w) rows sound = (w, refl, sound)
 
@@ -96,7 +96,7 @@ module _ (R : Register) (good : IsGoodByPhase R) where
             ∙ all_put kind p (of_round (steps_of R.steps c) 1) (order.done granted)
             ∙ ap (list_any (λ action. puts action kind)) steps_there
 
-        sound : (w : List ℕ) × (r.work ≡ Some w) × IsSoundOrder R.net w (once (points_of (of_round (steps_of R.steps c) 1))) (tasks_of (of_round (steps_of R.steps c) 1))
+        sound : (w : List ℕ) × (r.work ≡ Some w) × IsSoundOrder R.net w (first_of_each (points_of (of_round (steps_of R.steps c) 1))) (tasks_of (of_round (steps_of R.steps c) 1))
         sound = sound_work R.net r.work (of_round (steps_of R.steps c) 1) (order.isolates (ap is_standing (granted_is r.phase granted)))
 
         fully_held : (point : PointRow) → Contains (Grid.points R.net) point → has_name (points_of (of_round (steps_of R.steps c) 1)) point.name ≡ true → IsFullyHeld R.holds c point

@@ -25,7 +25,7 @@ use Rattle.clr_order.specs.declared.action.Action.TheVariants as actions
 use Rattle.clr_shelf.proofs.Lists.{Contains-cases, Contains-here, Contains-later}
 use Rattle.clr_rules.specs.Good.{put_by, puts}
 use Rattle.clr_rules.specs.GoodByPhase.{all_waiting, go_in_turn}
-use Rattle.clr_rules.specs.Prelude.{HoldKind, HeldOpen, Block, Control, Tag, StepRow, all_done, is_done, is_some_step, is_waiting, points_of, tasks_of, once}
+use Rattle.clr_rules.specs.Prelude.{HoldKind, HeldOpen, Block, Control, Tag, StepRow, all_done, is_done, is_some_step, is_waiting, points_of, tasks_of, first_of_each}
 use Rattle.clr_rules.proofs.live.FenceCuts.{has_name-once}
 use Rattle.clr_rules.proofs.lists.NamedRows.{has_name-row}
 use Rattle.clr_rules.proofs.lists.RoundSteps.{some_step_there}
@@ -136,36 +136,36 @@ module _ (kind : HoldKind) (p : List ℕ) where
 -- ---- the points of a sound order
 
 -- an isolating order has a step
-pub some_isolating : (g : Grid) (work : List ℕ) (rows : List StepRow) → IsSoundOrder g work (once (points_of rows)) (tasks_of rows) → is_some_step rows ≡ true
-unfolding once
+pub some_isolating : (g : Grid) (work : List ℕ) (rows : List StepRow) → IsSoundOrder g work (first_of_each (points_of rows)) (tasks_of rows) → is_some_step rows ≡ true
+unfolding first_of_each
 some_isolating g work [] sound = let some = sound.some_point in absurd (omega arith)
 some_isolating g work (row ∷ rows) sound = some_step_there row rows
 
 -- at each point of a sound order, which the network has, the needed steps are taken
-pub needed_there : (g : Grid) (work : List ℕ) (rows : List StepRow) → IsSoundOrder g work (once (points_of rows)) (tasks_of rows)
+pub needed_there : (g : Grid) (work : List ℕ) (rows : List StepRow) → IsSoundOrder g work (first_of_each (points_of rows)) (tasks_of rows)
     → (p : List ℕ) → has_name (points_of rows) p ≡ true
     → (row : PointRow) × Contains (Grid.points g) row × (p ≡ row.name) × (actions_at (tasks_of rows) p ≡ needed row)
 needed_there g work rows sound p known = at (touching_row fence p) refl
   where
     fence : FenceRows
-    fence = fence_of g work (once (points_of rows))
+    fence = fence_of g work (first_of_each (points_of rows))
 
-    among : Contains (once (points_of rows)) p
+    among : Contains (first_of_each (points_of rows)) p
     among =
-        let (q, there, same) = some_from (same_name p) (once (points_of rows)) (has_name-once (points_of rows) p ∙ known) in
+        let (q, there, same) = some_from (same_name p) (first_of_each (points_of rows)) (has_name-once (points_of rows) p ∙ known) in
         rw (one_name p q same) there
 
-    at : (o : Option PointRow) → touching_row (fence_of g work (once (points_of rows))) p ≡ o
+    at : (o : Option PointRow) → touching_row (fence_of g work (first_of_each (points_of rows))) p ≡ o
         → (row : PointRow) × Contains (Grid.points g) row × (p ≡ row.name) × (actions_at (tasks_of rows) p ≡ needed row)
     at None e =
-        let border = All-contains (λ p. is_border_point (fence_of g work (once (points_of rows))) p ≡ true) (once (points_of rows)) p sound.on_border among in
+        let border = All-contains (λ p. is_border_point (fence_of g work (first_of_each (points_of rows))) p ≡ true) (first_of_each (points_of rows)) p sound.on_border among in
         absurd (false≢true (rw e at border))
     at (Some row) e =
-        let steps = All-contains (λ p. actions_at (tasks_of rows) p ≡ needed_at (fence_of g work (once (points_of rows))) p) (once (points_of rows)) p sound.isolated among in
-        let here = found_there (λ (r : PointRow). same_name p r.name) (fence_of g work (once (points_of rows))).touching row e in (
+        let steps = All-contains (λ p. actions_at (tasks_of rows) p ≡ needed_at (fence_of g work (first_of_each (points_of rows))) p) (first_of_each (points_of rows)) p sound.isolated among in
+        let here = found_there (λ (r : PointRow). same_name p r.name) (fence_of g work (first_of_each (points_of rows))).touching row e in (
           row,
-          kept_there (λ p. in_fence g work (once (points_of rows)) p.from_end || in_fence g work (once (points_of rows)) p.to_end) g.points row here,
-          one_name p row.name (found_passes (λ (r : PointRow). same_name p r.name) (fence_of g work (once (points_of rows))).touching row e),
+          kept_there (λ p. in_fence g work (first_of_each (points_of rows)) p.from_end || in_fence g work (first_of_each (points_of rows)) p.to_end) g.points row here,
+          one_name p row.name (found_passes (λ (r : PointRow). same_name p r.name) (fence_of g work (first_of_each (points_of rows))).touching row e),
           rw e at steps,
         )
 
@@ -193,7 +193,7 @@ needed_control row remote = at row.lockable refl
     at false e = rw (e, remote) refl
 
 -- at the points of a sound order whose steps go in turn, a HeldOpen stands where anything was put
-pub put_beside_open : (g : Grid) (work : List ℕ) (rows : List StepRow) → IsSoundOrder g work (once (points_of rows)) (tasks_of rows) → go_in_turn rows ≡ true
+pub put_beside_open : (g : Grid) (work : List ℕ) (rows : List StepRow) → IsSoundOrder g work (first_of_each (points_of rows)) (tasks_of rows) → go_in_turn rows ≡ true
     → (kind : HoldKind) (p : List ℕ) → put_by rows kind p ≡ true → put_by rows HeldOpen p ≡ true
 put_beside_open g work rows sound turns kind p put =
     let (row, there, named, steps) = needed_there g work rows sound p (put_at_points kind p rows put) in

@@ -11,13 +11,13 @@ use Rattle.clr_order.specs.declared.action.Action.TheVariants as actions
 use Rattle.clr_order.specs.declared.step.StepState.TheVariants.{Done}
 use Rattle.clr_shelf.proofs.Keys.{equal}
 use Rattle.clr_shelf.specs.Rows.{with_row}
-use Rattle.clr_rules.specs.Answer.{Answer, known_of, settled}
+use Rattle.clr_rules.specs.Answer.{Answer, known_of, answer_by_checks}
 use Rattle.clr_rules.specs.Commands.{Known, checks, edits_of}
-use Rattle.clr_rules.specs.Changes.{done_edits, hold_edits, moved, new_steps, phase_after, position_edits, put_steps, undone_edits}
+use Rattle.clr_rules.specs.Changes.{done_edits, hold_edits, step_moved, new_steps, phase_after, position_edits, put_steps, undone_edits}
 use Rattle.clr_rules.specs.Checks.{not_attested}
 use Rattle.clr_rules.specs.EditLaws.{is_hold, refusal_of}
 use Rattle.clr_rules.specs.Prelude.{Edit, SetHand, PutHold, TakeHold, PutRecord, PutStep, Command, Kind, Hold, Tag, Tested, Phase, Requested, Ordered, Granted, Released, Restoring, Switching, Closed, Record, Refusal, StepRow, Id}
-use Rattle.clr_rules.specs.Prelude.{Register, record_of, is_running, is_granted, is_ordered, step_key, step_key_cmp, all_done, present, step_at, steps_of, hold_cmp, has_any_hold, has_hold, hold_of, places_of, edited_all}
+use Rattle.clr_rules.specs.Prelude.{Register, record_of, is_running, is_granted, is_ordered, step_key, step_key_cmp, all_done, present_steps, step_at, steps_of, hold_cmp, has_any_hold, has_hold, hold_of, places_of, after_edits}
 use Rattle.clr_rules.specs.GoodByPhase.{InPhase, IsGoodByPhase, of_round, outlook_of}
 use Rattle.clr_rules.specs.Hold.{same_hold}
 use Rattle.clr_rules.proofs.good.Keeping.{asked}
@@ -117,10 +117,10 @@ module _ (R : Register) (k : Known) (by : List ℕ) (at : ℕ) where
       by_done : (done : Bool) (r : Record) (row : StepRow) → record_of R.records c ≡ Some r
           → AllPutSuch (CameSo R (kinds.Report c n done)) AnyStep (cond done (done_edits R at r row) (undone_edits at r row))
       by_done true r row found =
-          let now = moved Done row.step.reader row in
+          let now = step_moved Done row.step.reader row in
           done_put (CameSo R (kinds.Report c n true)) AnyStep (is_switch_order r) r.id row.step.action row.step.point
           (record r { phase = phase_after R.steps r now; last = at }) now
-          (ended R (kinds.Report c n true) r c found at (ends_with_steps r.phase && all_done (present (with_row step_key_cmp step_key now R.steps) r.id))) tt
+          (ended R (kinds.Report c n true) r c found at (ends_with_steps r.phase && all_done (present_steps (with_row step_key_cmp step_key now R.steps) r.id))) tt
       by_done false r row found = (tt, (same_phase R (kinds.Report c n false) r c found r.holder at, (tt, tt)))
   all_came (kinds.Grant c) passed = by_record (AllPutSuch (CameSo R (kinds.Grant c)) AnyStep) tt R c _ (λ r found. (tt, tt))
   all_came (kinds.Test c section dead) passed = by_record (AllPutSuch (CameSo R (kinds.Test c section dead)) AnyStep) tt R c _ (λ r found. by_dead dead r found)
@@ -167,7 +167,7 @@ came : (R : Register) (q : Command) (c : Id) (s : Record) → record_of (Registe
 came R q c s read = at (refusal_of R q) refl read
   where
     at : (refused : Option Refusal) → refusal_of R q ≡ refused
-        → record_of (Register.records (edited_all (Answer.edits (settled (known_of R q) R q refused)) R)) c ≡ Some s → (record_of R.records c ≡ Some s) ⊎ CameSo R q.kind s
+        → record_of (Register.records (after_edits (Answer.edits (answer_by_checks (known_of R q) R q refused)) R)) c ≡ Some s → (record_of R.records c ≡ Some s) ⊎ CameSo R q.kind s
     at None passed read = record_after (CameSo R q.kind) AnyStep (edits_of (known_of R q).greatest R q.caller q.moment q.kind) R c s
         (all_came R (known_of R q) q.caller q.moment q.kind (all_pass (checks (known_of R q) R q.caller q.moment q.kind) passed)) read
     at (Some refusal) is read = record_after (CameSo R q.kind) AnyStep [] R c s tt read
@@ -249,7 +249,7 @@ module _ (R : Register) (c : Id) (p : List ℕ) where
 
   -- a report of another step leaves a tag, and else it is an Untag
   module _ (good : IsGoodByPhase R) (by : List ℕ) (at : ℕ) (d : Id) (n : ℕ) (r : Record) (found : record_of R.records d ≡ Some r) (runs : is_running r.phase ≡ true)
-      (row : StepRow) (step : step_at (present R.steps d) n ≡ Some row) (there : IsPresent R d row) where
+      (row : StepRow) (step : step_at (present_steps R.steps d) n ≡ Some row) (there : IsPresent R d row) where
     untag_here : row.step.action ≡ actions.Untag → is_hold (hold_of r.id Tag row.step.point) c Tag p ≡ true
         → IsUntag R c p (asked by at (kinds.Report d n true))
     untag_here untags is =
@@ -263,7 +263,7 @@ module _ (R : Register) (c : Id) (p : List ℕ) where
           reported = ap (λ d. kinds.Report d n true) same;
           recorded = ap (record_of R.records) (sym same) ∙ found;
           restoring = untag_is_restoring R good d r found runs row there untags;
-          found = ap (λ d. step_at (present R.steps d) n) (sym same) ∙ step;
+          found = ap (λ d. step_at (present_steps R.steps d) n) (sym same) ∙ step;
           untags = untags;
           there = ap Hold.place one;
         }
@@ -312,9 +312,9 @@ pub tags_are_untagged : TagsAreUntagged
 tags_are_untagged R q c p good has gone = at (refusal_of R q) refl gone
   where
     at : (refused : Option Refusal) → refusal_of R q ≡ refused
-        → has_hold (Register.holds (edited_all (Answer.edits (settled (known_of R q) R q refused)) R)) c Tag p ≡ false → IsUntag R c p q
+        → has_hold (Register.holds (after_edits (Answer.edits (answer_by_checks (known_of R q) R q refused)) R)) c Tag p ≡ false → IsUntag R c p q
     at None passed gone =
         let edits = edits_of (known_of R q).greatest R q.caller q.moment q.kind in
-        ⊎_elim (λ leave. absurd (both_ways (has_hold (Register.holds (edited_all edits R)) c Tag p) gone (left_by_all c Tag p edits R leave has))) (λ h. h)
+        ⊎_elim (λ leave. absurd (both_ways (has_hold (Register.holds (after_edits edits R)) c Tag p) gone (left_by_all c Tag p edits R leave has))) (λ h. h)
         (leaves_or_untags R (to_phases R good) c p (known_of R q) q.caller q.moment q.kind (all_pass (checks (known_of R q) R q.caller q.moment q.kind) passed))
-    at (Some refusal) is gone = absurd (both_ways (has_hold (Register.holds (edited_all [] R)) c Tag p) gone (left_by_all c Tag p [] R tt has))
+    at (Some refusal) is gone = absurd (both_ways (has_hold (Register.holds (after_edits [] R)) c Tag p) gone (left_by_all c Tag p [] R tt has))

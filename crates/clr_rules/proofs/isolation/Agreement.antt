@@ -11,11 +11,11 @@ use Rattle.clr_shelf.proofs.Groups.{filter-with_inside, filter-without_row}
 use Rattle.clr_shelf.specs.Rows.{in_key_order, with_row, without_row}
 use Rattle.clr_rules.specs.Agreement.{Agree, part_near}
 use Rattle.clr_rules.specs.AgreementLaws.{LeavesAlone, concerning, concerns, is_about, is_new_of}
-use Rattle.clr_rules.specs.Prelude.{Edit, SetPosition, SetHand, PutHold, TakeHold, PutRecord, PutStep, Hold, Record, Id, id_cmp, same_id, Register, greatest_number, record_key, hold_cmp, hold_cmp_total, hold_key, holds_of, edited}
-use Rattle.clr_rules.specs.Prelude.{edited_all}
+use Rattle.clr_rules.specs.Prelude.{Edit, SetPosition, SetHand, PutHold, TakeHold, PutRecord, PutStep, Hold, Record, Id, id_cmp, same_id, Register, greatest_number, record_key, hold_cmp, hold_cmp_total, hold_key, holds_of, after_edit}
+use Rattle.clr_rules.specs.Prelude.{after_edits}
 use Rattle.clr_rules.specs.Fences.{touches, touching_names}
 use Rattle.clr_rules.specs.Good.{ListsAreInOrder, has_record}
-use Rattle.clr_rules.specs.Records.{greater}
+use Rattle.clr_rules.specs.Records.{greater_of}
 use Rattle.clr_rules.specs.Shown.{is_mark, marks_of}
 use Rattle.clr_rules.proofs.edits.EditedLists.{edited-in_order}
 use Rattle.clr_rules.proofs.lists.Greatest.{greatest-put, greatest-put_over}
@@ -94,7 +94,7 @@ take_own : (c : Id) (h : Hold) (holds : List Hold) → holds_of (without_row hol
 unfolding holds_of
 take_own c h holds = filter-without_row hold_cmp hold_key hold_cmp_total (λ other. same_id c other.id) h holds
 
-pub holds_of-edited : (R : Register) → ListsAreInOrder R → (c : Id) (edit : Edit) → holds_of (Register.holds (edited edit R)) c ≡ own_after c edit (holds_of R.holds c)
+pub holds_of-edited : (R : Register) → ListsAreInOrder R → (c : Id) (edit : Edit) → holds_of (Register.holds (after_edit edit R)) c ≡ own_after c edit (holds_of R.holds c)
 holds_of-edited R ordered c (SetPosition point position) = refl
 holds_of-edited R ordered c (SetHand point hand) = refl
 holds_of-edited R ordered c (PutHold h) = put_own c h R.holds ordered.holds (same_id c h.id) refl
@@ -102,7 +102,7 @@ holds_of-edited R ordered c (TakeHold h) = take_own c h R.holds
 holds_of-edited R ordered c (PutRecord r) = refl
 holds_of-edited R ordered c (PutStep row) = refl
 
-holds_of-other : (R : Register) → ListsAreInOrder R → (c : Id) (edit : Edit) → is_about c edit ≡ false → holds_of (Register.holds (edited edit R)) c ≡ holds_of R.holds c
+holds_of-other : (R : Register) → ListsAreInOrder R → (c : Id) (edit : Edit) → is_about c edit ≡ false → holds_of (Register.holds (after_edit edit R)) c ≡ holds_of R.holds c
 holds_of-other R ordered c (SetPosition point position) other = refl
 holds_of-other R ordered c (SetHand point hand) other = refl
 holds_of-other R ordered c (PutHold h) other = holds_of-others c h R.holds ordered.holds other
@@ -113,11 +113,11 @@ holds_of-other R ordered c (PutStep row) other = refl
 -- ---- the greatest number of its requester
 
 abbrev greatest_after : List ℕ → Edit → ℕ → ℕ
-greatest_after requester (PutRecord r) n = cond (same_name requester r.id.requester) (greater n r.id.number) n
+greatest_after requester (PutRecord r) n = cond (same_name requester r.id.requester) (greater_of n r.id.number) n
 greatest_after requester edit n = n
 
 greatest-edited : (R : Register) → ListsAreInOrder R → (requester : List ℕ) (edit : Edit)
-    → greatest_number (Register.records (edited edit R)) requester ≡ greatest_after requester edit (greatest_number R.records requester)
+    → greatest_number (Register.records (after_edit edit R)) requester ≡ greatest_after requester edit (greatest_number R.records requester)
 greatest-edited R ordered requester (SetPosition point position) = refl
 greatest-edited R ordered requester (SetHand point hand) = refl
 greatest-edited R ordered requester (PutHold h) = refl
@@ -134,7 +134,7 @@ put_known r records requester ordered false known is there not_new = greatest-pu
 
 -- an edit that gives a requester no new clearance leaves the greatest number
 greatest-known : (R : Register) → ListsAreInOrder R → (requester : List ℕ) (edit : Edit) → is_new_of R.records requester edit ≡ false
-    → greatest_number (Register.records (edited edit R)) requester ≡ greatest_number R.records requester
+    → greatest_number (Register.records (after_edit edit R)) requester ≡ greatest_number R.records requester
 greatest-known R ordered requester (SetPosition point position) not_new = refl
 greatest-known R ordered requester (SetHand point hand) not_new = refl
 greatest-known R ordered requester (PutHold h) not_new = refl
@@ -150,32 +150,32 @@ and_not false known after stays not_new = refl
 
 -- so what gives no new clearance now gives none after an edit
 not_new-edited : (R : Register) (requester : List ℕ) (edit next : Edit) → is_new_of R.records requester next ≡ false
-    → is_new_of (Register.records (edited edit R)) requester next ≡ false
+    → is_new_of (Register.records (after_edit edit R)) requester next ≡ false
 not_new-edited R requester edit (SetPosition point position) not_new = refl
 not_new-edited R requester edit (SetHand point hand) not_new = refl
 not_new-edited R requester edit (PutHold h) not_new = refl
 not_new-edited R requester edit (TakeHold h) not_new = refl
 not_new-edited R requester edit (PutRecord r) not_new = and_not (same_name requester r.id.requester) (has_record R.records r.id)
-    (has_record (Register.records (edited edit R)) r.id) (edited-has_record edit R r.id) not_new
+    (has_record (Register.records (after_edit edit R)) r.id) (edited-has_record edit R r.id) not_new
 not_new-edited R requester edit (PutStep row) not_new = refl
 
 -- ---- lists of edits of others
 
 others_own_holds : (R : Register) → ListsAreInOrder R → (c : Id) (edits : List Edit) → All (λ edit. is_about c edit ≡ false) edits
-    → holds_of (Register.holds (edited_all edits R)) c ≡ holds_of R.holds c
-unfolding edited_all
+    → holds_of (Register.holds (after_edits edits R)) c ≡ holds_of R.holds c
+unfolding after_edits
 others_own_holds R ordered c [] others = refl
 others_own_holds R ordered c (edit ∷ edits) others =
-    others_own_holds (edited edit R) (edited-in_order edit R ordered) c edits (All-tail (λ edit. is_about c edit ≡ false) edit edits others)
+    others_own_holds (after_edit edit R) (edited-in_order edit R ordered) c edits (All-tail (λ edit. is_about c edit ≡ false) edit edits others)
     ∙ holds_of-other R ordered c edit (All-head (λ edit. is_about c edit ≡ false) edit edits others)
 
 others_greatest : (R : Register) → ListsAreInOrder R → (requester : List ℕ) (edits : List Edit) → All (λ edit. is_new_of R.records requester edit ≡ false) edits
-    → greatest_number (Register.records (edited_all edits R)) requester ≡ greatest_number R.records requester
-unfolding edited_all
+    → greatest_number (Register.records (after_edits edits R)) requester ≡ greatest_number R.records requester
+unfolding after_edits
 others_greatest R ordered requester [] not_new = refl
 others_greatest R ordered requester (edit ∷ edits) not_new =
-    others_greatest (edited edit R) (edited-in_order edit R ordered) requester edits
-    (All-weaker (λ next. is_new_of R.records requester next ≡ false) (λ next. is_new_of (Register.records (edited edit R)) requester next ≡ false)
+    others_greatest (after_edit edit R) (edited-in_order edit R ordered) requester edits
+    (All-weaker (λ next. is_new_of R.records requester next ≡ false) (λ next. is_new_of (Register.records (after_edit edit R)) requester next ≡ false)
     (not_new-edited R requester edit) edits (All-tail (λ next. is_new_of R.records requester next ≡ false) edit edits not_new))
     ∙ greatest-known R ordered requester edit (All-head (λ next. is_new_of R.records requester next ≡ false) edit edits not_new)
 
@@ -184,9 +184,9 @@ pub same_marks_agree : (R S : Register) → ListsAreInOrder R → ListsAreInOrde
     → All (λ edit. is_about c edit ≡ false) left → All (λ edit. is_new_of R.records c.requester edit ≡ false) left
     → All (λ edit. is_about c edit ≡ false) right → All (λ edit. is_new_of S.records c.requester edit ≡ false) right
     → marks_of R.net inside left ≡ marks_of S.net inside right
-    → Agree c inside R S → Agree c inside (edited_all left R) (edited_all right S)
+    → Agree c inside R S → Agree c inside (after_edits left R) (after_edits right S)
 same_marks_agree R S R_order S_order c inside left right left_others left_known right_others right_known marks agree = record {
-  near = others_change_by_marks R R_order c inside left left_others ∙ (λ i. edited_all (marks i) (agree.near i))
+  near = others_change_by_marks R R_order c inside left left_others ∙ (λ i. after_edits (marks i) (agree.near i))
       ∙ sym (others_change_by_marks S S_order c inside right right_others);
   own_holds = others_own_holds R R_order c left left_others ∙ agree.own_holds ∙ sym (others_own_holds S S_order c right right_others);
   greatest = others_greatest R R_order c.requester left left_known ∙ agree.greatest ∙ sym (others_greatest S S_order c.requester right right_known);
@@ -198,8 +198,8 @@ marks_none g inside edits none =
 
 -- edits that leave a clearance alone keep agreement
 pub left_alone_agrees : (R : Register) → ListsAreInOrder R → (c : Id) (inside : List ℕ → Bool) (edits : List Edit)
-    → All (LeavesAlone c inside R) edits → Agree c inside R (edited_all edits R)
-unfolding edited_all
+    → All (LeavesAlone c inside R) edits → Agree c inside R (after_edits edits R)
+unfolding after_edits
 left_alone_agrees R ordered c inside edits alone = same_marks_agree R R ordered ordered c inside [] edits
     (All-nil (λ edit. is_about c edit ≡ false)) (All-nil (λ edit. is_new_of R.records c.requester edit ≡ false))
     (All-weaker (LeavesAlone c inside R) (λ edit. is_about c edit ≡ false) (λ edit is. is.of_others) edits alone)
@@ -208,38 +208,38 @@ left_alone_agrees R ordered c inside edits alone = same_marks_agree R R ordered 
     (agrees_with_itself c inside R)
 
 pub one_left_alone_agrees : (R : Register) → ListsAreInOrder R → (c : Id) (inside : List ℕ → Bool) (edit : Edit)
-    → LeavesAlone c inside R edit → Agree c inside R (edited edit R)
-unfolding edited_all
+    → LeavesAlone c inside R edit → Agree c inside R (after_edit edit R)
+unfolding after_edits
 one_left_alone_agrees R ordered c inside edit alone = left_alone_agrees R ordered c inside (edit ∷ [])
     (All-cons (LeavesAlone c inside R) edit [] alone (All-nil (LeavesAlone c inside R)))
 
 -- ---- the same edits in both
 
 same_own_holds : (R S : Register) → ListsAreInOrder R → ListsAreInOrder S → (c : Id) (edits : List Edit) → holds_of R.holds c ≡ holds_of S.holds c
-    → holds_of (Register.holds (edited_all edits R)) c ≡ holds_of (Register.holds (edited_all edits S)) c
-unfolding edited_all
+    → holds_of (Register.holds (after_edits edits R)) c ≡ holds_of (Register.holds (after_edits edits S)) c
+unfolding after_edits
 same_own_holds R S R_order S_order c [] same = same
 same_own_holds R S R_order S_order c (edit ∷ edits) same =
-    same_own_holds (edited edit R) (edited edit S) (edited-in_order edit R R_order) (edited-in_order edit S S_order) c edits
+    same_own_holds (after_edit edit R) (after_edit edit S) (edited-in_order edit R R_order) (edited-in_order edit S S_order) c edits
     (holds_of-edited R R_order c edit ∙ ap (own_after c edit) same ∙ sym (holds_of-edited S S_order c edit))
 
 same_greatest : (R S : Register) → ListsAreInOrder R → ListsAreInOrder S → (requester : List ℕ) (edits : List Edit)
     → greatest_number R.records requester ≡ greatest_number S.records requester
-    → greatest_number (Register.records (edited_all edits R)) requester ≡ greatest_number (Register.records (edited_all edits S)) requester
-unfolding edited_all
+    → greatest_number (Register.records (after_edits edits R)) requester ≡ greatest_number (Register.records (after_edits edits S)) requester
+unfolding after_edits
 same_greatest R S R_order S_order requester [] same = same
 same_greatest R S R_order S_order requester (edit ∷ edits) same =
-    same_greatest (edited edit R) (edited edit S) (edited-in_order edit R R_order) (edited-in_order edit S S_order) requester edits
+    same_greatest (after_edit edit R) (after_edit edit S) (edited-in_order edit R R_order) (edited-in_order edit S S_order) requester edits
     (greatest-edited R R_order requester edit ∙ ap (greatest_after requester edit) same ∙ sym (greatest-edited S S_order requester edit))
 
 -- registers that agree still do after the same edits, whatever these are about
 pub same_edits_agree : (R S : Register) → ListsAreInOrder R → ListsAreInOrder S → (c : Id) (inside : List ℕ → Bool) (edits : List Edit)
-    → Agree c inside R S → Agree c inside (edited_all edits R) (edited_all edits S)
+    → Agree c inside R S → Agree c inside (after_edits edits R) (after_edits edits S)
 same_edits_agree R S R_order S_order c inside edits agree =
     let same : concerning R.net c inside edits ≡ concerning S.net c inside edits =
     ap (λ (names : List (List ℕ)). filter (concerns c inside (has_name names)) edits) (same_touching R S c inside agree) in
     record {
-      near = part_near-edited_all R R_order c inside edits ∙ (λ i. edited_all (same i) (agree.near i)) ∙ sym (part_near-edited_all S S_order c inside edits);
+      near = part_near-edited_all R R_order c inside edits ∙ (λ i. after_edits (same i) (agree.near i)) ∙ sym (part_near-edited_all S S_order c inside edits);
       own_holds = same_own_holds R S R_order S_order c edits agree.own_holds;
       greatest = same_greatest R S R_order S_order c.requester edits agree.greatest;
     }

@@ -15,7 +15,7 @@ use Rattle.clr_rules.specs.Good.{IsGood, ListsAreInOrder, is_operators}
 use Rattle.clr_rules.specs.Prelude.{Edit, Command, Kind, Id, Register}
 use Rattle.clr_rules.specs.Isolation.{AreAlike, OwnCommandsAlone, SameShownSameAnswers, is_own_item}
 use Rattle.clr_rules.specs.Run.{after, after_all}
-use Rattle.clr_rules.specs.Shown.{Item, asked_row, covers, heard, includes, is_own_command, marks_of, own_answers, shown}
+use Rattle.clr_rules.specs.Shown.{Item, asked_row, covers, with_marks, includes, is_own_command, marks_of, own_answers, items_shown}
 use Rattle.clr_rules.specs.declared.command.Kind.TheVariants.{Request}
 use Rattle.clr_rules.proofs.isolation.Agreement.{agrees_with_itself}
 use Rattle.clr_rules.proofs.edits.EditedLists.{edited_all-in_order, edited_all-network}
@@ -27,17 +27,17 @@ use Rattle.clr_rules.proofs.edits.Runs.{reached_lists_are_in_order}
 -- ---- what a first command shows and is answered
 
 module _ (c : Id) (inside : List ℕ → Bool) (R : Register) (q : Command) (rest : List Command) where
-  pub shown_own : is_own_command c q ≡ true → shown c inside R (q ∷ rest) ≡ Item.own q (asked_row R q.kind) ∷ shown c inside (after R q) rest
-  unfolding shown
-  shown_own is = ap (λ b. if b then Item.own q (asked_row R q.kind) ∷ shown c inside (after R q) rest
-      else heard (marks_of R.net inside (Answer.edits (answer R q))) (shown c inside (after R q) rest)) is
+  pub shown_own : is_own_command c q ≡ true → items_shown c inside R (q ∷ rest) ≡ Item.own q (asked_row R q.kind) ∷ items_shown c inside (after R q) rest
+  unfolding items_shown
+  shown_own is = ap (λ b. if b then Item.own q (asked_row R q.kind) ∷ items_shown c inside (after R q) rest
+      else with_marks (marks_of R.net inside (Answer.edits (answer R q))) (items_shown c inside (after R q) rest)) is
 
   pub shown_heard : is_own_command c q ≡ false → (marks : List Edit) → marks_of R.net inside (Answer.edits (answer R q)) ≡ marks
-      → shown c inside R (q ∷ rest) ≡ heard marks (shown c inside (after R q) rest)
-  unfolding shown
-  shown_heard is marks are = ap (λ b. if b then Item.own q (asked_row R q.kind) ∷ shown c inside (after R q) rest
-      else heard (marks_of R.net inside (Answer.edits (answer R q))) (shown c inside (after R q) rest)) is
-      ∙ ap (λ (edits : List Edit). heard edits (shown c inside (after R q) rest)) are
+      → items_shown c inside R (q ∷ rest) ≡ with_marks marks (items_shown c inside (after R q) rest)
+  unfolding items_shown
+  shown_heard is marks are = ap (λ b. if b then Item.own q (asked_row R q.kind) ∷ items_shown c inside (after R q) rest
+      else with_marks (marks_of R.net inside (Answer.edits (answer R q))) (items_shown c inside (after R q) rest)) is
+      ∙ ap (λ (edits : List Edit). with_marks edits (items_shown c inside (after R q) rest)) are
 
 module _ (c : Id) (R : Register) (q : Command) (rest : List Command) where
   pub answered_own : is_own_command c q ≡ true → own_answers c R (q ∷ rest) ≡ answer R q ∷ own_answers c (after R q) rest
@@ -156,31 +156,31 @@ module _ (c : Id) (inside : List ℕ → Bool) (R : Register) (commands : List C
   record Meets (items : List Item) : Type 0 where
     at_end : (S : Register) → Alongside c inside R S → items ≡ [] → EndAlike S []
     at_own : (S : Register) (p : Command) (rest : List Command) → Alongside c inside R S → is_own_command c p ≡ true
-        → items ≡ Item.own p (asked_row S p.kind) ∷ shown c inside (after S p) rest → EndAlike S (p ∷ rest)
+        → items ≡ Item.own p (asked_row S p.kind) ∷ items_shown c inside (after S p) rest → EndAlike S (p ∷ rest)
     at_marks : (S : Register) (p : Command) (rest : List Command) → Alongside c inside R S → is_own_command c p ≡ false
         → (edit : Edit) (edits : List Edit) → marks_of S.net inside (Answer.edits (answer S p)) ≡ edit ∷ edits
-        → items ≡ Item.marks edit edits ∷ shown c inside (after S p) rest → EndAlike S (p ∷ rest)
+        → items ≡ Item.marks edit edits ∷ items_shown c inside (after S p) rest → EndAlike S (p ∷ rest)
 
   module _ (items : List Item) (meets : Meets items) (covered : covers c inside R [] ≡ true) where
     -- a command of others that shows nothing is passed over; the rest are met
-    past_others : (S : Register) (p : Command) (rest : List Command) → ((T : Register) → Alongside c inside R T → items ≡ shown c inside T rest → EndAlike T rest)
+    past_others : (S : Register) (p : Command) (rest : List Command) → ((T : Register) → Alongside c inside R T → items ≡ items_shown c inside T rest → EndAlike T rest)
         → Alongside c inside R S → is_own_command c p ≡ false → (marks : List Edit) → marks_of S.net inside (Answer.edits (answer S p)) ≡ marks
-        → items ≡ heard marks (shown c inside (after S p) rest) → EndAlike S (p ∷ rest)
+        → items ≡ with_marks marks (items_shown c inside (after S p) rest) → EndAlike S (p ∷ rest)
     unfolding after_all
     past_others S p rest later near is [] none same =
         let end = later (after S p) (second_on c inside R S near p (second_step c inside R S [] (alike c inside R S [] near covered) p is none)) same in
         (end.0 ∙ sym (answered_others c S p rest is), end.1)
     past_others S p rest later near is (edit ∷ edits) are same = meets.at_marks S p rest near is edit edits are same
 
-    past_one : (S : Register) (p : Command) (rest : List Command) → ((T : Register) → Alongside c inside R T → items ≡ shown c inside T rest → EndAlike T rest)
-        → Alongside c inside R S → (b : Bool) → is_own_command c p ≡ b → items ≡ shown c inside S (p ∷ rest) → EndAlike S (p ∷ rest)
+    past_one : (S : Register) (p : Command) (rest : List Command) → ((T : Register) → Alongside c inside R T → items ≡ items_shown c inside T rest → EndAlike T rest)
+        → Alongside c inside R S → (b : Bool) → is_own_command c p ≡ b → items ≡ items_shown c inside S (p ∷ rest) → EndAlike S (p ∷ rest)
     past_one S p rest later near true is same = meets.at_own S p rest near is (same ∙ shown_own c inside S p rest is)
     past_one S p rest later near false is same =
         let marks = marks_of S.net inside (Answer.edits (answer S p)) in
         past_others S p rest later near is marks refl (same ∙ shown_heard c inside S p rest is marks refl)
 
-    past_silent : (others : List Command) (S : Register) → Alongside c inside R S → items ≡ shown c inside S others → EndAlike S others
-    unfolding shown
+    past_silent : (others : List Command) (S : Register) → Alongside c inside R S → items ≡ items_shown c inside S others → EndAlike S others
+    unfolding items_shown
     past_silent [] S near same = meets.at_end S near same
     past_silent (p ∷ rest) S near same = past_one S p rest (past_silent rest) near (is_own_command c p) refl same
 
@@ -189,10 +189,10 @@ module _ (c : Id) (inside : List ℕ → Bool) (R : Register) (commands : List C
 module _ (c : Id) (inside : List ℕ → Bool) where
   abbrev HoldsFor : List Command → Type 0
   HoldsFor commands = (R S : Register) (others : List Command) → Alongside c inside R S → covers c inside R commands ≡ true
-      → shown c inside R commands ≡ shown c inside S others → EndAlike c inside R commands S others
+      → items_shown c inside R commands ≡ items_shown c inside S others → EndAlike c inside R commands S others
 
   at_the_end : HoldsFor []
-  unfolding shown own_answers after_all
+  unfolding items_shown own_answers after_all
   at_the_end R S others near covered same = past_silent c inside R [] [] (record {
     at_end = λ T along none. (refl, along.agree);
     at_own = λ T p rest along is there. absurd (none_is_none _ _ there);
@@ -202,27 +202,27 @@ module _ (c : Id) (inside : List ℕ → Bool) where
   module _ (q : Command) (rest : List Command) (later : HoldsFor rest) (R : Register) (covered : covers c inside R (q ∷ rest) ≡ true) where
     -- an own command meets the same own command, and both are answered alike
     own_meets_own : (S : Register) (others : List Command) → Alongside c inside R S → is_own_command c q ≡ true → asked_row R q.kind ≡ asked_row S q.kind
-        → shown c inside (after R q) rest ≡ shown c inside (after S q) others → EndAlike c inside R (q ∷ rest) S (q ∷ others)
+        → items_shown c inside (after R q) rest ≡ items_shown c inside (after S q) others → EndAlike c inside R (q ∷ rest) S (q ∷ others)
     unfolding after_all
     own_meets_own S others near is row same =
         let step = own_step c inside R S q (alike c inside R S (q ∷ []) near (covers_one c inside R q rest covered)) is row in
         let end = later (after R q) (after S q) others (both_on c inside R S near q q step.1) (covers_after c inside R q rest covered) same in
         (answered_own c R q rest is ∙ (λ i. step.0 i ∷ end.0 i) ∙ sym (answered_own c S q others is), end.1)
 
-    own_meets : is_own_command c q ≡ true → Meets c inside R (q ∷ rest) (Item.own q (asked_row R q.kind) ∷ shown c inside (after R q) rest)
+    own_meets : is_own_command c q ≡ true → Meets c inside R (q ∷ rest) (Item.own q (asked_row R q.kind) ∷ items_shown c inside (after R q) rest)
     own_meets is = record {
       at_end = λ S near none. absurd (none_is_none _ _ (sym none));
       at_own = λ S p others near p_is same.
           let equal = same_command q p _ _ _ _ same in
           subst (λ (p : Command). EndAlike c inside R (q ∷ rest) S (p ∷ others)) equal
           (own_meets_own S others near is (same_row q p _ _ _ _ same ∙ ap (λ (x : Command). asked_row S x.kind) (sym equal))
-          (same_after_own q p _ _ _ _ same ∙ ap (λ (x : Command). shown c inside (after S x) others) (sym equal)));
+          (same_after_own q p _ _ _ _ same ∙ ap (λ (x : Command). items_shown c inside (after S x) others) (sym equal)));
       at_marks = λ S p others near p_is edit edits are same. absurd (own_is_no_marks _ _ _ _ _ _ same);
     }
 
     -- marks meet equal marks, and the registers agree again
     marks_meet : is_own_command c q ≡ false → (mark : Edit) (marks : List Edit) → marks_of R.net inside (Answer.edits (answer R q)) ≡ mark ∷ marks
-        → Meets c inside R (q ∷ rest) (Item.marks mark marks ∷ shown c inside (after R q) rest)
+        → Meets c inside R (q ∷ rest) (Item.marks mark marks ∷ items_shown c inside (after R q) rest)
     unfolding after_all
     marks_meet is mark marks are = record {
       at_end = λ S near none. absurd (none_is_none _ _ (sym none));
@@ -237,20 +237,20 @@ module _ (c : Id) (inside : List ℕ → Bool) where
 
     of_others : (S : Register) (others : List Command) → Alongside c inside R S → is_own_command c q ≡ false
         → (marks : List Edit) → marks_of R.net inside (Answer.edits (answer R q)) ≡ marks
-        → heard marks (shown c inside (after R q) rest) ≡ shown c inside S others → EndAlike c inside R (q ∷ rest) S others
+        → with_marks marks (items_shown c inside (after R q) rest) ≡ items_shown c inside S others → EndAlike c inside R (q ∷ rest) S others
     unfolding after_all
     of_others S others near is [] none same =
         let agree = first_step c inside R S (q ∷ []) (alike c inside R S (q ∷ []) near (covers_one c inside R q rest covered)) q is none in
         let end = later (after R q) S others (first_on c inside R S near q agree) (covers_after c inside R q rest covered) same in
         (answered_others c R q rest is ∙ end.0, end.1)
     of_others S others near is (edit ∷ edits) are same =
-        past_silent c inside R (q ∷ rest) (Item.marks edit edits ∷ shown c inside (after R q) rest) (marks_meet is edit edits are)
+        past_silent c inside R (q ∷ rest) (Item.marks edit edits ∷ items_shown c inside (after R q) rest) (marks_meet is edit edits are)
         (covers_none c inside R (q ∷ rest) covered) others S near same
 
     one_more : (S : Register) (others : List Command) → Alongside c inside R S → (b : Bool) → is_own_command c q ≡ b
-        → shown c inside R (q ∷ rest) ≡ shown c inside S others → EndAlike c inside R (q ∷ rest) S others
+        → items_shown c inside R (q ∷ rest) ≡ items_shown c inside S others → EndAlike c inside R (q ∷ rest) S others
     one_more S others near true is same =
-        past_silent c inside R (q ∷ rest) (Item.own q (asked_row R q.kind) ∷ shown c inside (after R q) rest) (own_meets is)
+        past_silent c inside R (q ∷ rest) (Item.own q (asked_row R q.kind) ∷ items_shown c inside (after R q) rest) (own_meets is)
         (covers_none c inside R (q ∷ rest) covered) others S near (sym (shown_own c inside R q rest is) ∙ same)
     one_more S others near false is same =
         let marks = marks_of R.net inside (Answer.edits (answer R q)) in
@@ -275,8 +275,8 @@ same_shown c inside R S commands others R_reached S_reached no_operator agree co
 -- where all that is shown is own commands, the own commands alone show the same, also to another register of the same network
 module _ (c : Id) (inside : List ℕ → Bool) where
   abbrev ShowsAlone : List Command → Type 0
-  ShowsAlone commands = (R S : Register) → ListsAreInOrder R → ListsAreInOrder S → R.net ≡ S.net → list_all is_own_item (shown c inside R commands) ≡ true
-      → shown c inside R commands ≡ shown c inside S (filter (is_own_command c) commands)
+  ShowsAlone commands = (R S : Register) → ListsAreInOrder R → ListsAreInOrder S → R.net ≡ S.net → list_all is_own_item (items_shown c inside R commands) ≡ true
+      → items_shown c inside R commands ≡ items_shown c inside S (filter (is_own_command c) commands)
 
   net_after : (R : Register) (q : Command) → ListsAreInOrder R → Register.net (after R q) ≡ R.net
   net_after R q ordered = let kept = edited_all-network R (Answer.edits (answer R q)) ordered in kept.same_net
@@ -286,8 +286,8 @@ module _ (c : Id) (inside : List ℕ → Bool) where
 
   module _ (q : Command) (rest : List Command) (later : ShowsAlone rest) (R S : Register) (R_order : ListsAreInOrder R) (S_order : ListsAreInOrder S) (net : R.net ≡ S.net) where
     alone_others : is_own_command c q ≡ false → (marks : List Edit) → marks_of R.net inside (Answer.edits (answer R q)) ≡ marks
-        → list_all is_own_item (heard marks (shown c inside (after R q) rest)) ≡ true
-        → heard marks (shown c inside (after R q) rest) ≡ shown c inside S (filter (is_own_command c) rest)
+        → list_all is_own_item (with_marks marks (items_shown c inside (after R q) rest)) ≡ true
+        → with_marks marks (items_shown c inside (after R q) rest) ≡ items_shown c inside S (filter (is_own_command c) rest)
     alone_others is [] none all = later (after R q) S (order_after R q R_order) S_order (net_after R q R_order ∙ net) all
     alone_others is (edit ∷ edits) are all = absurd (false≢true all)
 
@@ -295,27 +295,27 @@ module _ (c : Id) (inside : List ℕ → Bool) where
     asked_alike (Request section) = ap (λ (g : Grid). find (λ row. same_name section row.name) (Grid.sections g)) net
     asked_alike _ = refl
 
-    alone_one : (b : Bool) → is_own_command c q ≡ b → list_all is_own_item (shown c inside R (q ∷ rest)) ≡ true
-        → shown c inside R (q ∷ rest) ≡ shown c inside S (filter (is_own_command c) (q ∷ rest))
+    alone_one : (b : Bool) → is_own_command c q ≡ b → list_all is_own_item (items_shown c inside R (q ∷ rest)) ≡ true
+        → items_shown c inside R (q ∷ rest) ≡ items_shown c inside S (filter (is_own_command c) (q ∷ rest))
     alone_one true is all =
         let here = shown_own c inside R q rest is in
-        let rest_own : list_all is_own_item (shown c inside (after R q) rest) ≡ true = ap (list_all is_own_item) (sym here) ∙ all in
+        let rest_own : list_all is_own_item (items_shown c inside (after R q) rest) ≡ true = ap (list_all is_own_item) (sym here) ∙ all in
         let kept : filter (is_own_command c) (q ∷ rest) ≡ q ∷ filter (is_own_command c) rest =
         ap (λ b. cond b (q ∷ filter (is_own_command c) rest) (filter (is_own_command c) rest)) is in
         here
         ∙ (λ i. Item.own q (asked_alike q.kind i)
         ∷ later (after R q) (after S q) (order_after R q R_order) (order_after S q S_order) (net_after R q R_order ∙ net ∙ sym (net_after S q S_order)) rest_own i)
         ∙ sym (shown_own c inside S q (filter (is_own_command c) rest) is)
-        ∙ ap (shown c inside S) (sym kept)
+        ∙ ap (items_shown c inside S) (sym kept)
     alone_one false is all =
         let marks = marks_of R.net inside (Answer.edits (answer R q)) in
         let here = shown_heard c inside R q rest is marks refl in
         let kept : filter (is_own_command c) (q ∷ rest) ≡ filter (is_own_command c) rest =
         ap (λ b. cond b (q ∷ filter (is_own_command c) rest) (filter (is_own_command c) rest)) is in
-        here ∙ alone_others is marks refl (ap (list_all is_own_item) (sym here) ∙ all) ∙ ap (shown c inside S) (sym kept)
+        here ∙ alone_others is marks refl (ap (list_all is_own_item) (sym here) ∙ all) ∙ ap (items_shown c inside S) (sym kept)
 
   shows_alone : (commands : List Command) → ShowsAlone commands
-  unfolding shown
+  unfolding items_shown
   shows_alone [] = λ R S R_order S_order net all. refl
   shows_alone (q ∷ rest) = λ R S R_order S_order net. alone_one q rest (shows_alone rest) R S R_order S_order net (is_own_command c q) refl
 

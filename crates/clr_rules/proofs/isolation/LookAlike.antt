@@ -19,7 +19,7 @@ use Rattle.clr_net.proofs.Walks.{one_name}
 use Rattle.clr_csv.specs.declared.employee.StaffRow.{StaffRow}
 use Rattle.clr_shelf.proofs.Lists.{filter-filter_wider}
 use Rattle.clr_rules.specs.Agreement.{Agree, part_near}
-use Rattle.clr_rules.specs.Answer.{fence_for, known_of, numbered_for}
+use Rattle.clr_rules.specs.Answer.{fence_for, known_of, requester_for}
 use Rattle.clr_rules.specs.Checks.{employee, has_role, is_operator}
 use Rattle.clr_rules.specs.Command.{named_clearance}
 use Rattle.clr_rules.specs.Fences.{clearance_fence, order_fence, touching_names}
@@ -27,7 +27,7 @@ use Rattle.clr_rules.specs.Good.{IsGood, is_operators}
 use Rattle.clr_rules.specs.Holds.{is_near_hold}
 use Rattle.clr_rules.specs.Prelude.{Command, Kind, Hold, PointState, Record, StepRow, Id, same_id, Register, greatest_number, record_of}
 use Rattle.clr_rules.specs.Isolation.{AreAlike}
-use Rattle.clr_rules.specs.Near.{is_asked, is_beside, near_of, near_part, part, switched, switched_by}
+use Rattle.clr_rules.specs.Near.{is_asked, is_beside, near_of, near_part, part, switched_points, switched_by}
 use Rattle.clr_rules.specs.NearLaws.{is_order}
 use Rattle.clr_rules.specs.Shown.{asked_row, covers, fence_to_come, found_phase_requested, includes, is_own_command, is_own_kind}
 use Rattle.clr_rules.specs.declared.command.Kind.TheVariants.{Request, Order, Switch}
@@ -106,10 +106,10 @@ module _ (R : Register) (c : Id) (good : IsGood R) (no_operator : is_operators R
 
   near_as_part : (q : Command) → named_clearance q.kind ≡ Some c → near_part R q ≡ at_sections R (fence_for R q.kind) c
   near_as_part q named =
-      let none : switched R q.kind ≡ [] = switched_named R q.kind c named ∙ no_switch_found (record_of R.records c) refl in
+      let none : switched_points R q.kind ≡ [] = switched_named R q.kind c named ∙ no_switch_found (record_of R.records c) refl in
       let beside = λ (p : List ℕ). has_name (touching_names R.net (has_name (fence_for R q.kind))) p in
       let by_fence : (p : List ℕ) → is_beside R (known_of R q) q.kind p ≡ beside p =
-      λ p. or_false (beside p) (has_name (switched R q.kind) p) (ap (λ (names : List (List ℕ)). has_name names p) none) in
+      λ p. or_false (beside p) (has_name (switched_points R q.kind) p) (ap (λ (names : List (List ℕ)). has_name names p) none) in
       let listed : (s : List ℕ) → (has_name (fence_for R q.kind) s || is_asked q.kind s) ≡ has_name (fence_for R q.kind) s =
       λ s. or_false (has_name (fence_for R q.kind) s) (is_asked q.kind s) (not_asked q.kind c named s) in
       λ i. part R (λ s. listed s i) (has_name (fence_for R q.kind)) (λ p. by_fence p i) (named i)
@@ -151,8 +151,8 @@ module _ (c : Id) (inside : List ℕ → Bool) (R S : Register) (agree : Agree c
         near_as_part R c R_good R_other q named ∙ sym (at_sections-part R c inside (fence_for R q.kind) first)
         ∙ (λ i. at_sections (agree.near i) (fence i) c)
         ∙ at_sections-part S c inside (fence_for S q.kind) second ∙ sym (near_as_part S c S_good S_other q named) in
-        let requester : numbered_for q.caller (named_clearance q.kind) ≡ c.requester = ap (numbered_for q.caller) named in
-        let greatest : greatest_number R.records (numbered_for q.caller (named_clearance q.kind)) ≡ greatest_number S.records (numbered_for q.caller (named_clearance q.kind)) =
+        let requester : requester_for q.caller (named_clearance q.kind) ≡ c.requester = ap (requester_for q.caller) named in
+        let greatest : greatest_number R.records (requester_for q.caller (named_clearance q.kind)) ≡ greatest_number S.records (requester_for q.caller (named_clearance q.kind)) =
         ap (greatest_number R.records) requester ∙ agree.greatest ∙ ap (greatest_number S.records) (sym requester) in
         λ i. record { known = record { greatest = greatest i; fence = fence i }; rows = rows i }
 

@@ -7,13 +7,13 @@ use Rattle.clr_net.specs.declared.point.Position.TheVariants.{Closed as Shut}
 use Rattle.clr_order.specs.Step.{Task}
 use Rattle.clr_order.specs.declared.action.Action.{Action}
 use Rattle.clr_order.specs.declared.action.Action.TheVariants as actions
-use Rattle.clr_rules.specs.Answer.{Answer, answer, concerned, first_refusal, known_of, numbered_for, settled}
+use Rattle.clr_rules.specs.Answer.{Answer, answer, reply_clearance, first_refusal, known_of, requester_for, answer_by_checks}
 use Rattle.clr_rules.specs.Commands.{Known, checks, edits_of}
 use Rattle.clr_rules.specs.Changes.{done_edits, edits_by, hold_edits, new_steps, position_edits, put_steps, undone_edits, with_record, with_step}
 use Rattle.clr_rules.specs.Checks.{other_hand, refuse, where_some}
 use Rattle.clr_rules.specs.Command.{named_clearance}
 use Rattle.clr_rules.specs.Prelude.{Edit, SetPosition, SetHand, TakeHold, PutRecord, PutStep, Command, Kind, HeldOpen, Tested, Record, Refusal, StepRow, Id, same_id, Register, hand_of, has_in_hand, greatest_number, record_of}
-use Rattle.clr_rules.specs.Prelude.{present, step_at, has_hold, hold_of, places_of, edited_all}
+use Rattle.clr_rules.specs.Prelude.{present_steps, step_at, has_hold, hold_of, places_of, after_edits}
 use Rattle.clr_rules.specs.Footprint.{Frame, all_spare, both_or_neither, spares}
 use Rattle.clr_rules.specs.FrameLaws.{is_report, subject_of}
 use Rattle.clr_rules.specs.Good.{HandMatchesStep, IsGood, ListsAreInOrder}
@@ -76,12 +76,12 @@ module _ (c : Id) (R : Register) where
 
   -- and where a step is found, it is d's too
   by_step : (d : Id) (n : ℕ) (edits : Record → StepRow → List Edit) → not (same_id c d) ≡ true
-      → ((r : Record) (row : StepRow) → step_at (present R.steps d) n ≡ Some row → not (same_id c r.id) ≡ true → not (same_id c row.id) ≡ true
+      → ((r : Record) (row : StepRow) → step_at (present_steps R.steps d) n ≡ Some row → not (same_id c r.id) ≡ true → not (same_id c row.id) ≡ true
       → all_spare c R (edits r row) ≡ true)
       → all_spare c R (with_step R d n edits) ≡ true
-  by_step d n edits others each = by_record d (λ r. edits_by (step_at (present R.steps d) n) (edits r)) others (λ r own. at r own (step_at (present R.steps d) n) refl)
+  by_step d n edits others each = by_record d (λ r. edits_by (step_at (present_steps R.steps d) n) (edits r)) others (λ r own. at r own (step_at (present_steps R.steps d) n) refl)
     where
-      at : (r : Record) → not (same_id c r.id) ≡ true → (found : Option StepRow) → step_at (present R.steps d) n ≡ found
+      at : (r : Record) → not (same_id c r.id) ≡ true → (found : Option StepRow) → step_at (present_steps R.steps d) n ≡ found
           → all_spare c R (edits_by found (edits r)) ≡ true
       at r own None is = refl
       at r own (Some row) is =
@@ -107,7 +107,7 @@ module _ (c : Id) (R : Register) where
 -- ---- reports, where the hands match the steps
 
 module _ (c : Id) (R : Register) (d : Id) (row : StepRow) (n : ℕ) (matches : HandMatchesStep R) (others : not (same_id c d) ≡ true)
-    (found : step_at (present R.steps d) n ≡ Some row) (repeated : is_repeated row.step.state ≡ true) where
+    (found : step_at (present_steps R.steps d) n ≡ Some row) (repeated : is_repeated row.step.state ≡ true) where
   reported_hand : has_in_hand R.states c row.step.point ≡ false
   reported_hand =
       let step = present_step R.steps d n row found in
@@ -134,14 +134,14 @@ module _ (c : Id) (R : Register) (d : Id) (row : StepRow) (n : ℕ) (matches : H
 
 module _ (c : Id) (R : Register) (k : Known) (by : List ℕ) (at : ℕ) where
   -- where no check applies, all but the clearance that the command is about are spared
-  edits_spare : (kind : Kind) → (is_report kind ≡ true → HandMatchesStep R) → not (same_id c (concerned k.greatest by (named_clearance kind))) ≡ true
+  edits_spare : (kind : Kind) → (is_report kind ≡ true → HandMatchesStep R) → not (same_id c (reply_clearance k.greatest by (named_clearance kind))) ≡ true
       → first_refusal (checks k R by at kind) ≡ None → all_spare c R (edits_of k.greatest R by at kind) ≡ true
   edits_spare (kinds.Request section) matches others passed = and_from _ _ others refl
   edits_spare (kinds.Order d points tasks) matches others passed =
       by_record c R d _ others (λ r own. and_from _ _ own (steps_spare c R d 1 1 tasks others))
   edits_spare (kinds.Instruct d n) matches others passed = by_step c R d n _ others (λ r row found own step.
       let free : other_hand d (hand_of R.states row.step.point) ≡ None =
-      check_of_found (step_at (present R.steps d) n) row (λ row. other_hand d (hand_of R.states row.step.point)) found
+      check_of_found (step_at (present_steps R.steps d) n) row (λ row. other_hand d (hand_of R.states row.step.point)) found
       (all_pass (checks k R by at (kinds.Instruct d n)) passed).1.1.1.1.1.1.1.1.0 in
       and_from _ _ (spares_hand c R row.step.point (Some d) (no_other_hand c d (hand_of R.states row.step.point) (not-true (same_id c d) others) free) (not-true (same_id c d) others))
       (and_from _ _ own (and_from _ _ step refl)))
@@ -149,7 +149,7 @@ module _ (c : Id) (R : Register) (k : Known) (by : List ℕ) (at : ℕ) where
       by_step c R d n _ others (λ r row found own step. and_from _ _ own (and_from _ _ step refl))
   edits_spare (kinds.Report d n done) matches others passed = by_step c R d n _ others (λ r row found own step.
       let check : refuse (not (is_repeated row.step.state)) WrongState ≡ None =
-      check_of_found (step_at (present R.steps d) n) row (λ row. refuse (not (is_repeated row.step.state)) WrongState) found
+      check_of_found (step_at (present_steps R.steps d) n) row (λ row. refuse (not (is_repeated row.step.state)) WrongState) found
       (all_pass (checks k R by at (kinds.Report d n done)) passed).1.1.1.1.1.1.0 in
       report_spares c R d row n (matches refl) others found (not_refused_true (is_repeated row.step.state) WrongState check) at done r own step)
   edits_spare (kinds.Grant d) matches others passed = by_record c R d _ others (λ r own. and_from _ _ own refl)
@@ -170,18 +170,18 @@ module _ (c : Id) (R : Register) (k : Known) (by : List ℕ) (at : ℕ) where
   edits_spare (kinds.Amend d n) matches others passed =
       by_step c R d n _ others (λ r row found own step. and_from _ _ own (and_from _ _ step refl))
   edits_spare (kinds.Switch tasks) matches others passed =
-      and_from _ _ others (steps_spare c R (concerned k.greatest by None) 1 1 tasks others)
+      and_from _ _ others (steps_spare c R (reply_clearance k.greatest by None) 1 1 tasks others)
   edits_spare (kinds.Show d) matches others passed = refl
 
 -- a command about another is about another
-concerned_is_another : (c : Id) (R : Register) (by : List ℕ) (greatest : ℕ) (named : Option Id) → greatest ≡ greatest_number R.records (numbered_for by named)
-    → is_about_another c R by named ≡ true → not (same_id c (concerned greatest by named)) ≡ true
+concerned_is_another : (c : Id) (R : Register) (by : List ℕ) (greatest : ℕ) (named : Option Id) → greatest ≡ greatest_number R.records (requester_for by named)
+    → is_about_another c R by named ≡ true → not (same_id c (reply_clearance greatest by named)) ≡ true
 concerned_is_another c R by greatest None is others = not_from_false _ (new_is_another c R by greatest is others)
 concerned_is_another c R by greatest (Some d) is others = others
 
 settled_spares : (c : Id) (R : Register) (q : Command) (found : Option Refusal) → first_refusal (checks (known_of R q) R q.caller q.moment q.kind) ≡ found
     → (is_report q.kind ≡ true → HandMatchesStep R) → not (same_id c (subject_of R q)) ≡ true
-    → all_spare c R (Answer.edits (settled (known_of R q) R q found)) ≡ true
+    → all_spare c R (Answer.edits (answer_by_checks (known_of R q) R q found)) ≡ true
 settled_spares c R q None passed matches others = edits_spare c R (known_of R q) q.caller q.moment q.kind matches others passed
 settled_spares c R q (Some refusal) passed matches others = refl
 
@@ -199,8 +199,8 @@ others_edits_spare R c q matches others =
 
 -- where no check applies, the outlook of every clearance stays but that of the one that the command is about
 pub edits_keep_others : (R : Register) (k : Known) (by : List ℕ) (at : ℕ) (kind : Kind) → ListsAreInOrder R → HandMatchesStep R
-    → first_refusal (checks k R by at kind) ≡ None → (c : Id) → same_id c (concerned k.greatest by (named_clearance kind)) ≡ false
-    → outlook_of (edited_all (edits_of k.greatest R by at kind) R) c ≡ outlook_of R c
+    → first_refusal (checks k R by at kind) ≡ None → (c : Id) → same_id c (reply_clearance k.greatest by (named_clearance kind)) ≡ false
+    → outlook_of (after_edits (edits_of k.greatest R by at kind) R) c ≡ outlook_of R c
 edits_keep_others R k by at kind ordered matches passed c differs =
     sparing_edits_keep_outlook c R (edits_of k.greatest R by at kind) ordered
     (edits_spare c R k by at kind (λ _. matches) (not_from_false _ differs) passed)

@@ -10,11 +10,11 @@ use Rattle.clr_order.specs.Step.{Task}
 use Rattle.clr_shelf.proofs.Lists.{list_all-contains}
 use Rattle.clr_rules.specs.Agreement.{Agree}
 use Rattle.clr_rules.specs.AgreementLaws.{is_about, is_new_of}
-use Rattle.clr_rules.specs.Answer.{Answer, answer, first_refusal, known_of, settled}
+use Rattle.clr_rules.specs.Answer.{Answer, answer, first_refusal, known_of, answer_by_checks}
 use Rattle.clr_rules.specs.Commands.{Known, checks}
 use Rattle.clr_rules.specs.Checks.{employee, has_role, is_operator, refuse, where_some}
 use Rattle.clr_rules.specs.Command.{named_clearance}
-use Rattle.clr_rules.specs.Prelude.{Edit, SetPosition, SetHand, PutHold, TakeHold, PutRecord, PutStep, Command, Kind, Record, Refusal, Id, same_id, Register, edited_all}
+use Rattle.clr_rules.specs.Prelude.{Edit, SetPosition, SetHand, PutHold, TakeHold, PutRecord, PutStep, Command, Kind, Record, Refusal, Id, same_id, Register, after_edits}
 use Rattle.clr_rules.specs.Footprint.{spares}
 use Rattle.clr_rules.specs.Good.{HandMatchesStep, ListsAreInOrder, has_record, is_operators}
 use Rattle.clr_rules.specs.Isolation.{AreAlike, is_about_another, is_others}
@@ -120,7 +120,7 @@ others_edits R c q matches no_operator others = by (first_refusal (checks (known
   where
     by : (found : Option Refusal) → first_refusal (checks (known_of R q) R q.caller q.moment q.kind) ≡ found → AreOfOthers c R q
     by None passed = accepted_of_others c R q matches no_operator others passed
-    by (Some refusal) refused = refused_of_others c R q (ap (λ found. Answer.edits (settled (known_of R q) R q found)) refused)
+    by (Some refusal) refused = refused_of_others c R q (ap (λ found. Answer.edits (answer_by_checks (known_of R q) R q found)) refused)
 
 -- ---- the steps
 
@@ -147,14 +147,14 @@ module _ (c : Id) (inside : List ℕ → Bool) (R S : Register) (commands : List
 
   -- one on one side, without marks
   pub first_step : (q : Command) → is_own_command c q ≡ false → marks_of R.net inside (Answer.edits (answer R q)) ≡ [] → Agree c inside (after R q) S
-  unfolding edited_all
+  unfolding after_edits
   first_step q others none =
       let left = in_first q others in
       same_marks_agree R S alike.first_good.in_order alike.second_good.in_order c inside (Answer.edits (answer R q)) []
       left.of_others left.no_new_number (All-nil (λ edit. is_about c edit ≡ false)) (All-nil (λ edit. is_new_of S.records c.requester edit ≡ false)) none alike.agree
 
   pub second_step : (q : Command) → is_own_command c q ≡ false → marks_of S.net inside (Answer.edits (answer S q)) ≡ [] → Agree c inside R (after S q)
-  unfolding edited_all
+  unfolding after_edits
   second_step q others none =
       let right = in_second q others in
       same_marks_agree R S alike.first_good.in_order alike.second_good.in_order c inside [] (Answer.edits (answer S q))
@@ -176,7 +176,7 @@ lone_step c inside R S q others =
 pub same_answers_agree : (R S : Register) (c : Id) (inside : List ℕ → Bool) (q : Command) → ListsAreInOrder R → ListsAreInOrder S
     → answer R q ≡ answer S q → Agree c inside R S → Agree c inside (after R q) (after S q)
 same_answers_agree R S c inside q R_order S_order same agree =
-    agrees_on c inside (after R q) (edited_all (Answer.edits (answer R q)) S) (after S q)
+    agrees_on c inside (after R q) (after_edits (Answer.edits (answer R q)) S) (after S q)
     (same_edits_agree R S R_order S_order c inside (Answer.edits (answer R q)) agree)
-    (subst (λ (edits : List Edit). Agree c inside (edited_all (Answer.edits (answer R q)) S) (edited_all edits S)) (ap (λ a. Answer.edits a) same)
-    (agrees_with_itself c inside (edited_all (Answer.edits (answer R q)) S)))
+    (subst (λ (edits : List Edit). Agree c inside (after_edits (Answer.edits (answer R q)) S) (after_edits edits S)) (ap (λ a. Answer.edits a) same)
+    (agrees_with_itself c inside (after_edits (Answer.edits (answer R q)) S)))

@@ -2,8 +2,8 @@
 use Rattle.std.proofs.Common.{◌≡◌, ℕ, Bool, true, false, List, [], ◌∷◌, Option, Some, None, refl, sym, ◌∙◌, ap, subst}
 use Rattle.std.proofs.lemmas.Bool.{both_ways}
 use Rattle.clr_order.specs.Step.{Task}
-use Rattle.clr_rules.specs.Answer.{answer, first_refusal, known_of, settled}
-use Rattle.clr_rules.specs.Checks.{earlier, is_operator, unknown_caller, unknown_clearance, unsound_order, wrong_phase, wrong_role}
+use Rattle.clr_rules.specs.Answer.{answer, first_refusal, known_of, answer_by_checks}
+use Rattle.clr_rules.specs.Checks.{earlier_moment, is_operator, unknown_caller, unknown_clearance, unsound_order, wrong_phase, wrong_role}
 use Rattle.clr_rules.specs.Fences.{order_fence}
 use Rattle.clr_rules.specs.Prelude.{Command, Kind, Refusal, Id, Register, record_of}
 use Rattle.clr_rules.specs.Isolation.{AreAlike, OwnStep}
@@ -30,7 +30,7 @@ module _ (by : List ℕ) (at : ℕ) (c : Id) (points : List (List ℕ)) (tasks :
 
   -- the checks before that of the order itself
   abbrev early : Register → List (Option Refusal)
-  early T = unknown_caller T by ∷ wrong_role T by is_operator ∷ unknown_clearance T c ∷ earlier T c at ∷ wrong_phase T c is_requested ∷ []
+  early T = unknown_caller T by ∷ wrong_role T by is_operator ∷ unknown_clearance T c ∷ earlier_moment T c at ∷ wrong_phase T c is_requested ∷ []
 
   -- one of these applies
   too_late : (R : Register) → found_phase_requested (record_of R.records c) ≡ false → first_refusal (early R) ≡ None → ⊥
@@ -40,7 +40,7 @@ module _ (by : List ℕ) (at : ℕ) (c : Id) (points : List (List ℕ)) (tasks :
       both_ways (found_phase_requested (record_of R.records c)) late (rw read (phase_fits R c r is_requested read passed.1.1.1.1.0))
 
   refused : (T : Register) (refusal : Refusal) → first_refusal (early T) ≡ Some refusal → answer T ordered ≡ record { reply = Refused refusal; edits = [] }
-  refused T refusal h = ap (settled (known_of T ordered) T ordered)
+  refused T refusal h = ap (answer_by_checks (known_of T ordered) T ordered)
       (first_stops (early T) (unsound_order T (order_fence T c points) points tasks ∷ []) refusal h)
 
   late_order : (R S : Register) → SameOwn c R S → found_phase_requested (record_of R.records c) ≡ false → answer R ordered ≡ answer S ordered

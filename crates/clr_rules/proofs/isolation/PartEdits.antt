@@ -15,7 +15,7 @@ use Rattle.clr_shelf.specs.Rows.{in_key_order}
 use Rattle.clr_rules.specs.Agreement.{part_near}
 use Rattle.clr_rules.specs.AgreementLaws.{concerning, concerns, is_about}
 use Rattle.clr_rules.specs.Prelude.{Edit, SetPosition, SetHand, PutHold, TakeHold, PutRecord, PutStep, Hold, PointState, Record, StepRow, Id, id_cmp, id_cmp_total, same_id, Register, state_key, state_of, record_key, step_key}
-use Rattle.clr_rules.specs.Prelude.{step_key_cmp, step_key_cmp_total, hold_cmp, hold_cmp_total, hold_key, edited, edited_all}
+use Rattle.clr_rules.specs.Prelude.{step_key_cmp, step_key_cmp_total, hold_cmp, hold_cmp_total, hold_key, after_edit, after_edits}
 use Rattle.clr_rules.specs.Fences.{touching_names}
 use Rattle.clr_rules.specs.Good.{ListsAreInOrder}
 use Rattle.clr_rules.specs.Hold.{same_hold}
@@ -68,12 +68,12 @@ module _ (beside : List ℕ → Bool) (point : List ℕ) (change : PointState �
 
 -- the part after an edit that concerns it, and after one that does not
 abbrev part_after : Bool → Edit → Register → Register
-part_after true edit P = edited edit P
+part_after true edit P = after_edit edit P
 part_after false edit P = P
 
 module _ (R : Register) (ordered : ListsAreInOrder R) (inside beside : List ℕ → Bool) (c : Id) where
   at_position : (point : List ℕ) (position : Position) (b : Bool) → beside point ≡ b
-      → part (edited (SetPosition point position) R) inside inside beside (Some c)
+      → part (after_edit (SetPosition point position) R) inside inside beside (Some c)
       ≡ part_after b (SetPosition point position) (part R inside inside beside (Some c))
   at_position point position true is = ap (λ (l : List PointState). record (part R inside inside beside (Some c)) { states = l })
       (filter-change_near beside point (λ state. record state { position = position }) (λ state. refl) R.states is)
@@ -81,7 +81,7 @@ module _ (R : Register) (ordered : ListsAreInOrder R) (inside beside : List ℕ 
       (filter-change_far beside point (λ state. record state { position = position }) (λ state. refl) R.states ordered.states is)
 
   at_hand : (point : List ℕ) (hand : Option Id) (b : Bool) → beside point ≡ b
-      → part (edited (SetHand point hand) R) inside inside beside (Some c)
+      → part (after_edit (SetHand point hand) R) inside inside beside (Some c)
       ≡ part_after b (SetHand point hand) (part R inside inside beside (Some c))
   at_hand point hand true is = ap (λ (l : List PointState). record (part R inside inside beside (Some c)) { states = l })
       (filter-change_near beside point (λ state. record state { hand = hand }) (λ state. refl) R.states is)
@@ -94,21 +94,21 @@ module _ (R : Register) (ordered : ListsAreInOrder R) (inside beside : List ℕ 
   far_hold h is other tied = rw (same_hold other h (equal (hold_cmp other h) tied)) is
 
   at_put : (h : Hold) (b : Bool) → is_near_hold inside beside (Some c) h ≡ b
-      → part (edited (PutHold h) R) inside inside beside (Some c) ≡ part_after b (PutHold h) (part R inside inside beside (Some c))
+      → part (after_edit (PutHold h) R) inside inside beside (Some c) ≡ part_after b (PutHold h) (part R inside inside beside (Some c))
   at_put h true is = ap (λ (l : List Hold). record (part R inside inside beside (Some c)) { holds = l })
       (filter-with_inside hold_cmp hold_key hold_cmp_total (is_near_hold inside beside (Some c)) h R.holds is)
   at_put h false is = ap (λ (l : List Hold). record (part R inside inside beside (Some c)) { holds = l })
       (filter-with_far hold_cmp hold_key hold_cmp_total (is_near_hold inside beside (Some c)) h R.holds ordered.holds (far_hold h is))
 
   at_take : (h : Hold) (b : Bool) → is_near_hold inside beside (Some c) h ≡ b
-      → part (edited (TakeHold h) R) inside inside beside (Some c) ≡ part_after b (TakeHold h) (part R inside inside beside (Some c))
+      → part (after_edit (TakeHold h) R) inside inside beside (Some c) ≡ part_after b (TakeHold h) (part R inside inside beside (Some c))
   at_take h true is = ap (λ (l : List Hold). record (part R inside inside beside (Some c)) { holds = l })
       (filter-without_row hold_cmp hold_key hold_cmp_total (is_near_hold inside beside (Some c)) h R.holds)
   at_take h false is = ap (λ (l : List Hold). record (part R inside inside beside (Some c)) { holds = l })
       (filter-without_far hold_cmp hold_key hold_cmp_total (is_near_hold inside beside (Some c)) h R.holds (far_hold h is))
 
   at_record : (r : Record) (b : Bool) → same_id c r.id ≡ b
-      → part (edited (PutRecord r) R) inside inside beside (Some c) ≡ part_after b (PutRecord r) (part R inside inside beside (Some c))
+      → part (after_edit (PutRecord r) R) inside inside beside (Some c) ≡ part_after b (PutRecord r) (part R inside inside beside (Some c))
   at_record r true is = ap (λ (l : List Record). record (part R inside inside beside (Some c)) { records = l })
       (filter-with_inside id_cmp record_key id_cmp_total (λ other. same_id c other.id) r R.records is)
   at_record r false is = ap (λ (l : List Record). record (part R inside inside beside (Some c)) { records = l })
@@ -116,7 +116,7 @@ module _ (R : Register) (ordered : ListsAreInOrder R) (inside beside : List ℕ 
       (λ other tied. rw (same_id_from_tie other.id r.id (equal (id_cmp other.id r.id) tied)) is))
 
   at_step : (row : StepRow) (b : Bool) → same_id c row.id ≡ b
-      → part (edited (PutStep row) R) inside inside beside (Some c) ≡ part_after b (PutStep row) (part R inside inside beside (Some c))
+      → part (after_edit (PutStep row) R) inside inside beside (Some c) ≡ part_after b (PutStep row) (part R inside inside beside (Some c))
   at_step row true is = ap (λ (l : List StepRow). record (part R inside inside beside (Some c)) { steps = l })
       (filter-with_inside step_key_cmp step_key step_key_cmp_total (λ other. same_id c other.id) row R.steps is)
   at_step row false is = ap (λ (l : List StepRow). record (part R inside inside beside (Some c)) { steps = l })
@@ -124,7 +124,7 @@ module _ (R : Register) (ordered : ListsAreInOrder R) (inside beside : List ℕ 
       (λ other tied. rw (ap (λ key. key.id) (same_step_key (step_key other) (step_key row) (equal (step_key_cmp (step_key other) (step_key row)) tied))) is))
 
   -- an edit changes the part where it concerns it, and else leaves it
-  pub part-edited : (edit : Edit) → part (edited edit R) inside inside beside (Some c)
+  pub part-edited : (edit : Edit) → part (after_edit edit R) inside inside beside (Some c)
       ≡ part_after (concerns c inside beside edit) edit (part R inside inside beside (Some c))
   part-edited (SetPosition point position) = at_position point position (beside point) refl
   part-edited (SetHand point hand) = at_hand point hand (beside point) refl
@@ -137,26 +137,26 @@ module _ (R : Register) (ordered : ListsAreInOrder R) (inside beside : List ℕ 
 
 -- the concerning edits of a list whose first does or does not concern the part
 first_tested : (p : Edit → Bool) (edit : Edit) (edits : List Edit) (P : Register) (b : Bool) → p edit ≡ b
-    → edited_all (filter p edits) (part_after b edit P) ≡ edited_all (filter p (edit ∷ edits)) P
-unfolding edited_all
+    → after_edits (filter p edits) (part_after b edit P) ≡ after_edits (filter p (edit ∷ edits)) P
+unfolding after_edits
 first_tested p edit edits P true is = rw is refl
 first_tested p edit edits P false is = rw is refl
 
 pub part-edited_all : (R : Register) → ListsAreInOrder R → (inside beside : List ℕ → Bool) (c : Id) (edits : List Edit)
-    → part (edited_all edits R) inside inside beside (Some c)
-    ≡ edited_all (filter (concerns c inside beside) edits) (part R inside inside beside (Some c))
-unfolding edited_all
+    → part (after_edits edits R) inside inside beside (Some c)
+    ≡ after_edits (filter (concerns c inside beside) edits) (part R inside inside beside (Some c))
+unfolding after_edits
 part-edited_all R ordered inside beside c [] = refl
 part-edited_all R ordered inside beside c (edit ∷ edits) =
-    part-edited_all (edited edit R) (edited-in_order edit R ordered) inside beside c edits
-    ∙ ap (edited_all (filter (concerns c inside beside) edits)) (part-edited R ordered inside beside c edit)
+    part-edited_all (after_edit edit R) (edited-in_order edit R ordered) inside beside c edits
+    ∙ ap (after_edits (filter (concerns c inside beside) edits)) (part-edited R ordered inside beside c edit)
     ∙ first_tested (concerns c inside beside) edit edits (part R inside inside beside (Some c)) (concerns c inside beside edit) refl
 
 -- edits change what stands near a clearance exactly by those of them that concern it
 pub part_near-edited_all : (R : Register) → ListsAreInOrder R → (c : Id) (inside : List ℕ → Bool) (edits : List Edit)
-    → part_near (edited_all edits R) c inside ≡ edited_all (concerning R.net c inside edits) (part_near R c inside)
+    → part_near (after_edits edits R) c inside ≡ after_edits (concerning R.net c inside edits) (part_near R c inside)
 part_near-edited_all R ordered c inside edits =
-    ap (λ (g : Grid). part (edited_all edits R) inside inside (has_name (touching_names g inside)) (Some c)) (edited_all-network R edits ordered).same_net
+    ap (λ (g : Grid). part (after_edits edits R) inside inside (has_name (touching_names g inside)) (Some c)) (edited_all-network R edits ordered).same_net
     ∙ part-edited_all R ordered inside (has_name (touching_names R.net inside)) c edits
 
 -- ---- edits of others
@@ -180,7 +180,7 @@ concerning_by_marks g c inside (edit ∷ edits) others =
 
 pub others_change_by_marks : (R : Register) → ListsAreInOrder R → (c : Id) (inside : List ℕ → Bool) (edits : List Edit)
     → All (λ edit. is_about c edit ≡ false) edits
-    → part_near (edited_all edits R) c inside ≡ edited_all (marks_of R.net inside edits) (part_near R c inside)
+    → part_near (after_edits edits R) c inside ≡ after_edits (marks_of R.net inside edits) (part_near R c inside)
 others_change_by_marks R ordered c inside edits others =
     part_near-edited_all R ordered c inside edits
-    ∙ ap (λ (l : List Edit). edited_all l (part_near R c inside)) (concerning_by_marks R.net c inside edits others)
+    ∙ ap (λ (l : List Edit). after_edits l (part_near R c inside)) (concerning_by_marks R.net c inside edits others)

@@ -12,7 +12,7 @@ use Rattle.clr_shelf.proofs.Keys.{equal}
 use Rattle.clr_shelf.specs.Rows.{in_key_order, with_row, without_row}
 use Rattle.clr_rules.specs.EditLaws.{changed_where}
 use Rattle.clr_rules.specs.Prelude.{Edit, SetPosition, SetHand, PutHold, TakeHold, PutRecord, PutStep, Hold, HoldKind, HeldOpen, PointState, Record, StepRow, Id, id_cmp, same_id, Register, has_in_hand, position_of, state_of, record_key}
-use Rattle.clr_rules.specs.Prelude.{record_of, step_key, step_key_cmp, step_key_cmp_total, steps_of, hold_cmp, hold_cmp_total, has_hold, hold_key, hold_of, holds_of, edited, edited_all}
+use Rattle.clr_rules.specs.Prelude.{record_of, step_key, step_key_cmp, step_key_cmp_total, steps_of, hold_cmp, hold_cmp_total, has_hold, hold_key, hold_of, holds_of, after_edit, after_edits}
 use Rattle.clr_rules.specs.Footprint.{Frame, all_spare, both_or_neither, is_shut, spares}
 use Rattle.clr_rules.specs.Good.{ListsAreInOrder}
 use Rattle.clr_rules.specs.GoodByPhase.{outlook_of}
@@ -105,7 +105,7 @@ open_tested c R S p q position spared before held was_open false differs = befor
 
 -- ---- one edit, and all
 
-alone-edited : (c : Id) (R S : Register) (edit : Edit) → ListsAreInOrder S → spares c R edit ≡ true → Alone c R S → Alone c R (edited edit S)
+alone-edited : (c : Id) (R S : Register) (edit : Edit) → ListsAreInOrder S → spares c R edit ≡ true → Alone c R S → Alone c R (after_edit edit S)
 alone-edited c R S (SetPosition p position) ordered spared f = record {
   same_record = f.same_record;
   same_steps = f.same_steps;
@@ -153,19 +153,19 @@ alone-edited c R S (PutStep row) ordered spared f = record {
   closes_nothing = f.closes_nothing;
 }
 
-along : (c : Id) (R S : Register) (edits : List Edit) → ListsAreInOrder S → all_spare c R edits ≡ true → Alone c R S → Alone c R (edited_all edits S)
-unfolding edited_all
+along : (c : Id) (R S : Register) (edits : List Edit) → ListsAreInOrder S → all_spare c R edits ≡ true → Alone c R S → Alone c R (after_edits edits S)
+unfolding after_edits
 along c R S [] ordered spared f = f
 along c R S (edit ∷ edits) ordered spared f =
     let (first, rest) = and_parts (spares c R edit) (all_spare c R edits) spared in
-    along c R (edited edit S) edits (edited-in_order edit S ordered) rest (alone-edited c R S edit ordered first f)
+    along c R (after_edit edit S) edits (edited-in_order edit S ordered) rest (alone-edited c R S edit ordered first f)
 
-left_alone : (c : Id) (R : Register) (edits : List Edit) → ListsAreInOrder R → all_spare c R edits ≡ true → Alone c R (edited_all edits R)
+left_alone : (c : Id) (R : Register) (edits : List Edit) → ListsAreInOrder R → all_spare c R edits ≡ true → Alone c R (after_edits edits R)
 left_alone c R edits ordered spared = along c R R edits ordered spared
     (record { same_record = refl; same_steps = refl; same_holds = refl; same_hands = λ p. refl; closes_nothing = λ p held h. h })
 
 pub sparing_edits_leave_alone : (c : Id) (R : Register) (edits : List Edit) → ListsAreInOrder R → all_spare c R edits ≡ true
-    → Frame c R (edited_all edits R)
+    → Frame c R (after_edits edits R)
 sparing_edits_leave_alone c R edits ordered spared =
     let alone = left_alone c R edits ordered spared in
     record {
@@ -191,9 +191,9 @@ has_hold-same before later c kind place same =
     sym (has_hold-own later c kind place) ∙ ap (λ holds. has_hold holds c kind place) same ∙ has_hold-own before c kind place
 
 pub sparing_edits_keep_outlook : (c : Id) (R : Register) (edits : List Edit) → ListsAreInOrder R → all_spare c R edits ≡ true
-    → outlook_of (edited_all edits R) c ≡ outlook_of R c
+    → outlook_of (after_edits edits R) c ≡ outlook_of R c
 sparing_edits_keep_outlook c R edits ordered spared =
-    let S = edited_all edits R in
+    let S = after_edits edits R in
     let alone = left_alone c R edits ordered spared in
     λ i. record {
       clearance = alone.same_record i;

@@ -10,8 +10,8 @@ use Rattle.clr_order.specs.declared.action.Action.{Action}
 use Rattle.clr_order.specs.declared.action.Action.TheVariants as actions
 use Rattle.clr_rules.specs.Checks.{refuse}
 use Rattle.clr_rules.specs.Prelude.{Edit, PutRecord, PutStep, HoldKind, HeldOpen, Block, Control, Tag, Phase, Restoring, Record, StepRow, Id, Register, record_of, is_restoring}
-use Rattle.clr_rules.specs.Prelude.{is_active, is_done, is_some_step, is_waiting, points_of, present, step_at, steps_of, tasks_of, once, edited_all}
-use Rattle.clr_rules.specs.Good.{left}
+use Rattle.clr_rules.specs.Prelude.{is_active, is_done, is_some_step, is_waiting, points_of, present_steps, step_at, steps_of, tasks_of, first_of_each, after_edits}
+use Rattle.clr_rules.specs.Good.{steps_left_of}
 use Rattle.clr_rules.specs.GoodByPhase.{InPhase, InRestoring, IsGoodByPhase, all_waiting, go_in_turn, of_round, outlook_of, present_of}
 use Rattle.clr_rules.specs.Steps.{is_close}
 use Rattle.clr_rules.specs.declared.command.Kind.TheVariants.{Amend}
@@ -21,7 +21,7 @@ use Rattle.clr_rules.proofs.keeps.OneRecord.{in_phase_of}
 use Rattle.clr_rules.proofs.keeps.Repeat.{turns_split}
 use Rattle.clr_rules.proofs.edits.Passing.{check_of_found, not_refused_true, phase_fits, record_there}
 use Rattle.clr_rules.proofs.edits.PresentSteps.{IsPresent, found_step_edits, step_there}
-use Rattle.clr_rules.proofs.edits.PutRecords.{moved, quiet}
+use Rattle.clr_rules.proofs.edits.PutRecords.{put_changes, quiet}
 use Rattle.clr_rules.proofs.edits.PutSteps.{StepPut, closes_at, closing_by, known_put, others_put, phase_by, place_by, put_step, step_put}
 use Rattle.clr_rules.proofs.lists.RoundSteps.{record_id}
 use Rattle.clr_rules.proofs.edits.StepMoves.{some_step_between}
@@ -96,12 +96,12 @@ turn-swap (row ∷ before) old new after same =
     (λ i. (is_done row.step.state || all_waiting-swap before old new after same i) && turn-swap before old new after same i)
 
 -- what is left of a split round, at a step that is left
-left_split : (before : List StepRow) (x : StepRow) (after : List StepRow) → is_done x.step.state ≡ false → tasks_of (left (before ++ x ∷ after)) ≡ tasks_of (left before) ++ task x.step ∷ tasks_of (left after)
+left_split : (before : List StepRow) (x : StepRow) (after : List StepRow) → is_done x.step.state ≡ false → tasks_of (steps_left_of (before ++ x ∷ after)) ≡ tasks_of (steps_left_of before) ++ task x.step ∷ tasks_of (steps_left_of after)
 left_split [] x after rests = rw rests refl
 left_split (row ∷ before) x after rests = at (is_done row.step.state) refl (left_split before x after rests)
   where
-    at : (b : Bool) → is_done row.step.state ≡ b → tasks_of (left (before ++ x ∷ after)) ≡ tasks_of (left before) ++ task x.step ∷ tasks_of (left after)
-        → tasks_of (left (row ∷ before ++ x ∷ after)) ≡ tasks_of (left (row ∷ before)) ++ task x.step ∷ tasks_of (left after)
+    at : (b : Bool) → is_done row.step.state ≡ b → tasks_of (steps_left_of (before ++ x ∷ after)) ≡ tasks_of (steps_left_of before) ++ task x.step ∷ tasks_of (steps_left_of after)
+        → tasks_of (steps_left_of (row ∷ before ++ x ∷ after)) ≡ tasks_of (steps_left_of (row ∷ before)) ++ task x.step ∷ tasks_of (steps_left_of after)
     at true e more = rw e more
     at false e more = rw e (ap (λ (ts : List Task). task row.step ∷ ts) more)
 
@@ -136,18 +136,18 @@ module _ (g : Grid) (work : List ℕ) (before after : List StepRow) (row : StepR
   rests : is_done row.step.state ≡ false
   rests = waiting_not_done row.step.state waits
 
-  still_undone : (p : List ℕ) → undoes (has Tag p) (has Control p) (has Block p) (has HeldOpen p) (actions_at (tasks_of (left (of_round (before ++ amended row ∷ after) 2))) p) ≡ true
+  still_undone : (p : List ℕ) → undoes (has Tag p) (has Control p) (has Block p) (has HeldOpen p) (actions_at (tasks_of (steps_left_of (of_round (before ++ amended row ∷ after) 2))) p) ≡ true
   still_undone p =
       ap (λ tasks. undoes (has Tag p) (has Control p) (has Block p) (has HeldOpen p) (actions_at tasks p))
-      (ap (λ rows. tasks_of (left rows)) second_is ∙ left_split (of_round before 2) (amended row) (of_round after 2) rests)
-      ∙ undoes_amended (tasks_of (left (of_round before 2))) (tasks_of (left (of_round after 2))) (task row.step) (task (StepRow.step (amended row))) closes refl refl p
+      (ap (λ rows. tasks_of (steps_left_of rows)) second_is ∙ left_split (of_round before 2) (amended row) (of_round after 2) rests)
+      ∙ undoes_amended (tasks_of (steps_left_of (of_round before 2))) (tasks_of (steps_left_of (of_round after 2))) (task row.step) (task (StepRow.step (amended row))) closes refl refl p
       (has Tag p) (has Control p) (has Block p) (has HeldOpen p)
       (sym (ap (λ tasks. undoes (has Tag p) (has Control p) (has Block p) (has HeldOpen p) (actions_at tasks p))
-      (ap (λ rows. tasks_of (left rows)) second_was ∙ left_split (of_round before 2) row (of_round after 2) rests)) ∙ h.undone p)
+      (ap (λ rows. tasks_of (steps_left_of rows)) second_was ∙ left_split (of_round before 2) row (of_round after 2) rests)) ∙ h.undone p)
 
   pub restoring_amended : InRestoring g work (record { clearance = q; steps = before ++ amended row ∷ after; has = has; hand = hand })
   restoring_amended = record {
-    isolates = subst (λ (rows : List StepRow). IsSoundOrder g work (once (points_of rows)) (tasks_of rows)) (sym first_round) h.isolates;
+    isolates = subst (λ (rows : List StepRow). IsSoundOrder g work (first_of_each (points_of rows)) (tasks_of rows)) (sym first_round) h.isolates;
     second_round = ap is_some_step second_is ∙ some_step_between (of_round before 2) (amended row) (of_round after 2);
     given_out = All-swap (λ (row : StepRow). is_active row.step.state ≡ true → row.round ≡ 2) before row (amended row) after (λ _. round) h.given_out;
     at_points = λ p held. rw first_round (h.at_points p held);
@@ -181,11 +181,11 @@ amended_phase g _ work before after row o q has hand is waits closes now h = abs
 
 amend_keeps : (R : Register) (at : ℕ) (c : Id) (r : Record) (row : StepRow) → IsGoodByPhase R → record_of R.records c ≡ Some r → is_restoring r.phase ≡ true
     → IsPresent R c row → is_waiting row.step.state ≡ true → is_close row.step.action ≡ true
-    → IsGoodByPhase (edited_all (PutRecord (record r { last = at }) ∷ PutStep (amended row) ∷ []) R)
-unfolding edited_all
+    → IsGoodByPhase (after_edits (PutRecord (record r { last = at }) ∷ PutStep (amended row) ∷ []) R)
+unfolding after_edits
 amend_keeps R at c r row good found is p waits closes =
-    keeps R edits c good (moved R good c r (record r { last = at }) found (record_id R.records c r found) refl (edited_all edits R) refl
-    (quiet R (edited_all edits R) c (record r { last = at }) good (record {
+    keeps R edits c good (put_changes R good c r (record r { last = at }) found (record_id R.records c r found) refl (after_edits edits R) refl
+    (quiet R (after_edits edits R) c (record r { last = at }) good (record {
       same_states = refl;
       point_holds = λ d kind p at_point has. has;
       other_holds = λ d differs kind place. refl;
@@ -216,6 +216,6 @@ amends_keep c n = commands_keep (Amend c n) (λ R by at good passed.
     let s = step_there R c n passed.1.1.1.1.1.0 in
     let both = and_parts (is_waiting s.row.step.state) (is_close s.row.step.action)
     (not_refused_true (is_waiting s.row.step.state && is_close s.row.step.action) WrongState
-    (check_of_found (step_at (present R.steps c) n) s.row (λ (row : StepRow). refuse (not (is_waiting row.step.state && is_close row.step.action)) WrongState) s.found passed.1.1.1.1.1.1.0)) in
+    (check_of_found (step_at (present_steps R.steps c) n) s.row (λ (row : StepRow). refuse (not (is_waiting row.step.state && is_close row.step.action)) WrongState) s.found passed.1.1.1.1.1.1.0)) in
     found_step_edits R c n r s.row (λ r row. PutRecord (record r { last = at }) ∷ PutStep (amended row) ∷ []) found s.found
     (amend_keeps R at c r s.row good found (phase_fits R c r is_restoring found passed.1.1.1.1.0) s.is_present both.0 both.1))

@@ -9,20 +9,20 @@ use Rattle.clr_net.specs.declared.point.Position.TheVariants.{Opened, Closed as 
 use Rattle.clr_net.proofs.Walks.{any_from, one_name, same_itself, some_from}
 use Rattle.clr_order.specs.declared.step.StepState.TheVariants.{Done}
 use Rattle.clr_shelf.specs.Rows.{with_row, without_row}
-use Rattle.clr_rules.specs.Changes.{moved as moved_step}
+use Rattle.clr_rules.specs.Changes.{step_moved}
 use Rattle.clr_rules.specs.Prelude.{SetPosition, SetHand, PutHold, TakeHold, PutRecord, PutStep, Hold, HoldKind, HeldOpen, PointState, Record, StepRow, Id, id_cmp, same_id, Register, has_in_hand, position_of, state_of, record_key}
-use Rattle.clr_rules.specs.Prelude.{record_of, is_active, steps_of, hold_cmp, is_point_kind, has_hold, hold_key, hold_of, same_kind, edited_all}
+use Rattle.clr_rules.specs.Prelude.{record_of, is_active, steps_of, hold_cmp, is_point_kind, has_hold, hold_key, hold_of, same_kind, after_edits}
 use Rattle.clr_rules.specs.Good.{is_closing_at}
 use Rattle.clr_rules.specs.GoodByPhase.{InPhase, IsGoodByPhase, Outlook, active_at}
 use Rattle.clr_rules.specs.Id.{same_id_equiv}
 use Rattle.clr_rules.specs.States.{is_hand}
 use Rattle.clr_rules.specs.Steps.{is_close}
-use Rattle.clr_rules.proofs.lists.StateFacts.{hand_of-placed, handed, placed, position_of-handed, position_of-placed, position_of-placed_other, state_of-changed}
+use Rattle.clr_rules.proofs.lists.StateFacts.{hand_of-placed, with_hand, with_position, position_of-handed, position_of-placed, position_of-placed_other, state_of-changed}
 use Rattle.clr_rules.proofs.lists.HoldChanges.{kind_itself, others_hold_put, others_hold_taken, own_taken, was_or_put, was_there}
 use Rattle.clr_rules.proofs.good.Keeping.{keeps}
 use Rattle.clr_rules.proofs.keeps.Repeat.{turns_split}
 use Rattle.clr_rules.proofs.edits.PresentSteps.{IsPresent, active_midst}
-use Rattle.clr_rules.proofs.edits.PutRecords.{Moved, moved, same_closing}
+use Rattle.clr_rules.proofs.edits.PutRecords.{Moved, put_changes, same_closing}
 use Rattle.clr_rules.proofs.edits.PutSteps.{StepPut, closes_at, closing_by, hand_read, known_put, one_hand, others_put, place_by, put_step, state_known, step_put}
 use Rattle.clr_rules.proofs.lists.RoundSteps.{among_own, one_id}
 use Rattle.clr_rules.proofs.edits.StepMoves.{InMidst, active-only, active_is, turns_again}
@@ -38,10 +38,10 @@ closing_active R b q closing =
 
 -- the hand after a point is put in a position and let go
 let_go : (states : List PointState) (p : List ℕ) → is_some (state_of states p) ≡ true → (d : Id) (q : List ℕ)
-    → has_in_hand (handed states p None) d q ≡ cond (same_name p q) false (has_in_hand states d q)
+    → has_in_hand (with_hand states p None) d q ≡ cond (same_name p q) false (has_in_hand states d q)
 let_go states p there d q = hand_read states p q None d there
 
-still_there : (states : List PointState) (p : List ℕ) (position : Position) → is_some (state_of states p) ≡ true → is_some (state_of (placed states p position) p) ≡ true
+still_there : (states : List PointState) (p : List ℕ) (position : Position) → is_some (state_of states p) ≡ true → is_some (state_of (with_position states p position) p) ≡ true
 still_there states p position there =
     ap is_some (state_of-changed (λ state. record state { position = position }) (λ state. refl) states p) ∙ kept (state_of states p) there
   where
@@ -50,21 +50,21 @@ still_there states p position there =
     kept (Some state) h = refl
 
 placed_let_go : (states : List PointState) (p : List ℕ) (position : Position) → is_some (state_of states p) ≡ true → (d : Id) (q : List ℕ)
-    → has_in_hand (handed (placed states p position) p None) d q ≡ cond (same_name p q) false (has_in_hand states d q)
+    → has_in_hand (with_hand (with_position states p position) p None) d q ≡ cond (same_name p q) false (has_in_hand states d q)
 placed_let_go states p position there d q =
-    let_go (placed states p position) p (still_there states p position there) d q
+    let_go (with_position states p position) p (still_there states p position there) d q
     ∙ ap (λ hand. cond (same_name p q) false (is_hand d hand)) (hand_of-placed states p position q)
 
 module _ (R : Register) (good : IsGoodByPhase R) (c : Id) (r : Record) (found : record_of R.records c ≡ Some r) (row : StepRow) (p : IsPresent R c row)
     (active : is_active row.step.state ≡ true) (next : Record) (own : next.id ≡ c) (same_work : next.work ≡ r.work) where
   abbrev pub new : StepRow
-  new = moved_step Done row.step.reader row
+  new = step_moved Done row.step.reader row
 
   abbrev point : List ℕ
   point = row.step.point
 
-  pub done_put : StepPut R c row (moved_step Done row.step.reader row)
-  done_put = step_put R good c row (moved_step Done row.step.reader row) p refl
+  pub done_put : StepPut R c row (step_moved Done row.step.reader row)
+  done_put = step_put R good c row (step_moved Done row.step.reader row) p refl
 
   pub done_midst : InMidst done_put.before done_put.after row row.round
   done_midst = active_midst R good c r found row p done_put.before done_put.after done_put.was active
@@ -93,11 +93,11 @@ module _ (R : Register) (good : IsGoodByPhase R) (c : Id) (r : Record) (found : 
 
   -- the register with other states and holds
   abbrev pub done_register : List PointState → List Hold → Register
-  done_register states holds = record R { states = states; records = with_row id_cmp record_key next R.records; steps = put_step (moved_step Done row.step.reader row) R.steps; holds = holds }
+  done_register states holds = record R { states = states; records = with_row id_cmp record_key next R.records; steps = put_step (step_moved Done row.step.reader row) R.steps; holds = holds }
 
   -- the clearance's outlook then
   abbrev pub done_outlook : List PointState → List Hold → Outlook
-  done_outlook states holds = record { clearance = Some next; steps = done_put.before ++ moved_step Done row.step.reader row ∷ done_put.after; has = has_hold holds c; hand = has_in_hand states c }
+  done_outlook states holds = record { clearance = Some next; steps = done_put.before ++ step_moved Done row.step.reader row ∷ done_put.after; has = has_hold holds c; hand = has_in_hand states c }
 
   -- what the states and holds have to be
   pub record Fits (states : List PointState) (holds : List Hold) : Type 0 where
@@ -106,13 +106,13 @@ module _ (R : Register) (good : IsGoodByPhase R) (c : Id) (r : Record) (found : 
     pub grown : (d : Id) (kind : HoldKind) (q : List ℕ) → has_hold holds d kind q ≡ true → (has_hold R.holds d kind q ≡ true) ⊎ ((d ≡ c) × (q ≡ row.step.point))
     pub held_open : (d : Id) (kind : HoldKind) (q : List ℕ) → is_point_kind kind ≡ true → has_hold holds d kind q ≡ true → position_of states q ≡ Some Opened
 
-  closing_free : (states : List PointState) (holds : List Hold) → Fits states holds → (b : Id) (q : List ℕ) → is_closing_at (put_step (moved_step Done row.step.reader row) R.steps) b q ≡ true
+  closing_free : (states : List PointState) (holds : List Hold) → Fits states holds → (b : Id) (q : List ℕ) → is_closing_at (put_step (step_moved Done row.step.reader row) R.steps) b q ≡ true
       → (d : Id) (kind : HoldKind) → is_point_kind kind ≡ true → has_hold holds d kind q ≡ true → (d ≡ b) × (kind ≡ HeldOpen)
   closing_free states holds fits b q closing d kind at_point has = at (same_id b c) refl
     where
       at : (e : Bool) → same_id b c ≡ e → (d ≡ b) × (kind ≡ HeldOpen)
       at true is =
-          let now : is_closing_at (put_step (moved_step Done row.step.reader row) R.steps) c q ≡ true = rw (one_id b c is) at closing in
+          let now : is_closing_at (put_step (step_moved Done row.step.reader row) R.steps) c q ≡ true = rw (one_id b c is) at closing in
           absurd (false≢true
           (sym (active-only done_put.before done_put.after row new row.round done_midst refl (closes_at q) (λ other rests. rw rests refl))
           ∙ sym (closing_by (put_step new R.steps) c q (done_put.before ++ new ∷ done_put.after) done_put.is) ∙ now))
@@ -154,13 +154,13 @@ module _ (R : Register) (good : IsGoodByPhase R) (c : Id) (r : Record) (found : 
 
   -- a hold is put, the point standing open
   pub put_keeps : (of : HoldKind) → position_of R.states row.step.point ≡ Some Opened
-      → InPhase R.net next.phase next.work (done_outlook (handed R.states row.step.point None) (with_row hold_cmp hold_key (hold_of c of row.step.point) R.holds))
-      → IsGoodByPhase (edited_all (SetHand row.step.point None ∷ PutHold (hold_of c of row.step.point) ∷ PutRecord next ∷ PutStep (moved_step Done row.step.reader row) ∷ []) R)
-  unfolding edited_all
+      → InPhase R.net next.phase next.work (done_outlook (with_hand R.states row.step.point None) (with_row hold_cmp hold_key (hold_of c of row.step.point) R.holds))
+      → IsGoodByPhase (after_edits (SetHand row.step.point None ∷ PutHold (hold_of c of row.step.point) ∷ PutRecord next ∷ PutStep (step_moved Done row.step.reader row) ∷ []) R)
+  unfolding after_edits
   put_keeps of stands phase =
       keeps R (SetHand point None ∷ PutHold (hold_of c of point) ∷ PutRecord next ∷ PutStep new ∷ []) c good
-      (moved R good c r next found own same_work (done_register (handed R.states point None) (with_row hold_cmp hold_key (hold_of c of point) R.holds)) refl
-      (done_moved (handed R.states point None) (with_row hold_cmp hold_key (hold_of c of point) R.holds) (record {
+      (put_changes R good c r next found own same_work (done_register (with_hand R.states point None) (with_row hold_cmp hold_key (hold_of c of point) R.holds)) refl
+      (done_moved (with_hand R.states point None) (with_row hold_cmp hold_key (hold_of c of point) R.holds) (record {
         hands = let_go R.states point point_there;
         others = others_hold_put c of point R.holds;
         grown = λ d kind q has. ⊎_elim (λ before. inl before) (λ here. inr (here.0, here.2)) (was_or_put c of point R.holds d kind q has);
@@ -170,13 +170,13 @@ module _ (R : Register) (good : IsGoodByPhase R) (c : Id) (r : Record) (found : 
 
   -- a hold is taken
   pub take_keeps : (of : HoldKind)
-      → InPhase R.net next.phase next.work (done_outlook (handed R.states row.step.point None) (without_row hold_cmp hold_key (hold_of c of row.step.point) R.holds))
-      → IsGoodByPhase (edited_all (SetHand row.step.point None ∷ TakeHold (hold_of c of row.step.point) ∷ PutRecord next ∷ PutStep (moved_step Done row.step.reader row) ∷ []) R)
-  unfolding edited_all
+      → InPhase R.net next.phase next.work (done_outlook (with_hand R.states row.step.point None) (without_row hold_cmp hold_key (hold_of c of row.step.point) R.holds))
+      → IsGoodByPhase (after_edits (SetHand row.step.point None ∷ TakeHold (hold_of c of row.step.point) ∷ PutRecord next ∷ PutStep (step_moved Done row.step.reader row) ∷ []) R)
+  unfolding after_edits
   take_keeps of phase =
       keeps R (SetHand point None ∷ TakeHold (hold_of c of point) ∷ PutRecord next ∷ PutStep new ∷ []) c good
-      (moved R good c r next found own same_work (done_register (handed R.states point None) (without_row hold_cmp hold_key (hold_of c of point) R.holds)) refl
-      (done_moved (handed R.states point None) (without_row hold_cmp hold_key (hold_of c of point) R.holds) (record {
+      (put_changes R good c r next found own same_work (done_register (with_hand R.states point None) (without_row hold_cmp hold_key (hold_of c of point) R.holds)) refl
+      (done_moved (with_hand R.states point None) (without_row hold_cmp hold_key (hold_of c of point) R.holds) (record {
         hands = let_go R.states point point_there;
         others = others_hold_taken c of point R.holds;
         grown = λ d kind q has. inl (was_there c of point R.holds d kind q has);
@@ -185,24 +185,24 @@ module _ (R : Register) (good : IsGoodByPhase R) (c : Id) (r : Record) (found : 
 
   -- the position after the point is opened
   opened : (q : List ℕ) → (same_name row.step.point q ≡ false → position_of R.states q ≡ Some Opened)
-      → position_of (handed (placed R.states row.step.point Opened) row.step.point None) q ≡ Some Opened
-  opened q elsewhere = position_of-handed (placed R.states point Opened) point None q ∙ at (same_name point q) refl
+      → position_of (with_hand (with_position R.states row.step.point Opened) row.step.point None) q ≡ Some Opened
+  opened q elsewhere = position_of-handed (with_position R.states point Opened) point None q ∙ at (same_name point q) refl
     where
-      at : (b : Bool) → same_name row.step.point q ≡ b → position_of (placed R.states row.step.point Opened) q ≡ Some Opened
-      at true is = ap (position_of (placed R.states point Opened)) (one_name q point (nat_list_eq_equiv.symm q point ∙ is)) ∙ position_of-placed R.states point Opened point_there
+      at : (b : Bool) → same_name row.step.point q ≡ b → position_of (with_position R.states row.step.point Opened) q ≡ Some Opened
+      at true is = ap (position_of (with_position R.states point Opened)) (one_name q point (nat_list_eq_equiv.symm q point ∙ is)) ∙ position_of-placed R.states point Opened point_there
       at false differs = position_of-placed_other R.states point Opened q differs ∙ elsewhere differs
 
   -- the point is opened, and held open
   pub open_keeps : InPhase R.net next.phase next.work
-      (done_outlook (handed (placed R.states row.step.point Opened) row.step.point None) (with_row hold_cmp hold_key (hold_of c HeldOpen row.step.point) R.holds))
-      → IsGoodByPhase (edited_all (SetPosition row.step.point Opened ∷ SetHand row.step.point None ∷ PutHold (hold_of c HeldOpen row.step.point) ∷ PutRecord next
-      ∷ PutStep (moved_step Done row.step.reader row) ∷ []) R)
-  unfolding edited_all
+      (done_outlook (with_hand (with_position R.states row.step.point Opened) row.step.point None) (with_row hold_cmp hold_key (hold_of c HeldOpen row.step.point) R.holds))
+      → IsGoodByPhase (after_edits (SetPosition row.step.point Opened ∷ SetHand row.step.point None ∷ PutHold (hold_of c HeldOpen row.step.point) ∷ PutRecord next
+      ∷ PutStep (step_moved Done row.step.reader row) ∷ []) R)
+  unfolding after_edits
   open_keeps phase =
       keeps R (SetPosition point Opened ∷ SetHand point None ∷ PutHold (hold_of c HeldOpen point) ∷ PutRecord next ∷ PutStep new ∷ []) c good
-      (moved R good c r next found own same_work
-      (done_register (handed (placed R.states point Opened) point None) (with_row hold_cmp hold_key (hold_of c HeldOpen point) R.holds)) refl
-      (done_moved (handed (placed R.states point Opened) point None) (with_row hold_cmp hold_key (hold_of c HeldOpen point) R.holds) (record {
+      (put_changes R good c r next found own same_work
+      (done_register (with_hand (with_position R.states point Opened) point None) (with_row hold_cmp hold_key (hold_of c HeldOpen point) R.holds)) refl
+      (done_moved (with_hand (with_position R.states point Opened) point None) (with_row hold_cmp hold_key (hold_of c HeldOpen point) R.holds) (record {
         hands = placed_let_go R.states point Opened point_there;
         others = others_hold_put c HeldOpen point R.holds;
         grown = λ d kind q has. ⊎_elim (λ before. inl before) (λ here. inr (here.0, here.2)) (was_or_put c HeldOpen point R.holds d kind q has);
@@ -213,13 +213,13 @@ module _ (R : Register) (good : IsGoodByPhase R) (c : Id) (r : Record) (found : 
       }) phase))
 
   -- the point is opened, and nothing is held
-  pub switch_open_keeps : InPhase R.net next.phase next.work (done_outlook (handed (placed R.states row.step.point Opened) row.step.point None) R.holds)
-      → IsGoodByPhase (edited_all (SetPosition row.step.point Opened ∷ SetHand row.step.point None ∷ PutRecord next ∷ PutStep (moved_step Done row.step.reader row) ∷ []) R)
-  unfolding edited_all
+  pub switch_open_keeps : InPhase R.net next.phase next.work (done_outlook (with_hand (with_position R.states row.step.point Opened) row.step.point None) R.holds)
+      → IsGoodByPhase (after_edits (SetPosition row.step.point Opened ∷ SetHand row.step.point None ∷ PutRecord next ∷ PutStep (step_moved Done row.step.reader row) ∷ []) R)
+  unfolding after_edits
   switch_open_keeps phase =
       keeps R (SetPosition point Opened ∷ SetHand point None ∷ PutRecord next ∷ PutStep new ∷ []) c good
-      (moved R good c r next found own same_work (done_register (handed (placed R.states point Opened) point None) R.holds) refl
-      (done_moved (handed (placed R.states point Opened) point None) R.holds (record {
+      (put_changes R good c r next found own same_work (done_register (with_hand (with_position R.states point Opened) point None) R.holds) refl
+      (done_moved (with_hand (with_position R.states point Opened) point None) R.holds (record {
         hands = placed_let_go R.states point Opened point_there;
         others = λ d differs kind q. refl;
         grown = λ d kind q has. inl has;
@@ -229,19 +229,19 @@ module _ (R : Register) (good : IsGoodByPhase R) (c : Id) (r : Record) (found : 
   -- the point is closed, and held open no more
   pub close_keeps : is_close row.step.action ≡ true
       → InPhase R.net next.phase next.work
-      (done_outlook (handed (placed R.states row.step.point Shut) row.step.point None) (without_row hold_cmp hold_key (hold_of c HeldOpen row.step.point) R.holds))
-      → IsGoodByPhase (edited_all (SetPosition row.step.point Shut ∷ SetHand row.step.point None ∷ TakeHold (hold_of c HeldOpen row.step.point) ∷ PutRecord next
-      ∷ PutStep (moved_step Done row.step.reader row) ∷ []) R)
-  unfolding edited_all
+      (done_outlook (with_hand (with_position R.states row.step.point Shut) row.step.point None) (without_row hold_cmp hold_key (hold_of c HeldOpen row.step.point) R.holds))
+      → IsGoodByPhase (after_edits (SetPosition row.step.point Shut ∷ SetHand row.step.point None ∷ TakeHold (hold_of c HeldOpen row.step.point) ∷ PutRecord next
+      ∷ PutStep (step_moved Done row.step.reader row) ∷ []) R)
+  unfolding after_edits
   close_keeps closes phase =
       keeps R (SetPosition point Shut ∷ SetHand point None ∷ TakeHold (hold_of c HeldOpen point) ∷ PutRecord next ∷ PutStep new ∷ []) c good
-      (moved R good c r next found own same_work
-      (done_register (handed (placed R.states point Shut) point None) (without_row hold_cmp hold_key (hold_of c HeldOpen point) R.holds)) refl
-      (done_moved (handed (placed R.states point Shut) point None) (without_row hold_cmp hold_key (hold_of c HeldOpen point) R.holds) (record {
+      (put_changes R good c r next found own same_work
+      (done_register (with_hand (with_position R.states point Shut) point None) (without_row hold_cmp hold_key (hold_of c HeldOpen point) R.holds)) refl
+      (done_moved (with_hand (with_position R.states point Shut) point None) (without_row hold_cmp hold_key (hold_of c HeldOpen point) R.holds) (record {
         hands = placed_let_go R.states point Shut point_there;
         others = others_hold_taken c HeldOpen point R.holds;
         grown = λ d kind q has. inl (was_there c HeldOpen point R.holds d kind q has);
-        held_open = λ d kind q at_point has. position_of-handed (placed R.states point Shut) point None q ∙ shut d kind q at_point has (same_name point q) refl;
+        held_open = λ d kind q at_point has. position_of-handed (with_position R.states point Shut) point None q ∙ shut d kind q at_point has (same_name point q) refl;
       }) phase))
     where
       closing : is_closing_at R.steps c row.step.point ≡ true
@@ -250,7 +250,7 @@ module _ (R : Register) (good : IsGoodByPhase R) (c : Id) (r : Record) (found : 
           ∙ rw (active, closes) (same_itself point)
 
       shut : (d : Id) (kind : HoldKind) (q : List ℕ) → is_point_kind kind ≡ true → has_hold (without_row hold_cmp hold_key (hold_of c HeldOpen row.step.point) R.holds) d kind q ≡ true
-          → (b : Bool) → same_name row.step.point q ≡ b → position_of (placed R.states row.step.point Shut) q ≡ Some Opened
+          → (b : Bool) → same_name row.step.point q ≡ b → position_of (with_position R.states row.step.point Shut) q ≡ Some Opened
       shut d kind q at_point has true is =
           let here : q ≡ row.step.point = one_name q point (nat_list_eq_equiv.symm q point ∙ is) in
           let only = good.closing_free c point closing d kind at_point (rw here at (was_there c HeldOpen point R.holds d kind q has)) in

@@ -11,7 +11,7 @@ use Rattle.clr_order.specs.Needed.{undoes}
 use Rattle.clr_order.specs.Step.{Task, actions_at, task}
 use Rattle.clr_order.specs.declared.action.Action.{Action}
 use Rattle.clr_order.specs.declared.action.Action.TheVariants as actions
-use Rattle.clr_rules.specs.Good.{left, put_by, puts}
+use Rattle.clr_rules.specs.Good.{steps_left_of, put_by, puts}
 use Rattle.clr_rules.specs.GoodByPhase.{ActiveInRound, HoldsNothing, InClosed, InOrdered, InRestoring, InSwitching, of_round, present_of}
 use Rattle.clr_rules.specs.Prelude.{HoldKind, HeldOpen, Block, Control, Tag, Tested, Ground, Crew, Record, StepRow, all_done, is_active, is_done, tasks_of, is_point_kind, same_kind}
 use Rattle.clr_rules.proofs.lists.HoldChanges.{is_there, one_kind}
@@ -68,7 +68,7 @@ none_of_three true c b is = absurd (false≢true is)
 none_of_three false true b is = absurd (false≢true is)
 none_of_three false false true is = absurd (false≢true is)
 
-left_all_done : (rows : List StepRow) → all_done rows ≡ true → left rows ≡ []
+left_all_done : (rows : List StepRow) → all_done rows ≡ true → steps_left_of rows ≡ []
 left_all_done [] done = refl
 left_all_done (row ∷ rows) done = let parts = and_parts (is_done row.step.state) (all_done rows) done in rw parts.0 (left_all_done rows parts.1)
 
@@ -144,15 +144,15 @@ module _ (g : Grid) (before after : List StepRow) (row new : StepRow) (k : ℕ) 
     rest : List Task
     rest = tasks_of (of_round after k)
 
-    left_was : tasks_of (left (of_round (before ++ row ∷ after) 2)) ≡ task row.step ∷ tasks_of (of_round after k)
-    left_was = subst (λ n. tasks_of (left (of_round (before ++ row ∷ after) n)) ≡ task row.step ∷ tasks_of (of_round after k)) second
-        (ap (λ rows. tasks_of (left rows)) (own_round_was before after row new k mid new_round)
+    left_was : tasks_of (steps_left_of (of_round (before ++ row ∷ after) 2)) ≡ task row.step ∷ tasks_of (of_round after k)
+    left_was = subst (λ n. tasks_of (steps_left_of (of_round (before ++ row ∷ after) n)) ≡ task row.step ∷ tasks_of (of_round after k)) second
+        (ap (λ rows. tasks_of (steps_left_of rows)) (own_round_was before after row new k mid new_round)
         ∙ ap tasks_of (left_after_done (of_round before k) (row ∷ of_round after k) mid.done)
         ∙ rw (was_left, left_waiting (of_round after k) mid.waits) refl)
 
-    left_is : tasks_of (left (of_round (before ++ new ∷ after) 2)) ≡ tasks_of (of_round after k)
-    left_is = subst (λ n. tasks_of (left (of_round (before ++ new ∷ after) n)) ≡ tasks_of (of_round after k)) second
-        (ap (λ rows. tasks_of (left rows)) (own_round before after row new k mid new_round)
+    left_is : tasks_of (steps_left_of (of_round (before ++ new ∷ after) 2)) ≡ tasks_of (of_round after k)
+    left_is = subst (λ n. tasks_of (steps_left_of (of_round (before ++ new ∷ after) n)) ≡ tasks_of (of_round after k)) second
+        (ap (λ rows. tasks_of (steps_left_of rows)) (own_round before after row new k mid new_round)
         ∙ ap tasks_of (left_after_done (of_round before k) (new ∷ of_round after k) mid.done)
         ∙ rw (is_now, left_waiting (of_round after k) mid.waits) refl)
 

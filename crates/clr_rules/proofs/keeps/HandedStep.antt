@@ -6,17 +6,17 @@ use Rattle.clr_net.specs.Name.{same_name}
 use Rattle.clr_net.proofs.Walks.{one_name}
 use Rattle.clr_order.specs.Step.{task}
 use Rattle.clr_rules.specs.Prelude.{Edit, SetHand, PutRecord, PutStep, HoldKind, HeldOpen, Record, StepRow, Id, same_id, Register, has_in_hand, record_of, is_running, step_key, is_active, is_done, steps_of, is_point_kind, has_hold}
-use Rattle.clr_rules.specs.Prelude.{edited_all}
+use Rattle.clr_rules.specs.Prelude.{after_edits}
 use Rattle.clr_rules.specs.Good.{is_closing_at}
 use Rattle.clr_rules.specs.GoodByPhase.{IsGoodByPhase, active_at, outlook_of, present_of}
 use Rattle.clr_rules.specs.States.{is_hand}
 use Rattle.clr_rules.specs.Steps.{is_close}
-use Rattle.clr_rules.proofs.lists.StateFacts.{handed, position_of-handed}
+use Rattle.clr_rules.proofs.lists.StateFacts.{with_hand, position_of-handed}
 use Rattle.clr_rules.proofs.good.Keeping.{keeps}
 use Rattle.clr_rules.proofs.keeps.OneRecord.{in_phase_of}
 use Rattle.clr_rules.proofs.keeps.Repeat.{turns_split}
 use Rattle.clr_rules.proofs.edits.PresentSteps.{IsPresent}
-use Rattle.clr_rules.proofs.edits.PutRecords.{moved, same_closing}
+use Rattle.clr_rules.proofs.edits.PutRecords.{put_changes, same_closing}
 use Rattle.clr_rules.proofs.edits.PutSteps.{StepPut, closes_at, closing_by, hand_read, known_put, other_hands, others_put, phase_by, place_by, put_step, state_known, step_put}
 use Rattle.clr_rules.proofs.lists.RoundSteps.{one_id, record_id}
 use Rattle.clr_rules.proofs.edits.StepMoves.{InMidst, active-only, active_is, phase_again, turns_again}
@@ -51,7 +51,7 @@ module _ (R : Register) (good : IsGoodByPhase R) (c : Id) (r : Record) (found : 
 
   -- the hand matches the step
   own_hands : (hand : Option Id) → is_hand c hand ≡ is_active new.step.state → (q : List ℕ)
-      → has_in_hand (handed R.states row.step.point hand) c q ≡ active_at (s.before ++ new ∷ s.after) q
+      → has_in_hand (with_hand R.states row.step.point hand) c q ≡ active_at (s.before ++ new ∷ s.after) q
   own_hands hand own q =
       hand_read R.states row.step.point q hand c (state_known R good c row new p same_key) ∙ at (same_name q row.step.point) refl
       ∙ sym (active_is s.before s.after row new row.round middle same_round q ∙ ap (λ point. is_active new.step.state && same_name q point) same_point)
@@ -88,19 +88,19 @@ module _ (R : Register) (good : IsGoodByPhase R) (c : Id) (r : Record) (found : 
       → ((d : Id) → same_id d c ≡ false → (is_hand d hand ≡ false) × (has_in_hand R.states d row.step.point ≡ false))
       → is_hand c hand ≡ is_active new.step.state
       → (is_active new.step.state ≡ true → is_close new.step.action ≡ true → IsFree R c row.step.point)
-      → IsGoodByPhase (edited_all (SetHand row.step.point hand ∷ PutRecord (record r { last = at }) ∷ PutStep new ∷ []) R)
-  unfolding edited_all
+      → IsGoodByPhase (after_edits (SetHand row.step.point hand ∷ PutRecord (record r { last = at }) ∷ PutStep new ∷ []) R)
+  unfolding after_edits
   handed_keeps at hand others own free =
-      keeps R edits c good (moved R good c r (record r { last = at }) found (record_id R.records c r found) refl (edited_all edits R) refl (record {
+      keeps R edits c good (put_changes R good c r (record r { last = at }) found (record_id R.records c r found) refl (after_edits edits R) refl (record {
         other_steps = others_put R good c row new p same_key;
         other_holds = λ d differs kind place. refl;
         other_hands = λ d differs. other_hands R.states row.step.point hand d (state_known R good c row new p same_key) (others d differs).0 (others d differs).1;
         own_place = place_by R c (Some (record r { last = at })) (steps_of (put_step new R.steps) c) (s.before ++ new ∷ s.after) (outlook_of R c).has
-            (has_in_hand (handed R.states row.step.point hand) c) s.is (record {
+            (has_in_hand (with_hand R.states row.step.point hand) c) s.is (record {
               in_turn = turns_again s.before s.after row new row.round middle same_round (turns_split R c (s.before ++ row ∷ s.after) good s.was).in_turn;
               hands = own_hands hand own;
               phase = phase_again s.before s.after row new row.round middle same_round same_task was_left is_left R.net r.phase r.work
-                  (outlook_of R c).clearance (Some (record r { last = at })) (outlook_of R c).has (outlook_of R c).hand (has_in_hand (handed R.states row.step.point hand) c) runs
+                  (outlook_of R c).clearance (Some (record r { last = at })) (outlook_of R c).has (outlook_of R c).hand (has_in_hand (with_hand R.states row.step.point hand) c) runs
                   (p.now ∙ ap present_of s.was) (phase_by R c r (s.before ++ row ∷ s.after) s.was (in_phase_of R c r good found));
             });
         held_open = λ d kind q at_point has. position_of-handed R.states row.step.point hand q ∙ good.held_open d kind q at_point has;

@@ -4,9 +4,9 @@ use Rattle.std.specs.List.{fold}
 use Rattle.std.proofs.lemmas.Bool.{and_parts, false≢true, true_from_ne_false}
 use Rattle.clr_net.proofs.Walks.{same_itself}
 use Rattle.clr_order.specs.declared.step.StepState.TheVariants.{Instructed}
-use Rattle.clr_rules.specs.Changes.{moved as moved_step}
+use Rattle.clr_rules.specs.Changes.{step_moved}
 use Rattle.clr_rules.specs.Checks.{held_by, other_hand}
-use Rattle.clr_rules.specs.Prelude.{SetHand, PutRecord, PutStep, Hold, HoldKind, HeldOpen, Block, StepRow, Id, same_id, Register, hand_of, is_running, is_waiting, present, step_at, hold_of, same_kind}
+use Rattle.clr_rules.specs.Prelude.{SetHand, PutRecord, PutStep, Hold, HoldKind, HeldOpen, Block, StepRow, Id, same_id, Register, hand_of, is_running, is_waiting, present_steps, step_at, hold_of, same_kind}
 use Rattle.clr_rules.specs.Holds.{earlier_hold, first_hold, hindering_hold, hinders}
 use Rattle.clr_rules.specs.States.{is_hand}
 use Rattle.clr_rules.specs.Steps.{is_close, is_in_turn}
@@ -60,15 +60,15 @@ pub instructs_keep : (c : Id) (n : ℕ) → KeepsGood (Instruct c n)
 instructs_keep c n = commands_keep (Instruct c n) (λ R by at good passed.
     let (r, found) = record_there R c passed.1.1.0 in
     let s = step_there R c n passed.1.1.1.1.1.0 in
-    let turn : is_in_turn (present R.steps c) s.row.ordinal ≡ true = rw s.ordinal (not_refused_true (is_in_turn (present R.steps c) n) OutOfTurn passed.1.1.1.1.1.1.0) in
+    let turn : is_in_turn (present_steps R.steps c) s.row.ordinal ≡ true = rw s.ordinal (not_refused_true (is_in_turn (present_steps R.steps c) n) OutOfTurn passed.1.1.1.1.1.1.0) in
     let waits : is_waiting s.row.step.state ≡ true = state_fits R c n s is_waiting passed.1.1.1.1.1.1.1.0 in
     let hand : other_hand c (hand_of R.states s.row.step.point) ≡ None =
-    check_of_found (step_at (present R.steps c) n) s.row (λ (row : StepRow). other_hand c (hand_of R.states row.step.point)) s.found passed.1.1.1.1.1.1.1.1.0 in
+    check_of_found (step_at (present_steps R.steps c) n) s.row (λ (row : StepRow). other_hand c (hand_of R.states row.step.point)) s.found passed.1.1.1.1.1.1.1.1.0 in
     let clear : cond (is_close s.row.step.action) (held_by (hindering_hold R.holds c s.row.step.point)) None ≡ None =
-    check_of_found (step_at (present R.steps c) n) s.row (λ (row : StepRow). cond (is_close row.step.action) (held_by (hindering_hold R.holds c row.step.point)) None) s.found passed.1.1.1.1.1.1.1.1.1.0 in
-    let new = moved_step Instructed s.row.step.reader s.row in
+    check_of_found (step_at (present_steps R.steps c) n) s.row (λ (row : StepRow). cond (is_close row.step.action) (held_by (hindering_hold R.holds c row.step.point)) None) s.found passed.1.1.1.1.1.1.1.1.1.0 in
+    let new = step_moved Instructed s.row.step.reader s.row in
     found_step_edits R c n r s.row
-    (λ r row. SetHand row.step.point (Some c) ∷ PutRecord (record r { last = at }) ∷ PutStep (moved_step Instructed row.step.reader row) ∷ []) found s.found
+    (λ r row. SetHand row.step.point (Some c) ∷ PutRecord (record r { last = at }) ∷ PutStep (step_moved Instructed row.step.reader row) ∷ []) found s.found
     (handed_keeps R good c r found (phase_fits R c r is_running found passed.1.1.1.1.0) s.row new s.is_present refl refl
     (waiting_not_done s.row.step.state waits) refl
     (λ q. waiting_midst R good c r found s.row s.is_present q.before q.after q.was waits turn)

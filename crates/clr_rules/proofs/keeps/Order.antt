@@ -17,7 +17,7 @@ use Rattle.clr_order.proofs.SoundOrders.{sound_from_no_fault}
 use Rattle.clr_order.proofs.Steps.{once_from}
 use Rattle.clr_rules.specs.Changes.{new_steps, put_steps}
 use Rattle.clr_rules.specs.Checks.{unsound_order}
-use Rattle.clr_rules.specs.Prelude.{PutRecord, Phase, Requested, Ordered, Record, StepRow, Id, Register, record_of, is_active, points_of, steps_of, tasks_of, once, edited_all}
+use Rattle.clr_rules.specs.Prelude.{PutRecord, Phase, Requested, Ordered, Record, StepRow, Id, Register, record_of, is_active, points_of, steps_of, tasks_of, first_of_each, after_edits}
 use Rattle.clr_rules.specs.Fences.{found_order_fence, order_fence, rows_of_fence, work_fence}
 use Rattle.clr_rules.specs.Good.{put_by}
 use Rattle.clr_rules.specs.GoodByPhase.{InOrdered, InPhase, IsBare, IsGoodByPhase, Outlook, of_round, outlook_of}
@@ -32,7 +32,7 @@ use Rattle.clr_rules.proofs.edits.NewRounds.{IsReady, new_tasks, new_wait, none_
 use Rattle.clr_rules.proofs.edits.Passing.{phase_fits, record_there}
 use Rattle.clr_rules.proofs.good.PhaseFacts.{none_of_round}
 use Rattle.clr_rules.proofs.good.PutHolds.{needed_there, waiting_put_nothing}
-use Rattle.clr_rules.proofs.edits.PutRecords.{moved, outlook_with}
+use Rattle.clr_rules.proofs.edits.PutRecords.{put_changes, outlook_with}
 use Rattle.clr_rules.proofs.lists.RoundSteps.{All-from_each, of_round_is, record_id}
 
 -- ---- names, each once
@@ -48,11 +48,11 @@ no_repeat_kept q (name ∷ names) h = at (q name) refl (has_name names name) ref
     at false e false f h more = rw e (more (rw f at h))
     at false e true f h more = absurd (false≢true (sym h ∙ or_left (has_name names name) (has_repeat names) f))
 
-once_no_repeat : (names : List (List ℕ)) → has_repeat (once names) ≡ false
-unfolding once
+once_no_repeat : (names : List (List ℕ)) → has_repeat (first_of_each names) ≡ false
+unfolding first_of_each
 once_no_repeat [] = refl
 once_no_repeat (name ∷ names) =
-    rw (has_name-filter (λ q. not (same_name name q)) (once names) name, same_itself name) (no_repeat_kept (λ q. not (same_name name q)) (once names) (once_no_repeat names))
+    rw (has_name-filter (λ q. not (same_name name q)) (first_of_each names) name, same_itself name) (no_repeat_kept (λ q. not (same_name name q)) (first_of_each names) (once_no_repeat names))
 
 filter_short : (q : List ℕ → Bool) (names : List (List ℕ)) → length (filter q names) ≤ length names
 filter_short q [] = omega arith
@@ -132,43 +132,43 @@ module _ (g : Grid) (net : IsNetwork g) (work : List ℕ) (points : List (List �
   is_point : (p : List ℕ) → has_name (task_points tasks) p ≡ true → has_name points p ≡ true
   is_point p known = named_inside points tasks p sound.nowhere_else known
 
-  same_points : (p : List ℕ) → has_name points p ≡ has_name (once (task_points tasks)) p
+  same_points : (p : List ℕ) → has_name points p ≡ has_name (first_of_each (task_points tasks)) p
   same_points p = same_tests (has_name points p) (has_name (task_points tasks) p) (has_action p) (is_point p) ∙ sym (has_name-once (task_points tasks) p)
 
   -- the fence that was known is the one that is cut there
-  same_inside : (s : List ℕ) → has_name (work_fence g (Some work) points) s ≡ in_fence g work (once (task_points tasks)) s
+  same_inside : (s : List ℕ) → has_name (work_fence g (Some work) points) s ≡ in_fence g work (first_of_each (task_points tasks)) s
   same_inside s =
       same_tests (has_name (work_fence g (Some work) points) s) (in_fence g work points s) (in_fence_from_named g work points s) (named_from_in_fence g work net points s)
-      ∙ in_fence_alike g work points (once (task_points tasks)) same_points s
+      ∙ in_fence_alike g work points (first_of_each (task_points tasks)) same_points s
 
-  same_fence : given ≡ fence_of g work (once (task_points tasks))
+  same_fence : given ≡ fence_of g work (first_of_each (task_points tasks))
   same_fence i = record {
     sections = filter (λ (row : SectionRow). same_inside row.name i) g.sections;
     touching = filter (λ (p : PointRow). same_inside p.from_end i || same_inside p.to_end i) g.points;
   }
 
   -- what holds of each point of the order holds at the points of its steps
-  at_each : (P : List ℕ → Type 0) → All P points → All P (once (task_points tasks))
-  at_each P all = All-from_each P (once (task_points tasks)) (λ p there.
-      let (q, among, same) = some_from (same_name p) points (same_points p ∙ any_from (same_name p) (once (task_points tasks)) p there (same_itself p)) in
+  at_each : (P : List ℕ → Type 0) → All P points → All P (first_of_each (task_points tasks))
+  at_each P all = All-from_each P (first_of_each (task_points tasks)) (λ p there.
+      let (q, among, same) = some_from (same_name p) points (same_points p ∙ any_from (same_name p) (first_of_each (task_points tasks)) p there (same_itself p)) in
       subst P (sym (one_name p q same)) (All-contains P points q all among))
 
-  pub sound_once : IsSoundOrder g work (once (task_points tasks)) tasks
-  sound_once = subst (λ (fence : FenceRows). IsSoundWithin fence (once (task_points tasks)) tasks) same_fence (record {
+  pub sound_once : IsSoundOrder g work (first_of_each (task_points tasks)) tasks
+  sound_once = subst (λ (fence : FenceRows). IsSoundWithin fence (first_of_each (task_points tasks)) tasks) same_fence (record {
     some_point = some points sound.some_point same_points;
-    points_fit = (let fewer = no_more (once (task_points tasks)) points (once_no_repeat (task_points tasks)) (λ p known. same_points p ∙ known) in let fits = sound.points_fit in omega arith);
+    points_fit = (let fewer = no_more (first_of_each (task_points tasks)) points (once_no_repeat (task_points tasks)) (λ p known. same_points p ∙ known) in let fits = sound.points_fit in omega arith);
     steps_fit = sound.steps_fit;
-    once = once_from (once (task_points tasks)) (once_no_repeat (task_points tasks));
+    once = once_from (first_of_each (task_points tasks)) (once_no_repeat (task_points tasks));
     no_source = sound.no_source;
     on_border = at_each (λ p. IsTrue (is_border_point given p)) sound.on_border;
     isolated = at_each (λ p. actions_at tasks p ≡ needed_at given p) sound.isolated;
-    nowhere_else = All-weaker (λ (t : Task). has_name points t.point ≡ true) (λ (t : Task). has_name (once (task_points tasks)) t.point ≡ true)
+    nowhere_else = All-weaker (λ (t : Task). has_name points t.point ≡ true) (λ (t : Task). has_name (first_of_each (task_points tasks)) t.point ≡ true)
         (λ t known. sym (same_points t.point) ∙ known) tasks sound.nowhere_else;
   })
     where
-      some : (points : List (List ℕ)) → 0 < length points → ((p : List ℕ) → has_name points p ≡ has_name (once (task_points tasks)) p) → 0 < length (once (task_points tasks))
+      some : (points : List (List ℕ)) → 0 < length points → ((p : List ℕ) → has_name points p ≡ has_name (first_of_each (task_points tasks)) p) → 0 < length (first_of_each (task_points tasks))
       some [] none same = absurd (omega arith)
-      some (p ∷ points) more same = at (once (task_points tasks)) (sym (same p) ∙ or_left (same_name p p) (has_name points p) (same_itself p))
+      some (p ∷ points) more same = at (first_of_each (task_points tasks)) (sym (same p) ∙ or_left (same_name p p) (has_name points p) (same_itself p))
         where
           at : (names : List (List ℕ)) → has_name names p ≡ true → 0 < length names
           at [] known = absurd (false≢true known)
@@ -176,7 +176,7 @@ module _ (g : Grid) (net : IsNetwork g) (work : List ℕ) (points : List (List �
 
 -- an isolating order that is not refused is sound
 order_passed : (R : Register) (net : IsNetwork R.net) (work : List ℕ) (points : List (List ℕ)) (tasks : List Task)
-    → unsound_order R (work_fence R.net (Some work) points) points tasks ≡ None → IsSoundOrder R.net work (once (task_points tasks)) tasks
+    → unsound_order R (work_fence R.net (Some work) points) points tasks ≡ None → IsSoundOrder R.net work (first_of_each (task_points tasks)) tasks
 order_passed R net work points tasks passed =
     let fence = rows_of_fence R.net (work_fence R.net (Some work) points) in
     sound_once R.net net work points tasks
@@ -192,15 +192,15 @@ order_passed R net work points tasks passed =
 -- ---- the command
 
 module _ (R : Register) (good : IsGoodByPhase R) (r : Record) (found : record_of R.records r.id ≡ Some r) (at : ℕ) (work : List ℕ) (has_work : r.work ≡ Some work)
-    (bare : IsBare (outlook_of R r.id)) (tasks : List Task) (sound : IsSoundOrder R.net work (once (task_points tasks)) tasks) where
+    (bare : IsBare (outlook_of R r.id)) (tasks : List Task) (sound : IsSoundOrder R.net work (first_of_each (task_points tasks)) tasks) where
   abbrev next : Record
   next = record r { phase = Ordered; last = at }
 
   abbrev rows : List StepRow
   rows = new_steps r.id 1 1 tasks
 
-  sound_rows : IsSoundOrder R.net work (once (points_of rows)) (tasks_of rows)
-  sound_rows = subst (λ (tasks : List Task). IsSoundOrder R.net work (once (task_points tasks)) tasks) (sym (new_tasks r.id 1 1 tasks)) sound
+  sound_rows : IsSoundOrder R.net work (first_of_each (points_of rows)) (tasks_of rows)
+  sound_rows = subst (λ (tasks : List Task). IsSoundOrder R.net work (first_of_each (task_points tasks)) tasks) (sym (new_tasks r.id 1 1 tasks)) sound
 
   -- each step is at a point of the network
   known : All (λ t. IsTrue (has_name (point_names (Grid.points R.net)) t.point)) tasks
@@ -221,7 +221,7 @@ module _ (R : Register) (good : IsGoodByPhase R) (r : Record) (found : record_of
 
   in_ordered : InOrdered R.net work (outlook_with (with_round R next 1 tasks) r.id next)
   in_ordered = record {
-    isolates = subst (λ (rows : List StepRow). IsSoundOrder R.net work (once (points_of rows)) (tasks_of rows)) (sym (round_is R good next 1 tasks ready)) sound_rows;
+    isolates = subst (λ (rows : List StepRow). IsSoundOrder R.net work (first_of_each (points_of rows)) (tasks_of rows)) (sym (round_is R good next 1 tasks ready)) sound_rows;
     one_round = others_are R good next 1 tasks ready 2 refl ∙ none_of 2;
     given_out = none_in_round R good next 1 tasks ready 1;
     as_put = λ kind p at_point. bare.no_hold kind p
@@ -229,10 +229,10 @@ module _ (R : Register) (good : IsGoodByPhase R) (r : Record) (found : record_of
     no_work = λ kind place off_point. bare.no_hold kind place;
   }
 
-  order_keeps : IsGoodByPhase (edited_all (PutRecord next ∷ put_steps (new_steps r.id 1 1 tasks)) R)
+  order_keeps : IsGoodByPhase (after_edits (PutRecord next ∷ put_steps (new_steps r.id 1 1 tasks)) R)
   order_keeps = keeps R (PutRecord next ∷ put_steps (new_steps r.id 1 1 tasks)) r.id good
       (subst (λ (S : Register). Changed R S r.id) (sym (round_put R next 1 tasks))
-      (moved R good r.id r next found refl refl (with_round R next 1 tasks) refl
+      (put_changes R good r.id r next found refl refl (with_round R next 1 tasks) refl
       (round_moved R good next 1 tasks ready
       (subst (λ (o : Option (List ℕ)). InPhase R.net Ordered o (outlook_with (with_round R next 1 tasks) r.id next)) (sym has_work) in_ordered))))
 
@@ -251,5 +251,5 @@ orders_keep c points tasks = commands_keep (Order c points tasks) (λ R by at go
     ap (found_order_fence R.net points) found ∙ ap (λ (o : Option (List ℕ)). work_fence R.net o points) has_work in
     let sound = order_passed R good.network work points tasks (ap (λ fence. unsound_order R fence points tasks) (sym fence) ∙ passed.1.1.1.1.1.0) in
     found_edits R c r (λ r. PutRecord (record r { phase = Ordered; last = at }) ∷ put_steps (new_steps c 1 1 tasks)) found
-    (subst (λ (d : Id). IsGoodByPhase (edited_all (PutRecord (record r { phase = Ordered; last = at }) ∷ put_steps (new_steps d 1 1 tasks)) R)) id
+    (subst (λ (d : Id). IsGoodByPhase (after_edits (PutRecord (record r { phase = Ordered; last = at }) ∷ put_steps (new_steps d 1 1 tasks)) R)) id
     (order_keeps R good r (ap (record_of R.records) id ∙ found) at work has_work (subst (λ (d : Id). IsBare (outlook_of R d)) (sym id) bare) tasks sound)))

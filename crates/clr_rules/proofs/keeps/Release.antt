@@ -6,7 +6,7 @@ use Rattle.clr_net.specs.Name.{same_name}
 use Rattle.clr_net.specs.Names.{has_name}
 use Rattle.clr_shelf.specs.Rows.{with_row, without_row}
 use Rattle.clr_rules.specs.Prelude.{Edit, TakeHold, PutRecord, Hold, HoldKind, HeldOpen, Block, Control, Tag, Tested, Ground, Crew, Released, Record, Id, id_cmp, same_id, Register, record_key, record_of, is_granted, hold_cmp}
-use Rattle.clr_rules.specs.Prelude.{is_point_kind, has_hold, has_some_hold, hold_key, hold_of, places_of, same_kind, edited_all}
+use Rattle.clr_rules.specs.Prelude.{is_point_kind, has_hold, has_some_hold, hold_key, hold_of, places_of, same_kind, after_edits}
 use Rattle.clr_rules.specs.GoodByPhase.{InPhase, InReleased, IsGoodByPhase}
 use Rattle.clr_rules.specs.Id.{same_id_equiv}
 use Rattle.clr_rules.specs.declared.command.Kind.TheVariants.{Release}
@@ -18,7 +18,7 @@ use Rattle.clr_rules.proofs.keeps.OneRecord.{found_edits}
 use Rattle.clr_rules.proofs.keeps.Work.{GrantedWork, granted_work, has_some}
 use Rattle.clr_rules.proofs.lists.NamedRows.{Contains-filter, has_name-row}
 use Rattle.clr_rules.proofs.edits.Passing.{not_refused, phase_fits, record_there}
-use Rattle.clr_rules.proofs.edits.PutRecords.{moved, outlook_with, quiet}
+use Rattle.clr_rules.proofs.edits.PutRecords.{put_changes, outlook_with, quiet}
 use Rattle.clr_rules.proofs.lists.RoundSteps.{one_id, own_id, record_id}
 
 -- the holds without those of a kind at some places
@@ -27,8 +27,8 @@ taken_all c [] holds = holds
 taken_all c (place ∷ places) holds = taken_all c places (without_row hold_cmp hold_key (hold_of c Tested place) holds)
 
 takes_edited : (c : Id) (places : List (List ℕ)) (rest : List Edit) (R : Register)
-    → edited_all (map (λ place. TakeHold (hold_of c Tested place)) places ++ rest) R ≡ edited_all rest (record R { holds = taken_all c places R.holds })
-unfolding edited_all taken_all
+    → after_edits (map (λ place. TakeHold (hold_of c Tested place)) places ++ rest) R ≡ after_edits rest (record R { holds = taken_all c places R.holds })
+unfolding after_edits taken_all
 takes_edited c [] rest R = refl
 takes_edited c (place ∷ places) rest R = takes_edited c places rest (record R { holds = without_row hold_cmp hold_key (hold_of c Tested place) R.holds })
 
@@ -112,7 +112,7 @@ module _ (R : Register) (good : IsGoodByPhase R) (c : Id) (r : Record) (found : 
   }
 
   release_changed : Changed R released c
-  release_changed = moved R good c r next found (record_id R.records c r found) refl released refl
+  release_changed = put_changes R good c r next found (record_id R.records c r found) refl released refl
       (quiet R released c next good (record {
         same_states = refl;
         point_holds = λ d kind q at_point has. point d kind q at_point has (same_id c d) refl;
@@ -133,11 +133,11 @@ module _ (R : Register) (good : IsGoodByPhase R) (c : Id) (r : Record) (found : 
   abbrev edits : List Edit
   edits = map (λ place. TakeHold (hold_of c Tested place)) (places_of R.holds c Tested) ++ PutRecord next ∷ []
 
-  after_it : edited_all edits R ≡ released
-  unfolding edited_all
+  after_it : after_edits edits R ≡ released
+  unfolding after_edits
   after_it = takes_edited c (places_of R.holds c Tested) (PutRecord next ∷ []) R
 
-  pub release_keeps : IsGoodByPhase (edited_all edits R)
+  pub release_keeps : IsGoodByPhase (after_edits edits R)
   release_keeps = keeps R edits c good (subst (λ (S : Register). Changed R S c) (sym after_it) release_changed)
 
 pub releases_keep : (c : Id) (notified clear : Bool) → KeepsGood (Release c notified clear)

@@ -3,9 +3,9 @@ use Rattle.std.proofs.Common.{◌≡◌, ℕ, Bool, true, not, ◌&&◌, List, [
 use Rattle.clr_net.specs.Name.{same_name}
 use Rattle.clr_order.specs.declared.step.StepState.{StepState}
 use Rattle.clr_order.specs.declared.step.StepState.TheVariants.{Repeated}
-use Rattle.clr_rules.specs.Changes.{moved as moved_step}
+use Rattle.clr_rules.specs.Changes.{step_moved}
 use Rattle.clr_rules.specs.Checks.{refuse, wrong_state}
-use Rattle.clr_rules.specs.Prelude.{Edit, PutRecord, PutStep, Record, StepRow, Id, Register, record_of, is_running, is_active, present, step_at, steps_of, edited_all}
+use Rattle.clr_rules.specs.Prelude.{Edit, PutRecord, PutStep, Record, StepRow, Id, Register, record_of, is_running, is_active, present_steps, step_at, steps_of, after_edits}
 use Rattle.clr_rules.specs.GoodByPhase.{IsGoodByPhase, IsInPlace, outlook_of, present_of}
 use Rattle.clr_rules.specs.declared.command.Kind.TheVariants.{Repeat}
 use Rattle.clr_rules.specs.declared.refusal.Refusal.TheVariants.{StepState as WrongState}
@@ -13,7 +13,7 @@ use Rattle.clr_rules.proofs.good.Keeping.{KeepsGood, commands_keep, keeps}
 use Rattle.clr_rules.proofs.keeps.OneRecord.{in_phase_of}
 use Rattle.clr_rules.proofs.edits.Passing.{check_of_found, not_refused_true, phase_fits, record_there}
 use Rattle.clr_rules.proofs.edits.PresentSteps.{FoundStep, IsPresent, active_midst, active_moves, found_step_edits, step_there}
-use Rattle.clr_rules.proofs.edits.PutRecords.{moved, quiet}
+use Rattle.clr_rules.proofs.edits.PutRecords.{put_changes, quiet}
 use Rattle.clr_rules.proofs.edits.PutSteps.{StepPut, closes_at, closing_by, known_put, others_put, phase_by, place_by, put_step, step_put}
 use Rattle.clr_rules.proofs.lists.RoundSteps.{record_id}
 use Rattle.clr_rules.proofs.edits.StepMoves.{InMidst, phase_again, turns_again}
@@ -22,18 +22,18 @@ use Rattle.clr_rules.proofs.lists.StepSplits.{any-swap}
 -- a check of the state of the step that was found
 pub state_fits : (R : Register) (c : Id) (n : ℕ) (s : FoundStep R c n) (fits : StepState → Bool) → wrong_state R c n fits ≡ None → fits s.row.step.state ≡ true
 state_fits R c n s fits passed = not_refused_true (fits s.row.step.state) WrongState
-    (check_of_found (step_at (present R.steps c) n) s.row (λ (row : StepRow). refuse (not (fits row.step.state)) WrongState) s.found passed)
+    (check_of_found (step_at (present_steps R.steps c) n) s.row (λ (row : StepRow). refuse (not (fits row.step.state)) WrongState) s.found passed)
 
 -- the steps go in turn, when they are split
 pub turns_split : (R : Register) (c : Id) (rows : List StepRow) → IsGoodByPhase R → steps_of R.steps c ≡ rows → IsInPlace R.net (record (outlook_of R c) { steps = rows })
 turns_split R c rows good is = subst (λ (steps : List StepRow). IsInPlace R.net (record (outlook_of R c) { steps = steps })) is (good.in_place c)
 
 repeat_keeps : (R : Register) (by : List ℕ) (at : ℕ) (c : Id) (r : Record) (row : StepRow) → IsGoodByPhase R → record_of R.records c ≡ Some r → is_running r.phase ≡ true
-    → IsPresent R c row → is_active row.step.state ≡ true → IsGoodByPhase (edited_all (PutRecord (record r { last = at }) ∷ PutStep (moved_step Repeated (Some by) row) ∷ []) R)
-unfolding edited_all
+    → IsPresent R c row → is_active row.step.state ≡ true → IsGoodByPhase (after_edits (PutRecord (record r { last = at }) ∷ PutStep (step_moved Repeated (Some by) row) ∷ []) R)
+unfolding after_edits
 repeat_keeps R by at c r row good found runs p active =
-    keeps R edits c good (moved R good c r (record r { last = at }) found (record_id R.records c r found) refl (edited_all edits R) refl
-    (quiet R (edited_all edits R) c (record r { last = at }) good (record {
+    keeps R edits c good (put_changes R good c r (record r { last = at }) found (record_id R.records c r found) refl (after_edits edits R) refl
+    (quiet R (after_edits edits R) c (record r { last = at }) good (record {
       same_states = refl;
       point_holds = λ d kind p at_point has. has;
       other_holds = λ d differs kind place. refl;
@@ -53,7 +53,7 @@ repeat_keeps R by at c r row good found runs p active =
     }))))
   where
     new : StepRow
-    new = moved_step Repeated (Some by) row
+    new = step_moved Repeated (Some by) row
 
     edits : List Edit
     edits = PutRecord (record r { last = at }) ∷ PutStep new ∷ []
@@ -68,5 +68,5 @@ pub repeats_keep : (c : Id) (n : ℕ) (text : List ℕ) → KeepsGood (Repeat c 
 repeats_keep c n text = commands_keep (Repeat c n text) (λ R by at good passed.
     let (r, found) = record_there R c passed.1.1.0 in
     let s = step_there R c n passed.1.1.1.1.1.0 in
-    found_step_edits R c n r s.row (λ r row. PutRecord (record r { last = at }) ∷ PutStep (moved_step Repeated (Some by) row) ∷ []) found s.found
+    found_step_edits R c n r s.row (λ r row. PutRecord (record r { last = at }) ∷ PutStep (step_moved Repeated (Some by) row) ∷ []) found s.found
     (repeat_keeps R by at c r s.row good found (phase_fits R c r is_running found passed.1.1.1.1.0) s.is_present (state_fits R c n s is_active passed.1.1.1.1.1.1.0)))

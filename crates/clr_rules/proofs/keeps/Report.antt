@@ -10,17 +10,17 @@ use Rattle.clr_order.specs.declared.action.Action.{Action}
 use Rattle.clr_order.specs.declared.step.StepState.TheVariants.{Waiting, Done}
 use Rattle.clr_order.specs.declared.action.Action.TheVariants as actions
 use Rattle.clr_shelf.specs.Rows.{with_row, without_row}
-use Rattle.clr_rules.specs.Changes.{done_edits, hold_edits, moved as moved_step, phase_after, position_edits, undone_edits}
+use Rattle.clr_rules.specs.Changes.{done_edits, hold_edits, step_moved, phase_after, position_edits, undone_edits}
 use Rattle.clr_rules.specs.Prelude.{Edit, SetHand, PutRecord, PutStep, Hold, HoldKind, HeldOpen, Block, Control, Tag, Phase, Ordered, Restoring, Switching, Closed, PointState, Record, StepRow, Id, Register}
-use Rattle.clr_rules.specs.Prelude.{hand_of, has_in_hand, position_of, record_of, is_running, all_done, is_active, is_done, is_some_step, present, steps_in, steps_of, hold_cmp, is_point_kind, has_hold, hold_key, hold_of, same_kind}
-use Rattle.clr_rules.specs.Prelude.{edited_all}
+use Rattle.clr_rules.specs.Prelude.{hand_of, has_in_hand, position_of, record_of, is_running, all_done, is_active, is_done, is_some_step, present_steps, steps_in, steps_of, hold_cmp, is_point_kind, has_hold, hold_key, hold_of, same_kind}
+use Rattle.clr_rules.specs.Prelude.{after_edits}
 use Rattle.clr_rules.specs.Good.{puts}
 use Rattle.clr_rules.specs.GoodByPhase.{InOrdered, InPhase, InRestoring, InSwitching, IsGoodByPhase, Outlook, of_round, present_of}
 use Rattle.clr_rules.specs.Records.{ends_with_steps, is_switch_order, lacks_work}
 use Rattle.clr_rules.specs.Steps.{is_close, is_repeated}
 use Rattle.clr_rules.specs.declared.command.Kind.TheVariants.{Report}
 use Rattle.clr_rules.proofs.good.Keeping.{KeepsGood, commands_keep}
-use Rattle.clr_rules.proofs.lists.StateFacts.{handed, placed}
+use Rattle.clr_rules.proofs.lists.StateFacts.{with_hand, with_position}
 use Rattle.clr_rules.proofs.lists.HoldChanges.{is_there, own_put, own_taken}
 use Rattle.clr_rules.proofs.keeps.DoneMoves.{close_keeps, done_midst, done_put, in_own_hand, open_keeps, put_keeps, switch_open_keeps, take_keeps}
 use Rattle.clr_rules.proofs.keeps.DonePhases.{closed_done, none_taken, ordered_done, restored, restoring_done, switching_done, undone_here, undone_kind}
@@ -43,12 +43,12 @@ use Rattle.clr_rules.proofs.lists.StepSplits.{All-before, repeated_is_active}
 abbrev edits_as : ℕ → Record → StepRow → Id → Action → Bool → Phase → List Edit
 edits_as at r row d action switching phase =
     position_edits action row.step.point ++ SetHand row.step.point None ∷ hold_edits switching d action row.step.point
-    ++ PutRecord (record r { phase = phase; last = at }) ∷ PutStep (moved_step Done row.step.reader row) ∷ []
+    ++ PutRecord (record r { phase = phase; last = at }) ∷ PutStep (step_moved Done row.step.reader row) ∷ []
 
 module _ (R : Register) (good : IsGoodByPhase R) (c : Id) (r : Record) (found : record_of R.records c ≡ Some r) (row : StepRow) (p : IsPresent R c row)
     (active : is_active row.step.state ≡ true) (at : ℕ) (ph : Phase) where
   abbrev done : StepRow
-  done = moved_step Done row.step.reader row
+  done = step_moved Done row.step.reader row
 
   abbrev next : Record
   next = record r { phase = ph; last = at }
@@ -97,7 +97,7 @@ module _ (R : Register) (good : IsGoodByPhase R) (c : Id) (r : Record) (found : 
     stands_open : (of : HoldKind) → is_point_kind of ≡ true → same_kind of HeldOpen ≡ false → same_kind of of ≡ true → ((kind : HoldKind) → puts row.step.action kind ≡ same_kind of kind)
         → position_of R.states row.step.point ≡ Some Opened
     stands_open of at_point other itself puts_it =
-        let states = handed R.states row.step.point None in
+        let states = with_hand R.states row.step.point None in
         let w = then states (with_row hold_cmp hold_key (hold_of c of row.step.point) R.holds) in
         let facts = hold_facts R.net Ordered (Some work) w
         (turns_again before after row done row.round (done_midst R good c r found row p active next own refl) refl
@@ -109,21 +109,21 @@ module _ (R : Register) (good : IsGoodByPhase R) (c : Id) (r : Record) (found : 
         good.held_open c HeldOpen row.step.point refl
         (sym (own_put c of row.step.point R.holds HeldOpen row.step.point ∙ rw other refl) ∙ held)
 
-    ordered_keeps : ph ≡ Ordered → (a : Action) → row.step.action ≡ a → is_isolating a ≡ true → IsGoodByPhase (edited_all (edits_as at r row c a false ph) R)
+    ordered_keeps : ph ≡ Ordered → (a : Action) → row.step.action ≡ a → is_isolating a ≡ true → IsGoodByPhase (after_edits (edits_as at r row c a false ph) R)
     ordered_keeps is actions.Open e puts_one = open_keeps R good c r found row p active next own refl
-        (ordered_is is _ (put_ordered HeldOpen refl (λ kind. ap (λ a. puts a kind) e ∙ puts_kind actions.Open refl kind) (handed (placed R.states row.step.point Opened) row.step.point None)))
+        (ordered_is is _ (put_ordered HeldOpen refl (λ kind. ap (λ a. puts a kind) e ∙ puts_kind actions.Open refl kind) (with_hand (with_position R.states row.step.point Opened) row.step.point None)))
     ordered_keeps is actions.Block e puts_one =
         let puts_it = λ (kind : HoldKind). ap (λ a. puts a kind) e ∙ puts_kind actions.Block refl kind in
         put_keeps R good c r found row p active next own refl Block (stands_open Block refl refl refl puts_it)
-        (ordered_is is _ (put_ordered Block refl puts_it (handed R.states row.step.point None)))
+        (ordered_is is _ (put_ordered Block refl puts_it (with_hand R.states row.step.point None)))
     ordered_keeps is actions.Control e puts_one =
         let puts_it = λ (kind : HoldKind). ap (λ a. puts a kind) e ∙ puts_kind actions.Control refl kind in
         put_keeps R good c r found row p active next own refl Control (stands_open Control refl refl refl puts_it)
-        (ordered_is is _ (put_ordered Control refl puts_it (handed R.states row.step.point None)))
+        (ordered_is is _ (put_ordered Control refl puts_it (with_hand R.states row.step.point None)))
     ordered_keeps is actions.Tag e puts_one =
         let puts_it = λ (kind : HoldKind). ap (λ a. puts a kind) e ∙ puts_kind actions.Tag refl kind in
         put_keeps R good c r found row p active next own refl Tag (stands_open Tag refl refl refl puts_it)
-        (ordered_is is _ (put_ordered Tag refl puts_it (handed R.states row.step.point None)))
+        (ordered_is is _ (put_ordered Tag refl puts_it (with_hand R.states row.step.point None)))
     ordered_keeps is actions.Untag e puts_one = absurd (false≢true puts_one)
     ordered_keeps is actions.Uncontrol e puts_one = absurd (false≢true puts_one)
     ordered_keeps is actions.Unblock e puts_one = absurd (false≢true puts_one)
@@ -176,24 +176,24 @@ module _ (R : Register) (good : IsGoodByPhase R) (c : Id) (r : Record) (found : 
         ∙ ap (λ k. not (is_there k row.step.point kind place) && has_hold R.holds c kind place) (sym (ap undone_kind e ∙ is))
 
     restoring_keeps : (switching : Bool) → ph ≡ cond (all_done (of_round (before ++ done ∷ after) 2)) Closed Restoring → (a : Action) → row.step.action ≡ a
-        → (t o b d : Bool) (rest : List Action) → undoes t o b d (a ∷ rest) ≡ true → IsGoodByPhase (edited_all (edits_as at r row c a switching ph) R)
+        → (t o b d : Bool) (rest : List Action) → undoes t o b d (a ∷ rest) ≡ true → IsGoodByPhase (after_edits (edits_as at r row c a switching ph) R)
     restoring_keeps switching is actions.Untag e t o b d rest u = take_keeps R good c r found row p active next own refl Tag
-        (restoring_is is (handed R.states row.step.point None) _ (taking actions.Untag Tag e refl))
+        (restoring_is is (with_hand R.states row.step.point None) _ (taking actions.Untag Tag e refl))
     restoring_keeps switching is actions.Uncontrol e t o b d rest u = take_keeps R good c r found row p active next own refl Control
-        (restoring_is is (handed R.states row.step.point None) _ (taking actions.Uncontrol Control e refl))
+        (restoring_is is (with_hand R.states row.step.point None) _ (taking actions.Uncontrol Control e refl))
     restoring_keeps switching is actions.Unblock e t o b d rest u = take_keeps R good c r found row p active next own refl Block
-        (restoring_is is (handed R.states row.step.point None) _ (taking actions.Unblock Block e refl))
+        (restoring_is is (with_hand R.states row.step.point None) _ (taking actions.Unblock Block e refl))
     restoring_keeps switching is actions.Leave e t o b d rest u = take_keeps R good c r found row p active next own refl HeldOpen
-        (restoring_is is (handed R.states row.step.point None) _ (taking actions.Leave HeldOpen e refl))
+        (restoring_is is (with_hand R.states row.step.point None) _ (taking actions.Leave HeldOpen e refl))
     restoring_keeps switching is actions.Close e t o b d rest u = close_keeps R good c r found row p active next own refl (ap is_close e)
-        (restoring_is is (handed (placed R.states row.step.point Shut) row.step.point None) _ (taking actions.Close HeldOpen e refl))
+        (restoring_is is (with_hand (with_position R.states row.step.point Shut) row.step.point None) _ (taking actions.Close HeldOpen e refl))
     restoring_keeps switching is actions.Open e t o b d rest u = absurd (false≢true u)
     restoring_keeps switching is actions.Block e t o b d rest u = absurd (false≢true u)
     restoring_keeps switching is actions.Control e t o b d rest u = absurd (false≢true u)
     restoring_keeps switching is actions.Tag e t o b d rest u = absurd (false≢true u)
 
     -- all steps of the second round are those of the present one
-    present_is : present (put_step done R.steps) c ≡ of_round (before ++ done ∷ after) 2
+    present_is : present_steps (put_step done R.steps) c ≡ of_round (before ++ done ∷ after) 2
     present_is =
         let second : steps_in (put_step done R.steps) c 2 ≡ of_round (before ++ done ∷ after) 2 =
         sym (of_round_is (put_step done R.steps) c 2) ∙ ap (λ (rows : List StepRow). of_round rows 2) (done_put R good c r found row p active next own refl).is in
@@ -216,11 +216,11 @@ module _ (R : Register) (good : IsGoodByPhase R) (c : Id) (r : Record) (found : 
             (record_of R.records c) (Some next) (has_hold R.holds c) (has_hold holds c) (has_in_hand R.states c) (has_in_hand states c) none h)
 
     switching_keeps : (b : Bool) → ph ≡ cond b Closed Switching → (a : Action) → row.step.action ≡ a → is_switching a ≡ true
-        → IsGoodByPhase (edited_all (edits_as at r row c a true ph) R)
+        → IsGoodByPhase (after_edits (edits_as at r row c a true ph) R)
     switching_keeps b is actions.Open e switches = switch_open_keeps R good c r found row p active next own refl
-        (switching_is b is (handed (placed R.states row.step.point Opened) row.step.point None) R.holds h.no_hold)
+        (switching_is b is (with_hand (with_position R.states row.step.point Opened) row.step.point None) R.holds h.no_hold)
     switching_keeps b is actions.Close e switches = close_keeps R good c r found row p active next own refl (ap is_close e)
-        (switching_is b is (handed (placed R.states row.step.point Shut) row.step.point None) _
+        (switching_is b is (with_hand (with_position R.states row.step.point Shut) row.step.point None) _
         (λ kind place. own_taken c HeldOpen row.step.point R.holds kind place ∙ none_taken (is_there HeldOpen row.step.point kind place) (has_hold R.holds c kind place) (h.no_hold kind place)))
     switching_keeps b is actions.Block e switches = absurd (false≢true switches)
     switching_keeps b is actions.Control e switches = absurd (false≢true switches)
@@ -233,43 +233,43 @@ module _ (R : Register) (good : IsGoodByPhase R) (c : Id) (r : Record) (found : 
 -- ---- reports
 
 done_report : (R : Register) → IsGoodByPhase R → (c : Id) (r : Record) → record_of R.records c ≡ Some r → (row : StepRow) → IsPresent R c row → is_active row.step.state ≡ true
-    → is_running r.phase ≡ true → (at : ℕ) → IsGoodByPhase (edited_all (done_edits R at r row) R)
+    → is_running r.phase ≡ true → (at : ℕ) → IsGoodByPhase (after_edits (done_edits R at r row) R)
 done_report R good c r found row p active runs at = by_phase r.phase r.work refl refl runs
   where
     now : StepRow
-    now = moved_step Done row.step.reader row
+    now = step_moved Done row.step.reader row
 
     id_is : r.id ≡ c
     id_is = record_id R.records c r found
 
     -- the edits, from their parts
-    settle : (ph : Phase) → phase_after R.steps r (moved_step Done row.step.reader row) ≡ ph → (switching : Bool) → is_switch_order r ≡ switching
-        → IsGoodByPhase (edited_all (edits_as at r row c row.step.action switching ph) R) → IsGoodByPhase (edited_all (done_edits R at r row) R)
+    settle : (ph : Phase) → phase_after R.steps r (step_moved Done row.step.reader row) ≡ ph → (switching : Bool) → is_switch_order r ≡ switching
+        → IsGoodByPhase (after_edits (edits_as at r row c row.step.action switching ph) R) → IsGoodByPhase (after_edits (done_edits R at r row) R)
     settle ph ends switching switches h =
-        subst (λ (edits : List Edit). IsGoodByPhase (edited_all edits R)) (λ i. edits_as at r row (sym id_is i) row.step.action (sym switches i) (sym ends i)) h
+        subst (λ (edits : List Edit). IsGoodByPhase (after_edits edits R)) (λ i. edits_as at r row (sym id_is i) row.step.action (sym switches i) (sym ends i)) h
 
-    by_phase : (phase : Phase) (work : Option (List ℕ)) → r.phase ≡ phase → r.work ≡ work → is_running phase ≡ true → IsGoodByPhase (edited_all (done_edits R at r row) R)
+    by_phase : (phase : Phase) (work : Option (List ℕ)) → r.phase ≡ phase → r.work ≡ work → is_running phase ≡ true → IsGoodByPhase (after_edits (done_edits R at r row) R)
     by_phase Ordered (Some work) is has_work running =
         let h : InOrdered R.net work (split R good c r found row p active at Ordered) = phase_at R good c r found row p active at Ordered Ordered (Some work) is has_work in
         settle Ordered (rw is refl) false (ap lacks_work has_work)
         (ordered_keeps R good c r found row p active at Ordered work has_work h refl row.step.action refl (isolates_here R good c r found row p active at Ordered work has_work h))
     by_phase Restoring (Some work) is has_work running =
-        let ph = phase_after R.steps r (moved_step Done row.step.reader row) in
+        let ph = phase_after R.steps r (step_moved Done row.step.reader row) in
         let h : InRestoring R.net work (split R good c r found row p active at ph) = phase_at R good c r found row p active at ph Restoring (Some work) is has_work in
         let (rest, u) = undoes_here R good c r found row p active at ph work has_work h in
         settle ph refl (is_switch_order r) refl
         (restoring_keeps R good c r found row p active at ph work has_work h (is_switch_order r)
-        ((λ i. cond (ends_with_steps (is i) && all_done (present (put_step (moved_step Done row.step.reader row) R.steps) (id_is i))) Closed (is i))
+        ((λ i. cond (ends_with_steps (is i) && all_done (present_steps (put_step (step_moved Done row.step.reader row) R.steps) (id_is i))) Closed (is i))
         ∙ ap (λ rows. cond (all_done rows) Closed Restoring) (present_is R good c r found row p active at ph work has_work h))
         row.step.action refl (has_hold R.holds c Tag row.step.point) (has_hold R.holds c Control row.step.point) (has_hold R.holds c Block row.step.point)
         (has_hold R.holds c HeldOpen row.step.point) rest u)
     by_phase Switching None is has_none running =
-        let ph = phase_after R.steps r (moved_step Done row.step.reader row) in
+        let ph = phase_after R.steps r (step_moved Done row.step.reader row) in
         let h : InSwitching (split R good c r found row p active at ph) = phase_at R good c r found row p active at ph Switching None is has_none in
         let all = All-before (λ (row : StepRow). is_switching row.step.action ≡ true) (before R good c r found row p active at ph) (row ∷ after R good c r found row p active at ph) h.only_switching in
         settle ph refl true (ap lacks_work has_none)
-        (switching_keeps R good c r found row p active at ph has_none h (all_done (present (put_step (moved_step Done row.step.reader row) R.steps) r.id))
-        (λ i. cond (ends_with_steps (is i) && all_done (present (put_step (moved_step Done row.step.reader row) R.steps) r.id)) Closed (is i))
+        (switching_keeps R good c r found row p active at ph has_none h (all_done (present_steps (put_step (step_moved Done row.step.reader row) R.steps) r.id))
+        (λ i. cond (ends_with_steps (is i) && all_done (present_steps (put_step (step_moved Done row.step.reader row) R.steps) r.id)) Closed (is i))
         row.step.action refl (All-head (λ (row : StepRow). is_switching row.step.action ≡ true) row (after R good c r found row p active at ph) all.1))
     by_phase Ordered None is none running = absurd (phase_at R good c r found row p active at Ordered Ordered None is none)
     by_phase Restoring None is none running = absurd (phase_at R good c r found row p active at Ordered Restoring None is none)
@@ -277,9 +277,9 @@ done_report R good c r found row p active runs at = by_phase r.phase r.work refl
     by_phase _ work is has_work running = absurd (false≢true running)
 
 undone_report : (R : Register) → IsGoodByPhase R → (c : Id) (r : Record) → record_of R.records c ≡ Some r → (row : StepRow) → IsPresent R c row → is_active row.step.state ≡ true
-    → is_running r.phase ≡ true → (at : ℕ) → IsGoodByPhase (edited_all (undone_edits at r row) R)
+    → is_running r.phase ≡ true → (at : ℕ) → IsGoodByPhase (after_edits (undone_edits at r row) R)
 undone_report R good c r found row p active runs at =
-    handed_keeps R good c r found runs row (moved_step Waiting None row) p refl refl (active_moves row.step.state active).1 refl
+    handed_keeps R good c r found runs row (step_moved Waiting None row) p refl refl (active_moves row.step.state active).1 refl
     (λ q. active_midst R good c r found row p q.before q.after q.was active) at None
     (λ d differs. (refl, one_hand (hand_of R.states row.step.point) c d (in_own_hand R good c r found row p active r (record_id R.records c r found) refl) differs))
     refl (λ given. absurd (false≢true given))
@@ -294,6 +294,6 @@ reports_keep c n done = commands_keep (Report c n done) (λ R by at good passed.
     (by_report R good c r found s.row s.is_present active runs at done))
   where
     by_report : (R : Register) → IsGoodByPhase R → (c : Id) (r : Record) → record_of R.records c ≡ Some r → (row : StepRow) → IsPresent R c row → is_active row.step.state ≡ true
-        → is_running r.phase ≡ true → (at : ℕ) (done : Bool) → IsGoodByPhase (edited_all (cond done (done_edits R at r row) (undone_edits at r row)) R)
+        → is_running r.phase ≡ true → (at : ℕ) (done : Bool) → IsGoodByPhase (after_edits (cond done (done_edits R at r row) (undone_edits at r row)) R)
     by_report R good c r found row p active runs at true = done_report R good c r found row p active runs at
     by_report R good c r found row p active runs at false = undone_report R good c r found row p active runs at

@@ -9,7 +9,7 @@ use Rattle.clr_csv.specs.declared.employee.Role.TheVariants.{Operator}
 use Rattle.clr_csv.specs.declared.employee.StaffRow.{StaffRow}
 use Rattle.clr_rules.specs.Changes.{new_record}
 use Rattle.clr_rules.specs.Checks.{employee, has_role, is_charge, is_operator, refuse, unknown_caller, wrong_role}
-use Rattle.clr_rules.specs.Prelude.{PutRecord, Requested, Record, Id, Register, greatest_number, record_of, edited_all}
+use Rattle.clr_rules.specs.Prelude.{PutRecord, Requested, Record, Id, Register, greatest_number, record_of, after_edits}
 use Rattle.clr_rules.specs.GoodByPhase.{InPlaceAs, IsBare, IsGoodByPhase, outlook_of}
 use Rattle.clr_rules.specs.Good.{is_operators}
 use Rattle.clr_rules.specs.declared.command.Kind.TheVariants.{Request}
@@ -43,13 +43,13 @@ bare_before R c good none = subst (λ (o : Option Record). InPlaceAs R.net o (ou
 
 request_keeps : (R : Register) (by : List ℕ) (at : ℕ) (section : List ℕ) → IsGoodByPhase R
     → has_name (section_names (Grid.sections R.net)) section ≡ true → is_operators R by ≡ false
-    → IsGoodByPhase (edited_all (PutRecord (new_record (greatest_number R.records by) by at (Some section) Requested) ∷ []) R)
-unfolding edited_all
+    → IsGoodByPhase (after_edits (PutRecord (new_record (greatest_number R.records by) by at (Some section) Requested) ∷ []) R)
+unfolding after_edits
 request_keeps R by at section good known not_operator =
     let new = new_record (greatest_number R.records by) by at (Some section) Requested in
     let bare = bare_before R new.id good (next_is_free R good by new refl) in
-    keeps R (PutRecord new ∷ []) new.id good (changed_by R good new.id new refl (edited_all (PutRecord new ∷ []) R) refl
-    (quiet R (edited_all (PutRecord new ∷ []) R) new.id new good (record {
+    keeps R (PutRecord new ∷ []) new.id good (changed_by R good new.id new refl (after_edits (PutRecord new ∷ []) R) refl
+    (quiet R (after_edits (PutRecord new ∷ []) R) new.id new good (record {
       same_states = refl;
       point_holds = λ d kind p at_point has. has;
       other_holds = λ d differs kind place. refl;

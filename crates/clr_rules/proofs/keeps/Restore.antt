@@ -19,8 +19,8 @@ use Rattle.clr_order.proofs.Undoing.{rule_undoes}
 use Rattle.clr_rules.specs.Changes.{new_steps, put_steps}
 use Rattle.clr_rules.specs.Checks.{wrong_restoring}
 use Rattle.clr_rules.specs.Prelude.{PutRecord, Hold, HoldKind, HeldOpen, Block, Control, Tag, Phase, Released, Restoring, Record, StepRow, Id, Register, record_of, is_active, is_some_step}
-use Rattle.clr_rules.specs.Prelude.{points_of, steps_in, steps_of, tasks_of, is_point_kind, has_hold, held_at, once, edited_all}
-use Rattle.clr_rules.specs.Good.{left}
+use Rattle.clr_rules.specs.Prelude.{points_of, steps_in, steps_of, tasks_of, is_point_kind, has_hold, held_at, first_of_each, after_edits}
+use Rattle.clr_rules.specs.Good.{steps_left_of}
 use Rattle.clr_rules.specs.GoodByPhase.{InPhase, InReleased, InRestoring, IsGoodByPhase, Outlook, of_round, outlook_of}
 use Rattle.clr_rules.specs.Holds.{held_among}
 use Rattle.clr_rules.specs.Records.{is_released}
@@ -35,7 +35,7 @@ use Rattle.clr_rules.proofs.edits.NewRounds.{IsReady, new_tasks, new_wait, none_
 use Rattle.clr_rules.proofs.edits.PassedOrders.{by_name, by_test, no_refusal}
 use Rattle.clr_rules.proofs.edits.Passing.{phase_fits, record_there}
 use Rattle.clr_rules.proofs.good.PutHolds.{put_at_points, put_beside_open}
-use Rattle.clr_rules.proofs.edits.PutRecords.{moved, outlook_with}
+use Rattle.clr_rules.proofs.edits.PutRecords.{put_changes, outlook_with}
 use Rattle.clr_rules.proofs.lists.RoundSteps.{All-from_each, All-in_round, filter-none_passes, of_round_is, record_id, some_step_there}
 use Rattle.clr_rules.proofs.lists.StepSplits.{left_waiting}
 
@@ -61,17 +61,17 @@ module _ (holds : List Hold) (c : Id) where
   held_named : (points : List (List ℕ)) (p : List ℕ) → has_name (held_points (held_among holds c points)) p ≡ (has_hold holds c HeldOpen p && has_name points p)
   unfolding held_among
   held_named points p =
-      ap (λ (names : List (List ℕ)). has_name names p) (held_names (filter (has_hold holds c HeldOpen) (once points)))
-      ∙ has_name-filter (has_hold holds c HeldOpen) (once points) p
+      ap (λ (names : List (List ℕ)). has_name names p) (held_names (filter (has_hold holds c HeldOpen) (first_of_each points)))
+      ∙ has_name-filter (has_hold holds c HeldOpen) (first_of_each points) p
       ∙ ap (λ b. has_hold holds c HeldOpen p && b) (has_name-once points p)
 
   held_among_them : (points : List (List ℕ)) (p : List ℕ) → has_hold holds c HeldOpen p ≡ true → has_name points p ≡ true → Contains (held_among holds c points) (held_at holds c p)
   unfolding held_among
   held_among_them points p held there =
-      there_mapped (held_at holds c) (filter (has_hold holds c HeldOpen) (once points)) p
-      ((name_says (filter (has_hold holds c HeldOpen) (once points)) p).0
-      (has_name-filter (has_hold holds c HeldOpen) (once points) p
-      ∙ and_from (has_hold holds c HeldOpen p) (has_name (once points) p) held (has_name-once points p ∙ there)))
+      there_mapped (held_at holds c) (filter (has_hold holds c HeldOpen) (first_of_each points)) p
+      ((name_says (filter (has_hold holds c HeldOpen) (first_of_each points)) p).0
+      (has_name-filter (has_hold holds c HeldOpen) (first_of_each points) p
+      ∙ and_from (has_hold holds c HeldOpen p) (has_name (first_of_each points) p) held (has_name-once points p ∙ there)))
 
 -- of steps none of which is given out each rests
 pub each_rests : (steps : List StepRow) → some_active steps ≡ false → All (λ row. is_active row.step.state ≡ false) steps
@@ -146,15 +146,15 @@ module _ (R : Register) (r : Record) (at : ℕ) (tasks : List Task) (good : IsGo
     known = All-from_each (λ (t : Task). has_name (point_names (Grid.points R.net)) t.point ≡ true) tasks each_known;
   }
 
-  tasks_left : tasks_of (left (of_round (steps_of (put_all (new_steps r.id 2 1 tasks) R.steps) r.id) 2)) ≡ tasks
+  tasks_left : tasks_of (steps_left_of (of_round (steps_of (put_all (new_steps r.id 2 1 tasks) R.steps) r.id) 2)) ≡ tasks
   tasks_left =
-      ap (λ (rows : List StepRow). tasks_of (left rows)) (round_is R good new 2 tasks ready)
+      ap (λ (rows : List StepRow). tasks_of (steps_left_of rows)) (round_is R good new 2 tasks ready)
       ∙ ap tasks_of (left_waiting (new_steps r.id 2 1 tasks) (new_wait r.id 2 1 tasks))
       ∙ new_tasks r.id 2 1 tasks
 
   restoring : InRestoring R.net work (outlook_with (with_round R new 2 tasks) r.id new)
   restoring = record {
-    isolates = subst (λ (rows : List StepRow). IsSoundOrder R.net work (once (points_of rows)) (tasks_of rows)) (sym (others_are R good new 2 tasks ready 1 refl)) h.isolates;
+    isolates = subst (λ (rows : List StepRow). IsSoundOrder R.net work (first_of_each (points_of rows)) (tasks_of rows)) (sym (others_are R good new 2 tasks ready 1 refl)) h.isolates;
     second_round = ap is_some_step (round_is R good new 2 tasks ready) ∙ some_new r.id 2 1 tasks restores.some_step;
     given_out = none_in_round R good new 2 tasks ready 2;
     at_points = λ p held. subst (λ (rows : List StepRow). has_name (points_of rows) p ≡ true) (sym (others_are R good new 2 tasks ready 1 refl)) (at_points p held);
@@ -165,10 +165,10 @@ module _ (R : Register) (r : Record) (at : ℕ) (tasks : List Task) (good : IsGo
     no_work = h.no_work;
   }
 
-  restore_keeps : record_of R.records r.id ≡ Some r → r.work ≡ Some work → IsGoodByPhase (edited_all (PutRecord new ∷ put_steps (new_steps r.id 2 1 tasks)) R)
+  restore_keeps : record_of R.records r.id ≡ Some r → r.work ≡ Some work → IsGoodByPhase (after_edits (PutRecord new ∷ put_steps (new_steps r.id 2 1 tasks)) R)
   restore_keeps found work_is = keeps R (PutRecord new ∷ put_steps (new_steps r.id 2 1 tasks)) r.id good
       (subst (λ (S : Register). Changed R S r.id) (sym (round_put R new 2 tasks))
-      (moved R good r.id r new found refl refl (with_round R new 2 tasks) refl (round_moved R good new 2 tasks ready
+      (put_changes R good r.id r new found refl refl (with_round R new 2 tasks) refl (round_moved R good new 2 tasks ready
       (subst (λ (o : Option (List ℕ)). InPhase R.net Restoring o (outlook_with (with_round R new 2 tasks) r.id new)) (sym work_is) restoring))))
 
 pub restores_keep : (c : Id) (tasks : List Task) → KeepsGood (Restore c tasks)
@@ -177,7 +177,7 @@ restores_keep c tasks = commands_keep (Restore c tasks) (λ R by at good passed.
     let own : r.id ≡ c = record_id R.records c r found in
     let (work, work_is, h) = released R.net r.phase r.work (outlook_of R c) (phase_fits R c r is_released found passed.1.1.1.1.0) (in_phase_of R c r good found) in
     found_edits R c r (λ r. PutRecord (record r { phase = Restoring; last = at }) ∷ put_steps (new_steps c 2 1 tasks)) found
-    (subst (λ (d : Id). IsGoodByPhase (edited_all (PutRecord (record r { phase = Restoring; last = at }) ∷ put_steps (new_steps d 2 1 tasks)) R)) own
+    (subst (λ (d : Id). IsGoodByPhase (after_edits (PutRecord (record r { phase = Restoring; last = at }) ∷ put_steps (new_steps d 2 1 tasks)) R)) own
     (restore_keeps R r at tasks good work (subst (λ (d : Id). InReleased R.net work (outlook_of R d)) (sym own) h)
     (subst (λ (d : Id). IsRestoring (held_among R.holds d (points_of (steps_in R.steps d 1))) tasks) (sym own) (restoring_passed R c tasks passed.1.1.1.1.1.0))
     (ap (record_of R.records) own ∙ found) work_is)))

@@ -10,7 +10,7 @@ use Rattle.clr_order.specs.declared.order_fault.OrderFault.TheVariants.{EmptyOrd
 use Rattle.clr_order.proofs.OtherOrders.{switching_from_no_fault}
 use Rattle.clr_rules.specs.Changes.{new_record, new_steps, put_steps}
 use Rattle.clr_rules.specs.Checks.{has_role, is_operator, wrong_switching}
-use Rattle.clr_rules.specs.Prelude.{PutRecord, Switching, Record, StepRow, Register, greatest_number, is_active, steps_of, edited_all}
+use Rattle.clr_rules.specs.Prelude.{PutRecord, Switching, Record, StepRow, Register, greatest_number, is_active, steps_of, after_edits}
 use Rattle.clr_rules.specs.Good.{is_operators}
 use Rattle.clr_rules.specs.GoodByPhase.{IsBare, IsGoodByPhase, of_round, outlook_of, present_of}
 use Rattle.clr_rules.specs.declared.command.Kind.TheVariants.{Switch}
@@ -59,7 +59,7 @@ module _ (R : Register) (by : List ℕ) (at : ℕ) (tasks : List Task) (good : I
         no_hold = bare.no_hold;
       })) refl (sym operator) (new_numbered R good by new refl)
 
-  switch_keeps : IsGoodByPhase (edited_all (PutRecord new ∷ put_steps (new_steps new.id 1 1 tasks)) R)
+  switch_keeps : IsGoodByPhase (after_edits (PutRecord new ∷ put_steps (new_steps new.id 1 1 tasks)) R)
   switch_keeps = keeps R (PutRecord new ∷ put_steps (new_steps new.id 1 1 tasks)) new.id good
       (subst (λ (S : Register). Changed R S new.id) (sym (round_put R new 1 tasks)) changed)
 

@@ -8,7 +8,7 @@ use Rattle.clr_net.proofs.Walks.{any_from}
 use Rattle.clr_shelf.specs.Rows.{with_row, without_row}
 use Rattle.clr_rules.specs.Checks.{at_work, refuse, where_some}
 use Rattle.clr_rules.specs.Prelude.{PutHold, TakeHold, PutRecord, Hold, HoldKind, Tested, Ground, Crew, Phase, Requested, Ordered, Granted, Released, Restoring, Switching, Closed, Record, Refusal, Id, id_cmp, same_id, Register}
-use Rattle.clr_rules.specs.Prelude.{has_in_hand, record_key, record_of, is_granted, steps_of, hold_cmp, is_point_kind, has_hold, has_some_hold, hold_key, hold_of, same_kind, edited_all}
+use Rattle.clr_rules.specs.Prelude.{has_in_hand, record_key, record_of, is_granted, steps_of, hold_cmp, is_point_kind, has_hold, has_some_hold, hold_key, hold_of, same_kind, after_edits}
 use Rattle.clr_rules.specs.Fences.{clearance_fence}
 use Rattle.clr_rules.specs.GoodByPhase.{InGranted, InPhase, IsGoodByPhase, inner_fence, outlook_of}
 use Rattle.clr_rules.specs.Id.{same_id_equiv}
@@ -19,7 +19,7 @@ use Rattle.clr_rules.proofs.lists.HoldChanges.{is_there, kind_itself, one_kind, 
 use Rattle.clr_rules.proofs.lists.HoldMembers.{hold_there}
 use Rattle.clr_rules.proofs.keeps.OneRecord.{found_edits, in_phase_of}
 use Rattle.clr_rules.proofs.edits.Passing.{check_of_found, not_refused, not_refused_true, phase_fits, record_there}
-use Rattle.clr_rules.proofs.edits.PutRecords.{moved, outlook_with, quiet}
+use Rattle.clr_rules.proofs.edits.PutRecords.{put_changes, outlook_with, quiet}
 use Rattle.clr_rules.proofs.lists.RoundSteps.{of_round_is, one_id, own_id, record_id}
 
 -- a hold of a kind that stands at no point is none at a point
@@ -94,7 +94,7 @@ module _ (R : Register) (good : IsGoodByPhase R) (c : Id) (r : Record) (found : 
   }
 
   work_changed : (holds : List Hold) → Fits holds → Changed R (work_register holds) c
-  work_changed holds fits = moved R good c r next found (record_id R.records c r found) refl (work_register holds) refl
+  work_changed holds fits = put_changes R good c r next found (record_id R.records c r found) refl (work_register holds) refl
       (quiet R (work_register holds) c next good (record {
         same_states = refl;
         point_holds = λ d kind q at_point has. point d kind q at_point has (same_id c d) refl;
@@ -127,8 +127,8 @@ module _ (R : Register) (good : IsGoodByPhase R) (c : Id) (r : Record) (found : 
   taken_points of place holds off_point kind q at_point = own_taken c of place holds kind q
       ∙ ap (λ b. not (b && same_name place q) && has_hold holds c kind q) (off_points of kind off_point at_point)
 
-  test_keeps : (section : List ℕ) → has_name (clearance_fence R c) section ≡ true → IsGoodByPhase (edited_all (PutHold (hold_of c Tested section) ∷ PutRecord next ∷ []) R)
-  unfolding edited_all
+  test_keeps : (section : List ℕ) → has_name (clearance_fence R c) section ≡ true → IsGoodByPhase (after_edits (PutHold (hold_of c Tested section) ∷ PutRecord next ∷ []) R)
+  unfolding after_edits
   test_keeps section fenced = keeps R (PutHold (hold_of c Tested section) ∷ PutRecord next ∷ []) c good
       (work_changed (with_row hold_cmp hold_key (hold_of c Tested section) R.holds) (record {
         others = others_hold_put c Tested section R.holds;
@@ -138,8 +138,8 @@ module _ (R : Register) (good : IsGoodByPhase R) (c : Id) (r : Record) (found : 
         crews = λ q has. own_put c Tested section R.holds Ground w.work ∙ w.granted.crews_grounded q (sym (own_put c Tested section R.holds Crew q) ∙ has);
       }))
 
-  not_dead_keeps : (section : List ℕ) → IsGoodByPhase (edited_all (TakeHold (hold_of c Tested section) ∷ PutRecord next ∷ []) R)
-  unfolding edited_all
+  not_dead_keeps : (section : List ℕ) → IsGoodByPhase (after_edits (TakeHold (hold_of c Tested section) ∷ PutRecord next ∷ []) R)
+  unfolding after_edits
   not_dead_keeps section = keeps R (TakeHold (hold_of c Tested section) ∷ PutRecord next ∷ []) c good
       (work_changed (without_row hold_cmp hold_key (hold_of c Tested section) R.holds) (record {
         others = others_hold_taken c Tested section R.holds;
@@ -149,8 +149,8 @@ module _ (R : Register) (good : IsGoodByPhase R) (c : Id) (r : Record) (found : 
         crews = λ q has. own_taken c Tested section R.holds Ground w.work ∙ w.granted.crews_grounded q (was_there c Tested section R.holds c Crew q has);
       }))
 
-  ground_keeps : (section : List ℕ) → has_name (clearance_fence R c) section ≡ true → IsGoodByPhase (edited_all (PutHold (hold_of c Ground section) ∷ PutRecord next ∷ []) R)
-  unfolding edited_all
+  ground_keeps : (section : List ℕ) → has_name (clearance_fence R c) section ≡ true → IsGoodByPhase (after_edits (PutHold (hold_of c Ground section) ∷ PutRecord next ∷ []) R)
+  unfolding after_edits
   ground_keeps section fenced = keeps R (PutHold (hold_of c Ground section) ∷ PutRecord next ∷ []) c good
       (work_changed (with_row hold_cmp hold_key (hold_of c Ground section) R.holds) (record {
         others = others_hold_put c Ground section R.holds;
@@ -163,8 +163,8 @@ module _ (R : Register) (good : IsGoodByPhase R) (c : Id) (r : Record) (found : 
 
   -- no crew is on, where the ground of the work section is taken
   unground_keeps : (section : List ℕ) → (same_name w.work section && has_some_hold R.holds c Crew) ≡ false
-      → IsGoodByPhase (edited_all (TakeHold (hold_of c Ground section) ∷ TakeHold (hold_of c Tested section) ∷ PutRecord next ∷ []) R)
-  unfolding edited_all
+      → IsGoodByPhase (after_edits (TakeHold (hold_of c Ground section) ∷ TakeHold (hold_of c Tested section) ∷ PutRecord next ∷ []) R)
+  unfolding after_edits
   unground_keeps section clear = keeps R (TakeHold (hold_of c Ground section) ∷ TakeHold (hold_of c Tested section) ∷ PutRecord next ∷ []) c good
       (work_changed (without_row hold_cmp hold_key (hold_of c Tested section) (without_row hold_cmp hold_key (hold_of c Ground section) R.holds)) (record {
         others = λ d differs kind q. others_hold_taken c Tested section (without_row hold_cmp hold_key (hold_of c Ground section) R.holds) d differs kind q
@@ -187,8 +187,8 @@ module _ (R : Register) (good : IsGoodByPhase R) (c : Id) (r : Record) (found : 
       elsewhere : has_some_hold R.holds c Crew ≡ true → same_name section w.work ≡ false
       elsewhere on = nat_list_eq_equiv.symm section w.work ∙ false_from_ne_true (same_name w.work section) (λ same. false≢true (sym clear ∙ and_from (same_name w.work section) (has_some_hold R.holds c Crew) same on))
 
-  sign_on_keeps : (crew : List ℕ) → has_hold R.holds c Ground w.work ≡ true → IsGoodByPhase (edited_all (PutHold (hold_of c Crew crew) ∷ PutRecord next ∷ []) R)
-  unfolding edited_all
+  sign_on_keeps : (crew : List ℕ) → has_hold R.holds c Ground w.work ≡ true → IsGoodByPhase (after_edits (PutHold (hold_of c Crew crew) ∷ PutRecord next ∷ []) R)
+  unfolding after_edits
   sign_on_keeps crew grounded = keeps R (PutHold (hold_of c Crew crew) ∷ PutRecord next ∷ []) c good
       (work_changed (with_row hold_cmp hold_key (hold_of c Crew crew) R.holds) (record {
         others = others_hold_put c Crew crew R.holds;
@@ -198,8 +198,8 @@ module _ (R : Register) (good : IsGoodByPhase R) (c : Id) (r : Record) (found : 
         crews = λ q has. own_put c Crew crew R.holds Ground w.work ∙ grounded;
       }))
 
-  sign_off_keeps : (crew : List ℕ) → IsGoodByPhase (edited_all (TakeHold (hold_of c Crew crew) ∷ PutRecord next ∷ []) R)
-  unfolding edited_all
+  sign_off_keeps : (crew : List ℕ) → IsGoodByPhase (after_edits (TakeHold (hold_of c Crew crew) ∷ PutRecord next ∷ []) R)
+  unfolding after_edits
   sign_off_keeps crew = keeps R (TakeHold (hold_of c Crew crew) ∷ PutRecord next ∷ []) c good
       (work_changed (without_row hold_cmp hold_key (hold_of c Crew crew) R.holds) (record {
         others = others_hold_taken c Crew crew R.holds;
@@ -221,7 +221,7 @@ tests_keep c section dead = commands_keep (Test c section dead) (λ R by at good
   where
     by_test : (R : Register) (good : IsGoodByPhase R) (c : Id) (r : Record) (found : record_of R.records c ≡ Some r) (w : GrantedWork R c r) (at : ℕ) (section : List ℕ)
         → has_name (clearance_fence R c) section ≡ true → (dead : Bool)
-        → IsGoodByPhase (edited_all (cond dead (PutHold (hold_of c Tested section)) (TakeHold (hold_of c Tested section)) ∷ PutRecord (record r { last = at }) ∷ []) R)
+        → IsGoodByPhase (after_edits (cond dead (PutHold (hold_of c Tested section)) (TakeHold (hold_of c Tested section)) ∷ PutRecord (record r { last = at }) ∷ []) R)
     by_test R good c r found w at section fenced true = test_keeps R good c r found w at section fenced
     by_test R good c r found w at section fenced false = not_dead_keeps R good c r found w at section
 

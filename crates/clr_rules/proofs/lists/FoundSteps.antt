@@ -7,7 +7,7 @@ use Rattle.clr_net.proofs.Walks.{any_from, same_itself}
 use Rattle.clr_net.specs.Name.{same_name}
 use Rattle.clr_shelf.proofs.Lists.{Contains-here, Contains-later}
 use Rattle.clr_rules.specs.Good.{is_active_at, is_closing_at}
-use Rattle.clr_rules.specs.Prelude.{StepRow, Id, same_id, is_active, is_some_step, present, step_at, steps_in, steps_of}
+use Rattle.clr_rules.specs.Prelude.{StepRow, Id, same_id, is_active, is_some_step, present_steps, step_at, steps_in, steps_of}
 use Rattle.clr_rules.specs.Steps.{is_close, is_of_round}
 use Rattle.clr_rules.proofs.lists.NamedRows.{Contains-filter}
 
@@ -37,7 +37,7 @@ step_of_round steps c round n row found =
     let (own, _) = and_parts (same_id c row.id) (row.round == round) inside in
     record { there = there; own = own; number = eqb-true row.ordinal n number }
 
-pub present_step : (steps : List StepRow) (c : Id) (n : ℕ) (row : StepRow) → step_at (present steps c) n ≡ Some row → IsStepOf steps c n row
+pub present_step : (steps : List StepRow) (c : Id) (n : ℕ) (row : StepRow) → step_at (present_steps steps c) n ≡ Some row → IsStepOf steps c n row
 present_step steps c n row found = at (is_some_step (steps_in steps c 2)) found
   where
     at : (b : Bool) → step_at (if b then steps_in steps c 2 else steps_in steps c 1) n ≡ Some row → IsStepOf steps c n row

@@ -17,56 +17,56 @@ use Rattle.clr_shelf.proofs.Reading.{row_of-with}
 use Rattle.clr_shelf.specs.Rows.{in_key_order, row_of, with_row}
 use Rattle.clr_rules.specs.Good.{has_record}
 use Rattle.clr_rules.specs.Id.{Id, id_cmp, id_cmp_total, same_id_from_tie}
-use Rattle.clr_rules.specs.Records.{greater, greatest_number, numbers_of, record_key}
+use Rattle.clr_rules.specs.Records.{greater_of, greatest_number, numbers_of, record_key}
 use Rattle.clr_rules.specs.declared.record.Record.{Record}
 use Rattle.clr_rules.proofs.lists.NewNumbers.{number_below_greatest}
 use Rattle.clr_rules.proofs.lists.Filters.{kept_there, mapped_from}
 
 -- of three numbers the greatest, in either order
-pub greater_swap : (a n m : ℕ) → greater (greater a n) m ≡ greater (greater a m) n
+pub greater_swap : (a n m : ℕ) → greater_of (greater_of a n) m ≡ greater_of (greater_of a m) n
 greater_swap a n m = grind (arith, nat_tests)
 
-pub greater_again : (a n : ℕ) → greater (greater a n) n ≡ greater a n
+pub greater_again : (a n : ℕ) → greater_of (greater_of a n) n ≡ greater_of a n
 greater_again a n = grind (arith, nat_tests)
 
 -- a number more, before or after the others
-fold_more : (xs : List ℕ) (a n : ℕ) → fold greater (greater a n) xs ≡ greater (fold greater a xs) n
+fold_more : (xs : List ℕ) (a n : ℕ) → fold greater_of (greater_of a n) xs ≡ greater_of (fold greater_of a xs) n
 fold_more [] a n = refl
-fold_more (x ∷ xs) a n = ap (λ b. fold greater b xs) (greater_swap a n x) ∙ fold_more xs (greater a x) n
+fold_more (x ∷ xs) a n = ap (λ b. fold greater_of b xs) (greater_swap a n x) ∙ fold_more xs (greater_of a x) n
 
 -- the greatest number of some rows
 abbrev greatest_in : ℕ → List Record → ℕ
-greatest_in a rows = fold greater a (map (λ r. r.id.number) rows)
+greatest_in a rows = fold greater_of a (map (λ r. r.id.number) rows)
 
 -- of rows in key order, after one is put
 greatest_put : (r : Record) (rows : List Record) (a : ℕ) → in_key_order id_cmp record_key rows ≡ true
-    → greatest_in a (with_row id_cmp record_key r rows) ≡ greater (greatest_in a rows) r.id.number
+    → greatest_in a (with_row id_cmp record_key r rows) ≡ greater_of (greatest_in a rows) r.id.number
 unfolding with_row
 greatest_put r [] a ordered = refl
 greatest_put r (first ∷ rest) a ordered = at (id_cmp first.id r.id) refl
-    (greatest_put r rest (greater a first.id.number) (in_key_order-rest id_cmp record_key id_cmp_total first rest ordered))
+    (greatest_put r rest (greater_of a first.id.number) (in_key_order-rest id_cmp record_key id_cmp_total first rest ordered))
   where
     at : (o : Ordering) → id_cmp first.id r.id ≡ o
-        → greatest_in (greater a first.id.number) (with_row id_cmp record_key r rest) ≡ greater (greatest_in (greater a first.id.number) rest) r.id.number
-        → greatest_in a (with_row id_cmp record_key r (first ∷ rest)) ≡ greater (greatest_in a (first ∷ rest)) r.id.number
+        → greatest_in (greater_of a first.id.number) (with_row id_cmp record_key r rest) ≡ greater_of (greatest_in (greater_of a first.id.number) rest) r.id.number
+        → greatest_in a (with_row id_cmp record_key r (first ∷ rest)) ≡ greater_of (greatest_in a (first ∷ rest)) r.id.number
     at Less is more = ap (greatest_in a) (with_row-after id_cmp record_key id_cmp_total r first rest is) ∙ more
     at Equal is more =
         let xs = map (λ (s : Record). s.id.number) rest in
         ap (greatest_in a) (with_row-over id_cmp record_key id_cmp_total r first rest ordered is)
         ∙ fold_more xs a r.id.number
-        ∙ sym (greater_again (fold greater a xs) r.id.number)
-        ∙ ap (λ k. greater k r.id.number) (sym (fold_more xs a r.id.number))
-        ∙ ap (λ (d : Id). greater (fold greater (greater a d.number) xs) r.id.number) (sym (same_id_from_tie first.id r.id is))
+        ∙ sym (greater_again (fold greater_of a xs) r.id.number)
+        ∙ ap (λ k. greater_of k r.id.number) (sym (fold_more xs a r.id.number))
+        ∙ ap (λ (d : Id). greater_of (fold greater_of (greater_of a d.number) xs) r.id.number) (sym (same_id_from_tie first.id r.id is))
     at Greater is more =
         let xs = map (λ (s : Record). s.id.number) rest in
         ap (greatest_in a) (with_row-before id_cmp record_key id_cmp_total r first rest ordered is)
-        ∙ ap (λ k. fold greater k xs) (greater_swap a r.id.number first.id.number)
-        ∙ fold_more xs (greater a first.id.number) r.id.number
+        ∙ ap (λ k. fold greater_of k xs) (greater_swap a r.id.number first.id.number)
+        ∙ fold_more xs (greater_of a first.id.number) r.id.number
 
 put_tested : (r : Record) (records : List Record) (requester : List ℕ) → in_key_order id_cmp record_key records ≡ true
     → (b : Bool) → same_name requester r.id.requester ≡ b
     → greatest_number (with_row id_cmp record_key r records) requester
-    ≡ cond b (greater (greatest_number records requester) r.id.number) (greatest_number records requester)
+    ≡ cond b (greater_of (greatest_number records requester) r.id.number) (greatest_number records requester)
 unfolding greatest_number
 put_tested r records requester ordered true is =
     let own = λ (s : Record). same_name requester s.id.requester in
@@ -80,7 +80,7 @@ put_tested r records requester ordered false is =
 -- the greatest number after a record is put: a record of the requester counts
 pub greatest-put : (r : Record) (records : List Record) (requester : List ℕ) → in_key_order id_cmp record_key records ≡ true
     → greatest_number (with_row id_cmp record_key r records) requester
-    ≡ cond (same_name requester r.id.requester) (greater (greatest_number records requester) r.id.number) (greatest_number records requester)
+    ≡ cond (same_name requester r.id.requester) (greater_of (greatest_number records requester) r.id.number) (greatest_number records requester)
 greatest-put r records requester ordered = put_tested r records requester ordered (same_name requester r.id.requester) refl
 
 -- the numbers as a question to the records' ids
@@ -102,7 +102,7 @@ pub greatest-put_over : (r : Record) (records : List Record) (requester : List �
 unfolding greatest_number
 greatest-put_over r records requester ordered there =
     let keys = keys-with_row id_cmp record_key id_cmp_total same_id_from_tie r records ordered there in
-    ap (fold greater 0) (numbers_by_ids requester (with_row id_cmp record_key r records)
+    ap (fold greater_of 0) (numbers_by_ids requester (with_row id_cmp record_key r records)
     ∙ ap (λ (ids : List Id). map (λ (d : Id). d.number) (filter (λ d. same_name requester d.requester) ids)) keys
     ∙ sym (numbers_by_ids requester records))
 
@@ -117,16 +117,16 @@ has_record-put c r records there = at (is_eq (id_cmp r.id c)) (row_of-with id_cm
 
 -- ---- what the greatest number is
 
-one_of_both : (a n : ℕ) (b : Bool) → nat_le a n ≡ b → (greater a n ≡ a) ⊎ (greater a n ≡ n)
+one_of_both : (a n : ℕ) (b : Bool) → nat_le a n ≡ b → (greater_of a n ≡ a) ⊎ (greater_of a n ≡ n)
 one_of_both a n true is = inr (rw is refl)
 one_of_both a n false is = inl (rw is refl)
 
-is_one_of : (xs : List ℕ) (a : ℕ) → (fold greater a xs ≡ a) ⊎ Contains xs (fold greater a xs)
+is_one_of : (xs : List ℕ) (a : ℕ) → (fold greater_of a xs ≡ a) ⊎ Contains xs (fold greater_of a xs)
 is_one_of [] a = inl refl
 is_one_of (x ∷ xs) a = ⊎_elim
     (λ start. ⊎_elim (λ is_a. inl (start ∙ is_a)) (λ is_x. inr (subst (λ (n : ℕ). Contains (x ∷ xs) n) (sym (start ∙ is_x)) (Contains-here x xs))) (one_of_both a x (nat_le a x) refl))
-    (λ later. inr (Contains-later x (fold greater a (x ∷ xs)) xs later))
-    (is_one_of xs (greater a x))
+    (λ later. inr (Contains-later x (fold greater_of a (x ∷ xs)) xs later))
+    (is_one_of xs (greater_of a x))
 
 pub greatest_is_greatest : (records : List Record) (requester : List ℕ)
     → All (λ r. requester ≡ r.id.requester → r.id.number ≤ greatest_number records requester) records

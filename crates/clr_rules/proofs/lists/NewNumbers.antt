@@ -10,7 +10,7 @@ use Rattle.clr_shelf.proofs.Members.{member-row_of}
 use Rattle.clr_rules.specs.Good.{has_record}
 use Rattle.clr_rules.specs.Prelude.{Record, Id, id_cmp, id_cmp_total, same_id, Register, greatest_number, record_key, record_of}
 use Rattle.clr_rules.specs.Isolation.{is_about_another}
-use Rattle.clr_rules.specs.Records.{greater, numbers_of}
+use Rattle.clr_rules.specs.Records.{greater_of, numbers_of}
 use Rattle.clr_rules.proofs.lists.RoundSteps.{record_id}
 
 -- a record that is there
@@ -20,35 +20,35 @@ some_record (Some r) h = (r, refl)
 
 -- ---- the greatest number of a requester is no less than any
 
-greater_both : (a b : ℕ) → (a ≤ greater a b) × (b ≤ greater a b)
+greater_both : (a b : ℕ) → (a ≤ greater_of a b) × (b ≤ greater_of a b)
 greater_both a b = at (nat_le a b) refl
   where
     at : (t : Bool) → nat_le a b ≡ t → (a ≤ (if t then b else a)) × (b ≤ (if t then b else a))
     at true is = let le = leb-true a b is in (omega arith, omega arith)
     at false is = let lt = leb-false a b is in (omega arith, omega arith)
 
-from_start : (xs : List ℕ) (a : ℕ) → a ≤ fold greater a xs
+from_start : (xs : List ℕ) (a : ℕ) → a ≤ fold greater_of a xs
 from_start [] a = omega arith
 from_start (x ∷ xs) a =
     let (first, _) = greater_both a x in
-    let rest = from_start xs (greater a x) in
+    let rest = from_start xs (greater_of a x) in
     omega arith
 
 numbered_below : (requester : List ℕ) (records : List Record) (a : ℕ) (r : Record) → Contains records r → same_name requester r.id.requester ≡ true
-    → r.id.number ≤ fold greater a (numbers_of records requester)
+    → r.id.number ≤ fold greater_of a (numbers_of records requester)
 numbered_below requester [] a r (k, within, is) named = absurd (omega arith)
 numbered_below requester (first ∷ records) a r there named =
     at (same_name requester first.id.requester) refl (Contains-cases first r records there) (λ b later. numbered_below requester records b r later named)
   where
     at : (b : Bool) → same_name requester first.id.requester ≡ b → (first ≡ r) ⊎ Contains records r
-        → ((b : ℕ) → Contains records r → r.id.number ≤ fold greater b (numbers_of records requester))
-        → r.id.number ≤ fold greater a (numbers_of (first ∷ records) requester)
+        → ((b : ℕ) → Contains records r → r.id.number ≤ fold greater_of b (numbers_of records requester))
+        → r.id.number ≤ fold greater_of a (numbers_of (first ∷ records) requester)
     at true is (inl here) more =
         let (_, above) = greater_both a first.id.number in
-        let rest = from_start (numbers_of records requester) (greater a first.id.number) in
+        let rest = from_start (numbers_of records requester) (greater_of a first.id.number) in
         let same : first.id.number ≡ r.id.number = ap (λ (r : Record). r.id.number) here in
         rw is (omega arith)
-    at true is (inr later) more = rw is (more (greater a first.id.number) later)
+    at true is (inr later) more = rw is (more (greater_of a first.id.number) later)
     at false is (inl here) more = absurd (cc (ap (λ (r : Record). same_name requester r.id.requester) here))
     at false is (inr later) more = rw is (more a later)
 

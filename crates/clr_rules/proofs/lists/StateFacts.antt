@@ -113,12 +113,12 @@ state_there None there = cc
 state_there (Some state) there = (state, refl)
 
 -- the states after a position is reported
-abbrev pub placed : List PointState → List ℕ → Position → List PointState
-placed states p position = change_state states p (λ state. record state { position = position })
+abbrev pub with_position : List PointState → List ℕ → Position → List PointState
+with_position states p position = change_state states p (λ state. record state { position = position })
 
 -- the states after a point is taken in hand, or let go
-abbrev pub handed : List PointState → List ℕ → Option Id → List PointState
-handed states p hand = change_state states p (λ state. record state { hand = hand })
+abbrev pub with_hand : List PointState → List ℕ → Option Id → List PointState
+with_hand states p hand = change_state states p (λ state. record state { hand = hand })
 
 module _ (states : List PointState) (p : List ℕ) where
   position_from : (found : Option PointState) (position : Position) → is_some found ≡ true
@@ -132,18 +132,18 @@ module _ (states : List PointState) (p : List ℕ) where
   hand_from (Some state) hand there = refl
 
   -- a position is read back
-  pub position_of-placed : (position : Position) → is_some (state_of states p) ≡ true → position_of (placed states p position) p ≡ Some position
+  pub position_of-placed : (position : Position) → is_some (state_of states p) ≡ true → position_of (with_position states p position) p ≡ Some position
   position_of-placed position there =
       ap (option_map (λ (state : PointState). state.position)) (state_of-changed (λ state. record state { position = position }) (λ state. refl) states p)
       ∙ position_from (state_of states p) position there
 
   -- those of other points stay
-  pub position_of-placed_other : (position : Position) (q : List ℕ) → same_name p q ≡ false → position_of (placed states p position) q ≡ position_of states q
+  pub position_of-placed_other : (position : Position) (q : List ℕ) → same_name p q ≡ false → position_of (with_position states p position) q ≡ position_of states q
   position_of-placed_other position q differs =
       ap (option_map (λ (state : PointState). state.position)) (state_of-other (λ state. record state { position = position }) (λ state. refl) states p q differs)
 
   -- and so do all hands
-  pub hand_of-placed : (position : Position) (q : List ℕ) → hand_of (placed states p position) q ≡ hand_of states q
+  pub hand_of-placed : (position : Position) (q : List ℕ) → hand_of (with_position states p position) q ≡ hand_of states q
   hand_of-placed position = untouched (λ state. record state { position = position }) (λ state. refl) states p hand_in same
     where
       same : (found : Option PointState) → hand_in (option_map (λ (state : PointState). record state { position = position }) found) ≡ hand_in found
@@ -151,16 +151,16 @@ module _ (states : List PointState) (p : List ℕ) where
       same (Some state) = refl
 
   -- a hand is read back
-  pub hand_of-handed : (hand : Option Id) → is_some (state_of states p) ≡ true → hand_of (handed states p hand) p ≡ hand
+  pub hand_of-handed : (hand : Option Id) → is_some (state_of states p) ≡ true → hand_of (with_hand states p hand) p ≡ hand
   hand_of-handed hand there =
       ap hand_in (state_of-changed (λ state. record state { hand = hand }) (λ state. refl) states p) ∙ hand_from (state_of states p) hand there
 
   -- those of other points stay
-  pub hand_of-handed_other : (hand : Option Id) (q : List ℕ) → same_name p q ≡ false → hand_of (handed states p hand) q ≡ hand_of states q
+  pub hand_of-handed_other : (hand : Option Id) (q : List ℕ) → same_name p q ≡ false → hand_of (with_hand states p hand) q ≡ hand_of states q
   hand_of-handed_other hand q differs = ap hand_in (state_of-other (λ state. record state { hand = hand }) (λ state. refl) states p q differs)
 
   -- and so do all positions
-  pub position_of-handed : (hand : Option Id) (q : List ℕ) → position_of (handed states p hand) q ≡ position_of states q
+  pub position_of-handed : (hand : Option Id) (q : List ℕ) → position_of (with_hand states p hand) q ≡ position_of states q
   position_of-handed hand = untouched (λ state. record state { hand = hand }) (λ state. refl) states p (option_map (λ (state : PointState). state.position)) same
     where
       same : (found : Option PointState)

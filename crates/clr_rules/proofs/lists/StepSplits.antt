@@ -15,7 +15,7 @@ use Rattle.clr_shelf.proofs.KeyOrder.{in_key_order-first, in_key_order-rest}
 use Rattle.clr_shelf.proofs.Keys.{less}
 use Rattle.clr_shelf.proofs.Lists.{Contains-cases, list_all-contains}
 use Rattle.clr_shelf.specs.Rows.{in_key_order, with_row}
-use Rattle.clr_rules.specs.Good.{left}
+use Rattle.clr_rules.specs.Good.{steps_left_of}
 use Rattle.clr_rules.specs.GoodByPhase.{all_waiting, go_in_turn, of_round}
 use Rattle.clr_rules.specs.Prelude.{StepRow, all_done, is_active, is_done, is_waiting}
 use Rattle.clr_rules.specs.Steps.{is_repeated}
@@ -157,7 +157,7 @@ waiting_after (row ∷ before) x after turns not_done =
 
 -- ---- what is left
 
-pub left_after_done : (before rest : List StepRow) → all_done before ≡ true → left (before ++ rest) ≡ left rest
+pub left_after_done : (before rest : List StepRow) → all_done before ≡ true → steps_left_of (before ++ rest) ≡ steps_left_of rest
 left_after_done [] rest done = refl
 left_after_done (row ∷ before) rest done =
     let parts = and_parts (is_done row.step.state) (all_done before) done in
@@ -167,7 +167,7 @@ pub waiting_not_done : (state : StepState) → is_waiting state ≡ true → is_
 waiting_not_done Waiting h = refl
 waiting_not_done _ h = absurd (false≢true h)
 
-pub left_waiting : (rows : List StepRow) → all_waiting rows ≡ true → left rows ≡ rows
+pub left_waiting : (rows : List StepRow) → all_waiting rows ≡ true → steps_left_of rows ≡ rows
 left_waiting [] waits = refl
 left_waiting (row ∷ rows) waits =
     let parts = and_parts (is_waiting row.step.state) (all_waiting rows) waits in

@@ -11,7 +11,7 @@ use Rattle.clr_net.proofs.Walks.{fence_is_closed, one_name, some_from}
 use Rattle.clr_order.specs.Isolating.{IsSoundOrder}
 use Rattle.clr_order.specs.Step.{Task}
 use Rattle.clr_rules.specs.Fences.{work_fence}
-use Rattle.clr_rules.specs.Prelude.{PointState, once}
+use Rattle.clr_rules.specs.Prelude.{PointState, first_of_each}
 use Rattle.clr_rules.specs.Live.{is_closed_point, is_live}
 use Rattle.clr_rules.specs.LiveLaws.{CarriesOn}
 use Rattle.clr_rules.proofs.live.FenceCuts.{has_name-once, in_fence_alike, in_fence_from_named}
@@ -44,9 +44,9 @@ module _ (g : Grid) (net : IsNetwork g) (states : List PointState) (work : List 
       rw (one_name p q same) (All-contains (λ (p : List ℕ). is_closed_point states p ≡ false) points q opened there))
 
 -- the same of the points of an order that stand more than once, and of the names of the sections
-pub dead_work_fence : (g : Grid) → IsNetwork g → (states : List PointState) (work : List ℕ) (points : List (List ℕ)) (tasks : List Task) → IsSoundOrder g work (once points) tasks
+pub dead_work_fence : (g : Grid) → IsNetwork g → (states : List PointState) (work : List ℕ) (points : List (List ℕ)) (tasks : List Task) → IsSoundOrder g work (first_of_each points) tasks
     → ((p : List ℕ) → has_name points p ≡ true → is_closed_point states p ≡ false)
     → (s : List ℕ) → has_name (work_fence g (Some work) points) s ≡ true → is_live g states s ≡ false
 dead_work_fence g net states work points tasks sound opened s named =
-    dead_within g net states work (once points) tasks sound (λ p cut. opened p (sym (has_name-once points p) ∙ cut)) s
-    (in_fence_alike g work (once points) points (has_name-once points) s ∙ in_fence_from_named g work points s named)
+    dead_within g net states work (first_of_each points) tasks sound (λ p cut. opened p (sym (has_name-once points p) ∙ cut)) s
+    (in_fence_alike g work (first_of_each points) points (has_name-once points) s ∙ in_fence_from_named g work points s named)

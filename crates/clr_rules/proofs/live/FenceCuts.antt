@@ -11,15 +11,15 @@ use Rattle.clr_net.specs.declared.point.PointRow.{PointRow}
 use Rattle.clr_net.specs.declared.section.SectionRow.{SectionRow}
 use Rattle.clr_net.proofs.Walks.{fence_is_walks, reaches_from_walk}
 use Rattle.clr_rules.specs.Fences.{work_fence}
-use Rattle.clr_rules.specs.Holds.{once}
+use Rattle.clr_rules.specs.Holds.{first_of_each}
 use Rattle.clr_rules.proofs.lists.NamedRows.{has_name-filter, has_name-kept}
 
 -- of names each once there are the same
-pub has_name-once : (names : List (List ℕ)) (name : List ℕ) → has_name (once names) name ≡ has_name names name
-unfolding once
+pub has_name-once : (names : List (List ℕ)) (name : List ℕ) → has_name (first_of_each names) name ≡ has_name names name
+unfolding first_of_each
 has_name-once [] name = refl
 has_name-once (p ∷ names) name =
-    rw (has_name-filter (λ q. not (same_name p q)) (once names) name, has_name-once names name, nat_list_eq_equiv.symm p name) (at (same_name name p) (has_name names name))
+    rw (has_name-filter (λ q. not (same_name p q)) (first_of_each names) name, has_name-once names name, nat_list_eq_equiv.symm p name) (at (same_name name p) (has_name names name))
   where
     at : (b c : Bool) → (b || (not b && c)) ≡ (b || c)
     at true c = refl

@@ -12,14 +12,14 @@ use Rattle.clr_order.specs.Step.{Task, task}
 use Rattle.clr_shelf.proofs.Groups.{row_of-filter_inside}
 use Rattle.clr_shelf.proofs.Keys.{equal, same_text}
 use Rattle.clr_shelf.proofs.Lists.{filter-filter_wider}
-use Rattle.clr_rules.specs.Answer.{answer, answer_with, fence_for, first_refusal, known_of, settled}
+use Rattle.clr_rules.specs.Answer.{answer, answer_with, fence_for, first_refusal, known_of, answer_by_checks}
 use Rattle.clr_rules.specs.Commands.{checks}
-use Rattle.clr_rules.specs.Checks.{earlier, held, held_by, in_hand, is_operator, no_step, other_hand, out_of_turn, unknown_caller, unknown_clearance, where_some, wrong_phase, wrong_role, wrong_state}
+use Rattle.clr_rules.specs.Checks.{earlier_moment, hold_hinders, held_by, in_hand, is_operator, no_step, other_hand, out_of_turn, unknown_caller, unknown_clearance, where_some, wrong_phase, wrong_role, wrong_state}
 use Rattle.clr_rules.specs.Command.{named_clearance}
 use Rattle.clr_rules.specs.Fences.{clearance_fence, touching_names}
-use Rattle.clr_rules.specs.Good.{IsGood, left}
+use Rattle.clr_rules.specs.Good.{IsGood, steps_left_of}
 use Rattle.clr_rules.specs.Prelude.{Command, Hold, HeldOpen, Phase, Ordered, Restoring, Switching, PointState, Record, Refusal, StepRow, Id, same_id, Register, hand_of, state_key, record_of, is_running, is_standing, is_restoring}
-use Rattle.clr_rules.specs.Prelude.{is_done, is_some_step, is_waiting, points_of, present, step_at, steps_in, steps_of, tasks_of, is_point_kind, has_hold, same_kind}
+use Rattle.clr_rules.specs.Prelude.{is_done, is_some_step, is_waiting, points_of, present_steps, step_at, steps_in, steps_of, tasks_of, is_point_kind, has_hold, same_kind}
 use Rattle.clr_rules.specs.Holds.{first_hold, hindering_hold, hinders, is_near_hold}
 use Rattle.clr_rules.specs.Near.{is_beside, near_part, switched_in}
 use Rattle.clr_rules.specs.OwnLaws.{SameOwn}
@@ -83,7 +83,7 @@ module _ (R : Register) (good : IsGood R) (c : Id) (n : ℕ) (r : Record) (read 
       let there = found_there (λ (row : StepRow). row.ordinal == n) (steps_in R.steps c 2) s.row found in
       let is_left = Contains-filter (λ (row : StepRow). not (is_done row.step.state)) (steps_in R.steps c 2) s.row there (ap not (waiting_not_done s.row.step.state waits)) in
       let holds : has_hold R.holds c HeldOpen s.row.step.point ≡ true =
-      All-contains (λ (row : StepRow). has_hold R.holds c HeldOpen row.step.point ≡ true) (left (steps_in R.steps c 2)) s.row (good.holds_are_put.nowhere_else c r read restores) is_left in
+      All-contains (λ (row : StepRow). has_hold R.holds c HeldOpen row.step.point ≡ true) (steps_left_of (steps_in R.steps c 2)) s.row (good.holds_are_put.nowhere_else c r read restores) is_left in
       round_one_touches R c good r read (restoring_stands r.phase restores) s.row.step.point (good.holds_are_put.at_points c HeldOpen s.row.step.point refl holds)
 
   of_standing : is_standing r.phase ≡ true → (b : Bool) → is_some_step (steps_in R.steps c 2) ≡ b
@@ -137,11 +137,11 @@ module _ (R : Register) (good : IsGood R) (by : List ℕ) (at : ℕ) (c : Id) (n
 
   -- the checks before those of the point
   abbrev early : Register → List (Option Refusal)
-  early T = unknown_caller T by ∷ wrong_role T by is_operator ∷ unknown_clearance T c ∷ earlier T c at ∷ wrong_phase T c is_running
+  early T = unknown_caller T by ∷ wrong_role T by is_operator ∷ unknown_clearance T c ∷ earlier_moment T c at ∷ wrong_phase T c is_running
       ∷ no_step T c n ∷ out_of_turn T c n ∷ wrong_state T c n is_waiting ∷ []
 
   abbrev at_point : Register → List (Option Refusal)
-  at_point T = in_hand T c n ∷ held T c n ∷ []
+  at_point T = in_hand T c n ∷ hold_hinders T c n ∷ []
 
   same : SameOwn c R (near_part R given)
   same = near_has_own R given c good refl refl
@@ -153,16 +153,16 @@ module _ (R : Register) (good : IsGood R) (by : List ℕ) (at : ℕ) (c : Id) (n
       ∷ number c R S same n i ∷ turn c R S same n i ∷ state c R S same n is_waiting i ∷ []
 
   -- the checks of the step's point say the same where its hand and the hold that hinders it are the same
-  point_checks : (row : StepRow) → step_at (present R.steps c) n ≡ Some row → is_beside R (known_of R given) (Instruct c n) row.step.point ≡ true
+  point_checks : (row : StepRow) → step_at (present_steps R.steps c) n ≡ Some row → is_beside R (known_of R given) (Instruct c n) row.step.point ≡ true
       → at_point R ≡ at_point (near_part R given)
   point_checks row found beside =
       let S = near_part R given in
-      let second : step_at (present S.steps c) n ≡ Some row = ap (λ (rows : List StepRow). step_at rows n) (sym (same_present c R S same)) ∙ found in
+      let second : step_at (present_steps S.steps c) n ≡ Some row = ap (λ (rows : List StepRow). step_at rows n) (sym (same_present c R S same)) ∙ found in
       let hand : in_hand R c n ≡ in_hand S c n =
       ap (λ (o : Option StepRow). where_some o (λ row. other_hand c (hand_of R.states row.step.point))) found
       ∙ ap (other_hand c) (same_hand R given row.step.point beside)
       ∙ ap (λ (o : Option StepRow). where_some o (λ row. other_hand c (hand_of S.states row.step.point))) (sym second) in
-      let hold : held R c n ≡ held S c n =
+      let hold : hold_hinders R c n ≡ hold_hinders S c n =
       ap (λ (o : Option StepRow). where_some o (λ row. if is_close row.step.action then held_by (hindering_hold R.holds c row.step.point) else None)) found
       ∙ ap (λ (o : Option Hold). if is_close row.step.action then held_by o else None) (same_hindering R given row.step.point beside c)
       ∙ ap (λ (o : Option StepRow). where_some o (λ row. if is_close row.step.action then held_by (hindering_hold S.holds c row.step.point) else None)) (sym second) in
@@ -183,4 +183,4 @@ module _ (R : Register) (good : IsGood R) (by : List ℕ) (at : ℕ) (c : Id) (n
   giving_out_is_enough =
       settled_alike c R (near_part R given) good.in_order (near_in_order R given good.in_order) same (known_of R given) given refl
       (first_refusal (checks (known_of R given) R by at (Instruct c n))) refl
-      ∙ ap (settled (known_of R given) (near_part R given) given) same_refusal
+      ∙ ap (answer_by_checks (known_of R given) (near_part R given) given) same_refusal

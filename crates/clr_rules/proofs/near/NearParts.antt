@@ -16,7 +16,7 @@ use Rattle.clr_rules.specs.Fences.{clearance_fence, touching_names}
 use Rattle.clr_rules.specs.Prelude.{Command, Kind, Hold, PointState, Record, StepRow, Id, Register, record_of, is_point_kind}
 use Rattle.clr_rules.specs.Holds.{is_near_hold, is_own}
 use Rattle.clr_rules.specs.MarkLaws.{HasEndIn}
-use Rattle.clr_rules.specs.Near.{is_asked, is_beside, near_of, switched, switched_in}
+use Rattle.clr_rules.specs.Near.{is_asked, is_beside, near_of, switched_points, switched_in}
 use Rattle.clr_rules.specs.NearLaws.{HasAskedRow, HasNearRows, HasSwitchRows, InFence, InOrderFence, IsNearHold, IsNearPoint, IsStepPoint, IsSwitchPoint, is_order}
 use Rattle.clr_rules.specs.declared.command.Kind.TheVariants.{Request, Order, Switch}
 use Rattle.clr_rules.proofs.lists.Filters.{Says, fails, filter-nothing, is_kept, name_says, or_says, says_as, says_like}
@@ -25,7 +25,7 @@ use Rattle.clr_rules.proofs.near.NearWords.{near_hold_says, standing_says, touch
 
 -- ---- a command that names a clearance
 
-pub switched_named : (R : Register) (kind : Kind) (c : Id) → named_clearance kind ≡ Some c → switched R kind ≡ switched_in R (Some c)
+pub switched_named : (R : Register) (kind : Kind) (c : Id) → named_clearance kind ≡ Some c → switched_points R kind ≡ switched_in R (Some c)
 switched_named R (Switch tasks) c named = absurd (none-some c named)
 switched_named R kind c named = ap (switched_in R) named
 
@@ -79,7 +79,7 @@ beside_named : (R : Register) (q : Command) (c : Id) → named_clearance q.kind 
     → ((s : List ℕ) → Says (has_name (fence_for R q.kind) s) (Inside s))
     → (p : List ℕ) → Says (is_beside R (known_of R q) q.kind p) (IsNearPoint R c Inside p)
 beside_named R q c named Inside inside_says p =
-    or_says (has_name (touching_names R.net (has_name (fence_for R q.kind))) p) (has_name (switched R q.kind) p) (HasEndIn R.net Inside p) (IsSwitchPoint R c p)
+    or_says (has_name (touching_names R.net (has_name (fence_for R q.kind))) p) (has_name (switched_points R q.kind) p) (HasEndIn R.net Inside p) (IsSwitchPoint R c p)
     (touching_says R.net (has_name (fence_for R q.kind)) Inside inside_says p)
     (says_as (ap (λ (names : List (List ℕ)). has_name names p) (switched_named R q.kind c named)) (switched_says R c p))
 

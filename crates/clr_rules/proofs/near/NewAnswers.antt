@@ -16,12 +16,12 @@ use Rattle.clr_order.specs.Switching.{unswitching_point}
 use Rattle.clr_order.specs.declared.order_fault.OrderFault.TheVariants.{EmptyOrder, LongOrder, StepsWrong, UnknownPoint}
 use Rattle.clr_shelf.proofs.Lists.{Contains-here, Contains-later}
 use Rattle.clr_shelf.specs.Rows.{row_of}
-use Rattle.clr_rules.specs.Answer.{answer, answer_with, first_refusal, known_of, settled}
+use Rattle.clr_rules.specs.Answer.{answer, answer_with, first_refusal, known_of, answer_by_checks}
 use Rattle.clr_rules.specs.Commands.{checks, edits_of}
 use Rattle.clr_rules.specs.Changes.{new_record}
 use Rattle.clr_rules.specs.Checks.{refuse, too_many_clearances, unknown_caller, wrong_role, wrong_switching, is_charge, is_operator}
 use Rattle.clr_rules.specs.Command.{named_clearance}
-use Rattle.clr_rules.specs.Prelude.{Command, Kind, Hold, Requested, Record, Refusal, StepRow, Id, same_id, Register, greatest_number, record_of, steps_of, holds_of, edited_all}
+use Rattle.clr_rules.specs.Prelude.{Command, Kind, Hold, Requested, Record, Refusal, StepRow, Id, same_id, Register, greatest_number, record_of, steps_of, holds_of, after_edits}
 use Rattle.clr_rules.specs.Good.{IsGood, has_record}
 use Rattle.clr_rules.specs.Holds.{is_near_hold}
 use Rattle.clr_rules.specs.Near.{Near, is_beside, near_of, near_part}
@@ -106,17 +106,17 @@ module _ (R : Register) (good : IsGood R) (by : List ℕ) (at : ℕ) where
     request_checks = ap (λ (b : Bool). unknown_caller R by ∷ wrong_role R by is_charge ∷ refuse (not b) UnknownSection
         ∷ too_many_clearances (greatest_number R.records by) ∷ []) (sym section_near)
 
-    request_settled : (found : Option Refusal) → settled (known_of R request) R request found ≡ settled (known_of R request) (near_part R request) request found
+    request_settled : (found : Option Refusal) → answer_by_checks (known_of R request) R request found ≡ answer_by_checks (known_of R request) (near_part R request) request found
     request_settled None =
         let edits = edits_of (greatest_number R.records by) R by at (Request section) in
         let after = same_own_edited_all new R (near_part R request) good.in_order (near_in_order R request good.in_order) request_own edits in
-        let reply = told_alike new (edited_all edits R) (edited_all edits (near_part R request)) after (known_of R request) (Request section) refl in
+        let reply = told_alike new (after_edits edits R) (after_edits edits (near_part R request)) after (known_of R request) (Request section) refl in
         λ i. record { reply = reply i; edits = edits }
     request_settled (Some refusal) = refl
 
     pub request_is_enough : answer R request ≡ answer_with (known_of R request) (near_part R request) request
     request_is_enough = request_settled (first_refusal (checks (known_of R request) R by at (Request section)))
-        ∙ ap (λ list. settled (known_of R request) (near_part R request) request (first_refusal list)) request_checks
+        ∙ ap (λ list. answer_by_checks (known_of R request) (near_part R request) request (first_refusal list)) request_checks
 
   -- ---- switch orders
 
@@ -149,17 +149,17 @@ module _ (R : Register) (good : IsGood R) (by : List ℕ) (at : ℕ) where
     switch_checks : checks (known_of R switch) R by at (Switch tasks) ≡ checks (known_of R switch) (near_part R switch) by at (Switch tasks)
     switch_checks = ap (λ (wrong : Option Refusal). unknown_caller R by ∷ wrong_role R by is_operator ∷ too_many_clearances (greatest_number R.records by) ∷ wrong ∷ []) switching_near
 
-    switch_settled : (found : Option Refusal) → settled (known_of R switch) R switch found ≡ settled (known_of R switch) (near_part R switch) switch found
+    switch_settled : (found : Option Refusal) → answer_by_checks (known_of R switch) R switch found ≡ answer_by_checks (known_of R switch) (near_part R switch) switch found
     switch_settled None =
         let edits = edits_of (greatest_number R.records by) R by at (Switch tasks) in
         let after = same_own_edited_all new R (near_part R switch) good.in_order (near_in_order R switch good.in_order) switch_own edits in
-        let reply = told_alike new (edited_all edits R) (edited_all edits (near_part R switch)) after (known_of R switch) (Switch tasks) refl in
+        let reply = told_alike new (after_edits edits R) (after_edits edits (near_part R switch)) after (known_of R switch) (Switch tasks) refl in
         λ i. record { reply = reply i; edits = edits }
     switch_settled (Some refusal) = refl
 
     pub switch_is_enough : answer R switch ≡ answer_with (known_of R switch) (near_part R switch) switch
     switch_is_enough = switch_settled (first_refusal (checks (known_of R switch) R by at (Switch tasks)))
-        ∙ ap (λ list. settled (known_of R switch) (near_part R switch) switch (first_refusal list)) switch_checks
+        ∙ ap (λ list. answer_by_checks (known_of R switch) (near_part R switch) switch (first_refusal list)) switch_checks
 
 -- ---- what is near is enough
 

@@ -9,7 +9,7 @@ use Rattle.clr_net.specs.declared.section.SectionRow.{SectionRow}
 use Rattle.clr_order.specs.Isolating.{isolating_fault}
 use Rattle.clr_order.specs.Step.{Task}
 use Rattle.clr_shelf.proofs.Lists.{filter-filter_wider}
-use Rattle.clr_rules.specs.Answer.{answer, answer_with, first_refusal, known_of, settled}
+use Rattle.clr_rules.specs.Answer.{answer, answer_with, first_refusal, known_of, answer_by_checks}
 use Rattle.clr_rules.specs.Commands.{checks}
 use Rattle.clr_rules.specs.Checks.{is_operator, refuse, where_some}
 use Rattle.clr_rules.specs.Fences.{order_fence, rows_of_fence}
@@ -94,7 +94,7 @@ module _ (R : Register) (good : IsGood R) (by : List ℕ) (at : ℕ) (c : Id) (p
   requested_here o r is passed = not_refused_true (is_requested r.phase) WrongPhase (rw is at passed)
 
   order_settled : (found : Option Refusal) → first_refusal (checks (known_of R ordered) R by at (Order c points tasks)) ≡ found
-      → settled (known_of R ordered) R ordered found ≡ settled (known_of R ordered) (near_part R ordered) ordered found
+      → answer_by_checks (known_of R ordered) R ordered found ≡ answer_by_checks (known_of R ordered) (near_part R ordered) ordered found
   order_settled (Some refusal) refused = refl
   order_settled None passed =
       let there = some_record (record_of R.records c) (named_recorded (known_of R ordered) R by at (Order c points tasks) c passed refl) in
@@ -110,7 +110,7 @@ module _ (R : Register) (good : IsGood R) (by : List ℕ) (at : ℕ) (c : Id) (p
   pub order_is_enough : answer R ordered ≡ answer_with (known_of R ordered) (near_part R ordered) ordered
   order_is_enough =
       order_settled (first_refusal (checks (known_of R ordered) R by at (Order c points tasks))) refl
-      ∙ ap (λ list. settled (known_of R ordered) (near_part R ordered) ordered (first_refusal list)) order_checks
+      ∙ ap (λ list. answer_by_checks (known_of R ordered) (near_part R ordered) ordered (first_refusal list)) order_checks
 
 -- ---- what is near is enough
 

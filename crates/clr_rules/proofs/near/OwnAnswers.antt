@@ -7,9 +7,9 @@ use Rattle.clr_net.specs.Names.{has_name}
 use Rattle.clr_net.specs.declared.point.PointRow.{PointRow}
 use Rattle.clr_shelf.proofs.Lists.{filter-filter_wider}
 use Rattle.clr_rules.specs.Commands.{Known, checks, edits_of}
-use Rattle.clr_rules.specs.Answer.{answer, answer_with, card_of, concerned, fence_for, first_refusal, known_of, settled, told, told_after, view_of}
+use Rattle.clr_rules.specs.Answer.{answer, answer_with, card_of, reply_clearance, fence_for, first_refusal, known_of, answer_by_checks, reply_of, reply_after, view_of}
 use Rattle.clr_rules.specs.Command.{named_clearance}
-use Rattle.clr_rules.specs.Prelude.{Edit, Command, Kind, Hold, Crew, PointState, Record, Refusal, Id, Register, record_of, is_done, present, present_round, places_of, edited_all}
+use Rattle.clr_rules.specs.Prelude.{Edit, Command, Kind, Hold, Crew, PointState, Record, Refusal, Id, Register, record_of, is_done, present_steps, present_round, places_of, after_edits}
 use Rattle.clr_rules.specs.Fences.{touches, touching_names}
 use Rattle.clr_rules.specs.Good.{IsGood, ListsAreInOrder}
 use Rattle.clr_rules.specs.Holds.{in_kind_order, is_near_hold, is_own}
@@ -35,8 +35,8 @@ is_show _ = false
 -- ---- replies
 
 module _ (c : Id) (R S : Register) (same : SameOwn c R S) (r : Record) (own : r.id ≡ c) where
-  card_present : present R.steps r.id ≡ present S.steps r.id
-  card_present = ap (present R.steps) own ∙ same_present c R S same ∙ ap (present S.steps) (sym own)
+  card_present : present_steps R.steps r.id ≡ present_steps S.steps r.id
+  card_present = ap (present_steps R.steps) own ∙ same_present c R S same ∙ ap (present_steps S.steps) (sym own)
 
   same_card : card_of R r ≡ card_of S r
   same_card =
@@ -52,19 +52,19 @@ module _ (c : Id) (R S : Register) (same : SameOwn c R S) (r : Record) (own : r.
       }
 
 -- what is told of a record, but for a view, is its card
-told_card : (k : Known) (R : Register) (kind : Kind) (r : Record) → is_show kind ≡ false → told k R kind (Some r) ≡ Accepted (card_of R r)
+told_card : (k : Known) (R : Register) (kind : Kind) (r : Record) → is_show kind ≡ false → reply_of k R kind (Some r) ≡ Accepted (card_of R r)
 told_card k R (Show c) r no_show = cc no_show
 told_card k R _ r no_show = refl
 
-told_nothing : (k : Known) (R S : Register) (kind : Kind) → told k R kind None ≡ told k S kind None
+told_nothing : (k : Known) (R S : Register) (kind : Kind) → reply_of k R kind None ≡ reply_of k S kind None
 told_nothing k R S kind = refl
 
 -- so registers that have the same of the clearance are told of alike
 pub told_alike : (c : Id) (R S : Register) → SameOwn c R S → (k : Known) (kind : Kind) → is_show kind ≡ false
-    → told k R kind (record_of R.records c) ≡ told k S kind (record_of S.records c)
-told_alike c R S same k kind no_show = at (record_of R.records c) refl ∙ ap (told k S kind) same.own_record
+    → reply_of k R kind (record_of R.records c) ≡ reply_of k S kind (record_of S.records c)
+told_alike c R S same k kind no_show = at (record_of R.records c) refl ∙ ap (reply_of k S kind) same.own_record
   where
-    at : (o : Option Record) → record_of R.records c ≡ o → told k R kind o ≡ told k S kind o
+    at : (o : Option Record) → record_of R.records c ≡ o → reply_of k R kind o ≡ reply_of k S kind o
     at None read = told_nothing k R S kind
     at (Some r) read = told_card k R kind r no_show ∙ ap Accepted (same_card c R S same r (record_id R.records c r read)) ∙ sym (told_card k S kind r no_show)
 
@@ -75,26 +75,26 @@ module _ (c : Id) (R S : Register) (R_order : ListsAreInOrder R) (S_order : List
   made : edits_of k.greatest R q.caller q.moment q.kind ≡ edits_of k.greatest S q.caller q.moment q.kind
   made = edits_of_own c R S R_order S_order same k.greatest q.caller q.moment q.kind named
 
-  about : (T : Register) → told_after k T q.caller q.kind ≡ told k T q.kind (record_of T.records c)
-  about T = ap (λ (o : Option Id). told k T q.kind (record_of T.records (concerned k.greatest q.caller o))) named
+  about : (T : Register) → reply_after k T q.caller q.kind ≡ reply_of k T q.kind (record_of T.records c)
+  about T = ap (λ (o : Option Id). reply_of k T q.kind (record_of T.records (reply_clearance k.greatest q.caller o))) named
 
-  pub accepted_alike : is_show q.kind ≡ false → settled k R q None ≡ settled k S q None
+  pub accepted_alike : is_show q.kind ≡ false → answer_by_checks k R q None ≡ answer_by_checks k S q None
   accepted_alike no_show =
       let edits = edits_of k.greatest R q.caller q.moment q.kind in
       let after = same_own_edited_all c R S R_order S_order same edits in
-      let reply : told_after k (edited_all edits R) q.caller q.kind ≡ told_after k (edited_all (edits_of k.greatest S q.caller q.moment q.kind) S) q.caller q.kind =
-      about (edited_all edits R) ∙ told_alike c (edited_all edits R) (edited_all edits S) after k q.kind no_show ∙ sym (about (edited_all edits S))
-      ∙ ap (λ (list : List Edit). told_after k (edited_all list S) q.caller q.kind) made in
+      let reply : reply_after k (after_edits edits R) q.caller q.kind ≡ reply_after k (after_edits (edits_of k.greatest S q.caller q.moment q.kind) S) q.caller q.kind =
+      about (after_edits edits R) ∙ told_alike c (after_edits edits R) (after_edits edits S) after k q.kind no_show ∙ sym (about (after_edits edits S))
+      ∙ ap (λ (list : List Edit). reply_after k (after_edits list S) q.caller q.kind) made in
       λ i. record { reply = reply i; edits = made i }
 
-  pub settled_alike : (found : Option Refusal) → is_show q.kind ≡ false → settled k R q found ≡ settled k S q found
+  pub settled_alike : (found : Option Refusal) → is_show q.kind ≡ false → answer_by_checks k R q found ≡ answer_by_checks k S q found
   settled_alike None no_show = accepted_alike no_show
   settled_alike (Some refusal) no_show = refl
 
   -- a command that names the clearance, but for a show, is answered alike where its checks say the same
   pub answered_alike : is_show q.kind ≡ false → checks k R q.caller q.moment q.kind ≡ checks k S q.caller q.moment q.kind → answer_with k R q ≡ answer_with k S q
   answered_alike no_show checked =
-      settled_alike (first_refusal (checks k R q.caller q.moment q.kind)) no_show ∙ ap (λ list. settled k S q (first_refusal list)) checked
+      settled_alike (first_refusal (checks k R q.caller q.moment q.kind)) no_show ∙ ap (λ list. answer_by_checks k S q (first_refusal list)) checked
 
 -- ---- a show
 
@@ -157,10 +157,10 @@ module _ (R : Register) (q : Command) where
       }
 
 show_found : (R : Register) (by : List ℕ) (at : ℕ) (c : Id) → SameOwn c R (near_part R (record { caller = by; moment = at; kind = Show c }))
-    → told (known_of R (record { caller = by; moment = at; kind = Show c })) R (Show c) (record_of R.records c)
-    ≡ told (known_of R (record { caller = by; moment = at; kind = Show c })) (near_part R (record { caller = by; moment = at; kind = Show c })) (Show c)
+    → reply_of (known_of R (record { caller = by; moment = at; kind = Show c })) R (Show c) (record_of R.records c)
+    ≡ reply_of (known_of R (record { caller = by; moment = at; kind = Show c })) (near_part R (record { caller = by; moment = at; kind = Show c })) (Show c)
     (record_of (Register.records (near_part R (record { caller = by; moment = at; kind = Show c }))) c)
-show_found R by at c same = found (record_of R.records c) refl ∙ ap (told k S (Show c)) same.own_record
+show_found R by at c same = found (record_of R.records c) refl ∙ ap (reply_of k S (Show c)) same.own_record
   where
     q : Command
     q = record { caller = by; moment = at; kind = Show c }
@@ -172,17 +172,17 @@ show_found R by at c same = found (record_of R.records c) refl ∙ ap (told k S 
     S = near_part R (record { caller = by; moment = at; kind = Show c })
 
     found : (o : Option Record) → record_of R.records c ≡ o
-        → told (known_of R (record { caller = by; moment = at; kind = Show c })) R (Show c) o
-        ≡ told (known_of R (record { caller = by; moment = at; kind = Show c })) (near_part R (record { caller = by; moment = at; kind = Show c })) (Show c) o
+        → reply_of (known_of R (record { caller = by; moment = at; kind = Show c })) R (Show c) o
+        ≡ reply_of (known_of R (record { caller = by; moment = at; kind = Show c })) (near_part R (record { caller = by; moment = at; kind = Show c })) (Show c) o
     found None read = refl
     found (Some r) read = ap Shown (view_near R (record { caller = by; moment = at; kind = Show c }) c same r (record_id R.records c r read))
 
 show_settled : (R : Register) (by : List ℕ) (at : ℕ) (c : Id) → SameOwn c R (near_part R (record { caller = by; moment = at; kind = Show c }))
     → (found : Option Refusal)
-    → settled (known_of R (record { caller = by; moment = at; kind = Show c })) R (record { caller = by; moment = at; kind = Show c }) found
-    ≡ settled (known_of R (record { caller = by; moment = at; kind = Show c })) (near_part R (record { caller = by; moment = at; kind = Show c }))
+    → answer_by_checks (known_of R (record { caller = by; moment = at; kind = Show c })) R (record { caller = by; moment = at; kind = Show c }) found
+    ≡ answer_by_checks (known_of R (record { caller = by; moment = at; kind = Show c })) (near_part R (record { caller = by; moment = at; kind = Show c }))
     (record { caller = by; moment = at; kind = Show c }) found
-unfolding edited_all
+unfolding after_edits
 show_settled R by at c same None = let reply = show_found R by at c same in λ i. record { reply = reply i; edits = [] }
 show_settled R by at c same (Some refusal) = refl
 
@@ -204,7 +204,7 @@ module _ (R : Register) (good : IsGood R) (by : List ℕ) (at : ℕ) where
       (near_has_own R (asked kind) c good named no_order) (known_of R (asked kind)) (asked kind) named no_show (near_checks kind c named no_order no_instruct)
   by_kind (Show d) c named no_order no_instruct true show =
       show_settled R by at d (near_has_own R (asked (Show d)) d good refl refl) (first_refusal (checks (known_of R (asked (Show d))) R by at (Show d)))
-      ∙ ap (λ list. settled (known_of R (asked (Show d))) (near_part R (asked (Show d))) (asked (Show d)) (first_refusal list)) (near_checks (Show d) d refl refl refl)
+      ∙ ap (λ list. answer_by_checks (known_of R (asked (Show d))) (near_part R (asked (Show d))) (asked (Show d)) (first_refusal list)) (near_checks (Show d) d refl refl refl)
   by_kind _ c named no_order no_instruct true show = cc show
 
 pub near_is_enough_but_orders : (R : Register) (q : Command) (c : Id) → IsGood R → named_clearance q.kind ≡ Some c → is_order q.kind ≡ false → is_instruct q.kind ≡ false

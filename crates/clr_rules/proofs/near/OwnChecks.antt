@@ -11,7 +11,7 @@ use Rattle.clr_order.specs.Step.{Task, task}
 use Rattle.clr_order.specs.declared.step.StepState.{StepState}
 use Rattle.clr_order.specs.Texts.{step_text}
 use Rattle.clr_rules.specs.Commands.{Known, checks}
-use Rattle.clr_rules.specs.Checks.{at_step, at_work, bad_transfer, crew_is_off, crew_is_on, crews_on, crews_on_work, earlier, employee, grounded, grounded_there, is_charge, is_charge_or_operator, is_field, is_in_charge, is_operator, is_supervisor, may_not_transfer, no_step, not_attested, not_grounded, not_holder, not_tested, out_of_turn, outside_fence, refuse, step_given_out, steps_left, unknown_caller, unknown_clearance, where_some, wrong_phase, wrong_restoring, wrong_role, wrong_state}
+use Rattle.clr_rules.specs.Checks.{at_step, at_work, bad_transfer, crew_is_off, crew_is_on, crews_on, crews_on_work, earlier_moment, employee, any_ground, has_ground, is_charge, is_charge_or_operator, is_field, is_in_charge, is_operator, is_supervisor, may_not_transfer, no_step, not_attested, no_ground, not_holder, not_tested, out_of_turn, outside_fence, refuse, step_given_out, steps_left, unknown_caller, unknown_clearance, where_some, wrong_phase, wrong_restoring, wrong_role, wrong_state}
 use Rattle.clr_rules.specs.Command.{named_clearance}
 use Rattle.clr_rules.specs.Prelude.{Kind, Tested, Ground, Crew, Phase, Record, Refusal, StepRow, Id, Register, record_of, is_running, is_granted, is_restoring, is_ordered, all_done, is_active, is_waiting, points_of, step_at, steps_in}
 use Rattle.clr_rules.specs.Prelude.{has_hold, has_some_hold}
@@ -41,7 +41,7 @@ module _ (c : Id) (R S : Register) (same : SameOwn c R S) where
   holder : (by : List ℕ) → not_holder R c by ≡ not_holder S c by
   holder by = at_record (λ r. refuse (not (same_name by r.holder)) refusals.NotHolder)
 
-  pub moment : (at : ℕ) → earlier R c at ≡ earlier S c at
+  pub moment : (at : ℕ) → earlier_moment R c at ≡ earlier_moment S c at
   moment at = at_record (λ r. refuse (nat_lt at r.last) refusals.Earlier)
 
   pub phase : (fits : Phase → Bool) → wrong_phase R c fits ≡ wrong_phase S c fits
@@ -62,7 +62,7 @@ module _ (c : Id) (R S : Register) (same : SameOwn c R S) where
   tested : (section : List ℕ) → not_tested R c section ≡ not_tested S c section
   tested section = ap (λ (b : Bool). refuse (not b) refusals.NotTested) (same_has_hold c R S same Tested section)
 
-  grounded_at : (section : List ℕ) → not_grounded R c section ≡ not_grounded S c section
+  grounded_at : (section : List ℕ) → no_ground R c section ≡ no_ground S c section
   grounded_at section = ap (λ (b : Bool). refuse (not b) refusals.NotGrounded) (same_has_hold c R S same Ground section)
 
   crew : (name : List ℕ) → has_hold R.holds c Crew name ≡ has_hold S.holds c Crew name
@@ -77,8 +77,8 @@ module _ (c : Id) (R S : Register) (same : SameOwn c R S) where
   none_given : step_given_out R c ≡ step_given_out S c
   none_given = ap (λ (rows : List StepRow). refuse (some_active rows) refusals.StepState) same.own_steps
 
-  no_ground : (section : List ℕ) → grounded_there R c section ≡ grounded_there S c section
-  no_ground section = ap (λ (b : Bool). refuse b refusals.Grounded) (same_has_hold c R S same Ground section)
+  other_ground : (section : List ℕ) → has_ground R c section ≡ has_ground S c section
+  other_ground section = ap (λ (b : Bool). refuse b refusals.Grounded) (same_has_hold c R S same Ground section)
 
   no_crew : (name : List ℕ) → crew_is_on R c name ≡ crew_is_on S c name
   no_crew name = ap (λ (b : Bool). refuse b refusals.CrewState) (crew name)
@@ -89,7 +89,7 @@ module _ (c : Id) (R S : Register) (same : SameOwn c R S) where
   no_crews : crews_on R c ≡ crews_on S c
   no_crews = ap (λ (b : Bool). refuse b refusals.CrewsOn) (same_some_hold c R S same Crew)
 
-  no_grounds : grounded R c ≡ grounded S c
+  no_grounds : any_ground R c ≡ any_ground S c
   no_grounds = ap (λ (b : Bool). refuse b refusals.Grounded) (same_some_hold c R S same Ground)
 
   crews_there : (section : List ℕ) → crews_on_work R c section ≡ crews_on_work S c section
@@ -127,9 +127,9 @@ module _ (k : Known) (R S : Register) (by : List ℕ) (at : ℕ) where
   same_checks (kinds.Report c n done) same no_order no_instruct = λ i. caller c R S same by i ∷ role c R S same by is_field i ∷ clearance c R S same i ∷ moment c R S same at i ∷ phase c R S same is_running i ∷ number c R S same n i ∷ state c R S same n is_repeated i ∷ at_number c R S same n (λ row. refuse (not (is_named by row.step.reader)) refusals.WrongReporter) i ∷ []
   same_checks (kinds.Grant c) same no_order no_instruct = λ i. caller c R S same by i ∷ role c R S same by is_operator i ∷ clearance c R S same i ∷ moment c R S same at i ∷ phase c R S same is_ordered i ∷ all_steps c R S same i ∷ []
   same_checks (kinds.Test c section dead) same no_order no_instruct = λ i. caller c R S same by i ∷ role c R S same by is_charge i ∷ clearance c R S same i ∷ holder c R S same by i ∷ moment c R S same at i ∷ phase c R S same is_granted i ∷ outside_fence k.fence section ∷ []
-  same_checks (kinds.Ground c section) same no_order no_instruct = λ i. caller c R S same by i ∷ role c R S same by is_charge i ∷ clearance c R S same i ∷ holder c R S same by i ∷ moment c R S same at i ∷ phase c R S same is_granted i ∷ outside_fence k.fence section ∷ tested c R S same section i ∷ no_ground c R S same section i ∷ []
+  same_checks (kinds.Ground c section) same no_order no_instruct = λ i. caller c R S same by i ∷ role c R S same by is_charge i ∷ clearance c R S same i ∷ holder c R S same by i ∷ moment c R S same at i ∷ phase c R S same is_granted i ∷ outside_fence k.fence section ∷ tested c R S same section i ∷ other_ground c R S same section i ∷ []
   same_checks (kinds.Unground c section) same no_order no_instruct = λ i. caller c R S same by i ∷ role c R S same by is_charge i ∷ clearance c R S same i ∷ holder c R S same by i ∷ moment c R S same at i ∷ phase c R S same is_granted i ∷ outside_fence k.fence section ∷ grounded_at c R S same section i ∷ crews_there c R S same section i ∷ []
-  same_checks (kinds.SignOn c crew) same no_order no_instruct = λ i. caller c R S same by i ∷ role c R S same by is_charge i ∷ clearance c R S same i ∷ holder c R S same by i ∷ moment c R S same at i ∷ phase c R S same is_granted i ∷ at_works c R S same (not_tested R c) (not_tested S c) (tested c R S same) i ∷ at_works c R S same (not_grounded R c) (not_grounded S c) (grounded_at c R S same) i ∷ no_crew c R S same crew i ∷ []
+  same_checks (kinds.SignOn c crew) same no_order no_instruct = λ i. caller c R S same by i ∷ role c R S same by is_charge i ∷ clearance c R S same i ∷ holder c R S same by i ∷ moment c R S same at i ∷ phase c R S same is_granted i ∷ at_works c R S same (not_tested R c) (not_tested S c) (tested c R S same) i ∷ at_works c R S same (no_ground R c) (no_ground S c) (grounded_at c R S same) i ∷ no_crew c R S same crew i ∷ []
   same_checks (kinds.SignOff c crew) same no_order no_instruct = λ i. caller c R S same by i ∷ role c R S same by is_charge i ∷ clearance c R S same i ∷ holder c R S same by i ∷ moment c R S same at i ∷ phase c R S same is_granted i ∷ has_crew c R S same crew i ∷ []
   same_checks (kinds.Transfer c to emergency) same no_order no_instruct = λ i. caller c R S same by i ∷ clearance c R S same i ∷ hands_on c R S same by emergency i ∷ moment c R S same at i ∷ phase c R S same is_transferable i ∷ hands_to c R S same to i ∷ []
   same_checks (kinds.Release c notified clear) same no_order no_instruct = λ i. caller c R S same by i ∷ role c R S same by is_charge i ∷ clearance c R S same i ∷ holder c R S same by i ∷ moment c R S same at i ∷ phase c R S same is_granted i ∷ no_crews c R S same i ∷ no_grounds c R S same i ∷ not_attested notified clear ∷ []

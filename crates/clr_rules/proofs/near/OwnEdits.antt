@@ -5,11 +5,11 @@ use Rattle.clr_order.specs.declared.step.StepState.TheVariants.{Done}
 use Rattle.clr_shelf.proofs.Groups.{filter-with_far, filter-with_inside}
 use Rattle.clr_shelf.proofs.Keys.{equal}
 use Rattle.clr_shelf.specs.Rows.{in_key_order, with_row}
-use Rattle.clr_rules.specs.Changes.{cancelled_phase, done_edits, edits_by, hold_edits, moved, phase_after, position_edits, undone_edits, with_record, with_step}
+use Rattle.clr_rules.specs.Changes.{cancelled_phase, done_edits, edits_by, hold_edits, step_moved, phase_after, position_edits, undone_edits, with_record, with_step}
 use Rattle.clr_rules.specs.Commands.{edits_of}
 use Rattle.clr_rules.specs.Command.{named_clearance}
 use Rattle.clr_rules.specs.Prelude.{Edit, SetPosition, SetHand, PutHold, TakeHold, PutRecord, PutStep, Kind, Tested, Phase, Released, Closed, Record, StepRow, Id, same_id, Register, record_of, is_ordered, step_key, step_key_cmp}
-use Rattle.clr_rules.specs.Prelude.{step_key_cmp_total, all_done, present, step_at, steps_of, has_any_hold, hold_of, holds_of, edited, edited_all}
+use Rattle.clr_rules.specs.Prelude.{step_key_cmp_total, all_done, present_steps, step_at, steps_of, has_any_hold, hold_of, holds_of, after_edit, after_edits}
 use Rattle.clr_rules.specs.Good.{ListsAreInOrder}
 use Rattle.clr_rules.specs.OwnLaws.{SameOwn}
 use Rattle.clr_rules.specs.Records.{ends_with_steps, is_switch_order}
@@ -38,11 +38,11 @@ steps_of-put c row steps ordered = put_step_tested c row steps ordered (same_id 
 
 module _ (c : Id) where
   same_holds_after : (R S : Register) → ListsAreInOrder R → ListsAreInOrder S → SameOwn c R S → (edit : Edit)
-      → holds_of (Register.holds (edited edit R)) c ≡ holds_of (Register.holds (edited edit S)) c
+      → holds_of (Register.holds (after_edit edit R)) c ≡ holds_of (Register.holds (after_edit edit S)) c
   same_holds_after R S R_order S_order same edit =
       holds_of-edited R R_order c edit ∙ ap (own_after c edit) same.own_holds ∙ sym (holds_of-edited S S_order c edit)
 
-  pub same_own_edited : (R S : Register) → ListsAreInOrder R → ListsAreInOrder S → SameOwn c R S → (edit : Edit) → SameOwn c (edited edit R) (edited edit S)
+  pub same_own_edited : (R S : Register) → ListsAreInOrder R → ListsAreInOrder S → SameOwn c R S → (edit : Edit) → SameOwn c (after_edit edit R) (after_edit edit S)
   same_own_edited R S R_order S_order same (SetPosition point position) = record { staff = same.staff; own_record = same.own_record; own_steps = same.own_steps; own_holds = same.own_holds }
   same_own_edited R S R_order S_order same (SetHand point hand) = record { staff = same.staff; own_record = same.own_record; own_steps = same.own_steps; own_holds = same.own_holds }
   same_own_edited R S R_order S_order same (PutHold h) = record {
@@ -74,11 +74,11 @@ module _ (c : Id) where
 
   -- both have the same of the clearance after the same edits
   pub same_own_edited_all : (R S : Register) → ListsAreInOrder R → ListsAreInOrder S → SameOwn c R S → (edits : List Edit)
-      → SameOwn c (edited_all edits R) (edited_all edits S)
-  unfolding edited_all
+      → SameOwn c (after_edits edits R) (after_edits edits S)
+  unfolding after_edits
   same_own_edited_all R S R_order S_order same [] = same
   same_own_edited_all R S R_order S_order same (edit ∷ edits) =
-      same_own_edited_all (edited edit R) (edited edit S) (edited-in_order edit R R_order) (edited-in_order edit S S_order)
+      same_own_edited_all (after_edit edit R) (after_edit edit S) (edited-in_order edit R R_order) (edited-in_order edit S S_order)
       (same_own_edited R S R_order S_order same edit) edits
 
 -- ---- the edits of its commands
@@ -95,8 +95,8 @@ module _ (c : Id) (R S : Register) (R_order : ListsAreInOrder R) (S_order : List
   only_record f = by_record f f (λ r own. refl)
 
   by_step : (n : ℕ) (f g : Record → StepRow → List Edit) → ((r : Record) (row : StepRow) → r.id ≡ c → f r row ≡ g r row) → with_step R c n f ≡ with_step S c n g
-  by_step n f g alike = by_record (λ r. edits_by (step_at (present R.steps c) n) (f r)) (λ r. edits_by (step_at (present S.steps c) n) (g r))
-      (λ r own. at r own (step_at (present R.steps c) n) ∙ ap (λ (rows : List StepRow). edits_by (step_at rows n) (g r)) (same_present c R S same))
+  by_step n f g alike = by_record (λ r. edits_by (step_at (present_steps R.steps c) n) (f r)) (λ r. edits_by (step_at (present_steps S.steps c) n) (g r))
+      (λ r own. at r own (step_at (present_steps R.steps c) n) ∙ ap (λ (rows : List StepRow). edits_by (step_at rows n) (g r)) (same_present c R S same))
     where
       at : (r : Record) → r.id ≡ c → (o : Option StepRow) → edits_by o (f r) ≡ edits_by o (g r)
       at r own None = refl
@@ -107,16 +107,16 @@ module _ (c : Id) (R S : Register) (R_order : ListsAreInOrder R) (S_order : List
 
   same_phase_after : (r : Record) (row : StepRow) → r.id ≡ c → phase_after R.steps r row ≡ phase_after S.steps r row
   same_phase_after r row own =
-      let put = same_present c (edited (PutStep row) R) (edited (PutStep row) S) (same_own_edited c R S R_order S_order same (PutStep row)) in
-      let rows : present (with_row step_key_cmp step_key row R.steps) r.id ≡ present (with_row step_key_cmp step_key row S.steps) r.id =
-      ap (present (with_row step_key_cmp step_key row R.steps)) own ∙ put ∙ ap (present (with_row step_key_cmp step_key row S.steps)) (sym own) in
+      let put = same_present c (after_edit (PutStep row) R) (after_edit (PutStep row) S) (same_own_edited c R S R_order S_order same (PutStep row)) in
+      let rows : present_steps (with_row step_key_cmp step_key row R.steps) r.id ≡ present_steps (with_row step_key_cmp step_key row S.steps) r.id =
+      ap (present_steps (with_row step_key_cmp step_key row R.steps)) own ∙ put ∙ ap (present_steps (with_row step_key_cmp step_key row S.steps)) (sym own) in
       ap (λ (rows : List StepRow). if ends_with_steps r.phase && all_done rows then Closed else r.phase) rows
 
   same_done : (at : ℕ) (r : Record) (row : StepRow) → r.id ≡ c → done_edits R at r row ≡ done_edits S at r row
   same_done at r row own =
       ap (λ (phase : Phase). position_edits row.step.action row.step.point ++ SetHand row.step.point None ∷ hold_edits (is_switch_order r) r.id row.step.action row.step.point
-      ++ PutRecord (record r { phase = phase; last = at }) ∷ PutStep (moved Done row.step.reader row) ∷ [])
-      (same_phase_after r (moved Done row.step.reader row) own)
+      ++ PutRecord (record r { phase = phase; last = at }) ∷ PutStep (step_moved Done row.step.reader row) ∷ [])
+      (same_phase_after r (step_moved Done row.step.reader row) own)
 
   same_cancelled : (r : Record) → r.id ≡ c → cancelled_phase R r ≡ cancelled_phase S r
   same_cancelled r own = ap (λ (b : Bool). if is_ordered r.phase && b then Released else Closed)

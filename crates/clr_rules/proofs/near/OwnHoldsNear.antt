@@ -16,7 +16,7 @@ use Rattle.clr_rules.specs.Command.{named_clearance}
 use Rattle.clr_rules.specs.Fences.{clearance_fence, touching_names}
 use Rattle.clr_rules.specs.Good.{IsGood, IsSoundFor}
 use Rattle.clr_rules.specs.Prelude.{Command, Hold, HoldKind, Tested, Ground, Crew, Phase, Requested, Switching, Closed, Record, StepRow, Id, same_id, Register}
-use Rattle.clr_rules.specs.Prelude.{record_of, is_standing, points_of, steps_in, tasks_of, is_crew, is_point_kind, is_section_kind, has_hold, holds_of, once}
+use Rattle.clr_rules.specs.Prelude.{record_of, is_standing, points_of, steps_in, tasks_of, is_crew, is_point_kind, is_section_kind, has_hold, holds_of, first_of_each}
 use Rattle.clr_rules.specs.Holds.{is_near_hold, is_own}
 use Rattle.clr_rules.specs.MarkLaws.{HasEndIn}
 use Rattle.clr_rules.specs.Near.{is_beside, near_part}
@@ -34,22 +34,22 @@ use Rattle.clr_rules.proofs.lists.RoundSteps.{one_id}
 -- ---- the points of a sound order touch its fence
 
 -- a point of a sound order is a point of the network with an end in the fence
-pub border_touches : (g : Grid) (work : List ℕ) (rows : List StepRow) → IsSoundOrder g work (once (points_of rows)) (tasks_of rows)
-    → (p : List ℕ) → has_name (points_of rows) p ≡ true → HasEndIn g (λ s. in_fence g work (once (points_of rows)) s ≡ true) p
-border_touches g work rows sound p known = at (touching_row (fence_of g work (once (points_of rows))) p) refl
+pub border_touches : (g : Grid) (work : List ℕ) (rows : List StepRow) → IsSoundOrder g work (first_of_each (points_of rows)) (tasks_of rows)
+    → (p : List ℕ) → has_name (points_of rows) p ≡ true → HasEndIn g (λ s. in_fence g work (first_of_each (points_of rows)) s ≡ true) p
+border_touches g work rows sound p known = at (touching_row (fence_of g work (first_of_each (points_of rows))) p) refl
   where
-    among : Contains (once (points_of rows)) p
-    among = (name_says (once (points_of rows)) p).0 (has_name-once (points_of rows) p ∙ known)
+    among : Contains (first_of_each (points_of rows)) p
+    among = (name_says (first_of_each (points_of rows)) p).0 (has_name-once (points_of rows) p ∙ known)
 
-    at : (o : Option PointRow) → touching_row (fence_of g work (once (points_of rows))) p ≡ o → HasEndIn g (λ s. in_fence g work (once (points_of rows)) s ≡ true) p
+    at : (o : Option PointRow) → touching_row (fence_of g work (first_of_each (points_of rows))) p ≡ o → HasEndIn g (λ s. in_fence g work (first_of_each (points_of rows)) s ≡ true) p
     at None e =
-        let border = All-contains (λ p. is_border_point (fence_of g work (once (points_of rows))) p ≡ true) (once (points_of rows)) p sound.on_border among in
+        let border = All-contains (λ p. is_border_point (fence_of g work (first_of_each (points_of rows))) p ≡ true) (first_of_each (points_of rows)) p sound.on_border among in
         absurd (false≢true (rw e at border))
     at (Some row) e =
-        let inside = in_fence g work (once (points_of rows)) in
-        let here = found_there (λ (r : PointRow). same_name p r.name) (FenceRows.touching (fence_of g work (once (points_of rows)))) row e in
+        let inside = in_fence g work (first_of_each (points_of rows)) in
+        let here = found_there (λ (r : PointRow). same_name p r.name) (FenceRows.touching (fence_of g work (first_of_each (points_of rows)))) row e in
         let kept = kept_there (λ (r : PointRow). inside r.from_end || inside r.to_end) g.points row here in
-        let named = one_name p row.name (found_passes (λ (r : PointRow). same_name p r.name) (FenceRows.touching (fence_of g work (once (points_of rows)))) row e) in
+        let named = one_name p row.name (found_passes (λ (r : PointRow). same_name p r.name) (FenceRows.touching (fence_of g work (first_of_each (points_of rows)))) row e) in
         record { row = row; there = kept.0; named = sym named; an_end = or_cases (inside row.from_end) (inside row.to_end) kept.1 }
 
 standing_is_fenced : (phase : Phase) → is_standing phase ≡ true → is_fenced phase ≡ true
@@ -61,10 +61,10 @@ standing_is_fenced _ is = refl
 module _ (R : Register) (c : Id) (good : IsGood R) where
   -- a section in the fence of a standing order is among those of the clearance's fence
   standing_fence : (r : Record) → record_of R.records c ≡ Some r → is_standing r.phase ≡ true → (work : List ℕ) → r.work ≡ Some work
-      → (s : List ℕ) → in_fence R.net work (once (points_of (steps_in R.steps c 1))) s ≡ true → has_name (clearance_fence R c) s ≡ true
+      → (s : List ℕ) → in_fence R.net work (first_of_each (points_of (steps_in R.steps c 1))) s ≡ true → has_name (clearance_fence R c) s ≡ true
   standing_fence r read standing work works s inside =
       let cut : in_fence R.net work (points_of (steps_in R.steps c 1)) s ≡ true =
-      in_fence_alike R.net work (points_of (steps_in R.steps c 1)) (once (points_of (steps_in R.steps c 1)))
+      in_fence_alike R.net work (points_of (steps_in R.steps c 1)) (first_of_each (points_of (steps_in R.steps c 1)))
       (λ p. sym (has_name-once (points_of (steps_in R.steps c 1)) p)) s ∙ inside in
       (fence_says R c s).1 (record {
         r = r;

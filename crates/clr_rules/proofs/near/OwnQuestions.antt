@@ -7,8 +7,8 @@ use Rattle.clr_shelf.proofs.Groups.{row_of-filter_inside}
 use Rattle.clr_shelf.proofs.Keys.{equal}
 use Rattle.clr_shelf.proofs.Lists.{filter-filter_wider}
 use Rattle.clr_rules.specs.GoodByPhase.{of_round}
-use Rattle.clr_rules.specs.Prelude.{Hold, HoldKind, HeldOpen, Block, Control, Tag, StepRow, Id, same_id, Register, is_some_step, present, present_round, steps_in, hold_cmp, hold_cmp_total, has_any_hold, has_hold, has_some_hold, held_at}
-use Rattle.clr_rules.specs.Prelude.{hold_key, hold_of, holds_of, once, places_of, same_kind}
+use Rattle.clr_rules.specs.Prelude.{Hold, HoldKind, HeldOpen, Block, Control, Tag, StepRow, Id, same_id, Register, is_some_step, present_steps, present_round, steps_in, hold_cmp, hold_cmp_total, has_any_hold, has_hold, has_some_hold, held_at}
+use Rattle.clr_rules.specs.Prelude.{hold_key, hold_of, holds_of, first_of_each, places_of, same_kind}
 use Rattle.clr_rules.specs.Hold.{same_hold}
 use Rattle.clr_rules.specs.Holds.{held_among}
 use Rattle.clr_rules.specs.OwnLaws.{SameOwn}
@@ -52,7 +52,7 @@ module _ (c : Id) (R S : Register) (same : SameOwn c R S) where
   pub same_round : (round : ℕ) → steps_in R.steps c round ≡ steps_in S.steps c round
   same_round round = sym (of_round_is R.steps c round) ∙ ap (λ (rows : List StepRow). of_round rows round) same.own_steps ∙ of_round_is S.steps c round
 
-  pub same_present : present R.steps c ≡ present S.steps c
+  pub same_present : present_steps R.steps c ≡ present_steps S.steps c
   same_present = λ i. if is_some_step (same_round 2 i) then same_round 2 i else same_round 1 i
 
   pub same_present_round : present_round R.steps c ≡ present_round S.steps c
@@ -75,4 +75,4 @@ module _ (c : Id) (R S : Register) (same : SameOwn c R S) where
 
   pub same_held_among : (points : List (List ℕ)) → held_among R.holds c points ≡ held_among S.holds c points
   unfolding held_among
-  same_held_among points = λ i. map (λ p. same_held_at p i) (filter (λ p. same_has_hold HeldOpen p i) (once points))
+  same_held_among points = λ i. map (λ p. same_held_at p i) (filter (λ p. same_has_hold HeldOpen p i) (first_of_each points))

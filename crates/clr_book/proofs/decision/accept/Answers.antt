@@ -1,7 +1,7 @@
 use Rattle.std.proofs.Common.{◌∙◌, List, ap}
 use Rattle.clr_rules.specs.declared.step_row.StepRow.{StepRow}
 use Rattle.clr_book.specs.Card.{progress_of, put_all}
-use Rattle.clr_book.specs.Decision.{ended}
+use Rattle.clr_book.specs.Decision.{all_edits}
 use Rattle.clr_book.proofs.CardFacts.{card_is}
 use Rattle.clr_book.proofs.DecisionFacts.{steps_stay}
 use Rattle.clr_book.proofs.decision.accept.Goals as goal
@@ -14,5 +14,5 @@ returns-clause-answer c =
     card_is R e.lead.items r e.steps.items c.progress_with-progress.result c.new.result c.card_with-card.result
     (steps_stay e.lead.items R c.requires.lead)
     (c.progress_with-progress.ensures ∙ ap (λ (rows : List StepRow). progress_of (put_all rows R.steps) r.id) c.deref.ensures.value)
-    (c.new.ensures ∙ c.in_ok-all.ensures ∙ ap (ended e.lead.items r) c.deref-2.ensures.value)
+    (c.new.ensures ∙ c.in_ok-all.ensures ∙ ap (all_edits e.lead.items r) c.deref-2.ensures.value)
     c.card_with-card.ensures

@@ -1,6 +1,6 @@
 use Rattle.std.proofs.Common.{◌≡◌, ◌∙◌, ap, subst, sym}
 use Rattle.clr_rules.specs.Answer.{Answer}
-use Rattle.clr_rules.specs.Edits.{edited_all}
+use Rattle.clr_rules.specs.Edits.{after_edits}
 use Rattle.clr_rules.specs.Good.{IsGood}
 use Rattle.clr_rules.specs.Run.{after}
 use Rattle.clr_rules.proofs.keeps.EveryKind.{commands_keep_good}
@@ -13,12 +13,12 @@ returns-clause-good g c good =
     let q = c.args.command.now in
     let d = c.in_ok-decision.decision in
     let made : after R q ≡ c.apply.new.self.register =
-    ap (λ (a : Answer). edited_all a.edits R) (c.in_ok-decision.ensures.whole good)
-    ∙ ap (edited_all d.change.edits) (sym c.in_ok-reserve.ensures.register) ∙ sym c.apply.ensures.register in
+    ap (λ (a : Answer). after_edits a.edits R) (c.in_ok-decision.ensures.whole good)
+    ∙ ap (after_edits d.change.edits) (sym c.in_ok-reserve.ensures.register) ∙ sym c.apply.ensures.register in
     subst IsGood made (commands_keep_good R q good)
 
 pub returns-clause-nothing : goal.returns-clause-nothing
 returns-clause-nothing g c refused =
     let R = c.args.self.now.register in
     let d = c.in_ok-decision.decision in
-    c.apply.ensures.register ∙ (λ i. edited_all (c.in_ok-decision.ensures.nothing refused i) (c.in_ok-reserve.ensures.register i)) ∙ edits_end R
+    c.apply.ensures.register ∙ (λ i. after_edits (c.in_ok-decision.ensures.nothing refused i) (c.in_ok-reserve.ensures.register i)) ∙ edits_end R

@@ -1,6 +1,6 @@
 use Rattle.std.proofs.Common.{◌≡◌, ◌∙◌, ◌+◌, ◌∷◌, sym, ap, subst, drop, List}
 use Rattle.std.proofs.lemmas.List.{drop_all}
-use Rattle.clr_rules.specs.Edits.{edited_all}
+use Rattle.clr_rules.specs.Edits.{after_edits}
 use Rattle.clr_rules.specs.declared.change.Edit.{Edit}
 use Rattle.clr_book.specs.Book.{Fits, needs}
 use Rattle.clr_book.proofs.BookEdits.{drop_step, edit_step, edits_end}
@@ -15,11 +15,11 @@ loop-edit-preserved g c =
     drop_step c.as_slice-edit-items.result.now edits i edit c.as_slice-edit-items.ensures c.edit-item.is c.loop-edit-test.true in
     let made = edit_step edit (drop (i + 1) edits) c.loop-edit.self c.make.new.self
     (subst (λ (left : List Edit). Fits (needs left) c.loop-edit.self.room) step c.loop-edit.invariant.0) c.make.ensures.room c.make.ensures.register in
-    (made.0, c.make.ensures.network ∙ c.loop-edit.invariant.1, made.1 ∙ ap (λ left. edited_all left c.loop-edit.self.register) (sym step) ∙ c.loop-edit.invariant.2)
+    (made.0, c.make.ensures.network ∙ c.loop-edit.invariant.1, made.1 ∙ ap (λ left. after_edits left c.loop-edit.self.register) (sym step) ∙ c.loop-edit.invariant.2)
 
 pub returns-clause-register : goal.returns-clause-register
 returns-clause-register g c =
     let edits = c.args.change.edits in
     let none = drop_all c.loop-edit.edit-index c.as_slice-edit-items.result.now c.loop-edit-test.false in
     sym (edits_end c.loop-edit.self.register)
-    ∙ ap (λ left. edited_all left c.loop-edit.self.register) (sym none ∙ ap (drop c.loop-edit.edit-index) c.as_slice-edit-items.ensures) ∙ c.loop-edit.invariant.2
+    ∙ ap (λ left. after_edits left c.loop-edit.self.register) (sym none ∙ ap (drop c.loop-edit.edit-index) c.as_slice-edit-items.ensures) ∙ c.loop-edit.invariant.2

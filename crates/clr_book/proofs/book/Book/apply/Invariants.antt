@@ -1,5 +1,5 @@
 use Rattle.std.proofs.Common.{◌≡◌, drop}
-use Rattle.clr_rules.specs.Edits.{edited_all}
+use Rattle.clr_rules.specs.Edits.{after_edits}
 use Rattle.clr_book.specs.Book.{Fits, needs}
 use Rattle.clr_book.proofs.book.Book.apply.Given as goal
 
@@ -7,4 +7,4 @@ use Rattle.clr_book.proofs.book.Book.apply.Given as goal
 abbrev pub invariant-loop-edit : goal.invariant-loop-edit
 invariant-loop-edit g l =
     Fits (needs (drop l.edit-index l.fn.change.edits)) l.self.room
-    × (l.self.network ≡ l.fn.self.network) × (edited_all (drop l.edit-index l.fn.change.edits) l.self.register ≡ edited_all l.fn.change.edits l.fn.self.register)
+    × (l.self.network ≡ l.fn.self.network) × (after_edits (drop l.edit-index l.fn.change.edits) l.self.register ≡ after_edits l.fn.change.edits l.fn.self.register)

@@ -7,7 +7,7 @@ use Rattle.clr_rules.specs.Answer.{known_of}
 use Rattle.clr_rules.specs.Fences.{touching_names}
 use Rattle.clr_rules.specs.Holds.{is_near_hold, is_own}
 use Rattle.clr_rules.specs.Id.{Id}
-use Rattle.clr_rules.specs.Near.{is_asked, is_beside, near_part, switched}
+use Rattle.clr_rules.specs.Near.{is_asked, is_beside, near_part, switched_points}
 use Rattle.clr_rules.specs.Register.{unplaced}
 use Rattle.clr_book.specs.Book.{Shelved}
 use Rattle.clr_book.proofs.NearFacts.{lent_whole, unplaced_shown}
@@ -23,7 +23,7 @@ returns g c =
     let own = c.clearance-own.ensures in
     let touching : c.in_ok-fence.field-0.touching.items ≡ touching_names R.net (has_name k.fence) =
     c.in_ok-fence.ensures.touching ∙ ap (λ (names : List (List ℕ)). touching_names R.net (has_name names)) c.in_ok-fence.ensures.sections in
-    let near_point = λ (p : List ℕ). c.in_ok-beside.ensures.same p ∙ ap (λ (names : List (List ℕ)). has_name names p || has_name (switched R q.kind) p) touching in
+    let near_point = λ (p : List ℕ). c.in_ok-beside.ensures.same p ∙ ap (λ (names : List (List ℕ)). has_name names p || has_name (switched_points R q.kind) p) touching in
     let beside : has_name c.in_ok-beside.beside.items ≡ is_beside R k q.kind = λ i p. near_point p i in
     let at_points : has_name c.deref-2.result.now ≡ is_beside R k q.kind = ap has_name c.deref-2.ensures.value ∙ beside in
     let at_states : has_name c.deref-3.result.now ≡ is_beside R k q.kind = ap has_name c.deref-3.ensures.value ∙ beside in

@@ -1,13 +1,13 @@
 use Rattle.std.proofs.Common.{◌≡◌, ◌∙◌, ◌++◌, ℕ, [], ◌∷◌, List, Vec, Global, ap, arith, sym}
 use Rattle.clr_net.specs.Names.{has_name}
 use Rattle.clr_net.specs.declared.name.Name.{Name}
-use Rattle.clr_rules.specs.Holds.{once}
+use Rattle.clr_rules.specs.Holds.{first_of_each}
 use Rattle.clr_book.proofs.OnceFacts.{met_before, met_now, others, others_none}
 use Rattle.clr_book.proofs.checks.orders.each_once.Goals as goal
 use Rattle.clr_book.proofs.checks.orders.each_once.Goals.{then-not-has_name+in_ok-push, else-not-has_name}
 
 pub loop-name-init : goal.loop-name-init
-loop-name-init c = ap (λ kept. kept ++ others kept (once c.args.names.now)) c.new-kept.ensures.items ∙ others_none (once c.args.names.now)
+loop-name-init c = ap (λ kept. kept ++ others kept (first_of_each c.args.names.now)) c.new-kept.ensures.items ∙ others_none (first_of_each c.args.names.now)
 
 pub loop-name-preserved : goal.loop-name-preserved
 loop-name-preserved c =
@@ -19,8 +19,8 @@ loop-name-preserved c =
     elim c.if-not-has_name.branch [
       | then-not-has_name+in_ok-push w ↦
           let items : c.if-not-has_name.kept.items ≡ kept ++ name ∷ [] = ap (λ (v : Vec Name Global). v.items) w.kept-is ∙ w.in_ok-push.ensures.items in
-          rw items (met_now kept (once names) names i name (omega arith) c.name-item.is (met ∙ w.if-not-has_name.true) c.loop-name.invariant)
+          rw items (met_now kept (first_of_each names) names i name (omega arith) c.name-item.is (met ∙ w.if-not-has_name.true) c.loop-name.invariant)
       | else-not-has_name w ↦
           let items : c.if-not-has_name.kept.items ≡ kept = ap (λ (v : Vec Name Global). v.items) w.kept-is in
-          rw items (met_before kept (once names) names i name (omega arith) c.name-item.is (met ∙ w.if-not-has_name.false) c.loop-name.invariant)
+          rw items (met_before kept (first_of_each names) names i name (omega arith) c.name-item.is (met ∙ w.if-not-has_name.false) c.loop-name.invariant)
     ]

@@ -13,7 +13,7 @@ use Rattle.clr_rules.specs.Near.{Near}
 use Rattle.clr_rules.specs.Refusals.{order_refusal}
 use Rattle.clr_book.specs.Orders.{refusal_of}
 use Rattle.clr_book.proofs.NearFacts.{unplaced_shown}
-use Rattle.clr_book.proofs.OrderPositions.{order_told, told}
+use Rattle.clr_book.proofs.OrderPositions.{order_told, refusal_of_answer}
 use Rattle.clr_book.proofs.SortedRows.{rising-filter}
 use Rattle.clr_book.proofs.checks.orders.unsound_order.Goals as goal
 
@@ -50,7 +50,7 @@ returns c =
     ap FenceRows.touching c.of_rows-fence.ensures ∙ c.in_ok-touching.ensures
     ∙ ap (λ (all : List (List ℕ)). filter (touches (has_name all)) (map (λ row. row.now) c.deref-3.result.now)) (c.deref-4.ensures.value ∙ names)
     ∙ ap (λ (items : List (Bor PointRow)). filter (touches (has_name known)) (map (λ row. row.now) items)) c.deref-3.ensures.value in
-    c.refusal_of.ensures ∙ ap refusal_of c.check_isolating.ensures.first ∙ told (isolating_fault c.of_rows-fence.result points tasks)
+    c.refusal_of.ensures ∙ ap refusal_of c.check_isolating.ensures.first ∙ refusal_of_answer (isolating_fault c.of_rows-fence.result points tasks)
     ∙ ap order_refusal (order_told S T known c.of_rows-fence.result g points tasks sections touching
     (ap (λ (n : Near). n.rows.net.sections) c.near.view_is)
     (sym (unplaced_shown (λ (row : Bor PointRow). row.now) c.near.inside.points.items) ∙ ap (λ (n : Near). n.rows.net.points) c.near.view_is))

@@ -8,7 +8,7 @@ use Rattle.clr_rules.specs.Refusals.{order_refusal}
 use Rattle.clr_rules.proofs.good.Opening.{unplaced_names}
 use Rattle.clr_book.specs.Orders.{refusal_of}
 use Rattle.clr_book.proofs.NearFacts.{unplaced_shown}
-use Rattle.clr_book.proofs.OrderPositions.{told}
+use Rattle.clr_book.proofs.OrderPositions.{refusal_of_answer}
 use Rattle.clr_book.proofs.checks.orders.wrong_switching.Goals as goal
 
 pub returns : goal.returns
@@ -20,5 +20,5 @@ returns c =
     ∙ sym (unplaced_names (map (λ (row : Bor PointRow). row.now) rows))
     ∙ ap point_names (sym (unplaced_shown (λ (row : Bor PointRow). row.now) rows) ∙ ap (λ (n : Near). n.rows.net.points) c.near.view_is) in
     c.refusal_of.ensures ∙ ap refusal_of c.check_switching.ensures.first
-    ∙ told (switching_fault (point_names (map (λ (row : Bor PointRow). row.now) c.deref.result.now)) tasks)
+    ∙ refusal_of_answer (switching_fault (point_names (map (λ (row : Bor PointRow). row.now) c.deref.result.now)) tasks)
     ∙ ap (λ (found : List (List ℕ)). order_refusal (switching_fault found tasks)) names

@@ -10,12 +10,12 @@ use Rattle.clr_net.specs.Fence.{in_fence, reaches}
 use Rattle.clr_csv.specs.declared.employee.StaffRow.{StaffRow}
 use Rattle.clr_shelf.specs.Rows.{row_of, with_row, without_row}
 use Rattle.clr_rules.specs.Live.{is_shut}
-use Rattle.clr_rules.specs.Prelude.{PointState, Register, greatest_number, steps_in, steps_of, has_any_hold, has_some_hold, holds_of, once, places_of, edited_all}
+use Rattle.clr_rules.specs.Prelude.{PointState, Register, greatest_number, steps_in, steps_of, has_any_hold, has_some_hold, holds_of, first_of_each, places_of, after_edits}
 use Rattle.clr_rules.specs.Changes.{new_steps}
 use Rattle.clr_rules.specs.Fences.{touching_names}
 use Rattle.clr_rules.specs.Holds.{held_among, hindering_hold}
 use Rattle.clr_rules.specs.Run.{after_all}
-use Rattle.clr_rules.specs.Shown.{covers, own_answers, shown}
+use Rattle.clr_rules.specs.Shown.{covers, own_answers, items_shown}
 use Rattle.clr_rules.proofs.examples.isolation.disagreements.Goals as goal
 
 all_lockable : Register → Bool
@@ -31,17 +31,17 @@ is_none : ℕ → Bool
 is_none n = n == 0
 
 pub returns-clause-point : goal.returns-clause-point
-unfolding in_fence reaches row_of with_row without_row new_steps holds_of places_of has_some_hold has_any_hold hindering_hold held_among once steps_in steps_of greatest_number touching_names edited_all after_all shown own_answers covers all_lockable
+unfolding in_fence reaches row_of with_row without_row new_steps holds_of places_of has_some_hold has_any_hold hindering_hold held_among first_of_each steps_in steps_of greatest_number touching_names after_edits after_all items_shown own_answers covers all_lockable
 returns-clause-point c agree = true≢false (ap all_lockable agree.near)
 
 pub returns-clause-position : goal.returns-clause-position
-unfolding in_fence reaches row_of with_row without_row new_steps holds_of places_of has_some_hold has_any_hold hindering_hold held_among once steps_in steps_of greatest_number touching_names edited_all after_all shown own_answers covers all_closed
+unfolding in_fence reaches row_of with_row without_row new_steps holds_of places_of has_some_hold has_any_hold hindering_hold held_among first_of_each steps_in steps_of greatest_number touching_names after_edits after_all items_shown own_answers covers all_closed
 returns-clause-position c agree = true≢false (ap all_closed agree.near)
 
 pub returns-clause-staff : goal.returns-clause-staff
-unfolding in_fence reaches row_of with_row without_row new_steps holds_of places_of has_some_hold has_any_hold hindering_hold held_among once steps_in steps_of greatest_number touching_names edited_all after_all shown own_answers covers has_supervisor
+unfolding in_fence reaches row_of with_row without_row new_steps holds_of places_of has_some_hold has_any_hold hindering_hold held_among first_of_each steps_in steps_of greatest_number touching_names after_edits after_all items_shown own_answers covers has_supervisor
 returns-clause-staff c agree = true≢false (ap has_supervisor agree.near)
 
 pub returns-clause-number : goal.returns-clause-number
-unfolding in_fence reaches row_of with_row without_row new_steps holds_of places_of has_some_hold has_any_hold hindering_hold held_among once steps_in steps_of greatest_number touching_names edited_all after_all shown own_answers covers is_none
+unfolding in_fence reaches row_of with_row without_row new_steps holds_of places_of has_some_hold has_any_hold hindering_hold held_among first_of_each steps_in steps_of greatest_number touching_names after_edits after_all items_shown own_answers covers is_none
 returns-clause-number c agree = true≢false (ap is_none agree.greatest)

@@ -2,7 +2,7 @@ use Rattle.std.proofs.Common.{◌≡◌, ◌+◌, ◌≤◌, ◌&&◌, drop}
 use Rattle.std.specs.List.{count_by}
 use Rattle.clr_rules.specs.Steps.{is_done, is_of_round}
 use Rattle.clr_rules.specs.declared.step_row.StepRow.{StepRow}
-use Rattle.clr_book.proofs.card.added.Given as goal
+use Rattle.clr_book.proofs.card.added_tally.Given as goal
 
 -- what was counted, and what is left to count
 abbrev pub invariant-loop-row : goal.invariant-loop-row

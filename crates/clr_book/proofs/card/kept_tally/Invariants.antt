@@ -3,7 +3,7 @@ use Rattle.std.specs.List.{count_by}
 use Rattle.clr_rules.specs.Steps.{is_done, is_of_round}
 use Rattle.clr_rules.specs.declared.step_row.StepRow.{StepRow}
 use Rattle.clr_book.specs.Card.{is_put}
-use Rattle.clr_book.proofs.card.kept.Given as goal
+use Rattle.clr_book.proofs.card.kept_tally.Given as goal
 
 -- what was counted, and what is left to count
 abbrev pub invariant-loop-row : goal.invariant-loop-row
