@@ -83,6 +83,13 @@ impl<P: Shelf<PointState>, C: Shelf<Record>, T: Shelf<StepRow>, H: Shelf<Hold>> 
         &self.network
     }
 
+    /// The staff that the book was opened with.
+    pub fn staff(&self) -> &Staff
+        ensures { result.now ≡ self.now.register.staff }
+    {
+        &self.staff
+    }
+
     /// The rows of a book stand in the order of their keys, one row a key: a law, with nothing to do.
     pub fn stands_in_order(&self)
         ensures { ListsAreInOrder self.now.register }

@@ -13,7 +13,6 @@ mod cancel;
 mod grant;
 mod ground;
 mod instruct;
-mod step_moves;
 mod new_record;
 mod new_steps;
 mod order;
@@ -25,6 +24,7 @@ mod restore;
 mod show;
 mod sign_off;
 mod sign_on;
+mod step_moves;
 mod switch;
 mod test;
 mod transfer;
@@ -37,6 +37,10 @@ use clr_rules::{Command, Kind, Refusal};
 use std::alloc::AllocError;
 
 /// What a command is answered, and what it changes. Of a good register the near part is enough.
+///
+/// Independence: good registers with the same near part give the same reply and the same change,
+/// whatever else stands in them (law `near_is_enough` of clr_rules, a part of what a holder may
+/// rely on).
 pub fn decide(near: &Near, command: &Command) -> Result<Decision, AllocError>
     ensures lent { IfOk result (λ d.
         answer_with near.now.known near.now.rows command.now ≡ answer_of_decision d) }

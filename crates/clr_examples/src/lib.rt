@@ -6,9 +6,13 @@ mod books;
 #[cfg(test)]
 mod csv;
 #[cfg(test)]
+mod driver;
+#[cfg(test)]
 mod fences;
 #[cfg(test)]
 mod ids;
+#[cfg(test)]
+mod life;
 #[cfg(test)]
 mod networks;
 #[cfg(test)]

@@ -1,40 +1,21 @@
 //! The register over lists: all numbers of a requester, which no session has.
 use crate::books::{ListBook, opening_book};
-use clr_book::{Card, ClearanceId, Command, Kind, Moment, Phase, Refusal, Reply};
+use crate::driver::{expect, own_card, say};
+use clr_book::{ClearanceId, Kind, Phase, Refusal, Reply};
 use clr_net::Name;
 use std::test::Fail;
 
 /// What a request for L2 is answered. Its change is made.
 fn request(book: &mut ListBook, by: &str) -> Result<Reply, Fail> {
-    let command = Command {
-        caller: Name::read(by)?,
-        moment: Moment::new(100).ok_or("a moment")?,
-        kind: Kind::Request {
-            section: Name::read("L2")?,
-        },
-    };
-    Ok(book.answer_and_apply(&command)?)
+    let section = Name::read("L2")?;
+    let reply = say(book, by, Kind::Request { section })?;
+    Ok(reply)
 }
 
 /// A requester's clearance of this number was asked for.
 fn requested(requester: &str, number: u16) -> Result<Reply, Fail> {
-    let requester = Name::read(requester)?;
-    Ok(Reply::Accepted(Card {
-        clearance: ClearanceId::new(requester, number).ok_or("a number")?,
-        phase: Phase::Requested,
-        holder: requester,
-        round: 0,
-        done: 0,
-        steps: 0,
-    }))
-}
-
-/// A command was answered as expected. A function of its own, since each comparison of replies is proved anew.
-fn expect(reply: Reply, expected: Reply) -> Result<(), Fail> {
-    if reply == expected {
-        return Ok(());
-    }
-    Err("another reply")?
+    let id = ClearanceId::new(Name::read(requester)?, number).ok_or("a number")?;
+    Ok(Reply::Accepted(own_card(id, Phase::Requested, 0, 0, 0)))
 }
 
 #[test]

@@ -12,18 +12,18 @@ use Rattle.std.proofs.Math.Bool.{or-true, or-false, not-not}
 use Rattle.std.specs.declared.cmp.Ordering.{Ordering}
 use Rattle.std.specs.declared.cmp.Ordering.TheVariants.{Less, Equal, Greater}
 use Rattle.std.specs.Ordering.{is_eq, is_lt, ordering_reverse}
-use Rattle.std.specs.List.{IsDistinct, find, list_any, position_or_len, range_with_len}
-use Rattle.std.specs.List.Sorted.{IsStrictlySortedBy, IsSortedBy, IsSortedByKey, IsBinarySearchResult, IsSearchInRange, IsPartitionPoint}
+use Rattle.std.specs.List.{IsAllAdjacentAnswer, IsDistinct, find, list_all, list_any, position_or_len, range_with_len}
+use Rattle.std.specs.List.Sorted.{IsPermutation, IsStrictlySortedBy, IsSortedBy, IsSortedByKey, IsBinarySearchResult, IsSearchInRange, IsPartitionPoint}
 use Rattle.std.specs.Cmp.Lexicographic.{same_text, texts_ties}
 use Rattle.std.proofs.lemmas.Cmp.{nat_list_cmp_total, nat_list_eq_equiv}
 use Rattle.std.proofs.lemmas.Bool.{both_ways, cases_lt, false_from_ne_true, le-ltb, lt-ltb, or_parts}
 use Rattle.std.proofs.lemmas.List.{get_or-map, get_or-take, get_or_default, length-map, length-take-le}
-use Rattle.std.proofs.lemmas.List.Sums.{position_or_len_is}
-use Rattle.std.proofs.lemmas.List.Sorted.{searchable_from_sorted}
+use Rattle.std.proofs.lemmas.List.Sums.{AllPass-from_list_all, list_all-from_AllPass, position_or_len_is}
+use Rattle.std.proofs.lemmas.List.Sorted.{All-permutation, IsPermutation-map, IsPermutation-sym, searchable_from_sorted}
 use Rattle.std.proofs.lemmas.List.FromFn.{get_or-range_with_len, length-range_with_len}
 use Rattle.std.proofs.lemmas.List.Folds.{list_any_at, list_any_more, list_any_none}
 use Rattle.std.specs.BTreeSet.{BTreeSet, Updates, contains}
-use Rattle.std.proofs.lemmas.Map.Keys.{IsDistinct-from_apart, Less-from_sorted, apart_from_distinct, sorted_from_all_adjacent}
+use Rattle.std.proofs.lemmas.Map.Keys.{IsDistinct-IsPermutation, IsDistinct-from_apart, Less-from_sorted, apart_from_distinct, sorted_from_all_adjacent}
 use Rattle.clr_net.specs.Name.{same_name, name_cmp}
 use Rattle.clr_net.specs.Names.{has_name, is_repeat, repeat_place}
 
@@ -190,6 +190,38 @@ rising_from_sorted {X} name_of (x ∷ rows) sorted once = sorted_from_all_adjace
         (rw (here, next) (sorted k x (omega arith) (omega arith)))
         (apart_from_distinct same_name (map name_of (x ∷ rows)) k (k + 1) [] once (omega arith) inside)
 
+-- a name that comes before another
+less_from_true : (o : Ordering) → true ≡ is_lt o → o ≡ Less
+less_from_true Less e = refl
+less_from_true Equal e = absurd (false≢true (sym e))
+less_from_true Greater e = absurd (false≢true (sym e))
+
+-- rows each of whose names comes before the next one's
+pub rising_from_adjacent : {X : Type 0} (name_of : X → List ℕ) (rows : List X) (r : Bool) → r ≡ true
+    → IsAllAdjacentAnswer (λ x y b. b ≡ is_lt (name_cmp (name_of x) (name_of y))) rows r → IsStrictlySortedBy name_cmp (map name_of rows)
+rising_from_adjacent {X} name_of rows false is answer = absurd (false≢true is)
+rising_from_adjacent {X} name_of [] true is answer = sorted_from_all_adjacent nat_list_cmp_total [] [] (λ k inside. absurd (omega arith))
+rising_from_adjacent {X} name_of (x ∷ rows) true is answer = sorted_from_all_adjacent nat_list_cmp_total (map name_of (x ∷ rows)) [] rises
+  where
+    rises : (k : ℕ) → k + 1 < length (map name_of (x ∷ rows)) → name_cmp (get_or (map name_of (x ∷ rows)) k []) (get_or (map name_of (x ∷ rows)) (k + 1) []) ≡ Less
+    rises k inside =
+        let size = length-map (x ∷ rows) name_of in
+        rw (get_or-map name_of (x ∷ rows) k x [] (omega arith), get_or-map name_of (x ∷ rows) (k + 1) x [] (omega arith))
+        (less_from_true _ (answer k x (omega arith)))
+
+-- names that rise are distinct
+pub distinct_from_rising : (names : List (List ℕ)) → IsStrictlySortedBy name_cmp names → IsDistinct same_name names
+distinct_from_rising names rises = IsDistinct-from_apart same_name names
+    (λ i j d before inside. texts_ties (get_or names i d) (get_or names j d) ∙ ap is_eq (Less-from_sorted name_cmp names i j d rises before inside))
+
+-- where the names of the same rows in another order rise, no name stands twice
+pub once_from_rising : {X : Type 0} (name_of : X → List ℕ) (rows ordered : List X) → IsPermutation rows ordered
+    → IsStrictlySortedBy name_cmp (map name_of ordered) → IsDistinct same_name (map name_of rows)
+once_from_rising name_of rows ordered moved rises =
+    IsDistinct-IsPermutation same_name nat_list_eq_equiv.symm (map name_of ordered) (map name_of rows)
+    (IsPermutation-sym (map name_of rows) (map name_of ordered) (IsPermutation-map name_of rows ordered moved))
+    (distinct_from_rising (map name_of ordered) rises)
+
 -- the first row that passes
 find_first : {X : Type 0} (p : X → Bool) (rows : List X) (i : ℕ) (x : X) → i < length rows → x ≡ get_or rows i x → p x ≡ true → ((k : ℕ) → k < i → p (get_or rows k x) ≡ false) → Some x ≡ find p rows
 find_first p [] i x inside is here before = absurd (omega arith)
@@ -242,12 +274,24 @@ unrepeated_from_distinct names once k inside = list_any_none (same_name (get_or 
 pub no_repeat : (names : List (List ℕ)) → IsDistinct same_name names → repeat_place names ≡ None
 no_repeat names once = sym (repeat_none names (unrepeated_from_distinct names once))
 
--- names that rise are distinct
-pub distinct_from_rising : (names : List (List ℕ)) → IsStrictlySortedBy name_cmp names → IsDistinct same_name names
-distinct_from_rising names rises = IsDistinct-from_apart same_name names
-    (λ i j d before inside. texts_ties (get_or names i d) (get_or names j d) ∙ ap is_eq (Less-from_sorted name_cmp names i j d rises before inside))
-
 -- where each element fails, no place is found
 pub all_none : {X : Type 0} (p : X → Bool) (xs : List X) → All (λ x. p x ≡ false) xs → position p xs ≡ None
 all_none p [] fails = refl
 all_none p (x ∷ xs) fails = position_none p (x ∷ xs) x (λ k inside. fails k x inside)
+
+-- where each element passes, no element is found that does not
+pub none_fail : {X : Type 0} (p : X → Bool) (xs : List X) → list_all p xs ≡ true → position (λ x. not (p x)) xs ≡ None
+none_fail p xs all = all_none (λ x. not (p x)) xs (λ k d inside. ap not (AllPass-from_list_all p xs all k d inside))
+
+passes_permuted : {X : Type 0} (p : X → Bool) (xs ys : List X) → IsPermutation xs ys → list_all p xs ≡ true → list_all p ys ≡ true
+passes_permuted p xs ys moved all =
+    list_all-from_AllPass p ys (All-permutation (λ x. p x ≡ true) xs ys moved (AllPass-from_list_all p xs all))
+
+-- whether all elements pass does not hang on their order
+pub list_all-permuted : {X : Type 0} (p : X → Bool) (xs ys : List X) → IsPermutation xs ys → list_all p xs ≡ list_all p ys
+list_all-permuted p xs ys moved = by (list_all p xs) refl (list_all p ys) refl
+  where
+    by : (b : Bool) → list_all p xs ≡ b → (c : Bool) → list_all p ys ≡ c → list_all p xs ≡ list_all p ys
+    by true all c there = all ∙ sym (passes_permuted p xs ys moved all)
+    by false some true there = absurd (both_ways _ some (passes_permuted p ys xs (IsPermutation-sym xs ys moved) there))
+    by false some false there = some ∙ sym there

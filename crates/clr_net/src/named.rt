@@ -1,5 +1,5 @@
 //! Rows that go by a name: their order, the place of a name, and a name that stands twice.
-ghost use Rattle.std.specs.Prelude.{◌≡◌, ◌<◌, ℕ, List, find, length, map, position, IfOk, IfSome, IfNone};
+ghost use Rattle.std.specs.Prelude.{◌≡◌, ◌<◌, ℕ, List, find, length, map, position, IfOk, IfSome, IfNone, IsTrue};
 ghost use Rattle.std.specs.List.{IsDistinct};
 ghost use Rattle.std.specs.Option.{option_copied};
 ghost use Rattle.std.specs.List.Sorted.{IsPermutation, IsStrictlySortedBy, IsSortedByKey};
@@ -26,6 +26,24 @@ pub fn sort_by_name<R: Named>(rows: &mut Vec<R>)
         → IsStrictlySortedBy name_cmp (map R.name_of rows.new.items) }
 {
     rows.sort_unstable_by_key(|row| row.name());
+}
+
+/// The same rows, in the order of their names.
+pub(crate) fn in_order<R: Named + Copy>(alloc: Global, rows: &[R]) -> Result<Vec<R>, AllocError>
+    ensures permutation { IfOk result (λ ordered. IsPermutation rows.now ordered.items) }
+    ensures rising { IfOk result (λ ordered. IsDistinct same_name (map R.name_of rows.now)
+        → IsStrictlySortedBy name_cmp (map R.name_of ordered.items)) }
+{
+    let mut ordered = Vec::from_slice(alloc, rows)?;
+    sort_by_name(&mut ordered);
+    Ok(ordered)
+}
+
+/// Whether the name of each row comes before that of the next.
+fn rises<R: Named>(rows: &[R]) -> bool
+    ensures { IsTrue result → IsStrictlySortedBy name_cmp (map R.name_of rows.now) }
+{
+    rows.is_sorted_by(|row, next| row.name().cmp(&next.name()).is_lt())
 }
 
 /// The place of the row with this name, among rows in the order of their names.
@@ -61,6 +79,25 @@ pub fn repeat_place<R: Named>(alloc: Global, rows: &[R]) -> Result<Option<usize>
         }
     }
     Ok(None)
+}
+
+/// The same of rows that are given in the order of their names too: where these rise, no name
+/// stands twice.
+pub(crate) fn repeat_place_beside<R: Named>(
+    alloc: Global,
+    rows: &[R],
+    ordered: &[R],
+) -> Result<Option<usize>, AllocError>
+    requires { IsPermutation rows.now ordered.now }
+    ensures place { IfOk result (λ place. place ≡ repeat_place (map R.name_of rows.now)) }
+    ensures inside { IfOk result (λ place. IfSome place (λ i. i < length rows.now)) }
+    ensures once { IfOk result (λ place.
+        IfNone place (IsDistinct same_name (map R.name_of rows.now))) }
+{
+    if rises(ordered) {
+        return Ok(None);
+    }
+    repeat_place(alloc, rows)
 }
 
 impl<'a, R: Named> Named for &'a R {

@@ -1,7 +1,7 @@
 //! The network: its sections and switching points, checked and in the order of their names.
 ghost use Rattle.std.specs.Prelude.{◌≡◌, ◌<◌, ◌≤◌, ℕ, List, false, find, length, not, position, IfOk, OnOk, IsTrue, All};
 ghost use Rattle.std.specs.Option.{option_copied};
-ghost use Rattle.std.specs.List.{IsDistinct};
+ghost use Rattle.std.specs.List.{IsDistinct, list_all};
 ghost use Rattle.std.specs.List.Sorted.{IsPermutation, IsStrictlySortedBy};
 ghost use Rattle.clr_net.specs.Name.{name_cmp, same_name};
 ghost use Rattle.clr_net.specs.Grid.{Grid, IsNetwork, section_names, has_ends, has_one_section, point_names};
@@ -11,12 +11,12 @@ ghost use Rattle.clr_net.specs.Fence.{fence_of};
 
 use crate::fence::Fence;
 use crate::name::Name;
-use crate::named::{place_of, repeat_place, row_of, sort_by_name};
+use crate::named::{in_order, place_of, repeat_place_beside, row_of};
 use crate::net_fault::NetFault;
 use crate::point::PointRow;
 use crate::reach::{mark_fence, mark_touching};
 use crate::section::SectionRow;
-use crate::ways::{Ways, index};
+use crate::ways::{Ways, all_ends, index};
 use std::alloc::{AllocError, Global};
 use std::marker::Model;
 
@@ -51,20 +51,21 @@ impl Network {
     /// The network of these rows, with the rows in the order of their names.
     pub fn build(
         alloc: Global,
-        mut sections: Vec<SectionRow>,
-        mut points: Vec<PointRow>,
+        sections: Vec<SectionRow>,
+        points: Vec<PointRow>,
     ) -> Result<Network, NetFault>
         ensures { Builds sections.items points.items result }
     {
         check_size(&sections, &points)?;
-        check_names(alloc, &sections, &points)?;
-        sort_by_name(&mut sections);
-        check_ends(&sections, &points)?;
-        sort_by_name(&mut points);
-        let ways = index(alloc, &sections, &points)?;
+        let ordered = in_order(alloc, &sections)?;
+        let ordered_points = in_order(alloc, &points)?;
+        check_names(alloc, &sections, &ordered, &points, &ordered_points)?;
+        let ends = all_ends(alloc, &ordered, &ordered_points)?;
+        check_ends(&ordered, &points, ends.is_some())?;
+        let ways = index(alloc, &ordered, &ordered_points, ends.unwrap())?;
         Ok(Network {
-            sections,
-            points,
+            sections: ordered,
+            points: ordered_points,
             ways,
         })
     }
@@ -109,6 +110,9 @@ impl Network {
 
     /// The fence of a section, cut at these points: what can be reached from it over the other points, whatever their
     /// positions. A name that is no point cuts nothing; a section that the network does not have has an empty fence.
+    ///
+    /// Locality: a network with the same rows at the fence has the same fence, whatever it has
+    /// elsewhere (law `fences_are_local` of clr_rules, a part of what a holder may rely on).
     pub fn fence(&self, work: &Name, cut: &[Name]) -> Result<Fence<'_>, AllocError>
         ensures { IfOk result (λ fence. fence ≡ fence_of self.now work.now cut.now) }
     {
@@ -136,30 +140,41 @@ fn check_size(sections: &[SectionRow], points: &[PointRow]) -> Result<(), NetFau
     Ok(())
 }
 
-/// The names that stand twice, as a stage of the checks.
-fn check_names(alloc: Global, sections: &[SectionRow], points: &[PointRow]) -> Result<(), NetFault>
+/// The names that stand twice, as a stage of the checks; the rows are given in the order of their
+/// names too.
+fn check_names(
+    alloc: Global,
+    sections: &[SectionRow],
+    ordered_sections: &[SectionRow],
+    points: &[PointRow],
+    ordered_points: &[PointRow],
+) -> Result<(), NetFault>
+    requires sections { IsPermutation sections.now ordered_sections.now }
+    requires points { IsPermutation points.now ordered_points.now }
     ensures passes { Passes (twice_fault sections.now points.now) result }
     ensures sections_once { OnOk result (IsDistinct same_name (section_names sections.now)) }
     ensures points_once { OnOk result (IsDistinct same_name (point_names points.now)) }
 {
-    if let Some(place) = repeat_place(alloc, sections)? {
+    if let Some(place) = repeat_place_beside(alloc, sections, ordered_sections)? {
         return Err(NetFault::SectionTwice(place + 1));
     }
-    if let Some(place) = repeat_place(alloc, points)? {
+    if let Some(place) = repeat_place_beside(alloc, points, ordered_points)? {
         return Err(NetFault::PointTwice(place + 1));
     }
     Ok(())
 }
 
-/// The ends of the points, as a stage of the checks; the sections stand in the order of their names.
-fn check_ends(sections: &[SectionRow], points: &[PointRow]) -> Result<(), NetFault>
-    requires { IsStrictlySortedBy name_cmp (section_names sections.now) }
+/// The ends of the points, as a stage of the checks; the sections stand in the order of their
+/// names, and it is known whether all ends are sections.
+fn check_ends(sections: &[SectionRow], points: &[PointRow], all_known: bool) -> Result<(), NetFault>
+    requires rising { IsStrictlySortedBy name_cmp (section_names sections.now) }
+    requires all { all_known ≡ list_all (has_ends (section_names sections.now)) points.now }
     ensures passes { Passes (end_fault (section_names sections.now) points.now) result }
     ensures known { OnOk result
         (All (λ p. IsTrue (has_ends (section_names sections.now) p)) points.now) }
     ensures differ { OnOk result (All (λ p. has_one_section p ≡ false) points.now) }
 {
-    if let Some(place) = unknown_end(sections, points) {
+    if let Some(place) = unknown_end(sections, points, all_known) {
         return Err(NetFault::UnknownEnd(place + 1));
     }
     if let Some(place) = same_ends(points) {
@@ -168,11 +183,16 @@ fn check_ends(sections: &[SectionRow], points: &[PointRow]) -> Result<(), NetFau
     Ok(())
 }
 
-/// The first place of a point with an end that is no section.
-fn unknown_end(sections: &[SectionRow], points: &[PointRow]) -> Option<usize>
-    requires { IsStrictlySortedBy name_cmp (section_names sections.now) }
+/// The first place of a point with an end that is no section; nothing is looked up where all ends
+/// are known.
+fn unknown_end(sections: &[SectionRow], points: &[PointRow], all_known: bool) -> Option<usize>
+    requires rising { IsStrictlySortedBy name_cmp (section_names sections.now) }
+    requires all { all_known ≡ list_all (has_ends (section_names sections.now)) points.now }
     ensures { result ≡ position (λ p. not (has_ends (section_names sections.now) p)) points.now }
 {
+    if all_known {
+        return None;
+    }
     points.iter().position(|point| !has_ends(sections, point))
 }
 

@@ -1,5 +1,6 @@
 //! The index of a network: the places of each point's ends, and the ways out of each section.
-ghost use Rattle.std.specs.Prelude.{◌≡◌, ◌<◌, ℕ, List, [], length, map, replicate, All, IfOk, OnOk, IsTrue, vec_len};
+ghost use Rattle.std.specs.Prelude.{◌≡◌, ◌<◌, ℕ, List, [], length, map, replicate, All, IfOk, OnOk, IfSome, IsTrue, is_some, vec_len};
+ghost use Rattle.std.specs.List.{list_all};
 ghost use Rattle.std.specs.List.Sorted.{IsStrictlySortedBy};
 ghost use Rattle.clr_net.specs.Name.{name_cmp};
 ghost use Rattle.clr_net.specs.Grid.{section_names, has_ends};
@@ -25,24 +26,42 @@ pub struct Ends {
     pub to: usize,
 }
 
-/// The places of each point's ends among sections in the order of their names.
-fn ends_of(
+/// The places of a point's ends among sections in the order of their names, where both are
+/// sections.
+fn ends_of(sections: &[SectionRow], point: &PointRow) -> Option<Ends>
+    requires { IsStrictlySortedBy name_cmp (section_names sections.now) }
+    ensures ends { IfSome result (λ ends. ends ≡ ends_in (section_names sections.now) point.now) }
+    ensures known { is_some result ≡ has_ends (section_names sections.now) point.now }
+{
+    let Some(from) = place_of(sections, point.from_end) else {
+        return None;
+    };
+    let Some(to) = place_of(sections, point.to_end) else {
+        return None;
+    };
+    Some(Ends { from, to })
+}
+
+/// The places of each point's ends, unless one of them is no section.
+pub(crate) fn all_ends(
     alloc: Global,
     sections: &[SectionRow],
     points: &[PointRow],
-) -> Result<Vec<Ends>, AllocError>
-    requires sorted { IsStrictlySortedBy name_cmp (section_names sections.now) }
-    requires known { All (λ p. IsTrue (has_ends (section_names sections.now) p)) points.now }
-    ensures { IfOk result (λ ends.
-        ends.items ≡ map (ends_in (section_names sections.now)) points.now) }
+) -> Result<Option<Vec<Ends>>, AllocError>
+    requires { IsStrictlySortedBy name_cmp (section_names sections.now) }
+    ensures ends { IfOk result (λ found. IfSome found (λ ends.
+        ends.items ≡ map (ends_in (section_names sections.now)) points.now)) }
+    ensures known { IfOk result (λ found. is_some found
+        ≡ list_all (has_ends (section_names sections.now)) points.now) }
 {
     let mut ends = Vec::with_capacity(alloc, points.len())?;
     for point in points {
-        let from = place_of(sections, point.from_end).unwrap();
-        let to = place_of(sections, point.to_end).unwrap();
-        ends.push(Ends { from, to })?;
+        match ends_of(sections, point) {
+            Some(found) => ends.push(found)?,
+            None => return Ok(None),
+        }
     }
-    Ok(ends)
+    Ok(Some(ends))
 }
 
 /// The ways out of each of `count` sections.
@@ -99,17 +118,18 @@ pub struct Ways {
     pub around: Vec<Vec<Way>>,
 }
 
-/// The index of sections and points, each in the order of their names.
+/// The index of sections and points, each in the order of their names, with the places of the
+/// points' ends.
 pub(crate) fn index(
     alloc: Global,
     sections: &[SectionRow],
     points: &[PointRow],
+    ends: Vec<Ends>,
 ) -> Result<Ways, AllocError>
-    requires sorted { IsStrictlySortedBy name_cmp (section_names sections.now) }
+    requires ends { ends.items ≡ map (ends_in (section_names sections.now)) points.now }
     requires known { All (λ p. IsTrue (has_ends (section_names sections.now) p)) points.now }
     ensures { IfOk result (IsIndexOf (record { sections = sections.now; points = points.now })) }
 {
-    let ends = ends_of(alloc, sections, points)?;
     let around = ways_around(alloc, sections.len(), &ends)?;
     Ok(Ways { ends, around })
 }

@@ -163,6 +163,9 @@ impl<S: Alter + Drop> Store<S> {
             (state S.Store self.new).now) }
         ensures saved { HasCleanDisk (state S.Store self.new)
             → OnOk result (IsSaved (state S.Store self.new)) }
+        ensures still_saved { HasCleanDisk (state S.Store self.new)
+            → IsTrue (state S.Store self.new).is_open
+            → OnErr result (IsSaved (state S.Store self.new)) }
         ensures fault { IfErr result IsOfDatabase }
         ensures none { HasCleanDisk (state S.Store self.new)
             → IsTrue (state S.Store self.new).is_open → OnErr result
@@ -180,6 +183,9 @@ fn commit_change<S: Alter>(conn: &mut Connection<S>, change: &Change) -> Result<
     ensures made { HasCleanDisk (state S.Store conn.new) → OnOk result
         (MakesEdits (state S.Store conn.old).now change.now.edits (state S.Store conn.new).now) }
     ensures saved { HasCleanDisk (state S.Store conn.new) → OnOk result
+        (IsSaved (state S.Store conn.new)) }
+    ensures still_saved { conn.old.in_transaction ≡ false → HasCleanDisk (state S.Store conn.new)
+        → IsTrue (state S.Store conn.new).is_open → OnErr result
         (IsSaved (state S.Store conn.new)) }
     ensures fault { IfErr result IsOfDatabase }
     ensures none { HasCleanDisk (state S.Store conn.new) → IsTrue (state S.Store conn.new).is_open

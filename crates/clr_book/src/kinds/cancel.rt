@@ -6,7 +6,9 @@ ghost use Rattle.clr_book.specs.Effect.{IsOf, edits_in};
 ghost use Rattle.clr_rules.specs.Changes.{cancelled_phase};
 
 use crate::checks::callers::{not_charge_or_operator, unknown_caller};
-use crate::checks::clearances::{earlier_moment, not_cancellable, not_holder, record, unknown_clearance};
+use crate::checks::clearances::{
+    earlier_moment, not_cancellable, not_holder, record, unknown_clearance,
+};
 use crate::checks::first_of;
 use crate::checks::steps::step_given_out;
 use crate::checks::work::has_any_hold;

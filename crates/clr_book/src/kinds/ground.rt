@@ -5,7 +5,9 @@ ghost use Rattle.clr_book.specs.Decision.{near_edits, near_refusal};
 ghost use Rattle.clr_book.specs.Effect.{IsOf, edits_in};
 
 use crate::checks::callers::{not_charge, unknown_caller};
-use crate::checks::clearances::{earlier_moment, not_granted, not_holder, record, unknown_clearance};
+use crate::checks::clearances::{
+    earlier_moment, not_granted, not_holder, record, unknown_clearance,
+};
 use crate::checks::first_of;
 use crate::checks::work::{has_ground, not_tested, outside_fence};
 use crate::effect::Effect;

@@ -8,9 +8,11 @@ ghost use Rattle.clr_rules.specs.declared.change.Edit.TheVariants.{TakeHold};
 ghost use Rattle.clr_rules.specs.declared.hold_kind.HoldKind.TheVariants.{Tested};
 
 use crate::checks::callers::{not_charge, unknown_caller};
-use crate::checks::clearances::{earlier_moment, not_granted, not_holder, record, unknown_clearance};
+use crate::checks::clearances::{
+    earlier_moment, not_granted, not_holder, record, unknown_clearance,
+};
 use crate::checks::first_of;
-use crate::checks::work::{crews_on, any_ground, not_attested, places_of};
+use crate::checks::work::{any_ground, crews_on, not_attested, places_of};
 use crate::effect::Effect;
 use crate::near::Near;
 use clr_net::Name;

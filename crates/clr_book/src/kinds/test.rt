@@ -9,7 +9,9 @@ ghost use Rattle.clr_rules.specs.declared.change.Edit.TheVariants.{PutHold, Take
 ghost use Rattle.clr_rules.specs.declared.hold_kind.HoldKind.TheVariants.{Tested};
 
 use crate::checks::callers::{not_charge, unknown_caller};
-use crate::checks::clearances::{earlier_moment, not_granted, not_holder, record, unknown_clearance};
+use crate::checks::clearances::{
+    earlier_moment, not_granted, not_holder, record, unknown_clearance,
+};
 use crate::checks::first_of;
 use crate::checks::work::outside_fence;
 use crate::effect::Effect;

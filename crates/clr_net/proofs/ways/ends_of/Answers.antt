@@ -1,20 +1,36 @@
-use Rattle.std.proofs.Common.{refl}
+use Rattle.std.proofs.Common.{◌≡◌, ◌∙◌, Bool, true, false, Option, Some, None, ◌&&◌, sym, ap, refl}
+use Rattle.std.specs.Prelude.{is_some}
 use Rattle.clr_net.specs.Grid.{section_names}
+use Rattle.clr_net.specs.Name.{same_name}
 use Rattle.clr_net.specs.Names.{has_name}
-use Rattle.std.proofs.lemmas.Bool.{and_parts}
-use Rattle.clr_net.proofs.Places.{place_of_name}
+use Rattle.clr_net.proofs.Places.{is_some-position}
 use Rattle.clr_net.proofs.ways.ends_of.Goals as goal
 
-pub unwrap-from-requires : goal.unwrap-from-requires
-unwrap-from-requires c =
-    let names = section_names c.args.sections.now in
-    let p = c.point-item.result in
-    let known = and_parts (has_name names p.from_end) (has_name names p.to_end) (rw (← c.point-item.is) at (c.requires.known c.loop-point.point-index p c.loop-point-test.true)) in
-    rw (c.place_of.ensures, place_of_name names p.from_end known.0) refl
+neither_first : (b : Bool) → false ≡ (false && b)
+neither_first b = refl
 
-pub unwrap-to-requires : goal.unwrap-to-requires
-unwrap-to-requires c =
+neither_second : (a : Bool) → false ≡ (a && false)
+neither_second true = refl
+neither_second false = refl
+
+pub returns-in_default-clause-known : goal.returns-in_default-clause-known
+returns-in_default-clause-known c =
     let names = section_names c.args.sections.now in
-    let p = c.point-item.result in
-    let known = and_parts (has_name names p.from_end) (has_name names p.to_end) (rw (← c.point-item.is) at (c.requires.known c.loop-point.point-index p c.loop-point-test.true)) in
-    rw (c.place_of-in-loop-point.ensures, place_of_name names p.to_end known.1) refl
+    let p = c.args.point.now in
+    let none : false ≡ has_name names p.from_end = ap is_some (sym c.in_default.is ∙ c.place_of.ensures) ∙ is_some-position (same_name p.from_end) names in
+    rw (← none) (neither_first (has_name names p.to_end))
+
+pub returns-in_default-place_of-clause-known : goal.returns-in_default-place_of-clause-known
+returns-in_default-place_of-clause-known c =
+    let names = section_names c.args.sections.now in
+    let p = c.args.point.now in
+    let none : false ≡ has_name names p.to_end = ap is_some (sym c.in_default-place_of.is ∙ c.place_of-2.ensures) ∙ is_some-position (same_name p.to_end) names in
+    rw (← none) (neither_second (has_name names p.from_end))
+
+pub returns-clause-known : goal.returns-clause-known
+returns-clause-known c =
+    let names = section_names c.args.sections.now in
+    let p = c.args.point.now in
+    let from : true ≡ has_name names p.from_end = ap is_some (sym c.in-Some.is ∙ c.place_of.ensures) ∙ is_some-position (same_name p.from_end) names in
+    let to : true ≡ has_name names p.to_end = ap is_some (sym c.in-Some-place_of.is ∙ c.place_of-2.ensures) ∙ is_some-position (same_name p.to_end) names in
+    rw (← from, ← to) refl

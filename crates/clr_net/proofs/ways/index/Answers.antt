@@ -9,4 +9,4 @@ pub ways_around-requires : goal.ways_around-requires
 ways_around-requires c =
     let names = section_names c.args.sections.now in
     let size : length names ≡ length c.args.sections.now = length-map c.args.sections.now (λ (row : SectionRow). row.name) in
-    rw (c.deref.ensures.value, c.in_ok-ends.ensures, ← size) (ends_below names c.args.points.now c.requires.known)
+    rw (c.deref.ensures.value, c.requires.ends, ← size) (ends_below names c.args.points.now c.requires.known)

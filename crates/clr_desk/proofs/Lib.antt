@@ -1,0 +1,4 @@
+pub mod Filled
+pub mod OneCommand
+pub mod Opened
+pub mod RunSteps

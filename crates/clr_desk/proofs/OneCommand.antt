@@ -1,0 +1,87 @@
+-- One command: what its answer changes in the register, in the tables and in what a crash leaves.
+use Rattle.std.proofs.Common.{◌≡◌, ◌∙◌, List, [], Result, Ok, Err, sym, ap, subst}
+use Rattle.std.specs.Prelude.{IfOk, OnOk}
+use Rattle.sqlite.specs.Effect.{Database}
+use Rattle.sqlite.specs.State.{State, Survives}
+use Rattle.sqlite.proofs.StateLemmas.{survives_weaker}
+use Rattle.clr_rules.specs.Answer.{Answer, answer}
+use Rattle.clr_rules.specs.Edits.{after_edits}
+use Rattle.clr_rules.specs.Good.{IsGood}
+use Rattle.clr_rules.specs.Register.{Register}
+use Rattle.clr_rules.specs.Run.{after}
+use Rattle.clr_rules.specs.declared.change.Edit.{Edit}
+use Rattle.clr_rules.specs.declared.command.Command.{Command}
+use Rattle.clr_rules.specs.declared.reply.Reply.{Reply}
+use Rattle.clr_rules.proofs.near.NewAnswers.{near_is_enough}
+use Rattle.clr_store.specs.Contract.{AreEdited}
+use Rattle.clr_store.specs.Stored.{AreTables, HasTables}
+use Rattle.clr_tables.specs.TableEdits.{tables_edited}
+use Rattle.clr_tables.specs.Tables.{tables_of}
+use Rattle.clr_tables.proofs.TableChanges.{tables_follow_edits}
+use Rattle.clr_desk.specs.Answering.{near_after, near_answer}
+use Rattle.clr_desk.specs.Crash.{AreAfter}
+use Rattle.clr_desk.specs.Faults.{IsOfCommand, of_store}
+use Rattle.clr_desk.specs.declared.desk_fault.DeskFault.{DeskFault}
+use Rattle.clr_store.specs.Fault.{IsOfDatabase}
+use Rattle.clr_store.specs.declared.fault.StoreFault.{StoreFault}
+use Rattle.clr_store.specs.declared.fault.StoreFault.TheVariants.{Sql, WrongVersion, BadRow, NoMemory}
+
+-- ---- a command that is not accepted
+
+edited_by_none : (R : Register) (edits : List Edit) → edits ≡ [] → after_edits edits R ≡ R
+unfolding after_edits
+edited_by_none R edits none = ap (λ es. after_edits es R) none
+
+-- a command that has no edits changes nothing
+pub nothing_changes : (R : Register) (q : Command) (edits : List Edit) → edits ≡ Answer.edits (near_answer R q) → edits ≡ [] → R ≡ near_after R q
+nothing_changes R q edits is none = sym (edited_by_none R (Answer.edits (near_answer R q)) (sym is ∙ none))
+
+-- ---- a good register
+
+pub near_is_whole : (R : Register) (q : Command) → IsGood R → near_answer R q ≡ answer R q
+near_is_whole R q good = sym (near_is_enough R q good)
+
+pub near_after_is_after : (R : Register) (q : Command) → IsGood R → near_after R q ≡ after R q
+near_after_is_after R q good = ap (λ (a : Answer). after_edits a.edits R) (near_is_whole R q good)
+
+-- the same of what a call answers
+pub replies_whole : (R : Register) (q : Command) (result : Result Reply DeskFault) → IsGood R
+    → IfOk result (λ reply. reply ≡ Answer.reply (near_answer R q)) → IfOk result (λ reply. reply ≡ Answer.reply (answer R q))
+replies_whole R q result good =
+    subst (λ (a : Answer). IfOk result (λ reply. reply ≡ Answer.reply a)) (near_is_whole R q good)
+
+pub leaves_whole : (R S : Register) (q : Command) (result : Result Reply DeskFault) → IsGood R
+    → OnOk result (S ≡ near_after R q) → OnOk result (S ≡ after R q)
+leaves_whole R S q result good = subst (λ (X : Register). OnOk result (S ≡ X)) (near_after_is_after R q good)
+
+-- the tables of the register that is left
+pub tables_left : (db : Database) (S X : Register) (result : Result Reply DeskFault) → OnOk result (S ≡ X)
+    → OnOk result (HasTables db (tables_of X)) → OnOk result (HasTables db (tables_of S))
+tables_left db S X (Ok reply) left has = subst (λ (Y : Register). HasTables db (tables_of Y)) (sym left) has
+tables_left db S X (Err fault) left has = tt
+
+-- the edited tables are those of the register after the command
+pub tables_after : (R : Register) (q : Command) (edits : List Edit) → edits ≡ Answer.edits (near_answer R q) → IsGood R
+    → tables_edited edits (tables_of R) ≡ tables_of (after R q)
+tables_after R q edits is good =
+    sym (tables_follow_edits R edits good.in_order good.points_known.states)
+    ∙ ap (λ es. tables_of (after_edits es R)) is ∙ ap tables_of (near_after_is_after R q good)
+
+-- what a crash of its commit leaves
+pub crash_after : (old new : State) (R : Register) (q : Command) (edits : List Edit) → edits ≡ Answer.edits (near_answer R q)
+    → Survives old new (AreEdited old.now edits) → Survives old new (AreAfter old.now R q)
+crash_after old new R q edits is survives =
+    survives_weaker old new (AreEdited old.now edits) (AreAfter old.now R q)
+    (λ clean db edited good has. subst (AreTables db) (tables_after R q edits is good) (edited (tables_of R) has)) survives
+
+-- ---- a fault
+
+-- a fault of the database is one that a command may meet
+pub of_database : (cause : StoreFault) → IsOfDatabase cause → IsOfCommand (of_store cause)
+of_database Sql h = tt
+of_database NoMemory h = tt
+of_database (WrongVersion n) h = absurd h
+of_database (BadRow name) h = absurd h
+
+pub of_command : (cause : StoreFault) (fault : DeskFault) → IsOfDatabase cause → fault ≡ of_store cause → IsOfCommand fault
+of_command cause fault h is = subst IsOfCommand (sym is) (of_database cause h)

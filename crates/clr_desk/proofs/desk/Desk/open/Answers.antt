@@ -1,0 +1,18 @@
+use Rattle.std.proofs.Common.{rules, ◌∙◌, ap, refl, subst}
+use Rattle.sqlite.specs.Held.{state}
+use Rattle.sqlite.specs.State.{HasCleanDisk}
+use Rattle.clr_book.specs.Book.{Shelved}
+use Rattle.clr_tables.specs.RowsRead.{rows_read}
+use Rattle.clr_tables.specs.Tables.{tables_of}
+use Rattle.clr_desk.proofs.Opened.{fails_by_database, opened_again}
+use Rattle.clr_desk.proofs.desk.Desk.open.Goals as goal
+
+pub returns-in-Ok-clause-again : goal.returns-in-Ok-clause-again
+returns-in-Ok-clause-again g c clean R good has =
+    let early = subst (λ h. HasCleanDisk (state g.S.Store h)) c.over.ensures.store clean in
+    ap (λ (book : Shelved). book.register) c.over.ensures.book
+    ∙ opened_again R good c.in-Ok.book (rows_read (tables_of R)) refl (c.in-Ok.ensures.tables early (tables_of R) has)
+
+pub returns-in-Err-clause-cause : goal.returns-in-Err-clause-cause
+returns-in-Err-clause-cause g c clean R good typed has =
+    fails_by_database R good typed c.in-Err.fault c.from.result (c.in-Err.ensures.tables clean (tables_of R) has) (search rules)

@@ -1,0 +1,177 @@
+use Rattle.std.proofs.Common.{rules, ◌≡◌, ◌∙◌, ◌+◌, ◌<◌, ◌∷◌, [], List, length, take, ap, arith, get_or, refl, subst, sym, ⊎_elim}
+use Rattle.sqlite.specs.Held.{state}
+use Rattle.sqlite.specs.State.{HasCleanDisk}
+use Rattle.clr_rules.specs.Answer.{Answer, answer}
+use Rattle.clr_rules.specs.Good.{IsGood}
+use Rattle.clr_rules.specs.Register.{Register}
+use Rattle.clr_rules.specs.Run.{after}
+use Rattle.clr_rules.specs.RunHeadline.{IsRun, with_reply}
+use Rattle.clr_rules.specs.declared.command.Command.{Command}
+use Rattle.clr_rules.specs.declared.reply.Reply.{Reply}
+use Rattle.clr_rules.proofs.isolation.RunReplies.{others_take_nothing}
+use Rattle.clr_rules.proofs.keeps.EveryKind.{commands_keep_good}
+use Rattle.clr_store.specs.Contract.{IsSaved}
+use Rattle.clr_store.specs.Stored.{HasTables}
+use Rattle.clr_tables.specs.Tables.{tables_of}
+use Rattle.clr_desk.proofs.OneCommand.{near_after_is_after, near_is_whole}
+use Rattle.clr_desk.proofs.RunSteps.{next_left, no_reply_changed, none_taken, ran_so_far, run_of_next, run_of_none, saved_left, standing_alone}
+use Rattle.clr_desk.proofs.desk.Desk.run.Goals as goal
+
+-- ---- no room for the replies
+
+pub returns-then-is_err-clause-ran : goal.returns-then-is_err-clause-ran
+returns-then-is_err-clause-ran g c good =
+    let commands = c.args.commands.items in
+    let none : c.reserve.new.self.items ≡ [] = c.reserve.ensures.items ∙ c.new-replies.ensures.items in
+    run_of_none c.args.self.now.book.register (with_reply commands c.reserve.new.self.items) c.reserve.new.self.items
+    (ap (with_reply commands) none ∙ none_taken commands) none
+
+pub returns-then-is_err-clause-headline : goal.returns-then-is_err-clause-headline
+returns-then-is_err-clause-headline g c =
+    no_reply_changed c.args.self.now.book.register (with_reply c.args.commands.items c.reserve.new.self.items) c.reserve.new.self.items
+    c.args.self.now.book.register (returns-then-is_err-clause-ran g c)
+
+pub returns-then-is_err-clause-untouched : goal.returns-then-is_err-clause-untouched
+returns-then-is_err-clause-untouched g c = others_take_nothing c.args.self.now.book.register (with_reply c.args.commands.items c.reserve.new.self.items)
+
+pub returns-then-is_err-clause-alone : goal.returns-then-is_err-clause-alone
+returns-then-is_err-clause-alone g c =
+    standing_alone c.args.self.now.book.register (with_reply c.args.commands.items c.reserve.new.self.items) c.reserve.new.self.items
+    c.args.self.now.book.register (returns-then-is_err-clause-ran g c)
+
+pub returns-then-is_err-clause-crash : goal.returns-then-is_err-clause-crash
+returns-then-is_err-clause-crash g c clean saved good has trees may =
+    let R = c.args.self.now.book.register in
+    let commands = c.args.commands.items in
+    let old = state g.S.Store c.args.self.now.store in
+    let none : c.reserve.new.self.items ≡ [] = c.reserve.ensures.items ∙ c.new-replies.ensures.items in
+    saved_left old old R R commands c.reserve.new.self.items 0 (ap length none) (omega arith)
+    (run_of_none R (take 0 commands) c.reserve.new.self.items (none_taken commands) none) saved has trees
+    (g.met.S.Store.settled c.args.self.now.store.store trees saved.0 may)
+
+-- ---- the loop
+
+pub loop-command-init : goal.loop-command-init
+loop-command-init g c =
+    let none : c.reserve.new.self.items ≡ [] = c.reserve.ensures.items ∙ c.new-replies.ensures.items in
+    record {
+      counted = ap length none;
+      filled = search rules;
+      room = search rules;
+      network = refl;
+      faults = refl;
+      good = λ good. good;
+      ran = λ good. run_of_none c.args.self.now.book.register (take 0 c.args.commands.items) c.reserve.new.self.items (none_taken c.args.commands.items) none;
+      clean = λ clean. clean;
+      saved = λ clean saved. saved;
+      tables = λ clean good has. has;
+    }
+
+pub loop-command-preserved : goal.loop-command-preserved
+loop-command-preserved g c =
+    let R = c.args.self.now.book.register in
+    let X = c.loop-command.self.book.register in
+    let Y = c.answer.new.self.book.register in
+    let commands = c.args.commands.items in
+    let i = c.loop-command.command-index in
+    let q = c.command-item.result in
+    let inv = c.loop-command.invariant in
+    let mid = state g.S.Store c.loop-command.self.store in
+    let new = state g.S.Store c.answer.new.self.store in
+    let same = c.as_slice-command-items.ensures.value in
+    let within : i < length commands = subst (λ (l : List Command). i < length l) same c.loop-command-test.true in
+    let at : q ≡ get_or commands i q = c.command-item.is ∙ ap (λ (l : List Command). get_or l i q) same in
+    let early : HasCleanDisk new → HasCleanDisk mid = λ clean. omega (arith, c.answer.ensures.survives.clean) in
+    let left : IsGood R → Y ≡ after X q = λ good. c.in-Ok.ensures.register ∙ near_after_is_after X q (inv.good good) in
+    record {
+      counted = search rules;
+      filled = search rules;
+      room = search rules;
+      network = c.answer.ensures.network ∙ inv.network;
+      faults = c.in-Ok.ensures.faults ∙ inv.faults;
+      good = λ good. subst (λ (S : Register). IsGood S) (sym (left good)) (commands_keep_good X q (inv.good good));
+      ran = λ good. run_of_next R X Y commands i q c.loop-command.replies.items c.push.new.self.items c.in-Ok.reply within at
+          (search rules) (inv.ran good)
+          (c.in-Ok.ensures.reply ∙ ap (λ (a : Answer). a.reply) (near_is_whole X q (inv.good good))) (left good);
+      clean = λ clean. inv.clean (early clean);
+      saved = λ clean saved. c.in-Ok.ensures.saved clean (inv.saved (early clean) saved);
+      tables = λ clean good has.
+          subst (λ (S : Register). HasTables new.now (tables_of S)) (sym (left good))
+          (c.in-Ok.ensures.tables clean (inv.good good) (inv.tables (early clean) good has));
+    }
+
+-- ---- a fault
+
+pub returns-in-Err-clause-headline : goal.returns-in-Err-clause-headline
+returns-in-Err-clause-headline g c =
+    let R = c.args.self.now.book.register in
+    let told = c.loop-command.replies.items in
+    no_reply_changed R (with_reply c.args.commands.items told) told c.answer.new.self.book.register
+    (λ good. subst (λ (S : Register). IsRun R (with_reply c.args.commands.items told) told S) (sym (c.in-Err.ensures.unchanged refl))
+    (ran_so_far R c.loop-command.self.book.register c.args.commands.items told c.loop-command.command-index c.loop-command.invariant.counted
+    (c.loop-command.invariant.ran good)))
+
+pub returns-in-Err-clause-untouched : goal.returns-in-Err-clause-untouched
+returns-in-Err-clause-untouched g c = others_take_nothing c.args.self.now.book.register (with_reply c.args.commands.items c.loop-command.replies.items)
+
+pub returns-in-Err-clause-alone : goal.returns-in-Err-clause-alone
+returns-in-Err-clause-alone g c =
+    let R = c.args.self.now.book.register in
+    let told = c.loop-command.replies.items in
+    standing_alone R (with_reply c.args.commands.items told) told c.loop-command.self.book.register
+    (λ good. ran_so_far R c.loop-command.self.book.register c.args.commands.items told c.loop-command.command-index c.loop-command.invariant.counted
+    (c.loop-command.invariant.ran good))
+
+pub returns-in-Err-clause-crash : goal.returns-in-Err-clause-crash
+returns-in-Err-clause-crash g c clean saved good has trees may =
+    let R = c.args.self.now.book.register in
+    let X = c.loop-command.self.book.register in
+    let commands = c.args.commands.items in
+    let told = c.loop-command.replies.items in
+    let i = c.loop-command.command-index in
+    let q = c.command-item.result in
+    let inv = c.loop-command.invariant in
+    let mid = state g.S.Store c.loop-command.self.store in
+    let same = c.as_slice-command-items.ensures.value in
+    let within : i < length commands = subst (λ (l : List Command). i < length l) same c.loop-command-test.true in
+    let at : q ≡ get_or commands i q = c.command-item.is ∙ ap (λ (l : List Command). get_or l i q) same in
+    let early : HasCleanDisk mid = omega (arith, c.answer.ensures.survives.clean) in
+    let mid_saved = inv.saved early saved in
+    let mid_has = inv.tables early good has in
+    ⊎_elim
+    (λ before. saved_left mid mid R X commands told i inv.counted (omega arith) (inv.ran good) mid_saved mid_has trees
+    (g.met.S.Store.settled c.loop-command.self.store.store trees mid_saved.0 before))
+    (λ after. next_left R X commands told i q inv.counted within at (inv.ran good) trees (after (inv.good good) mid_has))
+    (c.answer.ensures.survives.crash clean trees may)
+
+-- ---- the end
+
+pub returns-clause-headline : goal.returns-clause-headline
+returns-clause-headline g c =
+    let R = c.args.self.now.book.register in
+    let told = c.loop-command.replies.items in
+    no_reply_changed R (with_reply c.args.commands.items told) told c.loop-command.self.book.register
+    (λ good. ran_so_far R c.loop-command.self.book.register c.args.commands.items told c.loop-command.command-index c.loop-command.invariant.counted
+    (c.loop-command.invariant.ran good))
+
+pub returns-clause-untouched : goal.returns-clause-untouched
+returns-clause-untouched g c = others_take_nothing c.args.self.now.book.register (with_reply c.args.commands.items c.loop-command.replies.items)
+
+pub returns-clause-alone : goal.returns-clause-alone
+returns-clause-alone g c =
+    let R = c.args.self.now.book.register in
+    let told = c.loop-command.replies.items in
+    standing_alone R (with_reply c.args.commands.items told) told c.loop-command.self.book.register
+    (λ good. ran_so_far R c.loop-command.self.book.register c.args.commands.items told c.loop-command.command-index c.loop-command.invariant.counted
+    (c.loop-command.invariant.ran good))
+
+pub returns-clause-crash : goal.returns-clause-crash
+returns-clause-crash g c clean saved good has trees may =
+    let R = c.args.self.now.book.register in
+    let X = c.loop-command.self.book.register in
+    let commands = c.args.commands.items in
+    let inv = c.loop-command.invariant in
+    let mid = state g.S.Store c.loop-command.self.store in
+    let mid_saved = inv.saved clean saved in
+    saved_left mid mid R X commands c.loop-command.replies.items c.loop-command.command-index inv.counted (search rules) (inv.ran good) mid_saved
+    (inv.tables clean good has) trees (g.met.S.Store.settled c.loop-command.self.store.store trees mid_saved.0 may)

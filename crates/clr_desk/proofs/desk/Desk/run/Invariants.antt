@@ -1,0 +1,28 @@
+use Rattle.std.proofs.Common.{◌≡◌, ◌≤◌, length, take, vec_len, vec_capacity}
+use Rattle.sqlite.specs.Held.{state}
+use Rattle.sqlite.specs.State.{HasCleanDisk}
+use Rattle.clr_rules.specs.Good.{IsGood}
+use Rattle.clr_rules.specs.RunHeadline.{IsRun}
+use Rattle.clr_store.specs.Contract.{IsSaved}
+use Rattle.clr_store.specs.Stored.{HasTables}
+use Rattle.clr_tables.specs.Tables.{tables_of}
+use Rattle.clr_desk.proofs.desk.Desk.run.Given as goal
+
+-- each command before the place has its reply, and left the register that the run has by now, and its tables
+abbrev pub invariant-loop-command : goal.invariant-loop-command
+invariant-loop-command g l =
+    let R = l.fn.self.book.register in
+    let old = state g.S.Store l.fn.self.store in
+    let now = state g.S.Store l.self.store in
+    record {
+      counted : length l.replies.items ≡ l.command-index;
+      filled : vec_len l.replies ≡ l.command-index;
+      room : length l.fn.commands.items ≤ vec_capacity l.replies;
+      network : l.self.book.network ≡ l.fn.self.book.network;
+      faults : l.self.faults ≡ l.fn.self.faults;
+      good : IsGood R → IsGood l.self.book.register;
+      ran : IsGood R → IsRun R (take l.command-index l.fn.commands.items) l.replies.items l.self.book.register;
+      clean : HasCleanDisk now → HasCleanDisk old;
+      saved : HasCleanDisk now → IsSaved old → IsSaved now;
+      tables : HasCleanDisk now → IsGood R → HasTables old.now (tables_of R) → HasTables now.now (tables_of l.self.book.register);
+    }

@@ -1,0 +1,26 @@
+-- THE FAULTS OF A DESK, and how they are count_after.
+use Rattle.std.specs.Prelude.{ℕ, ◌+◌, ◌-◌, ◌^◌, min, Option, None, Some, ⊤}
+use Rattle.clr_store.specs.declared.fault.StoreFault.{StoreFault}
+use Rattle.clr_store.specs.declared.fault.StoreFault.TheVariants.{Sql, WrongVersion, BadRow, NoMemory as NoMemoryThere}
+use Rattle.clr_desk.specs.declared.desk_fault.DeskFault.{DeskFault}
+use Rattle.clr_desk.specs.declared.desk_fault.DeskFault.TheVariants.{Store, NoMemory}
+
+-- a fault of the store; want of memory is no fault of its own
+abbrev pub of_store : StoreFault → DeskFault
+of_store Sql = Store Sql
+of_store (WrongVersion n) = Store (WrongVersion n)
+of_store (BadRow name) = Store (BadRow name)
+of_store NoMemoryThere = NoMemory
+
+-- the count of faults after a call: one more with a fault, but for the greatest number, where it stays
+abbrev pub count_after : Option DeskFault → ℕ → ℕ
+count_after None faults = faults
+count_after (Some fault) faults = min (faults + 1) (2 ^ 64 - 1)
+
+-- why a command is not carried out: the database refused or failed, or memory ran out
+abbrev pub IsOfCommand : DeskFault → Type 0
+IsOfCommand (Store Sql) = ⊤
+IsOfCommand (Store (WrongVersion n)) = ⊥
+IsOfCommand (Store (BadRow name)) = ⊥
+IsOfCommand (Store NoMemoryThere) = ⊥
+IsOfCommand NoMemory = ⊤

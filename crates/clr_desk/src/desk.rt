@@ -1,0 +1,354 @@
+//! The desk: a book and its store.
+ghost use Rattle.std.specs.Prelude.{◌≡◌, ◌<◌, false, [], ◌∷◌, length, IfErr, IfOk, IfNone, IfSome, IsTrue, OnErr, OnOk, Ok, Err};
+ghost use Rattle.clr_rules.specs.RunHeadline.{IsRun, OthersChangeNoReply, OthersTakeNothing, OwnStandAlone, with_reply};
+ghost use Rattle.sqlite.specs.Held.{state};
+ghost use Rattle.sqlite.specs.State.{HasCleanDisk, Survives};
+ghost use Rattle.clr_rules.specs.Answer.{Answer, answer};
+ghost use Rattle.clr_rules.specs.Good.{IsGood};
+ghost use Rattle.clr_rules.specs.Run.{IsReached, after};
+ghost use Rattle.clr_store.specs.Contract.{IsSaved};
+ghost use Rattle.clr_store.specs.Stored.{AreTables, HasTables};
+ghost use Rattle.clr_desk.specs.Crash.{AreAfter, LeavesSome};
+ghost use Rattle.clr_book.specs.Book.{Shelved};
+ghost use Rattle.clr_rules.specs.Register.{Register, opening};
+ghost use Rattle.clr_store.specs.declared.fault.StoreFault.{StoreFault};
+ghost use Rattle.clr_tables.specs.RowsRead.{rows_read};
+ghost use Rattle.clr_tables.specs.Tables.{Tables, tables_of};
+ghost use Rattle.clr_tables.specs.TypedRows.{IsTyped};
+ghost use Rattle.clr_desk.specs.Opening.{OpensAs};
+ghost use Rattle.clr_desk.specs.Answering.{fault_of, has_accepted, near_after, near_answer, replies_of};
+ghost use Rattle.clr_desk.specs.Faults.{IsOfCommand, count_after, of_store};
+
+use crate::carrying_out::{is_accepted, prepare};
+use crate::desk_fault::DeskFault;
+use crate::opening::{DeskBook, book_in};
+use crate::run::Run;
+use clr_book::Decision;
+use clr_csv::Staff;
+use clr_net::Network;
+use clr_rules::{Command, Reply};
+use clr_store::{Back, Store};
+use sqlite::{Alter, Connection};
+use std::alloc::Global;
+
+/// A book in memory and the store of its tables.
+#[derive(Drop)]
+pub struct Desk<S: Alter + Drop> {
+    book: DeskBook,
+    store: Store<S>,
+    faults: u64,
+}
+
+impl<S: Alter + Drop> Desk<S> {
+    /// Makes the tables of an opening register in an empty database, and opens the desk over them.
+    ///
+    /// `Store(Sql)` where anything is in the database already, a transaction is open, or the
+    /// database fails; `NoMemory` where memory runs out. A fault hands the connection back, with
+    /// the database as it was.
+    pub fn create(
+        alloc: Global,
+        connection: Connection<S>,
+        network: Network,
+        staff: Staff,
+    ) -> Result<Desk<S>, (DeskFault, Connection<S>)>
+        ensures register { IfOk result (λ desk. desk.book.register ≡ opening network staff) }
+        ensures reached { IfOk result (λ desk. IsReached desk.book.register) }
+        ensures faults { IfOk result (λ desk. desk.faults ≡ 0) }
+        ensures made { IfOk result (λ desk. HasCleanDisk (state S.Store desk.store)
+            → IsSaved (state S.Store desk.store)
+            × HasTables (state S.Store desk.store).now (tables_of (opening network staff))) }
+        ensures cause { IfErr result (λ back. IsOfCommand back.0) }
+        ensures none { IfErr result (λ back. HasCleanDisk (state S.Store back.1)
+            → IsTrue (state S.Store back.1).is_open
+            → (state S.Store back.1).now ≡ (state S.Store connection).now) }
+        ensures crash_made { IfOk result (λ desk. Survives (state S.Store connection)
+            (state S.Store desk.store)
+            (λ trees. AreTables trees (tables_of (opening network staff)))) }
+        ensures crash_none { IfErr result (λ back. Survives (state S.Store connection)
+            (state S.Store back.1)
+            (λ trees. AreTables trees (tables_of (opening network staff)))) }
+    {
+        let Ok(book) = DeskBook::opening(alloc, network, staff) else {
+            return Err((DeskFault::NoMemory, connection));
+        };
+        match Store::create(connection, book.network(), book.staff()) {
+            Ok(store) => Ok(Desk::over(book, store)),
+            Err(Back { fault, connection }) => Err((DeskFault::from(fault), connection)),
+        }
+    }
+
+    /// Opens a desk over a store, with the register that its tables have. The tables are only read.
+    ///
+    /// `Store(BadRow)` names the table with a row that does not read, or whose rows are no network
+    /// or no staff; `Store(Sql)` where the database fails; `NoMemory` where memory runs out. A
+    /// fault hands the store back.
+    pub fn open(mut store: Store<S>) -> Result<Desk<S>, (DeskFault, Store<S>)>
+        ensures opened { IfOk result (λ desk. HasCleanDisk (state S.Store desk.store) → (t : Tables)
+            → HasTables (state S.Store store).now t
+            → OpensAs (λ (book : Shelved). book.register) (rows_read t) (Ok desk.book)) }
+        ensures again { IfOk result (λ desk. HasCleanDisk (state S.Store desk.store)
+            → (R : Register) → IsGood R → HasTables (state S.Store store).now (tables_of R)
+            → desk.book.register ≡ R) }
+        ensures faults { IfOk result (λ desk. desk.faults ≡ 0) }
+        ensures saved { IfOk result (λ desk. HasCleanDisk (state S.Store desk.store)
+            → IsTrue (state S.Store desk.store).is_open → IsSaved (state S.Store desk.store)) }
+        ensures same { IfOk result (λ desk. HasCleanDisk (state S.Store desk.store)
+            → IsTrue (state S.Store desk.store).is_open
+            → (state S.Store desk.store).now ≡ (state S.Store store).now) }
+        ensures survives { IfOk result (λ desk. Survives (state S.Store store)
+            (state S.Store desk.store) (λ _. ⊥)) }
+        ensures refused { IfErr result (λ back. (fault : StoreFault) × (back.0 ≡ of_store fault)
+            × (HasCleanDisk (state S.Store back.1) → (t : Tables)
+            → HasTables (state S.Store store).now t
+            → OpensAs (λ (book : Shelved). book.register) (rows_read t) (Err fault))) }
+        ensures cause { IfErr result (λ back. HasCleanDisk (state S.Store back.1)
+            → (R : Register) → IsGood R → IsTyped R
+            → HasTables (state S.Store store).now (tables_of R) → IsOfCommand back.0) }
+        ensures kept { IfErr result (λ back. HasCleanDisk (state S.Store back.1)
+            → IsTrue (state S.Store back.1).is_open
+            → (state S.Store back.1).now ≡ (state S.Store store).now) }
+        ensures survives_too { IfErr result (λ back. Survives (state S.Store store)
+            (state S.Store back.1) (λ _. ⊥)) }
+    {
+        match book_in(&mut store) {
+            Ok(book) => Ok(Desk::over(book, store)),
+            Err(fault) => Err((DeskFault::from(fault), store)),
+        }
+    }
+
+    /// A desk that has met no fault yet.
+    fn over(book: DeskBook, store: Store<S>) -> Desk<S>
+        ensures book { result.book ≡ book }
+        ensures store { result.store ≡ store }
+        ensures faults { result.faults ≡ 0 }
+    {
+        Desk {
+            book,
+            store,
+            faults: 0,
+        }
+    }
+
+    /// Ends the desk, and hands back its store.
+    pub fn end(self) -> Store<S>
+        ensures { result ≡ self.store }
+    {
+        self.store
+    }
+
+    /// The book, as the last command left it.
+    pub fn book(&self) -> &DeskBook
+        ensures { result.now ≡ self.now.book }
+    {
+        &self.book
+    }
+
+    /// How many faults the desk has answered since it was opened. At the greatest number the count
+    /// stays.
+    pub fn faults(&self) -> u64
+        ensures { result ≡ self.now.faults }
+    {
+        self.faults
+    }
+
+    /// Carries out one command, but for the count of faults: answer, room, commit, change.
+    fn carry_out(&mut self, command: &Command) -> Result<Reply, DeskFault>
+        ensures reply { IfOk result (λ reply. reply ≡ Answer.reply
+            (near_answer self.old.book.register command.now)) }
+        ensures register { OnOk result
+            (self.new.book.register ≡ near_after self.old.book.register command.now) }
+        ensures unchanged { has_accepted result ≡ false
+            → self.new.book.register ≡ self.old.book.register }
+        ensures network { self.new.book.network ≡ self.old.book.network }
+        ensures faults { self.new.faults ≡ self.old.faults }
+        ensures cause { IfErr result IsOfCommand }
+        ensures tables { HasCleanDisk (state S.Store self.new.store) → IsGood self.old.book.register
+            → HasTables (state S.Store self.old.store).now (tables_of self.old.book.register)
+            → OnOk result (HasTables (state S.Store self.new.store).now (tables_of
+            (after self.old.book.register command.now))) }
+        ensures unwritten { has_accepted result ≡ false
+            → HasCleanDisk (state S.Store self.new.store)
+            → IsTrue (state S.Store self.new.store).is_open
+            → (state S.Store self.new.store).now ≡ (state S.Store self.old.store).now }
+        ensures saved { HasCleanDisk (state S.Store self.new.store)
+            → IsSaved (state S.Store self.old.store)
+            → OnOk result (IsSaved (state S.Store self.new.store)) }
+        ensures still_saved { HasCleanDisk (state S.Store self.new.store)
+            → IsTrue (state S.Store self.new.store).is_open
+            → IsSaved (state S.Store self.old.store)
+            → OnErr result (IsSaved (state S.Store self.new.store)) }
+        ensures survives { Survives (state S.Store self.old.store) (state S.Store self.new.store)
+            (AreAfter (state S.Store self.old.store).now self.old.book.register command.now) }
+    {
+        let decision = prepare(&mut self.book, command)?;
+        let Decision { reply, change } = decision;
+        if !is_accepted(&reply) {
+            return Ok(reply);
+        }
+        self.store.commit(&change)?;
+        self.book.apply(change);
+        Ok(reply)
+    }
+
+    /// Carries out one command, and counts the fault, if it met one.
+    fn answer(&mut self, command: &Command) -> Result<Reply, DeskFault>
+        ensures reply { IfOk result (λ reply. reply ≡ Answer.reply
+            (near_answer self.old.book.register command.now)) }
+        ensures register { OnOk result
+            (self.new.book.register ≡ near_after self.old.book.register command.now) }
+        ensures unchanged { has_accepted result ≡ false
+            → self.new.book.register ≡ self.old.book.register }
+        ensures network { self.new.book.network ≡ self.old.book.network }
+        ensures faults { self.new.faults ≡ count_after (fault_of result) self.old.faults }
+        ensures cause { IfErr result IsOfCommand }
+        ensures tables { HasCleanDisk (state S.Store self.new.store) → IsGood self.old.book.register
+            → HasTables (state S.Store self.old.store).now (tables_of self.old.book.register)
+            → OnOk result (HasTables (state S.Store self.new.store).now (tables_of
+            (after self.old.book.register command.now))) }
+        ensures unwritten { has_accepted result ≡ false
+            → HasCleanDisk (state S.Store self.new.store)
+            → IsTrue (state S.Store self.new.store).is_open
+            → (state S.Store self.new.store).now ≡ (state S.Store self.old.store).now }
+        ensures saved { HasCleanDisk (state S.Store self.new.store)
+            → IsSaved (state S.Store self.old.store)
+            → OnOk result (IsSaved (state S.Store self.new.store)) }
+        ensures still_saved { HasCleanDisk (state S.Store self.new.store)
+            → IsTrue (state S.Store self.new.store).is_open
+            → IsSaved (state S.Store self.old.store)
+            → OnErr result (IsSaved (state S.Store self.new.store)) }
+        ensures survives { Survives (state S.Store self.old.store) (state S.Store self.new.store)
+            (AreAfter (state S.Store self.old.store).now self.old.book.register command.now) }
+    {
+        match self.carry_out(command) {
+            Ok(reply) => Ok(reply),
+            Err(fault) => {
+                self.faults = self.faults.saturating_add(1);
+                Err(fault)
+            }
+        }
+    }
+
+    /// Carries out a command: it is answered, and where it is accepted its change is committed, in
+    /// one transaction, and made. A command that is refused, and `show`, commits nothing.
+    ///
+    /// `Store(Sql)` where the database refuses or fails, `NoMemory` where memory runs out. A fault
+    /// leaves the register as it was, and is count_after.
+    pub fn one(&mut self, command: Command) -> Result<Reply, DeskFault>
+        ensures near { IfOk result (λ reply. reply ≡ Answer.reply
+            (near_answer self.old.book.register command)) }
+        ensures reply { IsGood self.old.book.register
+            → IfOk result (λ reply. reply ≡ Answer.reply (answer self.old.book.register command)) }
+        ensures register { IsGood self.old.book.register
+            → OnOk result (self.new.book.register ≡ after self.old.book.register command) }
+        ensures changed { OnOk result
+            (self.new.book.register ≡ near_after self.old.book.register command) }
+        ensures ran { IsGood self.old.book.register
+            → IsRun self.old.book.register
+            (with_reply (command ∷ []) (replies_of result)) (replies_of result)
+            self.new.book.register }
+        ensures headline { OthersChangeNoReply self.old.book.register
+            (with_reply (command ∷ []) (replies_of result)) (replies_of result)
+            self.new.book.register }
+        ensures untouched { OthersTakeNothing self.old.book.register
+            (with_reply (command ∷ []) (replies_of result)) }
+        ensures alone { OwnStandAlone self.old.book.register
+            (with_reply (command ∷ []) (replies_of result)) (replies_of result) }
+        ensures unchanged { has_accepted result ≡ false
+            → self.new.book.register ≡ self.old.book.register }
+        ensures network { self.new.book.network ≡ self.old.book.network }
+        ensures faults { self.new.faults ≡ count_after (fault_of result) self.old.faults }
+        ensures cause { IfErr result IsOfCommand }
+        ensures tables { HasCleanDisk (state S.Store self.new.store) → IsGood self.old.book.register
+            → HasTables (state S.Store self.old.store).now (tables_of self.old.book.register)
+            → OnOk result (HasTables (state S.Store self.new.store).now
+            (tables_of self.new.book.register)) }
+        ensures unwritten { has_accepted result ≡ false
+            → HasCleanDisk (state S.Store self.new.store)
+            → IsTrue (state S.Store self.new.store).is_open
+            → (state S.Store self.new.store).now ≡ (state S.Store self.old.store).now }
+        ensures saved { HasCleanDisk (state S.Store self.new.store)
+            → IsSaved (state S.Store self.old.store)
+            → OnOk result (IsSaved (state S.Store self.new.store)) }
+        ensures still_saved { HasCleanDisk (state S.Store self.new.store)
+            → IsTrue (state S.Store self.new.store).is_open
+            → IsSaved (state S.Store self.old.store)
+            → OnErr result (IsSaved (state S.Store self.new.store)) }
+        ensures survives { Survives (state S.Store self.old.store) (state S.Store self.new.store)
+            (AreAfter (state S.Store self.old.store).now self.old.book.register command) }
+        ensures crash { HasCleanDisk (state S.Store self.new.store)
+            → LeavesSome (state S.Store self.old.store)
+            (state S.Store self.new.store) self.old.book.register (command ∷ [])
+            (length (replies_of result)) }
+    {
+        self.answer(&command)
+    }
+
+    /// Carries out commands one after the other, up to the first fault; the replies before it stay.
+    ///
+    /// Room for all replies is made first: where that is refused, no command is carried out, and
+    /// the fault is `NoMemory`. Each command is carried out as by `one`.
+    pub fn run(&mut self, commands: Vec<Command>) -> Run
+        ensures ran { IsGood self.old.book.register
+            → IsRun self.old.book.register
+            (with_reply commands.items result.replies.items) result.replies.items
+            self.new.book.register }
+        ensures ends { IfNone result.fault (length result.replies.items ≡ length commands.items) }
+        ensures stops { IfSome result.fault
+            (λ _. length result.replies.items < length commands.items) }
+        ensures headline { OthersChangeNoReply self.old.book.register
+            (with_reply commands.items result.replies.items) result.replies.items
+            self.new.book.register }
+        ensures untouched { OthersTakeNothing self.old.book.register
+            (with_reply commands.items result.replies.items) }
+        ensures alone { OwnStandAlone self.old.book.register
+            (with_reply commands.items result.replies.items) result.replies.items }
+        ensures network { self.new.book.network ≡ self.old.book.network }
+        ensures faults { self.new.faults ≡ count_after result.fault self.old.faults }
+        ensures cause { IfSome result.fault IsOfCommand }
+        ensures tables { HasCleanDisk (state S.Store self.new.store)
+            → IsTrue (state S.Store self.new.store).is_open → IsGood self.old.book.register
+            → HasTables (state S.Store self.old.store).now (tables_of self.old.book.register)
+            → HasTables (state S.Store self.new.store).now (tables_of self.new.book.register) }
+        ensures clean { HasCleanDisk (state S.Store self.new.store)
+            → HasCleanDisk (state S.Store self.old.store) }
+        ensures saved { HasCleanDisk (state S.Store self.new.store)
+            → IsSaved (state S.Store self.old.store)
+            → IfNone result.fault (IsSaved (state S.Store self.new.store)) }
+        ensures still_saved { HasCleanDisk (state S.Store self.new.store)
+            → IsTrue (state S.Store self.new.store).is_open
+            → IsSaved (state S.Store self.old.store)
+            → IsSaved (state S.Store self.new.store) }
+        ensures crash { HasCleanDisk (state S.Store self.new.store)
+            → LeavesSome (state S.Store self.old.store)
+            (state S.Store self.new.store) self.old.book.register commands.items
+            (length result.replies.items) }
+    {
+        let mut replies = Vec::new(*commands.allocator());
+        if replies.reserve(commands.len()).is_err() {
+            self.faults = self.faults.saturating_add(1);
+            return Run {
+                replies,
+                fault: Some(DeskFault::NoMemory),
+            };
+        }
+        for command in commands.as_slice() {
+            match self.answer(command) {
+                Ok(reply) => {
+                    let Ok(()) = replies.push(reply) else {
+                        unreachable!()
+                    };
+                }
+                Err(fault) => {
+                    return Run {
+                        replies,
+                        fault: Some(fault),
+                    };
+                }
+            }
+        }
+        Run {
+            replies,
+            fault: None,
+        }
+    }
+}
