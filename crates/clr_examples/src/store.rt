@@ -74,7 +74,7 @@ struct Held {
     hold: Hold,
 }
 
-fn held() -> Result<Held, Fail> {
+fn what_is_held() -> Result<Held, Fail> {
     let id = ClearanceId::read("JONES/1")?;
     Ok(Held {
         states: [
@@ -141,7 +141,7 @@ fn register_made_and_loaded(rt: HostRuntime) -> Result<(), Fail> {
 #[test]
 fn hand_and_holds_after_opening_again(rt: HostRuntime) -> Result<(), Fail> {
     let mut store = made(rt.alloc())?;
-    let held = held()?;
+    let held = what_is_held()?;
     let change = change_to(rt.alloc(), &held)?;
     store.commit(&change)?;
     let mut store = again(store)?;
