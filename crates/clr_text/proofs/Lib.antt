@@ -3,3 +3,4 @@ pub mod ListsRead
 pub mod NoFloats
 pub mod Calendar
 pub mod RowsLent
+pub mod LineReplies

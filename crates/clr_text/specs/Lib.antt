@@ -10,3 +10,5 @@ pub mod Replies
 pub mod FaultText
 pub mod Moments
 pub mod Printed
+pub mod Lines
+pub mod LineLaws

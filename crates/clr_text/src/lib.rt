@@ -8,6 +8,7 @@ mod fault_texts;
 mod json;
 mod key;
 mod kinds;
+pub mod laws;
 mod moments;
 mod orders;
 mod reading;
