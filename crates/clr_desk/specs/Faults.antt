@@ -1,4 +1,4 @@
--- THE FAULTS OF A DESK, and how they are count_after.
+-- THE FAULTS OF A DESK, and how they are counted.
 use Rattle.std.specs.Prelude.{ℕ, ◌+◌, ◌-◌, ◌^◌, min, Option, None, Some, ⊤}
 use Rattle.clr_store.specs.declared.fault.StoreFault.{StoreFault}
 use Rattle.clr_store.specs.declared.fault.StoreFault.TheVariants.{Sql, WrongVersion, BadRow, NoMemory as NoMemoryThere}
