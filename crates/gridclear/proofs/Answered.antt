@@ -9,7 +9,7 @@ use Rattle.clap.proofs.OnLiterals.{clap_on_literals}
 use Rattle.gridclear.specs.declared.fault.Fault.{Fault}
 use Rattle.gridclear.specs.declared.fault.Fault.TheVariants.{Memory}
 use Rattle.gridclear.specs.declared.outcome.Outcome.{Outcome}
-use Rattle.gridclear.specs.declared.outcome.Outcome.TheVariants.{Answer, Stopped, Unread}
+use Rattle.gridclear.specs.declared.outcome.Outcome.TheVariants.{Answer, Serve, Stopped, Unread}
 use Rattle.gridclear.specs.Outcome.{IsAnswer, IsUnread, MayAnswer}
 use Rattle.gridclear.specs.Syntax.{gridclear}
 
@@ -21,6 +21,7 @@ is_plain_gridclear = refl
 unread_is_no_answer : (outcome : Outcome) → IsUnread outcome → IsAnswer outcome → ⊥
 unread_is_no_answer (Answer text) unread answers = unread
 unread_is_no_answer (Stopped text fault) unread answers = unread
+unread_is_no_answer (Serve serving) unread answers = unread
 unread_is_no_answer (Unread text) unread answers = answers
 
 -- only help and the version are answers

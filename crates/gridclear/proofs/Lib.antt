@@ -1,4 +1,5 @@
 pub mod Answered
+pub mod Connections
 pub mod Found
 pub mod PointsNamed
 pub mod ReplyLines

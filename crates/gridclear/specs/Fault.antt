@@ -43,6 +43,7 @@ subject_of (fault.Input cause) = codes "input"
 subject_of (fault.Store cause) = codes "store"
 subject_of fault.NoSuch = codes "clearance"
 subject_of fault.Output = codes "output"
+subject_of fault.Listen = codes "listen"
 
 abbrev pub file_fault_name : CsvFault → List ℕ
 file_fault_name csv.ReadFailed = codes "ReadFailed"
@@ -99,6 +100,7 @@ name_of (fault.Input cause) = input_fault_name cause
 name_of (fault.Store cause) = store_fault_name cause
 name_of fault.NoSuch = codes "NoSuch"
 name_of fault.Output = codes "WriteFailed"
+name_of fault.Listen = codes "BindFailed"
 
 abbrev pub file_fault_detail : CsvFault → Detail
 file_fault_detail (csv.NotText row) = detail.Row row

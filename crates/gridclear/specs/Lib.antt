@@ -8,5 +8,7 @@ pub mod Order
 pub mod Outcome
 pub mod Replies
 pub mod Run
+pub mod Serve
 pub mod Stored
+pub mod Streams
 pub mod Syntax

@@ -2,7 +2,7 @@
 use Rattle.std.specs.Prelude.{codes, true, neg_ℤ, pos, Some, List, ℕ}
 use Rattle.clap.specs.Words.{App, Rule, new_app, new_rule, with_rule, with_subcommand}
 use Rattle.clap.specs.declared.builder.action.ArgAction.TheVariants.{Append}
-use Rattle.clap.specs.declared.builder.value_parser.ValueParser.TheVariants.{Signed}
+use Rattle.clap.specs.declared.builder.value_parser.ValueParser.TheVariants.{Signed, Unsigned}
 
 -- an argument that has to be given, by its place
 abbrev pub required_rule : List ℕ → Rule
@@ -19,6 +19,10 @@ option_rule id = record (new_rule id) { long = Some id; value_names = 1 }
 -- `--offset MINUTES`, from -720 to 840
 abbrev pub offset_rule : Rule
 offset_rule = record (option_rule (codes "offset")) { parser = Some (Signed (neg_ℤ (pos 720)) (pos 840)) }
+
+-- an option with a number from 1 to a greatest one, which has to be given
+abbrev pub number_rule : List ℕ → ℕ → Rule
+number_rule id most = record (option_rule id) { required = true; parser = Some (Unsigned 1 most) }
 
 -- the arguments of the two files of a network
 abbrev pub with_files : App → App
@@ -46,8 +50,14 @@ order =
 abbrev pub board : App
 board = with_rule (with_rule (new_app (codes "board")) (required_rule (codes "DB"))) offset_rule
 
+-- `serve DB --port N --count N`
+abbrev pub serve : App
+serve =
+    with_rule (with_rule (with_rule (new_app (codes "serve")) (required_rule (codes "DB"))) (number_rule (codes "port") 65535))
+    (number_rule (codes "count") 1000000)
+
 -- the program with its subcommands
 abbrev pub gridclear : App
 gridclear =
-    with_subcommand (with_subcommand (with_subcommand (with_subcommand (with_subcommand (new_app (codes "gridclear")) fence.top) init.top) run.top)
-    order.top) board.top
+    with_subcommand (with_subcommand (with_subcommand (with_subcommand (with_subcommand (with_subcommand (new_app (codes "gridclear")) fence.top) init.top)
+    run.top) order.top) board.top) serve.top

@@ -11,10 +11,12 @@ use crate::database::Databases;
 use crate::fault::Fault;
 use crate::fence::fence;
 use crate::init::init;
+use crate::loopback::Loopback;
 use crate::order::order;
 use crate::outcome::{Outcome, tell, tell_fault, write_out};
 use crate::replies::Printed;
 use crate::run::run;
+use crate::serve::Serving;
 use crate::syntax;
 use clap::error::ErrorKind;
 use clr_csv::{CountedRead, CountedWrite};
@@ -38,7 +40,7 @@ pub fn command_line<R, S, I, W, E>(
     errors: &mut E,
 ) -> u8
 where
-    R: Files + Databases + AllocGlobal,
+    R: Files + Databases + Loopback + AllocGlobal,
     S: AsStr,
     I: CountedRead,
     W: CountedWrite,
@@ -54,7 +56,7 @@ where
         (E.flushed errors.new)) }
     ensures words { result ≡ 0 → MayAnswer (fault_of gridclear (map S.text words.now)) }
 {
-    tell(answer(rt, words, input), output, errors)
+    tell(rt, answer(rt, words, input), output, errors)
 }
 
 /// Tells why the arguments of the program could not be had: one is no text, or memory ran out.
@@ -123,6 +125,10 @@ where
         Some(("board", matches)) => {
             let text = board(rt, matches)?;
             Ok(Outcome::Answer(text))
+        }
+        Some(("serve", matches)) => {
+            let serving = Serving::of_words(rt.alloc(), matches)?;
+            Ok(Outcome::Serve(serving))
         }
         _ => {
             let help = command.render_help()?;

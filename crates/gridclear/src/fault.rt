@@ -69,6 +69,8 @@ pub enum Fault {
     NoSuch,
     /// The answer could not be written to standard output.
     Output,
+    /// The port could not be listened on.
+    Listen,
 }
 
 impl From<AllocError> for Fault {
@@ -218,6 +220,7 @@ impl Fault {
             Fault::Store(_) => "store",
             Fault::NoSuch => "clearance",
             Fault::Output => "output",
+            Fault::Listen => "listen",
         }
     }
 
@@ -238,6 +241,7 @@ impl Fault {
             Fault::Store(fault) => store_fault_name(fault),
             Fault::NoSuch => "NoSuch",
             Fault::Output => "WriteFailed",
+            Fault::Listen => "BindFailed",
         }
     }
 
@@ -246,7 +250,8 @@ impl Fault {
         ensures { result ≡ detail_of self.now }
     {
         match *self {
-            Fault::Memory | Fault::Input(_) | Fault::NoSuch | Fault::Output => Detail::Nothing,
+            Fault::Memory | Fault::Input(_) | Fault::NoSuch => Detail::Nothing,
+            Fault::Output | Fault::Listen => Detail::Nothing,
             Fault::File(_, fault) => file_fault_detail(fault),
             Fault::Network(fault) => network_fault_detail(fault),
             Fault::Staff(fault) => staff_fault_detail(fault),

@@ -77,7 +77,7 @@ fn push_version(line: &mut Line, version: i64)
 }
 
 /// Adds words and a number.
-fn push_number(line: &mut Line, words: &str, number: usize)
+pub(crate) fn push_number(line: &mut Line, words: &str, number: usize)
     requires room { array_string_len line.old + length words.now + 20 ≤ 96 }
     ensures text { line.new.bytes ≡ line.old.bytes ++ (words.now ++ decimal number) }
     ensures short { array_string_len line.new

@@ -2,8 +2,11 @@
 ghost use Rattle.std.specs.Prelude.{◌≡◌, IfErr, OnErr, OnOk};
 ghost use Rattle.gridclear.specs.Outcome.{IsCut, Sends, Tells, WentOut, stream, told_line};
 
+use crate::database::Databases;
 use crate::fault::Fault;
 use crate::line::line_of;
+use crate::loopback::Loopback;
+use crate::serve::{Serving, serve};
 use clr_csv::{CountedWrite, write_whole};
 
 /// What words come to that meet no fault.
@@ -13,14 +16,18 @@ pub enum Outcome {
     Answer(String),
     /// The front of an answer, and the fault that ended it.
     Stopped(String, Fault),
+    /// What is to be served, which tells as it goes.
+    Serve(Serving),
     /// Why the words do not parse.
     Unread(String),
 }
 
 /// Writes what words came to where it belongs, and returns the exit status: an answer to `output`,
 /// 0; a fault to `errors`, 1, behind what came before it; why words do not parse to `errors`, 2. An answer that cannot be
-/// written is a fault. What cannot be written to `errors` is lost.
-pub fn tell<W: CountedWrite, E: CountedWrite>(
+/// written is a fault. What cannot be written to `errors` is lost. A server is run to its end, and its status is 0 unless
+/// it meets a fault.
+pub fn tell<R: Databases + Loopback + AllocGlobal, W: CountedWrite, E: CountedWrite>(
+    rt: &R,
     told: Result<Outcome, Fault>,
     output: &mut W,
     errors: &mut E,
@@ -43,6 +50,10 @@ pub fn tell<W: CountedWrite, E: CountedWrite>(
         Ok(Outcome::Stopped(text, fault)) => match write_out(text.as_str(), output) {
             Ok(()) => tell_fault(fault, errors),
             Err(_) => tell_fault(Fault::Output, errors),
+        },
+        Ok(Outcome::Serve(serving)) => match serve(rt, &serving, output, errors) {
+            Ok(()) => 0,
+            Err(fault) => tell_fault(fault, errors),
         },
         Ok(Outcome::Unread(text)) => {
             let _ = write_out(text.as_str(), errors);

@@ -9,6 +9,7 @@ mod fence;
 mod init;
 mod order;
 mod run;
+mod serve;
 
 use clap::Command;
 use std::alloc::{AllocError, Global};
@@ -22,11 +23,13 @@ pub fn command<'a>(alloc: Global) -> Result<Command<'a>, AllocError>
     let run = run::command(alloc)?;
     let order = order::command(alloc)?;
     let board = board::command(alloc)?;
+    let serve = serve::command(alloc)?;
     let command = Command::new(alloc, "gridclear")
         .subcommand(fence)?
         .subcommand(init)?
         .subcommand(run)?
         .subcommand(order)?
-        .subcommand(board)?;
+        .subcommand(board)?
+        .subcommand(serve)?;
     Ok(command)
 }

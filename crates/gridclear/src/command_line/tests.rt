@@ -1,6 +1,7 @@
 //! Whole command lines, over files of their own and writers in memory.
 use super::command_line;
 use crate::database::Databases;
+use crate::loopback::Loopback;
 use clr_csv::Counted;
 use std::env::Env;
 use std::io::Write;
@@ -54,7 +55,7 @@ fn new_tables<R: Env + AllocGlobal>(rt: &R, id: u32) -> Result<Tables, Fail> {
     })
 }
 
-fn write_tables<R: Files + Databases + AllocGlobal>(
+fn write_tables<R: Files + Databases + Loopback + AllocGlobal>(
     rt: &R,
     tables: &Tables,
     sections: &str,
@@ -80,12 +81,15 @@ fn errors_told(status: u8, errors: Vec<u8>) -> Result<String, Fail> {
     Ok(errors)
 }
 
-fn run_words<R: Files + Databases + AllocGlobal>(rt: &R, words: &[&str]) -> Result<Run, Fail> {
+fn run_words<R: Files + Databases + Loopback + AllocGlobal>(
+    rt: &R,
+    words: &[&str],
+) -> Result<Run, Fail> {
     run_lines(rt, words, "")
 }
 
 /// Runs a command line whose standard input is a text.
-fn run_lines<R: Files + Databases + AllocGlobal>(
+fn run_lines<R: Files + Databases + Loopback + AllocGlobal>(
     rt: &R,
     words: &[&str],
     lines: &str,
@@ -107,7 +111,7 @@ fn run_lines<R: Files + Databases + AllocGlobal>(
 }
 
 /// Runs `fence` over these files with further words.
-fn run_fence<R: Files + Databases + AllocGlobal>(
+fn run_fence<R: Files + Databases + Loopback + AllocGlobal>(
     rt: &R,
     tables: &Tables,
     more: &[&str],
@@ -305,7 +309,7 @@ fn long_fault_lines(rt: HostRuntime) -> Result<(), Fail> {
 }
 
 /// Runs `init` over the worked network and a staff file of this text, with further words.
-fn run_init<R: Files + Databases + AllocGlobal>(
+fn run_init<R: Files + Databases + Loopback + AllocGlobal>(
     rt: &R,
     tables: &Tables,
     staff: &str,

@@ -1,7 +1,7 @@
 //! The kinds of argument that the subcommands share.
 ghost use Rattle.std.specs.Prelude.{◌≡◌, codes, false};
 ghost use Rattle.clap.specs.Words.{rule_of};
-ghost use Rattle.gridclear.specs.Syntax.{offset_rule, option_rule, repeated_rule, required_rule};
+ghost use Rattle.gridclear.specs.Syntax.{number_rule, offset_rule, option_rule, repeated_rule, required_rule};
 
 use clap::builder::ValueParser;
 use clap::{Arg, ArgAction};
@@ -29,6 +29,16 @@ pub fn option<'a>(alloc: Global, id: &'a str, value: &'a str, help: &'a str) -> 
     ensures local { result.global ≡ false }
 {
     Arg::new(alloc, id).long(id).value_name(value).help(help)
+}
+
+/// An option with a number from 1 to `most`, which has to be given.
+pub fn number<'a>(alloc: Global, id: &'a str, most: u64, help: &'a str) -> Arg<'a>
+    ensures rule { rule_of result ≡ number_rule id.entry.now most }
+    ensures local { result.global ≡ false }
+{
+    option(alloc, id, "N", help)
+        .required(true)
+        .value_parser(ValueParser::unsigned(1, most))
 }
 
 /// `--offset MINUTES`, from -720 to 840.

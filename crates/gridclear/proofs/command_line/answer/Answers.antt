@@ -36,3 +36,9 @@ returns-in-Some-board-default-clause-answers g c = λ _. MayAnswer-parsed _ _ c.
 
 pub returns-in_err-text-in-Some-board-default-clause-faults : goal.returns-in_err-text-in-Some-board-default-clause-faults
 returns-in_err-text-in-Some-board-default-clause-faults g c = IfErr-parsed c.from_residual-in_err-text-in-Some-board-default.result _ _ c.in_ok-command.ensures c.in-Ok.ensures.kinds
+
+pub returns-in-Some-serve-default-clause-answers : goal.returns-in-Some-serve-default-clause-answers
+returns-in-Some-serve-default-clause-answers g c = λ _. MayAnswer-parsed _ _ c.in_ok-command.ensures c.in-Ok.ensures.kinds
+
+pub returns-in_err-serving-in-Some-serve-default-clause-faults : goal.returns-in_err-serving-in-Some-serve-default-clause-faults
+returns-in_err-serving-in-Some-serve-default-clause-faults g c = IfErr-parsed c.from_residual-in_err-serving-in-Some-serve-default.result _ _ c.in_ok-command.ensures c.in-Ok.ensures.kinds
