@@ -1,14 +1,32 @@
 -- What the errors are told of connections, one by one.
-use Rattle.std.proofs.Common.{◌≡◌, ◌+◌, ℕ, refl, zero, suc}
+use Rattle.std.proofs.Common.{◌≡◌, ◌+◌, ℕ, suc, List, Result, Ok, Err, arith, inl, inr, refl, subst}
+use Rattle.std.specs.Prelude.{OnErr, OnOk}
 use Rattle.gridclear.specs.Serve.{TellsFirst, TellsNext}
-use Rattle.gridclear.specs.Streams.{Stream}
+use Rattle.gridclear.specs.Streams.{IsCut, Sends, Stream, WentOut}
+use Rattle.gridclear.specs.declared.fault.Fault.{Fault}
 
 -- before the first connection nothing is told
 pub first_told : (errors : Stream) → TellsFirst 0 errors errors
 unfolding TellsFirst
 first_told errors = refl
 
+told_after : (n : ℕ) (errors middle errors' : Stream) → TellsFirst n errors middle → TellsNext (n + 1) middle errors' → TellsFirst (suc n) errors errors'
+unfolding TellsFirst
+told_after n errors middle errors' first next = (middle, first, next)
+
 -- one connection more is told
 pub next_told : (n : ℕ) (errors middle errors' : Stream) → TellsFirst n errors middle → TellsNext (n + 1) middle errors' → TellsFirst (n + 1) errors errors'
-unfolding TellsFirst
-next_told n errors middle errors' first next = (middle, first, next)
+next_told n errors middle errors' first next =
+    let P : ℕ → Type 0 = λ m. TellsFirst m errors errors' in
+    let e : suc n ≡ n + 1 = omega arith in
+    subst P e (told_after n errors middle errors' first next)
+
+-- a text that went out, in other words
+pub went_as : (old new : Stream) (text line : List ℕ) → text ≡ line → WentOut old new text → WentOut old new line
+went_as old new text line same went = subst (λ (t : List ℕ). WentOut old new t) same went
+
+-- a line that was written goes out whole, unless the writer failed
+pub sends_from : {T : Type 0} (written : Result T Fault) (old new : Stream) (text line : List ℕ) → text ≡ line
+    → OnOk written (WentOut old new text) → OnErr written (IsCut old new text) → Sends old new line
+sends_from (Ok value) old new text line same whole cut = inl (went_as old new text line same whole)
+sends_from (Err fault) old new text line same whole cut = inr (subst (λ (t : List ℕ). IsCut old new t) same cut)

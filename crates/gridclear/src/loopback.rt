@@ -41,7 +41,7 @@ impl Loopback for HostRuntime {
     fn listen(&self, port: u16) -> Result<TcpListener, Fault>
         ensures fault { IfErr result (λ fault. fault ≡ Fault.Listen) }
     {
-        match TcpListener::bind(self, loopback(port)) {
+        match TcpListener::bind(self, local_address(port)) {
             Ok(listener) => Ok(listener),
             Err(_) => Err(Fault::Listen),
         }
@@ -55,7 +55,7 @@ impl Loopback for HostRuntime {
 }
 
 /// A port of 127.0.0.1.
-pub fn loopback(port: u16) -> SocketAddr
+pub fn local_address(port: u16) -> SocketAddr
     ensures ip { IsV4And (socket_ip result)
         (λ address. ipv4_octets address ≡ 127 ∷ 0 ∷ 0 ∷ 1 ∷ []) }
     ensures port { socket_port result ≡ port }

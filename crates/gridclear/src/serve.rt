@@ -72,18 +72,15 @@ pub fn serve<R: Databases + Loopback + AllocGlobal, W: CountedWrite, E: CountedW
         (E.flushed errors.new)) }
 {
     let mut desk = open_desk(rt, serving.path.as_str())?;
-    let served = serve_desk(
-        rt.alloc(),
-        rt,
-        &mut desk,
-        serving.port,
-        serving.count,
-        output,
-        errors,
-    );
-    let closed = close_desk(rt, desk);
-    served?;
-    closed?;
+    let (port, count) = (serving.port, serving.count);
+    match serve_desk(rt.alloc(), rt, &mut desk, port, count, output, errors) {
+        Ok(()) => {}
+        Err(fault) => {
+            let _ = close_desk(rt, desk);
+            return Err(fault);
+        }
+    }
+    close_desk(rt, desk)?;
     Ok(())
 }
 

@@ -4,7 +4,7 @@ ghost use Rattle.std.specs.Prelude.{◌≡◌, IfErr};
 
 use super::serve_connections;
 use crate::fault::Fault;
-use crate::loopback::{Connection, Loopback, loopback};
+use crate::loopback::{Connection, Loopback, local_address};
 use clr_csv::{Counted, Staff, read_points, read_sections, read_staff};
 use clr_desk::Desk;
 use clr_net::Network;
@@ -74,7 +74,7 @@ fn exchange<R: Loopback<Listener = TcpListener, Stream = TcpStream> + Net<Stream
 ) -> Result<String, Fail> {
     let listener = rt.listen(0)?;
     let port = listener.local_addr()?.port();
-    let mut client = TcpStream::connect(rt, loopback(port))?;
+    let mut client = TcpStream::connect(rt, local_address(port))?;
     client.write_all(request)?;
     client.shutdown(Shutdown::Write)?;
     let mut errors = Counted::new(Vec::new(alloc));
