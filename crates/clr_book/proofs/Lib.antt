@@ -15,6 +15,7 @@ pub mod OnceFacts
 pub mod FenceNames
 pub mod Grouped
 pub mod LookedUp
+pub mod LentRows
 pub mod NameLists
 pub mod PutSteps
 pub mod NearGroups

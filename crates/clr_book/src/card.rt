@@ -25,15 +25,18 @@ struct Tally {
     steps: usize,
 }
 
-/// Whether one of the rows has the key of this one.
+/// Whether one of the rows, which stand in key order, has the key of this one.
 fn is_put(rows: &[StepRow], row: &StepRow) -> bool
+    requires { in_key_order step_key_cmp step_key rows.now ≡ true }
     ensures { result ≡ is_put rows.now row.now }
 {
-    rows.iter().any(|new| row.compare_key(&new.key()).is_eq())
+    let key = row.key();
+    rows.binary_search_by(|new| new.compare_key(&key)).is_ok()
 }
 
 /// The steps of a round that stay where others are put.
 fn kept_tally(near: &Near, put: &[StepRow], id: ClearanceId, round: u8) -> Tally
+    requires { in_key_order step_key_cmp step_key put.now ≡ true }
     ensures steps { result.steps
         ≡ count_by (λ row. is_of_round id round row
         && not (is_put put.now row)) near.now.rows.steps }

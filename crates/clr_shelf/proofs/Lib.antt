@@ -7,7 +7,7 @@ pub mod KeyOrder
 pub mod Keys
 pub mod Lists
 pub mod Members
-mod Places
+pub mod Places
 pub mod Reading
 pub mod SameRows
 mod SortedPlaces

@@ -1,6 +1,7 @@
 -- The command line: its subcommands, and the arguments of each.
-use Rattle.std.specs.Prelude.{codes, true, neg_ℤ, pos, Some, List, ℕ}
+use Rattle.std.specs.Prelude.{codes, true, neg_ℤ, pos, Some, List, [], ℕ}
 use Rattle.clap.specs.Words.{App, Rule, new_app, new_rule, with_rule, with_subcommand}
+use Rattle.clap.specs.Simple.{new_shape}
 use Rattle.clap.specs.declared.builder.action.ArgAction.TheVariants.{Append}
 use Rattle.clap.specs.declared.builder.value_parser.ValueParser.TheVariants.{Signed, Unsigned}
 
@@ -56,8 +57,15 @@ serve =
     with_rule (with_rule (with_rule (new_app (codes "serve")) (required_rule (codes "DB"))) (number_rule (codes "port") 65535))
     (number_rule (codes "count") 1000000)
 
+-- `gridclear` alone: it has a version, and asks for a subcommand
+abbrev pub top : App
+top = record {
+  top = record (new_shape (codes "gridclear")) { has_version = true; arg_required_else_help = true; subcommand_required = true };
+  subs = [];
+}
+
 -- the program with its subcommands
 abbrev pub gridclear : App
 gridclear =
-    with_subcommand (with_subcommand (with_subcommand (with_subcommand (with_subcommand (with_subcommand (new_app (codes "gridclear")) fence.top) init.top)
+    with_subcommand (with_subcommand (with_subcommand (with_subcommand (with_subcommand (with_subcommand top fence.top) init.top)
     run.top) order.top) board.top) serve.top

@@ -10,5 +10,8 @@ own : (records : List Record) (id : Id) (found : Option (Bor Record)) → option
 own records id None is = tt
 own records id (Some r) is = record_id records id r.now (sym is)
 
+pub find_row-requires : goal.find_row-requires
+find_row-requires c = rw c.deref.ensures.value c.near.invariant.5
+
 pub returns-clause-own : goal.returns-clause-own
 returns-clause-own c = own c.args.near.now.rows.records c.args.id c.find_row.result (search rules)
