@@ -1,8 +1,9 @@
 -- What the errors are told of connections, one by one.
-use Rattle.std.proofs.Common.{◌≡◌, ◌+◌, ℕ, suc, List, Result, Ok, Err, arith, inl, inr, refl, subst}
+use Rattle.std.proofs.Common.{◌≡◌, ◌⊎◌, ◌+◌, ℕ, suc, List, Option, Result, Ok, Err, arith, inl, inr, refl, subst}
 use Rattle.std.specs.Prelude.{OnErr, OnOk}
+use Rattle.std.specs.Io.KnownBytes.{Appends}
 use Rattle.gridclear.specs.Serve.{TellsFirst, TellsNext}
-use Rattle.gridclear.specs.Streams.{IsCut, Sends, Stream, WentOut}
+use Rattle.gridclear.specs.Streams.{AppendsFront, Stream}
 use Rattle.gridclear.specs.declared.fault.Fault.{Fault}
 
 -- before the first connection nothing is told
@@ -22,11 +23,12 @@ next_told n errors middle errors' first next =
     subst P e (told_after n errors middle errors' first next)
 
 -- a text that went out, in other words
-pub went_as : (old new : Stream) (text line : List ℕ) → text ≡ line → WentOut old new text → WentOut old new line
-went_as old new text line same went = subst (λ (t : List ℕ). WentOut old new t) same went
+pub went_as : (F : Type 0) (old new : Option (List ℕ)) (text line : List ℕ) → text ≡ line → Appends old new text × F → Appends old new line × F
+went_as F old new text line same went = subst (λ (t : List ℕ). Appends old new t × F) same went
 
 -- a line that was written goes out whole, unless the writer failed
-pub sends_from : {T : Type 0} (written : Result T Fault) (old new : Stream) (text line : List ℕ) → text ≡ line
-    → OnOk written (WentOut old new text) → OnErr written (IsCut old new text) → Sends old new line
-sends_from (Ok value) old new text line same whole cut = inl (went_as old new text line same whole)
-sends_from (Err fault) old new text line same whole cut = inr (subst (λ (t : List ℕ). IsCut old new t) same cut)
+pub sends_from : {T : Type 0} (written : Result T Fault) (F H : Type 0) (old new : Option (List ℕ)) (text line : List ℕ) → text ≡ line
+    → OnOk written (Appends old new text × F) → OnErr written (AppendsFront old new text × H)
+    → (Appends old new line × F) ⊎ (AppendsFront old new line × H)
+sends_from (Ok value) F H old new text line same whole cut = inl (went_as F old new text line same whole)
+sends_from (Err fault) F H old new text line same whole cut = inr (subst (λ (t : List ℕ). AppendsFront old new t × H) same cut)

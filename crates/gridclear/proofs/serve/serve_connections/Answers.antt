@@ -1,4 +1,3 @@
-use Rattle.std.proofs.Common.{◌≡◌, refl}
 use Rattle.gridclear.proofs.Connections.{first_told, next_told}
 use Rattle.gridclear.proofs.serve.serve_connections.Goals as goal
 

@@ -3,7 +3,7 @@ use Rattle.gridclear.proofs.Connections.{went_as}
 use Rattle.gridclear.proofs.serve.serve_desk.Goals as goal
 
 pub returns-clause-served : goal.returns-clause-served
-returns-clause-served g c = (went_as _ _ _ _ (search rules) c.in_ok-write_out.ensures.whole, c.serve_connections.ensures.told)
+returns-clause-served g c = (went_as _ _ _ _ _ (search rules) c.in_ok-write_out.ensures.whole, c.serve_connections.ensures.told)
 
 -- a desk that was not asked is as it was
 pub returns-in_err-listener-clause-led : goal.returns-in_err-listener-clause-led
