@@ -14,6 +14,8 @@ mod driver;
 #[cfg(test)]
 mod fences;
 #[cfg(test)]
+mod http;
+#[cfg(test)]
 mod ids;
 #[cfg(test)]
 mod life;
