@@ -46,7 +46,7 @@ fn staff_fault(alloc: Global, file: &[u8]) -> Result<Option<CsvFault>, Fail> {
 }
 
 #[test]
-fn worked_files_read(rt: HostRuntime) -> Result<(), Fail> {
+fn worked_sections_read(rt: HostRuntime) -> Result<(), Fail> {
     let mut reader = Counted::new(SECTIONS);
     let sections = read_sections(rt.alloc(), &mut reader)?;
     assert_eq!(rt; reader.failures(), 0);
@@ -57,7 +57,11 @@ fn worked_files_read(rt: HostRuntime) -> Result<(), Fail> {
         source: false,
     };
     assert_eq!(rt; sections.get(2), Some(&third));
+    Ok(())
+}
 
+#[test]
+fn worked_points_read(rt: HostRuntime) -> Result<(), Fail> {
     let points = read_points(rt.alloc(), &mut Counted::new(POINTS))?;
     assert_eq!(rt; points.len(), 5);
     let fourth = PointRow {
@@ -73,7 +77,11 @@ fn worked_files_read(rt: HostRuntime) -> Result<(), Fail> {
         points.get(4).map(|point| point.position),
         Some(Position::Opened)
     );
+    Ok(())
+}
 
+#[test]
+fn worked_staff_reads(rt: HostRuntime) -> Result<(), Fail> {
     let staff = read_staff(rt.alloc(), &mut Counted::new(STAFF))?;
     assert_eq!(rt; staff.len(), 6);
     assert_eq!(rt; staff.get(0).map(|row| row.role), Some(Role::Operator));

@@ -4,6 +4,8 @@
 #[cfg(test)]
 mod books;
 #[cfg(test)]
+mod chain;
+#[cfg(test)]
 mod csv;
 #[cfg(test)]
 mod desk;
@@ -11,6 +13,8 @@ mod desk;
 mod driver;
 #[cfg(test)]
 mod fences;
+#[cfg(test)]
+mod http;
 #[cfg(test)]
 mod ids;
 #[cfg(test)]
