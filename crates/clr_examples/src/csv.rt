@@ -1,4 +1,5 @@
-//! The three files, read: the worked network's files, each fault of a reader, and readers that fail.
+//! The three files, read: the worked network's files, each fault of a reader, and readers that
+//! fail.
 use clr_csv::{Counted, CountedRead, CsvFault, Role, read_points, read_sections, read_staff};
 use clr_net::{Name, PointRow, Position, SectionRow};
 use std::alloc::Global;
@@ -25,7 +26,8 @@ KIM,charge,
 BOSS,charge,
 ";
 
-/// The fault of a file, if it has one. Want of memory is never what a test asks for: it ends the test.
+/// The fault of a file, if it has one. Want of memory is never what a test asks for: it ends the
+/// test.
 fn fault_of<T: Drop>(told: Result<T, CsvFault>) -> Result<Option<CsvFault>, Fail> {
     match told {
         Err(CsvFault::NoMemory) => Err(CsvFault::NoMemory.into()),

@@ -1,4 +1,5 @@
-//! Worked examples across the libraries, each named after its title in docs/EXAMPLES.md. There are only tests here.
+//! Worked examples across the libraries, each named after its title in docs/EXAMPLES.md. There are
+//! only tests here.
 #![tactic(auto)]
 
 #[cfg(test)]

@@ -179,8 +179,8 @@ fn bad_requests_change_nothing(rt: HostRuntime) -> Result<(), Fail> {
     Ok(())
 }
 
-/// Connections on which nothing comes through: each first one is not accepted, each second one cannot
-/// be read, each third one not be written to.
+/// Connections on which nothing comes through: each first one is not accepted, each second one
+/// cannot be read, each third one not be written to.
 #[derive(Drop)]
 struct Torn {
     accepted: Cell<u8>,

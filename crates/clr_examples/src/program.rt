@@ -70,8 +70,8 @@ fn remove_tables<R: Files>(rt: &R, tables: &Tables) -> io::Result<()> {
     fs::remove_file(rt, tables.points.as_str())
 }
 
-/// What a command line wrote to the errors. Want of memory ends the test: its line says so, or memory
-/// was wanted for the line itself.
+/// What a command line wrote to the errors. Want of memory ends the test: its line says so, or
+/// memory was wanted for the line itself.
 fn errors_told(status: u8, errors: Vec<u8>) -> Result<String, Fail> {
     let errors = String::from_utf8(errors)?;
     let cut = status != 0 && !errors.as_str().ends_with("\n");

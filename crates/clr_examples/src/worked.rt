@@ -99,7 +99,8 @@ pub fn chain(alloc: Global, count: u16) -> Result<Result<Network, NetFault>, Fai
     Ok(Network::build(alloc, rows.sections, rows.points))
 }
 
-/// The fault of rows that are no network, if they have one. Want of memory is never what a test asks for: it ends the test.
+/// The fault of rows that are no network, if they have one. Want of memory is never what a test
+/// asks for: it ends the test.
 pub fn net_fault(told: Result<Network, NetFault>) -> Result<Option<NetFault>, Fail> {
     match told {
         Err(NetFault::NoMemory) => Err(NetFault::NoMemory.into()),

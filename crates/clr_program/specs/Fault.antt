@@ -1,5 +1,5 @@
--- The line that each fault prints: `fault: `, what it is about, a blank, the fault's name, and where it is or what it
--- names. Want of memory is about memory, whatever answered it.
+-- The line that each fault prints: `fault: `, what it is about, a blank, the fault's name, and
+-- where it is or what it names. Want of memory is about memory, whatever answered it.
 use Rattle.std.specs.Prelude.{◌≡◌, ℕ, List, [], ◌++◌, codes, decimal}
 use Rattle.std.specs.Fmt.{signed_decimal}
 use Rattle.clr_net.specs.declared.name.NameFault.{NameFault}
@@ -146,14 +146,16 @@ detail_of cause = detail.Nothing
 abbrev pub detail_text : Detail → List ℕ
 detail_text detail.Nothing = []
 detail_text (detail.Row row) = codes " row " ++ decimal row
-detail_text (detail.Field row column) = (codes " row " ++ decimal row) ++ (codes " column " ++ decimal column)
+detail_text (detail.Field row column) = (codes " row " ++ decimal row)
+    ++ (codes " column " ++ decimal column)
 detail_text (detail.Place place) = codes " place " ++ decimal place
 detail_text (detail.Named found) = codes " " ++ found
 detail_text (detail.Version n) = codes " " ++ signed_decimal n
 detail_text (detail.Table table) = codes " " ++ table_text table
 
 abbrev pub fault_line : Fault → List ℕ
-fault_line cause = codes "fault: " ++ (subject_of cause ++ (codes " " ++ (name_of cause ++ detail_text (detail_of cause))))
+fault_line cause = codes "fault: "
+    ++ (subject_of cause ++ (codes " " ++ (name_of cause ++ detail_text (detail_of cause))))
 
 -- The fault that a cause becomes. Want of memory is one fault, whatever answered it.
 abbrev pub of_file : ImportFile → CsvFault → Fault

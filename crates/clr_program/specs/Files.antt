@@ -16,7 +16,9 @@ told_of file (Err cause) = Err (of_file file cause)
 abbrev pub IsUnread : ImportFile → Fault → Type 0
 IsUnread file fault = (fault ≡ Memory) ⊎ (fault ≡ File file ReadFailed)
 
--- the rows that are told, as `view` shows them, or the fault; only a file that goes unread may come in its place
-abbrev pub GivesRows : {A T : Type 0} → ImportFile → (T → List A) → Result (List A) Fault → Result T Fault → Type 0
+-- the rows that are told, as `view` shows them, or the fault; only a file that goes unread may come
+-- in its place
+abbrev pub GivesRows : {A T : Type 0} → ImportFile → (T → List A) → Result (List A) Fault
+    → Result T Fault → Type 0
 GivesRows file view told (Ok rows) = told ≡ Ok (view rows)
 GivesRows file view told (Err fault) = (IsUnread file fault → ⊥) → told ≡ Err fault

@@ -1,5 +1,6 @@
 -- What `init` answers of the rows of its three files.
-use Rattle.std.specs.Prelude.{◌≡◌, ℕ, List, ◌++◌, length, codes, decimal, option_map, Result, Ok, Err}
+use Rattle.std.specs.Prelude.{◌≡◌, ℕ, List, ◌++◌, length, codes, decimal, option_map, Result, Ok}
+use Rattle.std.specs.Prelude.{Err}
 use Rattle.clr_net.specs.Network as network
 use Rattle.clr_net.specs.declared.section.SectionRow.{SectionRow}
 use Rattle.clr_net.specs.declared.point.PointRow.{PointRow}
@@ -17,7 +18,9 @@ use Rattle.clr_program.specs.declared.fault.ImportFile.TheVariants.{Sections, Po
 -- how many rows each file has, on a line
 abbrev pub counts_line : ℕ → ℕ → ℕ → List ℕ
 counts_line sections points employees =
-    codes "sections " ++ (decimal sections ++ (codes " points " ++ (decimal points ++ (codes " staff " ++ (decimal employees ++ codes "\n")))))
+    codes "sections " ++ (decimal sections
+    ++ (codes " points "
+    ++ (decimal points ++ (codes " staff " ++ (decimal employees ++ codes "\n")))))
 
 -- the first fault of the network of these rows, then that of the staff, else the line of counts
 abbrev pub counts_of : List SectionRow → List PointRow → List StaffRow → Result (List ℕ) Fault
@@ -34,8 +37,12 @@ counts_of_files section_file point_file staff_file = do
   employees ← told_of Staff (staff_of staff_file)
   counts_of sections points employees
 
--- the same, as a call answers it; only want of memory, or a file that goes unread, may come in place of the answer
-abbrev pub CountsFiles : {T : Type 0} → (T → List ℕ) → List ℕ → List ℕ → List ℕ → Result T Fault → Type 0
-CountsFiles view section_file point_file staff_file (Ok value) = counts_of_files section_file point_file staff_file ≡ Ok (view value)
+-- the same, as a call answers it; only want of memory, or a file that goes unread, may come in
+-- place of the answer
+abbrev pub CountsFiles : {T : Type 0} → (T → List ℕ) → List ℕ → List ℕ → List ℕ → Result T Fault
+    → Type 0
+CountsFiles view section_file point_file staff_file (Ok value) =
+    counts_of_files section_file point_file staff_file ≡ Ok (view value)
 CountsFiles view section_file point_file staff_file (Err fault) =
-    (IsUnread Sections fault → ⊥) → (IsUnread Points fault → ⊥) → (IsUnread Staff fault → ⊥) → counts_of_files section_file point_file staff_file ≡ Err fault
+    (IsUnread Sections fault → ⊥) → (IsUnread Points fault → ⊥) → (IsUnread Staff fault → ⊥)
+    → counts_of_files section_file point_file staff_file ≡ Err fault

@@ -19,7 +19,8 @@ rows_fault sections points employees =
     (Ok tt))
 
 -- the opening register of these rows, if they are a network and a staff
-pub record IsOpeningOf (sections : List SectionRow) (points : List PointRow) (employees : List StaffRow) (R : Register) : Type 0 where
+pub record IsOpeningOf (sections : List SectionRow) (points : List PointRow)
+    (employees : List StaffRow) (R : Register) : Type 0 where
   pub net : Grid
   pub team : List StaffRow
   pub is_network : network.IsGridOf sections points net

@@ -3,8 +3,9 @@ use Rattle.std.specs.Prelude.{ℕ, Bool, true, ◌≡◌, ◌⊎◌, ◌++◌, L
 use Rattle.std.specs.Io.KnownBytes.{Appends}
 use Rattle.clr_csv.specs.Failures.{Rose}
 
--- What is known of a writer: the bytes that it holds, where they are known; how many of its calls have failed; whether
--- its last write took no byte; and whether nothing was written since it was flushed.
+-- What is known of a writer: the bytes that it holds, where they are known; how many of its calls
+-- have failed; whether its last write took no byte; and whether nothing was written since it was
+-- flushed.
 pub record Stream : Type 0 where
   pub contents : Option (List ℕ)
   pub failures : ℕ
@@ -12,7 +13,8 @@ pub record Stream : Type 0 where
   pub flushed : Bool
 
 abbrev pub stream : Option (List ℕ) → ℕ → Bool → Bool → Stream
-stream contents failures stalled flushed = record { contents = contents; failures = failures; stalled = stalled; flushed = flushed }
+stream contents failures stalled flushed =
+    record { contents = contents; failures = failures; stalled = stalled; flushed = flushed }
 
 -- the writer failed, or took no byte
 abbrev pub HasFailed : Stream → Stream → Type 0
@@ -20,7 +22,8 @@ HasFailed old new = Rose old.failures new.failures ⊎ (new.stalled ≡ true)
 
 -- Known bytes grow by a front of a text.
 abbrev pub AppendsFront : Option (List ℕ) → Option (List ℕ) → List ℕ → Type 0
-AppendsFront old new text = (front : List ℕ) × (rest : List ℕ) × (text ≡ front ++ rest) × Appends old new front
+AppendsFront old new text = (front : List ℕ) × (rest : List ℕ) × (text ≡ front ++ rest)
+    × Appends old new front
 
 -- a text went out whole, and was flushed
 abbrev pub WentOut : Stream → Stream → List ℕ → Type 0

@@ -3,7 +3,8 @@ ghost use Rattle.std.specs.Prelude.{◌≡◌, ◌≢◌, ◌⊎◌, [], Err, If
 ghost use Rattle.std.specs.IoError.{error_kind};
 ghost use Rattle.std.specs.declared.io.ErrorKind.TheVariants as io_kind;
 ghost use Rattle.clap.specs.Words.{fault_of, kind_of};
-ghost use Rattle.clr_program.specs.Outcome.{IsAnswer, IsTold, IsUnread, MayAnswer, Sends, stream, told_line};
+ghost use Rattle.clr_program.specs.Outcome.{IsAnswer, IsTold, IsUnread, MayAnswer, Sends, stream};
+ghost use Rattle.clr_program.specs.Outcome.{told_line};
 ghost use Rattle.clr_program.specs.Syntax.{gridclear};
 
 use crate::board::board;

@@ -1,6 +1,10 @@
 //! What ends a command before it has its answer.
 ghost use Rattle.std.specs.Prelude.{◌≡◌, ◌≤◌, length};
-ghost use Rattle.clr_program.specs.Fault.{file_fault_detail, file_fault_name, file_text, input_fault_name, name_fault_detail, name_fault_name, network_fault_detail, network_fault_name, staff_fault_detail, staff_fault_name, store_fault_detail, store_fault_name};
+ghost use Rattle.clr_program.specs.Fault.{file_fault_detail, file_fault_name, file_text};
+ghost use Rattle.clr_program.specs.Fault.{input_fault_name, name_fault_detail, name_fault_name};
+ghost use Rattle.clr_program.specs.Fault.{network_fault_detail, network_fault_name};
+ghost use Rattle.clr_program.specs.Fault.{staff_fault_detail, staff_fault_name, store_fault_detail};
+ghost use Rattle.clr_program.specs.Fault.{store_fault_name};
 
 use clr_csv::{CsvFault, StaffFault};
 use clr_desk::DeskFault;

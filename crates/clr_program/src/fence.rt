@@ -1,7 +1,8 @@
 //! The subcommand `fence`: the sections that can be reached from one without passing a cut.
 ghost use Rattle.std.specs.Prelude.{◌≡◌, ◌++◌, IfOk, IfSome, OnOk, map, string_bytes};
 ghost use Rattle.clr_program.specs.Answers.{Gives};
-ghost use Rattle.clr_program.specs.Fence.{FencesFiles, FencesRows, fence_lines, point_named, points_named, section_named};
+ghost use Rattle.clr_program.specs.Fence.{FencesFiles, FencesRows, fence_lines, point_named};
+ghost use Rattle.clr_program.specs.Fence.{points_named, section_named};
 ghost use Rattle.clr_program.specs.Lines.{line_of, lines_of};
 
 use crate::fault::Fault;
@@ -33,7 +34,8 @@ pub fn fence_of_files<S: Source, P: Source>(
     work: &str,
     cut: &[&str],
 ) -> Result<String, Fault>
-    ensures { IfSome (S.bytes sections.now) (λ section_file. IfSome (P.bytes points.now) (λ point_file.
+    ensures { IfSome (S.bytes sections.now)
+        (λ section_file. IfSome (P.bytes points.now) (λ point_file.
         FencesFiles (λ text. string_bytes text) section_file point_file
         work.now (map (λ word. word.now) cut.now) result)) }
 {

@@ -23,8 +23,10 @@ pub trait Source {
 
     /// Opens the file at its start. One that cannot be opened counts as one that cannot be read.
     fn open(&self) -> Result<Self::Reader, CsvFault>
-        ensures bytes { IfOk result (λ reader. IfSome (bytes self.now) (λ file. Self.Reader.remaining reader ≡ Some file)) }
-        ensures fault { IfErr result (λ fault. (fault ≡ CsvFault.NoMemory) ⊎ (fault ≡ CsvFault.ReadFailed)) };
+        ensures bytes { IfOk result
+            (λ reader. IfSome (bytes self.now) (λ file. Self.Reader.remaining reader ≡ Some file)) }
+        ensures fault { IfErr result
+            (λ fault. (fault ≡ CsvFault.NoMemory) ⊎ (fault ≡ CsvFault.ReadFailed)) };
 }
 
 /// The file at a path.
@@ -61,14 +63,17 @@ impl<'a, R: Files> Source for AtPath<'a, R> {
 
 /// The rows of the file of sections.
 pub fn sections_from<S: Source>(alloc: Global, source: &S) -> Result<Vec<SectionRow>, Fault>
-    ensures rows { IfSome (S.bytes source.now) (λ file. GivesRows ImportFile.Sections (λ rows. rows.items) (told_of ImportFile.Sections (sections_of file)) result) }
+    ensures rows { IfSome (S.bytes source.now)
+        (λ file. GivesRows ImportFile.Sections (λ rows. rows.items)
+        (told_of ImportFile.Sections (sections_of file)) result) }
     ensures fault { IfErr result (IsOfFile ImportFile.Sections) }
 {
     told_of(ImportFile::Sections, sections_in(alloc, source))
 }
 
 fn sections_in<S: Source>(alloc: Global, source: &S) -> Result<Vec<SectionRow>, CsvFault>
-    ensures { IfSome (S.bytes source.now) (λ file. GivesUnlessFailed (λ rows. rows.items) (sections_of file) result) }
+    ensures { IfSome (S.bytes source.now)
+        (λ file. GivesUnlessFailed (λ rows. rows.items) (sections_of file) result) }
 {
     let mut file = source.open()?;
     let rows = read_sections(alloc, &mut file)?;
@@ -77,14 +82,17 @@ fn sections_in<S: Source>(alloc: Global, source: &S) -> Result<Vec<SectionRow>, 
 
 /// The rows of the file of switching points.
 pub fn points_from<S: Source>(alloc: Global, source: &S) -> Result<Vec<PointRow>, Fault>
-    ensures rows { IfSome (S.bytes source.now) (λ file. GivesRows ImportFile.Points (λ rows. rows.items) (told_of ImportFile.Points (points_of file)) result) }
+    ensures rows { IfSome (S.bytes source.now)
+        (λ file. GivesRows ImportFile.Points (λ rows. rows.items)
+        (told_of ImportFile.Points (points_of file)) result) }
     ensures fault { IfErr result (IsOfFile ImportFile.Points) }
 {
     told_of(ImportFile::Points, points_in(alloc, source))
 }
 
 fn points_in<S: Source>(alloc: Global, source: &S) -> Result<Vec<PointRow>, CsvFault>
-    ensures { IfSome (S.bytes source.now) (λ file. GivesUnlessFailed (λ rows. rows.items) (points_of file) result) }
+    ensures { IfSome (S.bytes source.now)
+        (λ file. GivesUnlessFailed (λ rows. rows.items) (points_of file) result) }
 {
     let mut file = source.open()?;
     let rows = read_points(alloc, &mut file)?;
@@ -93,14 +101,17 @@ fn points_in<S: Source>(alloc: Global, source: &S) -> Result<Vec<PointRow>, CsvF
 
 /// The rows of the file of the staff.
 pub fn staff_from<S: Source>(alloc: Global, source: &S) -> Result<Vec<StaffRow>, Fault>
-    ensures rows { IfSome (S.bytes source.now) (λ file. GivesRows ImportFile.Staff (λ rows. rows.items) (told_of ImportFile.Staff (staff_of file)) result) }
+    ensures rows { IfSome (S.bytes source.now)
+        (λ file. GivesRows ImportFile.Staff (λ rows. rows.items)
+        (told_of ImportFile.Staff (staff_of file)) result) }
     ensures fault { IfErr result (IsOfFile ImportFile.Staff) }
 {
     told_of(ImportFile::Staff, staff_in(alloc, source))
 }
 
 fn staff_in<S: Source>(alloc: Global, source: &S) -> Result<Vec<StaffRow>, CsvFault>
-    ensures { IfSome (S.bytes source.now) (λ file. GivesUnlessFailed (λ rows. rows.items) (staff_of file) result) }
+    ensures { IfSome (S.bytes source.now)
+        (λ file. GivesUnlessFailed (λ rows. rows.items) (staff_of file) result) }
 {
     let mut file = source.open()?;
     let rows = read_staff(alloc, &mut file)?;

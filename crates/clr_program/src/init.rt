@@ -77,7 +77,8 @@ pub fn counts_of_files<S: Source, P: Source, E: Source>(
     points: &P,
     staff: &E,
 ) -> Result<String, Fault>
-    ensures { IfSome (S.bytes sections.now) (λ section_file. IfSome (P.bytes points.now) (λ point_file.
+    ensures { IfSome (S.bytes sections.now)
+        (λ section_file. IfSome (P.bytes points.now) (λ point_file.
         IfSome (E.bytes staff.now) (λ staff_file.
         CountsFiles (λ text. string_bytes text) section_file point_file staff_file result))) }
 {

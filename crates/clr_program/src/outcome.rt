@@ -23,9 +23,9 @@ pub enum Outcome {
 }
 
 /// Writes what words came to where it belongs, and returns the exit status: an answer to `output`,
-/// 0; a fault to `errors`, 1, behind what came before it; why words do not parse to `errors`, 2. An answer that cannot be
-/// written is a fault. What cannot be written to `errors` is lost. A server is run to its end, and its status is 0 unless
-/// it meets a fault.
+/// 0; a fault to `errors`, 1, behind what came before it; why words do not parse to `errors`, 2. An
+/// answer that cannot be written is a fault. What cannot be written to `errors` is lost. A server
+/// is run to its end, and its status is 0 unless it meets a fault.
 pub fn tell<R: Databases + Loopback + AllocGlobal, W: CountedWrite, E: CountedWrite>(
     rt: &R,
     told: Result<Outcome, Fault>,

@@ -1,10 +1,12 @@
 //! The replies of a run: one to each line of its input, over a book in memory.
-ghost use Rattle.std.specs.Prelude.{◌≡◌, ◌++◌, ◌∷◌, [], ℕ, IfNone, IfOk, IfSome, OnErr, OnOk, map, string_bytes};
+ghost use Rattle.std.specs.Prelude.{◌≡◌, ◌++◌, ◌∷◌, [], ℕ, IfNone, IfOk, IfSome, OnErr, OnOk, map};
+ghost use Rattle.std.specs.Prelude.{string_bytes};
 ghost use Rattle.clr_rules.specs.Answer.{Answer, answer};
 ghost use Rattle.clr_rules.specs.Good.{IsGood};
 ghost use Rattle.clr_rules.specs.Run.{after};
 ghost use Rattle.clr_text.specs.Replies.{reply_text};
-ghost use Rattle.clr_program.specs.Replies.{PrintsFirst, input_lines, register_after, register_behind, reply_line, reply_lines};
+ghost use Rattle.clr_program.specs.Replies.{PrintsFirst, input_lines, register_after};
+ghost use Rattle.clr_program.specs.Replies.{register_behind, reply_line, reply_lines};
 
 use crate::fault::Fault;
 use clr_book::Book;
@@ -20,8 +22,8 @@ pub struct Printed {
     pub fault: Option<Fault>,
 }
 
-/// Answers the lines of the input, in their order, each in what the earlier ones left. The run ends before the first line whose
-/// reply memory refuses.
+/// Answers the lines of the input, in their order, each in what the earlier ones left. The run ends
+/// before the first line whose reply memory refuses.
 pub fn replies_to<P, C, T, H>(
     alloc: Global,
     book: &mut Book<P, C, T, H>,

@@ -1,6 +1,7 @@
-//! The subcommand `run`: the commands of standard input, answered over a register in memory or over a
-//! stored one.
-ghost use Rattle.std.specs.Prelude.{◌≡◌, ◌≢◌, ◌⊎◌, ◌<◌, ◌≤◌, ℕ, Err, IfErr, IfNone, IfOk, IfSome, IsErrOf, Ok, OnOk, length, string_bytes};
+//! The subcommand `run`: the commands of standard input, answered over a register in memory or over
+//! a stored one.
+ghost use Rattle.std.specs.Prelude.{◌≡◌, ◌≢◌, ◌⊎◌, ◌<◌, ◌≤◌, ℕ, Err, IfErr, IfNone, IfOk, IfSome};
+ghost use Rattle.std.specs.Prelude.{IsErrOf, Ok, OnOk, length, string_bytes};
 ghost use Rattle.clr_csv.specs.Failures.{Rose};
 ghost use Rattle.clr_rules.specs.Good.{IsGood};
 ghost use Rattle.clr_program.specs.Replies.{PrintsFirst, input_lines, reply_lines};
@@ -34,8 +35,8 @@ pub type MemoryBook = Book<
     SortedShelf<Hold>,
 >;
 
-/// What `run [--db FILE] [FILES]...` prints; nothing where the words name both a database and files,
-/// or neither, or files that are not three.
+/// What `run [--db FILE] [FILES]...` prints; nothing where the words name both a database and
+/// files, or neither, or files that are not three.
 pub fn run<R: Files + Databases + AllocGlobal, I: CountedRead>(
     rt: &R,
     matches: &ArgMatches<'_>,
@@ -102,8 +103,8 @@ pub fn run_stored<S: Alter + Drop, I: CountedRead>(
     Ok(stored_replies(alloc, desk, lines.as_slice()))
 }
 
-/// The replies to the commands of the input, over the register that three files begin. The files are
-/// read in this order, each before the next is opened, and then the input.
+/// The replies to the commands of the input, over the register that three files begin. The files
+/// are read in this order, each before the next is opened, and then the input.
 pub fn run_of_files<S: Source, P: Source, E: Source, I: CountedRead>(
     alloc: Global,
     sections: &S,

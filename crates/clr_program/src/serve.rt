@@ -1,5 +1,6 @@
 //! The subcommand `serve`: the register of a database, answered over HTTP.
-ghost use Rattle.std.specs.Prelude.{◌≡◌, ℕ, List, [], IfErr, IfOk, OnOk, Result, Some, codes, string_bytes, unwrap_or};
+ghost use Rattle.std.specs.Prelude.{◌≡◌, ℕ, List, [], IfErr, IfOk, OnOk, Result, Some, codes};
+ghost use Rattle.std.specs.Prelude.{string_bytes, unwrap_or};
 ghost use Rattle.clap.specs.Words.{first_value, found_of};
 ghost use Rattle.httparse.specs.Grammar.{RequestHead};
 ghost use Rattle.clr_rules.specs.Good.{IsGood};
@@ -9,7 +10,8 @@ ghost use Rattle.clr_http.specs.Respond.{respond_to};
 ghost use Rattle.clr_http.specs.Served.{IsRefusal, IsServed, IsWritten};
 ghost use Rattle.clr_http.specs.declared.serve.HttpFault.{HttpFault};
 ghost use Rattle.clr_http.specs.declared.serve.Served.{Served};
-ghost use Rattle.clr_program.specs.Serve.{IsServing, Serves, ServesNot, TellsConnection, TellsFirst, TellsNext, connection_line};
+ghost use Rattle.clr_program.specs.Serve.{IsServing, Serves, ServesNot, TellsConnection};
+ghost use Rattle.clr_program.specs.Serve.{TellsFirst, TellsNext, connection_line};
 ghost use Rattle.clr_program.specs.Streams.{Sends, stream};
 
 use crate::database::{Databases, close_desk, open_desk};

@@ -1,12 +1,14 @@
 //! The replies of a run over a stored register: one to each line of its input.
-ghost use Rattle.std.specs.Prelude.{◌≡◌, ◌++◌, ℕ, IfErr, IfNone, IfOk, IfSome, OnOk, map, string_bytes};
+ghost use Rattle.std.specs.Prelude.{◌≡◌, ◌++◌, ℕ, IfErr, IfNone, IfOk, IfSome, OnOk, map};
+ghost use Rattle.std.specs.Prelude.{string_bytes};
 ghost use Rattle.sqlite.specs.Held.{state};
 ghost use Rattle.sqlite.specs.State.{HasCleanDisk};
 ghost use Rattle.clr_rules.specs.Answer.{Answer, answer};
 ghost use Rattle.clr_rules.specs.Good.{IsGood};
 ghost use Rattle.clr_rules.specs.Run.{after};
 ghost use Rattle.clr_text.specs.Replies.{reply_text};
-ghost use Rattle.clr_program.specs.Replies.{PrintsFirst, register_after, register_behind, reply_line, reply_lines};
+ghost use Rattle.clr_program.specs.Replies.{PrintsFirst, register_after, register_behind};
+ghost use Rattle.clr_program.specs.Replies.{reply_line, reply_lines};
 ghost use Rattle.clr_program.specs.Stored.{IsOfLine};
 
 use crate::fault::Fault;

@@ -35,7 +35,8 @@ IsLive g states s = (source : SectionRow) × Contains g.sections source × (sour
     × ClosedWalk g.points states source.name s
 
 -- The test of it. A walk over closed points is one that crosses no other point: what it reaches is
--- the fence of its source, cut at the points that are not closed. LiveLaws has that it tests IsLive.
+-- the fence of its source, cut at the points that are not closed. LiveLaws has that it tests
+-- IsLive.
 
 -- the points that are not closed: over these nothing is fed
 unfoldable pub open_points : Grid → List PointState → List (List ℕ)

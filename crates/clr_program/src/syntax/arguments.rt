@@ -1,7 +1,8 @@
 //! The kinds of argument that the subcommands share.
 ghost use Rattle.std.specs.Prelude.{◌≡◌, codes, false};
 ghost use Rattle.clap.specs.Words.{rule_of};
-ghost use Rattle.clr_program.specs.Syntax.{number_rule, offset_rule, option_rule, repeated_rule, required_rule};
+ghost use Rattle.clr_program.specs.Syntax.{number_rule, offset_rule, option_rule, repeated_rule};
+ghost use Rattle.clr_program.specs.Syntax.{required_rule};
 
 use clap::builder::ValueParser;
 use clap::{Arg, ArgAction};
