@@ -21,13 +21,9 @@ mod ids;
 #[cfg(test)]
 mod life;
 #[cfg(test)]
-mod loopback;
-#[cfg(test)]
 mod networks;
 #[cfg(test)]
 mod orders;
-#[cfg(test)]
-mod program;
 #[cfg(test)]
 mod register;
 #[cfg(test)]

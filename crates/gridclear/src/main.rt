@@ -1,6 +1,11 @@
 //! The switching order and clearance register of a system operator: the program.
 #![tactic(auto)]
 
+#[cfg(test)]
+mod command_lines;
+#[cfg(test)]
+mod connections;
+
 use clr_csv::Counted;
 use clr_program::command_line::{command_line, no_words};
 use std::process::ExitCode;
