@@ -1,5 +1,6 @@
 -- What the columns of a row read as.
-use Rattle.std.specs.Prelude.{ℕ, ◌-◌, ◌==◌, Bool, true, false, if◌then◌else◌, List, [], ◌∷◌, codes, Option, Some, None, unwrap_or, Result, Ok, Err}
+use Rattle.std.specs.Prelude.{ℕ, ◌-◌, ◌==◌, Bool, true, false, if◌then◌else◌, List, [], ◌∷◌, codes}
+use Rattle.std.specs.Prelude.{Option, Some, None, unwrap_or, Result, Ok, Err}
 use Rattle.std.specs.Cmp.Lexicographic.{pointwise}
 use Rattle.std.specs.Option.{ok_or}
 use Rattle.csv.specs.Records.{field_at}
@@ -19,7 +20,8 @@ abbrev pub fault_in : ℕ → ColumnFault → CsvFault
 fault_in row (column.BadName place) = BadName row place
 fault_in row (column.BadWord place) = BadWord row place
 
--- the text of a column, counted from 1. A row has as many columns as its header, so none is missing where this is asked
+-- the text of a column, counted from 1. A row has as many columns as its header, so none is missing
+-- where this is asked
 abbrev pub field_in : ℕ → List (List ℕ) → List ℕ
 field_in place fields = unwrap_or (field_at fields (place - 1)) []
 
@@ -46,7 +48,8 @@ name_or_none_in place fields = name_or_none place (field_in place fields)
 -- what a word stands for, of a list of words
 abbrev pub meaning_of : {A : Type 0} → List (List ℕ × A) → List ℕ → Option A
 meaning_of [] text = None
-meaning_of (entry ∷ words) text = if pointwise ◌==◌ text entry.0 then Some entry.1 else meaning_of words text
+meaning_of (entry ∷ words) text = if pointwise ◌==◌ text entry.0 then Some entry.1
+    else meaning_of words text
 
 -- what the word in a column stands for
 abbrev pub word_in : {A : Type 0} → List (List ℕ × A) → ℕ → List (List ℕ) → Result A ColumnFault
@@ -59,4 +62,5 @@ abbrev pub position_in : ℕ → List (List ℕ) → Result Position ColumnFault
 position_in = word_in ((codes "open", Opened) ∷ (codes "closed", Closed) ∷ [])
 
 abbrev pub role_in : ℕ → List (List ℕ) → Result Role ColumnFault
-role_in = word_in ((codes "operator", Operator) ∷ (codes "field", Field) ∷ (codes "charge", Charge) ∷ [])
+role_in = word_in ((codes "operator", Operator) ∷ (codes "field", Field) ∷ (codes "charge", Charge)
+    ∷ [])

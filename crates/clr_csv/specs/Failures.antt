@@ -1,5 +1,6 @@
 -- How a count of failures goes, of a reader or of a writer.
-use Rattle.std.specs.Prelude.{ℕ, ◌+◌, ◌-◌, ◌^◌, ◌<◌, ◌≤◌, ◌⊎◌, ◌==◌, ◌&&◌, Bool, false, not, min, List, length, Result, Ok, Err}
+use Rattle.std.specs.Prelude.{ℕ, ◌+◌, ◌-◌, ◌^◌, ◌<◌, ◌≤◌, ◌⊎◌, ◌==◌, ◌&&◌, Bool, false, not, min}
+use Rattle.std.specs.Prelude.{List, length, Result, Ok, Err}
 
 -- the count after a call: a failure adds one, up to the greatest number that the count holds
 abbrev pub count_after : {T E : Type 0} → Result T E → ℕ → ℕ

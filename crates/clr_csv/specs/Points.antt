@@ -7,7 +7,8 @@ use Rattle.clr_csv.specs.Columns.{name_in, position_in, yes_no_in}
 use Rattle.clr_csv.specs.Rows.{◌>>=◌, Fields, rows_of}
 
 abbrev pub point_header : Fields
-point_header = codes "point" ∷ codes "from" ∷ codes "to" ∷ codes "lockable" ∷ codes "remote" ∷ codes "position" ∷ []
+point_header = codes "point" ∷ codes "from" ∷ codes "to" ∷ codes "lockable" ∷ codes "remote"
+    ∷ codes "position" ∷ []
 
 -- a point's row
 abbrev pub point_in : Fields → Result PointRow ColumnFault
@@ -18,7 +19,15 @@ point_in fields = do
   lockable ← yes_no_in 4 fields
   remote ← yes_no_in 5 fields
   position ← position_in 6 fields
-  Ok (record { name = name; from_end = from_end; to_end = to_end; lockable = lockable; remote = remote; position = position })
+  Ok (record {
+    name = name;
+    from_end = from_end;
+    to_end = to_end;
+    lockable = lockable;
+    remote =
+        remote;
+    position = position;
+  })
 
 -- the points of a file, or its first fault
 abbrev pub points_of : List ℕ → Result (List PointRow) CsvFault

@@ -1,5 +1,6 @@
 -- The rows of a file, or its first fault, as a function of the file's bytes.
-use Rattle.std.specs.Prelude.{ℕ, ◌+◌, ◌==◌, nat_lt, Bool, if◌then◌else◌, List, [], ◌∷◌, length, Result, Ok, Err}
+use Rattle.std.specs.Prelude.{ℕ, ◌+◌, ◌==◌, nat_lt, Bool, if◌then◌else◌, List, [], ◌∷◌, length}
+use Rattle.std.specs.Prelude.{Result, Ok, Err}
 use Rattle.std.specs.List.{list_all}
 use Rattle.std.specs.Cmp.Lexicographic.{pointwise}
 use Rattle.std.specs.Str.{is_utf8}
@@ -43,7 +44,8 @@ text_in row fields = if is_text fields then Ok fields else Err (NotText row)
 
 -- the fields of a row, if there are as many as the header has
 abbrev pub as_many_as : Fields → ℕ → Fields → Result Fields CsvFault
-as_many_as header row fields = if length fields == length header then Ok fields else Err (FieldCount row)
+as_many_as header row fields = if length fields == length header then Ok fields
+    else Err (FieldCount row)
 
 -- what the columns of a row read as, a fault with the row
 abbrev pub in_row : {A : Type 0} → ℕ → Result A ColumnFault → Result A CsvFault
@@ -51,14 +53,16 @@ in_row row (Ok value) = Ok value
 in_row row (Err fault) = Err (fault_in row fault)
 
 -- what a row of a file reads as. `columns` reads the fields, from the left
-unfoldable pub row_of : {A : Type 0} → Fields → (Fields → Result A ColumnFault) → ℕ → Fields → Result A CsvFault
+unfoldable pub row_of : {A : Type 0} → Fields → (Fields → Result A ColumnFault) → ℕ → Fields
+    → Result A CsvFault
 row_of header columns row fields = do
   texts ← text_in row fields
   counted ← as_many_as header row texts
   in_row row (columns counted)
 
 -- what the records under a header read as, the first of them at this row
-unfoldable pub rows_from : {A : Type 0} → (ℕ → Fields → Result A CsvFault) → ℕ → List Fields → Result (List A) CsvFault
+unfoldable pub rows_from : {A : Type 0} → (ℕ → Fields → Result A CsvFault) → ℕ → List Fields
+    → Result (List A) CsvFault
 rows_from read row [] = Ok []
 rows_from read row (fields ∷ table) = do
   first ← read row fields
@@ -66,13 +70,15 @@ rows_from read row (fields ∷ table) = do
   Ok (first ∷ rows)
 
 -- what the records of a file read as, the header first
-unfoldable pub rows_in : {A : Type 0} → Fields → (Fields → Result A ColumnFault) → List Fields → Result (List A) CsvFault
+unfoldable pub rows_in : {A : Type 0} → Fields → (Fields → Result A ColumnFault) → List Fields
+    → Result (List A) CsvFault
 rows_in header columns table = do
   rows ← under_header header table
   rows_from (row_of header columns) 1 rows
 
 -- what a file reads as: a byte order mark at its start is skipped
-unfoldable pub rows_of : {A : Type 0} → Fields → (Fields → Result A ColumnFault) → List ℕ → Result (List A) CsvFault
+unfoldable pub rows_of : {A : Type 0} → Fields → (Fields → Result A ColumnFault) → List ℕ
+    → Result (List A) CsvFault
 rows_of header columns file = do
   bytes ← within_limit file
   rows_in header columns (records default_config (strip_bom bytes))

@@ -1,7 +1,9 @@
 -- The records that a reader of comma-separated fields has left.
-use Rattle.std.specs.Prelude.{◌≡◌, ◌≢◌, ℕ, ◌+◌, Bool, true, false, List, [], ◌∷◌, length, Option, Some, None, Result, Ok, Err}
+use Rattle.std.specs.Prelude.{◌≡◌, ◌≢◌, ℕ, ◌+◌, Bool, true, false, List, [], ◌∷◌, length, Option}
+use Rattle.std.specs.Prelude.{Some, None, Result, Ok, Err}
 use Rattle.std.specs.Borrow.{Bor}
-use Rattle.csv.specs.Reading.{Ready, default_config, has_failed, is_flexible, reader_config, reader_state, reader_trim, records_from, source_of}
+use Rattle.csv.specs.Reading.{Ready, default_config, has_failed, is_flexible, reader_config}
+use Rattle.csv.specs.Reading.{reader_state, reader_trim, records_from, source_of}
 use Rattle.csv.specs.declared.parser.State.{State}
 use Rattle.csv.specs.declared.reader.Reader.{Reader}
 use Rattle.csv.specs.declared.reader.Trim.TheVariants as trim
@@ -13,8 +15,8 @@ use Rattle.clr_csv.specs.Rows.{Fields, is_text}
 abbrev pub bytes_left : Reader (Bor (List ℕ)) → Option (List ℕ)
 bytes_left reader = source_of (λ slice. Some slice.now) reader
 
--- the records of these bytes, from a state of the reader. There is at most one a byte, and one more where the state is
--- inside a record
+-- the records of these bytes, from a state of the reader. There is at most one a byte, and one more
+-- where the state is inside a record
 unfoldable pub records_at : State → Option (List ℕ) → List Fields
 records_at state None = []
 records_at state (Some bytes) = records_from default_config (length bytes + 2) state bytes
@@ -40,7 +42,9 @@ BeginsWithoutText [] = ⊥
 BeginsWithoutText (fields ∷ table) = is_text fields ≡ false
 
 -- a read took the next record, with these fields; found none; or found one that is not text
-abbrev pub TakesRecord : List Fields → List Fields → CsvFault → Fields → Result Bool CsvFault → Type 0
+abbrev pub TakesRecord : List Fields → List Fields → CsvFault → Fields → Result Bool CsvFault
+    → Type 0
 TakesRecord old new not_text fields (Ok true) = (old ≡ fields ∷ new) × (is_text fields ≡ true)
 TakesRecord old new not_text fields (Ok false) = old ≡ []
-TakesRecord old new not_text fields (Err fault) = fault ≢ NoMemory → (fault ≡ not_text) × BeginsWithoutText old
+TakesRecord old new not_text fields (Err fault) = fault ≢ NoMemory → (fault ≡ not_text)
+    × BeginsWithoutText old

@@ -1,7 +1,8 @@
 //! The columns of a row: what each field reads as.
 ghost use Rattle.std.specs.Prelude.{◌≡◌, ◌<◌};
 ghost use Rattle.csv.specs.Records.{fields_of};
-ghost use Rattle.clr_csv.specs.Columns.{fault_in, field_in, name_in, name_or_none_in, position_in, role_in, yes_no_in};
+ghost use Rattle.clr_csv.specs.Columns.{fault_in, field_in, name_in, name_or_none_in, position_in};
+ghost use Rattle.clr_csv.specs.Columns.{role_in, yes_no_in};
 
 use crate::employee::Role;
 use crate::fault::CsvFault;

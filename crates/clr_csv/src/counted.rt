@@ -133,7 +133,8 @@ impl<T: Read> CountedRead for Counted<T> {
 }
 
 impl<T: Write> Write for Counted<T> {
-    ghost use Rattle.clr_csv.specs.Counted.{counted_inner, counted_failures, counted_flushed, counted_stalled};
+    ghost use Rattle.clr_csv.specs.Counted.{counted_inner, counted_failures, counted_flushed};
+    ghost use Rattle.clr_csv.specs.Counted.{counted_stalled};
 
     ghost contents = { λ s. T.contents (counted_inner s) };
 

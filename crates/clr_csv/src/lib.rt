@@ -1,4 +1,5 @@
-//! The three files that a register begins with, read into rows; the staff; and readers that count their failures.
+//! The three files that a register begins with, read into rows; the staff; and readers that count
+//! their failures.
 #![tactic(auto)]
 
 mod columns;

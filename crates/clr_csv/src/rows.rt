@@ -1,10 +1,12 @@
 //! The rows of a file: its header, and under it a row to each record.
-ghost use Rattle.std.specs.Prelude.{◌≡◌, ◌≢◌, ℕ, ◌+◌, ◌^◌, ◌<◌, Err, IfSome, IsErrOf, List, Result, length, map, true};
+ghost use Rattle.std.specs.Prelude.{◌≡◌, ◌≢◌, ℕ, ◌+◌, ◌^◌, ◌<◌, Err, IfSome, IsErrOf, List, Result};
+ghost use Rattle.std.specs.Prelude.{length, map, true};
 ghost use Rattle.csv.specs.Reading.{default_config, records, strip_bom};
 ghost use Rattle.csv.specs.Records.{fields_of};
 ghost use Rattle.clr_csv.specs.Answers.{Gives, GivesUnlessFailed};
 ghost use Rattle.clr_csv.specs.Failures.{Rose};
-ghost use Rattle.clr_csv.specs.Rows.{is_ascii, is_text, row_of, rows_from, rows_in, rows_of, same_fields, under_header};
+ghost use Rattle.clr_csv.specs.Rows.{is_ascii, is_text, row_of, rows_from, rows_in, rows_of};
+ghost use Rattle.clr_csv.specs.Rows.{same_fields, under_header};
 ghost use Rattle.clr_csv.specs.Whole.{TakesAtMost};
 
 use crate::columns::ColumnFault;

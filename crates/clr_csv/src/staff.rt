@@ -1,10 +1,13 @@
 //! The staff: every employee, checked and in the order of their names.
-ghost use Rattle.std.specs.Prelude.{◌≡◌, ◌≤◌, IfOk, IsTrue, All, OnOk, false, find, length, map, not, position};
+ghost use Rattle.std.specs.Prelude.{◌≡◌, ◌≤◌, IfOk, IsTrue, All, OnOk, false, find, length, map};
+ghost use Rattle.std.specs.Prelude.{not, position};
 ghost use Rattle.std.specs.Option.{option_copied};
 ghost use Rattle.std.specs.List.{IsDistinct};
 ghost use Rattle.std.specs.List.Sorted.{IsPermutation, IsStrictlySortedBy};
 ghost use Rattle.clr_net.specs.Name.{name_cmp, same_name};
-ghost use Rattle.clr_csv.specs.Staff.{Builds, IsStaff, Passes, has_known_supervisor, is_known, is_own_supervisor, name_fault, size_fault, staff_names, supervisor_fault};
+ghost use Rattle.clr_csv.specs.Staff.{Builds, IsStaff, Passes, has_known_supervisor, is_known};
+ghost use Rattle.clr_csv.specs.Staff.{is_own_supervisor, name_fault, size_fault, staff_names};
+ghost use Rattle.clr_csv.specs.Staff.{supervisor_fault};
 
 use crate::employee::StaffRow;
 use crate::staff_fault::StaffFault;
@@ -91,7 +94,8 @@ fn in_order(alloc: Global, rows: &[StaffRow]) -> Result<Vec<StaffRow>, AllocErro
     Ok(by_name)
 }
 
-/// The supervisors of rows, as a stage of the checks. Each is looked for in `by_name`, which stands in the order of names.
+/// The supervisors of rows, as a stage of the checks. Each is looked for in `by_name`, which stands
+/// in the order of names.
 fn check_supervisors(by_name: &[StaffRow], rows: &[StaffRow]) -> Result<(), StaffFault>
     requires { IsStrictlySortedBy name_cmp (staff_names by_name.now) }
     ensures passes { Passes (supervisor_fault (staff_names by_name.now) rows.now) result }

@@ -7,7 +7,8 @@ use thiserror::Error;
 
 /// Why rows are no staff. Rows count from 1, and `Twice` names the later row.
 ///
-/// The first fault in the order of the variants is answered, and of the rows that have it the least.
+/// The first fault in the order of the variants is answered, and of the rows that have it the
+/// least.
 #[derive(Clone, Copy, Debug, PartialEq, Eq, Error)]
 pub enum StaffFault {
     /// This row has the name of an earlier one.

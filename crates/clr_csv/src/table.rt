@@ -40,7 +40,8 @@ impl<'a> Table<'a> {
         Table { reader }
     }
 
-    /// Reads the next record, and whether there is one. One that is not UTF-8 is the fault `not_text`.
+    /// Reads the next record, and whether there is one. One that is not UTF-8 is the fault
+    /// `not_text`.
     pub(crate) fn next(
         &mut self,
         fields: &mut StringRecord,

@@ -1,5 +1,6 @@
 //! Bytes that are read whole, and bytes that are written whole.
-ghost use Rattle.std.specs.Prelude.{◌≡◌, ◌≢◌, ◌⊎◌, ◌+◌, ◌^◌, ◌<◌, Err, IsErrOf, IfErr, IfSome, OnErr, OnOk, length, take, true};
+ghost use Rattle.std.specs.Prelude.{◌≡◌, ◌≢◌, ◌⊎◌, ◌+◌, ◌^◌, ◌<◌, Err, IsErrOf, IfErr, IfSome};
+ghost use Rattle.std.specs.Prelude.{OnErr, OnOk, length, take, true};
 ghost use Rattle.std.specs.Io.KnownBytes.{Appends};
 ghost use Rattle.clr_csv.specs.Failures.{Rose};
 ghost use Rattle.clr_csv.specs.Answers.{GivesUnlessFailed};

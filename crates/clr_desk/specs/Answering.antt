@@ -9,7 +9,8 @@ use Rattle.clr_rules.specs.declared.reply.Reply.{Reply}
 use Rattle.clr_book.specs.Decision.{is_accepted}
 use Rattle.clr_desk.specs.declared.desk_fault.DeskFault.{DeskFault}
 
--- the answer from the near part of the command; of a good register that is the answer of the whole register
+-- the answer from the near part of the command; of a good register that is the answer of the whole
+-- register
 abbrev pub near_answer : Register → Command → Answer
 near_answer R q = answer_with (Near.known (near_of R q)) (Near.rows (near_of R q)) q
 

@@ -13,13 +13,16 @@ use Rattle.clr_tables.specs.Tables.{tables_of}
 
 -- where a database had the tables of a good register, these trees have the tables after a command
 abbrev pub AreAfter : Database → Register → Command → Trees → Type 0
-AreAfter db R q trees = IsGood R → HasTables db (tables_of R) → AreTables trees (tables_of (after R q))
+AreAfter db R q trees = IsGood R → HasTables db (tables_of R)
+    → AreTables trees (tables_of (after R q))
 
 -- these trees have the tables after the first commands of a list, at least so many of them
 abbrev pub AreAfterSome : Register → List Command → ℕ → Trees → Type 0
-AreAfterSome R commands least trees = (n : ℕ) × (least ≤ n) × (n ≤ length commands) × AreTables trees (tables_of (after_all R (take n commands)))
+AreAfterSome R commands least trees = (n : ℕ) × (least ≤ n) × (n ≤ length commands)
+    × AreTables trees (tables_of (after_all R (take n commands)))
 
--- where a saved store had the tables of a good register, a crash leaves the tables after the first commands, at least so many of them
+-- where a saved store had the tables of a good register, a crash leaves the tables after the first
+-- commands, at least so many of them
 abbrev pub LeavesSome : State → State → Register → List Command → ℕ → Type 0
 LeavesSome old new R commands least = IsSaved old → IsGood R → HasTables old.now (tables_of R)
     → (trees : Trees) → new.may_leave trees → AreAfterSome R commands least trees

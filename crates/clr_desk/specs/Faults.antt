@@ -1,7 +1,8 @@
 -- THE FAULTS OF A DESK, and how they are counted.
 use Rattle.std.specs.Prelude.{ℕ, ◌+◌, ◌-◌, ◌^◌, min, Option, None, Some, ⊤}
 use Rattle.clr_store.specs.declared.fault.StoreFault.{StoreFault}
-use Rattle.clr_store.specs.declared.fault.StoreFault.TheVariants.{Sql, WrongVersion, BadRow, NoMemory as NoMemoryThere}
+use Rattle.clr_store.specs.declared.fault.StoreFault.TheVariants.{Sql, WrongVersion, BadRow}
+use Rattle.clr_store.specs.declared.fault.StoreFault.TheVariants.{NoMemory as NoMemoryThere}
 use Rattle.clr_desk.specs.declared.desk_fault.DeskFault.{DeskFault}
 use Rattle.clr_desk.specs.declared.desk_fault.DeskFault.TheVariants.{Store, NoMemory}
 
@@ -12,7 +13,8 @@ of_store (WrongVersion n) = Store (WrongVersion n)
 of_store (BadRow name) = Store (BadRow name)
 of_store NoMemoryThere = NoMemory
 
--- the count of faults after a call: one more with a fault, but for the greatest number, where it stays
+-- the count of faults after a call: one more with a fault, but for the greatest number, where it
+-- stays
 abbrev pub count_after : Option DeskFault → ℕ → ℕ
 count_after None faults = faults
 count_after (Some fault) faults = min (faults + 1) (2 ^ 64 - 1)

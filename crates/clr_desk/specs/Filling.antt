@@ -1,5 +1,5 @@
--- THE EDITS THAT FILL A BOOK: what turns the opening register of a network, each point in the position where it stands now, into the
--- register of rows.
+-- THE EDITS THAT FILL A BOOK: what turns the opening register of a network, each point in the
+-- position where it stands now, into the register of rows.
 use Rattle.std.specs.Prelude.{List, ◌++◌, map}
 use Rattle.clr_rules.specs.declared.change.Edit.{Edit}
 use Rattle.clr_rules.specs.declared.change.Edit.TheVariants.{SetHand, PutHold, PutRecord, PutStep}
@@ -13,4 +13,5 @@ hand_edit state = SetHand state.point state.hand
 
 -- each point into the hand that it is in, and then all holds, records and steps
 abbrev pub filling : List PointState → List Hold → List Record → List StepRow → List Edit
-filling states holds records steps = map hand_edit states ++ map PutHold holds ++ map PutRecord records ++ map PutStep steps
+filling states holds records steps = map hand_edit states ++ map PutHold holds
+    ++ map PutRecord records ++ map PutStep steps

@@ -13,7 +13,8 @@ use std::alloc::AllocError;
 /// What the book answers to a command. There is room in the book for the change, which is not made
 /// yet.
 pub(crate) fn prepare(book: &mut DeskBook, command: &Command) -> Result<Decision, AllocError>
-    ensures answer { IfOk result (λ d. answer_of_decision d ≡ near_answer book.old.register command.now) }
+    ensures answer { IfOk result
+        (λ d. answer_of_decision d ≡ near_answer book.old.register command.now) }
     ensures nothing { IfOk result ChangesIfAccepted }
     ensures room { IfOk result (λ d. Fits (needs d.change.edits) book.new.room) }
     ensures register { book.new.register ≡ book.old.register }

@@ -1,6 +1,8 @@
 //! The desk: a book and its store.
-ghost use Rattle.std.specs.Prelude.{◌≡◌, ◌<◌, false, [], ◌∷◌, length, IfErr, IfOk, IfNone, IfSome, IsTrue, OnErr, OnOk, Ok, Err};
-ghost use Rattle.clr_rules.specs.RunHeadline.{IsRun, OthersChangeNoReply, OthersTakeNothing, OwnStandAlone, with_reply};
+ghost use Rattle.std.specs.Prelude.{◌≡◌, ◌<◌, false, [], ◌∷◌, length, IfErr, IfOk, IfNone, IfSome};
+ghost use Rattle.std.specs.Prelude.{IsTrue, OnErr, OnOk, Ok, Err};
+ghost use Rattle.clr_rules.specs.RunHeadline.{IsRun, OthersChangeNoReply, OthersTakeNothing};
+ghost use Rattle.clr_rules.specs.RunHeadline.{OwnStandAlone, with_reply};
 ghost use Rattle.sqlite.specs.Held.{state};
 ghost use Rattle.sqlite.specs.State.{HasCleanDisk, Survives};
 ghost use Rattle.clr_rules.specs.Answer.{Answer, answer};
@@ -16,7 +18,8 @@ ghost use Rattle.clr_tables.specs.RowsRead.{rows_read};
 ghost use Rattle.clr_tables.specs.Tables.{Tables, tables_of};
 ghost use Rattle.clr_tables.specs.TypedRows.{IsTyped};
 ghost use Rattle.clr_desk.specs.Opening.{OpensAs};
-ghost use Rattle.clr_desk.specs.Answering.{fault_of, has_accepted, near_after, near_answer, replies_of};
+ghost use Rattle.clr_desk.specs.Answering.{fault_of, has_accepted, near_after, near_answer};
+ghost use Rattle.clr_desk.specs.Answering.{replies_of};
 ghost use Rattle.clr_desk.specs.Faults.{IsOfCommand, count_after, of_store};
 ghost use Rattle.clr_desk.specs.Kept.{Keeps};
 

@@ -1,5 +1,6 @@
 //! Opening: the book of the rows that a store has loaded.
-ghost use Rattle.std.specs.Prelude.{◌≡◌, ◌⊎◌, ℕ, List, Option, Some, None, IfErr, IfOk, IsTrue, OnOk, length, map, nat_lt};
+ghost use Rattle.std.specs.Prelude.{◌≡◌, ◌⊎◌, ℕ, List, Option, Some, None, IfErr, IfOk, IsTrue};
+ghost use Rattle.std.specs.Prelude.{OnOk, length, map, nat_lt};
 ghost use Rattle.clr_csv.specs.Staff.{IsStaffOf, first_fault as staff_fault};
 ghost use Rattle.clr_net.specs.Network.{IsGridOf, first_fault as network_fault};
 ghost use Rattle.clr_rules.specs.Edits.{after_edits};

@@ -1,15 +1,24 @@
-//! The book over lists: its opening, changes made in it, and what is read of it.
+//! The book over sorted shelves: its opening, changes made in it, and what is read of it.
 use crate::worked::{worked_network, worked_staff};
 use clr_book::{
-    Book, Change, ClearanceId, Command, Edit, Edits, Hold, HoldKind, Kind, Moment, Names, Phase,
-    PointState, Record, StepRow, Tasks, Text,
+    Book, Change, ClearanceId, Edit, Edits, Hold, HoldKind, Moment, Phase, PointState, Record,
+    StepRow,
 };
 use clr_net::{Name, Position};
 use clr_order::{Action, Step, StepState};
-use clr_shelf::ListShelf;
+use clr_shelf::{ListShelf, Shelf, SortedShelf};
 use std::alloc::Global;
 use std::test::Fail;
 
+/// The register on shelves that the program keeps it on.
+pub type SortedBook = Book<
+    SortedShelf<PointState>,
+    SortedShelf<Record>,
+    SortedShelf<StepRow>,
+    SortedShelf<Hold>,
+>;
+
+/// The register in lists, all rows of which are walked for a group.
 pub type ListBook = Book<
     ListShelf<PointState>,
     ListShelf<Record>,
@@ -18,15 +27,17 @@ pub type ListBook = Book<
 >;
 
 /// The book of the worked network and staff, before the first command.
-pub fn opening_book(alloc: Global) -> Result<ListBook, Fail> {
+pub fn opening_book<P: Shelf<PointState>, C: Shelf<Record>, T: Shelf<StepRow>, H: Shelf<Hold>>(
+    alloc: Global,
+) -> Result<Book<P, C, T, H>, Fail> {
     let network = worked_network(alloc)?;
     let staff = worked_staff(alloc)?;
     Ok(Book::opening(alloc, network, staff)?)
 }
 
 /// The same book after a change, for which room is made.
-fn book_after(alloc: Global, edits: &[Edit]) -> Result<ListBook, Fail> {
-    let mut book = opening_book(alloc)?;
+fn book_after(alloc: Global, edits: &[Edit]) -> Result<SortedBook, Fail> {
+    let mut book: SortedBook = opening_book(alloc)?;
     let edits = edits.iter().copied().collect(alloc)?;
     let change = Change {
         edits: Edits::new(edits),
@@ -85,7 +96,7 @@ pub fn hold(kind: HoldKind, id: &str) -> Result<Hold, Fail> {
 }
 
 /// Whether points stand so.
-fn has_states(book: &ListBook, states: &[PointState]) -> bool {
+fn has_states(book: &SortedBook, states: &[PointState]) -> bool {
     for state in states {
         if book.state(&state.point).copied() != Some(*state) {
             return false;
@@ -95,243 +106,196 @@ fn has_states(book: &ListBook, states: &[PointState]) -> bool {
 }
 
 /// Whether these are all records, in this order.
-fn has_records(book: &ListBook, records: &[&Record]) -> Result<bool, Fail> {
+fn has_records(book: &SortedBook, records: &[&Record]) -> Result<bool, Fail> {
     let found = book.records()?;
     Ok(found.as_slice() == records)
 }
 
 /// Whether these are all steps of a clearance, in this order.
-fn has_steps(book: &ListBook, id: ClearanceId, steps: &[&StepRow]) -> Result<bool, Fail> {
+fn has_steps(book: &SortedBook, id: ClearanceId, steps: &[&StepRow]) -> Result<bool, Fail> {
     let found = book.steps(&id)?;
     Ok(found.as_slice() == steps)
 }
 
 #[test]
 fn book_before_the_first_command(rt: HostRuntime) -> Result<(), Fail> {
-    let states = [
-        stands("S1", Position::Closed, None)?,
-        stands("S2", Position::Closed, None)?,
-        stands("S3", Position::Closed, None)?,
-        stands("S4", Position::Closed, None)?,
-        stands("T1", Position::Opened, None)?,
-    ];
+    let book: SortedBook = opening_book(rt.alloc())?;
+    book.stands_in_order();
+    for point in ["S1", "S2", "S3", "S4"] {
+        assert!(rt; has_point(&book, point, Position::Closed, None)?, "{point}");
+    }
+    assert!(rt; has_point(&book, "T1", Position::Opened, None)?);
+    assert_eq!(rt; book.network().points().len(), 5);
+    Ok(())
+}
+
+#[test]
+fn nothing_stands_before_the_first_command(rt: HostRuntime) -> Result<(), Fail> {
     let section = Name::read("L1")?;
     let id = ClearanceId::read("JONES/1")?;
-    let book = opening_book(rt.alloc())?;
-    book.stands_in_order();
-    assert!(rt; has_states(&book, &states));
+    let book: SortedBook = opening_book(rt.alloc())?;
     assert!(rt; book.state(&section).is_none());
-    assert_eq!(rt; book.network().points().len(), 5);
     assert!(rt; book.record(&id).is_none());
     assert!(rt; has_records(&book, &[])?);
     assert!(rt; has_steps(&book, id, &[])?);
     Ok(())
 }
 
-#[test]
-fn edits_of_each_kind(rt: HostRuntime) -> Result<(), Fail> {
+/// S2 is opened, and S3 put into the hand of JONES/1, which holds S2 open. A tag that is not there
+/// is taken.
+fn edits_of_points(alloc: Global) -> Result<Vec<Edit>, Fail> {
     let id = ClearanceId::read("JONES/1")?;
-    let states = [
-        stands("S1", Position::Closed, None)?,
-        stands("S2", Position::Opened, None)?,
-        stands("S3", Position::Closed, Some(id))?,
-    ];
-    let ordered = record("JONES/1", Phase::Ordered)?;
-    let first = step("JONES/1", 1, 1, StepState::Waiting)?;
-    let edits = [
+    let opened = Name::read("S2")?;
+    let handed = Name::read("S3")?;
+    let held = hold(HoldKind::HeldOpen, "JONES/1")?;
+    let tag = hold(HoldKind::Tag, "JONES/1")?;
+    let edits = vec![in alloc;
         Edit::SetPosition {
-            point: states[1].point,
-            position: Position::Opened,
+            point: opened,
+            position: Position::Opened
         },
         Edit::SetHand {
-            point: states[2].point,
-            hand: Some(id),
+            point: handed,
+            hand: Some(id)
         },
-        Edit::PutHold(hold(HoldKind::HeldOpen, "JONES/1")?),
-        Edit::TakeHold(hold(HoldKind::Tag, "JONES/1")?),
-        Edit::PutRecord(ordered),
-        Edit::PutStep(first),
-    ];
-    let book = book_after(rt.alloc(), &edits)?;
-    assert!(rt; has_states(&book, &states));
-    assert!(rt; book.record(&id).copied() == Some(ordered));
-    assert!(rt; has_records(&book, &[&ordered])?);
-    assert!(rt; has_steps(&book, id, &[&first])?);
+        Edit::PutHold(held),
+        Edit::TakeHold(tag),
+    ]?;
+    Ok(edits)
+}
+
+/// T1 is closed and put into the hand of KIM/1, and then opened and in no hand.
+fn edits_of_a_point_twice(alloc: Global) -> Result<Vec<Edit>, Fail> {
+    let id = ClearanceId::read("KIM/1")?;
+    let point = Name::read("T1")?;
+    let edits = vec![in alloc;
+        Edit::SetPosition {
+            point,
+            position: Position::Closed
+        },
+        Edit::SetHand {
+            point,
+            hand: Some(id)
+        },
+        Edit::SetPosition {
+            point,
+            position: Position::Opened
+        },
+        Edit::SetHand { point, hand: None },
+    ]?;
+    Ok(edits)
+}
+
+/// Whether a point stands so.
+fn has_point(
+    book: &SortedBook,
+    point: &str,
+    position: Position,
+    hand: Option<ClearanceId>,
+) -> Result<bool, Fail> {
+    let state = stands(point, position, hand)?;
+    Ok(has_states(book, &[state]))
+}
+
+#[test]
+fn edits_of_points_are_made(rt: HostRuntime) -> Result<(), Fail> {
+    let id = ClearanceId::read("JONES/1")?;
+    let edits = edits_of_points(rt.alloc())?;
+    let book = book_after(rt.alloc(), edits.as_slice())?;
+    assert!(rt; has_point(&book, "S1", Position::Closed, None)?);
+    assert!(rt; has_point(&book, "S2", Position::Opened, None)?);
+    assert!(rt; has_point(&book, "S3", Position::Closed, Some(id))?);
+    let edits = edits_of_a_point_twice(rt.alloc())?;
+    let book = book_after(rt.alloc(), edits.as_slice())?;
+    assert!(rt; has_point(&book, "T1", Position::Opened, None)?);
     Ok(())
+}
+
+/// Edits that put the record of KIM/1 in these phases, and its first step in these states.
+fn edits_of_kim(alloc: Global, phases: &[Phase], states: &[StepState]) -> Result<Vec<Edit>, Fail> {
+    let mut edits = Vec::new(alloc);
+    for phase in phases {
+        edits.push(Edit::PutRecord(record("KIM/1", *phase)?))?;
+    }
+    for state in states {
+        edits.push(Edit::PutStep(step("KIM/1", 1, 1, *state)?))?;
+    }
+    Ok(edits)
 }
 
 #[test]
 fn later_edits_win(rt: HostRuntime) -> Result<(), Fail> {
-    let id = ClearanceId::read("KIM/1")?;
-    let state = stands("T1", Position::Opened, None)?;
-    let point = state.point;
+    let edits = edits_of_kim(
+        rt.alloc(),
+        &[Phase::Requested, Phase::Ordered],
+        &[StepState::Waiting, StepState::Done],
+    )?;
+    let book = book_after(rt.alloc(), edits.as_slice())?;
     let ordered = record("KIM/1", Phase::Ordered)?;
     let done = step("KIM/1", 1, 1, StepState::Done)?;
-    let edits = [
-        Edit::PutRecord(record("KIM/1", Phase::Requested)?),
-        Edit::PutStep(step("KIM/1", 1, 1, StepState::Waiting)?),
-        Edit::SetPosition {
-            point,
-            position: Position::Closed,
-        },
-        Edit::SetHand {
-            point,
-            hand: Some(id),
-        },
-        Edit::PutRecord(ordered),
-        Edit::PutStep(done),
-        Edit::SetPosition {
-            point,
-            position: Position::Opened,
-        },
-        Edit::SetHand { point, hand: None },
-    ];
-    let book = book_after(rt.alloc(), &edits)?;
-    assert!(rt; has_states(&book, &[state]));
     assert!(rt; has_records(&book, &[&ordered])?);
-    assert!(rt; has_steps(&book, id, &[&done])?);
+    assert!(rt; has_steps(&book, ordered.id, &[&done])?);
     Ok(())
+}
+
+/// Edits that put records of these clearances, and steps of these clearances, rounds and ordinals.
+fn edits_of_rows(
+    alloc: Global,
+    records: &[&str],
+    steps: &[(&str, u8, u16)],
+) -> Result<Vec<Edit>, Fail> {
+    let mut edits = Vec::new(alloc);
+    for id in records {
+        edits.push(Edit::PutRecord(record(id, Phase::Ordered)?))?;
+    }
+    for (id, round, ordinal) in steps {
+        edits.push(Edit::PutStep(step(id, *round, *ordinal, StepState::Waiting)?))?;
+    }
+    Ok(edits)
+}
+
+/// The names of a book's clearances in the order of their records, a blank before each.
+fn names_of_records(alloc: Global, book: &SortedBook) -> Result<String, Fail> {
+    let mut text = String::new(alloc);
+    for record in book.records()? {
+        let id = record.id;
+        let name = format!(in alloc; " {id}")?;
+        text.push_str(name.as_str())?;
+    }
+    Ok(text)
+}
+
+/// The rounds and ordinals of the steps of a clearance, in their order, a blank before each.
+fn places_of_steps(alloc: Global, book: &SortedBook, id: &str) -> Result<String, Fail> {
+    let id = ClearanceId::read(id)?;
+    let mut text = String::new(alloc);
+    for row in book.steps(&id)? {
+        let round = row.round;
+        let ordinal = row.ordinal;
+        let place = format!(in alloc; " {round}.{ordinal}")?;
+        text.push_str(place.as_str())?;
+    }
+    Ok(text)
 }
 
 #[test]
 fn rows_put_in_another_order(rt: HostRuntime) -> Result<(), Fail> {
-    let kim = record("KIM/1", Phase::Ordered)?;
-    let tenth = record("JONES/10", Phase::Requested)?;
-    let second = record("JONES/2", Phase::Granted)?;
-    let boss = record("BOSS/1", Phase::Closed)?;
-    let restoring = step("JONES/2", 2, 1, StepState::Waiting)?;
-    let last = step("JONES/2", 1, 10, StepState::Waiting)?;
-    let another = step("JONES/10", 1, 2, StepState::Waiting)?;
-    let third = step("JONES/2", 1, 3, StepState::Waiting)?;
-    let edits = [
-        Edit::PutRecord(kim),
-        Edit::PutRecord(tenth),
-        Edit::PutRecord(second),
-        Edit::PutRecord(boss),
-        Edit::PutStep(restoring),
-        Edit::PutStep(last),
-        Edit::PutStep(another),
-        Edit::PutStep(third),
-    ];
-    let book = book_after(rt.alloc(), &edits)?;
-    assert!(rt; has_records(&book, &[&boss, &second, &tenth, &kim])?);
-    assert!(rt; has_steps(&book, second.id, &[&third, &last, &restoring])?);
-    assert!(rt; has_steps(&book, kim.id, &[])?);
-    Ok(())
-}
-
-/// Commands of each kind but request and switch order, which name a clearance.
-fn kinds_that_name(alloc: Global, id: &str) -> Result<Vec<Kind>, Fail> {
-    let clearance = ClearanceId::read(id)?;
-    let section = Name::read("L2")?;
-    let none = || Tasks::new(Vec::new(alloc));
-    let kinds = vec![in alloc;
-        Kind::Order {
-            clearance,
-            points: Names::new(Vec::new(alloc)),
-            steps: none()
-        },
-        Kind::Instruct { clearance, step: 1 },
-        Kind::Repeat {
-            clearance,
-            step: 1,
-            text: Text::new(String::new(alloc))
-        },
-        Kind::Report {
-            clearance,
-            step: 1,
-            done: true
-        },
-        Kind::Grant { clearance },
-        Kind::Test {
-            clearance,
-            section,
-            dead: true
-        },
-        Kind::Ground { clearance, section },
-        Kind::Unground { clearance, section },
-        Kind::SignOn {
-            clearance,
-            crew: section
-        },
-        Kind::SignOff {
-            clearance,
-            crew: section
-        },
-        Kind::Transfer {
-            clearance,
-            to: section,
-            emergency: false
-        },
-        Kind::Release {
-            clearance,
-            notified: true,
-            clear: true
-        },
-        Kind::Cancel { clearance },
-        Kind::Restore {
-            clearance,
-            steps: none()
-        },
-        Kind::Amend { clearance, step: 1 },
-        Kind::Show { clearance },
-    ]?;
-    Ok(kinds)
-}
-
-/// A switch order that opens S2.
-fn switch_order(alloc: Global) -> Result<Kind, Fail> {
-    let first = step("OPS/2", 1, 1, StepState::Waiting)?;
-    let mut steps = Vec::new(alloc);
-    // The checker proves this only where the type of the reader is seen.
-    steps.push(Step {
-        reader: None,
-        ..first.step
-    })?;
-    Ok(Kind::Switch {
-        steps: Tasks::new(steps),
-    })
-}
-
-/// JONES/1 is ordered and holds S2 open, and OPS/1 is a switch order with a step there.
-fn book_with_two(alloc: Global) -> Result<ListBook, Fail> {
-    let switching = Record {
-        work: None,
-        ..record("OPS/1", Phase::Switching)?
-    };
-    let edits = [
-        Edit::PutHold(hold(HoldKind::HeldOpen, "JONES/1")?),
-        Edit::PutRecord(record("JONES/1", Phase::Ordered)?),
-        Edit::PutRecord(switching),
-        Edit::PutStep(step("JONES/1", 1, 1, StepState::Waiting)?),
-        Edit::PutStep(step("OPS/1", 1, 1, StepState::Waiting)?),
-    ];
-    let book = book_after(alloc, &edits)?;
-    Ok(book)
-}
-
-/// The book lends what a command of JONES looks at.
-fn lend(book: &ListBook, kind: Kind) -> Result<(), Fail> {
-    let command = Command {
-        caller: Name::read("JONES")?,
-        moment: Moment::new(2000).ok_or("a moment")?,
-        kind,
-    };
-    let _near = book.near(&command)?;
-    Ok(())
-}
-
-#[test]
-fn rows_lent_to_commands(rt: HostRuntime) -> Result<(), Fail> {
-    let book = book_with_two(rt.alloc())?;
-    let section = Name::read("L1")?;
-    lend(&book, Kind::Request { section })?;
-    lend(&book, switch_order(rt.alloc())?)?;
-    for kind in kinds_that_name(rt.alloc(), "JONES/1")? {
-        lend(&book, kind)?;
-    }
-    for kind in kinds_that_name(rt.alloc(), "OPS/1")? {
-        lend(&book, kind)?;
-    }
+    let edits = edits_of_rows(
+        rt.alloc(),
+        &["KIM/1", "JONES/10", "JONES/2", "BOSS/1"],
+        &[
+            ("JONES/2", 2, 1),
+            ("JONES/2", 1, 10),
+            ("JONES/10", 1, 2),
+            ("JONES/2", 1, 3),
+        ],
+    )?;
+    let book = book_after(rt.alloc(), edits.as_slice())?;
+    let names = names_of_records(rt.alloc(), &book)?;
+    assert_eq!(rt; names.as_str(), " BOSS/1 JONES/2 JONES/10 KIM/1");
+    let places = places_of_steps(rt.alloc(), &book, "JONES/2")?;
+    assert_eq!(rt; places.as_str(), " 1.3 1.10 2.1");
+    let none = places_of_steps(rt.alloc(), &book, "KIM/1")?;
+    assert_eq!(rt; none.as_str(), "");
     Ok(())
 }

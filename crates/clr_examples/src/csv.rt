@@ -1,4 +1,5 @@
-//! The three files, read: the worked network's files, each fault of a reader, and readers that fail.
+//! The three files, read: the worked network's files, each fault of a reader, and readers that
+//! fail.
 use clr_csv::{Counted, CountedRead, CsvFault, Role, read_points, read_sections, read_staff};
 use clr_net::{Name, PointRow, Position, SectionRow};
 use std::alloc::Global;
@@ -25,7 +26,8 @@ KIM,charge,
 BOSS,charge,
 ";
 
-/// The fault of a file, if it has one. Want of memory is never what a test asks for: it ends the test.
+/// The fault of a file, if it has one. Want of memory is never what a test asks for: it ends the
+/// test.
 fn fault_of<T: Drop>(told: Result<T, CsvFault>) -> Result<Option<CsvFault>, Fail> {
     match told {
         Err(CsvFault::NoMemory) => Err(CsvFault::NoMemory.into()),
@@ -46,7 +48,7 @@ fn staff_fault(alloc: Global, file: &[u8]) -> Result<Option<CsvFault>, Fail> {
 }
 
 #[test]
-fn worked_files_read(rt: HostRuntime) -> Result<(), Fail> {
+fn worked_sections_read(rt: HostRuntime) -> Result<(), Fail> {
     let mut reader = Counted::new(SECTIONS);
     let sections = read_sections(rt.alloc(), &mut reader)?;
     assert_eq!(rt; reader.failures(), 0);
@@ -57,7 +59,11 @@ fn worked_files_read(rt: HostRuntime) -> Result<(), Fail> {
         source: false,
     };
     assert_eq!(rt; sections.get(2), Some(&third));
+    Ok(())
+}
 
+#[test]
+fn worked_points_read(rt: HostRuntime) -> Result<(), Fail> {
     let points = read_points(rt.alloc(), &mut Counted::new(POINTS))?;
     assert_eq!(rt; points.len(), 5);
     let fourth = PointRow {
@@ -73,7 +79,11 @@ fn worked_files_read(rt: HostRuntime) -> Result<(), Fail> {
         points.get(4).map(|point| point.position),
         Some(Position::Opened)
     );
+    Ok(())
+}
 
+#[test]
+fn worked_staff_reads(rt: HostRuntime) -> Result<(), Fail> {
     let staff = read_staff(rt.alloc(), &mut Counted::new(STAFF))?;
     assert_eq!(rt; staff.len(), 6);
     assert_eq!(rt; staff.get(0).map(|row| row.role), Some(Role::Operator));

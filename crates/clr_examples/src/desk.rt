@@ -1,16 +1,15 @@
-//! The desk over a store in memory: a run on the worked network, and a desk that is opened again.
+//! The desk over a store in memory: runs on the worked network.
 use crate::driver::{expect, own_card};
 use crate::worked::{names, worked_network, worked_staff};
 use clr_book::{ClearanceId, Command, Kind, Moment, Names, Phase, Refusal, Reply, Tasks, Text};
-use clr_desk::{Desk, DeskFault, Run};
+use clr_desk::{Desk, Run};
 use clr_net::Name;
 use clr_order::{Step, read_step_text};
-use clr_store::{Store, StoreFault};
 use sqlite::{Connection, MemStore};
 use std::alloc::Global;
 use std::test::Fail;
 
-type MemoryDesk = Desk<MemStore>;
+pub type MemoryDesk = Desk<MemStore>;
 
 /// The steps that isolate L2 at S2 and S3.
 const ISOLATE_L2: [&str; 6] = [
@@ -18,28 +17,12 @@ const ISOLATE_L2: [&str; 6] = [
 ];
 
 /// A desk over new tables of the worked network and staff.
-fn new_desk(alloc: Global) -> Result<MemoryDesk, Fail> {
+pub fn new_desk(alloc: Global) -> Result<MemoryDesk, Fail> {
     let network = worked_network(alloc)?;
     let staff = worked_staff(alloc)?;
     let connection = Connection::open_in_memory(alloc)?;
     let desk = Desk::create(alloc, connection, network, staff).ok();
     Ok(desk.ok_or("new tables")?)
-}
-
-/// The same desk, after it and its store were ended and both were opened again on the connection.
-fn opened_again(desk: MemoryDesk) -> Result<MemoryDesk, Fail> {
-    let connection = desk.end().end();
-    let store = Store::open(connection).ok().ok_or("the tables again")?;
-    Ok(Desk::open(store).ok().ok_or("a desk")?)
-}
-
-/// The fault of making the tables on the connection of a desk that is ended.
-fn fault_of_making_again(alloc: Global, desk: MemoryDesk) -> Result<DeskFault, Fail> {
-    let network = worked_network(alloc)?;
-    let staff = worked_staff(alloc)?;
-    let made = Desk::create(alloc, desk.end().end(), network, staff);
-    let (fault, _connection) = made.err().ok_or("a fault")?;
-    Ok(fault)
 }
 
 fn command(by: &str, at: u64, kind: Kind) -> Result<Command, Fail> {
@@ -106,12 +89,6 @@ fn grant(commands: &mut Vec<Command>) -> Result<(), Fail> {
     Ok(())
 }
 
-fn show() -> Result<Command, Fail> {
-    let clearance = ClearanceId::read("JONES/1")?;
-    let shown = command("JONES", 103, Kind::Show { clearance })?;
-    Ok(shown)
-}
-
 /// The last reply of a run that met no fault.
 fn last_reply(mut run: Run) -> Result<Reply, Fail> {
     let last = run.replies.pop();
@@ -119,10 +96,8 @@ fn last_reply(mut run: Run) -> Result<Reply, Fail> {
     Ok(reply.ok_or("a reply and no fault")?)
 }
 
-#[test]
-fn grant_with_a_step_left(rt: HostRuntime) -> Result<(), Fail> {
-    let alloc = rt.alloc();
-    let mut desk = new_desk(alloc)?;
+/// The request and the order of JONES/1, its first five steps, and the grant.
+fn grant_too_early(alloc: Global) -> Result<Vec<Command>, Fail> {
     let mut commands = Vec::new(alloc);
     order_of_jones(alloc, &mut commands)?;
     for (step, text) in [
@@ -135,38 +110,30 @@ fn grant_with_a_step_left(rt: HostRuntime) -> Result<(), Fail> {
         step_runs(alloc, &mut commands, step, text)?;
     }
     grant(&mut commands)?;
-    expect(
-        last_reply(desk.run(commands))?,
-        Reply::Refused(Refusal::StepsLeft),
-    )?;
-    let mut rest = Vec::new(alloc);
-    step_runs(alloc, &mut rest, 6, ISOLATE_L2[5])?;
-    grant(&mut rest)?;
+    Ok(commands)
+}
+
+/// The sixth step, and the grant.
+fn grant_in_time(alloc: Global) -> Result<Vec<Command>, Fail> {
+    let mut commands = Vec::new(alloc);
+    step_runs(alloc, &mut commands, 6, ISOLATE_L2[5])?;
+    grant(&mut commands)?;
+    Ok(commands)
+}
+
+/// JONES/1 is granted, all its steps done.
+fn granted() -> Result<Reply, Fail> {
     let clearance = ClearanceId::read("JONES/1")?;
-    let card = own_card(clearance, Phase::Granted, 1, 6, 6);
-    expect(last_reply(desk.run(rest))?, Reply::Accepted(card))?;
-    assert_eq!(rt; desk.faults(), 0);
-    Ok(())
+    Ok(Reply::Accepted(own_card(clearance, Phase::Granted, 1, 6, 6)))
 }
 
 #[test]
-fn register_opened_again(rt: HostRuntime) -> Result<(), Fail> {
-    let alloc = rt.alloc();
-    let clearance = ClearanceId::read("JONES/1")?;
-    let point = Name::read("S3")?;
-    let mut desk = new_desk(alloc)?;
-    let mut commands = Vec::new(alloc);
-    order_of_jones(alloc, &mut commands)?;
-    step_runs(alloc, &mut commands, 1, ISOLATE_L2[0])?;
-    commands.push(command("OPS", 103, Kind::Instruct { clearance, step: 2 })?)?;
-    commands.push(show()?)?;
-    let shown = last_reply(desk.run(commands))?;
-    let mut again = opened_again(desk)?;
-    let shown_again = again.one(show()?).ok().ok_or("a view")?;
-    expect(shown_again, shown)?;
-    let hand = again.book().state(&point).ok_or("S3")?.hand;
-    assert!(rt; hand == Some(clearance));
-    let fault = fault_of_making_again(alloc, again)?;
-    assert!(rt; fault == DeskFault::Store(StoreFault::Sql));
+fn grant_with_a_step_left(rt: HostRuntime) -> Result<(), Fail> {
+    let mut desk = new_desk(rt.alloc())?;
+    let refused = last_reply(desk.run(grant_too_early(rt.alloc())?))?;
+    expect(refused, Reply::Refused(Refusal::StepsLeft))?;
+    let accepted = last_reply(desk.run(grant_in_time(rt.alloc())?))?;
+    expect(accepted, granted()?)?;
+    assert_eq!(rt; desk.faults(), 0);
     Ok(())
 }

@@ -4,26 +4,17 @@ use clr_net::NetFault;
 use std::test::Fail;
 
 #[test]
-fn fence_between_two_cuts(rt: HostRuntime) -> Result<(), Fail> {
+fn fences_of_the_worked_network(rt: HostRuntime) -> Result<(), Fail> {
     let network = worked_network(rt.alloc())?;
-    let names = fence_names(rt.alloc(), &network, "L2", &["S2", "S3"])?;
-    assert_eq!(rt; names.as_str(), " L2");
-    Ok(())
-}
-
-#[test]
-fn open_tie_is_a_way_in(rt: HostRuntime) -> Result<(), Fail> {
-    let network = worked_network(rt.alloc())?;
-    let names = fence_names(rt.alloc(), &network, "L1", &["S1", "S2"])?;
-    assert_eq!(rt; names.as_str(), " H L1 L2 L3");
-    Ok(())
-}
-
-#[test]
-fn points_off_the_border(rt: HostRuntime) -> Result<(), Fail> {
-    let network = worked_network(rt.alloc())?;
-    let names = fence_names(rt.alloc(), &network, "L2", &["S1", "S4", "S3"])?;
-    assert_eq!(rt; names.as_str(), " L1 L2 L3");
+    let cases: [(&str, &[&str], &str); 3] = [
+        ("L2", &["S2", "S3"], " L2"),
+        ("L1", &["S1", "S2"], " H L1 L2 L3"),
+        ("L2", &["S1", "S4", "S3"], " L1 L2 L3"),
+    ];
+    for (work, cut, sections) in cases {
+        let names = fence_names(rt.alloc(), &network, work, cut)?;
+        assert_eq!(rt; names.as_str(), sections, "of {work}");
+    }
     Ok(())
 }
 

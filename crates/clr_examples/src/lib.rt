@@ -1,8 +1,11 @@
-//! Worked examples across the libraries, each named after its title in docs/EXAMPLES.md. There are only tests here.
+//! Worked examples across the libraries, each named after its title in docs/EXAMPLES.md. There are
+//! only tests here.
 #![tactic(auto)]
 
 #[cfg(test)]
 mod books;
+#[cfg(test)]
+mod chain;
 #[cfg(test)]
 mod csv;
 #[cfg(test)]
@@ -11,6 +14,8 @@ mod desk;
 mod driver;
 #[cfg(test)]
 mod fences;
+#[cfg(test)]
+mod http;
 #[cfg(test)]
 mod ids;
 #[cfg(test)]

@@ -11,7 +11,8 @@ fn staff_in(alloc: Global, rows: &str) -> Result<Result<Staff, StaffFault>, Fail
     Ok(Staff::build(alloc, rows))
 }
 
-/// The fault of rows that are no staff, if they have one. Want of memory is never what a test asks for: it ends the test.
+/// The fault of rows that are no staff, if they have one. Want of memory is never what a test asks
+/// for: it ends the test.
 fn staff_fault(told: Result<Staff, StaffFault>) -> Result<Option<StaffFault>, Fail> {
     match told {
         Err(StaffFault::NoMemory) => Err(StaffFault::NoMemory.into()),

@@ -5,6 +5,7 @@ use crate::worked::{worked_network, worked_staff};
 use clr_book::{
     Change, ClearanceId, Edit, Edits, Hold, HoldKind, Phase, PointState, Record, StepRow,
 };
+use clr_desk::{Desk, DeskFault};
 use clr_net::{Name, Position};
 use clr_order::StepState;
 use clr_store::{Rows, Store, StoreFault};
@@ -24,14 +25,13 @@ fn made(alloc: Global) -> Result<Store<MemStore>, Fail> {
     }
 }
 
-/// The fault of making the worked register in the database of a store.
-fn fault_of_making(alloc: Global, store: Store<MemStore>) -> Result<Option<StoreFault>, Fail> {
+/// The fault of a desk that is to make its tables in the database of a store.
+fn fault_of_making(alloc: Global, store: Store<MemStore>) -> Result<DeskFault, Fail> {
     let network = worked_network(alloc)?;
     let staff = worked_staff(alloc)?;
-    match Store::create(store.end(), &network, &staff) {
-        Ok(_) => Ok(None),
-        Err(back) => Ok(Some(back.fault)),
-    }
+    let made = Desk::create(alloc, store.end(), network, staff);
+    let (fault, _connection) = made.err().ok_or("a fault")?;
+    Ok(fault)
 }
 
 /// The store ended and opened again.
@@ -58,11 +58,13 @@ fn fault_of_opening(alloc: Global, statement: &str) -> Result<Option<StoreFault>
     Ok(after(store, statement).err())
 }
 
-/// The fault of loading the worked register's database after a statement.
-fn fault_of_loading(alloc: Global, statement: &str) -> Result<Option<StoreFault>, Fail> {
+/// The fault of opening a desk, which loads the tables, over the worked register's database after
+/// a statement.
+fn fault_of_a_desk(alloc: Global, statement: &str) -> Result<DeskFault, Fail> {
     let store = made(alloc)?;
-    let mut store = after(store, statement)?;
-    Ok(store.load().err())
+    let opened = Desk::open(after(store, statement)?);
+    let (fault, _store) = opened.err().ok_or("a fault")?;
+    Ok(fault)
 }
 
 /// What JONES/1 has after its first step and an instruct of the second, at S2 and S3.
@@ -169,7 +171,7 @@ fn hand_and_holds_after_opening_again(rt: HostRuntime) -> Result<(), Fail> {
 fn tables_are_made_once(rt: HostRuntime) -> Result<(), Fail> {
     let store = made(rt.alloc())?;
     let fault = fault_of_making(rt.alloc(), store)?;
-    assert_eq!(rt; fault, Some(StoreFault::Sql));
+    assert_eq!(rt; fault, DeskFault::Store(StoreFault::Sql));
     Ok(())
 }
 
@@ -183,18 +185,12 @@ fn versions_that_are_not_opened(rt: HostRuntime) -> Result<(), Fail> {
 }
 
 #[test]
-fn point_with_half_a_hand(rt: HostRuntime) -> Result<(), Fail> {
-    let fault = fault_of_loading(
-        rt.alloc(),
-        "UPDATE point SET hand_requester = 'JONES' WHERE name = 'S3'",
-    )?;
-    assert_eq!(rt; fault, Some(StoreFault::BadRow(TableName::Point)));
-    Ok(())
-}
-
-#[test]
 fn rows_that_do_not_read(rt: HostRuntime) -> Result<(), Fail> {
     for (statement, table) in [
+        (
+            "UPDATE point SET hand_requester = 'JONES' WHERE name = 'S3'",
+            TableName::Point,
+        ),
         (
             "UPDATE section SET source = 2 WHERE name = 'L2'",
             TableName::Section,
@@ -216,8 +212,12 @@ fn rows_that_do_not_read(rt: HostRuntime) -> Result<(), Fail> {
             TableName::Hold,
         ),
     ] {
-        let fault = fault_of_loading(rt.alloc(), statement)?;
-        assert_eq!(rt; fault, Some(StoreFault::BadRow(table)));
+        let fault = fault_of_a_desk(rt.alloc(), statement)?;
+        assert_eq!(rt;
+            fault,
+            DeskFault::Store(StoreFault::BadRow(table)),
+            "{statement}"
+        );
     }
     Ok(())
 }

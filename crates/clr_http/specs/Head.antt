@@ -1,10 +1,12 @@
 -- THE HEAD of a request, in an input that is read in pieces.
 use Rattle.std.specs.Prelude.{◌⊎◌, ℕ, ◌≤◌, List, length, Option, Some, None, ⊤}
 use Rattle.std.specs.Io.KnownBytes.{IsAtEnd}
-use Rattle.httparse.specs.Grammar.{RequestHead, ReadsRequest, print_request, HasNoRequest, NeverHasRequest}
+use Rattle.httparse.specs.Grammar.{RequestHead, ReadsRequest, print_request, HasNoRequest}
+use Rattle.httparse.specs.Grammar.{NeverHasRequest}
 use Rattle.httparse.specs.Spans.{RequestExceeds}
 use Rattle.clr_http.specs.declared.head.HeadFault.{HeadFault}
-use Rattle.clr_http.specs.declared.head.HeadFault.TheVariants.{BadHead, HeadTooLarge, HeadCut, ReadFailed, NoMemory}
+use Rattle.clr_http.specs.declared.head.HeadFault.TheVariants.{BadHead, HeadTooLarge, HeadCut}
+use Rattle.clr_http.specs.declared.head.HeadFault.TheVariants.{ReadFailed, NoMemory}
 
 -- the input is a head of at most 8,192 bytes and 64 fields, and then the rest
 pub record BeginsWith (input : List ℕ) (head : RequestHead) (rest : List ℕ) : Type 0 where
@@ -17,11 +19,12 @@ abbrev pub HasHead : Option (List ℕ) → Type 0
 HasHead None = ⊥
 HasHead (Some input) = (head : RequestHead) × (rest : List ℕ) × BeginsWith input head rest
 
--- what a fault says of the bytes that were taken, and of what is left: no continuation is a head; the limit was read, or the fields
--- pass the room; the input ended
+-- what a fault says of the bytes that were taken, and of what is left: no continuation is a head;
+-- the limit was read, or the fields pass the room; the input ended
 abbrev pub Explains : HeadFault → List ℕ → Option (List ℕ) → Type 0
 Explains BadHead taken left = NeverHasRequest taken
-Explains HeadTooLarge taken left = ((8192 ≤ length taken) × HasNoRequest taken) ⊎ RequestExceeds 64 taken
+Explains HeadTooLarge taken left = ((8192 ≤ length taken) × HasNoRequest taken)
+    ⊎ RequestExceeds 64 taken
 Explains HeadCut taken left = HasNoRequest taken × IsAtEnd left
 Explains ReadFailed taken left = ⊤
 Explains NoMemory taken left = ⊤

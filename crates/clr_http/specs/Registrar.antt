@@ -16,7 +16,8 @@ abbrev pub faults_after : {T : Type 0} → Option T → ℕ → ℕ
 faults_after None faults = one_more faults
 faults_after (Some reply) faults = faults
 
--- A TURN: the outcome, and no fault; or a fault is counted, the response tells it, and the register stays as it was
+-- A TURN: the outcome, and no fault; or a fault is counted, the response tells it, and the register
+-- stays as it was
 abbrev pub IsTurn : Outcome → Register → ℕ → Register → ℕ → Carried → Type 0
 IsTurn o R faults S later c =
     ((c ≡ o.response) × (S ≡ o.left) × (later ≡ faults))

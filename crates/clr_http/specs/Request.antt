@@ -1,6 +1,7 @@
--- THE REQUEST: what the head and the bytes behind it ask for, or how they are refused. The checks stand in their order: route, method,
--- length, the whole body.
-use Rattle.std.specs.Prelude.{◌≡◌, ℕ, nat_eq, nat_le, if◌then◌else◌, List, [], length, map, take, Option, Some, None, Result, Ok, Err}
+-- THE REQUEST: what the head and the bytes behind it ask for, or how they are refused. The checks
+-- stand in their order: route, method, length, the whole body.
+use Rattle.std.specs.Prelude.{◌≡◌, ℕ, nat_eq, nat_le, if◌then◌else◌, List, [], length, map, take}
+use Rattle.std.specs.Prelude.{Option, Some, None, Result, Ok, Err}
 use Rattle.std.specs.Cmp.Lexicographic.{pointwise}
 use Rattle.httparse.specs.Grammar.{RequestHead}
 use Rattle.httparse.specs.Spans.{name_and_value}
@@ -42,7 +43,8 @@ pub data Reading : Type 0 where
 -- a command, by the length of its body and the bytes behind the head
 abbrev pub command_read : Result ℕ LengthFault → List ℕ → Reading
 command_read (Err e) rest = refused (told (length_told e))
-command_read (Ok n) rest = if nat_le n (length rest) then asks Command (take n rest) else refused (told fault.BodyCut)
+command_read (Ok n) rest = if nat_le n (length rest) then asks Command (take n rest)
+    else refused (told fault.BodyCut)
 
 -- a request with the method of its route
 abbrev pub body_read : Asked → RequestHead → List ℕ → Reading
@@ -77,4 +79,5 @@ refusal_of head_fault.NoMemory = None
 -- the refusal of an input, by a fault that the bytes taken from it explain
 abbrev pub IsRefusedHead : Option (List ℕ) → Option (List ℕ) → Reading → Type 0
 IsRefusedHead known left reading =
-    (taken : List ℕ) × Consumes known left taken × (e : HeadFault) × (refusal_of e ≡ Some reading) × Explains e taken left
+    (taken : List ℕ) × Consumes known left taken × (e : HeadFault) × (refusal_of e ≡ Some reading)
+    × Explains e taken left

@@ -1,5 +1,6 @@
--- WHAT A REQUEST IS ANSWERED at a register, and the register after it: the head, the route and the body come to a reading (Request), and a
--- reading to an outcome. A fault of the store or of memory is no part of it.
+-- WHAT A REQUEST IS ANSWERED at a register, and the register after it: the head, the route and the
+-- body come to a reading (Request), and a reading to an outcome. A fault of the store or of memory
+-- is no part of it.
 use Rattle.std.specs.Prelude.{◌≡◌, ℕ, List, Option, None, Some, Result, Ok, Err, pos}
 use Rattle.httparse.specs.Grammar.{RequestHead}
 use Rattle.clr_rules.specs.Answer.{Answer, answer}
@@ -88,6 +89,8 @@ reading_answered R (asks asked body) = answered R asked body
 abbrev pub respond_to : Register → RequestHead → List ℕ → Outcome
 respond_to R head rest = reading_answered R (request_read head rest)
 
--- WHAT AN INPUT IS ANSWERED: it begins with a head of at most 8,192 bytes and 64 fields, and with one alone
+-- WHAT AN INPUT IS ANSWERED: it begins with a head of at most 8,192 bytes and 64 fields, and with
+-- one alone
 abbrev pub Responds : Register → List ℕ → Outcome → Type 0
-Responds R input o = (head : RequestHead) × (rest : List ℕ) × BeginsWith input head rest × (o ≡ respond_to R head rest)
+Responds R input o = (head : RequestHead) × (rest : List ℕ) × BeginsWith input head rest
+    × (o ≡ respond_to R head rest)

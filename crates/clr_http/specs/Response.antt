@@ -3,7 +3,10 @@ use Rattle.std.specs.Prelude.{ℕ, List, [], ◌++◌, codes, decimal, length, u
 use Rattle.std.specs.String.{string_bytes}
 use Rattle.http.specs.StatusCode.{reason_phrase}
 use Rattle.clr_http.specs.declared.response.Fault.{Fault}
-use Rattle.clr_http.specs.declared.response.Fault.TheVariants.{BadHead, HeadTooLarge, HeadCut, NoRoute, NoLength, BadLength, BodyTooLarge, BodyCut, NoSuch, Unavailable}
+use Rattle.clr_http.specs.declared.response.Fault.TheVariants.{BadHead, HeadTooLarge, HeadCut}
+use Rattle.clr_http.specs.declared.response.Fault.TheVariants.{NoRoute, NoLength, BadLength}
+use Rattle.clr_http.specs.declared.response.Fault.TheVariants.{BodyTooLarge, BodyCut, NoSuch}
+use Rattle.clr_http.specs.declared.response.Fault.TheVariants.{Unavailable}
 use Rattle.clr_http.specs.declared.response.Method.{Method}
 use Rattle.clr_http.specs.declared.response.Method.TheVariants.{Get, Post}
 use Rattle.clr_http.specs.declared.response.Response.{Response}
@@ -42,7 +45,8 @@ abbrev pub method_word : Method → List ℕ
 method_word Get = codes "GET"
 method_word Post = codes "POST"
 
--- WHAT A RESPONSE CARRIES: a JSON text with its status; a printed text, which is a 200; or the method that the route has, which is a 405
+-- WHAT A RESPONSE CARRIES: a JSON text with its status; a printed text, which is a 200; or the
+-- method that the route has, which is a 405
 pub data Carried : Type 0 where
   json : ℕ → List ℕ → Carried
   printed : List ℕ → Carried
@@ -73,10 +77,12 @@ phrase_of status = unwrap_or (reason_phrase status) []
 -- the fields of a response with a body of this type and length, from the end of its first line on
 abbrev pub fields_text : List ℕ → ℕ → List ℕ
 fields_text type size =
-    codes "\r\nContent-Type: " ++ type ++ codes "\r\nContent-Length: " ++ decimal size ++ codes "\r\nConnection: close\r\n\r\n"
+    codes "\r\nContent-Type: " ++ type ++ codes "\r\nContent-Length: " ++ decimal size
+    ++ codes "\r\nConnection: close\r\n\r\n"
 
 abbrev pub whole_text : ℕ → List ℕ → List ℕ → List ℕ
-whole_text status type body = (first_line status (phrase_of status) ++ fields_text type (length body)) ++ body
+whole_text status type body =
+    (first_line status (phrase_of status) ++ fields_text type (length body)) ++ body
 
 -- THE BYTES OF A RESPONSE
 abbrev pub response_bytes : Carried → List ℕ

@@ -1,4 +1,5 @@
--- THE SERVICE: requests one after the other, each answered at the register that the earlier ones left.
+-- THE SERVICE: requests one after the other, each answered at the register that the earlier ones
+-- left.
 use Rattle.std.specs.Prelude.{◌≡◌, ◌⊎◌, ℕ, List, [], ◌∷◌, Some, All}
 use Rattle.clr_rules.specs.Register.{Register}
 use Rattle.clr_http.specs.Head.{HasHead}
@@ -14,16 +15,19 @@ HaveHeads inputs = All (λ input. HasHead (Some input)) inputs
 unfoldable pub RespondsAll : Register → List (List ℕ) → List (List ℕ) → Register → Type 0
 RespondsAll R [] [] S = S ≡ R
 RespondsAll R (input ∷ inputs) (bytes ∷ later) S =
-    (o : Outcome) × Responds R input o × (bytes ≡ response_bytes o.response) × RespondsAll o.left inputs later S
+    (o : Outcome) × Responds R input o × (bytes ≡ response_bytes o.response)
+    × RespondsAll o.left inputs later S
 RespondsAll R [] (bytes ∷ later) S = ⊥
 RespondsAll R (input ∷ inputs) [] S = ⊥
 
 -- an input has one outcome
 abbrev pub AnsweredOnce : Type 0
-AnsweredOnce = (R : Register) (input : List ℕ) (o other : Outcome) → Responds R input o → Responds R input other → o ≡ other
+AnsweredOnce = (R : Register) (input : List ℕ) (o other : Outcome) → Responds R input o
+    → Responds R input other → o ≡ other
 
 -- one connection: its response and the register that it leaves, and no fault; or a fault is counted
 abbrev pub IsExchange : Register → ℕ → Register → ℕ → List ℕ → List ℕ → Type 0
 IsExchange R faults S later input bytes =
-    ((o : Outcome) × Responds R input o × (bytes ≡ response_bytes o.response) × (S ≡ o.left) × (later ≡ faults))
+    ((o : Outcome) × Responds R input o × (bytes ≡ response_bytes o.response) × (S ≡ o.left)
+    × (later ≡ faults))
     ⊎ (later ≡ one_more faults)

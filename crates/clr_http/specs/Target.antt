@@ -1,5 +1,7 @@
--- THE TARGET of a request: which of the four routes it takes, by the router's rule, and what its parts name.
-use Rattle.std.specs.Prelude.{ℕ, if◌then◌else◌, List, [], codes, unwrap_or, Option, Some, None, option_map, Result, Ok, Err}
+-- THE TARGET of a request: which of the four routes it takes, by the router's rule, and what its
+-- parts name.
+use Rattle.std.specs.Prelude.{ℕ, if◌then◌else◌, List, [], codes, unwrap_or, Option, Some, None}
+use Rattle.std.specs.Prelude.{option_map, Result, Ok, Err}
 use Rattle.std.specs.Char.{is_ascii}
 use Rattle.std.specs.List.{list_all}
 use Rattle.matchit.specs.Order.{placed}
@@ -21,7 +23,8 @@ use Rattle.clr_http.specs.declared.target.Route.TheVariants.{Command, Clearance,
 use Rattle.clr_http.specs.declared.target.Viewing.{Viewing}
 
 -- the rows of a router with one route more, where its text reads as one
-abbrev pub with_read : Result Scan InsertError → Route → RowsOf (RouteOf Route) → RowsOf (RouteOf Route)
+abbrev pub with_read : Result Scan InsertError → Route → RowsOf (RouteOf Route)
+    → RowsOf (RouteOf Route)
 with_read (Ok s) route rows = let r = route_from s route in placed (r.pattern, r) rows
 with_read (Err e) route rows = rows
 
@@ -31,25 +34,32 @@ with_route text route rows = with_read (parse_route text) route rows
 -- THE FOUR ROUTES
 unfoldable pub the_routes : RowsOf (RouteOf Route)
 the_routes =
-    with_route (codes "/board") Board (with_route (codes "/order/{requester}/{number}/{round}") Order
-    (with_route (codes "/clearance/{caller}/{requester}/{number}") Clearance (with_route (codes "/command") Command [])))
+    with_route (codes "/board") Board
+    (with_route (codes "/order/{requester}/{number}/{round}") Order
+    (with_route (codes "/clearance/{caller}/{requester}/{number}") Clearance
+    (with_route (codes "/command") Command [])))
 
 -- a route, by its parts
 abbrev pub route_in : List ℕ → List ℕ → List (ℕ × ℕ) → Route → RouteOf Route
-route_in pattern text names route = record { pattern = pattern; text = text; names = names; value = route }
+route_in pattern text names route =
+    record { pattern = pattern; text = text; names = names; value = route }
 
--- the part of a target that a route gives this name. A target with a byte beyond ASCII has no part that reads
+-- the part of a target that a route gives this name. A target with a byte beyond ASCII has no part
+-- that reads
 abbrev pub part : List ℕ → RouteOf Route → List ℕ → List ℕ
 part target r key =
-    if list_all is_ascii target then unwrap_or (named key (walk r.pattern r.text target r.names 0 0)) [] else []
+    if list_all is_ascii target
+    then unwrap_or (named key (walk r.pattern r.text target r.names 0 0)) [] else []
 
 -- the clearance that two parts name
 abbrev pub id_at : List ℕ → RouteOf Route → Option Id
-id_at target r = id_of (read_name (part target r (codes "requester"))) (read_number (part target r (codes "number")))
+id_at target r = id_of (read_name (part target r (codes "requester")))
+    (read_number (part target r (codes "number")))
 
 -- a round is written 1 or 2
 abbrev pub read_round : List ℕ → Option ℕ
-read_round text = if same_text text (codes "1") then Some 1 else if same_text text (codes "2") then Some 2 else None
+read_round text = if same_text text (codes "1") then Some 1 else if same_text text (codes "2")
+    then Some 2 else None
 
 -- what is to be viewed, and by whom, where all parts read
 abbrev pub view_asked : Result (List ℕ) NameFault → Option Id → Option Viewing
@@ -66,8 +76,10 @@ order_asked None round = None
 -- what a target asks for, by its route
 abbrev pub asked_by : List ℕ → RouteOf Route → Route → Asked
 asked_by target r Command = asked.Command
-asked_by target r Clearance = asked.Clearance (view_asked (read_name (part target r (codes "caller"))) (id_at target r))
-asked_by target r Order = asked.Order (order_asked (id_at target r) (read_round (part target r (codes "round"))))
+asked_by target r Clearance =
+    asked.Clearance (view_asked (read_name (part target r (codes "caller"))) (id_at target r))
+asked_by target r Order =
+    asked.Order (order_asked (id_at target r) (read_round (part target r (codes "round"))))
 asked_by target r Board = asked.Board
 
 -- WHAT A TARGET ASKS FOR: nothing where no route is its own

@@ -1,5 +1,6 @@
 //! The head of a request: its request line and its fields.
-ghost use Rattle.std.specs.Prelude.{◌≡◌, ◌≢◌, ◌+◌, [], ℕ, List, Option, ◌≤◌, ◌<◌, length, vec_len, Err, IfOk, IfErr, OnErr, IfSome, Ok, None, take};
+ghost use Rattle.std.specs.Prelude.{◌≡◌, ◌≢◌, ◌+◌, [], ℕ, List, Option, ◌≤◌, ◌<◌, length, vec_len};
+ghost use Rattle.std.specs.Prelude.{Err, IfOk, IfErr, OnErr, IfSome, Ok, None, take};
 ghost use Rattle.std.specs.Io.KnownBytes.{Consumes, IsAtEnd};
 ghost use Rattle.clr_csv.specs.Failures.{Rose};
 ghost use Rattle.clr_http.specs.Head.{HasHead, Explains, IsOutside};

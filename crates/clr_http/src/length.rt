@@ -1,10 +1,12 @@
 //! The length of a command's body, as the fields of the head give it.
-ghost use Rattle.std.specs.Prelude.{◌≡◌, ◌≤◌, All, Ok, Err, None, Some, codes, filter, if◌then◌else◌, length, map};
+ghost use Rattle.std.specs.Prelude.{◌≡◌, ◌≤◌, All, Ok, Err, None, Some, codes, filter};
+ghost use Rattle.std.specs.Prelude.{if◌then◌else◌, length, map};
 ghost use Rattle.std.specs.Char.{is_ascii_digit};
 ghost use Rattle.std.specs.List.{list_all, list_any};
 ghost use Rattle.std.specs.Str.Parse.{digits_value};
 ghost use Rattle.httparse.specs.Spans.{IsHeaderWithin, header_bytes, span_bytes};
-ghost use Rattle.clr_http.specs.Length.{body_length, is_called, is_length, length_of_fields, read_length};
+ghost use Rattle.clr_http.specs.Length.{body_length, is_called, is_length, length_of_fields};
+ghost use Rattle.clr_http.specs.Length.{read_length};
 
 use httparse::spans::HeaderSpan;
 use std::str::from_utf8;

@@ -1,5 +1,6 @@
 //! Who keeps the register that is served.
-ghost use Rattle.std.specs.Prelude.{◌≡◌, ℕ, IfOk, IfSome, None, OnSome, option_map, pos, string_bytes};
+ghost use Rattle.std.specs.Prelude.{◌≡◌, ℕ, IfOk, IfSome, None, OnSome, option_map, pos};
+ghost use Rattle.std.specs.Prelude.{string_bytes};
 ghost use Rattle.clr_rules.specs.Answer.{Answer, answer};
 ghost use Rattle.clr_rules.specs.Good.{IsGood};
 ghost use Rattle.clr_rules.specs.Records.{record_of};

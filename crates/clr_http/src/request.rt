@@ -1,13 +1,17 @@
 //! The request: what its head and the bytes behind it ask for.
-ghost use Rattle.std.specs.Prelude.{◌≡◌, ◌≢◌, ◌≤◌, ◌<◌, ℕ, All, List, [], Option, Some, None, Ok, Err, IfOk, IfErr, IfSome, IsSomeAnd, drop, length, map, take, true, false, vec_len};
+ghost use Rattle.std.specs.Prelude.{◌≡◌, ◌≢◌, ◌≤◌, ◌<◌, ℕ, All, List, [], Option, Some, None, Ok};
+ghost use Rattle.std.specs.Prelude.{Err, IfOk, IfErr, IfSome, IsSomeAnd, drop, length, map, take};
+ghost use Rattle.std.specs.Prelude.{true, false, vec_len};
 ghost use Rattle.std.specs.Str.{IsUtf8};
 ghost use Rattle.std.specs.Io.KnownBytes.{Consumes, IsAtEnd};
 ghost use Rattle.httparse.specs.Grammar.{RequestHead};
-ghost use Rattle.httparse.specs.Spans.{IsHeaderWithin, IsRequestAt, IsRequestWithin, header_bytes, span_bytes};
+ghost use Rattle.httparse.specs.Spans.{IsHeaderWithin, IsRequestAt, IsRequestWithin, header_bytes};
+ghost use Rattle.httparse.specs.Spans.{span_bytes};
 ghost use Rattle.clr_csv.specs.Failures.{Rose};
 ghost use Rattle.clr_http.specs.Head.{BeginsWith, HasHead, IsOutside};
 ghost use Rattle.clr_http.specs.Length.{body_length};
-ghost use Rattle.clr_http.specs.Request.{IsRefusedHead, command_read, length_told, method_of, reading, refusal_of, refused, request_read};
+ghost use Rattle.clr_http.specs.Request.{IsRefusedHead, command_read, length_told, method_of};
+ghost use Rattle.clr_http.specs.Request.{reading, refusal_of, refused, request_read};
 ghost use Rattle.clr_http.specs.Response.{told};
 ghost use Rattle.clr_http.specs.Target.{asked_of};
 

@@ -3,7 +3,8 @@ ghost use Rattle.std.specs.Prelude.{◌≡◌, IfOk};
 ghost use Rattle.clr_rules.specs.Good.{IsGood};
 ghost use Rattle.clr_text.specs.Reading.{read_command};
 ghost use Rattle.clr_http.specs.Registrar.{IsTurned};
-ghost use Rattle.clr_http.specs.Respond.{answered, body_answered, commanded, only, order_answered, reply_status, show_of, view_answered};
+ghost use Rattle.clr_http.specs.Respond.{answered, body_answered, commanded, only, order_answered};
+ghost use Rattle.clr_http.specs.Respond.{reply_status, show_of, view_answered};
 ghost use Rattle.clr_http.specs.Response.{carried, told};
 
 use crate::registrar::Registrar;

@@ -1,6 +1,8 @@
 //! The response: its status, what it carries, and its bytes.
 ghost use Rattle.std.specs.Prelude.{◌≡◌, ◌++◌, IfOk, length, string_bytes};
-ghost use Rattle.clr_http.specs.Response.{allow, carried, fault_body, fault_status, fault_word, fields_text, first_line, method_word, response_bytes, phrase_of, status_of, told, whole_text};
+ghost use Rattle.clr_http.specs.Response.{allow, carried, fault_body, fault_status, fault_word};
+ghost use Rattle.clr_http.specs.Response.{fields_text, first_line, method_word, response_bytes};
+ghost use Rattle.clr_http.specs.Response.{phrase_of, status_of, told, whole_text};
 
 use http::StatusCode;
 use std::alloc::{AllocError, Global};

@@ -6,7 +6,8 @@ ghost use Rattle.std.specs.List.{list_all};
 ghost use Rattle.matchit.specs.Seek.{first};
 ghost use Rattle.clr_rules.specs.IdText.{id_of, read_number};
 ghost use Rattle.clr_net.specs.NameText.{read_name};
-ghost use Rattle.clr_http.specs.Target.{asked_of, asked_by, order_asked, part, read_round, route_in, the_routes, view_asked};
+ghost use Rattle.clr_http.specs.Target.{asked_of, asked_by, order_asked, part, read_round};
+ghost use Rattle.clr_http.specs.Target.{route_in, the_routes, view_asked};
 
 use clr_net::Name;
 use clr_rules::{ClearanceId, read_number};

@@ -1,5 +1,7 @@
--- The fence of a section: every section that a walk over points that are not cut leads to, whatever the points' positions.
-use Rattle.std.specs.Prelude.{ℕ, zero, suc, ◌+◌, Bool, ◌&&◌, ◌||◌, not, if◌then◌else◌, ◌==◌, List, length, filter}
+-- The fence of a section: every section that a walk over points that are not cut leads to, whatever
+-- the points' positions.
+use Rattle.std.specs.Prelude.{ℕ, zero, suc, ◌+◌, Bool, ◌&&◌, ◌||◌, not, if◌then◌else◌, ◌==◌, List}
+use Rattle.std.specs.Prelude.{length, filter}
 use Rattle.std.specs.List.{list_any}
 use Rattle.clr_net.specs.Name.{same_name}
 use Rattle.clr_net.specs.Names.{has_name}
@@ -9,19 +11,24 @@ use Rattle.clr_net.specs.declared.point.PointRow.{PointRow}
 
 -- whether a point that is not cut leads to a section from one that passes the test
 abbrev pub leads : (List ℕ → Bool) → List (List ℕ) → List ℕ → PointRow → Bool
-leads reached cut s p = not (has_name cut p.name) && ((reached p.from_end && same_name p.to_end s) || (reached p.to_end && same_name p.from_end s))
+leads reached cut s p = not (has_name cut p.name)
+    && ((reached p.from_end && same_name p.to_end s)
+    || (reached p.to_end && same_name p.from_end s))
 
 -- whether a walk over at most n points that are not cut leads from the work section to s
 unfoldable pub reaches : List PointRow → List (List ℕ) → List ℕ → ℕ → List ℕ → Bool
 reaches points cut work zero s = same_name work s
-reaches points cut work (suc n) s = reaches points cut work n s || list_any (leads (reaches points cut work n) cut s) points
+reaches points cut work (suc n) s = reaches points cut work n s
+    || list_any (leads (reaches points cut work n) cut s) points
 
--- whether a section is in the fence of the work section, cut at these points; a walk that is longer than there are sections
--- leads nowhere that a shorter one does not
+-- whether a section is in the fence of the work section, cut at these points; a walk that is longer
+-- than there are sections leads nowhere that a shorter one does not
 unfoldable pub in_fence : Grid → List ℕ → List (List ℕ) → List ℕ → Bool
-in_fence g work cut s = has_name (section_names g.sections) work && reaches g.points cut work (length g.sections) s
+in_fence g work cut s = has_name (section_names g.sections) work
+    && reaches g.points cut work (length g.sections) s
 
--- a fence as contracts see it: the rows of its sections, and of the points with an end inside, in the order of names
+-- a fence as contracts see it: the rows of its sections, and of the points with an end inside, in
+-- the order of names
 pub record FenceRows : Type 0 where
   pub sections : List SectionRow
   pub touching : List PointRow
@@ -39,7 +46,8 @@ fence_has fence s = has_name (section_names fence.sections) s
 
 -- how many ends of a point lie inside a fence
 abbrev pub sides_of : FenceRows → PointRow → ℕ
-sides_of fence p = (if fence_has fence p.from_end then 1 else 0) + (if fence_has fence p.to_end then 1 else 0)
+sides_of fence p = (if fence_has fence p.from_end then 1 else 0)
+    + (if fence_has fence p.to_end then 1 else 0)
 
 -- whether a point stands on the border of a fence: exactly one of its ends lies inside
 abbrev pub is_on_border : FenceRows → PointRow → Bool

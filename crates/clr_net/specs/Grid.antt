@@ -24,8 +24,8 @@ has_ends sections p = has_name sections p.from_end && has_name sections p.to_end
 abbrev pub has_one_section : PointRow → Bool
 has_one_section p = same_name p.from_end p.to_end
 
--- the rows are a network within the limits: 1 to 5,000 sections, at most 10,000 points, no name twice, and each point
--- joins two different sections
+-- the rows are a network within the limits: 1 to 5,000 sections, at most 10,000 points, no name
+-- twice, and each point joins two different sections
 pub record IsNetwork (g : Grid) : Type 0 where
   pub some_section : 0 < length g.sections
   pub sections_fit : length g.sections ≤ 5000

@@ -1,5 +1,7 @@
--- The index of a network, by the places of its rows: the ends of each point, and the ways out of each section.
-use Rattle.std.specs.Prelude.{◌∷◌, ◌++◌, slice_set, ◌≡◌, ◌==◌, ◌<◌, ◌⊎◌, ℕ, Bool, false, List, [], Contains}
+-- The index of a network, by the places of its rows: the ends of each point, and the ways out of
+-- each section.
+use Rattle.std.specs.Prelude.{◌∷◌, ◌++◌, slice_set, ◌≡◌, ◌==◌, ◌<◌, ◌⊎◌, ℕ, Bool, false, List, []}
+use Rattle.std.specs.Prelude.{Contains}
 use Rattle.std.specs.List.{list_any, position_or_len, slice_index_or}
 use Rattle.clr_net.specs.Name.{same_name}
 use Rattle.clr_net.specs.declared.point.PointRow.{PointRow}
@@ -30,10 +32,15 @@ way k to = record { point = k; to = to }
 abbrev pub AreBelow : ℕ → Ends → Type 0
 AreBelow n e = (e.from < n) × (e.to < n)
 
--- each way leads over one of the first n points between its two ends, and each of these points is a way at both its ends
+-- each way leads over one of the first n points between its two ends, and each of these points is a
+-- way at both its ends
 pub record IsAround (ends : List Ends) (n : ℕ) (around : List (List Way)) : Type 0 where
-  pub real : (i : ℕ) (w : Way) → Contains (ways_at around i) w → (w.point < n) × ((ends_at ends w.point ≡ record { from = i; to = w.to }) ⊎ (ends_at ends w.point ≡ record { from = w.to; to = i }))
-  pub whole : (k : ℕ) → k < n → Contains (ways_at around (ends_at ends k).from) (way k (ends_at ends k).to) × Contains (ways_at around (ends_at ends k).to) (way k (ends_at ends k).from)
+  pub real : (i : ℕ) (w : Way) → Contains (ways_at around i) w → (w.point < n)
+      × ((ends_at ends w.point ≡ record { from = i; to = w.to })
+      ⊎ (ends_at ends w.point ≡ record { from = w.to; to = i }))
+  pub whole : (k : ℕ) → k < n
+      → Contains (ways_at around (ends_at ends k).from) (way k (ends_at ends k).to)
+      × Contains (ways_at around (ends_at ends k).to) (way k (ends_at ends k).from)
 
 -- whether a place is among these
 abbrev pub has_place : List ℕ → ℕ → Bool
@@ -42,7 +49,8 @@ has_place places i = list_any (λ place. i == place) places
 -- a walk over the places of sections, along ways over points whose places are not among the cuts
 pub data PlaceWalk (around : List (List Way)) (cuts : List ℕ) (start : ℕ) : ℕ → Type 0 where
   begins : (i : ℕ) → start ≡ i → PlaceWalk around cuts start i
-  follows : (i : ℕ) (w : Way) → PlaceWalk around cuts start i → Contains (ways_at around i) w → has_place cuts w.point ≡ false → PlaceWalk around cuts start w.to
+  follows : (i : ℕ) (w : Way) → PlaceWalk around cuts start i → Contains (ways_at around i) w
+      → has_place cuts w.point ≡ false → PlaceWalk around cuts start w.to
 
 -- each way leads to one of n sections over one of m points
 abbrev pub WaysFit : List (List Way) → ℕ → ℕ → Type 0

@@ -8,21 +8,28 @@ use Rattle.clr_net.specs.Fence.{in_fence}
 use Rattle.clr_net.specs.declared.section.SectionRow.{SectionRow}
 use Rattle.clr_net.specs.declared.point.PointRow.{PointRow}
 
--- a section is in the fence exactly where the work section is known and a walk leads from it over points that are not cut
+-- a section is in the fence exactly where the work section is known and a walk leads from it over
+-- points that are not cut
 abbrev pub FenceIsWalks : Type 0
 FenceIsWalks = (g : Grid) → IsNetwork g → (work : List ℕ) (cut : List (List ℕ)) (s : List ℕ)
-    → IsTrue (in_fence g work cut s) ↔ (IsTrue (has_name (section_names g.sections) work) × Walk g.points cut work s)
+    → IsTrue (in_fence g work cut s) ↔ (IsTrue (has_name (section_names g.sections) work)
+    × Walk g.points cut work s)
 
 -- the fence of a known section has it, and no point leaves the fence but those that are cut
 abbrev pub FenceIsClosed : Type 0
 FenceIsClosed = (g : Grid) → IsNetwork g → (work : List ℕ) (cut : List (List ℕ))
-    → (IsTrue (has_name (section_names g.sections) work) → IsTrue (in_fence g work cut work)) × IsClosed g.points cut (in_fence g work cut)
+    → (IsTrue (has_name (section_names g.sections) work) → IsTrue (in_fence g work cut work))
+    × IsClosed g.points cut (in_fence g work cut)
 
--- each set of sections that has the work section and that no point leaves but those that are cut, has the whole fence
+-- each set of sections that has the work section and that no point leaves but those that are cut,
+-- has the whole fence
 abbrev pub FenceIsLeast : Type 0
-FenceIsLeast = (g : Grid) → IsNetwork g → (work : List ℕ) (cut : List (List ℕ)) (inside : List ℕ → Bool) → IsTrue (inside work) → IsClosed g.points cut inside
+FenceIsLeast = (g : Grid) → IsNetwork g
+    → (work : List ℕ) (cut : List (List ℕ)) (inside : List ℕ → Bool) → IsTrue (inside work)
+    → IsClosed g.points cut inside
     → (s : List ℕ) → IsTrue (in_fence g work cut s) → IsTrue (inside s)
 
 -- rows of which there is a network have no fault
 abbrev pub NetworksHaveNoFault : Type 0
-NetworksHaveNoFault = (sections : List SectionRow) (points : List PointRow) (g : Grid) → IsGridOf sections points g → first_fault sections points ≡ None
+NetworksHaveNoFault = (sections : List SectionRow) (points : List PointRow) (g : Grid)
+    → IsGridOf sections points g → first_fault sections points ≡ None

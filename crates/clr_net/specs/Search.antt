@@ -1,5 +1,7 @@
--- The search of a fence, by places: which sections are marked and which wait to be looked at, what was found, and the points there.
-use Rattle.std.specs.Prelude.{◌≡◌, ◌<◌, ◌≤◌, ◌+◌, ◌*◌, ◌⊎◌, ◌↔◌, ℕ, Bool, true, false, not, List, [], ◌∷◌, ◌++◌, length, map, count_by, Contains}
+-- The search of a fence, by places: which sections are marked and which wait to be looked at, what
+-- was found, and the points there.
+use Rattle.std.specs.Prelude.{◌≡◌, ◌<◌, ◌≤◌, ◌+◌, ◌*◌, ◌⊎◌, ◌↔◌, ℕ, Bool, true, false, not, List}
+use Rattle.std.specs.Prelude.{[], ◌∷◌, ◌++◌, length, map, count_by, Contains}
 use Rattle.std.specs.List.{slice_index_or}
 use Rattle.clr_net.specs.Fence.{in_fence}
 use Rattle.clr_net.specs.Grid.{Grid, section_names}
@@ -13,31 +15,41 @@ is_marked marked i = slice_index_or marked i false
 
 -- found is exactly what a walk over points that are not cut leads to from the start
 abbrev pub Finds : List (List Way) → List ℕ → ℕ → List ℕ → Type 0
-Finds around cuts start found = (i : ℕ) → i < length around → (has_place found i ≡ true) ↔ PlaceWalk around cuts start i
+Finds around cuts start found = (i : ℕ) → i < length around
+    → (has_place found i ≡ true) ↔ PlaceWalk around cuts start i
 
 -- the work that is left: what waits, and twice what is not marked yet
 abbrev pub work_left : List Bool → List ℕ → ℕ
 work_left marked waiting = 2 * count_by not marked + length waiting
 
--- the ways over points that are not cut were followed: what they lead to is marked, and nothing else; what is newly marked waits
-pub record Follows (ways : List Way) (cuts : List ℕ) (old_marked : List Bool) (old_waiting : List ℕ) (marked : List Bool) (waiting : List ℕ) : Type 0 where
+-- the ways over points that are not cut were followed: what they lead to is marked, and nothing
+-- else; what is newly marked waits
+pub record Follows (ways : List Way) (cuts : List ℕ) (old_marked : List Bool) (old_waiting : List ℕ)
+    (marked : List Bool) (waiting : List ℕ) : Type 0 where
   pub kept : (i : ℕ) → is_marked old_marked i ≡ true → is_marked marked i ≡ true
-  pub led : (w : Way) → Contains ways w → has_place cuts w.point ≡ false → is_marked marked w.to ≡ true
-  pub sound : (i : ℕ) → is_marked marked i ≡ true → (is_marked old_marked i ≡ true) ⊎ ((w : Way) × Contains ways w × (has_place cuts w.point ≡ false) × (w.to ≡ i))
-  pub waits : (i : ℕ) → is_marked marked i ≡ true → (is_marked old_marked i ≡ true) ⊎ Contains waiting i
+  pub led : (w : Way) → Contains ways w → has_place cuts w.point ≡ false → is_marked marked w.to
+      ≡ true
+  pub sound : (i : ℕ) → is_marked marked i ≡ true → (is_marked old_marked i ≡ true)
+      ⊎ ((w : Way) × Contains ways w × (has_place cuts w.point ≡ false) × (w.to ≡ i))
+  pub waits : (i : ℕ) → is_marked marked i ≡ true → (is_marked old_marked i ≡ true)
+      ⊎ Contains waiting i
   pub still : (i : ℕ) → Contains old_waiting i → Contains waiting i
-  pub waiting_marked : (i : ℕ) → Contains waiting i → Contains old_waiting i ⊎ (is_marked marked i ≡ true)
+  pub waiting_marked : (i : ℕ) → Contains waiting i → Contains old_waiting i
+      ⊎ (is_marked marked i ≡ true)
   pub less : work_left marked waiting ≤ work_left old_marked old_waiting
 
 -- the places are those of the sections of the fence
 abbrev pub ListsFence : Grid → List ℕ → List (List ℕ) → List ℕ → Type 0
-ListsFence g work cut places = (i : ℕ) → i < length g.sections → has_place places i ≡ in_fence g work cut (slice_index_or (section_names g.sections) i [])
+ListsFence g work cut places = (i : ℕ) → i < length g.sections → has_place places i
+    ≡ in_fence g work cut (slice_index_or (section_names g.sections) i [])
 
 -- the places are those of the points that are cut
 abbrev pub ListsCut : List (List ℕ) → List (List ℕ) → List ℕ → Type 0
-ListsCut points cut places = (k : ℕ) → k < length points → has_place places k ≡ has_name cut (slice_index_or points k [])
+ListsCut points cut places = (k : ℕ) → k < length points → has_place places k
+    ≡ has_name cut (slice_index_or points k [])
 
 -- the places of the points over which ways lead out of these sections
 abbrev pub points_around : List (List Way) → List ℕ → List ℕ
 points_around around [] = []
-points_around around (i ∷ places) = map (λ w. w.point) (ways_at around i) ++ points_around around places
+points_around around (i ∷ places) = map (λ w. w.point) (ways_at around i)
+    ++ points_around around places

@@ -12,11 +12,11 @@ use crate::section::SectionRow;
 use std::alloc::{AllocError, Global};
 use std::marker::Model;
 
-/// The fence of a section: every section that can be reached from it over points that are not cut, whatever their
-/// positions, and the points with an end inside.
+/// The fence of a section: every section that can be reached from it over points that are not cut,
+/// whatever their positions, and the points with an end inside.
 ///
-/// An open point that is not cut is a way in, since it may be closed. Its origin is 29 CFR 1910.269(m)(3)(ii): all means
-/// through which known sources may supply the section.
+/// An open point that is not cut is a way in, since it may be closed. Its origin is 29 CFR
+/// 1910.269(m)(3)(ii): all means through which known sources may supply the section.
 #[derive(Debug, Drop)]
 pub struct Fence<'a> {
     sections: Vec<&'a SectionRow>,
@@ -43,7 +43,8 @@ impl<'a> Model for Fence<'a> {
 }
 
 impl<'a> Fence<'a> {
-    /// The fence that has these rows, each list in the order of names: one whose rows were lent apart from their network.
+    /// The fence that has these rows, each list in the order of names: one whose rows were lent
+    /// apart from their network.
     pub fn of_rows(sections: Vec<&'a SectionRow>, touching: Vec<&'a PointRow>) -> Self
         requires sections_rise { IsStrictlySortedBy name_cmp
             (section_names (map (λ row. row.now) sections.items)) }
@@ -80,7 +81,8 @@ impl<'a> Fence<'a> {
         place_of(&self.sections, *name).is_some()
     }
 
-    /// How many ends of a point lie inside: 0, 1 or 2. A point with exactly one stands on the border of the fence.
+    /// How many ends of a point lie inside: 0, 1 or 2. A point with exactly one stands on the
+    /// border of the fence.
     pub fn sides(&self, point: &PointRow) -> u8
         ensures { result ≡ sides_of self.now point.now }
     {

@@ -1,7 +1,9 @@
 //! Laws of the definitions: the contract of each function is the law, and its body is empty.
-ghost use Rattle.clr_net.specs.Laws.{FenceIsClosed, FenceIsLeast, FenceIsWalks, NetworksHaveNoFault};
+ghost use Rattle.clr_net.specs.Laws.{FenceIsClosed, FenceIsLeast, FenceIsWalks};
+ghost use Rattle.clr_net.specs.Laws.{NetworksHaveNoFault};
 
-/// A section is in the fence exactly where a walk from the work section leads to it over points that are not cut.
+/// A section is in the fence exactly where a walk from the work section leads to it over points
+/// that are not cut.
 pub fn fence_is_walks()
     ensures { FenceIsWalks }
 {}
@@ -11,7 +13,8 @@ pub fn fence_is_closed()
     ensures { FenceIsClosed }
 {}
 
-/// The fence is the least set that has the work section and that no point leaves but those that are cut.
+/// The fence is the least set that has the work section and that no point leaves but those that are
+/// cut.
 pub fn fence_is_least()
     ensures { FenceIsLeast }
 {}

@@ -1,5 +1,6 @@
 //! The name of a section, a switching point, an employee or a crew.
-ghost use Rattle.std.specs.Prelude.{◌≡◌, ◌↔◌, ◌==◌, IsOk, ℕ, List, IsTrue, length, Some, take, drop, refl};
+ghost use Rattle.std.specs.Prelude.{◌≡◌, ◌↔◌, ◌==◌, IsOk, ℕ, List, IsTrue, length, Some, take};
+ghost use Rattle.std.specs.Prelude.{drop, refl};
 ghost use Rattle.std.specs.Cmp.{partial_equiv_from_equiv};
 ghost use Rattle.std.proofs.lemmas.Cmp.{nat_list_eq_equiv, nat_list_cmp_total};
 ghost use Rattle.std.specs.Cmp.Lexicographic.{texts_po, texts_ties};
@@ -78,7 +79,8 @@ fn bad_byte(text: &[u8]) -> Option<usize>
 impl Name {
     /// Reads a name from a text.
     ///
-    /// The faults come in the order `Empty`, `TooLong`, `BadByte`; the last names the first such byte.
+    /// The faults come in the order `Empty`, `TooLong`, `BadByte`; the last names the first such
+    /// byte.
     pub fn read(text: &str) -> Result<Name, NameFault>
         ensures reads { result ≡ read_name text.now }
         ensures names { IsOk result ↔ IsTrue (is_name text.now) }

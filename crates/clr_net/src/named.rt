@@ -1,5 +1,6 @@
 //! Rows that go by a name: their order, the place of a name, and a name that stands twice.
-ghost use Rattle.std.specs.Prelude.{◌≡◌, ◌<◌, ℕ, List, find, length, map, position, IfOk, IfSome, IfNone, IsTrue};
+ghost use Rattle.std.specs.Prelude.{◌≡◌, ◌<◌, ℕ, List, find, length, map, position, IfOk, IfSome};
+ghost use Rattle.std.specs.Prelude.{IfNone, IsTrue};
 ghost use Rattle.std.specs.List.{IsDistinct};
 ghost use Rattle.std.specs.Option.{option_copied};
 ghost use Rattle.std.specs.List.Sorted.{IsPermutation, IsStrictlySortedBy, IsSortedByKey};

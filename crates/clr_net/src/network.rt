@@ -1,10 +1,12 @@
 //! The network: its sections and switching points, checked and in the order of their names.
-ghost use Rattle.std.specs.Prelude.{◌≡◌, ◌<◌, ◌≤◌, ℕ, List, false, find, length, not, position, IfOk, OnOk, IsTrue, All};
+ghost use Rattle.std.specs.Prelude.{◌≡◌, ◌<◌, ◌≤◌, ℕ, List, false, find, length, not, position};
+ghost use Rattle.std.specs.Prelude.{IfOk, OnOk, IsTrue, All};
 ghost use Rattle.std.specs.Option.{option_copied};
 ghost use Rattle.std.specs.List.{IsDistinct, list_all};
 ghost use Rattle.std.specs.List.Sorted.{IsPermutation, IsStrictlySortedBy};
 ghost use Rattle.clr_net.specs.Name.{name_cmp, same_name};
-ghost use Rattle.clr_net.specs.Grid.{Grid, IsNetwork, section_names, has_ends, has_one_section, point_names};
+ghost use Rattle.clr_net.specs.Grid.{Grid, IsNetwork, section_names, has_ends, has_one_section};
+ghost use Rattle.clr_net.specs.Grid.{point_names};
 ghost use Rattle.clr_net.specs.Network.{Builds, Passes, size_fault, twice_fault, end_fault};
 ghost use Rattle.clr_net.specs.Names.{has_name};
 ghost use Rattle.clr_net.specs.Fence.{fence_of};
@@ -108,8 +110,9 @@ impl Network {
         &self.points
     }
 
-    /// The fence of a section, cut at these points: what can be reached from it over the other points, whatever their
-    /// positions. A name that is no point cuts nothing; a section that the network does not have has an empty fence.
+    /// The fence of a section, cut at these points: what can be reached from it over the other
+    /// points, whatever their positions. A name that is no point cuts nothing; a section that the
+    /// network does not have has an empty fence.
     ///
     /// Locality: a network with the same rows at the fence has the same fence, whatever it has
     /// elsewhere (law `fences_are_local` of clr_rules, a part of what a holder may rely on).

@@ -11,7 +11,8 @@ pub enum Position {
 
 /// A switching point: in a network it joins two different sections.
 ///
-/// Its origin is 29 CFR 1910.269(m)(3)(ii) and (iii): the means through which a source may supply a section.
+/// Its origin is 29 CFR 1910.269(m)(3)(ii) and (iii): the means through which a source may supply a
+/// section.
 #[derive(Clone, Copy, Debug, PartialEq, Eq)]
 pub struct PointRow {
     pub name: Name,

@@ -1,5 +1,5 @@
-//! Which sections a walk over points that are not cut leads to: a search over the index. It looks at the ways out of the
-//! sections that it finds, and at no others.
+//! Which sections a walk over points that are not cut leads to: a search over the index. It looks
+//! at the ways out of the sections that it finds, and at no others.
 ghost use Rattle.std.specs.Prelude.{◌≡◌, ◌<◌, ◌++◌, ℕ, All, length, map, IfOk, OnOk, vec_len};
 ghost use Rattle.clr_net.specs.Index.{WaysFit, has_place};
 ghost use Rattle.clr_net.specs.Ways.{IsIndexOf, around_of};
@@ -100,7 +100,8 @@ fn has_place(places: &[usize], place: usize) -> bool
     places.binary_search(&place).is_ok()
 }
 
-/// The places of the sections that a walk over points that are not cut leads to from the section at `start`.
+/// The places of the sections that a walk over points that are not cut leads to from the section at
+/// `start`.
 fn reach(alloc: Global, ways: &Ways, cuts: &[usize], start: usize) -> Result<Vec<usize>, AllocError>
     requires start { start < vec_len ways.now.around }
     requires cuts { IsStrictlyIncreasing cuts.now }
@@ -120,7 +121,8 @@ fn reach(alloc: Global, ways: &Ways, cuts: &[usize], start: usize) -> Result<Vec
     Ok(found)
 }
 
-/// Marks the sections that ways over points that are not cut lead to, and lets those wait that were not marked before.
+/// Marks the sections that ways over points that are not cut lead to, and lets those wait that were
+/// not marked before.
 fn follow(
     ways: &[Way],
     cuts: &[usize],

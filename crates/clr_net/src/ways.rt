@@ -1,5 +1,6 @@
 //! The index of a network: the places of each point's ends, and the ways out of each section.
-ghost use Rattle.std.specs.Prelude.{◌≡◌, ◌<◌, ℕ, List, [], length, map, replicate, All, IfOk, OnOk, IfSome, IsTrue, is_some, vec_len};
+ghost use Rattle.std.specs.Prelude.{◌≡◌, ◌<◌, ℕ, List, [], length, map, replicate, All, IfOk, OnOk};
+ghost use Rattle.std.specs.Prelude.{IfSome, IsTrue, is_some, vec_len};
 ghost use Rattle.std.specs.List.{list_all};
 ghost use Rattle.std.specs.List.Sorted.{IsStrictlySortedBy};
 ghost use Rattle.clr_net.specs.Name.{name_cmp};

@@ -2,7 +2,8 @@
 use Rattle.std.specs.Prelude.{ℕ, Bool, true, false, List, [], ◌∷◌, codes, find, Option}
 use Rattle.std.specs.Str.{bytes_eq}
 use Rattle.clr_order.specs.declared.action.Action.{Action}
-use Rattle.clr_order.specs.declared.action.Action.TheVariants.{Open, Block, Control, Tag, Untag, Uncontrol, Unblock, Close, Leave}
+use Rattle.clr_order.specs.declared.action.Action.TheVariants.{Open, Block, Control, Tag, Untag}
+use Rattle.clr_order.specs.declared.action.Action.TheVariants.{Uncontrol, Unblock, Close, Leave}
 
 -- the action in capitals
 abbrev pub action_word : Action → List ℕ

@@ -7,7 +7,8 @@ abbrev pub fault_if : Bool → OrderFault → Option OrderFault → Option Order
 fault_if applies fault rest = if applies then Some fault else rest
 
 -- a refusal that names what was found, else the rest
-abbrev pub name_fault : (List ℕ → OrderFault) → Option (List ℕ) → Option OrderFault → Option OrderFault
+abbrev pub name_fault : (List ℕ → OrderFault) → Option (List ℕ) → Option OrderFault
+    → Option OrderFault
 name_fault fault None rest = rest
 name_fault fault (Some name) rest = Some (fault name)
 

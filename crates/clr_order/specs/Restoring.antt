@@ -1,5 +1,6 @@
 -- A restoring order undoes what stands at each point that the clearance holds open.
-use Rattle.std.specs.Prelude.{◌<◌, ◌≤◌, ℕ, Bool, true, not, ◌==◌, nat_lt, IsTrue, List, length, map, find, All, Option, None}
+use Rattle.std.specs.Prelude.{◌<◌, ◌≤◌, ℕ, Bool, true, not, ◌==◌, nat_lt, IsTrue, List, length, map}
+use Rattle.std.specs.Prelude.{find, All, Option, None}
 use Rattle.std.specs.Option.{option_map}
 use Rattle.clr_net.specs.Names.{has_name}
 use Rattle.clr_order.specs.Needed.{Undoes, undoes}
@@ -7,13 +8,15 @@ use Rattle.clr_order.specs.OrderFault.{fault_if, name_fault}
 use Rattle.clr_order.specs.Step.{Task, actions_at, stray_point}
 use Rattle.clr_order.specs.declared.held.Held.{Held}
 use Rattle.clr_order.specs.declared.order_fault.OrderFault.{OrderFault}
-use Rattle.clr_order.specs.declared.order_fault.OrderFault.TheVariants.{EmptyOrder, LongOrder, StepsWrong}
+use Rattle.clr_order.specs.declared.order_fault.OrderFault.TheVariants.{EmptyOrder, LongOrder}
+use Rattle.clr_order.specs.declared.order_fault.OrderFault.TheVariants.{StepsWrong}
 
 -- the points that are held open
 abbrev pub held_points : List Held → List (List ℕ)
 held_points held = map (λ h. h.point) held
 
--- the order restores these points: 1 to 256 steps, which undo the holds at each of them, and none elsewhere
+-- the order restores these points: 1 to 256 steps, which undo the holds at each of them, and none
+-- elsewhere
 pub record IsRestoring (held : List Held) (tasks : List Task) : Type 0 where
   pub some_step : 0 < length tasks
   pub steps_fit : length tasks ≤ 256

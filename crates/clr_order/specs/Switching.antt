@@ -1,14 +1,17 @@
 -- A switching order opens and closes points that are known, and holds none of them.
-use Rattle.std.specs.Prelude.{◌<◌, ◌≤◌, ℕ, not, ◌==◌, nat_lt, IsTrue, List, length, find, All, Option, None}
+use Rattle.std.specs.Prelude.{◌<◌, ◌≤◌, ℕ, not, ◌==◌, nat_lt, IsTrue, List, length, find, All}
+use Rattle.std.specs.Prelude.{Option, None}
 use Rattle.std.specs.Option.{option_map}
 use Rattle.clr_net.specs.Names.{has_name}
 use Rattle.clr_order.specs.Action.{is_switching}
 use Rattle.clr_order.specs.OrderFault.{fault_if, name_fault}
 use Rattle.clr_order.specs.Step.{Task, stray_point}
 use Rattle.clr_order.specs.declared.order_fault.OrderFault.{OrderFault}
-use Rattle.clr_order.specs.declared.order_fault.OrderFault.TheVariants.{EmptyOrder, LongOrder, StepsWrong, UnknownPoint}
+use Rattle.clr_order.specs.declared.order_fault.OrderFault.TheVariants.{EmptyOrder, LongOrder}
+use Rattle.clr_order.specs.declared.order_fault.OrderFault.TheVariants.{StepsWrong, UnknownPoint}
 
--- the order switches points among those that were found: 1 to 256 steps, each an Open or a Close at one of them
+-- the order switches points among those that were found: 1 to 256 steps, each an Open or a Close at
+-- one of them
 pub record IsSwitching (found : List (List ℕ)) (tasks : List Task) : Type 0 where
   pub some_step : 0 < length tasks
   pub steps_fit : length tasks ≤ 256

@@ -40,4 +40,5 @@ step_at (Some action) rest = step_of action (read_name rest)
 
 -- the action is what stands before the first blank, the point is what follows it
 abbrev pub read_step_text : List ℕ → Result Step StepFault
-read_step_text text = step_at (action_named (before_first is_blank text)) (after_first is_blank text)
+read_step_text text = step_at (action_named (before_first is_blank text))
+    (after_first is_blank text)

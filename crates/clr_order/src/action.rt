@@ -7,8 +7,8 @@ use std::fmt;
 
 /// What one step of an order does at a switching point.
 ///
-/// The first four isolate, the last five restore; a switch order has `Open` and `Close` alone. Their origin is
-/// 29 CFR 1910.269(m)(3)(ii), (iii), (xii) and (xiii).
+/// The first four isolate, the last five restore; a switch order has `Open` and `Close` alone.
+/// Their origin is 29 CFR 1910.269(m)(3)(ii), (iii), (xii) and (xiii).
 #[derive(Clone, Copy, Debug, PartialEq, Eq)]
 pub enum Action {
     /// Open the point.

@@ -1,6 +1,8 @@
 //! The check of an isolating order.
 ghost use Rattle.std.specs.Prelude.{◌≡◌, ◌↔◌, IsOk, map};
-ghost use Rattle.clr_order.specs.Isolating.{IsSoundWithin, has_repeat, isolating_fault, is_border_point, needed_at, off_border, source_inside, touching_row, wrong_point};
+ghost use Rattle.clr_order.specs.Isolating.{IsSoundWithin, has_repeat, isolating_fault};
+ghost use Rattle.clr_order.specs.Isolating.{is_border_point, needed_at, off_border, source_inside};
+ghost use Rattle.clr_order.specs.Isolating.{touching_row, wrong_point};
 ghost use Rattle.clr_order.specs.OrderFault.{answer_of};
 ghost use Rattle.clr_order.specs.Step.{actions_at, same_actions, stray_point, task};
 ghost use Rattle.std.specs.Option.{option_copied};
@@ -16,8 +18,8 @@ pub const MAX_ORDER_POINTS: usize = 64;
 
 /// Checks an order that isolates the sections of a fence at these points.
 ///
-/// The fence has to be that of the work section, cut at these points. Nothing outside it is looked at, so that a point
-/// that is unknown, one elsewhere and one inside are refused alike.
+/// The fence has to be that of the work section, cut at these points. Nothing outside it is looked
+/// at, so that a point that is unknown, one elsewhere and one inside are refused alike.
 pub fn check_isolating(fence: &Fence, points: &[Name], steps: &[Step]) -> Result<(), OrderFault>
     ensures sound { IsOk result ↔ IsSoundWithin fence.now points.now (map task steps.now) }
     ensures first { result ≡ answer_of (isolating_fault fence.now points.now (map task steps.now)) }

@@ -1,20 +1,25 @@
 //! Laws of the definitions: the contract of each function is the law, and its body is empty.
-ghost use Rattle.clr_order.specs.Laws.{EachPointIsMadeSafe, LeastSourceIsNamed, NothingIsUndone, OnlyStepTextsAreRead, RestoringOrdersAreAccepted, SoundOrdersAreAccepted, SoundOrdersIsolate, StepTextsAreRead, SwitchingOrdersAreAccepted, UndoingIsTested};
+ghost use Rattle.clr_order.specs.Laws.{EachPointIsMadeSafe, LeastSourceIsNamed, NothingIsUndone};
+ghost use Rattle.clr_order.specs.Laws.{OnlyStepTextsAreRead, RestoringOrdersAreAccepted};
+ghost use Rattle.clr_order.specs.Laws.{SoundOrdersAreAccepted, SoundOrdersIsolate};
+ghost use Rattle.clr_order.specs.Laws.{StepTextsAreRead, SwitchingOrdersAreAccepted};
+ghost use Rattle.clr_order.specs.Laws.{UndoingIsTested};
 
-/// No refusal of an isolating order applies exactly where the order is sound, over the fence that the network has when it
-/// is cut at the points of the order.
+/// No refusal of an isolating order applies exactly where the order is sound, over the fence that
+/// the network has when it is cut at the points of the order.
 pub fn sound_orders_are_accepted()
     ensures { SoundOrdersAreAccepted }
 {}
 
-/// A sound order leaves no way from a source to its work section but over points that it opens, makes inoperable where
-/// their design permits it, and tags.
+/// A sound order leaves no way from a source to its work section but over points that it opens,
+/// makes inoperable where their design permits it, and tags.
 pub fn sound_orders_isolate()
     ensures { SoundOrdersIsolate }
 {}
 
-/// Each point of an isolating order is opened and tagged, made inoperable where its design permits that, and tagged at its
-/// control where it is controlled from afar: 29 CFR 1910.269(m)(3)(ii), (iii).
+/// Each point of an isolating order is opened and tagged, made inoperable where its design permits
+/// that, and tagged at its control where it is controlled from afar: 29 CFR 1910.269(m)(3)(ii),
+/// (iii).
 pub fn each_point_is_made_safe()
     ensures { EachPointIsMadeSafe }
 {}

@@ -2,7 +2,8 @@
 use clr_net::Name;
 use thiserror::Error;
 
-/// Why an order is refused. The first reason in the order of the variants that a check asks about is answered.
+/// Why an order is refused. The first reason in the order of the variants that a check asks about
+/// is answered.
 #[derive(Clone, Copy, Debug, PartialEq, Eq, Error)]
 pub enum OrderFault {
     /// An isolating order has no points; a restoring or switching one has no steps.
@@ -17,11 +18,13 @@ pub enum OrderFault {
     /// The fence has a source, of which this is the least in the order of names.
     #[error("the source {0} lies inside the fence")]
     SourceInside(Name),
-    /// The first of the points that does not stand on the border of the fence: it is unknown, elsewhere or inside.
+    /// The first of the points that does not stand on the border of the fence: it is unknown,
+    /// elsewhere or inside.
     #[error("the point {0} does not stand on the border of the fence")]
     NotOnFence(Name),
-    /// The first point whose steps are not those that it has to have, else the point of the first step that stands
-    /// elsewhere; of a switch order the point of the first step that neither opens nor closes.
+    /// The first point whose steps are not those that it has to have, else the point of the first
+    /// step that stands elsewhere; of a switch order the point of the first step that neither opens
+    /// nor closes.
     #[error("the steps at the point {0} are wrong")]
     StepsWrong(Name),
     /// The point of the first step whose point was not found, in a switch order alone.

@@ -14,7 +14,8 @@ use crate::step::{MAX_STEPS, Step};
 use clr_net::Name;
 use std::mem;
 
-/// Checks an order that restores the points that a clearance holds open, in the order of their first appearance.
+/// Checks an order that restores the points that a clearance holds open, in the order of their
+/// first appearance.
 pub fn check_restoring(held: &[Held], steps: &[Step]) -> Result<(), OrderFault>
     ensures restoring { IsOk result ↔ IsRestoring held.now (map task steps.now) }
     ensures first { result ≡ answer_of (restoring_fault held.now (map task steps.now)) }

@@ -12,8 +12,8 @@ use crate::places;
 use crate::step::{MAX_STEPS, Step};
 use clr_net::{Name, PointRow};
 
-/// Checks an order that opens and closes points without holding them. `found` are the points of its steps that the network
-/// has, in any order.
+/// Checks an order that opens and closes points without holding them. `found` are the points of its
+/// steps that the network has, in any order.
 pub fn check_switching(found: &[&PointRow], steps: &[Step]) -> Result<(), OrderFault>
     ensures switching { IsOk result
         ↔ IsSwitching (point_names (map (λ row. row.now) found.now)) (map task steps.now) }

@@ -52,7 +52,8 @@ pub fn read_step_text(text: &str) -> Result<Step, StepFault>
     }
 }
 
-/// What stands before the first blank and what stands after it; where there is none, the text and nothing.
+/// What stands before the first blank and what stands after it; where there is none, the text and
+/// nothing.
 fn halves(text: &str) -> (&str, &str)
     ensures word { result.0.now ≡ before_first is_blank text.now }
     ensures name { result.1.now ≡ after_first is_blank text.now }

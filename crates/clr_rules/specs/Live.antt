@@ -1,8 +1,11 @@
--- LIVE SECTIONS: those to which a walk over closed points leads from a source.
-use Rattle.std.specs.Prelude.{ℕ, Bool, true, false, not, ◌&&◌, List, filter, Option, None, Some}
+-- LIVE SECTIONS: those to which closed points lead from a source; and the test of it that computes.
+use Rattle.std.specs.Prelude.{◌≡◌, ℕ, Bool, true, false, not, ◌&&◌, IsTrue, List, Contains, filter}
+use Rattle.std.specs.Prelude.{Option, None, Some}
 use Rattle.std.specs.List.{list_any}
 use Rattle.clr_net.specs.Fence.{in_fence}
 use Rattle.clr_net.specs.Grid.{Grid, point_names}
+use Rattle.clr_net.specs.Walk.{joins}
+use Rattle.clr_net.specs.declared.point.PointRow.{PointRow}
 use Rattle.clr_net.specs.declared.point.Position.{Position}
 use Rattle.clr_net.specs.declared.point.Position.TheVariants.{Opened, Closed}
 use Rattle.clr_net.specs.declared.section.SectionRow.{SectionRow}
@@ -18,6 +21,23 @@ is_shut (Some Closed) = true
 abbrev pub is_closed_point : List PointState → List ℕ → Bool
 is_closed_point states p = is_shut (position_of states p)
 
+-- a walk from a source, each point of which is closed
+pub data ClosedWalk (points : List PointRow) (states : List PointState) (source : List ℕ) : List ℕ
+    → Type 0 where
+  at_source : (s : List ℕ) → source ≡ s → ClosedWalk points states source s
+  over_closed : (p : PointRow) (a b : List ℕ) → ClosedWalk points states source a
+      → Contains points p → is_closed_point states p.name ≡ true → IsTrue (joins p a b)
+      → ClosedWalk points states source b
+
+-- A LIVE SECTION: closed points lead to it from a source
+abbrev pub IsLive : Grid → List PointState → List ℕ → Type 0
+IsLive g states s = (source : SectionRow) × Contains g.sections source × (source.source ≡ true)
+    × ClosedWalk g.points states source.name s
+
+-- The test of it. A walk over closed points is one that crosses no other point: what it reaches is
+-- the fence of its source, cut at the points that are not closed. LiveLaws has that it tests
+-- IsLive.
+
 -- the points that are not closed: over these nothing is fed
 unfoldable pub open_points : Grid → List PointState → List (List ℕ)
 open_points g states = filter (λ p. not (is_closed_point states p)) (point_names g.points)
@@ -26,6 +46,6 @@ open_points g states = filter (λ p. not (is_closed_point states p)) (point_name
 abbrev pub feeds : Grid → List PointState → List ℕ → SectionRow → Bool
 feeds g states s source = source.source && in_fence g source.name (open_points g states) s
 
--- whether a section is live
+-- whether a section is live, as a test
 unfoldable pub is_live : Grid → List PointState → List ℕ → Bool
 is_live g states s = list_any (feeds g states s) g.sections

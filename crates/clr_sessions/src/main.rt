@@ -1,5 +1,5 @@
-//! Replays the worked examples. Each session file has commands and the lines that have to come; the words of the command line name
-//! the sessions, in order.
+//! Replays the worked examples. Each session file has commands and the lines that have to come; the
+//! words of the command line name the sessions, in order.
 #![tactic(auto)]
 
 mod line;

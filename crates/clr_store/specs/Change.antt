@@ -1,5 +1,6 @@
 -- What statements make of the tables, inside a transaction.
-use Rattle.std.specs.Prelude.{◌≡◌, IsTrue, Result, MatchResult, if◌then◌else◌, ◌==◌, List, [], ◌∷◌, fold, map}
+use Rattle.std.specs.Prelude.{◌≡◌, IsTrue, Result, MatchResult, if◌then◌else◌, ◌==◌, List, [], ◌∷◌}
+use Rattle.std.specs.Prelude.{fold, map}
 use Rattle.std.specs.List.{AllByRecursion}
 use Rattle.sqlite.specs.Effect.{Database}
 use Rattle.sqlite.specs.Order.{Row}
@@ -10,7 +11,8 @@ use Rattle.clr_csv.specs.declared.employee.StaffRow.{StaffRow}
 use Rattle.clr_rules.specs.Register.{first_state}
 use Rattle.clr_tables.specs.Tables.{Tables, point_row, section_row, staff_row, version_row}
 use Rattle.clr_tables.specs.declared.table_name.TableName.{TableName}
-use Rattle.clr_tables.specs.declared.table_name.TableName.TheVariants.{Meta, Section, Point, Staff, Clearance, Step, Hold}
+use Rattle.clr_tables.specs.declared.table_name.TableName.TheVariants.{Meta, Section, Point, Staff}
+use Rattle.clr_tables.specs.declared.table_name.TableName.TheVariants.{Clearance, Step, Hold}
 use Rattle.clr_store.specs.Schema.{schema_of, tree_of}
 use Rattle.clr_store.specs.Stored.{Holds, IsInOrder, rows_in}
 use Rattle.clr_store.specs.declared.fault.StoreFault.{StoreFault}
@@ -39,16 +41,20 @@ pub record Changes (old new : State) (change : Tables → Tables) : Type 0 where
 
 -- a call inside a transaction makes the change, or fails; it commits nothing
 abbrev pub Steps : {X : Type 0} → State → State → (Tables → Tables) → Result X StoreFault → Type 0
-Steps old new change result = HasCleanDisk new → IsTrue old.in_transaction → MatchResult result (λ _. Changes old new change) (λ _. KeepsCommit old new)
+Steps old new change result = HasCleanDisk new → IsTrue old.in_transaction
+    → MatchResult result (λ _. Changes old new change) (λ _. KeepsCommit old new)
 
--- what the database has goes from one thing to another inside the transaction, and nothing is committed
+-- what the database has goes from one thing to another inside the transaction, and nothing is
+-- committed
 pub record Makes (old new : State) (From To : Database → Type 0) : Type 0 where
   pub inside : IsTrue new.in_transaction
   pub kept : KeepsCommit old new
   pub makes : From old.now → To new.now
 
-abbrev pub StepsTo : {X : Type 0} → State → State → (Database → Type 0) → (Database → Type 0) → Result X StoreFault → Type 0
-StepsTo old new From To result = HasCleanDisk new → IsTrue old.in_transaction → MatchResult result (λ _. Makes old new From To) (λ _. KeepsCommit old new)
+abbrev pub StepsTo : {X : Type 0} → State → State → (Database → Type 0) → (Database → Type 0)
+    → Result X StoreFault → Type 0
+StepsTo old new From To result = HasCleanDisk new → IsTrue old.in_transaction
+    → MatchResult result (λ _. Makes old new From To) (λ _. KeepsCommit old new)
 
 -- something that the tables tell is found, the tables stay, and nothing is committed
 pub record Finds {A : Type 0} (old new : State) (tells : Tables → A) (found : A) : Type 0 where
@@ -57,7 +63,8 @@ pub record Finds {A : Type 0} (old new : State) (tells : Tables → A) (found : 
   pub found_is : (t : Tables) → Holds old.now t → IsInOrder t → (found ≡ tells t) × Holds new.now t
 
 -- a call inside a transaction finds it, or fails; it commits nothing
-abbrev pub Lists : {A X : Type 0} → State → State → (Tables → A) → (X → A) → Result X StoreFault → Type 0
+abbrev pub Lists : {A X : Type 0} → State → State → (Tables → A) → (X → A) → Result X StoreFault
+    → Type 0
 Lists old new tells items result =
     HasCleanDisk new → IsTrue old.in_transaction
     → MatchResult result (λ listed. Finds old new tells (items listed)) (λ _. KeepsCommit old new)
@@ -79,4 +86,5 @@ opening_points points = map (λ p. point_row p (first_state p)) points
 abbrev pub filled : List SectionRow → List PointRow → List StaffRow → Tables → Tables
 filled sections points staff t =
     with_rows Staff (added (map staff_row staff)) (with_rows Point (added (opening_points points))
-    (with_rows Section (added (map section_row sections)) (with_rows Meta (λ rows. version_row 1 ∷ rows) t)))
+    (with_rows Section (added (map section_row sections))
+    (with_rows Meta (λ rows. version_row 1 ∷ rows) t)))

@@ -12,7 +12,8 @@ use Rattle.clr_tables.specs.declared.table_name.TableName.{TableName}
 use Rattle.clr_store.specs.Fault.{IsOfDatabase}
 use Rattle.clr_store.specs.Stored.{AreTables, HasTables}
 use Rattle.clr_store.specs.declared.fault.StoreFault.{StoreFault}
-use Rattle.clr_store.specs.declared.fault.StoreFault.TheVariants.{Sql, WrongVersion, BadRow, NoMemory}
+use Rattle.clr_store.specs.declared.fault.StoreFault.TheVariants.{Sql, WrongVersion, BadRow}
+use Rattle.clr_store.specs.declared.fault.StoreFault.TheVariants.{NoMemory}
 use Rattle.clr_store.specs.declared.rows.Rows.{Rows as Loaded}
 
 -- the connection is open, and what it shows is committed
@@ -21,14 +22,16 @@ IsSaved s = IsTrue s.is_open × (s.committed ≡ s.now)
 
 -- the trees have the tables with these edits made
 abbrev pub AreEdited : Database → List Edit → Trees → Type 0
-AreEdited before edits trees = (t : Tables) → HasTables before t → AreTables trees (tables_edited edits t)
+AreEdited before edits trees = (t : Tables) → HasTables before t
+    → AreTables trees (tables_edited edits t)
 
 -- whatever tables there were, they are now those with these edits made
 abbrev pub MakesEdits : Database → List Edit → Database → Type 0
-MakesEdits before edits after = (t : Tables) → HasTables before t → HasTables after (tables_edited edits t)
+MakesEdits before edits after = (t : Tables) → HasTables before t
+    → HasTables after (tables_edited edits t)
 
--- a call gives what is read, as `view` shows it, or the table with the row that does not read, unless the
--- database refuses or memory runs out
+-- a call gives what is read, as `view` shows it, or the table with the row that does not read,
+-- unless the database refuses or memory runs out
 abbrev pub Gives : {A X : Type 0} → (X → A) → Result A TableName → Result X StoreFault → Type 0
 Gives view read (Ok value) = read ≡ Ok (view value)
 Gives view read (Err (BadRow table)) = read ≡ Err table

@@ -1,7 +1,8 @@
 -- Faults of the database itself.
 use Rattle.std.specs.Prelude.{⊤}
 use Rattle.clr_store.specs.declared.fault.StoreFault.{StoreFault}
-use Rattle.clr_store.specs.declared.fault.StoreFault.TheVariants.{Sql, WrongVersion, BadRow, NoMemory}
+use Rattle.clr_store.specs.declared.fault.StoreFault.TheVariants.{Sql, WrongVersion, BadRow}
+use Rattle.clr_store.specs.declared.fault.StoreFault.TheVariants.{NoMemory}
 
 -- the database refused or failed, or memory ran out
 abbrev pub IsOfDatabase : StoreFault → Type 0

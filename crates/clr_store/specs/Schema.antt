@@ -12,11 +12,21 @@ use Rattle.sqlite_schema.specs.declared.schema.Column.{Column}
 use Rattle.sqlite_value.specs.Keys.{plain}
 use Rattle.clr_tables.specs.TableText.{table_text}
 use Rattle.clr_tables.specs.declared.table_name.TableName.{TableName}
-use Rattle.clr_tables.specs.declared.table_name.TableName.TheVariants.{Meta, Section, Point, Staff, Clearance, Step, Hold}
+use Rattle.clr_tables.specs.declared.table_name.TableName.TheVariants.{Meta, Section, Point, Staff}
+use Rattle.clr_tables.specs.declared.table_name.TableName.TheVariants.{Clearance, Step, Hold}
 
 -- a column of a STRICT table that has to have a value, and one that may be NULL
 abbrev pub column_of : Bool → List ℕ → Kind → Column
-column_of not_null name kind = record { name = name; kind = kind; is_strict = true; not_null = not_null; default = Null; collation = Binary }
+column_of not_null name kind =
+    record {
+      name = name;
+      kind = kind;
+      is_strict = true;
+      not_null = not_null;
+      default =
+          Null;
+      collation = Binary;
+    }
 
 abbrev pub needed : List ℕ → Kind → Column
 needed = column_of true
@@ -58,18 +68,25 @@ abbrev pub columns_in : TableName → List Column
 columns_in Meta = needed (codes "name") Text ∷ needed (codes "value") Integer ∷ []
 columns_in Section = needed (codes "name") Text ∷ needed (codes "source") Integer ∷ []
 columns_in Point =
-    needed (codes "name") Text ∷ needed (codes "from_end") Text ∷ needed (codes "to_end") Text ∷ needed (codes "lockable") Integer
-    ∷ needed (codes "remote") Integer ∷ needed (codes "position") Integer ∷ or_null (codes "hand_requester") Text
+    needed (codes "name") Text ∷ needed (codes "from_end") Text ∷ needed (codes "to_end") Text
+    ∷ needed (codes "lockable") Integer
+    ∷ needed (codes "remote") Integer ∷ needed (codes "position") Integer
+    ∷ or_null (codes "hand_requester") Text
     ∷ or_null (codes "hand_number") Integer ∷ []
-columns_in Staff = needed (codes "name") Text ∷ needed (codes "role") Text ∷ or_null (codes "supervisor") Text ∷ []
+columns_in Staff = needed (codes "name") Text ∷ needed (codes "role") Text
+    ∷ or_null (codes "supervisor") Text ∷ []
 columns_in Clearance =
-    needed (codes "requester") Text ∷ needed (codes "number") Integer ∷ needed (codes "holder") Text ∷ or_null (codes "work") Text
+    needed (codes "requester") Text ∷ needed (codes "number") Integer ∷ needed (codes "holder") Text
+    ∷ or_null (codes "work") Text
     ∷ needed (codes "phase") Text ∷ needed (codes "last_at") Integer ∷ []
 columns_in Step =
-    needed (codes "requester") Text ∷ needed (codes "number") Integer ∷ needed (codes "round") Integer ∷ needed (codes "ordinal") Integer
-    ∷ needed (codes "action") Text ∷ needed (codes "point") Text ∷ needed (codes "state") Text ∷ or_null (codes "reader") Text ∷ []
+    needed (codes "requester") Text ∷ needed (codes "number") Integer
+    ∷ needed (codes "round") Integer ∷ needed (codes "ordinal") Integer
+    ∷ needed (codes "action") Text ∷ needed (codes "point") Text ∷ needed (codes "state") Text
+    ∷ or_null (codes "reader") Text ∷ []
 columns_in Hold =
-    needed (codes "kind") Text ∷ needed (codes "place") Text ∷ needed (codes "requester") Text ∷ needed (codes "number") Integer ∷ []
+    needed (codes "kind") Text ∷ needed (codes "place") Text ∷ needed (codes "requester") Text
+    ∷ needed (codes "number") Integer ∷ []
 
 -- the first columns, which a database counts from 1
 abbrev pub first_columns : ℕ → ℕ → List ℕ
@@ -109,7 +126,8 @@ names_before Hold = Meta ∷ Section ∷ Point ∷ Staff ∷ Clearance ∷ Step 
 abbrev pub schema_of : List TableName → Schema
 schema_of names = record {
   tables = map table_of names;
-  indexes = flat_map (λ name. automatics (table_of name) 0 (tree_of name + 1) (first_columns 1 (keys_in name) ∷ [])) names;
+  indexes = flat_map (λ name.
+      automatics (table_of name) 0 (tree_of name + 1) (first_columns 1 (keys_in name) ∷ [])) names;
   views = [];
 }
 

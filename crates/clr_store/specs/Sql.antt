@@ -1,11 +1,13 @@
 -- The statements, as texts.
 use Rattle.std.specs.Prelude.{ℕ, List, codes}
 use Rattle.clr_tables.specs.declared.table_name.TableName.{TableName}
-use Rattle.clr_tables.specs.declared.table_name.TableName.TheVariants.{Meta, Section, Point, Staff, Clearance, Step, Hold}
+use Rattle.clr_tables.specs.declared.table_name.TableName.TheVariants.{Meta, Section, Point, Staff}
+use Rattle.clr_tables.specs.declared.table_name.TableName.TheVariants.{Clearance, Step, Hold}
 
 abbrev pub create_sql : TableName → List ℕ
 create_sql Meta = codes "CREATE TABLE meta (name TEXT NOT NULL, value INTEGER NOT NULL, PRIMARY KEY (name)) STRICT"
-create_sql Section = codes "CREATE TABLE section (name TEXT NOT NULL, source INTEGER NOT NULL, PRIMARY KEY (name)) STRICT"
+create_sql Section = codes
+    "CREATE TABLE section (name TEXT NOT NULL, source INTEGER NOT NULL, PRIMARY KEY (name)) STRICT"
 create_sql Point =
     codes "CREATE TABLE point (name TEXT NOT NULL, from_end TEXT NOT NULL, to_end TEXT NOT NULL, lockable INTEGER NOT NULL, remote INTEGER NOT NULL, position INTEGER NOT NULL, hand_requester TEXT, hand_number INTEGER, PRIMARY KEY (name)) STRICT"
 create_sql Staff = codes "CREATE TABLE staff (name TEXT NOT NULL, role TEXT NOT NULL, supervisor TEXT, PRIMARY KEY (name)) STRICT"

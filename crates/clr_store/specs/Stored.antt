@@ -1,5 +1,6 @@
 -- WHAT A DATABASE HOLDS: the tables of a register, each row once, in any order.
-use Rattle.std.specs.Prelude.{◌≡◌, ℕ, Bool, true, false, ◌&&◌, ◌==◌, length, List, [], ◌∷◌, map, drop, take}
+use Rattle.std.specs.Prelude.{◌≡◌, ℕ, Bool, true, false, ◌&&◌, ◌==◌, length, List, [], ◌∷◌, map}
+use Rattle.std.specs.Prelude.{drop, take}
 use Rattle.std.specs.List.{list_all}
 use Rattle.std.specs.List.Sorted.{IsPermutation}
 use Rattle.sqlite.specs.Effect.{Database}
@@ -15,7 +16,8 @@ use Rattle.sqlite_trees.specs.declared.store.Shape.TheVariants.{Table}
 use Rattle.clr_shelf.specs.Rows.{in_key_order}
 use Rattle.clr_tables.specs.Tables.{Tables}
 use Rattle.clr_tables.specs.declared.table_name.TableName.{TableName}
-use Rattle.clr_tables.specs.declared.table_name.TableName.TheVariants.{Meta, Section, Point, Staff, Clearance, Step, Hold}
+use Rattle.clr_tables.specs.declared.table_name.TableName.TheVariants.{Meta, Section, Point, Staff}
+use Rattle.clr_tables.specs.declared.table_name.TableName.TheVariants.{Clearance, Step, Hold}
 use Rattle.clr_store.specs.Schema.{columns_in, keys_in, register_schema, tree_of}
 
 -- the rows of a table
@@ -63,11 +65,13 @@ pub record HasRows (columns : List Column) (tree rows : List Row) : Type 0 where
 
 -- each list of rows stands in the order of its key
 abbrev pub IsInOrder : Tables → Type 0
-IsInOrder t = (name : TableName) → in_key_order row_cmp (take (keys_in name)) (rows_in name t) ≡ true
+IsInOrder t = (name : TableName) → in_key_order row_cmp (take (keys_in name)) (rows_in name t)
+    ≡ true
 
 -- the trees have these rows
 abbrev pub HasAllRows : Trees → Tables → Type 0
-HasAllRows trees t = (name : TableName) → HasRows (columns_in name) (trees (tree_of name)) (rows_in name t)
+HasAllRows trees t = (name : TableName)
+    → HasRows (columns_in name) (trees (tree_of name)) (rows_in name t)
 
 -- the database has the tables of the register alone, with these rows
 pub record Holds (db : Database) (t : Tables) : Type 0 where

@@ -1,5 +1,6 @@
 -- WHAT TABLES READ AS: the rows of a register, or the first table with a row that does not read.
-use Rattle.std.specs.Prelude.{ℕ, ◌+◌, ℤ, pos, ◌==◌, nat_le, Bool, true, false, if◌then◌else◌, List, [], ◌∷◌, map, find, codes, Option, None, Some, ok_or, Result, Ok, Err}
+use Rattle.std.specs.Prelude.{ℕ, ◌+◌, ℤ, pos, ◌==◌, nat_le, Bool, true, false, if◌then◌else◌, List}
+use Rattle.std.specs.Prelude.{[], ◌∷◌, map, find, codes, Option, None, Some, ok_or, Result, Ok, Err}
 use Rattle.std.specs.Str.{bytes_eq}
 use Rattle.sqlite.specs.Order.{Row, column}
 use Rattle.sqlite.specs.declared.types.Value.{Value}
@@ -133,7 +134,15 @@ read_point row = do
   position ← position_at table.Point 5 row
   hand ← hand_at row
   Ok (record {
-    point = record { name = name; from_end = from_end; to_end = to_end; lockable = lockable; remote = remote; position = position };
+    point = record {
+      name = name;
+      from_end = from_end;
+      to_end = to_end;
+      lockable =
+          lockable;
+      remote = remote;
+      position = position;
+    };
     state = record { point = name; position = position; hand = hand };
   })
 
@@ -163,7 +172,13 @@ read_step row = do
   point ← name_at table.Step 5 row
   state ← word_at state_named table.Step 6 row
   reader ← name_or_none_at table.Step 7 row
-  Ok (record { id = id; round = round; ordinal = ordinal; step = record { action = action; point = point; state = state; reader = reader } })
+  Ok (record {
+    id = id;
+    round = round;
+    ordinal = ordinal;
+    step =
+        record { action = action; point = point; state = state; reader = reader };
+  })
 
 unfoldable pub read_hold : Row → Result Hold TableName
 read_hold row = do
@@ -175,7 +190,8 @@ read_hold row = do
 -- ---- tables
 
 -- all rows of a table
-unfoldable pub all_read : {A : Type 0} → (Row → Result A TableName) → List Row → Result (List A) TableName
+unfoldable pub all_read : {A : Type 0} → (Row → Result A TableName) → List Row
+    → Result (List A) TableName
 all_read read [] = Ok []
 all_read read (row ∷ rows) = do
   first ← read row
@@ -210,7 +226,8 @@ pub record Rows : Type 0 where
   pub steps : List StepRow
   pub holds : List Hold
 
--- THE ROWS THAT TABLES SAY, where a point reads so; else the first table with a row that does not read
+-- THE ROWS THAT TABLES SAY, where a point reads so; else the first table with a row that does not
+-- read
 unfoldable pub rows_by : (Row → Result PointRead TableName) → Tables → Result Rows TableName
 rows_by read t = do
   version ← read_version t.meta

@@ -1,4 +1,5 @@
--- WHAT EDITS DO TO TABLES, of any content. To put a row is to replace the row of its key; all other rows stay.
+-- WHAT EDITS DO TO TABLES, of any content. To put a row is to replace the row of its key; all other
+-- rows stay.
 use Rattle.std.specs.Prelude.{ℕ, if◌then◌else◌, List, [], ◌∷◌, map, take, slice_set, Option}
 use Rattle.std.specs.Ordering.{is_eq}
 use Rattle.sqlite.specs.Order.{Row, column, row_cmp}
@@ -7,8 +8,10 @@ use Rattle.clr_net.specs.declared.point.Position.{Position}
 use Rattle.clr_shelf.specs.Rows.{with_row, without_row}
 use Rattle.clr_rules.specs.Id.{Id}
 use Rattle.clr_rules.specs.declared.change.Edit.{Edit}
-use Rattle.clr_rules.specs.declared.change.Edit.TheVariants.{SetPosition, SetHand, PutHold, TakeHold, PutRecord, PutStep}
-use Rattle.clr_tables.specs.Tables.{Tables, clearance_row, hand_values, hold_row, position_value, step_row}
+use Rattle.clr_rules.specs.declared.change.Edit.TheVariants.{SetPosition, SetHand, PutHold}
+use Rattle.clr_rules.specs.declared.change.Edit.TheVariants.{TakeHold, PutRecord, PutStep}
+use Rattle.clr_tables.specs.Tables.{Tables, clearance_row, hand_values, hold_row, position_value}
+use Rattle.clr_tables.specs.Tables.{step_row}
 
 -- a row put into a table whose key is its first columns, so many
 abbrev pub with_table_row : ℕ → Row → List Row → List Row
@@ -20,21 +23,26 @@ without_table_row keys key rows = without_row row_cmp (take keys) key rows
 
 -- the row of a point changed, in the table of points
 abbrev pub changed_point : List ℕ → (Row → Row) → List Row → List Row
-changed_point point change rows = map (λ row. if is_eq (row_cmp (take 1 row) (Text point ∷ [])) then change row else row) rows
+changed_point point change rows =
+    map (λ row. if is_eq (row_cmp (take 1 row) (Text point ∷ [])) then change row else row) rows
 
 -- the columns position, hand_requester and hand_number of a point
 abbrev pub placed_row : Position → Row → Row
 placed_row position row = slice_set row 5 (position_value position)
 
 abbrev pub handed_row : Option Id → Row → Row
-handed_row hand row = slice_set (slice_set row 6 (column (hand_values hand) 0)) 7 (column (hand_values hand) 1)
+handed_row hand row = slice_set (slice_set row 6 (column (hand_values hand) 0)) 7
+    (column (hand_values hand) 1)
 
 abbrev pub table_edited : Edit → Tables → Tables
-table_edited (SetPosition point position) t = record t { points = changed_point point (placed_row position) t.points }
-table_edited (SetHand point hand) t = record t { points = changed_point point (handed_row hand) t.points }
+table_edited (SetPosition point position) t =
+    record t { points = changed_point point (placed_row position) t.points }
+table_edited (SetHand point hand) t =
+    record t { points = changed_point point (handed_row hand) t.points }
 table_edited (PutHold h) t = record t { holds = with_table_row 4 (hold_row h) t.holds }
 table_edited (TakeHold h) t = record t { holds = without_table_row 4 (hold_row h) t.holds }
-table_edited (PutRecord r) t = record t { clearances = with_table_row 2 (clearance_row r) t.clearances }
+table_edited (PutRecord r) t =
+    record t { clearances = with_table_row 2 (clearance_row r) t.clearances }
 table_edited (PutStep row) t = record t { steps = with_table_row 4 (step_row row) t.steps }
 
 -- the edits, one after the other

@@ -13,7 +13,8 @@ use Rattle.clr_rules.specs.declared.command.Command.{Command}
 use Rattle.clr_tables.specs.RowsRead.{Rows, rows_of, rows_read}
 use Rattle.clr_tables.specs.TableEdits.{tables_edited}
 use Rattle.clr_tables.specs.Tables.{tables_of}
-use Rattle.clr_tables.specs.TypedRows.{IsTyped, is_typed_command, is_typed_employee, is_typed_point, is_typed_section}
+use Rattle.clr_tables.specs.TypedRows.{IsTyped, is_typed_command, is_typed_employee, is_typed_point}
+use Rattle.clr_tables.specs.TypedRows.{is_typed_section}
 
 -- the points of the network are those that have a state, as in every good register
 abbrev pub StatesAreThePoints : Register → Type 0
@@ -25,20 +26,24 @@ SameTablesSameRegister = (R S : Register) → IsGood R → IsGood S → tables_o
 
 -- THE TABLES OF A REGISTER READ AS ITS ROWS, where each value is of its type,
 abbrev pub TablesAreRead : Type 0
-TablesAreRead = (R : Register) → StatesAreThePoints R → ListsAreInOrder R → IsTyped R → rows_read (tables_of R) ≡ Ok (rows_of R)
+TablesAreRead = (R : Register) → StatesAreThePoints R → ListsAreInOrder R → IsTyped R
+    → rows_read (tables_of R) ≡ Ok (rows_of R)
 
 -- as in an opening register of rows that are so,
 abbrev pub OpeningsAreTyped : Type 0
-OpeningsAreTyped = (g : Grid) (staff : List StaffRow) → IsTrue (list_all is_typed_section g.sections) → IsTrue (list_all is_typed_point g.points)
+OpeningsAreTyped = (g : Grid) (staff : List StaffRow)
+    → IsTrue (list_all is_typed_section g.sections) → IsTrue (list_all is_typed_point g.points)
     → IsTrue (list_all is_typed_employee staff) → IsTyped (opening g staff)
 
 -- and after commands whose values are so;
 abbrev pub CommandsKeepTyped : Type 0
-CommandsKeepTyped = (R : Register) (q : Command) → IsTyped R → IsTrue (is_typed_command q) → IsTyped (after R q)
+CommandsKeepTyped = (R : Register) (q : Command) → IsTyped R → IsTrue (is_typed_command q)
+    → IsTyped (after R q)
 
 -- and as no other rows, whatever the values
 abbrev pub TablesReadAsNoOthers : Type 0
-TablesReadAsNoOthers = (R : Register) (rows : Rows) → StatesAreThePoints R → ListsAreInOrder R → rows_read (tables_of R) ≡ Ok rows → rows ≡ rows_of R
+TablesReadAsNoOthers = (R : Register) (rows : Rows) → StatesAreThePoints R → ListsAreInOrder R
+    → rows_read (tables_of R) ≡ Ok rows → rows ≡ rows_of R
 
 -- THE TABLES OF THE EDITED REGISTER are the edited tables
 abbrev pub TablesFollowEdits : Type 0

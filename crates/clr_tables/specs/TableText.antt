@@ -1,7 +1,8 @@
 -- The names of the tables.
 use Rattle.std.specs.Prelude.{ℕ, List, codes}
 use Rattle.clr_tables.specs.declared.table_name.TableName.{TableName}
-use Rattle.clr_tables.specs.declared.table_name.TableName.TheVariants.{Meta, Section, Point, Staff, Clearance, Step, Hold}
+use Rattle.clr_tables.specs.declared.table_name.TableName.TheVariants.{Meta, Section, Point, Staff}
+use Rattle.clr_tables.specs.declared.table_name.TableName.TheVariants.{Clearance, Step, Hold}
 
 abbrev pub table_text : TableName → List ℕ
 table_text Meta = codes "meta"

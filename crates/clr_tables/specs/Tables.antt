@@ -1,6 +1,7 @@
--- THE TABLES OF A REGISTER: seven lists of rows, each in the order of its key, which is what its first columns say. A row is the
--- list of its values.
-use Rattle.std.specs.Prelude.{ℕ, pos, Bool, true, false, List, [], ◌∷◌, ◌++◌, map, codes, Option, None, Some, unwrap_or}
+-- THE TABLES OF A REGISTER: seven lists of rows, each in the order of its key, which is what its
+-- first columns say. A row is the list of its values.
+use Rattle.std.specs.Prelude.{ℕ, pos, Bool, true, false, List, [], ◌∷◌, ◌++◌, map, codes, Option}
+use Rattle.std.specs.Prelude.{None, Some, unwrap_or}
 use Rattle.sqlite.specs.Order.{Row}
 use Rattle.sqlite.specs.declared.types.Value.{Value}
 use Rattle.sqlite.specs.declared.types.Value.TheVariants.{Null, Int, Text}
@@ -70,25 +71,29 @@ section_row s = Text s.name ∷ flag_value s.source ∷ []
 -- a switching point, as the network has it and as it stands now
 abbrev pub point_row : PointRow → PointState → Row
 point_row p state =
-    Text p.name ∷ Text p.from_end ∷ Text p.to_end ∷ flag_value p.lockable ∷ flag_value p.remote ∷ position_value state.position ∷ hand_values state.hand
+    Text p.name ∷ Text p.from_end ∷ Text p.to_end ∷ flag_value p.lockable ∷ flag_value p.remote
+    ∷ position_value state.position ∷ hand_values state.hand
 
 abbrev pub staff_row : StaffRow → Row
 staff_row e = Text e.name ∷ Text (role_word e.role) ∷ name_or_null e.supervisor ∷ []
 
 abbrev pub clearance_row : Record → Row
-clearance_row r = id_values r.id ++ Text r.holder ∷ name_or_null r.work ∷ Text (phase_text r.phase) ∷ number_value r.last ∷ []
+clearance_row r = id_values r.id ++ Text r.holder ∷ name_or_null r.work ∷ Text (phase_text r.phase)
+    ∷ number_value r.last ∷ []
 
 abbrev pub step_row : StepRow → Row
 step_row row =
     let step = StepRow.step row in
     id_values row.id
-    ++ number_value row.round ∷ number_value row.ordinal ∷ Text (action_name step.action) ∷ Text step.point ∷ Text (state_name step.state)
+    ++ number_value row.round ∷ number_value row.ordinal ∷ Text (action_name step.action)
+    ∷ Text step.point ∷ Text (state_name step.state)
     ∷ name_or_null step.reader ∷ []
 
 abbrev pub hold_row : Hold → Row
 hold_row h = Text (hold_kind_text h.kind) ∷ Text h.place ∷ id_values h.id
 
--- A VERSION OF THE TABLES: its number, and how it has a switching point. All else is the same in every version.
+-- A VERSION OF THE TABLES: its number, and how it has a switching point. All else is the same in
+-- every version.
 pub record Version : Type 0 where
   pub number : ℕ
   pub of_point : PointRow → PointState → Row
@@ -96,7 +101,8 @@ pub record Version : Type 0 where
 abbrev pub version_one : Version
 version_one = record { number = 1; of_point = point_row }
 
--- how a point stands. One without a state, which no register that is reached has, stands as before the first command
+-- how a point stands. One without a state, which no register that is reached has, stands as before
+-- the first command
 abbrev pub state_at : List PointState → PointRow → PointState
 state_at states p = unwrap_or (state_of states p.name) (first_state p)
 

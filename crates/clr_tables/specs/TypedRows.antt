@@ -1,4 +1,5 @@
--- Values within their types: what the program's own values always are, and what a row has to be to be read back.
+-- Values within their types: what the program's own values always are, and what a row has to be to
+-- be read back.
 use Rattle.std.specs.Prelude.{ℕ, nat_le, Bool, true, ◌&&◌, IsTrue, List, Option, None, Some}
 use Rattle.std.specs.List.{list_all}
 use Rattle.clr_net.specs.Grid.{Grid}
@@ -12,7 +13,10 @@ use Rattle.clr_rules.specs.Moment.{is_moment}
 use Rattle.clr_rules.specs.Register.{Register}
 use Rattle.clr_rules.specs.declared.command.Command.{Command}
 use Rattle.clr_rules.specs.declared.command.Kind.{Kind}
-use Rattle.clr_rules.specs.declared.command.Kind.TheVariants.{Request, Order, Instruct, Repeat, Report, Grant, Test, Ground, Unground, SignOn, SignOff, Transfer, Release, Cancel, Restore, Amend, Switch, Show}
+use Rattle.clr_rules.specs.declared.command.Kind.TheVariants.{Request, Order, Instruct, Repeat}
+use Rattle.clr_rules.specs.declared.command.Kind.TheVariants.{Report, Grant, Test, Ground, Unground}
+use Rattle.clr_rules.specs.declared.command.Kind.TheVariants.{SignOn, SignOff, Transfer, Release}
+use Rattle.clr_rules.specs.declared.command.Kind.TheVariants.{Cancel, Restore, Amend, Switch, Show}
 use Rattle.clr_rules.specs.declared.hold.Hold.{Hold}
 use Rattle.clr_rules.specs.declared.point_state.PointState.{PointState}
 use Rattle.clr_rules.specs.declared.record.Record.{Record}
@@ -45,7 +49,9 @@ is_typed_record r = is_id r.id && (is_name r.holder && (is_name_or_none r.work &
 
 abbrev pub is_typed_step : StepRow → Bool
 is_typed_step row =
-    is_id row.id && (nat_le row.round 255 && (nat_le row.ordinal 65535 && (is_name row.step.point && is_name_or_none row.step.reader)))
+    is_id row.id && (nat_le row.round 255
+    && (nat_le row.ordinal 65535
+    && (is_name row.step.point && is_name_or_none row.step.reader)))
 
 abbrev pub is_typed_hold : Hold → Bool
 is_typed_hold h = is_name h.place && is_id h.id
@@ -56,7 +62,8 @@ is_typed_task t = is_name t.point
 -- each value of a command is of its type
 abbrev pub is_typed_kind : Kind → Bool
 is_typed_kind (Request section) = is_name section
-is_typed_kind (Order c points tasks) = is_id c && (list_all is_name points && list_all is_typed_task tasks)
+is_typed_kind (Order c points tasks) = is_id c
+    && (list_all is_name points && list_all is_typed_task tasks)
 is_typed_kind (Instruct c n) = is_id c
 is_typed_kind (Repeat c n text) = is_id c
 is_typed_kind (Report c n done) = is_id c

@@ -1,10 +1,12 @@
--- The words that tables have for actions, states of steps and roles. Phases and kinds of holds have theirs from the rules.
+-- The words that tables have for actions, states of steps and roles. Phases and kinds of holds have
+-- theirs from the rules.
 use Rattle.std.specs.Prelude.{ℕ, List, [], ◌∷◌, codes, find, Option}
 use Rattle.std.specs.Str.{bytes_eq}
 use Rattle.clr_csv.specs.declared.employee.Role.{Role}
 use Rattle.clr_csv.specs.declared.employee.Role.TheVariants.{Operator, Field, Charge}
 use Rattle.clr_order.specs.declared.action.Action.{Action}
-use Rattle.clr_order.specs.declared.action.Action.TheVariants.{Open, Block, Control, Tag, Untag, Uncontrol, Unblock, Close, Leave}
+use Rattle.clr_order.specs.declared.action.Action.TheVariants.{Open, Block, Control, Tag, Untag}
+use Rattle.clr_order.specs.declared.action.Action.TheVariants.{Uncontrol, Unblock, Close, Leave}
 use Rattle.clr_order.specs.Action.{all_actions}
 use Rattle.clr_order.specs.declared.step.StepState.{StepState}
 use Rattle.clr_order.specs.declared.step.StepState.TheVariants.{Waiting, Instructed, Repeated, Done}

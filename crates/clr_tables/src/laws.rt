@@ -1,5 +1,7 @@
 //! Laws of the definitions: the contract of each function is the law, and its body is empty.
-ghost use Rattle.clr_tables.specs.TableLaws.{CommandsKeepTyped, OpeningsAreTyped, SameTablesSameRegister, TablesAreRead, TablesFollowEdits, TablesReadAsNoOthers};
+ghost use Rattle.clr_tables.specs.TableLaws.{CommandsKeepTyped, OpeningsAreTyped};
+ghost use Rattle.clr_tables.specs.TableLaws.{SameTablesSameRegister, TablesAreRead};
+ghost use Rattle.clr_tables.specs.TableLaws.{TablesFollowEdits, TablesReadAsNoOthers};
 
 /// Good registers that have the same tables are the same.
 pub fn same_tables_same_register()
@@ -17,8 +19,9 @@ pub fn tables_are_read()
     ensures no_others { TablesReadAsNoOthers }
 {}
 
-/// In an opening register of rows within their types each value is of its type, and it stays so after commands whose values
-/// are: so the tables of every register that the program reaches can be read.
+/// In an opening register of rows within their types each value is of its type, and it stays so
+/// after commands whose values are: so the tables of every register that the program reaches can be
+/// read.
 pub fn registers_stay_typed()
     ensures opening { OpeningsAreTyped }
     ensures commands { CommandsKeepTyped }

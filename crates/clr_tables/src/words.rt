@@ -1,6 +1,7 @@
 //! The words that tables have for actions, states of steps and roles.
 ghost use Rattle.std.specs.Prelude.{◌≡◌};
-ghost use Rattle.clr_tables.specs.Words.{action_name, action_named, role_word, role_worded, state_name, state_named};
+ghost use Rattle.clr_tables.specs.Words.{action_name, action_named, role_word, role_worded};
+ghost use Rattle.clr_tables.specs.Words.{state_name, state_named};
 
 use clr_csv::Role;
 use clr_order::{Action, StepState};

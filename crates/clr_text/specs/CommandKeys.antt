@@ -2,11 +2,14 @@
 use Rattle.std.specs.Prelude.{ℕ, List, [], ◌∷◌, codes, find, Option}
 use Rattle.std.specs.Str.{bytes_eq}
 use Rattle.clr_text.specs.declared.key.Key.{Key}
-use Rattle.clr_text.specs.declared.key.Key.TheVariants.{At, By, Clear, Clearance, Crew, Dead, Do, Done, Emergency, Notified, Points, Section, Step, Steps, Text, To}
+use Rattle.clr_text.specs.declared.key.Key.TheVariants.{At, By, Clear, Clearance, Crew, Dead, Do}
+use Rattle.clr_text.specs.declared.key.Key.TheVariants.{Done, Emergency, Notified, Points, Section}
+use Rattle.clr_text.specs.declared.key.Key.TheVariants.{Step, Steps, Text, To}
 use Rattle.clr_text.specs.declared.word.Word.{Word}
 use Rattle.clr_text.specs.declared.word.Word.TheVariants as word
 
--- THE KEYS of each command, in the order of their bytes: no other may stand, and none may be missing
+-- THE KEYS of each command, in the order of their bytes: no other may stand, and none may be
+-- missing
 abbrev pub keys_of : Word → List Key
 keys_of word.Request = At ∷ By ∷ Do ∷ Section ∷ []
 keys_of word.Order = At ∷ By ∷ Clearance ∷ Do ∷ Points ∷ Steps ∷ []
@@ -50,8 +53,10 @@ word_text word.Show = codes "show"
 
 abbrev pub all_words : List Word
 all_words =
-    word.Request ∷ word.Order ∷ word.Instruct ∷ word.Repeat ∷ word.Report ∷ word.Grant ∷ word.Test ∷ word.Ground ∷ word.Unground
-    ∷ word.SignOn ∷ word.SignOff ∷ word.Transfer ∷ word.Release ∷ word.Cancel ∷ word.Restore ∷ word.Amend ∷ word.Switch ∷ word.Show ∷ []
+    word.Request ∷ word.Order ∷ word.Instruct ∷ word.Repeat ∷ word.Report ∷ word.Grant ∷ word.Test
+    ∷ word.Ground ∷ word.Unground
+    ∷ word.SignOn ∷ word.SignOff ∷ word.Transfer ∷ word.Release ∷ word.Cancel ∷ word.Restore
+    ∷ word.Amend ∷ word.Switch ∷ word.Show ∷ []
 
 -- the word that a text is
 abbrev pub word_named : List ℕ → Option Word

@@ -5,7 +5,9 @@ use Rattle.serde_json.specs.Written.{compact_text}
 use Rattle.clr_text.specs.Json.{member_if}
 use Rattle.clr_text.specs.Keys.{key_text}
 use Rattle.clr_text.specs.declared.fault.TextFault.{TextFault}
-use Rattle.clr_text.specs.declared.fault.TextFault.TheVariants.{BadValue, MissingKey, NoMemory, NotJson, NotObject, UnknownCommand, UnknownKey}
+use Rattle.clr_text.specs.declared.fault.TextFault.TheVariants.{BadValue, MissingKey, NoMemory}
+use Rattle.clr_text.specs.declared.fault.TextFault.TheVariants.{NotJson, NotObject, UnknownCommand}
+use Rattle.clr_text.specs.declared.fault.TextFault.TheVariants.{UnknownKey}
 
 abbrev pub fault_name : TextFault → List ℕ
 fault_name NotJson = codes "NotJson"
@@ -23,7 +25,9 @@ key_of (BadValue key) = Some (string (key_text key))
 key_of _ = None
 
 abbrev pub fault_data : TextFault → Data
-fault_data fault = object (member (codes "fault") (string (fault_name fault)) (member_if (codes "key") (key_of fault) no_members))
+fault_data fault = object
+    (member (codes "fault") (string (fault_name fault))
+    (member_if (codes "key") (key_of fault) no_members))
 
 abbrev pub fault_text : TextFault → List ℕ
 fault_text fault = compact_text (fault_data fault)

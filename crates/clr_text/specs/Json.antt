@@ -1,6 +1,7 @@
 -- What names, clearances, holds, points and steps are as JSON values.
 use Rattle.std.specs.Prelude.{ℕ, List, Option, None, Some, codes, map}
-use Rattle.serde_json.specs.Data.{Data, Members, array, member, no_members, null, number, object, string, unsigned}
+use Rattle.serde_json.specs.Data.{Data, Members, array, member, no_members, null, number, object}
+use Rattle.serde_json.specs.Data.{string, unsigned}
 use Rattle.serde_json.specs.View.{items_of}
 use Rattle.clr_net.specs.declared.point.Position.{Position}
 use Rattle.clr_net.specs.declared.point.Position.TheVariants.{Closed, Opened}
@@ -41,14 +42,17 @@ position_text Closed = codes "closed"
 abbrev pub hold_data : Hold → Data
 hold_data hold =
     object (member (codes "by") (id_data hold.id)
-    (member (codes "kind") (string (hold_kind_text hold.kind)) (member (codes "place") (name_data hold.place) no_members)))
+    (member (codes "kind") (string (hold_kind_text hold.kind))
+    (member (codes "place") (name_data hold.place) no_members)))
 
 abbrev pub point_data : PointState → Data
 point_data state =
     object (member (codes "hand") (optional_data id_data state.hand)
-    (member (codes "point") (name_data state.point) (member (codes "position") (string (position_text state.position)) no_members)))
+    (member (codes "point") (name_data state.point)
+    (member (codes "position") (string (position_text state.position)) no_members)))
 
 abbrev pub step_data : Step → Data
 step_data step =
     object (member (codes "reader") (optional_data name_data step.reader)
-    (member (codes "state") (string (state_text step.state)) (member (codes "text") (string (step_text (task step))) no_members)))
+    (member (codes "state") (string (state_text step.state))
+    (member (codes "text") (string (step_text (task step))) no_members)))

@@ -1,7 +1,9 @@
 -- The keys of commands, as they are written.
 use Rattle.std.specs.Prelude.{ℕ, List, codes}
 use Rattle.clr_text.specs.declared.key.Key.{Key}
-use Rattle.clr_text.specs.declared.key.Key.TheVariants.{At, By, Clear, Clearance, Crew, Dead, Do, Done, Emergency, Notified, Points, Section, Step, Steps, Text, To}
+use Rattle.clr_text.specs.declared.key.Key.TheVariants.{At, By, Clear, Clearance, Crew, Dead, Do}
+use Rattle.clr_text.specs.declared.key.Key.TheVariants.{Done, Emergency, Notified, Points, Section}
+use Rattle.clr_text.specs.declared.key.Key.TheVariants.{Step, Steps, Text, To}
 
 abbrev pub key_text : Key → List ℕ
 key_text At = codes "at"

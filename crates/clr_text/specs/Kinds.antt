@@ -4,9 +4,11 @@ use Rattle.serde_json.specs.Data.{Data}
 use Rattle.clr_rules.specs.declared.command.Kind.{Kind}
 use Rattle.clr_rules.specs.declared.command.Kind.TheVariants as kind
 use Rattle.clr_text.specs.Answers.{◌>>=◌}
-use Rattle.clr_text.specs.Values.{clearance_at, flag_at, name_at, points_at, step_at, steps_at, text_at}
+use Rattle.clr_text.specs.Values.{clearance_at, flag_at, name_at, points_at, step_at, steps_at}
+use Rattle.clr_text.specs.Values.{text_at}
 use Rattle.clr_text.specs.declared.fault.TextFault.{TextFault}
-use Rattle.clr_text.specs.declared.key.Key.TheVariants.{Clear, Crew, Dead, Done, Emergency, Notified, Section, To}
+use Rattle.clr_text.specs.declared.key.Key.TheVariants.{Clear, Crew, Dead, Done, Emergency}
+use Rattle.clr_text.specs.declared.key.Key.TheVariants.{Notified, Section, To}
 use Rattle.clr_text.specs.declared.word.Word.{Word}
 use Rattle.clr_text.specs.declared.word.Word.TheVariants as word
 

@@ -1,5 +1,7 @@
--- THE PRINTED TEXTS: a round of an order, of its record and its steps alone, and the board. Each line ends with a line feed.
-use Rattle.std.specs.Prelude.{ℕ, ◌+◌, ◌-◌, ◌==◌, Bool, not, if◌then◌else◌, ℤ, List, [], ◌∷◌, ◌++◌, length, replicate, map, filter, Option, None, Some, codes, decimal}
+-- THE PRINTED TEXTS: a round of an order, of its record and its steps alone, and the board. Each
+-- line ends with a line feed.
+use Rattle.std.specs.Prelude.{ℕ, ◌+◌, ◌-◌, ◌==◌, Bool, not, if◌then◌else◌, ℤ, List, [], ◌∷◌, ◌++◌}
+use Rattle.std.specs.Prelude.{length, replicate, map, filter, Option, None, Some, codes, decimal}
 use Rattle.std.specs.List.{flat_map}
 use Rattle.clr_order.specs.Action.{action_word}
 use Rattle.clr_order.specs.Step.{state_text}
@@ -32,7 +34,8 @@ name_or_dash (Some name) = name
 -- `  1 OPEN      S2                       Done       REED`
 unfoldable pub step_line : StepRow → List ℕ
 step_line row =
-    right_column 3 (decimal row.ordinal) ++ left_column 9 (action_word row.step.action) ++ left_column 24 row.step.point
+    right_column 3 (decimal row.ordinal) ++ left_column 9 (action_word row.step.action)
+    ++ left_column 24 row.step.point
     ++ left_column 10 (state_text row.step.state) ++ name_or_dash row.step.reader ++ codes "\n"
 
 -- a line that begins with a word
@@ -45,18 +48,22 @@ order_name id round = id_text id ++ codes " ROUND " ++ decimal round
 -- the five lines before the steps
 unfoldable pub head_text : Record → ℕ → ℤ → List ℕ
 head_text r round offset =
-    text_line (codes "ORDER ") (order_name r.id round) ++ text_line (codes "WORK ") (name_or_dash r.work)
-    ++ text_line (codes "HOLDER ") r.holder ++ text_line (codes "PHASE ") (phase_text r.phase) ++ text_line (codes "LAST ") (moment_text r.last offset)
+    text_line (codes "ORDER ") (order_name r.id round)
+    ++ text_line (codes "WORK ") (name_or_dash r.work)
+    ++ text_line (codes "HOLDER ") r.holder ++ text_line (codes "PHASE ") (phase_text r.phase)
+    ++ text_line (codes "LAST ") (moment_text r.last offset)
 
 -- the round of these steps, if there are any
 abbrev pub round_text : Record → List StepRow → ℕ → ℤ → Option (List ℕ)
 round_text r rows round offset =
-    if is_some_step rows then Some (head_text r round offset ++ flat_map step_line rows ++ codes "END\n") else None
+    if is_some_step rows then Some (head_text r round offset ++ flat_map step_line rows
+    ++ codes "END\n") else None
 
 abbrev pub in_round : ℕ → List StepRow → List StepRow
 in_round round steps = filter (λ row. row.round == round) steps
 
--- THE PRINTED ORDER: a round of a clearance or a switch order, of its record and its steps; none where there is no record or no such round
+-- THE PRINTED ORDER: a round of a clearance or a switch order, of its record and its steps; none
+-- where there is no record or no such round
 abbrev pub order_text : Option Record → List StepRow → ℕ → ℤ → Option (List ℕ)
 order_text None steps round offset = None
 order_text (Some r) steps round offset = round_text r (in_round round steps) round offset
@@ -64,10 +71,12 @@ order_text (Some r) steps round offset = round_text r (in_round round steps) rou
 abbrev pub is_open : Record → Bool
 is_open r = not (is_closed r.phase)
 
--- `JONES/1                       Ordered   L2                       1970-01-01 00:01:44 +00:00 JONES`
+-- `JONES/1                       Ordered   L2                       1970-01-01 00:01:44 +00:00
+-- JONES`
 unfoldable pub board_line : ℤ → Record → List ℕ
 board_line offset r =
-    left_column 29 (id_text r.id) ++ left_column 9 (phase_text r.phase) ++ left_column 24 (name_or_dash r.work)
+    left_column 29 (id_text r.id) ++ left_column 9 (phase_text r.phase)
+    ++ left_column 24 (name_or_dash r.work)
     ++ moment_text r.last offset ++ codes " " ++ r.holder ++ codes "\n"
 
 abbrev pub count_line : ℕ → List ℕ

@@ -1,5 +1,6 @@
 -- WHICH COMMAND A TEXT IS, or the first of its faults.
-use Rattle.std.specs.Prelude.{ℕ, ◌&&◌, Bool, true, List, [], ◌∷◌, Result, Ok, Err, Option, None, is_some, if◌then◌else◌}
+use Rattle.std.specs.Prelude.{ℕ, ◌&&◌, Bool, true, List, [], ◌∷◌, Result, Ok, Err, Option, None}
+use Rattle.std.specs.Prelude.{is_some, if◌then◌else◌}
 use Rattle.std.specs.List.{list_any}
 use Rattle.std.specs.Option.{ok_or}
 use Rattle.std.specs.Str.{bytes_eq, is_utf8}
@@ -13,13 +14,16 @@ use Rattle.clr_text.specs.Keys.{key_text}
 use Rattle.clr_text.specs.Kinds.{kind_in}
 use Rattle.clr_text.specs.Values.{moment_at, name_at, value_at}
 use Rattle.clr_text.specs.declared.fault.TextFault.{TextFault}
-use Rattle.clr_text.specs.declared.fault.TextFault.TheVariants.{BadValue, MissingKey, NotJson, NotObject, UnknownCommand, UnknownKey}
+use Rattle.clr_text.specs.declared.fault.TextFault.TheVariants.{BadValue, MissingKey, NotJson}
+use Rattle.clr_text.specs.declared.fault.TextFault.TheVariants.{NotObject, UnknownCommand}
+use Rattle.clr_text.specs.declared.fault.TextFault.TheVariants.{UnknownKey}
 use Rattle.clr_text.specs.declared.key.Key.{Key}
 use Rattle.clr_text.specs.declared.key.Key.TheVariants.{By, Do}
 use Rattle.clr_text.specs.declared.word.Word.{Word}
 use Rattle.clr_text.specs.declared.word.Word.TheVariants as word
 
--- the value of a text: UTF-8, and one JSON value with blanks round it. Of a key that stands twice the last value stays
+-- the value of a text: UTF-8, and one JSON value with blanks round it. Of a key that stands twice
+-- the last value stays
 unfoldable pub value_of : List ℕ → Option Data
 value_of bytes = if is_utf8 bytes then read bytes else None
 
@@ -47,7 +51,8 @@ no_others keys members = if all_keys (is_key_of keys) members then Ok keys else 
 -- the first of the keys that the object lacks
 unfoldable pub none_missing : List Key → Data → Result Bool TextFault
 none_missing [] d = Ok true
-none_missing (key ∷ keys) d = if is_some (value_at key d) then none_missing keys d else Err (MissingKey key)
+none_missing (key ∷ keys) d = if is_some (value_at key d) then none_missing keys d
+    else Err (MissingKey key)
 
 -- the moment of a command: `show` has none, and stands at 0
 abbrev pub moment_of : Word → Data → Result ℕ TextFault
@@ -62,8 +67,8 @@ values_in w d = do
   kind ← kind_in w d
   Ok (record { caller = by; moment = at; kind = kind })
 
--- the command of a JSON value, or the first of its faults: it is no object; it names no command; it has a key that the command does
--- not have; it lacks a key; a value does not fit
+-- the command of a JSON value, or the first of its faults: it is no object; it names no command; it
+-- has a key that the command does not have; it lacks a key; a value does not fit
 unfoldable pub command_in : Data → Result Command TextFault
 command_in d = do
   members ← ok_or (as_object d) NotObject

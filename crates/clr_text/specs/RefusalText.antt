@@ -4,7 +4,19 @@ use Rattle.serde_json.specs.Data.{Data, member, no_members, object, string}
 use Rattle.clr_rules.specs.HoldKind.{hold_kind_text}
 use Rattle.clr_rules.specs.Refusal.{number_of}
 use Rattle.clr_rules.specs.declared.refusal.Refusal.{Refusal}
-use Rattle.clr_rules.specs.declared.refusal.Refusal.TheVariants.{UnknownCaller, WrongRole, UnknownSection, TooManyClearances, UnknownClearance, NotHolder, Earlier, WrongPhase, EmptyOrder, LongOrder, PointTwice, SourceInside, NotOnFence, StepsWrong, UnknownPoint, NoStep, OutOfTurn, StepState, InHand, Held, RepeatDiffers, WrongReporter, StepsLeft, OutsideFence, NotTested, Grounded, NotGrounded, CrewsOn, CrewState, BadTransfer, NotAttested}
+use Rattle.clr_rules.specs.declared.refusal.Refusal.TheVariants.{UnknownCaller, WrongRole}
+use Rattle.clr_rules.specs.declared.refusal.Refusal.TheVariants.{UnknownSection, TooManyClearances}
+use Rattle.clr_rules.specs.declared.refusal.Refusal.TheVariants.{UnknownClearance, NotHolder}
+use Rattle.clr_rules.specs.declared.refusal.Refusal.TheVariants.{Earlier, WrongPhase, EmptyOrder}
+use Rattle.clr_rules.specs.declared.refusal.Refusal.TheVariants.{LongOrder, PointTwice}
+use Rattle.clr_rules.specs.declared.refusal.Refusal.TheVariants.{SourceInside, NotOnFence}
+use Rattle.clr_rules.specs.declared.refusal.Refusal.TheVariants.{StepsWrong, UnknownPoint, NoStep}
+use Rattle.clr_rules.specs.declared.refusal.Refusal.TheVariants.{OutOfTurn, StepState, InHand, Held}
+use Rattle.clr_rules.specs.declared.refusal.Refusal.TheVariants.{RepeatDiffers, WrongReporter}
+use Rattle.clr_rules.specs.declared.refusal.Refusal.TheVariants.{StepsLeft, OutsideFence, NotTested}
+use Rattle.clr_rules.specs.declared.refusal.Refusal.TheVariants.{Grounded, NotGrounded, CrewsOn}
+use Rattle.clr_rules.specs.declared.refusal.Refusal.TheVariants.{CrewState, BadTransfer}
+use Rattle.clr_rules.specs.declared.refusal.Refusal.TheVariants.{NotAttested}
 use Rattle.clr_text.specs.Json.{id_data, member_if, name_data, whole_data}
 
 -- the name of a refusal, in capitals
@@ -66,6 +78,8 @@ section_of _ = None
 
 abbrev pub refusal_data : Refusal → Data
 refusal_data r =
-    object (member_if (codes "by") (by_of r) (member_if (codes "kind") (kind_of r) (member (codes "number") (whole_data (number_of r))
+    object (member_if (codes "by") (by_of r)
+    (member_if (codes "kind") (kind_of r) (member (codes "number") (whole_data (number_of r))
     (member_if (codes "point") (point_of r) (member (codes "refusal") (string (refusal_name r))
-    (member (codes "reply") (string (codes "refused")) (member_if (codes "section") (section_of r) no_members)))))))
+    (member (codes "reply") (string (codes "refused"))
+    (member_if (codes "section") (section_of r) no_members)))))))

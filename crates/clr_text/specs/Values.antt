@@ -1,5 +1,6 @@
 -- What the values of a command's keys have to be, and what they are read as.
-use Rattle.std.specs.Prelude.{ℕ, nat_le, Bool, List, [], ◌∷◌, map, Result, Option, Some, None, option_map, option_and_then, if◌then◌else◌}
+use Rattle.std.specs.Prelude.{ℕ, nat_le, Bool, List, [], ◌∷◌, map, Result, Option, Some, None}
+use Rattle.std.specs.Prelude.{option_map, option_and_then, if◌then◌else◌}
 use Rattle.std.specs.Option.{ok_or}
 use Rattle.std.specs.Result.{result_ok}
 use Rattle.serde_json.specs.Data.{Data, Items, no_items, item}
@@ -15,7 +16,8 @@ use Rattle.clr_text.specs.Keys.{key_text}
 use Rattle.clr_text.specs.declared.fault.TextFault.{TextFault}
 use Rattle.clr_text.specs.declared.fault.TextFault.TheVariants.{BadValue}
 use Rattle.clr_text.specs.declared.key.Key.{Key}
-use Rattle.clr_text.specs.declared.key.Key.TheVariants.{At, Clearance, Points, Step as StepKey, Steps, Text}
+use Rattle.clr_text.specs.declared.key.Key.TheVariants.{At, Clearance, Points, Step as StepKey}
+use Rattle.clr_text.specs.declared.key.Key.TheVariants.{Steps, Text}
 
 -- the value at a key of an object
 abbrev pub value_at : Key → Data → Option Data
@@ -59,7 +61,8 @@ text_at = at_key as_str Text
 -- what each item of a list is read as, where all of them fit
 abbrev pub all_read : {A : Type 0} → (Data → Option A) → Items → Option (List A)
 all_read reading no_items = Some []
-all_read reading (item d ds) = option_and_then (λ x. option_map (λ xs. x ∷ xs) (all_read reading ds)) (reading d)
+all_read reading (item d ds) =
+    option_and_then (λ x. option_map (λ xs. x ∷ xs) (all_read reading ds)) (reading d)
 
 abbrev pub point_in : Data → Option (List ℕ)
 point_in d = option_and_then (λ text. result_ok (read_name text)) (as_str d)
@@ -73,4 +76,5 @@ step_in d = option_and_then (λ text. result_ok (read_step_text text)) (as_str d
 
 -- `steps`: a list of the texts of steps, as `OPEN S2`
 abbrev pub steps_at : Data → Result (List Task) TextFault
-steps_at = at_key (λ d. option_map (map task) (option_and_then (all_read step_in) (as_array d))) Steps
+steps_at = at_key (λ d. option_map (map task) (option_and_then (all_read step_in) (as_array d)))
+    Steps

@@ -1,5 +1,6 @@
 //! The board.
-ghost use Rattle.std.specs.Prelude.{◌≡◌, ◌++◌, IfOk, OnOk, filter, map, neg_ℤ, pos, string_bytes, ◌≤ℤ◌};
+ghost use Rattle.std.specs.Prelude.{◌≡◌, ◌++◌, IfOk, OnOk, filter, map, neg_ℤ, pos, string_bytes};
+ghost use Rattle.std.specs.Prelude.{◌≤ℤ◌};
 ghost use Rattle.std.specs.List.{flat_map};
 ghost use Rattle.clr_text.specs.Printed.{board_line, board_of, board_text, count_line, is_open};
 
@@ -10,9 +11,11 @@ use clr_rules::{Hold, Phase, PointState, Record, StepRow};
 use clr_shelf::Shelf;
 use std::alloc::{AllocError, Global};
 
-/// The board: how many clearances and switch orders are not closed, and a line for each, in the order of their names.
+/// The board: how many clearances and switch orders are not closed, and a line for each, in the
+/// order of their names.
 ///
-/// The offset, in minutes east of Greenwich, is that of the clock by which the last moments are printed.
+/// The offset, in minutes east of Greenwich, is that of the clock by which the last moments are
+/// printed.
 pub fn print_board<P: Shelf<PointState>, C: Shelf<Record>, T: Shelf<StepRow>, H: Shelf<Hold>>(
     alloc: Global,
     book: &Book<P, C, T, H>,

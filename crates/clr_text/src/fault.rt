@@ -6,8 +6,9 @@ use crate::key::Key;
 use std::alloc::{AllocError, AllocFailed};
 use thiserror::Error;
 
-/// Why a text is no command: the first of its faults, in the order in which they are declared, but that a value of `do`
-/// that is no text comes before `UnknownCommand`, and that before `UnknownKey`.
+/// Why a text is no command: the first of its faults, in the order in which they are declared, but
+/// that a value of `do` that is no text comes before `UnknownCommand`, and that before
+/// `UnknownKey`.
 #[derive(Clone, Copy, Debug, PartialEq, Eq, Error)]
 pub enum TextFault {
     /// The bytes are not UTF-8, or not one JSON value.
@@ -16,13 +17,15 @@ pub enum TextFault {
     /// The value is no object.
     #[error("the value is no object")]
     NotObject,
-    /// The object has no value at `do`; or none at this key, the least of those that the command lacks.
+    /// The object has no value at `do`; or none at this key, the least of those that the command
+    /// lacks.
     #[error("a key is missing")]
     MissingKey(Key),
     /// The object has a key that the command does not have.
     #[error("the command has no such key")]
     UnknownKey,
-    /// The value at `do` is no text; or the value at this key, the least of those whose values do not fit.
+    /// The value at `do` is no text; or the value at this key, the least of those whose values do
+    /// not fit.
     #[error("the value does not fit its key")]
     BadValue(Key),
     /// The text at `do` names no command.

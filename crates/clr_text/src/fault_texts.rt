@@ -7,8 +7,8 @@ use crate::fault::TextFault;
 use serde_json::{Value, json};
 use std::alloc::{AllocError, Global};
 
-/// The text of a fault: one JSON object without blanks and without a line feed, as `{"fault":"BadValue","key":"at"}`. Those
-/// with a key name it.
+/// The text of a fault: one JSON object without blanks and without a line feed, as
+/// `{"fault":"BadValue","key":"at"}`. Those with a key name it.
 pub fn fault_text(alloc: Global, fault: &TextFault) -> Result<String, AllocError>
     ensures { IfOk result (λ text. string_bytes text ≡ fault_text fault.now) }
 {

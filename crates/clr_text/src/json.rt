@@ -2,7 +2,8 @@
 ghost use Rattle.std.specs.Prelude.{◌≡◌, IfOk};
 ghost use Rattle.serde_json.specs.Data.{Data};
 ghost use Rattle.serde_json.specs.View.{view};
-ghost use Rattle.clr_text.specs.Json.{hold_data, id_data, list_data, name_data, optional_data, point_data, position_text, step_data};
+ghost use Rattle.clr_text.specs.Json.{hold_data, id_data, list_data, name_data, optional_data};
+ghost use Rattle.clr_text.specs.Json.{point_data, position_text, step_data};
 
 use clr_net::{Name, Position};
 use clr_order::{Step, step_text};

@@ -1,4 +1,5 @@
-//! Commands read from JSON, and what the register answers as text: replies in JSON, printed orders and the board.
+//! Commands read from JSON, and what the register answers as text: replies in JSON, printed orders
+//! and the board.
 #![tactic(auto)]
 
 mod board;

@@ -1,7 +1,9 @@
 //! Moments as they are printed.
-ghost use Rattle.std.specs.Prelude.{◌≡◌, ◌≤◌, ◌<◌, ◌++◌, ◌∷◌, ℕ, ℤ, IfOk, IsOk, OnOk, neg_ℤ, pos, string_bytes, ◌≤ℤ◌, ◌+ℤ◌, ◌*ℤ◌};
+ghost use Rattle.std.specs.Prelude.{◌≡◌, ◌≤◌, ◌<◌, ◌++◌, ◌∷◌, ℕ, ℤ, IfOk, IsOk, OnOk, neg_ℤ, pos};
+ghost use Rattle.std.specs.Prelude.{string_bytes, ◌≤ℤ◌, ◌+ℤ◌, ◌*ℤ◌};
 ghost use Rattle.jiff.specs.Words.{civil_nanos, nanos_of_seconds};
-ghost use Rattle.clr_text.specs.Moments.{face_at, face_text, local_seconds, moment_text, offset_text, two_digits};
+ghost use Rattle.clr_text.specs.Moments.{face_at, face_text, local_seconds, moment_text};
+ghost use Rattle.clr_text.specs.Moments.{offset_text, two_digits};
 
 use clr_rules::Moment;
 use jiff::civil::DateTime;
@@ -57,7 +59,8 @@ impl ClockOffset {
     }
 }
 
-/// A moment as a clock at the offset shows it, and the offset: 26 bytes, as `1970-01-01 00:01:44 +00:00`.
+/// A moment as a clock at the offset shows it, and the offset: 26 bytes, as `1970-01-01 00:01:44
+/// +00:00`.
 pub(crate) fn moment_text(
     alloc: Global,
     moment: Moment,

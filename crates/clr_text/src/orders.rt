@@ -1,9 +1,11 @@
 //! The printed order.
-ghost use Rattle.std.specs.Prelude.{◌≡◌, ◌++◌, IfOk, OnOk, filter, map, neg_ℤ, option_map, pos, string_bytes, ◌==◌, ◌≤ℤ◌};
+ghost use Rattle.std.specs.Prelude.{◌≡◌, ◌++◌, IfOk, OnOk, filter, map, neg_ℤ, option_map, pos};
+ghost use Rattle.std.specs.Prelude.{string_bytes, ◌==◌, ◌≤ℤ◌};
 ghost use Rattle.std.specs.List.{flat_map};
 ghost use Rattle.clr_rules.specs.Records.{record_of};
 ghost use Rattle.clr_rules.specs.Steps.{steps_of};
-ghost use Rattle.clr_text.specs.Printed.{head_text, in_round, order_name, order_text, round_text, step_line};
+ghost use Rattle.clr_text.specs.Printed.{head_text, in_round, order_name, order_text, round_text};
+ghost use Rattle.clr_text.specs.Printed.{step_line};
 
 use crate::columns::{id_text, name_or_dash, numeral, push_left, push_line, push_right};
 use crate::moments::{ClockOffset, moment_text};
@@ -12,10 +14,12 @@ use clr_rules::{ClearanceId, Hold, PointState, Record, StepRow};
 use clr_shelf::Shelf;
 use std::alloc::{AllocError, Global};
 
-/// One round of a clearance or a switch order, as it is printed: its record, and a line for each step.
+/// One round of a clearance or a switch order, as it is printed: its record, and a line for each
+/// step.
 ///
-/// There is none where the register has no such record, or the round has no steps. Rounds are 1 and 2. The offset, in
-/// minutes east of Greenwich, is that of the clock by which the last moment is printed.
+/// There is none where the register has no such record, or the round has no steps. Rounds are 1 and
+/// 2. The offset, in minutes east of Greenwich, is that of the clock by which the last moment is
+/// printed.
 pub fn print_order<P: Shelf<PointState>, C: Shelf<Record>, T: Shelf<StepRow>, H: Shelf<Hold>>(
     alloc: Global,
     book: &Book<P, C, T, H>,

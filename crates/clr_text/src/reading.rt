@@ -5,7 +5,8 @@ ghost use Rattle.std.specs.List.{list_all};
 ghost use Rattle.std.specs.Option.{ok_or};
 ghost use Rattle.serde_json.specs.View.{members_view, view};
 ghost use Rattle.clr_text.specs.Answers.{Gives, GivesAs};
-ghost use Rattle.clr_text.specs.Reading.{all_keys, command_in, is_key_of, moment_of, none_missing, read_command, text_at_do, value_of, values_in, word_in};
+ghost use Rattle.clr_text.specs.Reading.{all_keys, command_in, is_key_of, moment_of, none_missing};
+ghost use Rattle.clr_text.specs.Reading.{read_command, text_at_do, value_of, values_in, word_in};
 
 use crate::fault::TextFault;
 use crate::key::Key;
@@ -16,11 +17,13 @@ use clr_rules::{Command, Moment};
 use serde_json::{Map, Value};
 use std::alloc::Global;
 
-/// Reads a command from one JSON object, as `{"at":100,"by":"JONES","do":"request","section":"L2"}`.
+/// Reads a command from one JSON object, as
+/// `{"at":100,"by":"JONES","do":"request","section":"L2"}`.
 ///
-/// Blanks may stand round it and in it; of a key that stands twice the last value counts. A number that is written with
-/// a point or an exponent, `-0`, and one beyond 64 bits are no whole numbers; one too large for a float is no JSON, and
-/// so is a value that nests deeper than 127 levels. `show` states no moment; its command has 0.
+/// Blanks may stand round it and in it; of a key that stands twice the last value counts. A number
+/// that is written with a point or an exponent, `-0`, and one beyond 64 bits are no whole numbers;
+/// one too large for a float is no JSON, and so is a value that nests deeper than 127 levels.
+/// `show` states no moment; its command has 0.
 #[tactic(auto, unfolding(crate::specs::Reading::read_command))]
 pub fn command_of(alloc: Global, bytes: &[u8]) -> Result<Command, TextFault>
     ensures { Gives result (read_command bytes.now) }

@@ -9,8 +9,8 @@ use clr_rules::{Card, Reply, View};
 use serde_json::{Value, json};
 use std::alloc::{AllocError, Global};
 
-/// The text of a reply: one JSON object without blanks and without a line feed, the keys of each object in the order of
-/// their bytes.
+/// The text of a reply: one JSON object without blanks and without a line feed, the keys of each
+/// object in the order of their bytes.
 pub fn reply_text(alloc: Global, reply: &Reply) -> Result<String, AllocError>
     ensures { IfOk result (λ text. string_bytes text ≡ reply_text reply.now) }
 {

@@ -2,7 +2,8 @@
 ghost use Rattle.std.specs.Prelude.{◌≡◌, IfOk, option_map};
 ghost use Rattle.serde_json.specs.View.{items_view, view};
 ghost use Rattle.clr_text.specs.Answers.{Gives};
-ghost use Rattle.clr_text.specs.Values.{all_read, clearance_at, flag_at, moment_at, name_at, point_in, points_at, step_at, step_in, steps_at, text_at};
+ghost use Rattle.clr_text.specs.Values.{all_read, clearance_at, flag_at, moment_at, name_at};
+ghost use Rattle.clr_text.specs.Values.{point_in, points_at, step_at, step_in, steps_at, text_at};
 
 use crate::fault::TextFault;
 use crate::key::Key;
@@ -90,7 +91,8 @@ pub(crate) fn points_at(alloc: Global, value: &Value) -> Result<Names, TextFault
 
 /// The names of points in a list, where each item is one.
 fn points_in(alloc: Global, list: &[Value]) -> Result<Option<Vec<Name>>, AllocError>
-    ensures { IfOk result (λ found. option_map (λ points. points.items) found ≡ all_read point_in (items_view list.now)) }
+    ensures { IfOk result (λ found. option_map (λ points. points.items) found
+        ≡ all_read point_in (items_view list.now)) }
 {
     let mut points = Vec::new(alloc);
     for item in list {
@@ -127,7 +129,8 @@ pub(crate) fn steps_at(alloc: Global, value: &Value) -> Result<Tasks, TextFault>
 
 /// The steps in a list, where each item is the text of one.
 fn steps_in(alloc: Global, list: &[Value]) -> Result<Option<Vec<Step>>, AllocError>
-    ensures { IfOk result (λ found. option_map (λ steps. steps.items) found ≡ all_read step_in (items_view list.now)) }
+    ensures { IfOk result (λ found. option_map (λ steps. steps.items) found
+        ≡ all_read step_in (items_view list.now)) }
 {
     let mut steps = Vec::new(alloc);
     for item in list {

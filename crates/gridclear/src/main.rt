@@ -1,37 +1,27 @@
 //! The switching order and clearance register of a system operator: the program.
 #![tactic(auto)]
 
-mod board;
-mod command_line;
-mod database;
-mod fault;
-mod fence;
-mod files;
-mod init;
-mod line;
-mod order;
-mod outcome;
-mod replies;
-mod run;
-mod stored;
-mod syntax;
-mod words;
+#[cfg(test)]
+mod command_lines;
+#[cfg(test)]
+mod connections;
 
 use clr_csv::Counted;
+use clr_program::command_line::{command_line, no_words};
 use std::process::ExitCode;
 use std::{env, io};
 
 fn main(rt: HostRuntime) -> ExitCode {
     let mut errors = Counted::new(rt.stderr());
     let status = match gather(&rt) {
-        Ok(words) => command_line::command_line(
+        Ok(words) => command_line(
             &rt,
             words.as_slice(),
             &mut Counted::new(rt.stdin()),
             &mut Counted::new(rt.stdout()),
             &mut errors,
         ),
-        Err(cause) => command_line::no_words(&cause, &mut errors),
+        Err(cause) => no_words(&cause, &mut errors),
     };
     ExitCode::from(status)
 }

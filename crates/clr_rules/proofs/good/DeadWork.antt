@@ -13,8 +13,7 @@ use Rattle.clr_rules.specs.Fences.{clearance_fence, work_fence}
 use Rattle.clr_rules.specs.Good.{IsFullyHeld, IsGood, is_known_work, works_on}
 use Rattle.clr_rules.specs.Prelude.{HeldOpen, Ground, Crew, Phase, Requested, Closed, Record, Id, id_cmp, id_cmp_total, Register, position_of, record_key, record_of, is_granted}
 use Rattle.clr_rules.specs.Prelude.{points_of, steps_in, has_hold}
-use Rattle.clr_rules.specs.Live.{is_live}
-use Rattle.clr_rules.specs.LiveLaws.{ClosedWalk}
+use Rattle.clr_rules.specs.Live.{IsLive, is_live}
 use Rattle.clr_rules.specs.Records.{is_fenced}
 use Rattle.clr_rules.specs.WorkLaws.{IsSafeWork}
 use Rattle.clr_rules.proofs.live.FenceCuts.{named_from_in_fence}
@@ -57,10 +56,10 @@ module _ (R : Register) (good : IsGood R) (c : Id) where
       good.granted_fences_are_dead c r found granted s (good.work_holds_belong.grounded_inside c s grounded)
 
   pub no_source_feeds_grounds : (s : List ℕ) → has_hold R.holds c Ground s ≡ true
-      → (source : SectionRow) → Contains (Grid.sections R.net) source → source.source ≡ true → ClosedWalk (Grid.points R.net) R.states source.name s → ⊥
-  no_source_feeds_grounds s grounded source there is_source walk =
+      → IsLive R.net R.states s → ⊥
+  no_source_feeds_grounds s grounded live =
       both_ways (is_live R.net R.states s) (grounded_sections_are_dead s grounded)
-      ((live_is_closed_walks R.net R.states good.network s).1 (source, there, is_source, walk))
+      ((live_is_closed_walks R.net R.states good.network s).1 live)
 
   pub granted_points_bear_all_holds : (r : Record) → record_of R.records c ≡ Some r → is_granted r.phase ≡ true
       → (point : PointRow) → Contains (Grid.points R.net) point → has_name (points_of (steps_in R.steps c 1)) point.name ≡ true

@@ -9,9 +9,9 @@ use Rattle.clr_net.specs.Walk.Walk.{goes_on, stays}
 use Rattle.clr_net.specs.declared.point.PointRow.{PointRow}
 use Rattle.clr_net.specs.declared.section.SectionRow.{SectionRow}
 use Rattle.clr_net.proofs.Walks.{any_from, fence_is_closed, fence_is_least, fence_is_walks, same_tests, some_from}
-use Rattle.clr_rules.specs.Live.{feeds, is_closed_point, is_live, open_points}
-use Rattle.clr_rules.specs.LiveLaws.{CarriesOn, ClosedWalk}
-use Rattle.clr_rules.specs.LiveLaws.ClosedWalk.{at_source, over_closed}
+use Rattle.clr_rules.specs.Live.{ClosedWalk, IsLive, feeds, is_closed_point, is_live, open_points}
+use Rattle.clr_rules.specs.LiveLaws.{CarriesOn}
+use Rattle.clr_rules.specs.Live.ClosedWalk.{at_source, over_closed}
 use Rattle.clr_rules.specs.declared.point_state.PointState.{PointState}
 use Rattle.clr_rules.proofs.lists.NamedRows.{has_name-filter, has_name-row}
 
@@ -97,7 +97,7 @@ module _ (g : Grid) (states : List PointState) where
     )
 
     pub live_is_closed_walks : (s : List ℕ)
-        → (is_live g states s ≡ true) ↔ ((source : SectionRow) × Contains g.sections source × (source.source ≡ true) × ClosedWalk g.points states source.name s)
+        → (is_live g states s ≡ true) ↔ IsLive g states s
     live_is_closed_walks s = (
       λ live.
           let (source, there, is_source, walk) = (live_is_walks s).0 live in

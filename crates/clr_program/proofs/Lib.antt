@@ -1,0 +1,6 @@
+pub mod Answered
+pub mod Connections
+pub mod Found
+pub mod PointsNamed
+pub mod ReplyLines
+pub mod Told

@@ -1,0 +1,24 @@
+-- The rows that a file gives.
+use Rattle.std.specs.Prelude.{◌≡◌, ◌⊎◌, List, Result, Ok, Err}
+use Rattle.clr_csv.specs.declared.fault.CsvFault.{CsvFault}
+use Rattle.clr_csv.specs.declared.fault.CsvFault.TheVariants.{ReadFailed}
+use Rattle.clr_program.specs.declared.fault.ImportFile.{ImportFile}
+use Rattle.clr_program.specs.declared.fault.Fault.{Fault}
+use Rattle.clr_program.specs.declared.fault.Fault.TheVariants.{Memory, File}
+use Rattle.clr_program.specs.Fault.{of_file}
+
+-- what the rows of a file come to, its faults told of it
+abbrev pub told_of : {A : Type 0} → ImportFile → Result A CsvFault → Result A Fault
+told_of file (Ok rows) = Ok rows
+told_of file (Err cause) = Err (of_file file cause)
+
+-- the file's device failed, or memory ran out
+abbrev pub IsUnread : ImportFile → Fault → Type 0
+IsUnread file fault = (fault ≡ Memory) ⊎ (fault ≡ File file ReadFailed)
+
+-- the rows that are told, as `view` shows them, or the fault; only a file that goes unread may come
+-- in its place
+abbrev pub GivesRows : {A T : Type 0} → ImportFile → (T → List A) → Result (List A) Fault
+    → Result T Fault → Type 0
+GivesRows file view told (Ok rows) = told ≡ Ok (view rows)
+GivesRows file view told (Err fault) = (IsUnread file fault → ⊥) → told ≡ Err fault

@@ -1,0 +1,14 @@
+pub mod Answers
+pub mod Fault
+pub mod Fence
+pub mod Files
+pub mod Init
+pub mod Lines
+pub mod Order
+pub mod Outcome
+pub mod Replies
+pub mod Run
+pub mod Serve
+pub mod Stored
+pub mod Streams
+pub mod Syntax

@@ -1,0 +1,81 @@
+-- The command line: its subcommands, and the arguments of each.
+use Rattle.std.specs.Prelude.{codes, true, neg_ℤ, pos, Some, List, [], ℕ}
+use Rattle.clap.specs.Words.{App, Rule, new_app, new_rule, with_rule, with_subcommand}
+use Rattle.clap.specs.Simple.{new_shape}
+use Rattle.clap.specs.declared.builder.action.ArgAction.TheVariants.{Append}
+use Rattle.clap.specs.declared.builder.value_parser.ValueParser.TheVariants.{Signed, Unsigned}
+
+-- an argument that has to be given, by its place
+abbrev pub required_rule : List ℕ → Rule
+required_rule id = record (new_rule id) { required = true }
+
+-- an argument that may be given any number of times, by its place
+abbrev pub repeated_rule : List ℕ → Rule
+repeated_rule id = record (new_rule id) { action = Some Append }
+
+-- an argument that may be given once, by its name and a value
+abbrev pub option_rule : List ℕ → Rule
+option_rule id = record (new_rule id) { long = Some id; value_names = 1 }
+
+-- `--offset MINUTES`, from -720 to 840
+abbrev pub offset_rule : Rule
+offset_rule = record (option_rule (codes "offset"))
+    { parser = Some (Signed (neg_ℤ (pos 720)) (pos 840)) }
+
+-- an option with a number from 1 to a greatest one, which has to be given
+abbrev pub number_rule : List ℕ → ℕ → Rule
+number_rule id most = record (option_rule id) { required = true; parser = Some (Unsigned 1 most) }
+
+-- the arguments of the two files of a network
+abbrev pub with_files : App → App
+with_files app = with_rule (with_rule app (required_rule (codes "SECTIONS")))
+    (required_rule (codes "POINTS"))
+
+-- `fence SECTIONS POINTS WORK [CUT]...`
+abbrev pub fence : App
+fence = with_rule (with_rule (with_files (new_app (codes "fence"))) (required_rule (codes "WORK")))
+    (repeated_rule (codes "CUT"))
+
+-- `init SECTIONS POINTS STAFF [--db FILE]`
+abbrev pub init : App
+init = with_rule (with_rule (with_files (new_app (codes "init"))) (required_rule (codes "STAFF")))
+    (option_rule (codes "db"))
+
+-- `run [--db FILE] [FILES]...`
+abbrev pub run : App
+run = with_rule (with_rule (new_app (codes "run")) (option_rule (codes "db")))
+    (repeated_rule (codes "FILES"))
+
+-- `order DB CLEARANCE ROUND [--offset MINUTES]`
+abbrev pub order : App
+order =
+    with_rule (with_rule (with_rule
+    (with_rule (new_app (codes "order")) (required_rule (codes "DB")))
+    (required_rule (codes "CLEARANCE")))
+    (required_rule (codes "ROUND"))) offset_rule
+
+-- `board DB [--offset MINUTES]`
+abbrev pub board : App
+board = with_rule (with_rule (new_app (codes "board")) (required_rule (codes "DB"))) offset_rule
+
+-- `serve DB --port N --count N`
+abbrev pub serve : App
+serve =
+    with_rule (with_rule (with_rule (new_app (codes "serve")) (required_rule (codes "DB")))
+    (number_rule (codes "port") 65535))
+    (number_rule (codes "count") 1000000)
+
+-- `gridclear` alone: it has a version, and asks for a subcommand
+abbrev pub top : App
+top = record {
+  top = record (new_shape (codes "gridclear"))
+      { has_version = true; arg_required_else_help = true; subcommand_required = true };
+  subs = [];
+}
+
+-- the program with its subcommands
+abbrev pub gridclear : App
+gridclear =
+    with_subcommand (with_subcommand
+    (with_subcommand (with_subcommand (with_subcommand (with_subcommand top fence.top) init.top)
+    run.top) order.top) board.top) serve.top

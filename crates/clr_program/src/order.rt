@@ -1,0 +1,81 @@
+//! The subcommand `order`: one round of a clearance or a switch order, as it is printed.
+ghost use Rattle.std.specs.Prelude.{◌≡◌, IfOk, neg_ℤ, option_map, pos, string_bytes, ◌≤ℤ◌};
+ghost use Rattle.clr_program.specs.Answers.{Gives};
+ghost use Rattle.clr_program.specs.Order.{order_told, read_round};
+
+use crate::database::{Databases, close_desk, open_desk};
+use crate::fault::Fault;
+use crate::words::{offset_of, word_of};
+use clap::ArgMatches;
+use clr_book::Book;
+use clr_rules::{ClearanceId, Hold, PointState, Record, StepRow};
+use clr_shelf::Shelf;
+use clr_text::print_order;
+use std::alloc::Global;
+
+/// What `order DB CLEARANCE ROUND [--offset MINUTES]` prints.
+pub fn order<R: Databases + AllocGlobal>(
+    rt: &R,
+    matches: &ArgMatches<'_>,
+) -> Result<String, Fault> {
+    let clearance = word_of(matches, "CLEARANCE");
+    let round = word_of(matches, "ROUND");
+    let desk = open_desk(rt, word_of(matches, "DB"))?;
+    let printed = order_of(
+        rt.alloc(),
+        desk.book(),
+        clearance,
+        round,
+        offset_of(matches),
+    );
+    let closed = close_desk(rt, desk);
+    let text = printed?;
+    closed?;
+    Ok(text)
+}
+
+/// The printed order of a book that two words name.
+///
+/// `NoSuch` where `clearance` names no clearance, `round` is neither `1` nor `2`, the book has no
+/// such clearance, or that round has no steps. The offset is in minutes east of Greenwich.
+pub fn order_of<P, C, T, H>(
+    alloc: Global,
+    book: &Book<P, C, T, H>,
+    clearance: &str,
+    round: &str,
+    offset: i16,
+) -> Result<String, Fault>
+where
+    P: Shelf<PointState>,
+    C: Shelf<Record>,
+    T: Shelf<StepRow>,
+    H: Shelf<Hold>,
+    requires low { neg_ℤ (pos 720) ≤ℤ offset }
+    requires high { offset ≤ℤ pos 840 }
+    ensures { Gives (λ text. string_bytes text)
+        (order_told book.now.register clearance.now round.now offset) result }
+{
+    let Ok(id) = ClearanceId::read(clearance) else {
+        return Err(Fault::NoSuch);
+    };
+    let Some(round) = read_round(round) else {
+        return Err(Fault::NoSuch);
+    };
+    match print_order(alloc, book, &id, round, offset)? {
+        Some(text) => Ok(text),
+        None => Err(Fault::NoSuch),
+    }
+}
+
+/// The round that a word names.
+fn read_round(word: &str) -> Option<u8>
+    ensures { result ≡ read_round word.now }
+{
+    if word == "1" {
+        Some(1)
+    } else if word == "2" {
+        Some(2)
+    } else {
+        None
+    }
+}

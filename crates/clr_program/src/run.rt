@@ -1,0 +1,194 @@
+//! The subcommand `run`: the commands of standard input, answered over a register in memory or over
+//! a stored one.
+ghost use Rattle.std.specs.Prelude.{◌≡◌, ◌≢◌, ◌⊎◌, ◌<◌, ◌≤◌, ℕ, Err, IfErr, IfNone, IfOk, IfSome};
+ghost use Rattle.std.specs.Prelude.{IsErrOf, Ok, OnOk, length, string_bytes};
+ghost use Rattle.clr_csv.specs.Failures.{Rose};
+ghost use Rattle.clr_rules.specs.Good.{IsGood};
+ghost use Rattle.clr_program.specs.Replies.{PrintsFirst, input_lines, reply_lines};
+ghost use Rattle.clr_program.specs.Run.{IsOpeningOf, rows_fault};
+ghost use Rattle.clr_program.specs.Stored.{IsOfLine};
+
+use crate::database::{Databases, close_desk, open_desk};
+use crate::fault::{Fault, InputFault};
+use crate::files::{AtPath, Source, points_from, sections_from, staff_from};
+use crate::replies::{Printed, lines_of, replies_to};
+use crate::stored::stored_replies;
+use clap::ArgMatches;
+use clr_book::Book;
+use clr_csv::{CountedRead, Staff, StaffRow, read_whole};
+use clr_desk::Desk;
+use clr_net::{Network, PointRow, SectionRow};
+use clr_rules::{Hold, PointState, Record, StepRow};
+use clr_shelf::{Shelf, SortedShelf};
+use sqlite::Alter;
+use std::alloc::Global;
+use std::rt::Files;
+
+/// The most bytes of standard input.
+pub const MAX_INPUT_BYTES: usize = 16_777_216;
+
+/// A book in memory.
+pub type MemoryBook = Book<
+    SortedShelf<PointState>,
+    SortedShelf<Record>,
+    SortedShelf<StepRow>,
+    SortedShelf<Hold>,
+>;
+
+/// What `run [--db FILE] [FILES]...` prints; nothing where the words name both a database and
+/// files, or neither, or files that are not three.
+pub fn run<R: Files + Databases + AllocGlobal, I: CountedRead>(
+    rt: &R,
+    matches: &ArgMatches<'_>,
+    input: &mut I,
+) -> Result<Option<Printed>, Fault> {
+    match (matches.get_str("db"), matches.get_strs("FILES")) {
+        (Some(path), None) => {
+            let printed = run_of_database(rt.alloc(), rt, path, input)?;
+            Ok(Some(printed))
+        }
+        (None, Some([sections, points, staff])) => {
+            let sections = AtPath::new(rt, sections);
+            let points = AtPath::new(rt, points);
+            let staff = AtPath::new(rt, staff);
+            let printed = run_of_files(rt.alloc(), &sections, &points, &staff, input)?;
+            Ok(Some(printed))
+        }
+        _ => Ok(None),
+    }
+}
+
+/// The replies to the commands of the input, over the register that the database at a path has. The
+/// register is opened before the input is read.
+pub fn run_of_database<D: Databases, I: CountedRead>(
+    alloc: Global,
+    databases: &D,
+    path: &str,
+    input: &mut I,
+) -> Result<Printed, Fault> {
+    let mut desk = open_desk(databases, path)?;
+    let printed = run_stored(alloc, &mut desk, input);
+    let closed = close_desk(databases, desk);
+    let Printed { text, fault } = printed?;
+    let fault = match fault {
+        Some(fault) => Some(fault),
+        None => closed.err(),
+    };
+    Ok(Printed { text, fault })
+}
+
+/// The replies to the commands of the input, over a stored register.
+pub fn run_stored<S: Alter + Drop, I: CountedRead>(
+    alloc: Global,
+    desk: &mut Desk<S>,
+    input: &mut I,
+) -> Result<Printed, Fault>
+    ensures whole { IsGood desk.old.book.register → IfSome (I.remaining input.old) (λ bytes.
+        IfOk result (λ printed. IfNone printed.fault (string_bytes printed.text
+        ≡ reply_lines desk.old.book.register (input_lines bytes)))) }
+    ensures front { IsGood desk.old.book.register → IfSome (I.remaining input.old) (λ bytes.
+        IfOk result (λ printed. IfSome printed.fault (λ fault. (n : ℕ)
+        × PrintsFirst desk.old.book.register (input_lines bytes) (string_bytes printed.text) n))) }
+    ensures fault { IfOk result (λ printed. IfSome printed.fault IsOfLine) }
+    ensures cause { IsErrOf result (Fault.Input InputFault.ReadFailed)
+        → Rose (I.failure_count input.old) (I.failure_count input.new) }
+    ensures long { IfSome (I.remaining input.old) (λ bytes.
+        IsErrOf result (Fault.Input InputFault.TooLong) → 16777216 < length bytes) }
+    ensures others { IfErr result (λ fault. (fault ≡ Fault.Memory)
+        ⊎ (fault ≡ Fault.Input InputFault.ReadFailed)
+        ⊎ (fault ≡ Fault.Input InputFault.TooLong)) }
+{
+    let bytes = input_bytes(alloc, input)?;
+    let lines = lines_of(alloc, bytes.as_slice())?;
+    Ok(stored_replies(alloc, desk, lines.as_slice()))
+}
+
+/// The replies to the commands of the input, over the register that three files begin. The files
+/// are read in this order, each before the next is opened, and then the input.
+pub fn run_of_files<S: Source, P: Source, E: Source, I: CountedRead>(
+    alloc: Global,
+    sections: &S,
+    points: &P,
+    staff: &E,
+    input: &mut I,
+) -> Result<Printed, Fault> {
+    let sections = sections_from(alloc, sections)?;
+    let points = points_from(alloc, points)?;
+    let staff = staff_from(alloc, staff)?;
+    let mut book = opening_book(alloc, sections, points, staff)?;
+    let printed = run_over(alloc, &mut book, input)?;
+    Ok(printed)
+}
+
+/// The book of these rows before the first command, if they are a network and a staff.
+pub fn opening_book(
+    alloc: Global,
+    sections: Vec<SectionRow>,
+    points: Vec<PointRow>,
+    staff: Vec<StaffRow>,
+) -> Result<MemoryBook, Fault>
+    ensures opens { IfOk result (λ book.
+        IsOpeningOf sections.items points.items staff.items book.register) }
+    ensures good { IfOk result (λ book. IsGood book.register) }
+    ensures fault { IfErr result (λ fault. fault ≢ Fault.Memory
+        → rows_fault sections.items points.items staff.items ≡ Err fault) }
+{
+    let network = Network::build(alloc, sections, points)?;
+    let staff = Staff::build(alloc, staff)?;
+    network.is_network();
+    staff.is_staff();
+    let book = Book::opening(alloc, network, staff)?;
+    Ok(book)
+}
+
+/// The replies to the commands of the input, over a book.
+pub fn run_over<P, C, T, H, I>(
+    alloc: Global,
+    book: &mut Book<P, C, T, H>,
+    input: &mut I,
+) -> Result<Printed, Fault>
+where
+    P: Shelf<PointState>,
+    C: Shelf<Record>,
+    T: Shelf<StepRow>,
+    H: Shelf<Hold>,
+    I: CountedRead,
+    requires { IsGood book.old.register }
+    ensures whole { IfSome (I.remaining input.old) (λ bytes. IfOk result (λ printed.
+        IfNone printed.fault (string_bytes printed.text
+        ≡ reply_lines book.old.register (input_lines bytes)))) }
+    ensures front { IfSome (I.remaining input.old) (λ bytes. IfOk result (λ printed.
+        IfSome printed.fault (λ fault. (n : ℕ) × PrintsFirst book.old.register
+        (input_lines bytes) (string_bytes printed.text) n))) }
+    ensures fault { IfOk result (λ printed. IfSome printed.fault (λ fault. fault ≡ Fault.Memory)) }
+    ensures cause { IsErrOf result (Fault.Input InputFault.ReadFailed)
+        → Rose (I.failure_count input.old) (I.failure_count input.new) }
+    ensures long { IfSome (I.remaining input.old) (λ bytes.
+        IsErrOf result (Fault.Input InputFault.TooLong) → 16777216 < length bytes) }
+    ensures others { IfErr result (λ fault. (fault ≡ Fault.Memory)
+        ⊎ (fault ≡ Fault.Input InputFault.ReadFailed)
+        ⊎ (fault ≡ Fault.Input InputFault.TooLong)) }
+{
+    let bytes = input_bytes(alloc, input)?;
+    let lines = lines_of(alloc, bytes.as_slice())?;
+    Ok(replies_to(alloc, book, lines.as_slice()))
+}
+
+/// The bytes of the input.
+fn input_bytes<I: CountedRead>(alloc: Global, input: &mut I) -> Result<Vec<u8>, Fault>
+    ensures bytes { IfSome (I.remaining input.old) (λ bytes. IfOk result (λ read.
+        read.items ≡ bytes)) }
+    ensures cause { IsErrOf result (Fault.Input InputFault.ReadFailed)
+        → Rose (I.failure_count input.old) (I.failure_count input.new) }
+    ensures long { IfSome (I.remaining input.old) (λ bytes.
+        IsErrOf result (Fault.Input InputFault.TooLong) → 16777216 < length bytes) }
+    ensures short { IfSome (I.remaining input.old) (λ bytes. OnOk result (length bytes ≤ 16777216)) }
+    ensures others { IfErr result (λ fault. (fault ≡ Fault.Memory)
+        ⊎ (fault ≡ Fault.Input InputFault.ReadFailed)
+        ⊎ (fault ≡ Fault.Input InputFault.TooLong)) }
+{
+    match read_whole(alloc, input, MAX_INPUT_BYTES) {
+        Ok(bytes) => Ok(bytes),
+        Err(cause) => Err(Fault::of_input(cause)),
+    }
+}

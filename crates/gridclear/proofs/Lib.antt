@@ -1,5 +1,0 @@
-pub mod Answered
-pub mod Found
-pub mod PointsNamed
-pub mod ReplyLines
-pub mod Told

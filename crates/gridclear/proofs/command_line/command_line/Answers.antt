@@ -1,5 +1,0 @@
-use Rattle.gridclear.proofs.Told.{IsTold-from_tells}
-use Rattle.gridclear.proofs.command_line.command_line.Goals as goal
-
-pub returns-clause-told : goal.returns-clause-told
-returns-clause-told g c = IsTold-from_tells _ _ _ _ _ _ c.tell.ensures
