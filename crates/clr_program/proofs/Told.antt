@@ -36,8 +36,8 @@ IsTold-from_tells (Ok (Stopped text fault)) status output output' errors errors'
 ]
 IsTold-from_tells (Ok (Serve serving)) status output output' errors errors' tells = elim tells [
   | inl served ↦
-      let (zero, went, told) = served in
-      record { statuses = omega (arith, zero); answered = λ _. (went.1, inr (serving.port, serving.count, went, told)); faulted = λ one. absurd (omega (arith, zero, one)); unread = λ two. absurd (omega (arith, zero, two)) }
+      let (zero, serves) = served in
+      record { statuses = omega (arith, zero); answered = λ _. (serves.0.1, inr (serving.port, serving.count, serves)); faulted = λ one. absurd (omega (arith, zero, one)); unread = λ two. absurd (omega (arith, zero, two)) }
   | inr failed ↦
       let (one, fault, middle, serving_is, line) = failed in
       record { statuses = omega (arith, one); answered = λ zero. absurd (omega (arith, zero, one)); faulted = λ _. (fault, middle, line, served_before serving.port serving.count fault output output' errors middle serving_is); unread = λ two. absurd (omega (arith, one, two)) }
