@@ -1,4 +1,4 @@
-//! The book over lists: its opening, changes made in it, and what is read of it.
+//! The book over sorted shelves: its opening, changes made in it, and what is read of it.
 use crate::worked::{worked_network, worked_staff};
 use clr_book::{
     Book, Change, ClearanceId, Command, Edit, Edits, Hold, HoldKind, Kind, Moment, Names, Phase,
@@ -6,10 +6,19 @@ use clr_book::{
 };
 use clr_net::{Name, Position};
 use clr_order::{Action, Step, StepState};
-use clr_shelf::ListShelf;
+use clr_shelf::{ListShelf, Shelf, SortedShelf};
 use std::alloc::Global;
 use std::test::Fail;
 
+/// The register on shelves that the program keeps it on.
+pub type SortedBook = Book<
+    SortedShelf<PointState>,
+    SortedShelf<Record>,
+    SortedShelf<StepRow>,
+    SortedShelf<Hold>,
+>;
+
+/// The register in lists, all rows of which are walked for a group.
 pub type ListBook = Book<
     ListShelf<PointState>,
     ListShelf<Record>,
@@ -18,15 +27,17 @@ pub type ListBook = Book<
 >;
 
 /// The book of the worked network and staff, before the first command.
-pub fn opening_book(alloc: Global) -> Result<ListBook, Fail> {
+pub fn opening_book<P: Shelf<PointState>, C: Shelf<Record>, T: Shelf<StepRow>, H: Shelf<Hold>>(
+    alloc: Global,
+) -> Result<Book<P, C, T, H>, Fail> {
     let network = worked_network(alloc)?;
     let staff = worked_staff(alloc)?;
     Ok(Book::opening(alloc, network, staff)?)
 }
 
 /// The same book after a change, for which room is made.
-fn book_after(alloc: Global, edits: &[Edit]) -> Result<ListBook, Fail> {
-    let mut book = opening_book(alloc)?;
+fn book_after(alloc: Global, edits: &[Edit]) -> Result<SortedBook, Fail> {
+    let mut book: SortedBook = opening_book(alloc)?;
     let edits = edits.iter().copied().collect(alloc)?;
     let change = Change {
         edits: Edits::new(edits),
@@ -85,7 +96,7 @@ pub fn hold(kind: HoldKind, id: &str) -> Result<Hold, Fail> {
 }
 
 /// Whether points stand so.
-fn has_states(book: &ListBook, states: &[PointState]) -> bool {
+fn has_states(book: &SortedBook, states: &[PointState]) -> bool {
     for state in states {
         if book.state(&state.point).copied() != Some(*state) {
             return false;
@@ -95,13 +106,13 @@ fn has_states(book: &ListBook, states: &[PointState]) -> bool {
 }
 
 /// Whether these are all records, in this order.
-fn has_records(book: &ListBook, records: &[&Record]) -> Result<bool, Fail> {
+fn has_records(book: &SortedBook, records: &[&Record]) -> Result<bool, Fail> {
     let found = book.records()?;
     Ok(found.as_slice() == records)
 }
 
 /// Whether these are all steps of a clearance, in this order.
-fn has_steps(book: &ListBook, id: ClearanceId, steps: &[&StepRow]) -> Result<bool, Fail> {
+fn has_steps(book: &SortedBook, id: ClearanceId, steps: &[&StepRow]) -> Result<bool, Fail> {
     let found = book.steps(&id)?;
     Ok(found.as_slice() == steps)
 }
@@ -117,7 +128,7 @@ fn book_before_the_first_command(rt: HostRuntime) -> Result<(), Fail> {
     ];
     let section = Name::read("L1")?;
     let id = ClearanceId::read("JONES/1")?;
-    let book = opening_book(rt.alloc())?;
+    let book: SortedBook = opening_book(rt.alloc())?;
     book.stands_in_order();
     assert!(rt; has_states(&book, &states));
     assert!(rt; book.state(&section).is_none());
@@ -294,7 +305,7 @@ fn switch_order(alloc: Global) -> Result<Kind, Fail> {
 }
 
 /// JONES/1 is ordered and holds S2 open, and OPS/1 is a switch order with a step there.
-fn book_with_two(alloc: Global) -> Result<ListBook, Fail> {
+fn book_with_two(alloc: Global) -> Result<SortedBook, Fail> {
     let switching = Record {
         work: None,
         ..record("OPS/1", Phase::Switching)?
@@ -311,7 +322,7 @@ fn book_with_two(alloc: Global) -> Result<ListBook, Fail> {
 }
 
 /// The book lends what a command of JONES looks at.
-fn lend(book: &ListBook, kind: Kind) -> Result<(), Fail> {
+fn lend(book: &SortedBook, kind: Kind) -> Result<(), Fail> {
     let command = Command {
         caller: Name::read("JONES")?,
         moment: Moment::new(2000).ok_or("a moment")?,

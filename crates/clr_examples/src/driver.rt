@@ -1,11 +1,17 @@
-//! What drives a book over lists in the examples. All that is said is said at one moment.
-use crate::books::ListBook;
-use clr_book::{Card, ClearanceId, Command, Kind, Moment, Phase, Reply};
+//! What drives a book in the examples, over any shelves. All that is said is said at one moment.
+use clr_book::{
+    Book, Card, ClearanceId, Command, Hold, Kind, Moment, Phase, PointState, Record, Reply, StepRow,
+};
 use clr_net::Name;
+use clr_shelf::Shelf;
 use std::test::Fail;
 
 /// What a command is answered. Its change is made.
-pub fn say(book: &mut ListBook, by: &str, kind: Kind) -> Result<Reply, Fail> {
+pub fn say<P: Shelf<PointState>, C: Shelf<Record>, T: Shelf<StepRow>, H: Shelf<Hold>>(
+    book: &mut Book<P, C, T, H>,
+    by: &str,
+    kind: Kind,
+) -> Result<Reply, Fail> {
     let command = Command {
         caller: Name::read(by)?,
         moment: Moment::new(100).ok_or("a moment")?,

@@ -4,6 +4,8 @@
 #[cfg(test)]
 mod books;
 #[cfg(test)]
+mod chain;
+#[cfg(test)]
 mod csv;
 #[cfg(test)]
 mod desk;

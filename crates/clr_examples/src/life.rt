@@ -1,10 +1,14 @@
-//! A clearance's life over lists: each kind of command that is said from the grant on.
-use crate::books::{ListBook, opening_book};
+//! A clearance's life over either kind of shelves: each kind of command from the grant on.
+use crate::books::{ListBook, SortedBook, opening_book};
 use crate::driver::{expect, own_card, say};
 use crate::worked::names;
-use clr_book::{Card, ClearanceId, HoldKind, Kind, Names, Phase, Refusal, Reply, Tasks, Text};
+use clr_book::{
+    Book, Card, ClearanceId, Hold, HoldKind, Kind, Names, Phase, PointState, Record, Refusal,
+    Reply, StepRow, Tasks, Text,
+};
 use clr_net::Name;
 use clr_order::{Step, read_step_text};
+use clr_shelf::Shelf;
 use std::alloc::Global;
 use std::test::Fail;
 
@@ -34,9 +38,9 @@ fn waiting(alloc: Global, texts: &[&str]) -> Result<Tasks, Fail> {
 }
 
 /// Each step is given out, repeated by REED and reported as done.
-fn run_steps(
+fn run_steps<P: Shelf<PointState>, C: Shelf<Record>, T: Shelf<StepRow>, H: Shelf<Hold>>(
     alloc: Global,
-    book: &mut ListBook,
+    book: &mut Book<P, C, T, H>,
     clearance: ClearanceId,
     texts: &[&str],
 ) -> Result<(), Fail> {
@@ -63,9 +67,9 @@ fn run_steps(
 }
 
 /// A requester asks for a section, and OPS has it isolated by these steps and grants it.
-fn grant(
+fn grant<P: Shelf<PointState>, C: Shelf<Record>, T: Shelf<StepRow>, H: Shelf<Hold>>(
     alloc: Global,
-    book: &mut ListBook,
+    book: &mut Book<P, C, T, H>,
     clearance: ClearanceId,
     section: &str,
     points: &[&str],
@@ -117,7 +121,11 @@ const RESTORE_L3: [&str; 9] = [
 ];
 
 /// JONES/1 is granted on L2, and KIM/1 on L3. Both hold S3 open.
-fn granted_book(alloc: Global, jones: ClearanceId, kim: ClearanceId) -> Result<ListBook, Fail> {
+fn granted_book<P: Shelf<PointState>, C: Shelf<Record>, T: Shelf<StepRow>, H: Shelf<Hold>>(
+    alloc: Global,
+    jones: ClearanceId,
+    kim: ClearanceId,
+) -> Result<Book<P, C, T, H>, Fail> {
     let mut book = opening_book(alloc)?;
     expect(
         grant(alloc, &mut book, jones, "L2", &["S2", "S3"], &ISOLATE_L2)?,
@@ -219,7 +227,10 @@ fn end(alloc: Global, kim: ClearanceId) -> Result<Vec<Line>, Fail> {
 }
 
 /// Each command of a table is accepted, and its clearance stands so.
-fn expect_all(book: &mut ListBook, table: Vec<Line>) -> Result<(), Fail> {
+fn expect_all<P: Shelf<PointState>, C: Shelf<Record>, T: Shelf<StepRow>, H: Shelf<Hold>>(
+    book: &mut Book<P, C, T, H>,
+    table: Vec<Line>,
+) -> Result<(), Fail> {
     for line in table {
         let reply = say(book, line.by, line.kind)?;
         expect(reply, Reply::Accepted(line.card))?;
@@ -227,12 +238,15 @@ fn expect_all(book: &mut ListBook, table: Vec<Line>) -> Result<(), Fail> {
     Ok(())
 }
 
-#[test]
-fn each_kind_from_the_grant_on(rt: HostRuntime) -> Result<(), Fail> {
-    let (jones, kim) = (ClearanceId::read("JONES/1")?, ClearanceId::read("KIM/1")?);
-    let mut book = granted_book(rt.alloc(), jones, kim)?;
-    expect_all(&mut book, work(rt.alloc(), jones, kim)?)?;
-    run_steps(rt.alloc(), &mut book, kim, &["UNTAG S3", "UNBLOCK S3"])?;
+/// What is said from the grant on, of a book in which both are granted.
+fn live_on<P: Shelf<PointState>, C: Shelf<Record>, T: Shelf<StepRow>, H: Shelf<Hold>>(
+    alloc: Global,
+    mut book: Book<P, C, T, H>,
+    jones: ClearanceId,
+    kim: ClearanceId,
+) -> Result<(), Fail> {
+    expect_all(&mut book, work(alloc, jones, kim)?)?;
+    run_steps(alloc, &mut book, kim, &["UNTAG S3", "UNBLOCK S3"])?;
     let close = Kind::Instruct {
         clearance: kim,
         step: 3,
@@ -241,6 +255,20 @@ fn each_kind_from_the_grant_on(rt: HostRuntime) -> Result<(), Fail> {
         say(&mut book, "OPS", close)?,
         Reply::Refused(Refusal::Held(jones, HoldKind::HeldOpen)),
     )?;
-    expect_all(&mut book, end(rt.alloc(), kim)?)?;
+    expect_all(&mut book, end(alloc, kim)?)?;
     Ok(())
+}
+
+#[test]
+fn each_kind_from_the_grant_on(rt: HostRuntime) -> Result<(), Fail> {
+    let (jones, kim) = (ClearanceId::read("JONES/1")?, ClearanceId::read("KIM/1")?);
+    let book: SortedBook = granted_book(rt.alloc(), jones, kim)?;
+    live_on(rt.alloc(), book, jones, kim)
+}
+
+#[test]
+fn each_kind_from_the_grant_on_over_lists(rt: HostRuntime) -> Result<(), Fail> {
+    let (jones, kim) = (ClearanceId::read("JONES/1")?, ClearanceId::read("KIM/1")?);
+    let book: ListBook = granted_book(rt.alloc(), jones, kim)?;
+    live_on(rt.alloc(), book, jones, kim)
 }

@@ -61,8 +61,16 @@ pub fn single_section(alloc: Global) -> Result<Network, Fail> {
     Ok(Network::build(alloc, sections, Vec::new(alloc))?)
 }
 
-/// The chain of the sections C0001, C0002 and on, each joined to the next: C0001 and C0002 by P0001.
-pub fn chain(alloc: Global, count: u16) -> Result<Result<Network, NetFault>, Fail> {
+/// The rows of a chain, in the order of their names.
+#[derive(Drop)]
+pub struct ChainRows {
+    pub sections: Vec<SectionRow>,
+    pub points: Vec<PointRow>,
+}
+
+/// The chain of the sections C0001, C0002 and on, none a source, each joined to the next by a
+/// closed point: C0001 and C0002 by P0001.
+pub fn chain_rows(alloc: Global, count: u16) -> Result<ChainRows, Fail> {
     let mut sections = Vec::new(alloc);
     let mut points = Vec::new(alloc);
     for number in 0..count {
@@ -82,7 +90,13 @@ pub fn chain(alloc: Global, count: u16) -> Result<Result<Network, NetFault>, Fai
             })?;
         }
     }
-    Ok(Network::build(alloc, sections, points))
+    Ok(ChainRows { sections, points })
+}
+
+/// The network of a chain, or its fault.
+pub fn chain(alloc: Global, count: u16) -> Result<Result<Network, NetFault>, Fail> {
+    let rows = chain_rows(alloc, count)?;
+    Ok(Network::build(alloc, rows.sections, rows.points))
 }
 
 /// The fault of rows that are no network, if they have one. Want of memory is never what a test asks for: it ends the test.
