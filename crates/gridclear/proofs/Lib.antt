@@ -1,5 +1,9 @@
 pub mod Answered
+pub mod Asked
 pub mod Found
+pub mod Named
+pub mod OfNoReader
 pub mod PointsNamed
 pub mod ReplyLines
+pub mod RunAnswers
 pub mod Told

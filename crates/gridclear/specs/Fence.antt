@@ -1,5 +1,6 @@
 -- What `fence` answers over a network: the lines of the fence, or the first fault of its words.
-use Rattle.std.specs.Prelude.{◌≡◌, ◌≢◌, ℕ, if◌then◌else◌, List, [], ◌∷◌, Option, Some, None, Result, Ok, Err}
+use Rattle.std.specs.Prelude.{◌≡◌, ◌≢◌, ℕ, if◌then◌else◌, List, [], ◌∷◌, Option, Some, None, Result}
+use Rattle.std.specs.Prelude.{Ok, Err, IfSome, codes}
 use Rattle.clr_net.specs.Names.{has_name}
 use Rattle.clr_net.specs.NameText.{read_name}
 use Rattle.clr_net.specs.Grid.{Grid, section_names, point_names}
@@ -11,7 +12,9 @@ use Rattle.clr_net.specs.declared.section.SectionRow.{SectionRow}
 use Rattle.clr_net.specs.declared.point.PointRow.{PointRow}
 use Rattle.clr_net.specs.declared.net_fault.NetFault.{NetFault}
 use Rattle.clr_net.specs.declared.name.NameFault.{NameFault}
-use Rattle.gridclear.specs.Answers.{◌>>=◌}
+use Rattle.clap.specs.Words.{Row}
+use Rattle.gridclear.specs.Answers.{◌>>=◌, After}
+use Rattle.gridclear.specs.Asked.{word_in, words_in}
 use Rattle.gridclear.specs.Fault.{of_name, of_network}
 use Rattle.gridclear.specs.Files.{IsUnread, told_of}
 use Rattle.gridclear.specs.Lines.{lines_of}
@@ -55,30 +58,45 @@ fence_lines g work cut = do
   points ← points_named g cut
   Ok (lines_of (fence_of g section points).sections)
 
--- What `fence` answers of rows whose first fault is this, if they have one: the fault, or the lines of the fence in the
--- network of the rows.
-abbrev pub IsFenceOf : Option NetFault → List SectionRow → List PointRow → List ℕ → List (List ℕ) → Result (List ℕ) Fault → Type 0
+-- What `fence` answers of rows whose first fault is this, if they have one: the fault, or the lines
+-- of the fence in the network of the rows.
+abbrev pub IsFenceOf : Option NetFault → List SectionRow → List PointRow → List ℕ → List (List ℕ)
+    → Result (List ℕ) Fault → Type 0
 IsFenceOf (Some cause) sections points work cut told = told ≡ Err (of_network cause)
-IsFenceOf None sections points work cut told = (g : Grid) × IsGridOf sections points g × (told ≡ fence_lines g work cut)
+IsFenceOf None sections points work cut told = (g : Grid) × IsGridOf sections points g
+    × (told ≡ fence_lines g work cut)
 
 -- the same of rows, as a call answers it; only want of memory may come in place of the answer
-abbrev pub FencesRows : {T : Type 0} → (T → List ℕ) → List SectionRow → List PointRow → List ℕ → List (List ℕ) → Result T Fault → Type 0
-FencesRows view sections points work cut (Ok value) = IsFenceOf (first_fault sections points) sections points work cut (Ok (view value))
-FencesRows view sections points work cut (Err fault) = fault ≢ Memory → IsFenceOf (first_fault sections points) sections points work cut (Err fault)
+abbrev pub FencesRows : {T : Type 0} → (T → List ℕ) → List SectionRow → List PointRow → List ℕ
+    → List (List ℕ) → Result T Fault → Type 0
+FencesRows view sections points work cut (Ok value) =
+    IsFenceOf (first_fault sections points) sections points work cut (Ok (view value))
+FencesRows view sections points work cut (Err fault) = fault ≢ Memory
+    → IsFenceOf (first_fault sections points) sections points work cut (Err fault)
 
--- What `fence` answers of the bytes of its two files: the first fault of the sections, then that of the points, else what it
--- answers of their rows.
-abbrev pub After : {A : Type 0} → Result A Fault → (A → Result (List ℕ) Fault → Type 0) → Result (List ℕ) Fault → Type 0
-After (Ok value) next told = next value told
-After (Err fault) next told = told ≡ Err fault
-
-abbrev pub IsFenceOfFiles : List ℕ → List ℕ → List ℕ → List (List ℕ) → Result (List ℕ) Fault → Type 0
+-- What `fence` answers of the bytes of its two files: the first fault of the sections, then that of
+-- the points, else what it answers of their rows.
+abbrev pub IsFenceOfFiles : List ℕ → List ℕ → List ℕ → List (List ℕ) → Result (List ℕ) Fault
+    → Type 0
 IsFenceOfFiles section_file point_file work cut =
     After (told_of Sections (sections_of section_file)) (λ sections.
     After (told_of Points (points_of point_file)) (λ points.
     IsFenceOf (first_fault sections points) sections points work cut))
 
--- the same of bytes, as a call answers it; only want of memory, or a file that goes unread, may come in place of the answer
-abbrev pub FencesFiles : {T : Type 0} → (T → List ℕ) → List ℕ → List ℕ → List ℕ → List (List ℕ) → Result T Fault → Type 0
-FencesFiles view section_file point_file work cut (Ok value) = IsFenceOfFiles section_file point_file work cut (Ok (view value))
-FencesFiles view section_file point_file work cut (Err fault) = (IsUnread Sections fault → ⊥) → (IsUnread Points fault → ⊥) → IsFenceOfFiles section_file point_file work cut (Err fault)
+-- the same of bytes, as a call answers it; only want of memory, or a file that goes unread, may
+-- come in place of the answer
+abbrev pub FencesFiles : {T : Type 0} → (T → List ℕ) → List ℕ → List ℕ → List ℕ → List (List ℕ)
+    → Result T Fault → Type 0
+FencesFiles view section_file point_file work cut (Ok value) =
+    IsFenceOfFiles section_file point_file work cut (Ok (view value))
+FencesFiles view section_file point_file work cut (Err fault) = (IsUnread Sections fault → ⊥)
+    → (IsUnread Points fault → ⊥) → IsFenceOfFiles section_file point_file work cut (Err fault)
+
+-- the same at paths: SECTIONS and POINTS name the files, WORK the section, and each CUT a point
+abbrev pub FencesAt : {T : Type 0} → (T → List ℕ) → (List ℕ → Option (List ℕ)) → List Row
+    → Result T Fault → Type 0
+FencesAt view bytes_at rows result =
+    IfSome (bytes_at (word_in rows (codes "SECTIONS"))) (λ section_file.
+    IfSome (bytes_at (word_in rows (codes "POINTS"))) (λ point_file.
+    FencesFiles view section_file point_file (word_in rows (codes "WORK"))
+    (words_in rows (codes "CUT")) result))

@@ -1,4 +1,6 @@
 pub mod Answers
+pub mod Asked
+pub mod CommandLine
 pub mod Fault
 pub mod Fence
 pub mod Files

@@ -19,28 +19,35 @@ option_rule id = record (new_rule id) { long = Some id; value_names = 1 }
 
 -- `--offset MINUTES`, from -720 to 840
 abbrev pub offset_rule : Rule
-offset_rule = record (option_rule (codes "offset")) { parser = Some (Signed (neg_ℤ (pos 720)) (pos 840)) }
+offset_rule = record (option_rule (codes "offset"))
+    { parser = Some (Signed (neg_ℤ (pos 720)) (pos 840)) }
 
 -- the arguments of the two files of a network
 abbrev pub with_files : App → App
-with_files app = with_rule (with_rule app (required_rule (codes "SECTIONS"))) (required_rule (codes "POINTS"))
+with_files app = with_rule (with_rule app (required_rule (codes "SECTIONS")))
+    (required_rule (codes "POINTS"))
 
 -- `fence SECTIONS POINTS WORK [CUT]...`
 abbrev pub fence : App
-fence = with_rule (with_rule (with_files (new_app (codes "fence"))) (required_rule (codes "WORK"))) (repeated_rule (codes "CUT"))
+fence = with_rule (with_rule (with_files (new_app (codes "fence"))) (required_rule (codes "WORK")))
+    (repeated_rule (codes "CUT"))
 
 -- `init SECTIONS POINTS STAFF [--db FILE]`
 abbrev pub init : App
-init = with_rule (with_rule (with_files (new_app (codes "init"))) (required_rule (codes "STAFF"))) (option_rule (codes "db"))
+init = with_rule (with_rule (with_files (new_app (codes "init"))) (required_rule (codes "STAFF")))
+    (option_rule (codes "db"))
 
 -- `run [--db FILE] [FILES]...`
 abbrev pub run : App
-run = with_rule (with_rule (new_app (codes "run")) (option_rule (codes "db"))) (repeated_rule (codes "FILES"))
+run = with_rule (with_rule (new_app (codes "run")) (option_rule (codes "db")))
+    (repeated_rule (codes "FILES"))
 
 -- `order DB CLEARANCE ROUND [--offset MINUTES]`
 abbrev pub order : App
 order =
-    with_rule (with_rule (with_rule (with_rule (new_app (codes "order")) (required_rule (codes "DB"))) (required_rule (codes "CLEARANCE")))
+    with_rule (with_rule (with_rule
+    (with_rule (new_app (codes "order")) (required_rule (codes "DB")))
+    (required_rule (codes "CLEARANCE")))
     (required_rule (codes "ROUND"))) offset_rule
 
 -- `board DB [--offset MINUTES]`
@@ -50,12 +57,14 @@ board = with_rule (with_rule (new_app (codes "board")) (required_rule (codes "DB
 -- `gridclear` alone: it has a version, and asks for a subcommand
 abbrev pub top : App
 top = record {
-  top = record (new_shape (codes "gridclear")) { has_version = true; arg_required_else_help = true; subcommand_required = true };
+  top = record (new_shape (codes "gridclear"))
+      { has_version = true; arg_required_else_help = true; subcommand_required = true };
   subs = [];
 }
 
 -- the program with its subcommands
 abbrev pub gridclear : App
 gridclear =
-    with_subcommand (with_subcommand (with_subcommand (with_subcommand (with_subcommand top fence.top) init.top) run.top)
+    with_subcommand (with_subcommand
+    (with_subcommand (with_subcommand (with_subcommand top fence.top) init.top) run.top)
     order.top) board.top

@@ -18,8 +18,8 @@ pub enum Outcome {
 }
 
 /// Writes what words came to where it belongs, and returns the exit status: an answer to `output`,
-/// 0; a fault to `errors`, 1, behind what came before it; why words do not parse to `errors`, 2. An answer that cannot be
-/// written is a fault. What cannot be written to `errors` is lost.
+/// 0; a fault to `errors`, 1, behind what came before it; why words do not parse to `errors`, 2. An
+/// answer that cannot be written is a fault. What cannot be written to `errors` is lost.
 pub fn tell<W: CountedWrite, E: CountedWrite>(
     told: Result<Outcome, Fault>,
     output: &mut W,

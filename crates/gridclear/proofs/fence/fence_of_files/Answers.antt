@@ -1,0 +1,9 @@
+use Rattle.gridclear.proofs.OfNoReader.{HasCause-rows}
+use Rattle.gridclear.proofs.fence.fence_of_files.Goals as goal
+
+-- a fault of the rows is no file's
+pub returns-in_err-text-clause-sections_cause : goal.returns-in_err-text-clause-sections_cause
+returns-in_err-text-clause-sections_cause g c = HasCause-rows _ _ _ _ _ _ _ _ _ c.in_err-text.ensures c.from_residual-in_err-text.ensures.1
+
+pub returns-in_err-text-clause-points_cause : goal.returns-in_err-text-clause-points_cause
+returns-in_err-text-clause-points_cause g c = HasCause-rows _ _ _ _ _ _ _ _ _ c.in_err-text.ensures c.from_residual-in_err-text.ensures.1
