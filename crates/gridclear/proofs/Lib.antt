@@ -4,6 +4,7 @@ pub mod Found
 pub mod Named
 pub mod OfNoReader
 pub mod PointsNamed
+pub mod PrintedLines
 pub mod ReplyLines
 pub mod RunAnswers
 pub mod Told

@@ -8,6 +8,7 @@ pub mod Init
 pub mod Lines
 pub mod Order
 pub mod Outcome
+pub mod PrintedLines
 pub mod Replies
 pub mod Run
 pub mod Stored

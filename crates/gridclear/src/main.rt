@@ -8,6 +8,7 @@ mod fault;
 mod fence;
 mod files;
 mod init;
+mod laws;
 mod line;
 mod order;
 mod outcome;

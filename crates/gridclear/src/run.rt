@@ -7,7 +7,9 @@ ghost use Rattle.clr_csv.specs.Failures.{Rose};
 ghost use Rattle.clr_csv.specs.Points.{points_of};
 ghost use Rattle.clr_csv.specs.Sections.{sections_of};
 ghost use Rattle.clr_rules.specs.Good.{IsGood};
+ghost use Rattle.clr_text.specs.LineLaws.{SameShownSameBytes};
 ghost use Rattle.gridclear.specs.Files.{HasCause, WaitsFor};
+ghost use Rattle.gridclear.specs.PrintedLines.{PrintedAreReplies};
 ghost use Rattle.gridclear.specs.Replies.{PrintsFirst, input_lines, reply_lines};
 ghost use Rattle.gridclear.specs.Run.{IsOpeningOf, RunsAsked, RunsAt, RunsFiles, RunsOver};
 ghost use Rattle.gridclear.specs.Run.{rows_fault};
@@ -16,6 +18,7 @@ ghost use Rattle.gridclear.specs.Stored.{IsOfLine};
 use crate::database::{Databases, close_desk, open_desk};
 use crate::fault::{Fault, ImportFile, InputFault};
 use crate::files::{Source, points_from, sections_from, staff_from};
+use crate::laws::printed_lines_are_replies;
 use crate::paths::Opens;
 use crate::replies::{Printed, lines_of, replies_to};
 use crate::stored::stored_replies;
@@ -124,9 +127,12 @@ pub fn run_stored<S: Alter + Drop, I: CountedRead>(
     ensures others { IfErr result (λ fault. (fault ≡ Fault.Memory)
         ⊎ (fault ≡ Fault.Input InputFault.ReadFailed)
         ⊎ (fault ≡ Fault.Input InputFault.TooLong)) }
+    ensures printed { PrintedAreReplies }
+    ensures same { SameShownSameBytes }
 {
     let bytes = input_bytes(alloc, input)?;
     let lines = lines_of(alloc, bytes.as_slice())?;
+    printed_lines_are_replies();
     Ok(stored_replies(alloc, desk, lines.as_slice()))
 }
 
@@ -211,9 +217,12 @@ where
     ensures others { IfErr result (λ fault. (fault ≡ Fault.Memory)
         ⊎ (fault ≡ Fault.Input InputFault.ReadFailed)
         ⊎ (fault ≡ Fault.Input InputFault.TooLong)) }
+    ensures printed { PrintedAreReplies }
+    ensures same { SameShownSameBytes }
 {
     let bytes = input_bytes(alloc, input)?;
     let lines = lines_of(alloc, bytes.as_slice())?;
+    printed_lines_are_replies();
     Ok(replies_to(alloc, book, lines.as_slice()))
 }
 
