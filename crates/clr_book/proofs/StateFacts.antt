@@ -1,6 +1,7 @@
--- A state that is taken and put again, changed; and states that are put one after the other, in the order of their points.
+-- A state that is replaced by a changed one; and states that are put one after the other, in the order of their points.
 use Rattle.std.proofs.Common.{◌≡◌, ℕ, true, not, List, [], ◌∷◌, ◌++◌, Some, None, refl, sym, ◌∙◌, ap}
-use Rattle.std.specs.Ordering.{is_eq, is_lt, is_gt}
+use Rattle.std.specs.Ordering.{is_lt, is_gt}
+use Rattle.std.specs.Prelude.{Option, OnSome}
 use Rattle.std.specs.declared.cmp.Ordering.{Ordering}
 use Rattle.std.specs.declared.cmp.Ordering.TheVariants.{Less, Equal, Greater}
 use Rattle.std.proofs.lemmas.Bool.{and_parts}
@@ -8,24 +9,13 @@ use Rattle.std.proofs.lemmas.Cmp.{nat_list_cmp_total}
 use mathlib.Core.Bool.{true≢false}
 use Rattle.clr_net.specs.Name.{name_cmp}
 use Rattle.clr_shelf.proofs.Keys.{equal, same_text}
-use Rattle.clr_shelf.proofs.Lists.{filter-filter_wider, filter-none, filter-same, list_all-contains, list_all-weaker, Contains-here}
+use Rattle.clr_shelf.proofs.Lists.{filter-none, filter-same, list_all-contains, list_all-weaker, Contains-here}
 use Rattle.std.specs.List.{list_all}
 use Rattle.std.proofs.lemmas.List.Elements.{Contains-append_right}
 use Rattle.clr_shelf.proofs.Members.{member-row_of}
-use Rattle.clr_shelf.proofs.Reading.{without_row-missing}
-use Rattle.clr_shelf.specs.Rows.{in_key_order, with_row, without_row}
+use Rattle.clr_shelf.specs.Rows.{in_key_order, with_row}
 use Rattle.clr_rules.specs.States.{change_state, state_key, state_of}
 use Rattle.clr_rules.specs.declared.point_state.PointState.{PointState}
-
-lower_differs : (o : Ordering) → is_lt o ≡ true → not (is_eq o) ≡ true
-lower_differs Less h = refl
-lower_differs Equal h = absurd (true≢false (sym h))
-lower_differs Greater h = refl
-
-higher_differs : (o : Ordering) → is_gt o ≡ true → not (is_eq o) ≡ true
-higher_differs Less h = refl
-higher_differs Equal h = absurd (true≢false (sym h))
-higher_differs Greater h = refl
 
 not_higher : (o : Ordering) → is_lt o ≡ true → not (is_gt o) ≡ true
 not_higher Less h = refl
@@ -33,14 +23,6 @@ not_higher Equal h = absurd (true≢false (sym h))
 not_higher Greater h = absurd (true≢false (sym h))
 
 module _ {Key Row : Type 0} (compare : Key → Key → Ordering) (key_of : Row → Key) where
-  -- putting a row replaces that of its key, so it makes no difference whether that was taken before
-  pub with_row-taken : (row : Row) (rows : List Row) → with_row compare key_of row (without_row compare key_of (key_of row) rows) ≡ with_row compare key_of row rows
-  unfolding with_row without_row
-  with_row-taken row rows =
-      let to = λ (other : Row). compare (key_of other) (key_of row) in
-      let differs = λ (other : Row). not (is_eq (to other)) in
-      rw (filter-filter_wider (λ other. is_lt (to other)) differs (λ other. lower_differs (to other)) rows, filter-filter_wider (λ other. is_gt (to other)) differs (λ other. higher_differs (to other)) rows) refl
-
   -- a row that is put after all others stands at the end
   pub with_row-end : (row : Row) (front : List Row) → list_all (λ other. is_lt (compare (key_of other) (key_of row))) front ≡ true
       → with_row compare key_of row front ≡ front ++ row ∷ []
@@ -67,16 +49,15 @@ pub found_at : (states : List PointState) (p : List ℕ) (s : PointState) → st
 found_at states p s found =
     same_text s.point p (equal (name_cmp s.point p) ((member-row_of name_cmp state_key nat_list_cmp_total p s states found).1))
 
--- a state that is taken, changed and put
-pub put_changed : (states : List PointState) (p : List ℕ) (s : PointState) (change : PointState → PointState) → (change s).point ≡ s.point
-    → state_of states p ≡ Some s
-    → with_row name_cmp state_key (change s) (without_row name_cmp state_key p states) ≡ change_state states p change
-put_changed states p s change same found =
-    let at_point : p ≡ (change s).point = sym (same ∙ found_at states p s found) in
-    let taken : without_row name_cmp state_key p states ≡ without_row name_cmp state_key (change s).point states = ap (λ q. without_row name_cmp state_key q states) at_point in
-    rw (found, taken) (with_row-taken name_cmp state_key (change s) states)
+-- a state that is replaced by a changed one
+pub replaced_changed : (states replaced : List PointState) (p : List ℕ) (s : PointState) (change : PointState → PointState) → (change s).point ≡ s.point
+    → state_of states p ≡ Some s → (old : Option PointState) → old ≡ state_of states (change s).point
+    → OnSome old (replaced ≡ with_row name_cmp state_key (change s) states) → replaced ≡ change_state states p change
+replaced_changed states replaced p s change same found None is put =
+    absurd (cc (is ∙ ap (state_of states) (same ∙ found_at states p s found) ∙ found))
+replaced_changed states replaced p s change same found (Some old) is put = rw found put
 
 -- a point without a state stays without
 pub none_changed : (states : List PointState) (p : List ℕ) (change : PointState → PointState) → state_of states p ≡ None
-    → without_row name_cmp state_key p states ≡ change_state states p change
-none_changed states p change missing = rw missing (without_row-missing name_cmp state_key nat_list_cmp_total p states missing)
+    → states ≡ change_state states p change
+none_changed states p change missing = rw missing refl

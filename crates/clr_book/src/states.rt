@@ -36,8 +36,9 @@ pub(crate) fn set_position<P: Shelf<PointState>>(states: &mut P, point: &Name, p
         ≡ change_state (P.rows states.old) point.now
         (λ state. record state { position = position }) }
 {
-    if let Some(state) = states.take(point) {
-        states.put(PointState { position, ..state });
+    if let Some(state) = states.get(point) {
+        let state = PointState { position, ..*state };
+        let _ = states.replace(state);
     }
 }
 
@@ -50,7 +51,8 @@ pub(crate) fn set_hand<P: Shelf<PointState>>(
     ensures { P.rows states.new
         ≡ change_state (P.rows states.old) point.now (λ state. record state { hand = hand }) }
 {
-    if let Some(state) = states.take(point) {
-        states.put(PointState { hand, ..state });
+    if let Some(state) = states.get(point) {
+        let state = PointState { hand, ..*state };
+        let _ = states.replace(state);
     }
 }

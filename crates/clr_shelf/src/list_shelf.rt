@@ -7,6 +7,7 @@ ghost use Rattle.clr_shelf.specs.Places.{IsPlaceOf, IsGapFor};
 use crate::row::Row;
 use crate::shelf::Shelf;
 use std::alloc::{AllocError, Global};
+use std::mem;
 
 /// Rows in a `Vec`, in key order. A key is looked up by halves, and a group by a walk over all
 /// rows.
@@ -83,6 +84,13 @@ impl<R: Row> Shelf<R> for ListShelf<R> {
                     unreachable!()
                 };
             }
+        }
+    }
+
+    fn replace(&mut self, row: R) -> Option<R> {
+        match self.place_of(&row.key()) {
+            Ok(place) => Some(mem::replace(&mut self.list[place], row)),
+            Err(_) => None,
         }
     }
 

@@ -62,6 +62,18 @@ pub trait Shelf<R: Row>: Drop {
         ensures rows { rows self.new ≡ with_row R.key_cmp R.key_of row (rows self.old) }
         ensures room { room self.old ≤ room self.new + 1 };
 
+    /// Puts a row in place of the row of its key, and gives that back. Without such a row nothing
+    /// changes.
+    ///
+    /// It takes no room, and moves no other row.
+    fn replace(&mut self, row: R) -> Option<R>
+        ensures given { result ≡ row_of R.key_cmp R.key_of (R.key_of row) (rows self.old) }
+        ensures rows { OnSome result
+            (rows self.new ≡ with_row R.key_cmp R.key_of row (rows self.old)) }
+        ensures missing { IfNone result ((rows self.new ≡ rows self.old)
+            × (places self.new ≡ places self.old)) }
+        ensures room { room self.new ≡ room self.old };
+
     /// Takes the row of a key out, which leaves room for one more.
     fn take(&mut self, key: &R::Key) -> Option<R>
         ensures given { result ≡ row_of R.key_cmp R.key_of key.now (rows self.old) }

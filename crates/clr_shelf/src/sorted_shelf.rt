@@ -11,6 +11,7 @@ use crate::grouped_shelf::GroupedShelf;
 use crate::row::Row;
 use crate::shelf::Shelf;
 use std::alloc::{AllocError, Global};
+use std::mem;
 use std::ops::Range;
 
 /// Rows in a `Vec`, by group and then key. A key and a group are looked up by halves.
@@ -117,6 +118,13 @@ impl<R: Row> Shelf<R> for SortedShelf<R> {
                     unreachable!()
                 };
             }
+        }
+    }
+
+    fn replace(&mut self, row: R) -> Option<R> {
+        match self.place_of(&row.key()) {
+            Ok(place) => Some(mem::replace(&mut self.list[place], row)),
+            Err(_) => None,
         }
     }
 
