@@ -1,7 +1,10 @@
 -- Which words may have an answer.
-use Rattle.std.proofs.Common.{◌≡◌, ◌≢◌, ◌∙◌, ◌⊎◌, ap, inl, inr, refl, subst, sym, true, List, [], Result, Ok, Err}
-use Rattle.std.specs.Prelude.{IfErr}
-use Rattle.clap.specs.Words.{App, HasKind, IsAmong, Kinds, Text, fault_of, is_simple_and_free, kind_of}
+use Rattle.std.proofs.Common.{◌≡◌, ◌≢◌, ◌∙◌, ◌⊎◌, ap, inl, inr, refl, subst, sym, Bool, true, false, ℕ, List, [], ◌∷◌, Result, Ok, Err}
+use Rattle.std.specs.Prelude.{IfOk, IsErrAnd, Option, Some, None, option_map, unwrap_or, ◌&&◌}
+use Rattle.std.specs.Borrow.{Bor}
+use Rattle.clap.specs.Words.{App, HasKind, HasMatchesOf, IsAmong, Kinds, Row, Text, fault_of, found_of, is_simple, is_simple_and_free, kind_of, rows_of, subcommand_of, subcommand_name_of, subcommand_rows, subcommand_rows_of}
+use Rattle.clap.specs.declared.parser.matches.ArgMatches.{ArgMatches}
+use Rattle.clap.specs.declared.parser.matches.ArgMatches.TheViews.{out-ArgMatches}
 use Rattle.clap.specs.declared.error.Error.{Error}
 use Rattle.clap.specs.declared.error.kind.ErrorKind.{ErrorKind}
 use Rattle.clap.specs.declared.error.kind.ErrorKind.TheVariants as kind
@@ -10,7 +13,8 @@ use Rattle.clr_program.specs.declared.fault.Fault.{Fault}
 use Rattle.clr_program.specs.declared.fault.Fault.TheVariants.{Memory}
 use Rattle.clr_program.specs.declared.outcome.Outcome.{Outcome}
 use Rattle.clr_program.specs.declared.outcome.Outcome.TheVariants.{Answer, Serve, Stopped, Unread}
-use Rattle.clr_program.specs.Outcome.{IsAnswer, IsUnread, MayAnswer}
+use Rattle.clr_program.specs.CommandLine.{AnswersNamed, AnswersWords, MayAnswer}
+use Rattle.clr_program.specs.Outcome.{IsAnswer, IsUnread}
 use Rattle.clr_program.specs.Syntax.{gridclear}
 
 -- the kinds of error are known of the program's command line
@@ -52,23 +56,102 @@ plain_command : (app : App) → app ≡ gridclear → is_simple_and_free app ≡
 plain_command app shape = ap is_simple_and_free shape ∙ is_plain_gridclear
 
 -- words that parse have no fault of their own
-fault_of-parsed : (app : App) (words : List Text) → app ≡ gridclear → (is_simple_and_free app ≡ true → fault_of app words ≡ []) → fault_of gridclear words ≡ []
+pub fault_of-parsed : (app : App) (words : List Text) → app ≡ gridclear → (is_simple_and_free app ≡ true → fault_of app words ≡ []) → fault_of gridclear words ≡ []
 fault_of-parsed app words shape kinds = ap (λ (a : App). fault_of a words) (sym shape) ∙ kinds (plain_command app shape)
-
--- words that parse may have an answer
-pub MayAnswer-parsed : (app : App) (words : List Text) → app ≡ gridclear → (is_simple_and_free app ≡ true → fault_of app words ≡ [])
-    → MayAnswer (fault_of gridclear words)
-MayAnswer-parsed app words shape kinds = inl (fault_of-parsed app words shape kinds)
-
--- words that parse may meet any fault
-pub IfErr-parsed : {T : Type 0} (result : Result T Fault) (app : App) (words : List Text) → app ≡ gridclear
-    → (is_simple_and_free app ≡ true → fault_of app words ≡ [])
-    → IfErr result (λ fault. (fault ≡ Memory) ⊎ (fault_of gridclear words ≡ []))
-IfErr-parsed (Ok value) app words shape kinds = tt
-IfErr-parsed (Err fault) app words shape kinds = inr (fault_of-parsed app words shape kinds)
 
 -- the kinds of an error that words gave
 pub HasKind-words : (app : App) (words : List Text) (error : Error) → app ≡ gridclear → (is_simple_and_free app ≡ true → HasKind (fault_of app words) error)
     → HasKind (fault_of gridclear words) error
 HasKind-words app words error shape kinds =
     let P : App → Type 0 = λ a. HasKind (fault_of a words) error in subst P shape (kinds (plain_command app shape))
+
+-- memory ran out, whatever the words ask
+pub AnswersWords-memory : (bytes_at : Text → Option Text) (input : Option Text) (words : List Text) (result : Result Outcome Fault)
+    → IsErrAnd result (λ fault. fault ≡ Memory) → AnswersWords bytes_at input words result
+AnswersWords-memory bytes_at input words (Ok outcome) is = absurd is
+AnswersWords-memory bytes_at input words (Err fault) is =
+    record { parsed = λ none. inl (ap Err is); unparsed = λ some. is; helped = tt }
+
+-- the same where its fault is passed on
+pub AnswersWords-passed : (bytes_at : Text → Option Text) (input : Option Text) (words : List Text) (fault : Fault) (result : Result Outcome Fault)
+    → IsErrAnd result (λ cause. cause ≡ fault) → fault ≡ Memory → AnswersWords bytes_at input words result
+AnswersWords-passed bytes_at input words fault (Ok outcome) is memory = absurd is
+AnswersWords-passed bytes_at input words fault (Err cause) is memory = AnswersWords-memory bytes_at input words (Err cause) (is ∙ memory)
+
+no_kind : (kinds : Kinds) (error : Error) → HasKind kinds error → kinds ≡ [] → kind_of error ≡ kind.OutOfMemory
+no_kind [] error has none = elim has [
+  | inl ran_out ↦ ran_out
+  | inr among ↦ absurd among
+]
+no_kind (k ∷ kinds) error has none = absurd (cc none)
+
+-- words in which clap finds something that is told
+pub AnswersWords-told : (bytes_at : Text → Option Text) (input : Option Text) (words : List Text) (error : Error) (outcome : Outcome)
+    → HasKind (fault_of gridclear words) error
+    → (kind_of error ≡ kind.OutOfMemory → ⊥)
+    → (kind_of error ≢ kind.OutOfMemory → kind_of error ≢ kind.DisplayHelp → kind_of error ≢ kind.DisplayVersion → IsUnread outcome)
+    → AnswersWords bytes_at input words (Ok outcome)
+AnswersWords-told bytes_at input words error outcome has memory mistake = record {
+  parsed = λ none. absurd (memory (no_kind (fault_of gridclear words) error has none));
+  unparsed = λ some. tt;
+  helped = MayAnswer-from_help (fault_of gridclear words) error outcome has memory mistake;
+}
+
+if_ok_may : (words : List Text) (result : Result Outcome Fault) → fault_of gridclear words ≡ []
+    → IfOk result (λ outcome. IsAnswer outcome → MayAnswer (fault_of gridclear words))
+if_ok_may words (Ok outcome) none = λ answers. inl none
+if_ok_may words (Err fault) none = tt
+
+-- words that parse come to what is answered of the subcommand that they name
+pub AnswersWords-parsed : (bytes_at : Text → Option Text) (input : Option Text) (words : List Text) (result : Result Outcome Fault)
+    → fault_of gridclear words ≡ [] → AnswersNamed bytes_at input (subcommand_of gridclear words) result
+    → AnswersWords bytes_at input words result
+AnswersWords-parsed bytes_at input words result none answers =
+    record { parsed = λ again. inr answers; unparsed = λ some. absurd (some none); helped = if_ok_may words result none }
+
+-- the subcommand that a parse met, as its matches show it
+abbrev pub shown : Option (Bor (List ℕ) × Bor ArgMatches) → Option (Text × List Row)
+shown met = option_map (λ p. (p.0.now, rows_of (found_of p.1.now))) met
+
+pairs : (met : Option (Bor (List ℕ) × Bor ArgMatches)) (sub : Option (Text × List Row))
+    → option_map (λ p. p.0.now) met ≡ option_map (λ p. p.0) sub
+    → option_map (λ p. rows_of (found_of p.1.now)) met ≡ option_map (λ p. p.1) sub
+    → shown met ≡ sub
+pairs None None name rows = refl
+pairs None (Some q) name rows = absurd (cc name)
+pairs (Some p) None name rows = absurd (cc name)
+pairs (Some p) (Some q) name rows = λ i. Some (some_path name i, some_path rows i)
+  where
+    some_path : {A : Type 0} {a b : A} → Some a ≡ Some b → a ≡ b
+    some_path {A} {a} {b} e = ap (λ o. unwrap_or o a) e
+
+twice : {A B C : Type 0} (f : A → B) (g : B → C) (o : Option A) → option_map g (option_map f o) ≡ option_map (λ a. g (f a)) o
+twice f g None = refl
+twice f g (Some a) = refl
+
+-- the subcommand that a parse met is the one that the words name
+pub subcommand_of-met : (app : App) (words : List Text) (m : ArgMatches) (met : Option (Bor Text × Bor ArgMatches)) → app ≡ gridclear
+    → HasMatchesOf app words m
+    → option_map (λ p. p.0.now) met ≡ subcommand_name_of m
+    → option_map (λ p. rows_of (found_of p.1.now)) met ≡ option_map (λ p. p.1) (subcommand_rows (out-ArgMatches m).subcommand)
+    → shown met ≡ subcommand_of gridclear words
+subcommand_of-met app words m met shape has name rows =
+    pairs met (subcommand_rows_of m) (name ∙ sym (twice _ (λ p. p.0) (out-ArgMatches m).subcommand)) rows
+    ∙ (has (and_left (is_simple app) _ (plain_command app shape))).1
+    ∙ ap (λ (a : App). subcommand_of a words) shape
+  where
+    and_left : (a b : Bool) → (a && b) ≡ true → a ≡ true
+    and_left true b e = refl
+    and_left false b e = absurd (cc e)
+
+-- words that parse, and the subcommand that their parse met
+pub AnswersWords-met : (bytes_at : Text → Option Text) (input : Option Text) (words : List Text) (result : Result Outcome Fault)
+    (app : App) (m : ArgMatches) (met : Option (Bor Text × Bor ArgMatches)) (named : Option (Text × List Row))
+    → app ≡ gridclear → (is_simple_and_free app ≡ true → fault_of app words ≡ []) → HasMatchesOf app words m
+    → option_map (λ p. p.0.now) met ≡ subcommand_name_of m
+    → option_map (λ p. rows_of (found_of p.1.now)) met ≡ option_map (λ p. p.1) (subcommand_rows (out-ArgMatches m).subcommand)
+    → shown met ≡ named → AnswersNamed bytes_at input named result → AnswersWords bytes_at input words result
+AnswersWords-met bytes_at input words result app m met named shape kinds has name rows is answers =
+    let P : Option (Text × List Row) → Type 0 = λ o. AnswersNamed bytes_at input o result in
+    AnswersWords-parsed bytes_at input words result (fault_of-parsed app words shape kinds)
+    (subst P (sym is ∙ subcommand_of-met app words m met shape has name rows) answers)

@@ -1,6 +1,10 @@
 pub mod Answered
+pub mod Asked
 pub mod Connections
 pub mod Found
+pub mod OfNoReader
 pub mod PointsNamed
+pub mod PrintedLines
 pub mod ReplyLines
+pub mod RunAnswers
 pub mod Told

@@ -1,8 +1,11 @@
 -- What is told of an outcome is what every outcome keeps to.
-use Rattle.std.proofs.Common.{◌≡◌, ◌⊎◌, ℕ, Result, Ok, Err, arith, inl, inr, refl}
-use Rattle.std.specs.Prelude.{string_bytes}
+use Rattle.std.proofs.Common.{◌≡◌, ◌⊎◌, ℕ, List, Result, Ok, Err, arith, inl, inr, refl}
+use Rattle.std.specs.Prelude.{Option, string_bytes}
+use Rattle.clap.specs.Words.{Text, fault_of}
+use Rattle.clr_program.specs.CommandLine.{AnswersWords, MayAnswer}
 use Rattle.clr_program.specs.Outcome.{HasServed, IsFaulted, IsTold, Stream, Tells}
 use Rattle.clr_program.specs.Serve.{FailsServing}
+use Rattle.clr_program.specs.Syntax.{gridclear}
 use Rattle.clr_program.specs.declared.fault.Fault.{Fault}
 use Rattle.clr_program.specs.declared.fault.Fault.TheVariants.{Output}
 use Rattle.clr_program.specs.declared.outcome.Outcome.{Outcome}
@@ -46,3 +49,15 @@ IsTold-from_tells (Ok (Unread text)) status output output' errors errors' (two, 
     record { statuses = omega (arith, two); answered = λ zero. absurd (omega (arith, zero, two)); faulted = λ one. absurd (omega (arith, one, two)); unread = λ _. same }
 IsTold-from_tells (Err fault) status output output' errors errors' (one, same, line) =
     record { statuses = omega (arith, one); answered = λ zero. absurd (omega (arith, zero, one)); faulted = λ _. (fault, errors, line, inl (refl, inr (inl same))); unread = λ two. absurd (omega (arith, one, two)) }
+
+-- the status is 0 only for words that may have an answer
+pub MayAnswer-from_tells : (bytes_at : Text → Option Text) (input : Option Text) (words : List Text) (told : Result Outcome Fault)
+    (status : ℕ) (output output' errors errors' : Stream) → AnswersWords bytes_at input words told
+    → Tells told status output output' errors errors' → status ≡ 0 → MayAnswer (fault_of gridclear words)
+MayAnswer-from_tells bytes_at input words (Ok (Answer text)) status output output' errors errors' answers tells zero = answers.helped tt
+MayAnswer-from_tells bytes_at input words (Ok (Stopped text fault)) status output output' errors errors' answers tells zero = answers.helped tt
+MayAnswer-from_tells bytes_at input words (Ok (Serve serving)) status output output' errors errors' answers tells zero = answers.helped tt
+MayAnswer-from_tells bytes_at input words (Ok (Unread text)) status output output' errors errors' answers (two, same, line) zero =
+    absurd (omega (arith, zero, two))
+MayAnswer-from_tells bytes_at input words (Err fault) status output output' errors errors' answers (one, same, line) zero =
+    absurd (omega (arith, zero, one))

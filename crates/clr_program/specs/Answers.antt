@@ -18,3 +18,9 @@ Gives view told (Err fault) = fault ≢ Memory → told ≡ Err fault
 abbrev pub unless : {A : Type 0} → Option Fault → Result A Fault → Result A Fault
 unless None rest = rest
 unless (Some fault) rest = Err fault
+
+-- what is told behind a step: what the next one tells, or the step's fault
+abbrev pub After : {A T : Type 0} → Result A Fault → (A → Result T Fault → Type 0) → Result T Fault
+    → Type 0
+After (Ok value) next told = next value told
+After (Err fault) next told = told ≡ Err fault

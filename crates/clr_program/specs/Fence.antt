@@ -1,6 +1,6 @@
 -- What `fence` answers over a network: the lines of the fence, or the first fault of its words.
 use Rattle.std.specs.Prelude.{◌≡◌, ◌≢◌, ℕ, if◌then◌else◌, List, [], ◌∷◌, Option, Some, None, Result}
-use Rattle.std.specs.Prelude.{Ok, Err}
+use Rattle.std.specs.Prelude.{Ok, Err, IfSome, codes}
 use Rattle.clr_net.specs.Names.{has_name}
 use Rattle.clr_net.specs.NameText.{read_name}
 use Rattle.clr_net.specs.Grid.{Grid, section_names, point_names}
@@ -12,7 +12,9 @@ use Rattle.clr_net.specs.declared.section.SectionRow.{SectionRow}
 use Rattle.clr_net.specs.declared.point.PointRow.{PointRow}
 use Rattle.clr_net.specs.declared.net_fault.NetFault.{NetFault}
 use Rattle.clr_net.specs.declared.name.NameFault.{NameFault}
-use Rattle.clr_program.specs.Answers.{◌>>=◌}
+use Rattle.clap.specs.Words.{Row}
+use Rattle.clr_program.specs.Answers.{◌>>=◌, After}
+use Rattle.clr_program.specs.Asked.{word_in, words_in}
 use Rattle.clr_program.specs.Fault.{of_name, of_network}
 use Rattle.clr_program.specs.Files.{IsUnread, told_of}
 use Rattle.clr_program.specs.Lines.{lines_of}
@@ -74,11 +76,6 @@ FencesRows view sections points work cut (Err fault) = fault ≢ Memory
 
 -- What `fence` answers of the bytes of its two files: the first fault of the sections, then that of
 -- the points, else what it answers of their rows.
-abbrev pub After : {A : Type 0} → Result A Fault → (A → Result (List ℕ) Fault → Type 0)
-    → Result (List ℕ) Fault → Type 0
-After (Ok value) next told = next value told
-After (Err fault) next told = told ≡ Err fault
-
 abbrev pub IsFenceOfFiles : List ℕ → List ℕ → List ℕ → List (List ℕ) → Result (List ℕ) Fault
     → Type 0
 IsFenceOfFiles section_file point_file work cut =
@@ -94,3 +91,12 @@ FencesFiles view section_file point_file work cut (Ok value) =
     IsFenceOfFiles section_file point_file work cut (Ok (view value))
 FencesFiles view section_file point_file work cut (Err fault) = (IsUnread Sections fault → ⊥)
     → (IsUnread Points fault → ⊥) → IsFenceOfFiles section_file point_file work cut (Err fault)
+
+-- the same at paths: SECTIONS and POINTS name the files, WORK the section, and each CUT a point
+abbrev pub FencesAt : {T : Type 0} → (T → List ℕ) → (List ℕ → Option (List ℕ)) → List Row
+    → Result T Fault → Type 0
+FencesAt view bytes_at rows result =
+    IfSome (bytes_at (word_in rows (codes "SECTIONS"))) (λ section_file.
+    IfSome (bytes_at (word_in rows (codes "POINTS"))) (λ point_file.
+    FencesFiles view section_file point_file (word_in rows (codes "WORK"))
+    (words_in rows (codes "CUT")) result))

@@ -1,6 +1,6 @@
 -- What `init` answers of the rows of its three files.
-use Rattle.std.specs.Prelude.{◌≡◌, ℕ, List, ◌++◌, length, codes, decimal, option_map, Result, Ok}
-use Rattle.std.specs.Prelude.{Err}
+use Rattle.std.specs.Prelude.{◌≡◌, ℕ, List, ◌++◌, length, codes, decimal, Option, Some, None}
+use Rattle.std.specs.Prelude.{option_map, Result, Ok, Err, IfSome}
 use Rattle.clr_net.specs.Network as network
 use Rattle.clr_net.specs.declared.section.SectionRow.{SectionRow}
 use Rattle.clr_net.specs.declared.point.PointRow.{PointRow}
@@ -9,9 +9,12 @@ use Rattle.clr_csv.specs.Sections.{sections_of}
 use Rattle.clr_csv.specs.Staff as staff
 use Rattle.clr_csv.specs.StaffRows.{staff_of}
 use Rattle.clr_csv.specs.declared.employee.StaffRow.{StaffRow}
+use Rattle.clap.specs.Words.{Row, first_of}
 use Rattle.clr_program.specs.Answers.{◌>>=◌, unless}
+use Rattle.clr_program.specs.Asked.{word_in}
 use Rattle.clr_program.specs.Fault.{of_network, of_staff}
 use Rattle.clr_program.specs.Files.{IsUnread, told_of}
+use Rattle.clr_program.specs.Stored.{IsOfLine}
 use Rattle.clr_program.specs.declared.fault.Fault.{Fault}
 use Rattle.clr_program.specs.declared.fault.ImportFile.TheVariants.{Sections, Points, Staff}
 
@@ -46,3 +49,30 @@ CountsFiles view section_file point_file staff_file (Ok value) =
 CountsFiles view section_file point_file staff_file (Err fault) =
     (IsUnread Sections fault → ⊥) → (IsUnread Points fault → ⊥) → (IsUnread Staff fault → ⊥)
     → counts_of_files section_file point_file staff_file ≡ Err fault
+
+-- the same where a register is made of the files: the database may refuse in place of the answer
+abbrev pub MakesFiles : {T : Type 0} → (T → List ℕ) → List ℕ → List ℕ → List ℕ → Result T Fault
+    → Type 0
+MakesFiles view section_file point_file staff_file (Ok value) =
+    counts_of_files section_file point_file staff_file ≡ Ok (view value)
+MakesFiles view section_file point_file staff_file (Err fault) =
+    (IsUnread Sections fault → ⊥) → (IsUnread Points fault → ⊥) → (IsUnread Staff fault → ⊥)
+    → (IsOfLine fault → ⊥)
+    → counts_of_files section_file point_file staff_file ≡ Err fault
+
+-- what `init` answers where it is given this database, or none
+abbrev pub InitsFiles : {T : Type 0} → (T → List ℕ) → Option (List ℕ) → List ℕ → List ℕ → List ℕ
+    → Result T Fault → Type 0
+InitsFiles view None section_file point_file staff_file result =
+    CountsFiles view section_file point_file staff_file result
+InitsFiles view (Some database) section_file point_file staff_file result =
+    MakesFiles view section_file point_file staff_file result
+
+-- the same at paths: SECTIONS, POINTS and STAFF name the files, and `--db` the database
+abbrev pub InitsAt : {T : Type 0} → (T → List ℕ) → (List ℕ → Option (List ℕ)) → List Row
+    → Result T Fault → Type 0
+InitsAt view bytes_at rows result =
+    IfSome (bytes_at (word_in rows (codes "SECTIONS"))) (λ section_file.
+    IfSome (bytes_at (word_in rows (codes "POINTS"))) (λ point_file.
+    IfSome (bytes_at (word_in rows (codes "STAFF"))) (λ staff_file.
+    InitsFiles view (first_of (codes "db") rows) section_file point_file staff_file result)))

@@ -1,4 +1,6 @@
 pub mod Answers
+pub mod Asked
+pub mod CommandLine
 pub mod Fault
 pub mod Fence
 pub mod Files
@@ -6,6 +8,7 @@ pub mod Init
 pub mod Lines
 pub mod Order
 pub mod Outcome
+pub mod PrintedLines
 pub mod Replies
 pub mod Run
 pub mod Serve

@@ -1,12 +1,12 @@
 -- How an outcome is told: the status, and what is written where.
-use Rattle.std.specs.Prelude.{ℕ, true, ◌≡◌, ◌≤◌, ◌⊎◌, List, [], ◌∷◌, ◌++◌, Result, Ok, Err}
-use Rattle.std.specs.Prelude.{string_bytes}
-use Rattle.clap.specs.Words.{IsAmong, Kinds}
-use Rattle.clap.specs.declared.error.kind.ErrorKind.TheVariants.{DisplayHelp, DisplayVersion}
+use Rattle.std.specs.Prelude.{ℕ, true, ◌≡◌, ◌≤◌, ◌⊎◌, List, [], ◌∷◌, ◌++◌, Option, Some, None}
+use Rattle.std.specs.Prelude.{Result, Ok, Err, String, codes, string_bytes}
+use Rattle.std.specs.declared.alloc.Global.{Global}
 use Rattle.clr_program.specs.declared.outcome.Outcome.{Outcome}
 use Rattle.clr_program.specs.declared.outcome.Outcome.TheVariants.{Answer, Serve, Stopped, Unread}
 use Rattle.clr_program.specs.declared.fault.Fault.{Fault}
-use Rattle.clr_program.specs.declared.fault.Fault.TheVariants.{Output}
+use Rattle.clr_program.specs.declared.fault.Fault.TheVariants.{Memory, Output}
+use Rattle.clr_program.specs.declared.replies.Printed.{Printed}
 use Rattle.clr_program.specs.Fault.{fault_line}
 use Rattle.clr_program.specs.Serve.{FailsServing, Serves}
 pub use Rattle.clr_program.specs.Streams.{AppendsFront, HasFailed, IsCut, Sends, Stream, WentOut}
@@ -79,7 +79,39 @@ IsUnread (Stopped text fault) = ⊥
 IsUnread (Serve serving) = ⊥
 IsUnread (Unread text) = Unit {0}
 
--- The words may have an answer: clap finds nothing wrong with them, or they ask for help. The kinds
--- are those of the errors that it may find.
-abbrev pub MayAnswer : Kinds → Type 0
-MayAnswer kinds = (kinds ≡ []) ⊎ IsAmong DisplayHelp kinds ⊎ IsAmong DisplayVersion kinds
+-- no answer: why the words do not parse, unless memory ran out
+abbrev pub IsNoAnswer : Result Outcome Fault → Type 0
+IsNoAnswer (Ok outcome) = IsUnread outcome
+IsNoAnswer (Err fault) = fault ≡ Memory
+
+-- an answer that is whole, as a command comes to it
+abbrev pub answer_of : Result (String Global) Fault → Result Outcome Fault
+answer_of (Ok text) = Ok (Answer text)
+answer_of (Err fault) = Err fault
+
+abbrev pub printed_as : String Global → Option Fault → Outcome
+printed_as text None = Answer text
+printed_as text (Some fault) = Stopped text fault
+
+-- why a `run` is not taken
+abbrev pub IsUsage : Outcome → Type 0
+IsUsage (Answer text) = ⊥
+IsUsage (Stopped text fault) = ⊥
+IsUsage (Serve serving) = ⊥
+IsUsage (Unread text) = string_bytes text
+    ≡ codes "error: run takes three files, or --db FILE and no files\n"
+
+-- what a `run` comes to: its replies, whole or as far as they came, or why it is not taken
+abbrev pub ComesTo : Result (Option Printed) Fault → Result Outcome Fault → Type 0
+ComesTo (Ok (Some printed)) result = result ≡ Ok (printed_as printed.text printed.fault)
+ComesTo (Ok None) (Ok outcome) = IsUsage outcome
+ComesTo (Ok None) (Err fault) = fault ≡ Memory
+ComesTo (Err fault) result = result ≡ Err fault
+
+-- what a `serve` comes to: a server of the register in this database, unless memory ran out
+abbrev pub IsServer : List ℕ → Result Outcome Fault → Type 0
+IsServer path (Ok (Answer text)) = ⊥
+IsServer path (Ok (Stopped text fault)) = ⊥
+IsServer path (Ok (Serve serving)) = string_bytes serving.path ≡ path
+IsServer path (Ok (Unread text)) = ⊥
+IsServer path (Err fault) = fault ≡ Memory

@@ -1,11 +1,14 @@
 //! Whole command lines: from the words to the exit status.
-ghost use Rattle.std.specs.Prelude.{◌≡◌, ◌≢◌, ◌⊎◌, [], Err, IfErr, IfOk, codes, map};
+ghost use Rattle.std.specs.Prelude.{◌≡◌, ◌≢◌, ◌⊎◌, ◌≤◌, Err, IfErr, IfOk, Result, codes, map};
 ghost use Rattle.std.specs.IoError.{error_kind};
 ghost use Rattle.std.specs.declared.io.ErrorKind.TheVariants as io_kind;
-ghost use Rattle.clap.specs.Words.{fault_of, kind_of};
-ghost use Rattle.clr_program.specs.Outcome.{IsAnswer, IsTold, IsUnread, MayAnswer, Sends, stream};
-ghost use Rattle.clr_program.specs.Outcome.{told_line};
+ghost use Rattle.clap.specs.Words.{fault_of, found_of, kind_of, rows_of};
+ghost use Rattle.clr_program.specs.CommandLine.{AnswersTo, AnswersWords, MayAnswer};
+ghost use Rattle.clr_program.specs.Outcome.{ComesTo, IsAnswer, IsTold, IsUnread, Sends, Tells};
+ghost use Rattle.clr_program.specs.Outcome.{answer_of, printed_as, stream, told_line};
 ghost use Rattle.clr_program.specs.Syntax.{gridclear};
+ghost use Rattle.clr_program.specs.declared.fault.Fault.{Fault as AnyFault};
+ghost use Rattle.clr_program.specs.declared.outcome.Outcome.{Outcome as AnyOutcome};
 
 use crate::board::board;
 use crate::database::Databases;
@@ -15,37 +18,51 @@ use crate::init::init;
 use crate::loopback::Loopback;
 use crate::order::order;
 use crate::outcome::{Outcome, tell, tell_fault, write_out};
+use crate::paths::Opens;
 use crate::replies::Printed;
 use crate::run::run;
 use crate::serve::Serving;
 use crate::syntax;
+use clap::ArgMatches;
 use clap::error::ErrorKind;
 use clr_csv::{CountedRead, CountedWrite};
-use std::alloc::{AllocError, Global};
+use std::alloc::Global;
 use std::convert::AsStr;
 use std::io;
-use std::rt::Files;
 
 /// Why a `run` is not taken that names both a database and files, or neither, or files that are not
 /// three.
 const RUN_USAGE: &str = "error: run takes three files, or --db FILE and no files\n";
 
-/// Does what the words ask, of which the first is the program's name. The answer, and help that is
-/// asked for, go to `output`; a fault, and why words do not parse, to `errors`. Returns the exit
-/// status: 0; 1 after a fault; 2 for words that do not parse.
-pub fn command_line<R, S, I, W, E>(
+/// Does what the words ask, of which the first is the program's name, over the files that `paths`
+/// has. The answer, and help that is asked for, go to `output`; a fault, and why words do not
+/// parse, to `errors`. Returns the exit status: 0; 1 after a fault; 2 for words that do not parse.
+pub fn command_line<'a, R, O, S, I, W, E>(
     rt: &R,
-    words: &[S],
+    paths: &O,
+    words: &'a [S],
     input: &mut I,
     output: &mut W,
     errors: &mut E,
 ) -> u8
 where
-    R: Files + Databases + Loopback + AllocGlobal,
+    R: Databases + Loopback + AllocGlobal,
+    O: Opens<'a>,
     S: AsStr,
     I: CountedRead,
     W: CountedWrite,
     E: CountedWrite,
+    ensures answer { (told : Result AnyOutcome AnyFault)
+        × AnswersWords (O.bytes_at paths.now) (I.remaining input.old) (map S.text words.now) told
+        × Tells told result
+        (stream (W.contents output.old) (W.failure_count output.old) (W.stalled output.old)
+        (W.flushed output.old))
+        (stream (W.contents output.new) (W.failure_count output.new) (W.stalled output.new)
+        (W.flushed output.new))
+        (stream (E.contents errors.old) (E.failure_count errors.old) (E.stalled errors.old)
+        (E.flushed errors.old))
+        (stream (E.contents errors.new) (E.failure_count errors.new) (E.stalled errors.new)
+        (E.flushed errors.new)) }
     ensures told { IsTold result
         (stream (W.contents output.old) (W.failure_count output.old) (W.stalled output.old)
         (W.flushed output.old))
@@ -57,11 +74,12 @@ where
         (E.flushed errors.new)) }
     ensures words { result ≡ 0 → MayAnswer (fault_of gridclear (map S.text words.now)) }
 {
-    tell(rt, answer(rt, words, input), output, errors)
+    tell(rt, answer(rt, paths, words, input), output, errors)
 }
 
 /// Tells why the arguments of the program could not be had: one is no text, or memory ran out.
 pub fn no_words<E: CountedWrite>(cause: &io::Error, errors: &mut E) -> u8
+    ensures statuses { result ≤ 2 }
     ensures memory { error_kind cause.now ≡ io_kind.OutOfMemory → result ≡ 1 }
     ensures no_text { error_kind cause.now ≢ io_kind.OutOfMemory → result ≡ 2 }
     ensures memory_line { error_kind cause.now ≡ io_kind.OutOfMemory → Sends
@@ -87,15 +105,19 @@ pub fn no_words<E: CountedWrite>(cause: &io::Error, errors: &mut E) -> u8
 }
 
 /// What the words come to.
-fn answer<R, S, I>(rt: &R, words: &[S], input: &mut I) -> Result<Outcome, Fault>
+fn answer<'a, R, O, S, I>(
+    rt: &R,
+    paths: &O,
+    words: &'a [S],
+    input: &mut I,
+) -> Result<Outcome, Fault>
 where
-    R: Files + Databases + AllocGlobal,
+    R: Databases + AllocGlobal,
+    O: Opens<'a>,
     S: AsStr,
     I: CountedRead,
-    ensures answers { IfOk result (λ outcome. IsAnswer outcome
-        → MayAnswer (fault_of gridclear (map S.text words.now))) }
-    ensures faults { IfErr result (λ fault. (fault ≡ Fault.Memory)
-        ⊎ (fault_of gridclear (map S.text words.now) ≡ [])) }
+    ensures { AnswersWords (O.bytes_at paths.now) (I.remaining input.old) (map S.text words.now)
+        result }
 {
     let mut command = syntax::command(rt.alloc())?;
     let matches = match command.try_get_matches_from_mut(words) {
@@ -106,52 +128,77 @@ where
         }
     };
     match matches.subcommand() {
-        Some(("fence", matches)) => {
-            let text = fence(rt, matches)?;
-            Ok(Outcome::Answer(text))
-        }
-        Some(("init", matches)) => {
-            let text = init(rt, matches)?;
-            Ok(Outcome::Answer(text))
-        }
-        Some(("run", matches)) => {
-            let printed = run(rt, matches, input)?;
-            let outcome = outcome_of(rt.alloc(), printed)?;
-            Ok(outcome)
-        }
-        Some(("order", matches)) => {
-            let text = order(rt, matches)?;
-            Ok(Outcome::Answer(text))
-        }
-        Some(("board", matches)) => {
-            let text = board(rt, matches)?;
-            Ok(Outcome::Answer(text))
-        }
-        Some(("serve", matches)) => {
-            let serving = Serving::of_words(rt.alloc(), matches)?;
-            Ok(Outcome::Serve(serving))
-        }
-        _ => {
+        Some((name, matches)) => answer_to(rt, paths, name, matches, input),
+        None => {
             let help = command.render_help()?;
             Ok(Outcome::Unread(help))
         }
     }
 }
 
-/// What a run comes to.
-fn outcome_of(alloc: Global, printed: Option<Printed>) -> Result<Outcome, AllocError> {
-    match printed {
-        Some(printed) => {
-            let Printed { text, fault } = printed;
-            match fault {
-                Some(fault) => Ok(Outcome::Stopped(text, fault)),
-                None => Ok(Outcome::Answer(text)),
-            }
+/// What the subcommand of this name comes to.
+fn answer_to<'a, R, O, I>(
+    rt: &R,
+    paths: &O,
+    name: &str,
+    matches: &ArgMatches<'a>,
+    input: &mut I,
+) -> Result<Outcome, Fault>
+where
+    R: Databases + AllocGlobal,
+    O: Opens<'a>,
+    I: CountedRead,
+    ensures { AnswersTo (O.bytes_at paths.now) (I.remaining input.old) name.now
+        (rows_of (found_of matches.now)) result }
+{
+    match name {
+        "fence" => whole(fence(rt.alloc(), paths, matches)),
+        "init" => whole(init(rt, paths, matches)),
+        "run" => replies(rt.alloc(), run(rt, paths, matches, input)),
+        "order" => whole(order(rt, matches)),
+        "board" => whole(board(rt, matches)),
+        "serve" => {
+            let serving = Serving::of_words(rt.alloc(), matches)?;
+            Ok(Outcome::Serve(serving))
         }
-        None => {
-            let text = format!(in alloc; "{RUN_USAGE}")?;
+        _ => {
+            let text = format!(in rt.alloc(); "error: there is no subcommand {name}\n")?;
             Ok(Outcome::Unread(text))
         }
+    }
+}
+
+/// An answer that is whole, if there is no fault.
+fn whole(told: Result<String, Fault>) -> Result<Outcome, Fault>
+    ensures { result ≡ answer_of told }
+{
+    match told {
+        Ok(text) => Ok(Outcome::Answer(text)),
+        Err(fault) => Err(fault),
+    }
+}
+
+/// Replies as an answer, whole or as far as they came; without any, why the `run` is not taken.
+fn replies(alloc: Global, told: Result<Option<Printed>, Fault>) -> Result<Outcome, Fault>
+    ensures { ComesTo told result }
+{
+    match told? {
+        Some(printed) => Ok(outcome_of(printed)),
+        None => {
+            let text = String::from_str(alloc, RUN_USAGE)?;
+            Ok(Outcome::Unread(text))
+        }
+    }
+}
+
+/// Replies as an answer, whole or as far as they came.
+fn outcome_of(printed: Printed) -> Outcome
+    ensures { result ≡ printed_as printed.text printed.fault }
+{
+    let Printed { text, fault } = printed;
+    match fault {
+        Some(fault) => Outcome::Stopped(text, fault),
+        None => Outcome::Answer(text),
     }
 }
 

@@ -1,27 +1,35 @@
 //! The subcommand `fence`: the sections that can be reached from one without passing a cut.
 ghost use Rattle.std.specs.Prelude.{◌≡◌, ◌++◌, IfOk, IfSome, OnOk, map, string_bytes};
+ghost use Rattle.clap.specs.Words.{found_of, rows_of};
+ghost use Rattle.clr_csv.specs.Sections.{sections_of};
 ghost use Rattle.clr_program.specs.Answers.{Gives};
-ghost use Rattle.clr_program.specs.Fence.{FencesFiles, FencesRows, fence_lines, point_named};
-ghost use Rattle.clr_program.specs.Fence.{points_named, section_named};
+ghost use Rattle.clr_program.specs.Fence.{FencesAt, FencesFiles, FencesRows, fence_lines};
+ghost use Rattle.clr_program.specs.Fence.{point_named, points_named, section_named};
+ghost use Rattle.clr_program.specs.Files.{HasCause, WaitsFor};
 ghost use Rattle.clr_program.specs.Lines.{line_of, lines_of};
 
-use crate::fault::Fault;
-use crate::files::{AtPath, Source, points_from, sections_from};
-use crate::words::word_of;
+use crate::fault::{Fault, ImportFile};
+use crate::files::{Source, points_from, sections_from};
+use crate::paths::Opens;
+use crate::words::{word_of, words_of};
 use clap::ArgMatches;
 use clr_net::{Fence, Name, Network, PointRow, SectionRow};
 use std::alloc::{AllocError, Global};
-use std::rt::Files;
 
 /// What `fence SECTIONS POINTS WORK [CUT]...` prints.
-pub fn fence<R: Files + AllocGlobal>(rt: &R, matches: &ArgMatches<'_>) -> Result<String, Fault> {
-    let sections = AtPath::new(rt, word_of(matches, "SECTIONS"));
-    let points = AtPath::new(rt, word_of(matches, "POINTS"));
+pub fn fence<'a, O: Opens<'a>>(
+    alloc: Global,
+    paths: &O,
+    matches: &ArgMatches<'a>,
+) -> Result<String, Fault>
+    ensures { FencesAt (λ text. string_bytes text) (O.bytes_at paths.now)
+        (rows_of (found_of matches.now)) result }
+{
+    let mut sections = paths.at(word_of(matches, "SECTIONS"));
+    let mut points = paths.at(word_of(matches, "POINTS"));
     let work = word_of(matches, "WORK");
-    let text = match matches.get_strs("CUT") {
-        Some(cut) => fence_of_files(rt.alloc(), &sections, &points, work, cut)?,
-        None => fence_of_files(rt.alloc(), &sections, &points, work, &[])?,
-    };
+    let cut = words_of(alloc, matches, "CUT")?;
+    let text = fence_of_files(alloc, &mut sections, &mut points, work, cut.as_slice())?;
     Ok(text)
 }
 
@@ -29,15 +37,21 @@ pub fn fence<R: Files + AllocGlobal>(rt: &R, matches: &ArgMatches<'_>) -> Result
 /// points that `cut` names. The sections are read before the points are opened.
 pub fn fence_of_files<S: Source, P: Source>(
     alloc: Global,
-    sections: &S,
-    points: &P,
+    sections: &mut S,
+    points: &mut P,
     work: &str,
     cut: &[&str],
 ) -> Result<String, Fault>
-    ensures { IfSome (S.bytes sections.now)
-        (λ section_file. IfSome (P.bytes points.now) (λ point_file.
+    ensures answer { IfSome (S.remaining sections.old) (λ section_file.
+        IfSome (P.remaining points.old) (λ point_file.
         FencesFiles (λ text. string_bytes text) section_file point_file
         work.now (map (λ word. word.now) cut.now) result)) }
+    ensures sections_cause { HasCause ImportFile.Sections result
+        (S.failure_count sections.old) (S.failure_count sections.new) }
+    ensures points_cause { HasCause ImportFile.Points result
+        (P.failure_count points.old) (P.failure_count points.new) }
+    ensures points_wait { WaitsFor (S.remaining sections.old) sections_of ImportFile.Points result
+        points.old points.new }
 {
     let sections = sections_from(alloc, sections)?;
     let points = points_from(alloc, points)?;

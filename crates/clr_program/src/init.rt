@@ -1,30 +1,41 @@
 //! The subcommand `init`: the check of the files of a network and its staff.
 ghost use Rattle.std.specs.Prelude.{◌≡◌, ◌⊎◌, Err, IfErr, IfOk, IfSome, Ok, string_bytes};
+ghost use Rattle.clap.specs.Words.{found_of, rows_of};
+ghost use Rattle.clr_csv.specs.Points.{points_of};
+ghost use Rattle.clr_csv.specs.Sections.{sections_of};
 ghost use Rattle.clr_program.specs.Answers.{Gives};
-ghost use Rattle.clr_program.specs.Init.{CountsFiles, counts_line, counts_of};
+ghost use Rattle.clr_program.specs.Files.{HasCause, WaitsFor};
+ghost use Rattle.clr_program.specs.Init.{CountsFiles, InitsAt, MakesFiles, counts_line, counts_of};
 ghost use Rattle.clr_program.specs.Stored.{IsOfLine};
 
 use crate::database::{Databases, store_register};
-use crate::fault::Fault;
-use crate::files::{AtPath, Source, points_from, sections_from, staff_from};
-use crate::words::word_of;
+use crate::fault::{Fault, ImportFile};
+use crate::files::{Source, points_from, sections_from, staff_from};
+use crate::paths::Opens;
+use crate::words::{option_of, word_of};
 use clap::ArgMatches;
 use clr_csv::{Staff, StaffRow};
 use clr_net::{Network, PointRow, SectionRow};
 use std::alloc::{AllocError, Global};
-use std::rt::Files;
 
 /// What `init SECTIONS POINTS STAFF [--db FILE]` prints.
-pub fn init<R: Files + Databases + AllocGlobal>(
+pub fn init<'a, R: Databases + AllocGlobal, O: Opens<'a>>(
     rt: &R,
-    matches: &ArgMatches<'_>,
-) -> Result<String, Fault> {
-    let sections = AtPath::new(rt, word_of(matches, "SECTIONS"));
-    let points = AtPath::new(rt, word_of(matches, "POINTS"));
-    let staff = AtPath::new(rt, word_of(matches, "STAFF"));
-    let text = match matches.get_str("db") {
-        Some(path) => register_of_files(rt.alloc(), &sections, &points, &staff, rt, path)?,
-        None => counts_of_files(rt.alloc(), &sections, &points, &staff)?,
+    paths: &O,
+    matches: &ArgMatches<'a>,
+) -> Result<String, Fault>
+    ensures { InitsAt (λ text. string_bytes text) (O.bytes_at paths.now)
+        (rows_of (found_of matches.now)) result }
+{
+    let alloc = rt.alloc();
+    let mut sections = paths.at(word_of(matches, "SECTIONS"));
+    let mut points = paths.at(word_of(matches, "POINTS"));
+    let mut staff = paths.at(word_of(matches, "STAFF"));
+    let text = match option_of(matches, "db") {
+        Some(path) => {
+            register_of_files(alloc, &mut sections, &mut points, &mut staff, rt, path)?
+        }
+        None => counts_of_files(alloc, &mut sections, &mut points, &mut staff)?,
     };
     Ok(text)
 }
@@ -33,12 +44,29 @@ pub fn init<R: Files + Databases + AllocGlobal>(
 /// a path. The database is opened behind the files.
 pub fn register_of_files<S: Source, P: Source, E: Source, D: Databases>(
     alloc: Global,
-    sections: &S,
-    points: &P,
-    staff: &E,
+    sections: &mut S,
+    points: &mut P,
+    staff: &mut E,
     databases: &D,
     path: &str,
-) -> Result<String, Fault> {
+) -> Result<String, Fault>
+    ensures answer { IfSome (S.remaining sections.old) (λ section_file.
+        IfSome (P.remaining points.old) (λ point_file.
+        IfSome (E.remaining staff.old) (λ staff_file.
+        MakesFiles (λ text. string_bytes text) section_file point_file staff_file result))) }
+    ensures sections_cause { HasCause ImportFile.Sections result
+        (S.failure_count sections.old) (S.failure_count sections.new) }
+    ensures points_cause { HasCause ImportFile.Points result
+        (P.failure_count points.old) (P.failure_count points.new) }
+    ensures staff_cause { HasCause ImportFile.Staff result
+        (E.failure_count staff.old) (E.failure_count staff.new) }
+    ensures points_wait { WaitsFor (S.remaining sections.old) sections_of ImportFile.Points result
+        points.old points.new }
+    ensures staff_waits { WaitsFor (S.remaining sections.old) sections_of ImportFile.Staff result
+        staff.old staff.new }
+    ensures staff_waits_too { WaitsFor (P.remaining points.old) points_of ImportFile.Staff result
+        staff.old staff.new }
+{
     let section_rows = sections_from(alloc, sections)?;
     let point_rows = points_from(alloc, points)?;
     let staff_rows = staff_from(alloc, staff)?;
@@ -73,14 +101,26 @@ pub fn register_of_rows<D: Databases>(
 /// staff. The files are read in this order, each before the next is opened.
 pub fn counts_of_files<S: Source, P: Source, E: Source>(
     alloc: Global,
-    sections: &S,
-    points: &P,
-    staff: &E,
+    sections: &mut S,
+    points: &mut P,
+    staff: &mut E,
 ) -> Result<String, Fault>
-    ensures { IfSome (S.bytes sections.now)
-        (λ section_file. IfSome (P.bytes points.now) (λ point_file.
-        IfSome (E.bytes staff.now) (λ staff_file.
+    ensures answer { IfSome (S.remaining sections.old) (λ section_file.
+        IfSome (P.remaining points.old) (λ point_file.
+        IfSome (E.remaining staff.old) (λ staff_file.
         CountsFiles (λ text. string_bytes text) section_file point_file staff_file result))) }
+    ensures sections_cause { HasCause ImportFile.Sections result
+        (S.failure_count sections.old) (S.failure_count sections.new) }
+    ensures points_cause { HasCause ImportFile.Points result
+        (P.failure_count points.old) (P.failure_count points.new) }
+    ensures staff_cause { HasCause ImportFile.Staff result
+        (E.failure_count staff.old) (E.failure_count staff.new) }
+    ensures points_wait { WaitsFor (S.remaining sections.old) sections_of ImportFile.Points result
+        points.old points.new }
+    ensures staff_waits { WaitsFor (S.remaining sections.old) sections_of ImportFile.Staff result
+        staff.old staff.new }
+    ensures staff_waits_too { WaitsFor (P.remaining points.old) points_of ImportFile.Staff result
+        staff.old staff.new }
 {
     let sections = sections_from(alloc, sections)?;
     let points = points_from(alloc, points)?;

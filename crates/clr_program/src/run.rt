@@ -2,17 +2,29 @@
 //! a stored one.
 ghost use Rattle.std.specs.Prelude.{◌≡◌, ◌≢◌, ◌⊎◌, ◌<◌, ◌≤◌, ℕ, Err, IfErr, IfNone, IfOk, IfSome};
 ghost use Rattle.std.specs.Prelude.{IsErrOf, Ok, OnOk, length, string_bytes};
+ghost use Rattle.sqlite.specs.Held.{state};
+ghost use Rattle.clap.specs.Words.{found_of, rows_of};
 ghost use Rattle.clr_csv.specs.Failures.{Rose};
+ghost use Rattle.clr_csv.specs.Points.{points_of};
+ghost use Rattle.clr_csv.specs.Sections.{sections_of};
 ghost use Rattle.clr_rules.specs.Good.{IsGood};
+ghost use Rattle.clr_desk.specs.Kept.{Keeps};
+ghost use Rattle.clr_text.specs.LineLaws.{SameShownSameBytes};
+ghost use Rattle.clr_program.specs.Files.{HasCause, WaitsFor};
+ghost use Rattle.clr_program.specs.PrintedLines.{PrintedAreReplies};
 ghost use Rattle.clr_program.specs.Replies.{PrintsFirst, input_lines, reply_lines};
-ghost use Rattle.clr_program.specs.Run.{IsOpeningOf, rows_fault};
+ghost use Rattle.clr_program.specs.Run.{IsOpeningOf, RunsAsked, RunsAt, RunsFiles, RunsOver};
+ghost use Rattle.clr_program.specs.Run.{rows_fault};
 ghost use Rattle.clr_program.specs.Stored.{IsOfLine};
 
 use crate::database::{Databases, close_desk, open_desk};
-use crate::fault::{Fault, InputFault};
-use crate::files::{AtPath, Source, points_from, sections_from, staff_from};
+use crate::fault::{Fault, ImportFile, InputFault};
+use crate::files::{Source, points_from, sections_from, staff_from};
+use crate::laws::printed_lines_are_replies;
+use crate::paths::Opens;
 use crate::replies::{Printed, lines_of, replies_to};
 use crate::stored::stored_replies;
+use crate::words::{option_of, words_of};
 use clap::ArgMatches;
 use clr_book::Book;
 use clr_csv::{CountedRead, Staff, StaffRow, read_whole};
@@ -22,7 +34,6 @@ use clr_rules::{Hold, PointState, Record, StepRow};
 use clr_shelf::{Shelf, SortedShelf};
 use sqlite::Alter;
 use std::alloc::Global;
-use std::rt::Files;
 
 /// The most bytes of standard input.
 pub const MAX_INPUT_BYTES: usize = 16_777_216;
@@ -37,25 +48,46 @@ pub type MemoryBook = Book<
 
 /// What `run [--db FILE] [FILES]...` prints; nothing where the words name both a database and
 /// files, or neither, or files that are not three.
-pub fn run<R: Files + Databases + AllocGlobal, I: CountedRead>(
+pub fn run<'a, R: Databases + AllocGlobal, O: Opens<'a>, I: CountedRead>(
     rt: &R,
-    matches: &ArgMatches<'_>,
+    paths: &O,
+    matches: &ArgMatches<'a>,
     input: &mut I,
-) -> Result<Option<Printed>, Fault> {
-    match (matches.get_str("db"), matches.get_strs("FILES")) {
-        (Some(path), None) => {
+) -> Result<Option<Printed>, Fault>
+    ensures { RunsAsked (O.bytes_at paths.now) (rows_of (found_of matches.now))
+        (I.remaining input.old) result }
+{
+    let files = words_of(rt.alloc(), matches, "FILES")?;
+    match (option_of(matches, "db"), files.as_slice()) {
+        (Some(path), []) => {
             let printed = run_of_database(rt.alloc(), rt, path, input)?;
             Ok(Some(printed))
         }
-        (None, Some([sections, points, staff])) => {
-            let sections = AtPath::new(rt, sections);
-            let points = AtPath::new(rt, points);
-            let staff = AtPath::new(rt, staff);
-            let printed = run_of_files(rt.alloc(), &sections, &points, &staff, input)?;
+        (None, [sections, points, staff]) => {
+            let printed = run_at(rt.alloc(), paths, *sections, *points, *staff, input)?;
             Ok(Some(printed))
         }
         _ => Ok(None),
     }
+}
+
+/// The same as by `run_of_files`, of the files at three paths.
+fn run_at<'a, O: Opens<'a>, I: CountedRead>(
+    alloc: Global,
+    paths: &O,
+    sections: &'a str,
+    points: &'a str,
+    staff: &'a str,
+    input: &mut I,
+) -> Result<Printed, Fault>
+    ensures { RunsAt (O.bytes_at paths.now) sections.entry.now points.entry.now staff.entry.now
+        (I.remaining input.old) result }
+{
+    let mut sections = paths.at(sections);
+    let mut points = paths.at(points);
+    let mut staff = paths.at(staff);
+    let printed = run_of_files(alloc, &mut sections, &mut points, &mut staff, input)?;
+    Ok(printed)
 }
 
 /// The replies to the commands of the input, over the register that the database at a path has. The
@@ -97,7 +129,12 @@ pub fn run_stored<S: Alter + Drop, I: CountedRead>(
     ensures others { IfErr result (λ fault. (fault ≡ Fault.Memory)
         ⊎ (fault ≡ Fault.Input InputFault.ReadFailed)
         ⊎ (fault ≡ Fault.Input InputFault.TooLong)) }
+    ensures keeps { Keeps (state S.Store desk.old.store) desk.old.book.register
+        (state S.Store desk.new.store) desk.new.book.register }
+    ensures printed { PrintedAreReplies }
+    ensures same { SameShownSameBytes }
 {
+    printed_lines_are_replies();
     let bytes = input_bytes(alloc, input)?;
     let lines = lines_of(alloc, bytes.as_slice())?;
     Ok(stored_replies(alloc, desk, lines.as_slice()))
@@ -107,11 +144,31 @@ pub fn run_stored<S: Alter + Drop, I: CountedRead>(
 /// are read in this order, each before the next is opened, and then the input.
 pub fn run_of_files<S: Source, P: Source, E: Source, I: CountedRead>(
     alloc: Global,
-    sections: &S,
-    points: &P,
-    staff: &E,
+    sections: &mut S,
+    points: &mut P,
+    staff: &mut E,
     input: &mut I,
-) -> Result<Printed, Fault> {
+) -> Result<Printed, Fault>
+    ensures answer { IfSome (S.remaining sections.old) (λ section_file.
+        IfSome (P.remaining points.old) (λ point_file.
+        IfSome (E.remaining staff.old) (λ staff_file.
+        IfSome (I.remaining input.old) (λ bytes.
+        RunsFiles section_file point_file staff_file bytes result)))) }
+    ensures sections_cause { HasCause ImportFile.Sections result
+        (S.failure_count sections.old) (S.failure_count sections.new) }
+    ensures points_cause { HasCause ImportFile.Points result
+        (P.failure_count points.old) (P.failure_count points.new) }
+    ensures staff_cause { HasCause ImportFile.Staff result
+        (E.failure_count staff.old) (E.failure_count staff.new) }
+    ensures input_cause { IsErrOf result (Fault.Input InputFault.ReadFailed)
+        → Rose (I.failure_count input.old) (I.failure_count input.new) }
+    ensures points_wait { WaitsFor (S.remaining sections.old) sections_of ImportFile.Points result
+        points.old points.new }
+    ensures staff_waits { WaitsFor (S.remaining sections.old) sections_of ImportFile.Staff result
+        staff.old staff.new }
+    ensures staff_waits_too { WaitsFor (P.remaining points.old) points_of ImportFile.Staff result
+        staff.old staff.new }
+{
     let sections = sections_from(alloc, sections)?;
     let points = points_from(alloc, points)?;
     let staff = staff_from(alloc, staff)?;
@@ -130,6 +187,8 @@ pub fn opening_book(
     ensures opens { IfOk result (λ book.
         IsOpeningOf sections.items points.items staff.items book.register) }
     ensures good { IfOk result (λ book. IsGood book.register) }
+    ensures faultless { OnOk result
+        (rows_fault sections.items points.items staff.items ≡ Ok tt) }
     ensures fault { IfErr result (λ fault. fault ≢ Fault.Memory
         → rows_fault sections.items points.items staff.items ≡ Err fault) }
 {
@@ -154,21 +213,18 @@ where
     H: Shelf<Hold>,
     I: CountedRead,
     requires { IsGood book.old.register }
-    ensures whole { IfSome (I.remaining input.old) (λ bytes. IfOk result (λ printed.
-        IfNone printed.fault (string_bytes printed.text
-        ≡ reply_lines book.old.register (input_lines bytes)))) }
-    ensures front { IfSome (I.remaining input.old) (λ bytes. IfOk result (λ printed.
-        IfSome printed.fault (λ fault. (n : ℕ) × PrintsFirst book.old.register
-        (input_lines bytes) (string_bytes printed.text) n))) }
+    ensures answer { IfSome (I.remaining input.old) (λ bytes.
+        RunsOver book.old.register bytes result) }
     ensures fault { IfOk result (λ printed. IfSome printed.fault (λ fault. fault ≡ Fault.Memory)) }
     ensures cause { IsErrOf result (Fault.Input InputFault.ReadFailed)
         → Rose (I.failure_count input.old) (I.failure_count input.new) }
-    ensures long { IfSome (I.remaining input.old) (λ bytes.
-        IsErrOf result (Fault.Input InputFault.TooLong) → 16777216 < length bytes) }
     ensures others { IfErr result (λ fault. (fault ≡ Fault.Memory)
         ⊎ (fault ≡ Fault.Input InputFault.ReadFailed)
         ⊎ (fault ≡ Fault.Input InputFault.TooLong)) }
+    ensures printed { PrintedAreReplies }
+    ensures same { SameShownSameBytes }
 {
+    printed_lines_are_replies();
     let bytes = input_bytes(alloc, input)?;
     let lines = lines_of(alloc, bytes.as_slice())?;
     Ok(replies_to(alloc, book, lines.as_slice()))

@@ -1,7 +1,7 @@
 //! The subcommand `serve`: the register of a database, answered over HTTP.
-ghost use Rattle.std.specs.Prelude.{◌≡◌, ℕ, List, [], IfErr, IfOk, OnOk, Result, Some, codes};
-ghost use Rattle.std.specs.Prelude.{string_bytes, unwrap_or};
-ghost use Rattle.clap.specs.Words.{first_value, found_of};
+ghost use Rattle.std.specs.Prelude.{◌≡◌, ℕ, List, IfErr, IfOk, OnOk, Result, Some, codes};
+ghost use Rattle.std.specs.Prelude.{string_bytes};
+ghost use Rattle.clap.specs.Words.{found_of, rows_of};
 ghost use Rattle.httparse.specs.Grammar.{RequestHead};
 ghost use Rattle.clr_rules.specs.Good.{IsGood};
 ghost use Rattle.clr_rules.specs.Run.{IsReached};
@@ -10,6 +10,7 @@ ghost use Rattle.clr_http.specs.Respond.{respond_to};
 ghost use Rattle.clr_http.specs.Served.{IsRefusal, IsServed, IsWritten};
 ghost use Rattle.clr_http.specs.declared.serve.HttpFault.{HttpFault};
 ghost use Rattle.clr_http.specs.declared.serve.Served.{Served};
+ghost use Rattle.clr_program.specs.Asked.{word_in};
 ghost use Rattle.clr_program.specs.Serve.{IsServing, Serves, ServesNot, TellsConnection};
 ghost use Rattle.clr_program.specs.Serve.{TellsFirst, TellsNext, connection_line};
 ghost use Rattle.clr_program.specs.Streams.{Sends, stream};
@@ -42,7 +43,7 @@ impl Serving {
     /// What `serve DB --port N --count N` asks for.
     pub fn of_words(alloc: Global, matches: &ArgMatches<'_>) -> Result<Serving, AllocError>
         ensures path { IfOk result (λ serving. string_bytes serving.path
-            ≡ unwrap_or (first_value (found_of matches.now) (codes "DB")) []) }
+            ≡ word_in (rows_of (found_of matches.now)) (codes "DB")) }
     {
         let path = String::from_str(alloc, word_of(matches, "DB"))?;
         // clap lets no words pass without a port and a count.

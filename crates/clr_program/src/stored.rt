@@ -2,7 +2,7 @@
 ghost use Rattle.std.specs.Prelude.{◌≡◌, ◌++◌, ℕ, IfErr, IfNone, IfOk, IfSome, OnOk, map};
 ghost use Rattle.std.specs.Prelude.{string_bytes};
 ghost use Rattle.sqlite.specs.Held.{state};
-ghost use Rattle.sqlite.specs.State.{HasCleanDisk};
+ghost use Rattle.clr_desk.specs.Kept.{Keeps};
 ghost use Rattle.clr_rules.specs.Answer.{Answer, answer};
 ghost use Rattle.clr_rules.specs.Good.{IsGood};
 ghost use Rattle.clr_rules.specs.Run.{after};
@@ -36,6 +36,8 @@ pub fn stored_replies<S: Alter + Drop>(
     ensures front { IsGood desk.old.book.register → IfSome result.fault (λ fault. (n : ℕ)
         × PrintsFirst desk.old.book.register
         (map (λ line. line.now) lines.now) (string_bytes result.text) n) }
+    ensures keeps { Keeps (state S.Store desk.old.store) desk.old.book.register
+        (state S.Store desk.new.store) desk.new.book.register }
 {
     let mut text = String::new(alloc);
     for line in lines {
@@ -65,6 +67,8 @@ fn add_reply<S: Alter + Drop>(
         ≡ register_behind desk.old.book.register line.now) }
     ensures none { IfErr result (λ _. string_bytes text.new ≡ string_bytes text.old) }
     ensures fault { IfErr result IsOfLine }
+    ensures keeps { Keeps (state S.Store desk.old.store) desk.old.book.register
+        (state S.Store desk.new.store) desk.new.book.register }
 {
     if line.is_empty() {
         return Ok(());
@@ -90,6 +94,8 @@ fn carry_out<S: Alter + Drop>(
     ensures register { IsGood desk.old.book.register
         → OnOk result (desk.new.book.register ≡ after desk.old.book.register command) }
     ensures fault { IfErr result IsOfLine }
+    ensures keeps { Keeps (state S.Store desk.old.store) desk.old.book.register
+        (state S.Store desk.new.store) desk.new.book.register }
 {
     let reply = desk.one(command)?;
     let text = reply_text(alloc, &reply)?;

@@ -3,24 +3,25 @@ use clr_csv::Counted;
 use clr_program::command_line::command_line;
 use clr_program::database::Databases;
 use clr_program::loopback::Loopback;
+use clr_program::paths::Paths;
 use std::env::Env;
 use std::io::Write;
 use std::rt::Files;
 use std::test::Fail;
 use std::{env, fs, io, process};
 
-const SECTIONS: &str = "section,source\nG,yes\nL1,no\nL2,no\nL3,no\nH,yes\n";
+pub const SECTIONS: &str = "section,source\nG,yes\nL1,no\nL2,no\nL3,no\nH,yes\n";
 
 const POINT_HEADER: &str = "point,from,to,lockable,remote,position\n";
 
-const POINTS: &str = "point,from,to,lockable,remote,position\n\
+pub const POINTS: &str = "point,from,to,lockable,remote,position\n\
     S1,G,L1,yes,no,closed\n\
     S2,L1,L2,yes,no,closed\n\
     S3,L2,L3,yes,no,closed\n\
     S4,L3,H,yes,yes,closed\n\
     T1,L1,L3,no,no,open\n";
 
-const STAFF: &str = "employee,role,supervisor\n\
+pub const STAFF: &str = "employee,role,supervisor\n\
     OPS,operator,\n\
     REED,field,\n\
     DALE,field,\n\
@@ -97,7 +98,14 @@ fn run_lines<R: Files + Databases + Loopback + AllocGlobal>(
     let mut output = Counted::new(Vec::new(rt.alloc()));
     let mut errors = Counted::new(Vec::new(rt.alloc()));
     let mut input = Counted::new(lines.as_bytes());
-    let status = command_line(rt, words, &mut input, &mut output, &mut errors);
+    let status = command_line(
+        rt,
+        &Paths::new(rt),
+        words,
+        &mut input,
+        &mut output,
+        &mut errors,
+    );
     let errors = errors_told(status, errors.into_inner())?;
     // The output is memory, and fails for want of memory alone.
     if errors.as_str() == "fault: output WriteFailed\n" {
@@ -159,6 +167,9 @@ fn faults_and_their_lines(rt: HostRuntime) -> Result<(), Fail> {
     let missing = run_fence(&rt, &tables, &["L2"])?;
     assert_eq!(rt; missing.status, 1);
     assert_eq!(rt; missing.errors.as_str(), "fault: sections ReadFailed\n");
+    fs::write(&rt, tables.sections.as_str(), "section;source\n")?;
+    let headless = run_fence(&rt, &tables, &["L2"])?;
+    assert_eq!(rt; headless.errors.as_str(), "fault: sections Header\n");
     fs::write(&rt, tables.sections.as_str(), SECTIONS)?;
     let missing = run_fence(&rt, &tables, &["L2"])?;
     assert_eq!(rt; missing.errors.as_str(), "fault: points ReadFailed\n");
@@ -386,6 +397,14 @@ fn help_and_words_that_do_not_parse(rt: HostRuntime) -> Result<(), Fail> {
     assert_eq!(rt; help.status, 0);
     assert!(rt; help.output.as_str().contains("Usage: gridclear"));
     assert_eq!(rt; help.errors.as_str(), "");
+    assert!(rt;
+        help.output
+            .as_str()
+            .contains("point,from,to,lockable,remote,position")
+    );
+    let version = run_words(&rt, &["gridclear", "--version"])?;
+    assert_eq!(rt; version.status, 0);
+    assert_eq!(rt; version.output.as_str(), "gridclear 1.0.0\n");
     let bare = run_words(&rt, &["gridclear"])?;
     assert_eq!(rt; bare.status, 2);
     assert_eq!(rt; bare.output.as_str(), "");
@@ -451,9 +470,80 @@ fn answer_that_cannot_be_written(rt: HostRuntime) -> Result<(), Fail> {
     });
     let words = ["gridclear", "--help"];
     let mut input = Counted::new(io::empty());
-    let status = command_line(&rt, words.as_slice(), &mut input, &mut output, &mut errors);
+    let status = command_line(
+        &rt,
+        &Paths::new(&rt),
+        words.as_slice(),
+        &mut input,
+        &mut output,
+        &mut errors,
+    );
     let errors = errors_told(status, errors.into_inner().bytes)?;
     assert_eq!(rt; status, 1);
     assert_eq!(rt; errors.as_str(), "fault: output WriteFailed\n");
+    Ok(())
+}
+
+/// The line of a run that asks for a clearance, and the reply to it.
+const REQUEST: &str = "{\"at\":100,\"by\":\"JONES\",\"do\":\"request\",\"section\":\"L2\"}\n";
+
+const REQUESTED: &str = "{\"card\":{\"clearance\":\"JONES/1\",\"done\":0,\
+    \"holder\":\"JONES\",\"phase\":\"Requested\",\"round\":0,\"steps\":0},\
+    \"reply\":\"accepted\"}\n";
+
+#[test]
+fn register_in_a_file(rt: HostRuntime) -> Result<(), Fail> {
+    let tables = new_tables(&rt, process::id(rt.process()))?;
+    let staff = tables.staff.as_str();
+    let path = format!(in rt.alloc(); "{staff}.db")?;
+    let db = path.as_str();
+    let made = run_init(&rt, &tables, STAFF, &["--db", db])?;
+    assert_eq!(rt; made.errors.as_str(), "");
+    assert_eq!(rt; made.output.as_str(), "sections 5 points 5 staff 6\n");
+    let again = run_init(&rt, &tables, STAFF, &["--db", db])?;
+    assert_eq!(rt; again.errors.as_str(), "fault: store Sql\n");
+    assert_eq!(rt; again.status, 1);
+    let words = ["gridclear", "run", "--db", db];
+    let run = run_lines(&rt, words.as_slice(), REQUEST)?;
+    assert_eq!(rt; run.errors.as_str(), "");
+    assert_eq!(rt; run.output.as_str(), REQUESTED);
+    let board = run_words(&rt, &["gridclear", "board", db])?;
+    assert_eq!(rt; board.errors.as_str(), "");
+    assert!(rt; board.output.as_str().starts_with("BOARD 1\nJONES/1 "));
+    assert!(rt;
+        board
+            .output
+            .as_str()
+            .ends_with(" 1970-01-01 00:01:40 +00:00 JONES\n")
+    );
+    let order = run_words(&rt, &["gridclear", "order", db, "JONES/1", "1"])?;
+    assert_eq!(rt; order.errors.as_str(), "fault: clearance NoSuch\n");
+    assert_eq!(rt; order.status, 1);
+    fs::remove_file(&rt, db)?;
+    Ok(())
+}
+
+#[test]
+fn run_with_both_kinds_of_argument_or_neither(rt: HostRuntime) -> Result<(), Fail> {
+    let none = run_words(&rt, &["gridclear", "run"])?;
+    assert_eq!(rt; none.status, 2);
+    assert_eq!(rt; none.output.as_str(), "");
+    let two = run_words(&rt, &["gridclear", "run", "sections.csv", "points.csv"])?;
+    assert_eq!(rt; two.status, 2);
+    let both = run_words(
+        &rt,
+        &[
+            "gridclear",
+            "run",
+            "--db",
+            "register",
+            "s.csv",
+            "p.csv",
+            "e.csv",
+        ],
+    )?;
+    assert_eq!(rt; both.status, 2);
+    let far = run_words(&rt, &["gridclear", "board", "register", "--offset=-721"])?;
+    assert_eq!(rt; far.status, 2);
     Ok(())
 }

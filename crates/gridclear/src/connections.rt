@@ -2,6 +2,7 @@
 //! the connection is served, and the client reads.
 ghost use Rattle.std.specs.Prelude.{◌≡◌, IfErr};
 
+use crate::command_lines::{POINTS, SECTIONS, STAFF};
 use clr_csv::{Counted, Staff, read_points, read_sections, read_staff};
 use clr_desk::Desk;
 use clr_net::Network;
@@ -15,23 +16,6 @@ use std::io;
 use std::io::{Read, Write};
 use std::net::{Net, Shutdown, TcpListener, TcpStream};
 use std::test::Fail;
-
-const SECTIONS: &str = "section,source\nG,yes\nL1,no\nL2,no\nL3,no\nH,yes\n";
-
-const POINTS: &str = "point,from,to,lockable,remote,position\n\
-    S1,G,L1,yes,no,closed\n\
-    S2,L1,L2,yes,no,closed\n\
-    S3,L2,L3,yes,no,closed\n\
-    S4,L3,H,yes,yes,closed\n\
-    T1,L1,L3,no,no,open\n";
-
-const STAFF: &str = "employee,role,supervisor\n\
-    OPS,operator,\n\
-    REED,field,\n\
-    DALE,field,\n\
-    JONES,charge,BOSS\n\
-    KIM,charge,\n\
-    BOSS,charge,\n";
 
 /// A request that is accepted, and its response.
 const REQUEST: &str = "POST /command HTTP/1.1\r\n\

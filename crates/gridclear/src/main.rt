@@ -6,16 +6,28 @@ mod command_lines;
 #[cfg(test)]
 mod connections;
 
+ghost use Rattle.std.specs.Prelude.{◌≡◌, ◌≤◌};
+ghost use Rattle.std.specs.Process.{exit_status};
+
 use clr_csv::Counted;
 use clr_program::command_line::{command_line, no_words};
+use clr_program::paths::Paths;
 use std::process::ExitCode;
 use std::{env, io};
 
 fn main(rt: HostRuntime) -> ExitCode {
+    program(&rt)
+}
+
+/// Runs the program on the words of its process, and returns its status.
+fn program(rt: &HostRuntime) -> ExitCode
+    ensures { exit_status result ≤ 2 }
+{
     let mut errors = Counted::new(rt.stderr());
-    let status = match gather(&rt) {
+    let status = match gather(rt) {
         Ok(words) => command_line(
-            &rt,
+            rt,
+            &Paths::new(rt),
             words.as_slice(),
             &mut Counted::new(rt.stdin()),
             &mut Counted::new(rt.stdout()),
@@ -23,6 +35,13 @@ fn main(rt: HostRuntime) -> ExitCode {
         ),
         Err(cause) => no_words(&cause, &mut errors),
     };
+    exit_code(status)
+}
+
+/// The status as the system has it.
+fn exit_code(status: u8) -> ExitCode
+    ensures { exit_status result ≡ status }
+{
     ExitCode::from(status)
 }
 

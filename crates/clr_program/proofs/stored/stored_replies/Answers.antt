@@ -1,5 +1,6 @@
-use Rattle.std.proofs.Common.{◌≡◌, ◌+◌, ◌∷◌, drop, map, sym, ◌∙◌, subst}
+use Rattle.std.proofs.Common.{sym, ◌∙◌, subst}
 use Rattle.std.proofs.lemmas.List.{drop_all}
+use Rattle.clr_desk.proofs.Keeping.{keeps_on}
 use Rattle.clr_rules.specs.Good.{IsGood}
 use Rattle.clr_rules.specs.Register.{Register}
 use Rattle.clr_program.proofs.ReplyLines.{good_behind, lines_end, lines_step, printed_end, printed_step, register_end, register_step}
@@ -12,6 +13,7 @@ loop-line-preserved g c =
     let split = lines_step c.args.lines.now i _ c.loop-line-test.true in
     record {
       good = λ good. subst (λ (R : Register). IsGood R) (sym (c.in-Ok.ensures.register (inv.good good))) (good_behind _ _ (inv.good good));
+      kept = keeps_on _ _ _ _ _ _ inv.kept c.in-Ok.ensures.keeps;
       printed = λ good. printed_step _ _ _ _ _ _ _ split (c.in-Ok.ensures.text (inv.good good)) (c.in-Ok.ensures.register (inv.good good)) ∙ inv.printed good;
       left = λ good. register_step _ _ _ _ _ split (c.in-Ok.ensures.register (inv.good good)) ∙ inv.left good;
     }

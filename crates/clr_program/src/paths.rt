@@ -1,0 +1,126 @@
+//! Files at the paths that a command line names.
+ghost use Rattle.std.specs.Prelude.{◌≡◌, ◌⊎◌, ℕ, List, Option, Err, Ok};
+
+use crate::files::Source;
+use clr_csv::{CountedRead, CsvFault};
+use std::io::Read;
+use std::rt::Files;
+use std::{fs, io};
+
+/// What has the files at paths.
+pub trait Opens<'a> {
+    type File: Source + Drop;
+
+    /// What stands in the file at a path, where that is known.
+    ghost bytes_at: { Self → List ℕ → Option (List ℕ) };
+
+    /// The file at a path. It is not opened yet.
+    fn at(&self, path: &'a str) -> Self::File
+        ensures { Self.File.remaining result ≡ bytes_at self.now path.entry.now };
+}
+
+/// The paths of the machine.
+#[derive(Drop)]
+pub struct Paths<'a, R> {
+    rt: &'a R,
+}
+
+impl<'a, R> Paths<'a, R> {
+    /// Paths that `rt` opens.
+    pub fn new(rt: &'a R) -> Paths<'a, R> {
+        Paths { rt }
+    }
+}
+
+impl<'a, R: Files> Opens<'a> for Paths<'a, R> {
+    ghost use Rattle.std.specs.Prelude.{None};
+
+    type File = AtPath<'a, R>;
+
+    ghost bytes_at = { λ _ _. None };
+
+    fn at(&self, path: &'a str) -> AtPath<'a, R> {
+        AtPath {
+            rt: self.rt,
+            path,
+            file: None,
+            failures: 0,
+        }
+    }
+}
+
+/// The file at a path.
+#[derive(Drop)]
+pub struct AtPath<'a, R: Files> {
+    rt: &'a R,
+    path: &'a str,
+    file: Option<R::File>,
+    failures: u64,
+}
+
+impl<'a, R: Files> AtPath<'a, R> {
+    ghost use Rattle.clr_csv.specs.Failures.{count_after};
+
+    /// Adds a failure to the count, if this was one.
+    fn count<T>(&mut self, answer: &io::Result<T>)
+        ensures { self.new ≡ record self.old {
+          failures = count_after answer.now self.old.failures;
+        } }
+    {
+        if answer.is_err() {
+            self.failures = self.failures.saturating_add(1);
+        }
+    }
+}
+
+impl<'a, R: Files> Read for AtPath<'a, R> {
+    ghost use Rattle.std.specs.Prelude.{None};
+    ghost use Rattle.std.specs.Io.{ReadsAtMost};
+    ghost use Rattle.std.specs.Io.KnownBytes.{ReadConsumes};
+    ghost use Rattle.clr_csv.specs.Failures.{count_after};
+
+    ghost remaining = { λ _. None };
+
+    fn read(&mut self, buf: &mut [u8]) -> io::Result<usize>
+        ensures bound { ReadsAtMost result buf.new }
+        ensures bytes { ReadConsumes None None result buf.new }
+        ensures count { self.new.failures ≡ count_after result self.old.failures }
+    {
+        let answer = match &mut self.file {
+            Some(file) => file.read(buf),
+            None => Ok(0),
+        };
+        self.count(&answer);
+        answer
+    }
+}
+
+impl<'a, R: Files> CountedRead for AtPath<'a, R> {
+    ghost failure_count = { λ s. s.failures };
+
+    fn failures(&self) -> u64 {
+        self.failures
+    }
+
+    fn read_counted(&mut self, buf: &mut [u8]) -> io::Result<usize> {
+        self.read(buf)
+    }
+}
+
+impl<'a, R: Files> Source for AtPath<'a, R> {
+    fn open(&mut self) -> Result<(), CsvFault> {
+        match fs::open(self.rt, self.path) {
+            Ok(file) => {
+                self.file = Some(file);
+                Ok(())
+            }
+            Err(error) => match error.kind() {
+                io::ErrorKind::OutOfMemory => Err(CsvFault::NoMemory),
+                _ => {
+                    self.failures = self.failures.saturating_add(1);
+                    Err(CsvFault::ReadFailed)
+                }
+            },
+        }
+    }
+}
