@@ -1,5 +1,4 @@
 //! The book over sorted shelves: its opening, changes made in it, and what is read of it.
-use crate::worked::{worked_network, worked_staff};
 use clr_book::{
     Book, Change, ClearanceId, Edit, Edits, Hold, HoldKind, Moment, Phase, PointState, Record,
     StepRow,
@@ -7,6 +6,7 @@ use clr_book::{
 use clr_net::{Name, Position};
 use clr_order::{Action, Step, StepState};
 use clr_shelf::{ListShelf, Shelf, SortedShelf};
+use clr_worked::{worked_network, worked_staff};
 use std::alloc::Global;
 use std::test::Fail;
 

@@ -1,10 +1,10 @@
 //! A request and an order in the middle of a long chain, over sorted shelves.
 use crate::books::SortedBook;
 use crate::driver::{expect, own_card, say};
-use crate::worked::{chain_rows, names, worked_staff};
 use clr_book::{Book, ClearanceId, Kind, Names, Phase, Refusal, Reply, Tasks};
 use clr_net::{Name, Network};
 use clr_order::{Step, read_step_text};
+use clr_worked::{chain_rows, names, worked_staff};
 use std::alloc::Global;
 use std::test::Fail;
 

@@ -1,10 +1,10 @@
 //! The desk over a store in memory: runs on the worked network.
 use crate::driver::{expect, own_card};
-use crate::worked::{names, worked_network, worked_staff};
 use clr_book::{ClearanceId, Command, Kind, Moment, Names, Phase, Refusal, Reply, Tasks, Text};
 use clr_desk::{Desk, Run};
 use clr_net::Name;
 use clr_order::{Step, read_step_text};
+use clr_worked::{names, worked_network, worked_staff};
 use sqlite::{Connection, MemStore};
 use std::alloc::Global;
 use std::test::Fail;

@@ -1,7 +1,6 @@
 //! A clearance's life over either kind of shelves: each kind of command from the grant on.
 use crate::books::{ListBook, SortedBook, opening_book};
 use crate::driver::{expect, own_card, say};
-use crate::worked::names;
 use clr_book::{
     Book, Card, ClearanceId, Hold, HoldKind, Kind, Names, Phase, PointState, Record, Refusal,
     Reply, StepRow, Tasks, Text,
@@ -9,6 +8,7 @@ use clr_book::{
 use clr_net::Name;
 use clr_order::{Step, read_step_text};
 use clr_shelf::Shelf;
+use clr_worked::names;
 use std::alloc::Global;
 use std::test::Fail;
 

@@ -1,7 +1,6 @@
 //! The store: the worked register made in a database, changed, loaded and opened again, and tables
 //! that do not read.
 use crate::books::{hold, record, stands, step};
-use crate::worked::{worked_network, worked_staff};
 use clr_book::{
     Change, ClearanceId, Edit, Edits, Hold, HoldKind, Phase, PointState, Record, StepRow,
 };
@@ -10,6 +9,7 @@ use clr_net::{Name, Position};
 use clr_order::StepState;
 use clr_store::{Rows, Store, StoreFault};
 use clr_tables::TableName;
+use clr_worked::{worked_network, worked_staff};
 use sqlite::{Connection, MemStore};
 use std::alloc::Global;
 use std::test::Fail;

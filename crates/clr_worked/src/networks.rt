@@ -1,5 +1,5 @@
 //! Texts that are no names, and the first fault of rows that are to be a network.
-use crate::worked::net_fault;
+use crate::fences::net_fault;
 use clr_csv::{Counted, read_points, read_sections};
 use clr_net::{Name, NameFault, NetFault, Network, PointRow, Position};
 use std::alloc::Global;

@@ -1,6 +1,6 @@
 //! The networks and the staff of the worked examples.
 use clr_csv::{Counted, Staff, read_staff};
-use clr_net::{Name, NetFault, Network, PointRow, Position, SectionRow};
+use clr_net::{Name, Network, PointRow, Position, SectionRow};
 use std::alloc::Global;
 use std::test::Fail;
 
@@ -51,16 +51,6 @@ BOSS,charge,
     Ok(Staff::build(alloc, rows)?)
 }
 
-/// The network of the one section A, without points.
-pub fn single_section(alloc: Global) -> Result<Network, Fail> {
-    let mut sections = Vec::new(alloc);
-    sections.push(SectionRow {
-        name: Name::read("A")?,
-        source: false,
-    })?;
-    Ok(Network::build(alloc, sections, Vec::new(alloc))?)
-}
-
 /// The rows of a chain, in the order of their names.
 #[derive(Drop)]
 pub struct ChainRows {
@@ -93,21 +83,6 @@ pub fn chain_rows(alloc: Global, count: u16) -> Result<ChainRows, Fail> {
     Ok(ChainRows { sections, points })
 }
 
-/// The network of a chain, or its fault.
-pub fn chain(alloc: Global, count: u16) -> Result<Result<Network, NetFault>, Fail> {
-    let rows = chain_rows(alloc, count)?;
-    Ok(Network::build(alloc, rows.sections, rows.points))
-}
-
-/// The fault of rows that are no network, if they have one. Want of memory is never what a test
-/// asks for: it ends the test.
-pub fn net_fault(told: Result<Network, NetFault>) -> Result<Option<NetFault>, Fail> {
-    match told {
-        Err(NetFault::NoMemory) => Err(NetFault::NoMemory.into()),
-        told => Ok(told.err()),
-    }
-}
-
 /// The name of a section or point of a chain, whose places count from 0.
 fn chain_name(alloc: Global, letter: char, place: u16) -> Result<Name, Fail> {
     let number = u32::from(place) + 1;
@@ -122,33 +97,4 @@ pub fn names(alloc: Global, texts: &[&str]) -> Result<Vec<Name>, Fail> {
         names.push(Name::read(text)?)?;
     }
     Ok(names)
-}
-
-/// The names of the sections in a fence, with a blank before each.
-pub fn fence_names(
-    alloc: Global,
-    network: &Network,
-    work: &str,
-    cut: &[&str],
-) -> Result<String, Fail> {
-    let cut = names(alloc, cut)?;
-    let fence = network.fence(&Name::read(work)?, cut.as_slice())?;
-    let mut text = String::new(alloc);
-    for section in fence.sections() {
-        text.push_str(" ")?;
-        text.push_str(section.name.as_str())?;
-    }
-    Ok(text)
-}
-
-/// How many sections are in a fence.
-pub fn fence_len(
-    alloc: Global,
-    network: &Network,
-    work: &str,
-    cut: &[&str],
-) -> Result<usize, Fail> {
-    let cut = names(alloc, cut)?;
-    let fence = network.fence(&Name::read(work)?, cut.as_slice())?;
-    Ok(fence.sections().len())
 }

@@ -4,7 +4,7 @@ ghost use Rattle.std.specs.Ordering.{is_eq, nat_cmp, ordering_then};
 ghost use Rattle.std.specs.Cmp.Lexicographic.{slice_cmp};
 ghost use Rattle.std.proofs.lemmas.Cmp.{then_total, on_total, nat_list_cmp_total, nat_cmp_total};
 ghost use Rattle.clr_shelf.proofs.Keys.{first_ties, second_ties, same_number, same_text};
-ghost use Rattle.clr_examples.specs.declared.shelves.BerthKey.{BerthKey};
+ghost use Rattle.clr_worked.specs.declared.shelves.BerthKey.{BerthKey};
 
 use clr_shelf::{GroupedShelf, ListShelf, Row, Shelf, SortedShelf};
 use std::alloc::{AllocError, Global};
