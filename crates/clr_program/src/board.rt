@@ -1,8 +1,10 @@
 //! The subcommand `board`: what clearances and switch orders are not closed.
 ghost use Rattle.std.specs.Prelude.{◌≡◌, IfErr, IfOk, neg_ℤ, pos, string_bytes, ◌≤ℤ◌};
+ghost use Rattle.clap.specs.Words.{found_of, rows_of};
 ghost use Rattle.clr_text.specs.Printed.{board_text};
+ghost use Rattle.clr_program.specs.Stored.{BoardAt};
 
-use crate::database::{Databases, close_desk, open_desk};
+use crate::database::{Databases, close_behind, open_desk};
 use crate::fault::Fault;
 use crate::words::{offset_of, word_of};
 use clap::ArgMatches;
@@ -13,16 +15,14 @@ use clr_text::print_board;
 use std::alloc::Global;
 
 /// What `board DB [--offset MINUTES]` prints.
-pub fn board<R: Databases + AllocGlobal>(
-    rt: &R,
-    matches: &ArgMatches<'_>,
-) -> Result<String, Fault> {
+pub fn board<R: Databases + AllocGlobal>(rt: &R, matches: &ArgMatches<'_>) -> Result<String, Fault>
+    ensures { BoardAt (λ text. string_bytes text) (R.register_at rt.now)
+        (rows_of (found_of matches.now)) result }
+{
+    let offset = offset_of(matches);
     let desk = open_desk(rt, word_of(matches, "DB"))?;
-    let printed = board_of(rt.alloc(), desk.book(), offset_of(matches));
-    let closed = close_desk(rt, desk);
-    let text = printed?;
-    closed?;
-    Ok(text)
+    let printed = board_of(rt.alloc(), desk.book(), offset);
+    close_behind(rt, desk, printed)
 }
 
 /// The printed board of a book. The offset is in minutes east of Greenwich.

@@ -1,9 +1,11 @@
 //! The subcommand `order`: one round of a clearance or a switch order, as it is printed.
 ghost use Rattle.std.specs.Prelude.{◌≡◌, IfOk, neg_ℤ, option_map, pos, string_bytes, ◌≤ℤ◌};
 ghost use Rattle.clr_program.specs.Answers.{Gives};
+ghost use Rattle.clap.specs.Words.{found_of, rows_of};
 ghost use Rattle.clr_program.specs.Order.{order_told, read_round};
+ghost use Rattle.clr_program.specs.Stored.{OrdersAt};
 
-use crate::database::{Databases, close_desk, open_desk};
+use crate::database::{Databases, close_behind, open_desk};
 use crate::fault::Fault;
 use crate::words::{offset_of, word_of};
 use clap::ArgMatches;
@@ -14,24 +16,16 @@ use clr_text::print_order;
 use std::alloc::Global;
 
 /// What `order DB CLEARANCE ROUND [--offset MINUTES]` prints.
-pub fn order<R: Databases + AllocGlobal>(
-    rt: &R,
-    matches: &ArgMatches<'_>,
-) -> Result<String, Fault> {
+pub fn order<R: Databases + AllocGlobal>(rt: &R, matches: &ArgMatches<'_>) -> Result<String, Fault>
+    ensures { OrdersAt (λ text. string_bytes text) (R.register_at rt.now)
+        (rows_of (found_of matches.now)) result }
+{
     let clearance = word_of(matches, "CLEARANCE");
     let round = word_of(matches, "ROUND");
+    let offset = offset_of(matches);
     let desk = open_desk(rt, word_of(matches, "DB"))?;
-    let printed = order_of(
-        rt.alloc(),
-        desk.book(),
-        clearance,
-        round,
-        offset_of(matches),
-    );
-    let closed = close_desk(rt, desk);
-    let text = printed?;
-    closed?;
-    Ok(text)
+    let printed = order_of(rt.alloc(), desk.book(), clearance, round, offset);
+    close_behind(rt, desk, printed)
 }
 
 /// The printed order of a book that two words name.

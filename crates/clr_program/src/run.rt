@@ -15,7 +15,7 @@ ghost use Rattle.clr_program.specs.PrintedLines.{PrintedAreReplies};
 ghost use Rattle.clr_program.specs.Replies.{PrintsFirst, input_lines, reply_lines};
 ghost use Rattle.clr_program.specs.Run.{IsOpeningOf, RunsAsked, RunsAt, RunsFiles, RunsOver};
 ghost use Rattle.clr_program.specs.Run.{rows_fault};
-ghost use Rattle.clr_program.specs.Stored.{IsOfLine};
+ghost use Rattle.clr_program.specs.Stored.{IsOfLine, RunsStoredAt};
 
 use crate::database::{Databases, close_desk, open_desk};
 use crate::fault::{Fault, ImportFile, InputFault};
@@ -54,8 +54,8 @@ pub fn run<'a, R: Databases + AllocGlobal, O: Opens<'a>, I: CountedRead>(
     matches: &ArgMatches<'a>,
     input: &mut I,
 ) -> Result<Option<Printed>, Fault>
-    ensures { RunsAsked (O.bytes_at paths.now) (rows_of (found_of matches.now))
-        (I.remaining input.old) result }
+    ensures { RunsAsked (O.bytes_at paths.now) (R.register_at rt.now)
+        (rows_of (found_of matches.now)) (I.remaining input.old) result }
 {
     let files = words_of(rt.alloc(), matches, "FILES")?;
     match (option_of(matches, "db"), files.as_slice()) {
@@ -97,7 +97,9 @@ pub fn run_of_database<D: Databases, I: CountedRead>(
     databases: &D,
     path: &str,
     input: &mut I,
-) -> Result<Printed, Fault> {
+) -> Result<Printed, Fault>
+    ensures { RunsStoredAt (D.register_at databases.now) path.now (I.remaining input.old) result }
+{
     let mut desk = open_desk(databases, path)?;
     let printed = run_stored(alloc, &mut desk, input);
     let closed = close_desk(databases, desk);
@@ -126,6 +128,8 @@ pub fn run_stored<S: Alter + Drop, I: CountedRead>(
         → Rose (I.failure_count input.old) (I.failure_count input.new) }
     ensures long { IfSome (I.remaining input.old) (λ bytes.
         IsErrOf result (Fault.Input InputFault.TooLong) → 16777216 < length bytes) }
+    ensures short { IfSome (I.remaining input.old) (λ bytes.
+        OnOk result (length bytes ≤ 16777216)) }
     ensures others { IfErr result (λ fault. (fault ≡ Fault.Memory)
         ⊎ (fault ≡ Fault.Input InputFault.ReadFailed)
         ⊎ (fault ≡ Fault.Input InputFault.TooLong)) }
@@ -238,7 +242,8 @@ fn input_bytes<I: CountedRead>(alloc: Global, input: &mut I) -> Result<Vec<u8>, 
         → Rose (I.failure_count input.old) (I.failure_count input.new) }
     ensures long { IfSome (I.remaining input.old) (λ bytes.
         IsErrOf result (Fault.Input InputFault.TooLong) → 16777216 < length bytes) }
-    ensures short { IfSome (I.remaining input.old) (λ bytes. OnOk result (length bytes ≤ 16777216)) }
+    ensures short { IfSome (I.remaining input.old) (λ bytes.
+        OnOk result (length bytes ≤ 16777216)) }
     ensures others { IfErr result (λ fault. (fault ≡ Fault.Memory)
         ⊎ (fault ≡ Fault.Input InputFault.ReadFailed)
         ⊎ (fault ≡ Fault.Input InputFault.TooLong)) }

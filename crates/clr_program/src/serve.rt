@@ -1,6 +1,5 @@
 //! The subcommand `serve`: the register of a database, answered over HTTP.
-ghost use Rattle.std.specs.Prelude.{◌≡◌, ℕ, List, IfErr, IfOk, OnOk, Result, Some, codes};
-ghost use Rattle.std.specs.Prelude.{string_bytes};
+ghost use Rattle.std.specs.Prelude.{◌≡◌, ℕ, List, IfErr, IfOk, OnOk, Result, Some};
 ghost use Rattle.clap.specs.Words.{found_of, rows_of};
 ghost use Rattle.httparse.specs.Grammar.{RequestHead};
 ghost use Rattle.clr_rules.specs.Good.{IsGood};
@@ -10,7 +9,7 @@ ghost use Rattle.clr_http.specs.Respond.{respond_to};
 ghost use Rattle.clr_http.specs.Served.{IsRefusal, IsServed, IsWritten};
 ghost use Rattle.clr_http.specs.declared.serve.HttpFault.{HttpFault};
 ghost use Rattle.clr_http.specs.declared.serve.Served.{Served};
-ghost use Rattle.clr_program.specs.Asked.{word_in};
+ghost use Rattle.clr_program.specs.Outcome.{ServesAsked};
 ghost use Rattle.clr_program.specs.Serve.{IsServing, Serves, ServesNot, TellsConnection};
 ghost use Rattle.clr_program.specs.Serve.{TellsFirst, TellsNext, connection_line};
 ghost use Rattle.clr_program.specs.Streams.{Sends, stream};
@@ -20,7 +19,7 @@ use crate::fault::Fault;
 use crate::loopback::{Connection, Loopback};
 use crate::outcome::write_out;
 use crate::serve_line::{connection_line, serving_line};
-use crate::words::word_of;
+use crate::words::{count_of, port_of, word_of};
 use clap::ArgMatches;
 use clr_csv::{Counted, CountedRead, CountedWrite};
 use clr_http::{HttpFault, Registrar, serve_one};
@@ -42,13 +41,11 @@ pub struct Serving {
 impl Serving {
     /// What `serve DB --port N --count N` asks for.
     pub fn of_words(alloc: Global, matches: &ArgMatches<'_>) -> Result<Serving, AllocError>
-        ensures path { IfOk result (λ serving. string_bytes serving.path
-            ≡ word_in (rows_of (found_of matches.now)) (codes "DB")) }
+        ensures { IfOk result (λ serving. ServesAsked (rows_of (found_of matches.now)) serving) }
     {
         let path = String::from_str(alloc, word_of(matches, "DB"))?;
-        // clap lets no words pass without a port and a count.
-        let port = matches.get_one::<u16>("port").unwrap_or(1);
-        let count = matches.get_one::<usize>("count").unwrap_or(1);
+        let port = port_of(matches);
+        let count = count_of(matches);
         Ok(Serving { path, port, count })
     }
 }

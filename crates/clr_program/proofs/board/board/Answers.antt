@@ -1,0 +1,29 @@
+use Rattle.std.proofs.Common.{◌≡◌, ◌∙◌, ap, rules, subst, to_z, of_z, to_z-of_z, w16, FitsSigned, ℤ, Ok}
+use Rattle.std.specs.Prelude.{IfSome, codes, string_bytes}
+use Rattle.clap.specs.Words.{first_of, found_of, rows_of}
+use Rattle.clr_book.specs.Book.{Shelved}
+use Rattle.clr_rules.specs.Good.{IsGood}
+use Rattle.clr_rules.specs.Register.{Register}
+use Rattle.clr_text.specs.Printed.{board_text}
+use Rattle.clr_program.specs.Asked.{IsOffset}
+use Rattle.clr_program.specs.Stored.{TellsStored}
+use Rattle.clr_program.proofs.Databases.{IfSome-from, TellsStored-board, TellsStored-closed}
+use Rattle.clr_program.proofs.board.board.Goals as goal
+
+-- the board of the register that the database has
+pub returns : goal.returns
+returns g c =
+    let opened = subst (λ path. IfSome (g.R.Databases.register_at c.args.rt.now path) (λ R. (c.in_ok-desk.desk.book.register ≡ R) × IsGood R))
+    c.word_of.ensures c.in_ok-desk.ensures.register in
+    let tells : (R : Register) → (c.in_ok-desk.desk.book.register ≡ R) × IsGood R → (minutes : ℤ)
+    → IsOffset (first_of (codes "offset") (rows_of (found_of c.args.matches.now))) minutes
+    → TellsStored (λ text. string_bytes text) (Ok (board_text R.records minutes)) c.close_behind.result =
+    λ R is minutes named.
+    let register : c.book.result.now.register ≡ R = ap (λ (b : Shelved). b.register) c.book.ensures ∙ is.0 in
+    let fits : FitsSigned w16 c.offset_of-offset.result = search rules in
+    let same : to_z w16 (of_z w16 c.offset_of-offset.result) ≡ c.offset_of-offset.result = to_z-of_z fits in
+    let offset = same ∙ c.offset_of-offset.ensures.named minutes named in
+    TellsStored-closed _ _ c.board_of-printed.result _
+    (TellsStored-board _ _ c.board_of-printed.result (λ i. board_text (register i).records (offset i)) c.board_of-printed.ensures.text c.board_of-printed.ensures.fault)
+    c.close_behind.ensures in
+    IfSome-from _ _ _ tells opened
