@@ -6,4 +6,5 @@ use Rattle.clr_program.proofs.syntax.arguments.required.Goals as goal
 pub returns-clause-rule : goal.returns-clause-rule
 returns-clause-rule c =
     let begun : rule_of c.new.result ≡ new_rule c.args.id.now = search rules in
-    ap rule_of c.help.ensures ∙ ap rule_of c.required.ensures ∙ ap (λ (rule : Rule). record rule { required = true }) begun
+    ap rule_of c.help.ensures ∙ ap rule_of c.required.ensures
+    ∙ ap (λ (rule : Rule). record rule { required = true }) begun
