@@ -1,9 +1,10 @@
 -- A desk that is opened: from what the store loads to the register.
-use Rattle.std.proofs.Common.{◌≡◌, ◌∙◌, Option, None, Some, ap, subst, sym, Result, Ok, Err}
+use Rattle.std.proofs.Common.{◌≡◌, ◌∙◌, ◌⊎◌, Option, None, Some, ap, inl, inr, subst, sym, Result, Ok, Err}
 use Rattle.clr_book.specs.Book.{Shelved}
 use Rattle.clr_rules.specs.Good.{IsGood}
 use Rattle.clr_rules.specs.Register.{Register}
 use Rattle.clr_store.specs.Contract.{GivesRows}
+use Rattle.clr_store.specs.Fault.{IsOfDatabase}
 use Rattle.clr_store.specs.declared.fault.StoreFault.{StoreFault}
 use Rattle.clr_store.specs.declared.fault.StoreFault.TheVariants.{Sql, WrongVersion, BadRow, NoMemory}
 use Rattle.clr_tables.specs.RowsRead.{Rows, rows_of, rows_read}
@@ -57,3 +58,15 @@ fails_by_database R good typed fault told opens is =
     (opens_good R good fault
     (subst (λ (read : Result Rows TableName). OpensAs (λ (book : Shelved). book.register) read (Err fault))
     (tables_are_read R good.points_known.states good.in_order typed) opens))
+
+of_command : (fault : StoreFault) → IsOfDatabase fault → IsOfCommand (of_store fault)
+of_command Sql is = tt
+of_command NoMemory is = tt
+of_command (WrongVersion n) is = absurd is
+of_command (BadRow name) is = absurd is
+
+-- a store that was shut is refused as a fault of the database
+pub shut_or_open : (Open : Type 0) (fault : StoreFault) (told : DeskFault) → Open ⊎ IsOfDatabase fault
+    → told ≡ of_store fault → Open ⊎ IsOfCommand told
+shut_or_open Open fault told (inl open_then) is = inl open_then
+shut_or_open Open fault told (inr refused) is = inr (subst IsOfCommand (sym is) (of_command fault refused))

@@ -1,5 +1,5 @@
 //! The desk: a book and its store.
-ghost use Rattle.std.specs.Prelude.{◌≡◌, ◌<◌, false, [], ◌∷◌, length, IfErr, IfOk, IfNone, IfSome};
+ghost use Rattle.std.specs.Prelude.{◌≡◌, ◌⊎◌, ◌<◌, false, [], ◌∷◌, length, IfErr, IfOk, IfNone, IfSome};
 ghost use Rattle.std.specs.Prelude.{IsTrue, OnErr, OnOk, Ok, Err};
 ghost use Rattle.clr_rules.specs.RunHeadline.{IsRun, OthersChangeNoReply, OthersTakeNothing};
 ghost use Rattle.clr_rules.specs.RunHeadline.{OwnStandAlone, with_reply};
@@ -93,6 +93,8 @@ impl<S: Alter + Drop> Desk<S> {
         ensures again { IfOk result (λ desk. HasCleanDisk (state S.Store desk.store)
             → (R : Register) → IsGood R → HasTables (state S.Store store).now (tables_of R)
             → desk.book.register ≡ R) }
+        ensures was_open { IfOk result (λ desk. HasCleanDisk (state S.Store desk.store)
+            → IsTrue (state S.Store store).is_open) }
         ensures faults { IfOk result (λ desk. desk.faults ≡ 0) }
         ensures saved { IfOk result (λ desk. HasCleanDisk (state S.Store desk.store)
             → IsTrue (state S.Store desk.store).is_open → IsSaved (state S.Store desk.store)) }
@@ -108,6 +110,8 @@ impl<S: Alter + Drop> Desk<S> {
         ensures cause { IfErr result (λ back. HasCleanDisk (state S.Store back.1)
             → (R : Register) → IsGood R → IsTyped R
             → HasTables (state S.Store store).now (tables_of R) → IsOfCommand back.0) }
+        ensures shut { IfErr result (λ back. HasCleanDisk (state S.Store back.1)
+            → IsTrue (state S.Store store).is_open ⊎ IsOfCommand back.0) }
         ensures kept { IfErr result (λ back. HasCleanDisk (state S.Store back.1)
             → IsTrue (state S.Store back.1).is_open
             → (state S.Store back.1).now ≡ (state S.Store store).now) }

@@ -1,6 +1,6 @@
 //! Opening: the book of the rows that a store has loaded.
-ghost use Rattle.std.specs.Prelude.{◌≡◌, ◌⊎◌, ℕ, List, Option, Some, None, IfErr, IfOk, IsTrue};
-ghost use Rattle.std.specs.Prelude.{OnOk, length, map, nat_lt};
+ghost use Rattle.std.specs.Prelude.{◌≡◌, ◌⊎◌, ℕ, List, Option, Some, None, IfErr, IfOk, IsErrAnd};
+ghost use Rattle.std.specs.Prelude.{IsTrue, OnOk, length, map, nat_lt};
 ghost use Rattle.clr_csv.specs.Staff.{IsStaffOf, first_fault as staff_fault};
 ghost use Rattle.clr_net.specs.Network.{IsGridOf, first_fault as network_fault};
 ghost use Rattle.clr_rules.specs.Edits.{after_edits};
@@ -8,6 +8,7 @@ ghost use Rattle.clr_rules.specs.Register.{opening};
 ghost use Rattle.clr_tables.specs.declared.table_name.TableName.TheVariants as table;
 ghost use Rattle.clr_book.specs.Book.{Shelved};
 ghost use Rattle.clr_store.specs.Contract.{IsSaved, rows_told};
+ghost use Rattle.clr_store.specs.Fault.{IsOfDatabase};
 ghost use Rattle.clr_store.specs.Stored.{HasTables};
 ghost use Rattle.clr_tables.specs.RowsRead.{rows_read};
 ghost use Rattle.clr_tables.specs.Tables.{Tables};
@@ -174,6 +175,8 @@ pub(crate) fn book_in<S: Alter + Drop>(store: &mut Store<S>) -> Result<DeskBook,
     ensures tables { HasCleanDisk (state S.Store store.new) → (t : Tables)
         → HasTables (state S.Store store.old).now t
         → OpensAs (λ (book : Shelved). book.register) (rows_read t) result }
+    ensures was_open { HasCleanDisk (state S.Store store.new)
+        → IsTrue (state S.Store store.old).is_open ⊎ IsErrAnd result IsOfDatabase }
     ensures saved { HasCleanDisk (state S.Store store.new)
         → IsTrue (state S.Store store.new).is_open → IsSaved (state S.Store store.new) }
     ensures same { HasCleanDisk (state S.Store store.new) → IsTrue (state S.Store store.new).is_open

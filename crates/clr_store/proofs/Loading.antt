@@ -150,15 +150,28 @@ unchanged_keeps old new h = record { was_open = λ _. h.0.was_open; committed = 
 undone_keeps : (old new : State) → IsRolledBack old new → KeepsCommit old new
 undone_keeps old new h = record { was_open = h.was_open; committed = λ is_open. (h.undone is_open).1 }
 
-pub shown_keeps : (sql : List ℕ) (params : Row) (old new : State) (rows : List Row) → IsTrue old.in_transaction → Shown sql params old new rows → IsTrue new.in_transaction × KeepsCommit old new
+-- what a query that showed rows tells of the connection
+record Keeps (old new : State) : Type 0 where
+  pub was_open : IsTrue old.is_open
+  pub inside : IsTrue new.in_transaction
+  pub kept : KeepsCommit old new
+
+shown_keeps : (sql : List ℕ) (params : Row) (old new : State) (rows : List Row) → IsTrue old.in_transaction
+    → Shown sql params old new rows → Keeps old new
 unfolding Shown
 shown_keeps sql params old new rows inside h = go h.0.returning refl
   where
-    go : (returning : Option Returning) → h.0.returning ≡ returning → IsTrue new.in_transaction × KeepsCommit old new
-    go None is = let it = subst (ShowsRows old new sql h.0 (timed params h.0.formats h.1.now) rows) is h.2 in (rw it.3.0.mode inside, unchanged_keeps old new it.3)
+    go : (returning : Option Returning) → h.0.returning ≡ returning → Keeps old new
+    go None is =
+        let it = subst (ShowsRows old new sql h.0 (timed params h.0.formats h.1.now) rows) is h.2 in
+        record { was_open = it.3.0.was_open; inside = rw it.3.0.mode inside; kept = unchanged_keeps old new it.3 }
     go (Some what) is =
         let it = subst (ShowsRows old new sql h.0 (timed params h.0.formats h.1.now) rows) is h.2 in
-        (rw it.1.shown.mode inside, record { was_open = λ _. it.1.shown.was_open; committed = λ _. it.1.shown.committed_is ∙ rw inside refl })
+        record {
+          was_open = it.1.shown.was_open;
+          inside = rw it.1.shown.mode inside;
+          kept = record { was_open = λ _. it.1.shown.was_open; committed = λ _. it.1.shown.committed_is ∙ rw inside refl };
+        }
 
 command_keeps : (old new : State) (sql : List ℕ) (c : Compiled) (params : Row) (e : Error) → RunsCommand old new sql c params (Err e) → KeepsCommit old new
 command_keeps old new sql c params e (inl h) = unchanged_keeps old new h.1
@@ -188,8 +201,9 @@ pub listed : (old new : State) (name : TableName) (rows : List Row) → IsTrue o
 listed old new name rows inside shown =
     let keeps = shown_keeps (select_sql name) [] old new rows inside shown in
     record {
-      inside = keeps.0;
-      kept = keeps.1;
+      was_open = keeps.was_open;
+      inside = keeps.inside;
+      kept = keeps.kept;
       found_is = λ t has ordered.
           let same = stays old new name rows has.schema shown in
           (lists old new name t rows has ordered shown, subst (λ (db : Database). Holds db t) (sym same) has);
@@ -199,6 +213,7 @@ listed old new name rows inside shown =
 pub then_finds : {A B : Type 0} (a b c : State) (f : Tables → A) (g : Tables → B) (x : A) (y : B)
     → Finds a b f x → Finds b c g y → Finds {A = A × B} a c (λ t. (f t, g t)) (x, y)
 then_finds a b c f g x y p q = record {
+  was_open = p.was_open;
   inside = q.inside;
   kept = then_kept a b c p.kept q.kept;
   found_is = λ t has ordered.
@@ -221,6 +236,7 @@ pub all_found : (old a b c new : State) (meta sections points staff clearances s
       holds = holds;
     })
 all_found old a b c new meta sections points staff clearances steps holds p q r s = record {
+  was_open = p.was_open;
   inside = s.inside;
   kept = then_kept old c new (then_kept old b c (then_kept old a b p.kept q.kept) r.kept) s.kept;
   found_is = λ t has ordered.

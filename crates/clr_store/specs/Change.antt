@@ -56,8 +56,9 @@ abbrev pub StepsTo : {X : Type 0} → State → State → (Database → Type 0) 
 StepsTo old new From To result = HasCleanDisk new → IsTrue old.in_transaction
     → MatchResult result (λ _. Makes old new From To) (λ _. KeepsCommit old new)
 
--- something that the tables tell is found, the tables stay, and nothing is committed
+-- the connection was open, something that the tables tell is found, the tables stay, and nothing is committed
 pub record Finds {A : Type 0} (old new : State) (tells : Tables → A) (found : A) : Type 0 where
+  pub was_open : IsTrue old.is_open
   pub inside : IsTrue new.in_transaction
   pub kept : KeepsCommit old new
   pub found_is : (t : Tables) → Holds old.now t → IsInOrder t → (found ≡ tells t) × Holds new.now t

@@ -1,5 +1,5 @@
 //! The rows of a register, read back from the tables.
-ghost use Rattle.std.specs.Prelude.{◌≡◌, false, map, IsTrue, IfErr, IfOk};
+ghost use Rattle.std.specs.Prelude.{◌≡◌, ◌⊎◌, false, map, IsTrue, IfErr, IfOk, IsErrAnd};
 ghost use Rattle.sqlite.specs.Held.{state};
 ghost use Rattle.sqlite.specs.State.{HasCleanDisk, Survives};
 ghost use Rattle.clr_tables.specs.RowsRead.{rows_read};
@@ -120,6 +120,8 @@ pub(crate) fn load_rows<S: Alter>(conn: &mut Connection<S>) -> Result<Rows, Stor
     ensures mode { conn.old.in_transaction ≡ false → conn.new.in_transaction ≡ false }
     ensures rows { HasCleanDisk (state S.Store conn.new) → (t : Tables)
         → HasTables (state S.Store conn.old).now t → GivesRows (rows_read t) result }
+    ensures was_open { HasCleanDisk (state S.Store conn.new)
+        → IsTrue (state S.Store conn.old).is_open ⊎ IsErrAnd result IsOfDatabase }
     ensures saved { conn.old.in_transaction ≡ false → HasCleanDisk (state S.Store conn.new)
         → IsTrue (state S.Store conn.new).is_open → IsSaved (state S.Store conn.new) }
     ensures same { HasCleanDisk (state S.Store conn.new) → IsTrue (state S.Store conn.new).is_open

@@ -1,5 +1,5 @@
 //! The store: the register of a database, over a connection to it.
-ghost use Rattle.std.specs.Prelude.{◌≡◌, false, pos, IsTrue, IfErr, IfOk, Ok, OnErr, OnOk};
+ghost use Rattle.std.specs.Prelude.{◌≡◌, ◌⊎◌, false, pos, IsTrue, IfErr, IfOk, IsErrAnd, Ok, OnErr, OnOk};
 ghost use Rattle.sqlite.specs.Held.{state};
 ghost use Rattle.sqlite.specs.State.{HasCleanDisk, Survives};
 ghost use Rattle.clr_rules.specs.Good.{IsGood};
@@ -143,6 +143,8 @@ impl<S: Alter + Drop> Store<S> {
         ensures register { HasCleanDisk (state S.Store self.new) → (R : Register) → IsGood R
             → IsTyped R → HasTables (state S.Store self.old).now (tables_of R)
             → GivesBack R result }
+        ensures was_open { HasCleanDisk (state S.Store self.new)
+            → IsTrue (state S.Store self.old).is_open ⊎ IsErrAnd result IsOfDatabase }
         ensures saved { HasCleanDisk (state S.Store self.new)
             → IsTrue (state S.Store self.new).is_open → IsSaved (state S.Store self.new) }
         ensures same { HasCleanDisk (state S.Store self.new)

@@ -1,10 +1,12 @@
-use Rattle.std.proofs.Common.{◌≡◌, rules, subst}
+use Rattle.std.proofs.Common.{◌≡◌, ◌⊎◌, IsTrue, rules, subst}
+use Rattle.std.specs.Prelude.{IsErrAnd}
 use Rattle.sqlite.specs.Held.{state}
 use Rattle.sqlite.specs.State.{HasCleanDisk}
 use Rattle.clr_tables.proofs.TablesRead.{tables_are_read}
 use Rattle.clr_tables.specs.RowsRead.{rows_read}
 use Rattle.clr_tables.specs.Tables.{Tables, tables_of}
 use Rattle.clr_store.specs.Contract.{GivesRows}
+use Rattle.clr_store.specs.Fault.{IsOfDatabase}
 use Rattle.clr_store.specs.Stored.{HasTables}
 use Rattle.clr_store.proofs.AllGiven.{gives_back}
 use Rattle.clr_store.proofs.store.Store.load.Goals as goal
@@ -24,3 +26,10 @@ returns-clause-register g c clean R good typed has =
     is c.load_rows.ensures.rows in
     gives_back R (rows_read (tables_of R)) c.load_rows.result
     (tables_are_read R good.points_known.states good.in_order typed) (rows clean (tables_of R) has)
+
+pub returns-clause-was_open : goal.returns-clause-was_open
+returns-clause-was_open g c =
+    let new = state g.S.Store c.load_rows.new.conn in
+    let is : c.self.inside.connection ≡ c.args.self.now = search rules in
+    subst (λ h. HasCleanDisk new → IsTrue (state g.S.Store h).is_open ⊎ IsErrAnd c.load_rows.result IsOfDatabase)
+    is c.load_rows.ensures.was_open
