@@ -1,13 +1,19 @@
 -- What the texts of the statements mean.
-use Rattle.std.proofs.Common.{◌≡◌, ℕ, zero, suc, List, [], ◌∷◌, ◌++◌, map, false, Ok, refl, pos, negsuc, None}
+use Rattle.std.proofs.Common.{◌≡◌, ◌∙◌, ℕ, zero, suc, List, [], ◌∷◌, ◌++◌, length, map, take, false, Ok}
+use Rattle.std.proofs.Common.{ap, refl, subst, sym, pos, negsuc, None}
+use Rattle.std.specs.Prelude.{codes, slice_range}
 use Rattle.sqlite.specs.declared.types.Value.TheVariants.{Null, Int}
 use Rattle.sqlite.specs.Term.{Term, lit, col, op2}
 use Rattle.sqlite.specs.Query.{Query, inner, end}
+use Rattle.sqlite.specs.Command.{Command}
 use Rattle.sqlite.specs.Compile.{table_defined_by}
 use Rattle.sqlite.specs.Change.{created}
 use Rattle.sqlite.specs.Source.TheVariants.{Values}
 use Rattle.sqlite.specs.Command.TheVariants.{Insert, Select, CreateTable, Delete, Update}
-use Rattle.sqlite.specs.Listing.{understood, reads_listing}
+use Rattle.sqlite.specs.Listing.{misses_table, understood, reads_listing}
+use Rattle.sqlite.specs.Schema.{Schema}
+use Rattle.sqlite_resolve.specs.Compile.{compiled}
+use Rattle.sqlite_resolve.specs.declared.compiled.Compiled.{Compiled}
 use Rattle.sqlite.proofs.Callers.{IsPlain, command_of, statement_of}
 use Rattle.sqlite_tied.specs.Compute.{everything}
 use Rattle.sqlite_value.specs.Keys.{ascending}
@@ -71,45 +77,76 @@ listing name = query_of (tree_of name) [] (terms_from 1 1 (width_of name)) (orde
 abbrev pub insert_terms : TableName → List Term
 insert_terms name = lit Null ∷ terms_from 0 0 (width_of name)
 
-pub insert_is : (name : TableName) → command_of (understood register_schema (insert_sql name)) ≡ Insert (place_of name) (Values (insert_terms name) (suc (width_of name)))
-unfolding understood everything
-insert_is Meta = refl
-insert_is Section = refl
-insert_is Point = refl
-insert_is Staff = refl
-insert_is Clearance = refl
-insert_is Step = refl
-insert_is Hold = refl
+-- ---- what each text is compiled to: the one place where it is read
+abbrev numbered : ℕ → List (List ℕ)
+numbered given = take given (codes "?1" ∷ codes "?2" ∷ codes "?3" ∷ codes "?4" ∷ codes "?5"
+    ∷ codes "?6" ∷ codes "?7" ∷ codes "?8" ∷ [])
 
-pub delete_is : (name : TableName) → command_of (understood register_schema (delete_sql name)) ≡ Delete (place_of name) (record { lets = []; body = matching name })
-unfolding understood everything
-delete_is Meta = refl
-delete_is Section = refl
-delete_is Point = refl
-delete_is Staff = refl
-delete_is Clearance = refl
-delete_is Step = refl
-delete_is Hold = refl
+-- a command that is all of its text, with so many parameters, without RETURNING and without the time
+abbrev all_of : List ℕ → ℕ → Command → Compiled
+all_of sql given command = record {
+  command = command;
+  returning = None;
+  names = numbered given;
+  formats = [];
+  start = 0;
+  end = length sql;
+  tail = length sql;
+}
 
-pub select_is : (name : TableName) → command_of (understood register_schema (select_sql name)) ≡ Select (record { lets = []; body = listing name }) (names_of_columns (columns_in name))
-unfolding understood everything
-select_is Meta = refl
-select_is Section = refl
-select_is Point = refl
-select_is Staff = refl
-select_is Clearance = refl
-select_is Step = refl
-select_is Hold = refl
+abbrev inserting : TableName → Command
+inserting name = Insert (place_of name) (Values (insert_terms name) (suc (width_of name)))
 
-pub create_is : (name : TableName) → command_of (understood (schema_of (names_before name)) (create_sql name)) ≡ CreateTable
-unfolding understood everything
-create_is Meta = refl
-create_is Section = refl
-create_is Point = refl
-create_is Staff = refl
-create_is Clearance = refl
-create_is Step = refl
-create_is Hold = refl
+abbrev deleting : TableName → Command
+deleting name = Delete (place_of name) (record { lets = []; body = matching name })
+
+abbrev selecting : TableName → Command
+selecting name =
+    Select (record { lets = []; body = listing name }) (names_of_columns (columns_in name))
+
+insert_reads : (name : TableName) → compiled register_schema (insert_sql name)
+    ≡ Ok (all_of (insert_sql name) (width_of name) (inserting name))
+unfolding everything
+insert_reads Meta = refl
+insert_reads Section = refl
+insert_reads Point = refl
+insert_reads Staff = refl
+insert_reads Clearance = refl
+insert_reads Step = refl
+insert_reads Hold = refl
+
+delete_reads : (name : TableName) → compiled register_schema (delete_sql name)
+    ≡ Ok (all_of (delete_sql name) (keys_in name) (deleting name))
+unfolding everything
+delete_reads Meta = refl
+delete_reads Section = refl
+delete_reads Point = refl
+delete_reads Staff = refl
+delete_reads Clearance = refl
+delete_reads Step = refl
+delete_reads Hold = refl
+
+select_reads : (name : TableName) → compiled register_schema (select_sql name)
+    ≡ Ok (all_of (select_sql name) 0 (selecting name))
+unfolding everything
+select_reads Meta = refl
+select_reads Section = refl
+select_reads Point = refl
+select_reads Staff = refl
+select_reads Clearance = refl
+select_reads Step = refl
+select_reads Hold = refl
+
+create_reads : (name : TableName) → compiled (schema_of (names_before name)) (create_sql name)
+    ≡ Ok (all_of (create_sql name) 0 CreateTable)
+unfolding everything
+create_reads Meta = refl
+create_reads Section = refl
+create_reads Point = refl
+create_reads Staff = refl
+create_reads Clearance = refl
+create_reads Step = refl
+create_reads Hold = refl
 
 pub defines : (name : TableName) → table_defined_by (create_sql name) ≡ Ok (record (table_of name) { tree = 0 })
 unfolding everything
@@ -131,66 +168,6 @@ created_is Clearance = refl
 created_is Step = refl
 created_is Hold = refl
 
-pub create_text : (name : TableName) → statement_of (create_sql name) (understood (schema_of (names_before name)) (create_sql name)) ≡ create_sql name
-unfolding understood everything
-create_text Meta = refl
-create_text Section = refl
-create_text Point = refl
-create_text Staff = refl
-create_text Clearance = refl
-create_text Step = refl
-create_text Hold = refl
-
-pub insert_plain : (name : TableName) → IsPlain (understood register_schema (insert_sql name))
-unfolding understood everything
-insert_plain Meta = (refl, refl)
-insert_plain Section = (refl, refl)
-insert_plain Point = (refl, refl)
-insert_plain Staff = (refl, refl)
-insert_plain Clearance = (refl, refl)
-insert_plain Step = (refl, refl)
-insert_plain Hold = (refl, refl)
-
-pub delete_plain : (name : TableName) → IsPlain (understood register_schema (delete_sql name))
-unfolding understood everything
-delete_plain Meta = (refl, refl)
-delete_plain Section = (refl, refl)
-delete_plain Point = (refl, refl)
-delete_plain Staff = (refl, refl)
-delete_plain Clearance = (refl, refl)
-delete_plain Step = (refl, refl)
-delete_plain Hold = (refl, refl)
-
-pub select_plain : (name : TableName) → IsPlain (understood register_schema (select_sql name))
-unfolding understood everything
-select_plain Meta = (refl, refl)
-select_plain Section = (refl, refl)
-select_plain Point = (refl, refl)
-select_plain Staff = (refl, refl)
-select_plain Clearance = (refl, refl)
-select_plain Step = (refl, refl)
-select_plain Hold = (refl, refl)
-
-pub create_plain : (name : TableName) → IsPlain (understood (schema_of (names_before name)) (create_sql name))
-unfolding understood everything
-create_plain Meta = (refl, refl)
-create_plain Section = (refl, refl)
-create_plain Point = (refl, refl)
-create_plain Staff = (refl, refl)
-create_plain Clearance = (refl, refl)
-create_plain Step = (refl, refl)
-create_plain Hold = (refl, refl)
-
-pub select_unlisted : (name : TableName) → reads_listing register_schema (select_sql name) ≡ false
-unfolding understood everything
-select_unlisted Meta = refl
-select_unlisted Section = refl
-select_unlisted Point = refl
-select_unlisted Staff = refl
-select_unlisted Clearance = refl
-select_unlisted Step = refl
-select_unlisted Hold = refl
-
 -- the row of a point, with its number, as it is to be
 abbrev pub changing : List Term → Query
 changing terms = query_of 4 (tests_from 0 1) (col 1 0 ∷ col 1 0 ∷ terms) []
@@ -201,18 +178,98 @@ position_terms = terms_from 1 1 5 ++ col 0 1 ∷ terms_from 1 7 2
 abbrev pub hand_terms : List Term
 hand_terms = terms_from 1 1 6 ++ col 0 1 ∷ col 0 2 ∷ []
 
-pub set_position_is : command_of (understood register_schema set_position_sql) ≡ Update 2 (record { lets = []; body = changing position_terms })
-unfolding understood everything
-set_position_is = refl
+abbrev placing : Command
+placing = Update 2 (record { lets = []; body = changing position_terms })
 
-pub set_hand_is : command_of (understood register_schema set_hand_sql) ≡ Update 2 (record { lets = []; body = changing hand_terms })
-unfolding understood everything
-set_hand_is = refl
+abbrev handing : Command
+handing = Update 2 (record { lets = []; body = changing hand_terms })
+
+set_position_reads : compiled register_schema set_position_sql ≡ Ok (all_of set_position_sql 2 placing)
+unfolding everything
+set_position_reads = refl
+
+set_hand_reads : compiled register_schema set_hand_sql ≡ Ok (all_of set_hand_sql 3 handing)
+unfolding everything
+set_hand_reads = refl
+
+-- ---- what follows of a text that is compiled
+understood_as : (schema : Schema) (sql : List ℕ) (c : Compiled) → compiled schema sql
+    ≡ Ok c → understood schema sql ≡ Ok c
+unfolding understood
+understood_as schema sql c is = rw is refl
+
+command_is : (schema : Schema) (sql : List ℕ) (given : ℕ) (command : Command) → compiled schema sql
+    ≡ Ok (all_of sql given command)
+    → command_of (understood schema sql) ≡ command
+command_is schema sql given command is =
+    ap command_of (understood_as schema sql (all_of sql given command) is)
+
+plain_is : (schema : Schema) (sql : List ℕ) (given : ℕ) (command : Command) → compiled schema sql
+    ≡ Ok (all_of sql given command)
+    → IsPlain (understood schema sql)
+plain_is schema sql given command is =
+    subst IsPlain (sym (understood_as schema sql (all_of sql given command) is)) (refl, refl)
+
+pub insert_is : (name : TableName) → command_of (understood register_schema (insert_sql name))
+    ≡ inserting name
+insert_is name =
+    command_is register_schema (insert_sql name) (width_of name) (inserting name) (insert_reads name)
+
+pub insert_plain : (name : TableName) → IsPlain (understood register_schema (insert_sql name))
+insert_plain name =
+    plain_is register_schema (insert_sql name) (width_of name) (inserting name) (insert_reads name)
+
+pub delete_is : (name : TableName) → command_of (understood register_schema (delete_sql name))
+    ≡ deleting name
+delete_is name =
+    command_is register_schema (delete_sql name) (keys_in name) (deleting name) (delete_reads name)
+
+pub delete_plain : (name : TableName) → IsPlain (understood register_schema (delete_sql name))
+delete_plain name =
+    plain_is register_schema (delete_sql name) (keys_in name) (deleting name) (delete_reads name)
+
+pub select_is : (name : TableName) → command_of (understood register_schema (select_sql name))
+    ≡ selecting name
+select_is name = command_is register_schema (select_sql name) 0 (selecting name) (select_reads name)
+
+pub select_plain : (name : TableName) → IsPlain (understood register_schema (select_sql name))
+select_plain name =
+    plain_is register_schema (select_sql name) 0 (selecting name) (select_reads name)
+
+pub create_is : (name : TableName) → command_of (understood (schema_of (names_before name)) (create_sql name)) ≡ CreateTable
+create_is name =
+    command_is (schema_of (names_before name)) (create_sql name) 0 CreateTable (create_reads name)
+
+pub create_plain : (name : TableName) → IsPlain (understood (schema_of (names_before name)) (create_sql name))
+create_plain name =
+    plain_is (schema_of (names_before name)) (create_sql name) 0 CreateTable (create_reads name)
+
+pub select_unlisted : (name : TableName) → reads_listing register_schema (select_sql name) ≡ false
+select_unlisted name = ap misses_table (select_reads name)
+
+whole_text : (name : TableName) → slice_range (create_sql name) 0 (length (create_sql name))
+    ≡ create_sql name
+whole_text Meta = refl
+whole_text Section = refl
+whole_text Point = refl
+whole_text Staff = refl
+whole_text Clearance = refl
+whole_text Step = refl
+whole_text Hold = refl
+
+pub create_text : (name : TableName) → statement_of (create_sql name) (understood (schema_of (names_before name)) (create_sql name)) ≡ create_sql name
+create_text name =
+    ap (statement_of (create_sql name)) (understood_as (schema_of (names_before name)) (create_sql name) (all_of (create_sql name) 0 CreateTable) (create_reads name))
+    ∙ whole_text name
+
+pub set_position_is : command_of (understood register_schema set_position_sql) ≡ placing
+set_position_is = command_is register_schema set_position_sql 2 placing set_position_reads
+
+pub set_hand_is : command_of (understood register_schema set_hand_sql) ≡ handing
+set_hand_is = command_is register_schema set_hand_sql 3 handing set_hand_reads
 
 pub set_position_plain : IsPlain (understood register_schema set_position_sql)
-unfolding understood everything
-set_position_plain = (refl, refl)
+set_position_plain = plain_is register_schema set_position_sql 2 placing set_position_reads
 
 pub set_hand_plain : IsPlain (understood register_schema set_hand_sql)
-unfolding understood everything
-set_hand_plain = (refl, refl)
+set_hand_plain = plain_is register_schema set_hand_sql 3 handing set_hand_reads
