@@ -1,6 +1,6 @@
 -- What the texts of the statements mean.
-use Rattle.std.proofs.Common.{◌≡◌, ◌∙◌, ℕ, zero, suc, List, [], ◌∷◌, ◌++◌, length, map, take, false, Ok}
-use Rattle.std.proofs.Common.{ap, refl, subst, sym, pos, negsuc, None}
+use Rattle.std.proofs.Common.{◌≡◌, ◌∙◌, ℕ, zero, suc, List, [], ◌∷◌, ◌++◌, length, map, take}
+use Rattle.std.proofs.Common.{false, Ok, ap, refl, subst, sym, pos, negsuc, None}
 use Rattle.std.specs.Prelude.{codes, slice_range}
 use Rattle.sqlite.specs.declared.types.Value.TheVariants.{Null, Int}
 use Rattle.sqlite.specs.Term.{Term, lit, col, op2}
@@ -82,7 +82,7 @@ abbrev numbered : ℕ → List (List ℕ)
 numbered given = take given (codes "?1" ∷ codes "?2" ∷ codes "?3" ∷ codes "?4" ∷ codes "?5"
     ∷ codes "?6" ∷ codes "?7" ∷ codes "?8" ∷ [])
 
--- a command that is all of its text, with so many parameters, without RETURNING and without the time
+-- a command that is all of its text, with so many parameters, and no RETURNING or time
 abbrev all_of : List ℕ → ℕ → Command → Compiled
 all_of sql given command = record {
   command = command;
@@ -184,7 +184,8 @@ placing = Update 2 (record { lets = []; body = changing position_terms })
 abbrev handing : Command
 handing = Update 2 (record { lets = []; body = changing hand_terms })
 
-set_position_reads : compiled register_schema set_position_sql ≡ Ok (all_of set_position_sql 2 placing)
+set_position_reads : compiled register_schema set_position_sql
+    ≡ Ok (all_of set_position_sql 2 placing)
 unfolding everything
 set_position_reads = refl
 
@@ -193,27 +194,27 @@ unfolding everything
 set_hand_reads = refl
 
 -- ---- what follows of a text that is compiled
-understood_as : (schema : Schema) (sql : List ℕ) (c : Compiled) → compiled schema sql
-    ≡ Ok c → understood schema sql ≡ Ok c
+understood_as : (schema : Schema) (sql : List ℕ) (c : Compiled) → compiled schema sql ≡ Ok c
+    → understood schema sql ≡ Ok c
 unfolding understood
 understood_as schema sql c is = rw is refl
 
-command_is : (schema : Schema) (sql : List ℕ) (given : ℕ) (command : Command) → compiled schema sql
-    ≡ Ok (all_of sql given command)
+command_is : (schema : Schema) (sql : List ℕ) (given : ℕ) (command : Command)
+    → compiled schema sql ≡ Ok (all_of sql given command)
     → command_of (understood schema sql) ≡ command
 command_is schema sql given command is =
     ap command_of (understood_as schema sql (all_of sql given command) is)
 
-plain_is : (schema : Schema) (sql : List ℕ) (given : ℕ) (command : Command) → compiled schema sql
-    ≡ Ok (all_of sql given command)
-    → IsPlain (understood schema sql)
+plain_is : (schema : Schema) (sql : List ℕ) (given : ℕ) (command : Command)
+    → compiled schema sql ≡ Ok (all_of sql given command) → IsPlain (understood schema sql)
 plain_is schema sql given command is =
     subst IsPlain (sym (understood_as schema sql (all_of sql given command) is)) (refl, refl)
 
 pub insert_is : (name : TableName) → command_of (understood register_schema (insert_sql name))
     ≡ inserting name
 insert_is name =
-    command_is register_schema (insert_sql name) (width_of name) (inserting name) (insert_reads name)
+    command_is register_schema (insert_sql name) (width_of name) (inserting name)
+    (insert_reads name)
 
 pub insert_plain : (name : TableName) → IsPlain (understood register_schema (insert_sql name))
 insert_plain name =
@@ -236,11 +237,13 @@ pub select_plain : (name : TableName) → IsPlain (understood register_schema (s
 select_plain name =
     plain_is register_schema (select_sql name) 0 (selecting name) (select_reads name)
 
-pub create_is : (name : TableName) → command_of (understood (schema_of (names_before name)) (create_sql name)) ≡ CreateTable
+pub create_is : (name : TableName)
+    → command_of (understood (schema_of (names_before name)) (create_sql name)) ≡ CreateTable
 create_is name =
     command_is (schema_of (names_before name)) (create_sql name) 0 CreateTable (create_reads name)
 
-pub create_plain : (name : TableName) → IsPlain (understood (schema_of (names_before name)) (create_sql name))
+pub create_plain : (name : TableName)
+    → IsPlain (understood (schema_of (names_before name)) (create_sql name))
 create_plain name =
     plain_is (schema_of (names_before name)) (create_sql name) 0 CreateTable (create_reads name)
 
@@ -257,9 +260,13 @@ whole_text Clearance = refl
 whole_text Step = refl
 whole_text Hold = refl
 
-pub create_text : (name : TableName) → statement_of (create_sql name) (understood (schema_of (names_before name)) (create_sql name)) ≡ create_sql name
+pub create_text : (name : TableName)
+    → statement_of (create_sql name) (understood (schema_of (names_before name)) (create_sql name))
+    ≡ create_sql name
 create_text name =
-    ap (statement_of (create_sql name)) (understood_as (schema_of (names_before name)) (create_sql name) (all_of (create_sql name) 0 CreateTable) (create_reads name))
+    ap (statement_of (create_sql name))
+    (understood_as (schema_of (names_before name)) (create_sql name)
+    (all_of (create_sql name) 0 CreateTable) (create_reads name))
     ∙ whole_text name
 
 pub set_position_is : command_of (understood register_schema set_position_sql) ≡ placing
