@@ -9,6 +9,7 @@ use Rattle.clap.specs.declared.error.Error.{Error}
 use Rattle.clap.specs.declared.error.kind.ErrorKind.{ErrorKind}
 use Rattle.clap.specs.declared.error.kind.ErrorKind.TheVariants as kind
 use Rattle.clap.proofs.OnLiterals.{clap_on_literals}
+use Rattle.clr_rules.specs.Register.{Register}
 use Rattle.clr_program.specs.declared.fault.Fault.{Fault}
 use Rattle.clr_program.specs.declared.fault.Fault.TheVariants.{Memory}
 use Rattle.clr_program.specs.declared.outcome.Outcome.{Outcome}
@@ -66,17 +67,17 @@ HasKind-words app words error shape kinds =
     let P : App → Type 0 = λ a. HasKind (fault_of a words) error in subst P shape (kinds (plain_command app shape))
 
 -- memory ran out, whatever the words ask
-pub AnswersWords-memory : (bytes_at : Text → Option Text) (input : Option Text) (words : List Text) (result : Result Outcome Fault)
-    → IsErrAnd result (λ fault. fault ≡ Memory) → AnswersWords bytes_at input words result
-AnswersWords-memory bytes_at input words (Ok outcome) is = absurd is
-AnswersWords-memory bytes_at input words (Err fault) is =
+pub AnswersWords-memory : (bytes_at : Text → Option Text) (register_at : Text → Option Register) (input : Option Text) (words : List Text) (result : Result Outcome Fault)
+    → IsErrAnd result (λ fault. fault ≡ Memory) → AnswersWords bytes_at register_at input words result
+AnswersWords-memory bytes_at register_at input words (Ok outcome) is = absurd is
+AnswersWords-memory bytes_at register_at input words (Err fault) is =
     record { parsed = λ none. inl (ap Err is); unparsed = λ some. is; helped = tt }
 
 -- the same where its fault is passed on
-pub AnswersWords-passed : (bytes_at : Text → Option Text) (input : Option Text) (words : List Text) (fault : Fault) (result : Result Outcome Fault)
-    → IsErrAnd result (λ cause. cause ≡ fault) → fault ≡ Memory → AnswersWords bytes_at input words result
-AnswersWords-passed bytes_at input words fault (Ok outcome) is memory = absurd is
-AnswersWords-passed bytes_at input words fault (Err cause) is memory = AnswersWords-memory bytes_at input words (Err cause) (is ∙ memory)
+pub AnswersWords-passed : (bytes_at : Text → Option Text) (register_at : Text → Option Register) (input : Option Text) (words : List Text) (fault : Fault) (result : Result Outcome Fault)
+    → IsErrAnd result (λ cause. cause ≡ fault) → fault ≡ Memory → AnswersWords bytes_at register_at input words result
+AnswersWords-passed bytes_at register_at input words fault (Ok outcome) is memory = absurd is
+AnswersWords-passed bytes_at register_at input words fault (Err cause) is memory = AnswersWords-memory bytes_at register_at input words (Err cause) (is ∙ memory)
 
 no_kind : (kinds : Kinds) (error : Error) → HasKind kinds error → kinds ≡ [] → kind_of error ≡ kind.OutOfMemory
 no_kind [] error has none = elim has [
@@ -86,12 +87,12 @@ no_kind [] error has none = elim has [
 no_kind (k ∷ kinds) error has none = absurd (cc none)
 
 -- words in which clap finds something that is told
-pub AnswersWords-told : (bytes_at : Text → Option Text) (input : Option Text) (words : List Text) (error : Error) (outcome : Outcome)
+pub AnswersWords-told : (bytes_at : Text → Option Text) (register_at : Text → Option Register) (input : Option Text) (words : List Text) (error : Error) (outcome : Outcome)
     → HasKind (fault_of gridclear words) error
     → (kind_of error ≡ kind.OutOfMemory → ⊥)
     → (kind_of error ≢ kind.OutOfMemory → kind_of error ≢ kind.DisplayHelp → kind_of error ≢ kind.DisplayVersion → IsUnread outcome)
-    → AnswersWords bytes_at input words (Ok outcome)
-AnswersWords-told bytes_at input words error outcome has memory mistake = record {
+    → AnswersWords bytes_at register_at input words (Ok outcome)
+AnswersWords-told bytes_at register_at input words error outcome has memory mistake = record {
   parsed = λ none. absurd (memory (no_kind (fault_of gridclear words) error has none));
   unparsed = λ some. tt;
   helped = MayAnswer-from_help (fault_of gridclear words) error outcome has memory mistake;
@@ -103,10 +104,10 @@ if_ok_may words (Ok outcome) none = λ answers. inl none
 if_ok_may words (Err fault) none = tt
 
 -- words that parse come to what is answered of the subcommand that they name
-pub AnswersWords-parsed : (bytes_at : Text → Option Text) (input : Option Text) (words : List Text) (result : Result Outcome Fault)
-    → fault_of gridclear words ≡ [] → AnswersNamed bytes_at input (subcommand_of gridclear words) result
-    → AnswersWords bytes_at input words result
-AnswersWords-parsed bytes_at input words result none answers =
+pub AnswersWords-parsed : (bytes_at : Text → Option Text) (register_at : Text → Option Register) (input : Option Text) (words : List Text) (result : Result Outcome Fault)
+    → fault_of gridclear words ≡ [] → AnswersNamed bytes_at register_at input (subcommand_of gridclear words) result
+    → AnswersWords bytes_at register_at input words result
+AnswersWords-parsed bytes_at register_at input words result none answers =
     record { parsed = λ again. inr answers; unparsed = λ some. absurd (some none); helped = if_ok_may words result none }
 
 -- the subcommand that a parse met, as its matches show it
@@ -145,13 +146,13 @@ subcommand_of-met app words m met shape has name rows =
     and_left false b e = absurd (cc e)
 
 -- words that parse, and the subcommand that their parse met
-pub AnswersWords-met : (bytes_at : Text → Option Text) (input : Option Text) (words : List Text) (result : Result Outcome Fault)
+pub AnswersWords-met : (bytes_at : Text → Option Text) (register_at : Text → Option Register) (input : Option Text) (words : List Text) (result : Result Outcome Fault)
     (app : App) (m : ArgMatches) (met : Option (Bor Text × Bor ArgMatches)) (named : Option (Text × List Row))
     → app ≡ gridclear → (is_simple_and_free app ≡ true → fault_of app words ≡ []) → HasMatchesOf app words m
     → option_map (λ p. p.0.now) met ≡ subcommand_name_of m
     → option_map (λ p. rows_of (found_of p.1.now)) met ≡ option_map (λ p. p.1) (subcommand_rows (out-ArgMatches m).subcommand)
-    → shown met ≡ named → AnswersNamed bytes_at input named result → AnswersWords bytes_at input words result
-AnswersWords-met bytes_at input words result app m met named shape kinds has name rows is answers =
-    let P : Option (Text × List Row) → Type 0 = λ o. AnswersNamed bytes_at input o result in
-    AnswersWords-parsed bytes_at input words result (fault_of-parsed app words shape kinds)
+    → shown met ≡ named → AnswersNamed bytes_at register_at input named result → AnswersWords bytes_at register_at input words result
+AnswersWords-met bytes_at register_at input words result app m met named shape kinds has name rows is answers =
+    let P : Option (Text × List Row) → Type 0 = λ o. AnswersNamed bytes_at register_at input o result in
+    AnswersWords-parsed bytes_at register_at input words result (fault_of-parsed app words shape kinds)
     (subst P (sym is ∙ subcommand_of-met app words m met shape has name rows) answers)

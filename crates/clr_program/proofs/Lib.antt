@@ -1,6 +1,7 @@
 pub mod Answered
 pub mod Asked
 pub mod Connections
+pub mod Databases
 pub mod Found
 pub mod OfNoReader
 pub mod PointsNamed

@@ -2,6 +2,7 @@
 use Rattle.std.proofs.Common.{◌≡◌, ◌⊎◌, ℕ, List, Result, Ok, Err, arith, inl, inr, refl}
 use Rattle.std.specs.Prelude.{Option, string_bytes}
 use Rattle.clap.specs.Words.{Text, fault_of}
+use Rattle.clr_rules.specs.Register.{Register}
 use Rattle.clr_program.specs.CommandLine.{AnswersWords, MayAnswer}
 use Rattle.clr_program.specs.Outcome.{HasServed, IsFaulted, IsTold, Stream, Tells}
 use Rattle.clr_program.specs.Serve.{FailsServing}
@@ -51,13 +52,13 @@ IsTold-from_tells (Err fault) status output output' errors errors' (one, same, l
     record { statuses = omega (arith, one); answered = λ zero. absurd (omega (arith, zero, one)); faulted = λ _. (fault, errors, line, inl (refl, inr (inl same))); unread = λ two. absurd (omega (arith, one, two)) }
 
 -- the status is 0 only for words that may have an answer
-pub MayAnswer-from_tells : (bytes_at : Text → Option Text) (input : Option Text) (words : List Text) (told : Result Outcome Fault)
-    (status : ℕ) (output output' errors errors' : Stream) → AnswersWords bytes_at input words told
+pub MayAnswer-from_tells : (bytes_at : Text → Option Text) (register_at : Text → Option Register) (input : Option Text) (words : List Text) (told : Result Outcome Fault)
+    (status : ℕ) (output output' errors errors' : Stream) → AnswersWords bytes_at register_at input words told
     → Tells told status output output' errors errors' → status ≡ 0 → MayAnswer (fault_of gridclear words)
-MayAnswer-from_tells bytes_at input words (Ok (Answer text)) status output output' errors errors' answers tells zero = answers.helped tt
-MayAnswer-from_tells bytes_at input words (Ok (Stopped text fault)) status output output' errors errors' answers tells zero = answers.helped tt
-MayAnswer-from_tells bytes_at input words (Ok (Serve serving)) status output output' errors errors' answers tells zero = answers.helped tt
-MayAnswer-from_tells bytes_at input words (Ok (Unread text)) status output output' errors errors' answers (two, same, line) zero =
+MayAnswer-from_tells bytes_at register_at input words (Ok (Answer text)) status output output' errors errors' answers tells zero = answers.helped tt
+MayAnswer-from_tells bytes_at register_at input words (Ok (Stopped text fault)) status output output' errors errors' answers tells zero = answers.helped tt
+MayAnswer-from_tells bytes_at register_at input words (Ok (Serve serving)) status output output' errors errors' answers tells zero = answers.helped tt
+MayAnswer-from_tells bytes_at register_at input words (Ok (Unread text)) status output output' errors errors' answers (two, same, line) zero =
     absurd (omega (arith, zero, two))
-MayAnswer-from_tells bytes_at input words (Err fault) status output output' errors errors' answers (one, same, line) zero =
+MayAnswer-from_tells bytes_at register_at input words (Err fault) status output output' errors errors' answers (one, same, line) zero =
     absurd (omega (arith, zero, one))

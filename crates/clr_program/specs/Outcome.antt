@@ -2,11 +2,14 @@
 use Rattle.std.specs.Prelude.{ℕ, true, ◌≡◌, ◌≤◌, ◌⊎◌, List, [], ◌∷◌, ◌++◌, Option, Some, None}
 use Rattle.std.specs.Prelude.{Result, Ok, Err, String, codes, string_bytes}
 use Rattle.std.specs.declared.alloc.Global.{Global}
+use Rattle.clap.specs.Words.{Row, first_of}
+use Rattle.clr_program.specs.Asked.{IsNumberIn, word_in}
 use Rattle.clr_program.specs.declared.outcome.Outcome.{Outcome}
 use Rattle.clr_program.specs.declared.outcome.Outcome.TheVariants.{Answer, Serve, Stopped, Unread}
 use Rattle.clr_program.specs.declared.fault.Fault.{Fault}
 use Rattle.clr_program.specs.declared.fault.Fault.TheVariants.{Memory, Output}
 use Rattle.clr_program.specs.declared.replies.Printed.{Printed}
+use Rattle.clr_program.specs.declared.serve.Serving.{Serving}
 use Rattle.clr_program.specs.Fault.{fault_line}
 use Rattle.clr_program.specs.Serve.{FailsServing, Serves}
 pub use Rattle.clr_program.specs.Streams.{AppendsFront, HasFailed, IsCut, Sends, Stream, WentOut}
@@ -108,10 +111,19 @@ ComesTo (Ok None) (Ok outcome) = IsUsage outcome
 ComesTo (Ok None) (Err fault) = fault ≡ Memory
 ComesTo (Err fault) result = result ≡ Err fault
 
--- what a `serve` comes to: a server of the register in this database, unless memory ran out
-abbrev pub IsServer : List ℕ → Result Outcome Fault → Type 0
-IsServer path (Ok (Answer text)) = ⊥
-IsServer path (Ok (Stopped text fault)) = ⊥
-IsServer path (Ok (Serve serving)) = string_bytes serving.path ≡ path
-IsServer path (Ok (Unread text)) = ⊥
-IsServer path (Err fault) = fault ≡ Memory
+-- what `serve` was asked for: DB names the database, `--port` the port of 127.0.0.1, and `--count`
+-- says how many connections are served
+pub record ServesAsked (rows : List Row) (serving : Serving) : Type 0 where
+  pub path : string_bytes serving.path ≡ word_in rows (codes "DB")
+  pub port : (port : ℕ) → IsNumberIn 65535 (first_of (codes "port") rows) port
+      → serving.port ≡ port
+  pub count : (count : ℕ) → IsNumberIn 1000000 (first_of (codes "count") rows) count
+      → serving.count ≡ count
+
+-- what a `serve` comes to: a server of what it was asked for, unless memory ran out
+abbrev pub IsServer : List Row → Result Outcome Fault → Type 0
+IsServer rows (Ok (Answer text)) = ⊥
+IsServer rows (Ok (Stopped text fault)) = ⊥
+IsServer rows (Ok (Serve serving)) = ServesAsked rows serving
+IsServer rows (Ok (Unread text)) = ⊥
+IsServer rows (Err fault) = fault ≡ Memory

@@ -17,6 +17,7 @@ use Rattle.clr_program.specs.Asked.{words_in}
 use Rattle.clr_program.specs.Fault.{of_network, of_staff}
 use Rattle.clr_program.specs.Files.{IsUnread, told_of}
 use Rattle.clr_program.specs.Replies.{PrintsFirst, input_lines, reply_lines}
+use Rattle.clr_program.specs.Stored.{RunsStoredAt}
 use Rattle.clr_program.specs.declared.fault.Fault.{Fault}
 use Rattle.clr_program.specs.declared.fault.Fault.TheVariants.{Input, Memory}
 use Rattle.clr_program.specs.declared.fault.ImportFile.TheVariants.{Sections, Points, Staff}
@@ -106,16 +107,18 @@ IsNotTaken (Ok None) = Unit {0}
 IsNotTaken (Err fault) = fault ≡ Memory
 
 -- What `run` answers where it is given this database and these files: it takes a database and no
--- files, whose register no clause knows, or three files and no database.
-abbrev pub RunsOn : (List ℕ → Option (List ℕ)) → Option (List ℕ) → List (List ℕ) → Option (List ℕ)
-    → Result (Option Printed) Fault → Type 0
-RunsOn bytes_at (Some database) [] input result = IsTaken (λ told. Unit {0}) result
-RunsOn bytes_at None (sections ∷ points ∷ staff ∷ []) input result =
+-- files, or three files and no database.
+abbrev pub RunsOn : (List ℕ → Option (List ℕ)) → (List ℕ → Option Register) → Option (List ℕ)
+    → List (List ℕ) → Option (List ℕ) → Result (Option Printed) Fault → Type 0
+RunsOn bytes_at register_at (Some database) [] input result =
+    IsTaken (RunsStoredAt register_at database input) result
+RunsOn bytes_at register_at None (sections ∷ points ∷ staff ∷ []) input result =
     IsTaken (RunsAt bytes_at sections points staff input) result
-RunsOn bytes_at database files input result = IsNotTaken result
+RunsOn bytes_at register_at database files input result = IsNotTaken result
 
 -- the same on the words of a command line: `--db` names the database, and FILES are the files
-abbrev pub RunsAsked : (List ℕ → Option (List ℕ)) → List Row → Option (List ℕ)
-    → Result (Option Printed) Fault → Type 0
-RunsAsked bytes_at rows input result =
-    RunsOn bytes_at (first_of (codes "db") rows) (words_in rows (codes "FILES")) input result
+abbrev pub RunsAsked : (List ℕ → Option (List ℕ)) → (List ℕ → Option Register) → List Row
+    → Option (List ℕ) → Result (Option Printed) Fault → Type 0
+RunsAsked bytes_at register_at rows input result =
+    RunsOn bytes_at register_at (first_of (codes "db") rows) (words_in rows (codes "FILES")) input
+    result

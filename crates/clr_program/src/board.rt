@@ -1,8 +1,11 @@
 //! The subcommand `board`: what clearances and switch orders are not closed.
-ghost use Rattle.std.specs.Prelude.{◌≡◌, IfErr, IfOk, neg_ℤ, pos, string_bytes, ◌≤ℤ◌};
+ghost use Rattle.std.specs.Prelude.{◌≡◌, IfErr, IfOk, Ok, neg_ℤ, pos, string_bytes, ◌≤ℤ◌};
+ghost use Rattle.clap.specs.Words.{found_of, rows_of};
 ghost use Rattle.clr_text.specs.Printed.{board_text};
+ghost use Rattle.clr_program.specs.Stored.{BoardAt, HasRegister, TellsStored};
+ghost use Rattle.clr_rules.specs.Register.{Register};
 
-use crate::database::{Databases, close_desk, open_desk};
+use crate::database::{Databases, close_behind, desk_over};
 use crate::fault::Fault;
 use crate::words::{offset_of, word_of};
 use clap::ArgMatches;
@@ -10,19 +13,38 @@ use clr_book::Book;
 use clr_rules::{Hold, PointState, Record, StepRow};
 use clr_shelf::Shelf;
 use clr_text::print_board;
+use sqlite::{Alter, Connection};
 use std::alloc::Global;
 
 /// What `board DB [--offset MINUTES]` prints.
-pub fn board<R: Databases + AllocGlobal>(
-    rt: &R,
-    matches: &ArgMatches<'_>,
-) -> Result<String, Fault> {
-    let desk = open_desk(rt, word_of(matches, "DB"))?;
-    let printed = board_of(rt.alloc(), desk.book(), offset_of(matches));
-    let closed = close_desk(rt, desk);
-    let text = printed?;
-    closed?;
-    Ok(text)
+pub fn board<R: Databases + AllocGlobal>(rt: &R, matches: &ArgMatches<'_>) -> Result<String, Fault>
+    ensures { BoardAt (λ text. string_bytes text) (R.register_at rt.now)
+        (rows_of (found_of matches.now)) result }
+{
+    let offset = offset_of(matches);
+    let connection = rt.database(word_of(matches, "DB"))?;
+    let (told, connection) = board_over(rt.alloc(), connection, offset);
+    close_behind(connection, told)
+}
+
+/// The printed board of the register that a database has.
+fn board_over<S: Alter + Drop>(
+    alloc: Global,
+    connection: Connection<S>,
+    offset: i16,
+) -> (Result<String, Fault>, Connection<S>)
+    requires low { neg_ℤ (pos 720) ≤ℤ offset }
+    requires high { offset ≤ℤ pos 840 }
+    ensures { (R : Register) → HasRegister S.Store R connection → TellsStored
+        (λ text. string_bytes text) (Ok (board_text R.records offset)) result.0 }
+{
+    match desk_over(connection) {
+        Ok(desk) => {
+            let told = board_of(alloc, desk.book(), offset);
+            (told, desk.end().end())
+        }
+        Err((fault, connection)) => (Err(fault), connection),
+    }
 }
 
 /// The printed board of a book. The offset is in minutes east of Greenwich.

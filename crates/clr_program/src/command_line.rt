@@ -53,7 +53,8 @@ where
     W: CountedWrite,
     E: CountedWrite,
     ensures answer { (told : Result AnyOutcome AnyFault)
-        × AnswersWords (O.bytes_at paths.now) (I.remaining input.old) (map S.text words.now) told
+        × AnswersWords (O.bytes_at paths.now) (R.register_at rt.now) (I.remaining input.old)
+        (map S.text words.now) told
         × Tells told result
         (stream (W.contents output.old) (W.failure_count output.old) (W.stalled output.old)
         (W.flushed output.old))
@@ -116,8 +117,8 @@ where
     O: Opens<'a>,
     S: AsStr,
     I: CountedRead,
-    ensures { AnswersWords (O.bytes_at paths.now) (I.remaining input.old) (map S.text words.now)
-        result }
+    ensures { AnswersWords (O.bytes_at paths.now) (R.register_at rt.now) (I.remaining input.old)
+        (map S.text words.now) result }
 {
     let mut command = syntax::command(rt.alloc())?;
     let matches = match command.try_get_matches_from_mut(words) {
@@ -148,8 +149,8 @@ where
     R: Databases + AllocGlobal,
     O: Opens<'a>,
     I: CountedRead,
-    ensures { AnswersTo (O.bytes_at paths.now) (I.remaining input.old) name.now
-        (rows_of (found_of matches.now)) result }
+    ensures { AnswersTo (O.bytes_at paths.now) (R.register_at rt.now) (I.remaining input.old)
+        name.now (rows_of (found_of matches.now)) result }
 {
     match name {
         "fence" => whole(fence(rt.alloc(), paths, matches)),

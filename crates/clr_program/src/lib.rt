@@ -11,6 +11,7 @@ pub mod init;
 pub mod laws;
 pub mod line;
 pub mod loopback;
+pub mod machine;
 pub mod order;
 pub mod outcome;
 pub mod paths;

@@ -4,6 +4,8 @@ ghost use Rattle.std.specs.Net.Addr.{IsV4And, ipv4_octets};
 ghost use Rattle.std.specs.Net.Socket.{socket_ip, socket_port};
 
 use crate::fault::Fault;
+use crate::machine::Machine;
+use sqlite::Start;
 use std::io;
 use std::io::{Read, Write};
 use std::net::{IpAddr, Ipv4Addr, SocketAddr, TcpListener, TcpStream};
@@ -33,7 +35,7 @@ pub struct Connection<S> {
     pub writer: S,
 }
 
-impl Loopback for HostRuntime {
+impl<'a, S: Start> Loopback for Machine<'a, S> {
     type Listener = TcpListener;
 
     type Stream = TcpStream;
@@ -41,7 +43,7 @@ impl Loopback for HostRuntime {
     fn listen(&self, port: u16) -> Result<TcpListener, Fault>
         ensures fault { IfErr result (λ fault. fault ≡ Fault.Listen) }
     {
-        match TcpListener::bind(self, local_address(port)) {
+        match TcpListener::bind(self.rt, local_address(port)) {
             Ok(listener) => Ok(listener),
             Err(_) => Err(Fault::Listen),
         }

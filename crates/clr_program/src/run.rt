@@ -15,9 +15,10 @@ ghost use Rattle.clr_program.specs.PrintedLines.{PrintedAreReplies};
 ghost use Rattle.clr_program.specs.Replies.{PrintsFirst, input_lines, reply_lines};
 ghost use Rattle.clr_program.specs.Run.{IsOpeningOf, RunsAsked, RunsAt, RunsFiles, RunsOver};
 ghost use Rattle.clr_program.specs.Run.{rows_fault};
-ghost use Rattle.clr_program.specs.Stored.{IsOfLine};
+ghost use Rattle.clr_program.specs.Stored.{HasRegister, IsOfLine, RunsStored, RunsStoredAt};
+ghost use Rattle.clr_rules.specs.Register.{Register};
 
-use crate::database::{Databases, close_desk, open_desk};
+use crate::database::{Databases, close, desk_over};
 use crate::fault::{Fault, ImportFile, InputFault};
 use crate::files::{Source, points_from, sections_from, staff_from};
 use crate::laws::printed_lines_are_replies;
@@ -32,7 +33,7 @@ use clr_desk::Desk;
 use clr_net::{Network, PointRow, SectionRow};
 use clr_rules::{Hold, PointState, Record, StepRow};
 use clr_shelf::{Shelf, SortedShelf};
-use sqlite::Alter;
+use sqlite::{Alter, Connection};
 use std::alloc::Global;
 
 /// The most bytes of standard input.
@@ -54,8 +55,8 @@ pub fn run<'a, R: Databases + AllocGlobal, O: Opens<'a>, I: CountedRead>(
     matches: &ArgMatches<'a>,
     input: &mut I,
 ) -> Result<Option<Printed>, Fault>
-    ensures { RunsAsked (O.bytes_at paths.now) (rows_of (found_of matches.now))
-        (I.remaining input.old) result }
+    ensures { RunsAsked (O.bytes_at paths.now) (R.register_at rt.now)
+        (rows_of (found_of matches.now)) (I.remaining input.old) result }
 {
     let files = words_of(rt.alloc(), matches, "FILES")?;
     match (option_of(matches, "db"), files.as_slice()) {
@@ -97,16 +98,36 @@ pub fn run_of_database<D: Databases, I: CountedRead>(
     databases: &D,
     path: &str,
     input: &mut I,
-) -> Result<Printed, Fault> {
-    let mut desk = open_desk(databases, path)?;
-    let printed = run_stored(alloc, &mut desk, input);
-    let closed = close_desk(databases, desk);
+) -> Result<Printed, Fault>
+    ensures { RunsStoredAt (D.register_at databases.now) path.now (I.remaining input.old) result }
+{
+    let connection = databases.database(path)?;
+    let (printed, connection) = run_connected(alloc, connection, input);
+    let closed = close(connection);
     let Printed { text, fault } = printed?;
     let fault = match fault {
         Some(fault) => Some(fault),
         None => closed.err(),
     };
     Ok(Printed { text, fault })
+}
+
+/// The replies to the commands of the input, over the register that a database has.
+fn run_connected<S: Alter + Drop, I: CountedRead>(
+    alloc: Global,
+    connection: Connection<S>,
+    input: &mut I,
+) -> (Result<Printed, Fault>, Connection<S>)
+    ensures { (R : Register) → HasRegister S.Store R connection
+        → IfSome (I.remaining input.old) (λ bytes. RunsStored R bytes result.0) }
+{
+    match desk_over(connection) {
+        Ok(mut desk) => {
+            let printed = run_stored(alloc, &mut desk, input);
+            (printed, desk.end().end())
+        }
+        Err((fault, connection)) => (Err(fault), connection),
+    }
 }
 
 /// The replies to the commands of the input, over a stored register.
@@ -126,6 +147,8 @@ pub fn run_stored<S: Alter + Drop, I: CountedRead>(
         → Rose (I.failure_count input.old) (I.failure_count input.new) }
     ensures long { IfSome (I.remaining input.old) (λ bytes.
         IsErrOf result (Fault.Input InputFault.TooLong) → 16777216 < length bytes) }
+    ensures short { IfSome (I.remaining input.old) (λ bytes.
+        OnOk result (length bytes ≤ 16777216)) }
     ensures others { IfErr result (λ fault. (fault ≡ Fault.Memory)
         ⊎ (fault ≡ Fault.Input InputFault.ReadFailed)
         ⊎ (fault ≡ Fault.Input InputFault.TooLong)) }
@@ -238,7 +261,8 @@ fn input_bytes<I: CountedRead>(alloc: Global, input: &mut I) -> Result<Vec<u8>, 
         → Rose (I.failure_count input.old) (I.failure_count input.new) }
     ensures long { IfSome (I.remaining input.old) (λ bytes.
         IsErrOf result (Fault.Input InputFault.TooLong) → 16777216 < length bytes) }
-    ensures short { IfSome (I.remaining input.old) (λ bytes. OnOk result (length bytes ≤ 16777216)) }
+    ensures short { IfSome (I.remaining input.old) (λ bytes.
+        OnOk result (length bytes ≤ 16777216)) }
     ensures others { IfErr result (λ fault. (fault ≡ Fault.Memory)
         ⊎ (fault ≡ Fault.Input InputFault.ReadFailed)
         ⊎ (fault ≡ Fault.Input InputFault.TooLong)) }

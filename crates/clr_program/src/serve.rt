@@ -1,6 +1,5 @@
 //! The subcommand `serve`: the register of a database, answered over HTTP.
-ghost use Rattle.std.specs.Prelude.{◌≡◌, ℕ, List, IfErr, IfOk, OnOk, Result, Some, codes};
-ghost use Rattle.std.specs.Prelude.{string_bytes};
+ghost use Rattle.std.specs.Prelude.{◌≡◌, ℕ, List, IfErr, IfOk, OnOk, Result, Some};
 ghost use Rattle.clap.specs.Words.{found_of, rows_of};
 ghost use Rattle.httparse.specs.Grammar.{RequestHead};
 ghost use Rattle.clr_rules.specs.Good.{IsGood};
@@ -10,20 +9,21 @@ ghost use Rattle.clr_http.specs.Respond.{respond_to};
 ghost use Rattle.clr_http.specs.Served.{IsRefusal, IsServed, IsWritten};
 ghost use Rattle.clr_http.specs.declared.serve.HttpFault.{HttpFault};
 ghost use Rattle.clr_http.specs.declared.serve.Served.{Served};
-ghost use Rattle.clr_program.specs.Asked.{word_in};
+ghost use Rattle.clr_program.specs.Outcome.{ServesAsked};
 ghost use Rattle.clr_program.specs.Serve.{IsServing, Serves, ServesNot, TellsConnection};
 ghost use Rattle.clr_program.specs.Serve.{TellsFirst, TellsNext, connection_line};
 ghost use Rattle.clr_program.specs.Streams.{Sends, stream};
 
-use crate::database::{Databases, close_desk, open_desk};
+use crate::database::{Databases, close, desk_over};
 use crate::fault::Fault;
 use crate::loopback::{Connection, Loopback};
 use crate::outcome::write_out;
 use crate::serve_line::{connection_line, serving_line};
-use crate::words::word_of;
+use crate::words::{count_of, port_of, word_of};
 use clap::ArgMatches;
 use clr_csv::{Counted, CountedRead, CountedWrite};
 use clr_http::{HttpFault, Registrar, serve_one};
+use sqlite::Alter;
 use std::alloc::{AllocError, Global};
 use std::io;
 use std::io::{Read, Write};
@@ -42,13 +42,11 @@ pub struct Serving {
 impl Serving {
     /// What `serve DB --port N --count N` asks for.
     pub fn of_words(alloc: Global, matches: &ArgMatches<'_>) -> Result<Serving, AllocError>
-        ensures path { IfOk result (λ serving. string_bytes serving.path
-            ≡ word_in (rows_of (found_of matches.now)) (codes "DB")) }
+        ensures { IfOk result (λ serving. ServesAsked (rows_of (found_of matches.now)) serving) }
     {
         let path = String::from_str(alloc, word_of(matches, "DB"))?;
-        // clap lets no words pass without a port and a count.
-        let port = matches.get_one::<u16>("port").unwrap_or(1);
-        let count = matches.get_one::<usize>("count").unwrap_or(1);
+        let port = port_of(matches);
+        let count = count_of(matches);
         Ok(Serving { path, port, count })
     }
 }
@@ -74,17 +72,41 @@ pub fn serve<R: Databases + Loopback + AllocGlobal, W: CountedWrite, E: CountedW
         (stream (E.contents errors.new) (E.failure_count errors.new) (E.stalled errors.new)
         (E.flushed errors.new)) }
 {
-    let mut desk = open_desk(rt, serving.path.as_str())?;
+    let connection = rt.database(serving.path.as_str())?;
     let (port, count) = (serving.port, serving.count);
-    match serve_desk(rt.alloc(), rt, &mut desk, port, count, output, errors) {
-        Ok(()) => {}
-        Err(fault) => {
-            let _ = close_desk(rt, desk);
-            return Err(fault);
+    let (served, connection) = serve_over(rt.alloc(), rt, connection, port, count, output, errors);
+    let closed = close(connection);
+    served?;
+    closed
+}
+
+/// The same over the register that a database has, which is given back.
+fn serve_over<S: Alter + Drop, L: Loopback, W: CountedWrite, E: CountedWrite>(
+    alloc: Global,
+    net: &L,
+    connection: sqlite::Connection<S>,
+    port: u16,
+    count: usize,
+    output: &mut W,
+    errors: &mut E,
+) -> (Result<(), Fault>, sqlite::Connection<S>)
+    ensures { IsServing port count result.0
+        (stream (W.contents output.old) (W.failure_count output.old) (W.stalled output.old)
+        (W.flushed output.old))
+        (stream (W.contents output.new) (W.failure_count output.new) (W.stalled output.new)
+        (W.flushed output.new))
+        (stream (E.contents errors.old) (E.failure_count errors.old) (E.stalled errors.old)
+        (E.flushed errors.old))
+        (stream (E.contents errors.new) (E.failure_count errors.new) (E.stalled errors.new)
+        (E.flushed errors.new)) }
+{
+    match desk_over(connection) {
+        Ok(mut desk) => {
+            let served = serve_desk(alloc, net, &mut desk, port, count, output, errors);
+            (served, desk.end().end())
         }
+        Err((fault, connection)) => (Err(fault), connection),
     }
-    close_desk(rt, desk)?;
-    Ok(())
 }
 
 /// Listens on a port of 127.0.0.1, says so, and serves so many connections, one after the other.

@@ -1,7 +1,8 @@
 //! The words that a command line gave to its arguments.
-ghost use Rattle.std.specs.Prelude.{◌≡◌, IfOk, map, neg_ℤ, option_map, pos, ◌≤ℤ◌};
+ghost use Rattle.std.specs.Prelude.{◌≡◌, ◌≤ℤ◌, ℕ, ℤ, IfOk, Some, codes, map, neg_ℤ, option_map};
+ghost use Rattle.std.specs.Prelude.{pos};
 ghost use Rattle.clap.specs.Words.{first_of, found_of, rows_of};
-ghost use Rattle.clr_program.specs.Asked.{word_in, words_in};
+ghost use Rattle.clr_program.specs.Asked.{IsNumberIn, IsOffset, word_in, words_in};
 
 use clap::ArgMatches;
 use std::alloc::{AllocError, Global};
@@ -40,9 +41,48 @@ pub fn words_of<'a>(
 pub fn offset_of(matches: &ArgMatches<'_>) -> i16
     ensures low { neg_ℤ (pos 720) ≤ℤ result }
     ensures high { result ≤ℤ pos 840 }
+    ensures named { (minutes : ℤ)
+        → IsOffset (first_of (codes "offset") (rows_of (found_of matches.now))) minutes
+        → result ≡ minutes }
 {
-    match matches.get_one::<i16>("offset") {
-        Some(minutes) if -720 <= minutes && minutes <= 840 => minutes,
+    match option_of(matches, "offset") {
+        Some(word) => minutes_of(word),
+        None => 0,
+    }
+}
+
+/// The minutes that a word says, where they are within clap's range; else 0.
+fn minutes_of(word: &str) -> i16
+    ensures low { neg_ℤ (pos 720) ≤ℤ result }
+    ensures high { result ≤ℤ pos 840 }
+    ensures named { (minutes : ℤ) → IsOffset (Some word.now) minutes → result ≡ minutes }
+{
+    match word.parse::<i16>() {
+        Ok(minutes) if -720 <= minutes && minutes <= 840 => minutes,
         _ => 0,
+    }
+}
+
+/// The port of `--port`. clap lets no words pass without one.
+pub fn port_of(matches: &ArgMatches<'_>) -> u16
+    ensures { (port : ℕ)
+        → IsNumberIn 65535 (first_of (codes "port") (rows_of (found_of matches.now))) port
+        → result ≡ port }
+{
+    match option_of(matches, "port") {
+        Some(word) => word.parse().unwrap_or(1),
+        None => 1,
+    }
+}
+
+/// How many connections `--count` asks for. clap lets no words pass without it.
+pub fn count_of(matches: &ArgMatches<'_>) -> usize
+    ensures { (count : ℕ)
+        → IsNumberIn 1000000 (first_of (codes "count") (rows_of (found_of matches.now))) count
+        → result ≡ count }
+{
+    match option_of(matches, "count") {
+        Some(word) => word.parse().unwrap_or(1),
+        None => 1,
     }
 }

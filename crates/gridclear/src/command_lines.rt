@@ -1,8 +1,7 @@
 //! Whole command lines, over files of their own and writers in memory.
 use clr_csv::Counted;
 use clr_program::command_line::command_line;
-use clr_program::database::Databases;
-use clr_program::loopback::Loopback;
+use clr_program::machine::{AnyFiles, Machine};
 use clr_program::paths::Paths;
 use std::env::Env;
 use std::io::Write;
@@ -56,12 +55,7 @@ fn new_tables<R: Env + AllocGlobal>(rt: &R, id: u32) -> Result<Tables, Fail> {
     })
 }
 
-fn write_tables<R: Files + Databases + Loopback + AllocGlobal>(
-    rt: &R,
-    tables: &Tables,
-    sections: &str,
-    points: &str,
-) -> io::Result<()> {
+fn write_tables(rt: &HostRuntime, tables: &Tables, sections: &str, points: &str) -> io::Result<()> {
     fs::write(rt, tables.sections.as_str(), sections)?;
     fs::write(rt, tables.points.as_str(), points)
 }
@@ -82,24 +76,17 @@ fn errors_told(status: u8, errors: Vec<u8>) -> Result<String, Fail> {
     Ok(errors)
 }
 
-fn run_words<R: Files + Databases + Loopback + AllocGlobal>(
-    rt: &R,
-    words: &[&str],
-) -> Result<Run, Fail> {
+fn run_words(rt: &HostRuntime, words: &[&str]) -> Result<Run, Fail> {
     run_lines(rt, words, "")
 }
 
 /// Runs a command line whose standard input is a text.
-fn run_lines<R: Files + Databases + Loopback + AllocGlobal>(
-    rt: &R,
-    words: &[&str],
-    lines: &str,
-) -> Result<Run, Fail> {
+fn run_lines(rt: &HostRuntime, words: &[&str], lines: &str) -> Result<Run, Fail> {
     let mut output = Counted::new(Vec::new(rt.alloc()));
     let mut errors = Counted::new(Vec::new(rt.alloc()));
     let mut input = Counted::new(lines.as_bytes());
     let status = command_line(
-        rt,
+        &Machine::new(rt, AnyFiles),
         &Paths::new(rt),
         words,
         &mut input,
@@ -119,11 +106,7 @@ fn run_lines<R: Files + Databases + Loopback + AllocGlobal>(
 }
 
 /// Runs `fence` over these files with further words.
-fn run_fence<R: Files + Databases + Loopback + AllocGlobal>(
-    rt: &R,
-    tables: &Tables,
-    more: &[&str],
-) -> Result<Run, Fail> {
+fn run_fence(rt: &HostRuntime, tables: &Tables, more: &[&str]) -> Result<Run, Fail> {
     let mut words = Vec::new(rt.alloc());
     words.push("gridclear")?;
     words.push("fence")?;
@@ -320,12 +303,7 @@ fn long_fault_lines(rt: HostRuntime) -> Result<(), Fail> {
 }
 
 /// Runs `init` over the worked network and a staff file of this text, with further words.
-fn run_init<R: Files + Databases + Loopback + AllocGlobal>(
-    rt: &R,
-    tables: &Tables,
-    staff: &str,
-    more: &[&str],
-) -> Result<Run, Fail> {
+fn run_init(rt: &HostRuntime, tables: &Tables, staff: &str, more: &[&str]) -> Result<Run, Fail> {
     write_tables(rt, tables, SECTIONS, POINTS)?;
     fs::write(rt, tables.staff.as_str(), staff)?;
     let mut words = Vec::new(rt.alloc());

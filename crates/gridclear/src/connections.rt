@@ -8,13 +8,14 @@ use clr_desk::Desk;
 use clr_net::Network;
 use clr_program::fault::Fault;
 use clr_program::loopback::{Connection, Loopback, local_address};
+use clr_program::machine::{AnyFiles, Machine};
 use clr_program::serve::serve_connections;
 use sqlite::{Connection as Database, MemStore};
 use std::alloc::Global;
 use std::cell::Cell;
 use std::io;
 use std::io::{Read, Write};
-use std::net::{Net, Shutdown, TcpListener, TcpStream};
+use std::net::{Shutdown, TcpStream};
 use std::test::Fail;
 
 /// A request that is accepted, and its response.
@@ -50,19 +51,20 @@ fn new_desk(alloc: Global) -> Result<MemoryDesk, Fail> {
 }
 
 /// What a client reads that wrote this and then ended its writing, and what the errors were told.
-fn exchange<R: Loopback<Listener = TcpListener, Stream = TcpStream> + Net<Stream = TcpStream>>(
-    rt: &R,
+fn exchange(
+    rt: &HostRuntime,
     alloc: Global,
     desk: &mut MemoryDesk,
     request: &[u8],
 ) -> Result<String, Fail> {
-    let listener = rt.listen(0)?;
+    let machine = Machine::new(rt, AnyFiles);
+    let listener = machine.listen(0)?;
     let port = listener.local_addr()?.port();
     let mut client = TcpStream::connect(rt, local_address(port))?;
     client.write_all(request)?;
     client.shutdown(Shutdown::Write)?;
     let mut errors = Counted::new(Vec::new(alloc));
-    serve_connections(alloc, rt, &listener, desk, 1, &mut errors);
+    serve_connections(alloc, &machine, &listener, desk, 1, &mut errors);
     if !errors.into_inner().is_empty() {
         return Err(Fail::new("the connection failed"));
     }

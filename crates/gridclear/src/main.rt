@@ -11,6 +11,7 @@ ghost use Rattle.std.specs.Process.{exit_status};
 
 use clr_csv::Counted;
 use clr_program::command_line::{command_line, no_words};
+use clr_program::machine::{AnyFiles, Machine};
 use clr_program::paths::Paths;
 use std::process::ExitCode;
 use std::{env, io};
@@ -26,7 +27,7 @@ fn program(rt: &HostRuntime) -> ExitCode
     let mut errors = Counted::new(rt.stderr());
     let status = match gather(rt) {
         Ok(words) => command_line(
-            rt,
+            &Machine::new(rt, AnyFiles),
             &Paths::new(rt),
             words.as_slice(),
             &mut Counted::new(rt.stdin()),

@@ -8,4 +8,4 @@ pub returns-clause-told : goal.returns-clause-told
 returns-clause-told g c = IsTold-from_tells _ _ _ _ _ _ c.tell.ensures
 
 pub returns-clause-words : goal.returns-clause-words
-returns-clause-words g c = MayAnswer-from_tells _ _ _ _ _ _ _ _ _ c.answer.ensures c.tell.ensures
+returns-clause-words g c = MayAnswer-from_tells _ _ _ _ _ _ _ _ _ _ c.answer.ensures c.tell.ensures

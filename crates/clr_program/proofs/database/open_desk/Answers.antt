@@ -1,0 +1,19 @@
+use Rattle.std.proofs.Common.{subst, sym}
+use Rattle.clr_store.specs.Stored.{HasTables}
+use Rattle.clr_tables.specs.Tables.{tables_of}
+use Rattle.clr_program.specs.Stored.{IsOfLine}
+use Rattle.clr_program.proofs.Databases.{IfSome-from, IsOfLine-of_command, IsOfLine-of_version}
+use Rattle.clr_program.proofs.database.open_desk.Goals as goal
+
+-- the version is the one that is read
+pub returns-in-Err-clause-fault : goal.returns-in-Err-clause-fault
+returns-in-Err-clause-fault g c =
+    IfSome-from _ _ _ (λ R known. subst (λ fault. IsOfLine fault) (sym c.from.ensures)
+    (IsOfLine-of_version R _ (c.in-Err.ensures.refused (known.clean c.in-Err.field-0.connection) (tables_of R) known.tables))) c.in_ok-connection.ensures.known
+
+-- the rows are those of a good register
+pub returns-in-Err-open-clause-fault : goal.returns-in-Err-open-clause-fault
+returns-in-Err-open-clause-fault g c =
+    IfSome-from _ _ _ (λ R known. subst (λ fault. IsOfLine fault) (sym c.from-in-Err-open.ensures)
+    (IsOfLine-of_command _ (c.in-Err-open.ensures.cause (known.clean c.in-Err-open.store) R known.good known.typed
+    (subst (λ db. HasTables db (tables_of R)) (sym (c.in-Ok.ensures.opened (known.clean c.in-Ok.store) (known.stays_open c.in-Ok.store))) known.tables)))) c.in_ok-connection.ensures.known
