@@ -12,7 +12,8 @@ use Rattle.clr_text.specs.Values.{all_read}
 abbrev pub after : {A : Type 0} → List A → Option (List A) → Option (List A)
 after front rest = option_map (λ xs. front ++ xs) rest
 
-pub after-next : {A : Type 0} (front : List A) (x : A) (rest : Option (List A)) → after (front ++ x ∷ []) rest ≡ after front (option_map (λ xs. x ∷ xs) rest)
+pub after-next : {A : Type 0} (front : List A) (x : A) (rest : Option (List A))
+    → after (front ++ x ∷ []) rest ≡ after front (option_map (λ xs. x ∷ xs) rest)
 after-next front x None = refl
 after-next front x (Some xs) = ap Some (append_assoc front (x ∷ []) xs)
 
