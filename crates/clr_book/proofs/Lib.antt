@@ -19,3 +19,4 @@ pub mod LentRows
 pub mod NameLists
 pub mod PutSteps
 pub mod NearGroups
+pub mod RowLoops

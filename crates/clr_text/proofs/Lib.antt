@@ -4,3 +4,4 @@ pub mod NoFloats
 pub mod Calendar
 pub mod RowsLent
 pub mod LineReplies
+pub mod LineLoops
