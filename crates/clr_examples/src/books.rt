@@ -8,6 +8,7 @@ use clr_order::{Action, Step, StepState};
 use clr_shelf::{ListShelf, Shelf, SortedShelf};
 use clr_worked::{worked_network, worked_staff};
 use std::alloc::Global;
+use std::process::Abort;
 use std::test::Fail;
 
 /// The register on shelves that the program keeps it on.
@@ -35,16 +36,29 @@ pub fn opening_book<P: Shelf<PointState>, C: Shelf<Record>, T: Shelf<StepRow>, H
     Ok(Book::opening(alloc, network, staff)?)
 }
 
-/// The same book after a change, for which room is made.
-fn book_after(alloc: Global, edits: &[Edit]) -> Result<SortedBook, Fail> {
-    let mut book: SortedBook = opening_book(alloc)?;
+/// The worked book on sorted shelves.
+pub fn sorted_book(alloc: Global) -> Result<SortedBook, Fail> {
+    opening_book(alloc)
+}
+
+/// The worked book in lists.
+pub fn list_book(alloc: Global) -> Result<ListBook, Fail> {
+    opening_book(alloc)
+}
+
+/// Makes one change in a book. Room is made for it.
+fn make<P: Shelf<PointState>, C: Shelf<Record>, T: Shelf<StepRow>, H: Shelf<Hold>>(
+    alloc: Global,
+    book: &mut Book<P, C, T, H>,
+    edits: &[Edit],
+) -> Result<(), Fail> {
     let edits = edits.iter().copied().collect(alloc)?;
     let change = Change {
         edits: Edits::new(edits),
     };
     book.reserve(&change)?;
     book.apply(change);
-    Ok(book)
+    Ok(())
 }
 
 pub fn stands(
@@ -95,31 +109,40 @@ pub fn hold(kind: HoldKind, id: &str) -> Result<Hold, Fail> {
     })
 }
 
-/// Whether points stand so.
-fn has_states(book: &SortedBook, states: &[PointState]) -> bool {
-    for state in states {
-        if book.state(&state.point).copied() != Some(*state) {
-            return false;
-        }
-    }
-    true
-}
-
 /// Whether these are all records, in this order.
-fn has_records(book: &SortedBook, records: &[&Record]) -> Result<bool, Fail> {
+fn has_records<P: Shelf<PointState>, C: Shelf<Record>, T: Shelf<StepRow>, H: Shelf<Hold>>(
+    book: &Book<P, C, T, H>,
+    records: &[&Record],
+) -> Result<bool, Fail> {
     let found = book.records()?;
     Ok(found.as_slice() == records)
 }
 
 /// Whether these are all steps of a clearance, in this order.
-fn has_steps(book: &SortedBook, id: ClearanceId, steps: &[&StepRow]) -> Result<bool, Fail> {
+fn has_steps<P: Shelf<PointState>, C: Shelf<Record>, T: Shelf<StepRow>, H: Shelf<Hold>>(
+    book: &Book<P, C, T, H>,
+    id: ClearanceId,
+    steps: &[&StepRow],
+) -> Result<bool, Fail> {
     let found = book.steps(&id)?;
     Ok(found.as_slice() == steps)
 }
 
-#[test]
-fn book_before_the_first_command(rt: HostRuntime) -> Result<(), Fail> {
-    let book: SortedBook = opening_book(rt.alloc())?;
+/// Whether a point stands so.
+fn has_point<P: Shelf<PointState>, C: Shelf<Record>, T: Shelf<StepRow>, H: Shelf<Hold>>(
+    book: &Book<P, C, T, H>,
+    point: &str,
+    position: Position,
+    hand: Option<ClearanceId>,
+) -> Result<bool, Fail> {
+    let state = stands(point, position, hand)?;
+    Ok(book.state(&state.point) == Some(&state))
+}
+
+fn opens<P: Shelf<PointState>, C: Shelf<Record>, T: Shelf<StepRow>, H: Shelf<Hold>, R: Abort>(
+    rt: &R,
+    book: Book<P, C, T, H>,
+) -> Result<(), Fail> {
     book.stands_in_order();
     for point in ["S1", "S2", "S3", "S4"] {
         assert!(rt; has_point(&book, point, Position::Closed, None)?, "{point}");
@@ -130,15 +153,26 @@ fn book_before_the_first_command(rt: HostRuntime) -> Result<(), Fail> {
 }
 
 #[test]
-fn nothing_stands_before_the_first_command(rt: HostRuntime) -> Result<(), Fail> {
+fn book_before_the_first_command(rt: HostRuntime) -> Result<(), Fail> {
+    opens(&rt, sorted_book(rt.alloc())?)
+}
+
+fn is_empty<P: Shelf<PointState>, C: Shelf<Record>, T: Shelf<StepRow>, H: Shelf<Hold>, R: Abort>(
+    rt: &R,
+    book: Book<P, C, T, H>,
+) -> Result<(), Fail> {
     let section = Name::read("L1")?;
     let id = ClearanceId::read("JONES/1")?;
-    let book: SortedBook = opening_book(rt.alloc())?;
     assert!(rt; book.state(&section).is_none());
     assert!(rt; book.record(&id).is_none());
     assert!(rt; has_records(&book, &[])?);
     assert!(rt; has_steps(&book, id, &[])?);
     Ok(())
+}
+
+#[test]
+fn nothing_stands_before_the_first_command(rt: HostRuntime) -> Result<(), Fail> {
+    is_empty(&rt, sorted_book(rt.alloc())?)
 }
 
 /// S2 is opened, and S3 put into the hand of JONES/1, which holds S2 open. A tag that is not there
@@ -186,29 +220,39 @@ fn edits_of_a_point_twice(alloc: Global) -> Result<Vec<Edit>, Fail> {
     Ok(edits)
 }
 
-/// Whether a point stands so.
-fn has_point(
-    book: &SortedBook,
-    point: &str,
-    position: Position,
-    hand: Option<ClearanceId>,
-) -> Result<bool, Fail> {
-    let state = stands(point, position, hand)?;
-    Ok(has_states(book, &[state]))
+fn points_are_edited<
+    P: Shelf<PointState>,
+    C: Shelf<Record>,
+    T: Shelf<StepRow>,
+    H: Shelf<Hold>,
+    R: Abort,
+>(rt: &R, alloc: Global, mut book: Book<P, C, T, H>) -> Result<(), Fail> {
+    let id = ClearanceId::read("JONES/1")?;
+    let edits = edits_of_points(alloc)?;
+    make(alloc, &mut book, edits.as_slice())?;
+    assert!(rt; has_point(&book, "S1", Position::Closed, None)?);
+    assert!(rt; has_point(&book, "S2", Position::Opened, None)?);
+    assert!(rt; has_point(&book, "S3", Position::Closed, Some(id))?);
+    Ok(())
+}
+
+fn point_is_edited_twice<
+    P: Shelf<PointState>,
+    C: Shelf<Record>,
+    T: Shelf<StepRow>,
+    H: Shelf<Hold>,
+    R: Abort,
+>(rt: &R, alloc: Global, mut book: Book<P, C, T, H>) -> Result<(), Fail> {
+    let edits = edits_of_a_point_twice(alloc)?;
+    make(alloc, &mut book, edits.as_slice())?;
+    assert!(rt; has_point(&book, "T1", Position::Opened, None)?);
+    Ok(())
 }
 
 #[test]
 fn edits_of_points_are_made(rt: HostRuntime) -> Result<(), Fail> {
-    let id = ClearanceId::read("JONES/1")?;
-    let edits = edits_of_points(rt.alloc())?;
-    let book = book_after(rt.alloc(), edits.as_slice())?;
-    assert!(rt; has_point(&book, "S1", Position::Closed, None)?);
-    assert!(rt; has_point(&book, "S2", Position::Opened, None)?);
-    assert!(rt; has_point(&book, "S3", Position::Closed, Some(id))?);
-    let edits = edits_of_a_point_twice(rt.alloc())?;
-    let book = book_after(rt.alloc(), edits.as_slice())?;
-    assert!(rt; has_point(&book, "T1", Position::Opened, None)?);
-    Ok(())
+    points_are_edited(&rt, rt.alloc(), sorted_book(rt.alloc())?)?;
+    point_is_edited_twice(&rt, rt.alloc(), sorted_book(rt.alloc())?)
 }
 
 /// Edits that put the record of KIM/1 in these phases, and its first step in these states.
@@ -223,19 +267,29 @@ fn edits_of_kim(alloc: Global, phases: &[Phase], states: &[StepState]) -> Result
     Ok(edits)
 }
 
-#[test]
-fn later_edits_win(rt: HostRuntime) -> Result<(), Fail> {
+fn later_edit_wins<
+    P: Shelf<PointState>,
+    C: Shelf<Record>,
+    T: Shelf<StepRow>,
+    H: Shelf<Hold>,
+    R: Abort,
+>(rt: &R, alloc: Global, mut book: Book<P, C, T, H>) -> Result<(), Fail> {
     let edits = edits_of_kim(
-        rt.alloc(),
+        alloc,
         &[Phase::Requested, Phase::Ordered],
         &[StepState::Waiting, StepState::Done],
     )?;
-    let book = book_after(rt.alloc(), edits.as_slice())?;
+    make(alloc, &mut book, edits.as_slice())?;
     let ordered = record("KIM/1", Phase::Ordered)?;
     let done = step("KIM/1", 1, 1, StepState::Done)?;
     assert!(rt; has_records(&book, &[&ordered])?);
     assert!(rt; has_steps(&book, ordered.id, &[&done])?);
     Ok(())
+}
+
+#[test]
+fn later_edits_win(rt: HostRuntime) -> Result<(), Fail> {
+    later_edit_wins(&rt, rt.alloc(), sorted_book(rt.alloc())?)
 }
 
 /// Edits that put records of these clearances, and steps of these clearances, rounds and ordinals.
@@ -255,7 +309,10 @@ fn edits_of_rows(
 }
 
 /// The names of a book's clearances in the order of their records, a blank before each.
-fn names_of_records(alloc: Global, book: &SortedBook) -> Result<String, Fail> {
+fn names_of_records<P: Shelf<PointState>, C: Shelf<Record>, T: Shelf<StepRow>, H: Shelf<Hold>>(
+    alloc: Global,
+    book: &Book<P, C, T, H>,
+) -> Result<String, Fail> {
     let mut text = String::new(alloc);
     for record in book.records()? {
         let id = record.id;
@@ -266,7 +323,11 @@ fn names_of_records(alloc: Global, book: &SortedBook) -> Result<String, Fail> {
 }
 
 /// The rounds and ordinals of the steps of a clearance, in their order, a blank before each.
-fn places_of_steps(alloc: Global, book: &SortedBook, id: &str) -> Result<String, Fail> {
+fn places_of_steps<P: Shelf<PointState>, C: Shelf<Record>, T: Shelf<StepRow>, H: Shelf<Hold>>(
+    alloc: Global,
+    book: &Book<P, C, T, H>,
+    id: &str,
+) -> Result<String, Fail> {
     let id = ClearanceId::read(id)?;
     let mut text = String::new(alloc);
     for row in book.steps(&id)? {
@@ -278,10 +339,10 @@ fn places_of_steps(alloc: Global, book: &SortedBook, id: &str) -> Result<String,
     Ok(text)
 }
 
-#[test]
-fn rows_put_in_another_order(rt: HostRuntime) -> Result<(), Fail> {
-    let edits = edits_of_rows(
-        rt.alloc(),
+/// Edits that put rows in another order than that of their keys.
+fn edits_in_another_order(alloc: Global) -> Result<Vec<Edit>, Fail> {
+    edits_of_rows(
+        alloc,
         &["KIM/1", "JONES/10", "JONES/2", "BOSS/1"],
         &[
             ("JONES/2", 2, 1),
@@ -289,13 +350,28 @@ fn rows_put_in_another_order(rt: HostRuntime) -> Result<(), Fail> {
             ("JONES/10", 1, 2),
             ("JONES/2", 1, 3),
         ],
-    )?;
-    let book = book_after(rt.alloc(), edits.as_slice())?;
-    let names = names_of_records(rt.alloc(), &book)?;
+    )
+}
+
+fn rows_are_in_order<
+    P: Shelf<PointState>,
+    C: Shelf<Record>,
+    T: Shelf<StepRow>,
+    H: Shelf<Hold>,
+    R: Abort,
+>(rt: &R, alloc: Global, mut book: Book<P, C, T, H>) -> Result<(), Fail> {
+    let edits = edits_in_another_order(alloc)?;
+    make(alloc, &mut book, edits.as_slice())?;
+    let names = names_of_records(alloc, &book)?;
     assert_eq!(rt; names.as_str(), " BOSS/1 JONES/2 JONES/10 KIM/1");
-    let places = places_of_steps(rt.alloc(), &book, "JONES/2")?;
-    assert_eq!(rt; places.as_str(), " 1.3 1.10 2.1");
-    let none = places_of_steps(rt.alloc(), &book, "KIM/1")?;
-    assert_eq!(rt; none.as_str(), "");
+    for (id, places) in [("JONES/2", " 1.3 1.10 2.1"), ("KIM/1", "")] {
+        let found = places_of_steps(alloc, &book, id)?;
+        assert_eq!(rt; found.as_str(), places, "of {id}");
+    }
     Ok(())
+}
+
+#[test]
+fn rows_put_in_another_order(rt: HostRuntime) -> Result<(), Fail> {
+    rows_are_in_order(&rt, rt.alloc(), sorted_book(rt.alloc())?)
 }

@@ -1,15 +1,13 @@
 //! The desk over a store in memory: runs on the worked network.
-use crate::driver::{expect, own_card};
-use clr_book::{ClearanceId, Command, Kind, Moment, Names, Phase, Refusal, Reply, Tasks, Text};
+use crate::driver::{expect, own_card, waiting};
+use clr_book::{ClearanceId, Command, Kind, Moment, Names, Phase, Refusal, Reply, Text};
 use clr_desk::{Desk, Run};
 use clr_net::Name;
-use clr_order::{Step, read_step_text};
 use clr_worked::{names, worked_network, worked_staff};
-use sqlite::{Connection, MemStore};
+use sqlite::{Alter, Connection};
 use std::alloc::Global;
+use std::process::Abort;
 use std::test::Fail;
-
-pub type MemoryDesk = Desk<MemStore>;
 
 /// The steps that isolate L2 at S2 and S3.
 const ISOLATE_L2: [&str; 6] = [
@@ -17,10 +15,12 @@ const ISOLATE_L2: [&str; 6] = [
 ];
 
 /// A desk over new tables of the worked network and staff.
-pub fn new_desk(alloc: Global) -> Result<MemoryDesk, Fail> {
+pub fn new_desk<S: Alter + Drop>(
+    alloc: Global,
+    connection: Connection<S>,
+) -> Result<Desk<S>, Fail> {
     let network = worked_network(alloc)?;
     let staff = worked_staff(alloc)?;
-    let connection = Connection::open_in_memory(alloc)?;
     let desk = Desk::create(alloc, connection, network, staff).ok();
     Ok(desk.ok_or("new tables")?)
 }
@@ -33,30 +33,41 @@ fn command(by: &str, at: u64, kind: Kind) -> Result<Command, Fail> {
     })
 }
 
-/// Steps that nobody has read, from their texts.
-fn waiting(alloc: Global, texts: &[&str]) -> Result<Vec<Step>, Fail> {
-    let mut steps = Vec::new(alloc);
-    for text in texts {
-        // The checker proves this only where the type of the reader is seen.
-        steps.push(Step {
-            reader: None,
-            ..read_step_text(text)?
-        })?;
-    }
-    Ok(steps)
+/// OPS orders JONES/1 at S2 and S3.
+fn order(alloc: Global, clearance: ClearanceId) -> Result<Command, Fail> {
+    let steps = waiting(alloc, &ISOLATE_L2)?;
+    let points = Names::new(names(alloc, &["S2", "S3"])?);
+    command(
+        "OPS",
+        101,
+        Kind::Order {
+            clearance,
+            points,
+            steps,
+        },
+    )
 }
 
 /// JONES asks for L2, and OPS orders it at S2 and S3.
 fn order_of_jones(alloc: Global, commands: &mut Vec<Command>) -> Result<(), Fail> {
     let section = Name::read("L2")?;
     commands.push(command("JONES", 100, Kind::Request { section })?)?;
-    let kind = Kind::Order {
-        clearance: ClearanceId::read("JONES/1")?,
-        points: Names::new(names(alloc, &["S2", "S3"])?),
-        steps: Tasks::new(waiting(alloc, &ISOLATE_L2)?),
-    };
-    commands.push(command("OPS", 101, kind)?)?;
+    commands.push(order(alloc, ClearanceId::read("JONES/1")?)?)?;
     Ok(())
+}
+
+/// REED repeats the text of a step of a clearance.
+fn repeat(alloc: Global, clearance: ClearanceId, step: u16, text: &str) -> Result<Command, Fail> {
+    let text = Text::new(String::from_str(alloc, text)?);
+    command(
+        "REED",
+        102,
+        Kind::Repeat {
+            clearance,
+            step,
+            text,
+        },
+    )
 }
 
 /// A step of JONES/1 is given out, repeated by REED and reported as done.
@@ -68,12 +79,7 @@ fn step_runs(
 ) -> Result<(), Fail> {
     let clearance = ClearanceId::read("JONES/1")?;
     commands.push(command("OPS", 102, Kind::Instruct { clearance, step })?)?;
-    let repeat = Kind::Repeat {
-        clearance,
-        step,
-        text: Text::new(String::from_str(alloc, text)?),
-    };
-    commands.push(command("REED", 102, repeat)?)?;
+    commands.push(repeat(alloc, clearance, step, text)?)?;
     let report = Kind::Report {
         clearance,
         step,
@@ -116,7 +122,7 @@ fn grant_too_early(alloc: Global) -> Result<Vec<Command>, Fail> {
 /// The sixth step, and the grant.
 fn grant_in_time(alloc: Global) -> Result<Vec<Command>, Fail> {
     let mut commands = Vec::new(alloc);
-    step_runs(alloc, &mut commands, 6, ISOLATE_L2[5])?;
+    step_runs(alloc, &mut commands, 6, "TAG S3")?;
     grant(&mut commands)?;
     Ok(commands)
 }
@@ -127,13 +133,31 @@ fn granted() -> Result<Reply, Fail> {
     Ok(Reply::Accepted(own_card(clearance, Phase::Granted, 1, 6, 6)))
 }
 
-#[test]
-fn grant_with_a_step_left(rt: HostRuntime) -> Result<(), Fail> {
-    let mut desk = new_desk(rt.alloc())?;
-    let refused = last_reply(desk.run(grant_too_early(rt.alloc())?))?;
-    expect(refused, Reply::Refused(Refusal::StepsLeft))?;
-    let accepted = last_reply(desk.run(grant_in_time(rt.alloc())?))?;
-    expect(accepted, granted()?)?;
+/// The last reply of a run of these commands is this one.
+fn ends_with<S: Alter + Drop>(
+    desk: &mut Desk<S>,
+    commands: Vec<Command>,
+    expected: Reply,
+) -> Result<(), Fail> {
+    let reply = last_reply(desk.run(commands))?;
+    expect(reply, expected)
+}
+
+fn is_granted_in_time<S: Alter + Drop, R: Abort>(
+    rt: &R,
+    alloc: Global,
+    connection: Connection<S>,
+) -> Result<(), Fail> {
+    let mut desk = new_desk(alloc, connection)?;
+    let left = Reply::Refused(Refusal::StepsLeft);
+    ends_with(&mut desk, grant_too_early(alloc)?, left)?;
+    let granted = granted()?;
+    ends_with(&mut desk, grant_in_time(alloc)?, granted)?;
     assert_eq!(rt; desk.faults(), 0);
     Ok(())
+}
+
+#[test]
+fn grant_with_a_step_left(rt: HostRuntime) -> Result<(), Fail> {
+    is_granted_in_time(&rt, rt.alloc(), Connection::open_in_memory(rt.alloc())?)
 }

@@ -10,15 +10,15 @@ use clr_order::StepState;
 use clr_store::{Rows, Store, StoreFault};
 use clr_tables::TableName;
 use clr_worked::{worked_network, worked_staff};
-use sqlite::{Connection, MemStore};
+use sqlite::{Alter, Connection};
 use std::alloc::Global;
+use std::process::Abort;
 use std::test::Fail;
 
 /// The store of the worked register, made in an empty database.
-fn made(alloc: Global) -> Result<Store<MemStore>, Fail> {
+fn made<S: Alter + Drop>(alloc: Global, connection: Connection<S>) -> Result<Store<S>, Fail> {
     let network = worked_network(alloc)?;
     let staff = worked_staff(alloc)?;
-    let connection = Connection::open_in_memory(alloc)?;
     match Store::create(connection, &network, &staff) {
         Ok(store) => Ok(store),
         Err(back) => Err(back.fault)?,
@@ -26,7 +26,11 @@ fn made(alloc: Global) -> Result<Store<MemStore>, Fail> {
 }
 
 /// The fault of a desk that is to make its tables in the database of a store.
-fn fault_of_making(alloc: Global, store: Store<MemStore>) -> Result<DeskFault, Fail> {
+fn fault_of_making<S: Alter + Drop>(
+    alloc: Global,
+    connection: Connection<S>,
+) -> Result<DeskFault, Fail> {
+    let store = made(alloc, connection)?;
     let network = worked_network(alloc)?;
     let staff = worked_staff(alloc)?;
     let made = Desk::create(alloc, store.end(), network, staff);
@@ -35,34 +39,47 @@ fn fault_of_making(alloc: Global, store: Store<MemStore>) -> Result<DeskFault, F
 }
 
 /// The store ended and opened again.
-fn again(store: Store<MemStore>) -> Result<Store<MemStore>, StoreFault> {
+fn again<S: Alter + Drop>(store: Store<S>) -> Result<Store<S>, StoreFault> {
     match Store::open(store.end()) {
         Ok(store) => Ok(store),
         Err(back) => Err(back.fault),
     }
 }
 
-/// The store ended, its database changed by a statement, and opened again.
-fn after(store: Store<MemStore>, statement: &str) -> Result<Store<MemStore>, StoreFault> {
+/// The store of the worked register, its database changed by a statement, and opened again.
+fn after<S: Alter + Drop>(
+    alloc: Global,
+    connection: Connection<S>,
+    statement: &str,
+) -> Result<Result<Store<S>, StoreFault>, Fail> {
+    let store = made(alloc, connection)?;
     let mut connection = store.end();
     connection.execute(statement, &[])?;
     match Store::open(connection) {
-        Ok(store) => Ok(store),
-        Err(back) => Err(back.fault),
+        Ok(store) => Ok(Ok(store)),
+        Err(back) => Ok(Err(back.fault)),
     }
 }
 
 /// The fault of opening the worked register's database after a statement.
-fn fault_of_opening(alloc: Global, statement: &str) -> Result<Option<StoreFault>, Fail> {
-    let store = made(alloc)?;
-    Ok(after(store, statement).err())
+fn fault_of_opening<S: Alter + Drop>(
+    alloc: Global,
+    connection: Connection<S>,
+    statement: &str,
+) -> Result<Option<StoreFault>, Fail> {
+    let opened = after(alloc, connection, statement)?;
+    Ok(opened.err())
 }
 
 /// The fault of opening a desk, which loads the tables, over the worked register's database after
 /// a statement.
-fn fault_of_a_desk(alloc: Global, statement: &str) -> Result<DeskFault, Fail> {
-    let store = made(alloc)?;
-    let opened = Desk::open(after(store, statement)?);
+fn fault_of_a_desk<S: Alter + Drop>(
+    alloc: Global,
+    connection: Connection<S>,
+    statement: &str,
+) -> Result<DeskFault, Fail> {
+    let store = after(alloc, connection, statement)??;
+    let opened = Desk::open(store);
     let (fault, _store) = opened.err().ok_or("a fault")?;
     Ok(fault)
 }
@@ -116,7 +133,7 @@ fn change_to_held(alloc: Global) -> Result<Change, Fail> {
 }
 
 /// Makes that change in a store.
-fn hold_in(alloc: Global, store: &mut Store<MemStore>) -> Result<(), Fail> {
+fn hold_in<S: Alter + Drop>(alloc: Global, store: &mut Store<S>) -> Result<(), Fail> {
     let change = change_to_held(alloc)?;
     store.commit(&change)?;
     Ok(())
@@ -146,41 +163,61 @@ fn is_worked(alloc: Global, rows: &Rows) -> Result<bool, Fail> {
     )
 }
 
-#[test]
-fn register_made_and_loaded(rt: HostRuntime) -> Result<(), Fail> {
-    let mut store = made(rt.alloc())?;
+fn is_loaded<S: Alter + Drop, R: Abort>(
+    rt: &R,
+    alloc: Global,
+    connection: Connection<S>,
+) -> Result<(), Fail> {
+    let mut store = made(alloc, connection)?;
     let rows = store.load()?;
-    assert!(rt; is_worked(rt.alloc(), &rows)?);
+    assert!(rt; is_worked(alloc, &rows)?);
     assert_eq!(rt; rows.records.len(), 0);
     assert_eq!(rt; rows.holds.len(), 0);
     Ok(())
 }
 
 #[test]
-fn hand_and_holds_after_opening_again(rt: HostRuntime) -> Result<(), Fail> {
-    let mut store = made(rt.alloc())?;
-    hold_in(rt.alloc(), &mut store)?;
+fn register_made_and_loaded(rt: HostRuntime) -> Result<(), Fail> {
+    is_loaded(&rt, rt.alloc(), Connection::open_in_memory(rt.alloc())?)
+}
+
+fn is_held_again<S: Alter + Drop, R: Abort>(
+    rt: &R,
+    alloc: Global,
+    connection: Connection<S>,
+) -> Result<(), Fail> {
+    let mut store = made(alloc, connection)?;
+    hold_in(alloc, &mut store)?;
     let mut store = again(store)?;
     let rows = store.load()?;
-    assert!(rt; is_worked(rt.alloc(), &rows)?);
+    assert!(rt; is_worked(alloc, &rows)?);
     assert!(rt; has_held(&rows)?);
     Ok(())
 }
 
 #[test]
+fn hand_and_holds_after_opening_again(rt: HostRuntime) -> Result<(), Fail> {
+    is_held_again(&rt, rt.alloc(), Connection::open_in_memory(rt.alloc())?)
+}
+
+#[test]
 fn tables_are_made_once(rt: HostRuntime) -> Result<(), Fail> {
-    let store = made(rt.alloc())?;
-    let fault = fault_of_making(rt.alloc(), store)?;
+    let connection = Connection::open_in_memory(rt.alloc())?;
+    let fault = fault_of_making(rt.alloc(), connection)?;
     assert_eq!(rt; fault, DeskFault::Store(StoreFault::Sql));
     Ok(())
 }
 
 #[test]
 fn versions_that_are_not_opened(rt: HostRuntime) -> Result<(), Fail> {
-    let ninth = fault_of_opening(rt.alloc(), "UPDATE meta SET value = 9")?;
-    assert_eq!(rt; ninth, Some(StoreFault::WrongVersion(9)));
-    let none = fault_of_opening(rt.alloc(), "DELETE FROM meta")?;
-    assert_eq!(rt; none, Some(StoreFault::BadRow(TableName::Meta)));
+    for (statement, fault) in [
+        ("UPDATE meta SET value = 9", StoreFault::WrongVersion(9)),
+        ("DELETE FROM meta", StoreFault::BadRow(TableName::Meta)),
+    ] {
+        let connection = Connection::open_in_memory(rt.alloc())?;
+        let told = fault_of_opening(rt.alloc(), connection, statement)?;
+        assert_eq!(rt; told, Some(fault), "{statement}");
+    }
     Ok(())
 }
 
@@ -212,7 +249,8 @@ fn rows_that_do_not_read(rt: HostRuntime) -> Result<(), Fail> {
             TableName::Hold,
         ),
     ] {
-        let fault = fault_of_a_desk(rt.alloc(), statement)?;
+        let connection = Connection::open_in_memory(rt.alloc())?;
+        let fault = fault_of_a_desk(rt.alloc(), connection, statement)?;
         assert_eq!(rt;
             fault,
             DeskFault::Store(StoreFault::BadRow(table)),
