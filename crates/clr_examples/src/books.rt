@@ -5,27 +5,11 @@ use clr_book::{
 };
 use clr_net::{Name, Position};
 use clr_order::{Action, Step, StepState};
-use clr_shelf::{ListShelf, Shelf, SortedShelf};
+use clr_shelf::{Shelf, SortedShelf};
 use clr_worked::{worked_network, worked_staff};
 use std::alloc::Global;
 use std::process::Abort;
 use std::test::Fail;
-
-/// The register on shelves that the program keeps it on.
-pub type SortedBook = Book<
-    SortedShelf<PointState>,
-    SortedShelf<Record>,
-    SortedShelf<StepRow>,
-    SortedShelf<Hold>,
->;
-
-/// The register in lists, all rows of which are walked for a group.
-pub type ListBook = Book<
-    ListShelf<PointState>,
-    ListShelf<Record>,
-    ListShelf<StepRow>,
-    ListShelf<Hold>,
->;
 
 /// The book of the worked network and staff, before the first command.
 pub fn opening_book<P: Shelf<PointState>, C: Shelf<Record>, T: Shelf<StepRow>, H: Shelf<Hold>>(
@@ -36,25 +20,14 @@ pub fn opening_book<P: Shelf<PointState>, C: Shelf<Record>, T: Shelf<StepRow>, H
     Ok(Book::opening(alloc, network, staff)?)
 }
 
-/// The worked book on sorted shelves.
-pub fn sorted_book(alloc: Global) -> Result<SortedBook, Fail> {
-    opening_book(alloc)
-}
-
-/// The worked book in lists.
-pub fn list_book(alloc: Global) -> Result<ListBook, Fail> {
-    opening_book(alloc)
-}
-
 /// Makes one change in a book. Room is made for it.
 fn make<P: Shelf<PointState>, C: Shelf<Record>, T: Shelf<StepRow>, H: Shelf<Hold>>(
     alloc: Global,
     book: &mut Book<P, C, T, H>,
     edits: &[Edit],
 ) -> Result<(), Fail> {
-    let edits = edits.iter().copied().collect(alloc)?;
     let change = Change {
-        edits: Edits::new(edits),
+        edits: Edits::new(Vec::from_slice(alloc, edits)?),
     };
     book.reserve(&change)?;
     book.apply(change);
@@ -141,8 +114,9 @@ fn has_point<P: Shelf<PointState>, C: Shelf<Record>, T: Shelf<StepRow>, H: Shelf
 
 fn opens<P: Shelf<PointState>, C: Shelf<Record>, T: Shelf<StepRow>, H: Shelf<Hold>, R: Abort>(
     rt: &R,
-    book: Book<P, C, T, H>,
+    alloc: Global,
 ) -> Result<(), Fail> {
+    let book: Book<P, C, T, H> = opening_book(alloc)?;
     book.stands_in_order();
     for point in ["S1", "S2", "S3", "S4"] {
         assert!(rt; has_point(&book, point, Position::Closed, None)?, "{point}");
@@ -154,13 +128,20 @@ fn opens<P: Shelf<PointState>, C: Shelf<Record>, T: Shelf<StepRow>, H: Shelf<Hol
 
 #[test]
 fn book_before_the_first_command(rt: HostRuntime) -> Result<(), Fail> {
-    opens(&rt, sorted_book(rt.alloc())?)
+    opens::<
+        SortedShelf<PointState>,
+        SortedShelf<Record>,
+        SortedShelf<StepRow>,
+        SortedShelf<Hold>,
+        HostRuntime,
+    >(&rt, rt.alloc())
 }
 
 fn is_empty<P: Shelf<PointState>, C: Shelf<Record>, T: Shelf<StepRow>, H: Shelf<Hold>, R: Abort>(
     rt: &R,
-    book: Book<P, C, T, H>,
+    alloc: Global,
 ) -> Result<(), Fail> {
+    let book: Book<P, C, T, H> = opening_book(alloc)?;
     let section = Name::read("L1")?;
     let id = ClearanceId::read("JONES/1")?;
     assert!(rt; book.state(&section).is_none());
@@ -172,52 +153,55 @@ fn is_empty<P: Shelf<PointState>, C: Shelf<Record>, T: Shelf<StepRow>, H: Shelf<
 
 #[test]
 fn nothing_stands_before_the_first_command(rt: HostRuntime) -> Result<(), Fail> {
-    is_empty(&rt, sorted_book(rt.alloc())?)
+    is_empty::<
+        SortedShelf<PointState>,
+        SortedShelf<Record>,
+        SortedShelf<StepRow>,
+        SortedShelf<Hold>,
+        HostRuntime,
+    >(&rt, rt.alloc())
 }
 
 /// S2 is opened, and S3 put into the hand of JONES/1, which holds S2 open. A tag that is not there
 /// is taken.
-fn edits_of_points(alloc: Global) -> Result<Vec<Edit>, Fail> {
+fn edits_of_points() -> Result<[Edit; 4], Fail> {
     let id = ClearanceId::read("JONES/1")?;
-    let opened = Name::read("S2")?;
-    let handed = Name::read("S3")?;
+    let (opened, handed) = (Name::read("S2")?, Name::read("S3")?);
     let held = hold(HoldKind::HeldOpen, "JONES/1")?;
     let tag = hold(HoldKind::Tag, "JONES/1")?;
-    let edits = vec![in alloc;
+    Ok([
         Edit::SetPosition {
             point: opened,
-            position: Position::Opened
+            position: Position::Opened,
         },
         Edit::SetHand {
             point: handed,
-            hand: Some(id)
+            hand: Some(id),
         },
         Edit::PutHold(held),
         Edit::TakeHold(tag),
-    ]?;
-    Ok(edits)
+    ])
 }
 
 /// T1 is closed and put into the hand of KIM/1, and then opened and in no hand.
-fn edits_of_a_point_twice(alloc: Global) -> Result<Vec<Edit>, Fail> {
+fn edits_of_a_point_twice() -> Result<[Edit; 4], Fail> {
     let id = ClearanceId::read("KIM/1")?;
     let point = Name::read("T1")?;
-    let edits = vec![in alloc;
+    Ok([
         Edit::SetPosition {
             point,
-            position: Position::Closed
+            position: Position::Closed,
         },
         Edit::SetHand {
             point,
-            hand: Some(id)
+            hand: Some(id),
         },
         Edit::SetPosition {
             point,
-            position: Position::Opened
+            position: Position::Opened,
         },
         Edit::SetHand { point, hand: None },
-    ]?;
-    Ok(edits)
+    ])
 }
 
 fn points_are_edited<
@@ -226,10 +210,10 @@ fn points_are_edited<
     T: Shelf<StepRow>,
     H: Shelf<Hold>,
     R: Abort,
->(rt: &R, alloc: Global, mut book: Book<P, C, T, H>) -> Result<(), Fail> {
+>(rt: &R, alloc: Global) -> Result<(), Fail> {
+    let mut book: Book<P, C, T, H> = opening_book(alloc)?;
     let id = ClearanceId::read("JONES/1")?;
-    let edits = edits_of_points(alloc)?;
-    make(alloc, &mut book, edits.as_slice())?;
+    make(alloc, &mut book, &edits_of_points()?)?;
     assert!(rt; has_point(&book, "S1", Position::Closed, None)?);
     assert!(rt; has_point(&book, "S2", Position::Opened, None)?);
     assert!(rt; has_point(&book, "S3", Position::Closed, Some(id))?);
@@ -242,29 +226,39 @@ fn point_is_edited_twice<
     T: Shelf<StepRow>,
     H: Shelf<Hold>,
     R: Abort,
->(rt: &R, alloc: Global, mut book: Book<P, C, T, H>) -> Result<(), Fail> {
-    let edits = edits_of_a_point_twice(alloc)?;
-    make(alloc, &mut book, edits.as_slice())?;
+>(rt: &R, alloc: Global) -> Result<(), Fail> {
+    let mut book: Book<P, C, T, H> = opening_book(alloc)?;
+    make(alloc, &mut book, &edits_of_a_point_twice()?)?;
     assert!(rt; has_point(&book, "T1", Position::Opened, None)?);
     Ok(())
 }
 
 #[test]
 fn edits_of_points_are_made(rt: HostRuntime) -> Result<(), Fail> {
-    points_are_edited(&rt, rt.alloc(), sorted_book(rt.alloc())?)?;
-    point_is_edited_twice(&rt, rt.alloc(), sorted_book(rt.alloc())?)
+    points_are_edited::<
+        SortedShelf<PointState>,
+        SortedShelf<Record>,
+        SortedShelf<StepRow>,
+        SortedShelf<Hold>,
+        HostRuntime,
+    >(&rt, rt.alloc())?;
+    point_is_edited_twice::<
+        SortedShelf<PointState>,
+        SortedShelf<Record>,
+        SortedShelf<StepRow>,
+        SortedShelf<Hold>,
+        HostRuntime,
+    >(&rt, rt.alloc())
 }
 
-/// Edits that put the record of KIM/1 in these phases, and its first step in these states.
-fn edits_of_kim(alloc: Global, phases: &[Phase], states: &[StepState]) -> Result<Vec<Edit>, Fail> {
-    let mut edits = Vec::new(alloc);
-    for phase in phases {
-        edits.push(Edit::PutRecord(record("KIM/1", *phase)?))?;
-    }
-    for state in states {
-        edits.push(Edit::PutStep(step("KIM/1", 1, 1, *state)?))?;
-    }
-    Ok(edits)
+/// The record of KIM/1 is put in two phases, and its first step in two states.
+fn edits_of_kim() -> Result<[Edit; 4], Fail> {
+    Ok([
+        Edit::PutRecord(record("KIM/1", Phase::Requested)?),
+        Edit::PutRecord(record("KIM/1", Phase::Ordered)?),
+        Edit::PutStep(step("KIM/1", 1, 1, StepState::Waiting)?),
+        Edit::PutStep(step("KIM/1", 1, 1, StepState::Done)?),
+    ])
 }
 
 fn later_edit_wins<
@@ -273,13 +267,9 @@ fn later_edit_wins<
     T: Shelf<StepRow>,
     H: Shelf<Hold>,
     R: Abort,
->(rt: &R, alloc: Global, mut book: Book<P, C, T, H>) -> Result<(), Fail> {
-    let edits = edits_of_kim(
-        alloc,
-        &[Phase::Requested, Phase::Ordered],
-        &[StepState::Waiting, StepState::Done],
-    )?;
-    make(alloc, &mut book, edits.as_slice())?;
+>(rt: &R, alloc: Global) -> Result<(), Fail> {
+    let mut book: Book<P, C, T, H> = opening_book(alloc)?;
+    make(alloc, &mut book, &edits_of_kim()?)?;
     let ordered = record("KIM/1", Phase::Ordered)?;
     let done = step("KIM/1", 1, 1, StepState::Done)?;
     assert!(rt; has_records(&book, &[&ordered])?);
@@ -289,7 +279,13 @@ fn later_edit_wins<
 
 #[test]
 fn later_edits_win(rt: HostRuntime) -> Result<(), Fail> {
-    later_edit_wins(&rt, rt.alloc(), sorted_book(rt.alloc())?)
+    later_edit_wins::<
+        SortedShelf<PointState>,
+        SortedShelf<Record>,
+        SortedShelf<StepRow>,
+        SortedShelf<Hold>,
+        HostRuntime,
+    >(&rt, rt.alloc())
 }
 
 /// Edits that put records of these clearances, and steps of these clearances, rounds and ordinals.
@@ -314,7 +310,8 @@ fn names_of_records<P: Shelf<PointState>, C: Shelf<Record>, T: Shelf<StepRow>, H
     book: &Book<P, C, T, H>,
 ) -> Result<String, Fail> {
     let mut text = String::new(alloc);
-    for record in book.records()? {
+    let records = book.records()?;
+    for record in &records {
         let id = record.id;
         let name = format!(in alloc; " {id}")?;
         text.push_str(name.as_str())?;
@@ -330,7 +327,8 @@ fn places_of_steps<P: Shelf<PointState>, C: Shelf<Record>, T: Shelf<StepRow>, H:
 ) -> Result<String, Fail> {
     let id = ClearanceId::read(id)?;
     let mut text = String::new(alloc);
-    for row in book.steps(&id)? {
+    let rows = book.steps(&id)?;
+    for row in &rows {
         let round = row.round;
         let ordinal = row.ordinal;
         let place = format!(in alloc; " {round}.{ordinal}")?;
@@ -359,7 +357,8 @@ fn rows_are_in_order<
     T: Shelf<StepRow>,
     H: Shelf<Hold>,
     R: Abort,
->(rt: &R, alloc: Global, mut book: Book<P, C, T, H>) -> Result<(), Fail> {
+>(rt: &R, alloc: Global) -> Result<(), Fail> {
+    let mut book: Book<P, C, T, H> = opening_book(alloc)?;
     let edits = edits_in_another_order(alloc)?;
     make(alloc, &mut book, edits.as_slice())?;
     let names = names_of_records(alloc, &book)?;
@@ -373,5 +372,11 @@ fn rows_are_in_order<
 
 #[test]
 fn rows_put_in_another_order(rt: HostRuntime) -> Result<(), Fail> {
-    rows_are_in_order(&rt, rt.alloc(), sorted_book(rt.alloc())?)
+    rows_are_in_order::<
+        SortedShelf<PointState>,
+        SortedShelf<Record>,
+        SortedShelf<StepRow>,
+        SortedShelf<Hold>,
+        HostRuntime,
+    >(&rt, rt.alloc())
 }

@@ -1,11 +1,11 @@
 //! The desk over a store in memory: runs on the worked network.
 use crate::driver::{expect, own_card, waiting};
-use clr_book::{ClearanceId, Command, Kind, Moment, Names, Phase, Refusal, Reply, Text};
+use clr_book::{ClearanceId, Command, Kind, Moment, Names, Phase, Refusal, Reply};
 use clr_desk::{Desk, Run};
 use clr_net::Name;
 use clr_worked::{names, worked_network, worked_staff};
 use sqlite::{Alter, Connection};
-use std::alloc::Global;
+use std::alloc::{AllocError, Global};
 use std::process::Abort;
 use std::test::Fail;
 
@@ -17,11 +17,11 @@ const ISOLATE_L2: [&str; 6] = [
 /// A desk over new tables of the worked network and staff.
 pub fn new_desk<S: Alter + Drop>(
     alloc: Global,
-    connection: Connection<S>,
+    connection: Result<Connection<S>, AllocError>,
 ) -> Result<Desk<S>, Fail> {
     let network = worked_network(alloc)?;
     let staff = worked_staff(alloc)?;
-    let desk = Desk::create(alloc, connection, network, staff).ok();
+    let desk = Desk::create(alloc, connection?, network, staff).ok();
     Ok(desk.ok_or("new tables")?)
 }
 
@@ -48,51 +48,22 @@ fn order(alloc: Global, clearance: ClearanceId) -> Result<Command, Fail> {
     )
 }
 
-/// JONES asks for L2, and OPS orders it at S2 and S3.
-fn order_of_jones(alloc: Global, commands: &mut Vec<Command>) -> Result<(), Fail> {
+/// JONES asks for L2, and OPS orders it at S2 and S3 and grants it.
+fn grant_too_early(alloc: Global, clearance: ClearanceId) -> Result<Vec<Command>, Fail> {
     let section = Name::read("L2")?;
+    let mut commands = Vec::new(alloc);
     commands.push(command("JONES", 100, Kind::Request { section })?)?;
-    commands.push(order(alloc, ClearanceId::read("JONES/1")?)?)?;
-    Ok(())
+    commands.push(order(alloc, clearance)?)?;
+    commands.push(command("OPS", 102, Kind::Grant { clearance })?)?;
+    Ok(commands)
 }
 
-/// REED repeats the text of a step of a clearance.
-fn repeat(alloc: Global, clearance: ClearanceId, step: u16, text: &str) -> Result<Command, Fail> {
-    let text = Text::new(String::from_str(alloc, text)?);
-    command(
-        "REED",
-        102,
-        Kind::Repeat {
-            clearance,
-            step,
-            text,
-        },
-    )
-}
-
-/// A step of JONES/1 is given out, repeated by REED and reported as done.
-fn step_runs(
-    alloc: Global,
-    commands: &mut Vec<Command>,
-    step: u16,
-    text: &str,
-) -> Result<(), Fail> {
-    let clearance = ClearanceId::read("JONES/1")?;
-    commands.push(command("OPS", 102, Kind::Instruct { clearance, step })?)?;
-    commands.push(repeat(alloc, clearance, step, text)?)?;
-    let report = Kind::Report {
-        clearance,
-        step,
-        done: true,
-    };
-    commands.push(command("REED", 102, report)?)?;
-    Ok(())
-}
-
-fn grant(commands: &mut Vec<Command>) -> Result<(), Fail> {
-    let clearance = ClearanceId::read("JONES/1")?;
-    commands.push(command("OPS", 103, Kind::Grant { clearance })?)?;
-    Ok(())
+/// OPS gives the first step out.
+fn first_step(alloc: Global, clearance: ClearanceId) -> Result<Vec<Command>, Fail> {
+    let mut commands = Vec::new(alloc);
+    let instruct = Kind::Instruct { clearance, step: 1 };
+    commands.push(command("OPS", 103, instruct)?)?;
+    Ok(commands)
 }
 
 /// The last reply of a run that met no fault.
@@ -100,37 +71,6 @@ fn last_reply(mut run: Run) -> Result<Reply, Fail> {
     let last = run.replies.pop();
     let reply = if run.fault.is_none() { last } else { None };
     Ok(reply.ok_or("a reply and no fault")?)
-}
-
-/// The request and the order of JONES/1, its first five steps, and the grant.
-fn grant_too_early(alloc: Global) -> Result<Vec<Command>, Fail> {
-    let mut commands = Vec::new(alloc);
-    order_of_jones(alloc, &mut commands)?;
-    for (step, text) in [
-        (1, "OPEN S2"),
-        (2, "OPEN S3"),
-        (3, "BLOCK S2"),
-        (4, "BLOCK S3"),
-        (5, "TAG S2"),
-    ] {
-        step_runs(alloc, &mut commands, step, text)?;
-    }
-    grant(&mut commands)?;
-    Ok(commands)
-}
-
-/// The sixth step, and the grant.
-fn grant_in_time(alloc: Global) -> Result<Vec<Command>, Fail> {
-    let mut commands = Vec::new(alloc);
-    step_runs(alloc, &mut commands, 6, "TAG S3")?;
-    grant(&mut commands)?;
-    Ok(commands)
-}
-
-/// JONES/1 is granted, all its steps done.
-fn granted() -> Result<Reply, Fail> {
-    let clearance = ClearanceId::read("JONES/1")?;
-    Ok(Reply::Accepted(own_card(clearance, Phase::Granted, 1, 6, 6)))
 }
 
 /// The last reply of a run of these commands is this one.
@@ -143,21 +83,22 @@ fn ends_with<S: Alter + Drop>(
     expect(reply, expected)
 }
 
-fn is_granted_in_time<S: Alter + Drop, R: Abort>(
+fn runs<S: Alter + Drop, R: Abort>(
     rt: &R,
     alloc: Global,
-    connection: Connection<S>,
+    connection: Result<Connection<S>, AllocError>,
 ) -> Result<(), Fail> {
+    let clearance = ClearanceId::read("JONES/1")?;
     let mut desk = new_desk(alloc, connection)?;
     let left = Reply::Refused(Refusal::StepsLeft);
-    ends_with(&mut desk, grant_too_early(alloc)?, left)?;
-    let granted = granted()?;
-    ends_with(&mut desk, grant_in_time(alloc)?, granted)?;
+    ends_with(&mut desk, grant_too_early(alloc, clearance)?, left)?;
+    let given = Reply::Accepted(own_card(clearance, Phase::Ordered, 1, 0, 6));
+    ends_with(&mut desk, first_step(alloc, clearance)?, given)?;
     assert_eq!(rt; desk.faults(), 0);
     Ok(())
 }
 
 #[test]
-fn grant_with_a_step_left(rt: HostRuntime) -> Result<(), Fail> {
-    is_granted_in_time(&rt, rt.alloc(), Connection::open_in_memory(rt.alloc())?)
+fn two_runs(rt: HostRuntime) -> Result<(), Fail> {
+    runs(&rt, rt.alloc(), Connection::open_in_memory(rt.alloc()))
 }

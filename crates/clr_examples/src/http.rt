@@ -2,7 +2,7 @@
 use crate::desk::new_desk;
 use clr_http::{Registrar, serve_all};
 use sqlite::{Alter, Connection};
-use std::alloc::Global;
+use std::alloc::{AllocError, Global};
 use std::process::Abort;
 use std::test::Fail;
 
@@ -173,7 +173,7 @@ Connection: close\r\n\r\n{body}"
 fn refuses<S: Alter + Drop, R: Abort>(
     rt: &R,
     alloc: Global,
-    connection: Connection<S>,
+    connection: Result<Connection<S>, AllocError>,
 ) -> Result<(), Fail> {
     let mut desk = new_desk(alloc, connection)?;
     expect_refusals(rt, alloc, &mut desk, &REFUSED)?;
@@ -185,7 +185,7 @@ fn refuses<S: Alter + Drop, R: Abort>(
 
 #[test]
 fn refused_requests(rt: HostRuntime) -> Result<(), Fail> {
-    refuses(&rt, rt.alloc(), Connection::open_in_memory(rt.alloc())?)
+    refuses(&rt, rt.alloc(), Connection::open_in_memory(rt.alloc()))
 }
 
 /// OPS orders JONES/1, and its first step runs, each command by a request.
@@ -216,7 +216,7 @@ fn prints_after_a_step<D: Registrar, R: Abort>(
 fn prints_of_a_new_desk<S: Alter + Drop, R: Abort>(
     rt: &R,
     alloc: Global,
-    connection: Connection<S>,
+    connection: Result<Connection<S>, AllocError>,
 ) -> Result<(), Fail> {
     let mut desk = new_desk(alloc, connection)?;
     prints_after_a_step(rt, alloc, &mut desk)
@@ -224,5 +224,5 @@ fn prints_of_a_new_desk<S: Alter + Drop, R: Abort>(
 
 #[test]
 fn order_and_board_after_a_step(rt: HostRuntime) -> Result<(), Fail> {
-    prints_of_a_new_desk(&rt, rt.alloc(), Connection::open_in_memory(rt.alloc())?)
+    prints_of_a_new_desk(&rt, rt.alloc(), Connection::open_in_memory(rt.alloc()))
 }

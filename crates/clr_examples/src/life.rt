@@ -1,42 +1,17 @@
 //! A clearance's life over either kind of shelves: each kind of command from the grant on.
-use crate::books::{list_book, sorted_book};
+use crate::books::opening_book;
 use crate::driver::{accepted, expect, own_card, say, waiting};
 use clr_book::{
     Book, Card, ClearanceId, Hold, HoldKind, Kind, Names, Phase, PointState, Record, Refusal,
     Reply, StepRow, Text,
 };
 use clr_net::Name;
-use clr_shelf::Shelf;
+use clr_shelf::{ListShelf, Shelf, SortedShelf};
 use clr_worked::names;
 use std::alloc::Global;
 use std::test::Fail;
 
-/// A step is given out, repeated by REED and reported as done.
-fn run_step<P: Shelf<PointState>, C: Shelf<Record>, T: Shelf<StepRow>, H: Shelf<Hold>>(
-    alloc: Global,
-    book: &mut Book<P, C, T, H>,
-    clearance: ClearanceId,
-    step: u16,
-    text: &str,
-) -> Result<(), Fail> {
-    let _given = say(book, "OPS", Kind::Instruct { clearance, step })?;
-    let text = Text::new(String::from_str(alloc, text)?);
-    let repeat = Kind::Repeat {
-        clearance,
-        step,
-        text,
-    };
-    let _read = say(book, "REED", repeat)?;
-    let done = Kind::Report {
-        clearance,
-        step,
-        done: true,
-    };
-    let _done = say(book, "REED", done)?;
-    Ok(())
-}
-
-/// Steps run, from the first on.
+/// Steps run, from the first on: each is given out, repeated by REED and reported as done.
 fn run_steps<P: Shelf<PointState>, C: Shelf<Record>, T: Shelf<StepRow>, H: Shelf<Hold>>(
     alloc: Global,
     book: &mut Book<P, C, T, H>,
@@ -44,7 +19,23 @@ fn run_steps<P: Shelf<PointState>, C: Shelf<Record>, T: Shelf<StepRow>, H: Shelf
     texts: &[&str],
 ) -> Result<(), Fail> {
     for (text, step) in texts.iter().zip(1..257) {
-        run_step(alloc, book, clearance, step, text)?;
+        let _given = say(book, "OPS", Kind::Instruct { clearance, step })?;
+        let text = Text::new(String::from_str(alloc, text)?);
+        let _read = say(
+            book,
+            "REED",
+            Kind::Repeat {
+                clearance,
+                step,
+                text,
+            },
+        )?;
+        let done = Kind::Report {
+            clearance,
+            step,
+            done: true,
+        };
+        let _done = say(book, "REED", done)?;
     }
     Ok(())
 }
@@ -221,8 +212,8 @@ fn switch<P: Shelf<PointState>, C: Shelf<Record>, T: Shelf<StepRow>, H: Shelf<Ho
 /// JONES/1 is granted on L2, and KIM/1 on L3. Both hold S3 open. Then each kind is said.
 fn live<P: Shelf<PointState>, C: Shelf<Record>, T: Shelf<StepRow>, H: Shelf<Hold>>(
     alloc: Global,
-    mut book: Book<P, C, T, H>,
 ) -> Result<(), Fail> {
+    let mut book: Book<P, C, T, H> = opening_book(alloc)?;
     let book = &mut book;
     let (jones, kim) = (ClearanceId::read("JONES/1")?, ClearanceId::read("KIM/1")?);
     let stands = own_card(jones, Phase::Granted, 1, 6, 6);
@@ -237,10 +228,14 @@ fn live<P: Shelf<PointState>, C: Shelf<Record>, T: Shelf<StepRow>, H: Shelf<Hold
 
 #[test]
 fn each_kind_from_the_grant_on(rt: HostRuntime) -> Result<(), Fail> {
-    live(rt.alloc(), sorted_book(rt.alloc())?)
+    live::<SortedShelf<PointState>, SortedShelf<Record>, SortedShelf<StepRow>, SortedShelf<Hold>>(
+        rt.alloc(),
+    )
 }
 
 #[test]
 fn each_kind_from_the_grant_on_over_lists(rt: HostRuntime) -> Result<(), Fail> {
-    live(rt.alloc(), list_book(rt.alloc())?)
+    live::<ListShelf<PointState>, ListShelf<Record>, ListShelf<StepRow>, ListShelf<Hold>>(
+        rt.alloc(),
+    )
 }

@@ -1,9 +1,10 @@
 //! The register over either kind of shelves: all numbers of a requester, which no session has.
-use crate::books::{list_book, sorted_book};
+use crate::books::opening_book;
 use crate::driver::{accepted, expect, own_card, say};
 use clr_book::{Book, ClearanceId, Hold, Kind, Phase, PointState, Record, Refusal, Reply, StepRow};
 use clr_net::Name;
-use clr_shelf::Shelf;
+use clr_shelf::{ListShelf, Shelf, SortedShelf};
+use std::alloc::Global;
 use std::test::Fail;
 
 /// A requester asks for L2, and gets this number.
@@ -24,8 +25,9 @@ fn gets<P: Shelf<PointState>, C: Shelf<Record>, T: Shelf<StepRow>, H: Shelf<Hold
 
 /// JONES asks until all numbers are given, and KIM still gets one.
 fn all_are_given<P: Shelf<PointState>, C: Shelf<Record>, T: Shelf<StepRow>, H: Shelf<Hold>>(
-    mut book: Book<P, C, T, H>,
+    alloc: Global,
 ) -> Result<(), Fail> {
+    let mut book: Book<P, C, T, H> = opening_book(alloc)?;
     for number in 1..10000 {
         gets(&mut book, "JONES", number)?;
     }
@@ -37,10 +39,17 @@ fn all_are_given<P: Shelf<PointState>, C: Shelf<Record>, T: Shelf<StepRow>, H: S
 
 #[test]
 fn all_numbers_of_a_requester(rt: HostRuntime) -> Result<(), Fail> {
-    all_are_given(sorted_book(rt.alloc())?)
+    all_are_given::<
+        SortedShelf<PointState>,
+        SortedShelf<Record>,
+        SortedShelf<StepRow>,
+        SortedShelf<Hold>,
+    >(rt.alloc())
 }
 
 #[test]
 fn all_numbers_of_a_requester_over_lists(rt: HostRuntime) -> Result<(), Fail> {
-    all_are_given(list_book(rt.alloc())?)
+    all_are_given::<ListShelf<PointState>, ListShelf<Record>, ListShelf<StepRow>, ListShelf<Hold>>(
+        rt.alloc(),
+    )
 }
