@@ -1,6 +1,6 @@
 //! The desk over a store in memory: runs on the worked network.
 use crate::driver::{expect, own_card, waiting};
-use clr_book::{ClearanceId, Command, Kind, Moment, Names, Phase, Refusal, Reply};
+use clr_book::{ClearanceId, Command, Kind, Moment, Names, Phase, Refusal, Reply, Text};
 use clr_desk::{Desk, Run};
 use clr_net::Name;
 use clr_worked::{names, worked_network, worked_staff};
@@ -48,21 +48,49 @@ fn order(alloc: Global, clearance: ClearanceId) -> Result<Command, Fail> {
     )
 }
 
-/// JONES asks for L2, and OPS orders it at S2 and S3 and grants it.
+/// A step of a clearance is given out, repeated by REED and reported as done.
+fn run_step(
+    alloc: Global,
+    commands: &mut Vec<Command>,
+    clearance: ClearanceId,
+    step: u16,
+) -> Result<(), Fail> {
+    let place = usize::from(step).checked_sub(1).ok_or("a step")?;
+    let text = ISOLATE_L2.get(place).ok_or("a step")?;
+    commands.push(command("OPS", 102, Kind::Instruct { clearance, step })?)?;
+    let repeat = Kind::Repeat {
+        clearance,
+        step,
+        text: Text::new(String::from_str(alloc, text)?),
+    };
+    commands.push(command("REED", 102, repeat)?)?;
+    let report = Kind::Report {
+        clearance,
+        step,
+        done: true,
+    };
+    commands.push(command("REED", 102, report)?)?;
+    Ok(())
+}
+
+/// JONES asks for L2, and OPS orders it at S2 and S3 and grants it after its first five steps.
 fn grant_too_early(alloc: Global, clearance: ClearanceId) -> Result<Vec<Command>, Fail> {
     let section = Name::read("L2")?;
     let mut commands = Vec::new(alloc);
     commands.push(command("JONES", 100, Kind::Request { section })?)?;
     commands.push(order(alloc, clearance)?)?;
-    commands.push(command("OPS", 102, Kind::Grant { clearance })?)?;
+    for step in [1, 2, 3, 4, 5] {
+        run_step(alloc, &mut commands, clearance, step)?;
+    }
+    commands.push(command("OPS", 103, Kind::Grant { clearance })?)?;
     Ok(commands)
 }
 
-/// OPS gives the first step out.
-fn first_step(alloc: Global, clearance: ClearanceId) -> Result<Vec<Command>, Fail> {
+/// The sixth step, and the grant.
+fn grant_in_time(alloc: Global, clearance: ClearanceId) -> Result<Vec<Command>, Fail> {
     let mut commands = Vec::new(alloc);
-    let instruct = Kind::Instruct { clearance, step: 1 };
-    commands.push(command("OPS", 103, instruct)?)?;
+    run_step(alloc, &mut commands, clearance, 6)?;
+    commands.push(command("OPS", 103, Kind::Grant { clearance })?)?;
     Ok(commands)
 }
 
@@ -83,7 +111,7 @@ fn ends_with<S: Alter + Drop>(
     expect(reply, expected)
 }
 
-fn runs<S: Alter + Drop, R: Abort>(
+fn grants<S: Alter + Drop, R: Abort>(
     rt: &R,
     alloc: Global,
     connection: Result<Connection<S>, AllocError>,
@@ -92,13 +120,13 @@ fn runs<S: Alter + Drop, R: Abort>(
     let mut desk = new_desk(alloc, connection)?;
     let left = Reply::Refused(Refusal::StepsLeft);
     ends_with(&mut desk, grant_too_early(alloc, clearance)?, left)?;
-    let given = Reply::Accepted(own_card(clearance, Phase::Ordered, 1, 0, 6));
-    ends_with(&mut desk, first_step(alloc, clearance)?, given)?;
+    let granted = Reply::Accepted(own_card(clearance, Phase::Granted, 1, 6, 6));
+    ends_with(&mut desk, grant_in_time(alloc, clearance)?, granted)?;
     assert_eq!(rt; desk.faults(), 0);
     Ok(())
 }
 
 #[test]
-fn two_runs(rt: HostRuntime) -> Result<(), Fail> {
-    runs(&rt, rt.alloc(), Connection::open_in_memory(rt.alloc()))
+fn grant_with_a_step_left(rt: HostRuntime) -> Result<(), Fail> {
+    grants(&rt, rt.alloc(), Connection::open_in_memory(rt.alloc()))
 }
