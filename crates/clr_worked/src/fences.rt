@@ -2,6 +2,7 @@
 use crate::worked::{chain_rows, names, worked_network};
 use clr_net::{Name, NetFault, Network, SectionRow};
 use std::alloc::Global;
+use std::process::Abort;
 use std::test::Fail;
 
 /// The network of the one section A, without points.
@@ -20,13 +21,19 @@ fn chain(alloc: Global, count: u16) -> Result<Result<Network, NetFault>, Fail> {
     Ok(Network::build(alloc, rows.sections, rows.points))
 }
 
-/// The fault of rows that are no network, if they have one. Want of memory is never what a test
-/// asks for: it ends the test.
-pub(crate) fn net_fault(told: Result<Network, NetFault>) -> Result<Option<NetFault>, Fail> {
-    match told {
-        Err(NetFault::NoMemory) => Err(NetFault::NoMemory.into()),
-        told => Ok(told.err()),
+/// Rows are no network, for this fault. Want of memory is never what a test asks for: it ends the
+/// test.
+pub(crate) fn expect_net_fault<R: Abort>(
+    rt: &R,
+    told: Result<Network, NetFault>,
+    expected: NetFault,
+) -> Result<(), Fail> {
+    let fault = told.err().ok_or("a fault")?;
+    if matches!(fault, NetFault::NoMemory) {
+        return Err(fault.into());
     }
+    assert_eq!(rt; fault, expected);
+    Ok(())
 }
 
 /// The names of the sections in a fence, with a blank before each.
@@ -86,6 +93,5 @@ fn chain_of_five_thousand_sections(rt: HostRuntime) -> Result<(), Fail> {
 #[test]
 fn one_section_too_many(rt: HostRuntime) -> Result<(), Fail> {
     let told = chain(rt.alloc(), 5001)?;
-    assert_eq!(rt; net_fault(told)?, Some(NetFault::TooLarge));
-    Ok(())
+    expect_net_fault(&rt, told, NetFault::TooLarge)
 }

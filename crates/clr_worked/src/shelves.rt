@@ -155,17 +155,22 @@ fn a_group_is_given_in_key_order(rt: HostRuntime) -> Result<(), Fail> {
     grouped::<ListShelf<Berth>, HostRuntime>(&rt, rt.alloc())
 }
 
-#[test]
-fn a_group_is_one_run_of_places(rt: HostRuntime) -> Result<(), Fail> {
-    let shelf: SortedShelf<Berth> = shelf_of(rt.alloc(), &berths())?;
+fn run_together<S: GroupedShelf<Berth>, R: Abort>(rt: &R, alloc: Global) -> Result<(), Fail> {
+    let shelf: S = shelf_of(alloc, &berths())?;
     let run = shelf.places_of(&5);
     assert_eq!(rt; (run.start, run.end), (1, 4));
 
-    let mut depths = Vec::new(rt.alloc());
-    for berth in rows_of(rt.alloc(), &shelf)? {
+    let mut depths = Vec::new(alloc);
+    for berth in rows_of(alloc, &shelf)? {
         depths.push(berth.depth)?;
     }
     assert_eq!(rt; depths.as_slice(), [32, 31, 30, 33, 34].as_slice());
+    Ok(())
+}
+
+#[test]
+fn a_group_is_one_run_of_places(rt: HostRuntime) -> Result<(), Fail> {
+    run_together::<SortedShelf<Berth>, HostRuntime>(&rt, rt.alloc())?;
     grouped::<SortedShelf<Berth>, HostRuntime>(&rt, rt.alloc())
 }
 
@@ -188,10 +193,9 @@ fn room_serves_as_many_rows_and_a_take_gives_one_back(rt: HostRuntime) -> Result
 }
 
 // With the second allocation refused it shows that a refusal leaves all rows.
-#[test]
-fn refused_room_leaves_the_rows(rt: HostRuntime) {
+fn kept<S: Shelf<Berth>, R: Abort>(rt: &R, alloc: Global) {
     let kept = berth_at(*b"NN", 1, 1, 10);
-    if let Ok(mut shelf) = shelf_of::<SortedShelf<Berth>>(rt.alloc(), &[kept]) {
+    if let Ok(mut shelf) = shelf_of::<S>(alloc, &[kept]) {
         let reserved = shelf.reserve(1000).is_ok();
         assert_eq!(rt;
             shelf.get(&kept.key).copied(),
@@ -200,4 +204,9 @@ fn refused_room_leaves_the_rows(rt: HostRuntime) {
         );
         assert_eq!(rt; shelf.len(), 1, "reserved: {reserved}");
     }
+}
+
+#[test]
+fn refused_room_leaves_the_rows(rt: HostRuntime) {
+    kept::<SortedShelf<Berth>, HostRuntime>(&rt, rt.alloc());
 }

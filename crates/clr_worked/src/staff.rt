@@ -2,6 +2,7 @@
 use clr_csv::{Counted, Role, Staff, StaffFault, StaffRow, read_staff};
 use clr_net::Name;
 use std::alloc::Global;
+use std::process::Abort;
 use std::test::Fail;
 
 /// What rows give, written as in the file.
@@ -11,13 +12,19 @@ fn staff_in(alloc: Global, rows: &str) -> Result<Result<Staff, StaffFault>, Fail
     Ok(Staff::build(alloc, rows))
 }
 
-/// The fault of rows that are no staff, if they have one. Want of memory is never what a test asks
-/// for: it ends the test.
-fn staff_fault(told: Result<Staff, StaffFault>) -> Result<Option<StaffFault>, Fail> {
-    match told {
-        Err(StaffFault::NoMemory) => Err(StaffFault::NoMemory.into()),
-        told => Ok(told.err()),
+/// Rows are no staff, for this fault. Want of memory is never what a test asks for: it ends the
+/// test.
+fn expect_staff_fault<R: Abort>(
+    rt: &R,
+    told: Result<Staff, StaffFault>,
+    expected: StaffFault,
+) -> Result<(), Fail> {
+    let fault = told.err().ok_or("a fault")?;
+    if matches!(fault, StaffFault::NoMemory) {
+        return Err(fault.into());
     }
+    assert_eq!(rt; fault, expected);
+    Ok(())
 }
 
 /// The employees E0001, E0002 and on, each but the first with the one before as supervisor.
@@ -37,55 +44,67 @@ fn chain_of_command(alloc: Global, count: u16) -> Result<Vec<StaffRow>, Fail> {
     Ok(rows)
 }
 
+/// JONES, whose supervisor is BOSS.
+fn jones() -> Result<StaffRow, Fail> {
+    Ok(StaffRow {
+        name: Name::read("JONES")?,
+        role: Role::Charge,
+        supervisor: Some(Name::read("BOSS")?),
+    })
+}
+
+/// The names of a staff in their order, a blank before each.
+fn names_of(alloc: Global, staff: &Staff) -> Result<String, Fail> {
+    let mut names = String::new(alloc);
+    for row in staff.rows() {
+        names.push_str(" ")?;
+        names.push_str(row.name.as_str())?;
+    }
+    Ok(names)
+}
+
 #[test]
 fn employees_by_name(rt: HostRuntime) -> Result<(), Fail> {
     let rows =
         "OPS,operator,\nREED,field,\nDALE,field,\nJONES,charge,BOSS\nKIM,charge,\nBOSS,charge,\n";
     let staff = staff_in(rt.alloc(), rows)??;
-    let mut names = String::new(rt.alloc());
-    for row in staff.rows() {
-        names.push_str(" ")?;
-        names.push_str(row.name.as_str())?;
-    }
+    let names = names_of(rt.alloc(), &staff)?;
     assert_eq!(rt; names.as_str(), " BOSS DALE JONES KIM OPS REED");
-    let jones = StaffRow {
-        name: Name::read("JONES")?,
-        role: Role::Charge,
-        supervisor: Some(Name::read("BOSS")?),
-    };
+    let jones = jones()?;
     assert_eq!(rt; staff.find(&jones.name), Some(&jones));
     assert_eq!(rt; staff.find(&Name::read("JONE")?), None);
     Ok(())
 }
 
+const FAULTS: [(&str, StaffFault); 6] = [
+    ("JONES,charge,JONES\n", StaffFault::OwnSupervisor(1)),
+    (
+        "OPS,operator,\nJONES,charge,BOSS\n",
+        StaffFault::UnknownSupervisor(2),
+    ),
+    (
+        "OPS,operator,\nKIM,charge,\nOPS,field,\nOPS,field,\n",
+        StaffFault::Twice(3),
+    ),
+    (
+        "JONES,charge,JONES\nKIM,charge,BOSS\n",
+        StaffFault::UnknownSupervisor(2),
+    ),
+    (
+        "JONES,charge,BOSS\nKIM,charge,\nKIM,charge,\n",
+        StaffFault::Twice(3),
+    ),
+    (
+        "REED,field,REED\nDALE,field,DALE\n",
+        StaffFault::OwnSupervisor(1),
+    ),
+];
+
 #[test]
 fn first_fault_of_a_staff(rt: HostRuntime) -> Result<(), Fail> {
-    let cases = [
-        ("JONES,charge,JONES\n", StaffFault::OwnSupervisor(1)),
-        (
-            "OPS,operator,\nJONES,charge,BOSS\n",
-            StaffFault::UnknownSupervisor(2),
-        ),
-        (
-            "OPS,operator,\nKIM,charge,\nOPS,field,\nOPS,field,\n",
-            StaffFault::Twice(3),
-        ),
-        (
-            "JONES,charge,JONES\nKIM,charge,BOSS\n",
-            StaffFault::UnknownSupervisor(2),
-        ),
-        (
-            "JONES,charge,BOSS\nKIM,charge,\nKIM,charge,\n",
-            StaffFault::Twice(3),
-        ),
-        (
-            "REED,field,REED\nDALE,field,DALE\n",
-            StaffFault::OwnSupervisor(1),
-        ),
-    ];
-    for (rows, fault) in cases {
+    for (rows, fault) in &FAULTS {
         let told = staff_in(rt.alloc(), rows)?;
-        assert_eq!(rt; staff_fault(told)?, Some(fault), "of {rows}");
+        expect_staff_fault(&rt, told, *fault)?;
     }
     Ok(())
 }
@@ -107,18 +126,10 @@ fn two_thousand_employees(rt: HostRuntime) -> Result<(), Fail> {
 fn one_employee_too_many(rt: HostRuntime) -> Result<(), Fail> {
     let rows = chain_of_command(rt.alloc(), 2001)?;
     let told = Staff::build(rt.alloc(), rows);
-    assert_eq!(rt; staff_fault(told)?, Some(StaffFault::TooMany));
+    expect_staff_fault(&rt, told, StaffFault::TooMany)?;
 
     let mut rows = chain_of_command(rt.alloc(), 2000)?;
-    rows.push(StaffRow {
-        name: Name::read("JONES")?,
-        role: Role::Charge,
-        supervisor: Some(Name::read("BOSS")?),
-    })?;
+    rows.push(jones()?)?;
     let told = Staff::build(rt.alloc(), rows);
-    assert_eq!(rt;
-        staff_fault(told)?,
-        Some(StaffFault::UnknownSupervisor(2001))
-    );
-    Ok(())
+    expect_staff_fault(&rt, told, StaffFault::UnknownSupervisor(2001))
 }

@@ -2,6 +2,7 @@
 use clr_csv::{Counted, CountedWrite, write_whole};
 use std::io;
 use std::io::Write;
+use std::process::Abort;
 use std::test::Fail;
 
 const TEXT: &[u8] = b"JONES/1 Ordered L2\n";
@@ -62,14 +63,18 @@ fn interrupted_writer_gets_all(rt: HostRuntime) -> Result<(), Fail> {
     Ok(())
 }
 
+/// A writer with too little room is told with what it took, and a failure is counted.
+fn stop_is_told<R: Abort>(rt: &R, room: usize, fails: bool) {
+    let mut writer = Counted::new(Narrow { room, fails });
+    assert_eq!(rt; write_whole(&mut writer, TEXT), Err(room));
+    assert_eq!(rt; writer.failures(), u64::from(fails));
+}
+
 #[test]
-fn broken_and_full_writers_are_told(rt: HostRuntime) -> Result<(), Fail> {
+fn broken_and_full_writers_are_told(rt: HostRuntime) {
     for room in 0..TEXT.len() {
-        for fails in [true, false] {
-            let mut writer = Counted::new(Narrow { room, fails });
-            assert_eq!(rt; write_whole(&mut writer, TEXT), Err(room));
-            assert_eq!(rt; writer.failures(), u64::from(fails));
-        }
+        stop_is_told(&rt, room, true);
+        stop_is_told(&rt, room, false);
     }
     let mut writer = Counted::new(Narrow {
         room: TEXT.len(),
@@ -78,5 +83,4 @@ fn broken_and_full_writers_are_told(rt: HostRuntime) -> Result<(), Fail> {
     assert_eq!(rt; write_whole(&mut writer, TEXT), Ok(()));
     assert!(rt; writer.flush_counted().is_err());
     assert_eq!(rt; writer.failures(), 1);
-    Ok(())
 }
