@@ -1,7 +1,7 @@
 //! The subcommand `run`: the commands of standard input, answered over a register in memory or over
 //! a stored one.
 ghost use Rattle.std.specs.Prelude.{◌≡◌, ◌≢◌, ◌⊎◌, ◌<◌, ◌≤◌, ℕ, Err, IfErr, IfNone, IfOk, IfSome};
-ghost use Rattle.std.specs.Prelude.{IsErrOf, Ok, OnOk, length, string_bytes};
+ghost use Rattle.std.specs.Prelude.{IsErrOf, List, Ok, OnOk, length, string_bytes};
 ghost use Rattle.sqlite.specs.Held.{state};
 ghost use Rattle.clap.specs.Words.{found_of, rows_of};
 ghost use Rattle.clr_csv.specs.Failures.{Rose};
@@ -104,12 +104,25 @@ pub fn run_of_database<D: Databases, I: CountedRead>(
     let connection = databases.database(path)?;
     let (printed, connection) = run_connected(alloc, connection, input);
     let closed = close(connection);
-    let Printed { text, fault } = printed?;
-    let fault = match fault {
-        Some(fault) => Some(fault),
-        None => closed.err(),
-    };
-    Ok(Printed { text, fault })
+    printed_behind(printed, closed)
+}
+
+/// What was printed, with the fault of closing its database, if there was no other.
+fn printed_behind(
+    printed: Result<Printed, Fault>,
+    closed: Result<(), Fault>,
+) -> Result<Printed, Fault>
+    requires { IfErr closed IsOfLine }
+    ensures { (R : Register) (bytes : List ℕ) → RunsStored R bytes printed
+        → RunsStored R bytes result }
+{
+    match (printed, closed) {
+        (Ok(Printed { text, fault: None }), Err(fault)) => Ok(Printed {
+            text,
+            fault: Some(fault),
+        }),
+        (printed, _) => printed,
+    }
 }
 
 /// The replies to the commands of the input, over the register that a database has.
