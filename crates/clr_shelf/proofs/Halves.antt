@@ -48,8 +48,3 @@ gap_from_point side xs r rise parts apart = (
       (parts.1 r d (omega arith) (omega arith))
       (apart d (omega arith)) (rise r k d low high),
 )
-
-pub tie_from : (o : Ordering) → is_eq o ≡ true → o ≡ Equal
-tie_from Less h = cc
-tie_from Equal h = cc
-tie_from Greater h = cc
