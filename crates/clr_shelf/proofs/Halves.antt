@@ -1,5 +1,6 @@
 -- What a search by halves has found, where the items are in order.
-use Rattle.std.proofs.Common.{◌≡◌, ℕ, ◌+◌, ◌-◌, ◌<◌, ◌≤◌, Bool, true, false, List, length, get_or, inl, inr, sym, ◌∙◌, arith}
+use Rattle.std.proofs.Common.{◌≡◌, ℕ, ◌+◌, ◌-◌, ◌<◌, ◌≤◌, Bool, true, false, List, length, get_or}
+use Rattle.std.proofs.Common.{inl, inr, sym, ◌∙◌, arith}
 use Rattle.std.specs.List.{AllWithin}
 use Rattle.std.specs.List.Sorted.{IsNonDecreasingBy, IsPartitionedBy, IsPartitionPoint}
 use Rattle.std.specs.Ordering.{is_lt, is_eq, ordering_index}
@@ -7,8 +8,10 @@ use Rattle.std.specs.declared.cmp.Ordering.{Ordering}
 use Rattle.std.specs.declared.cmp.Ordering.TheVariants.{Less, Equal, Greater}
 use Rattle.std.proofs.lemmas.Bool.{cases_Bool, true≢false}
 
--- the items before a place pass and those from it on fail, if the one before passes and the one there fails
-pub partition_from_point : {X : Type 0} (p : X → Bool) (xs : List X) (r : ℕ) → IsPartitionedBy p xs → r ≤ length xs
+-- the items before a place pass and those from it on fail, if the one before passes and the one
+-- there fails
+pub partition_from_point : {X : Type 0} (p : X → Bool) (xs : List X) (r : ℕ)
+    → IsPartitionedBy p xs → r ≤ length xs
     → ((k : ℕ) (d : X) → k + 1 ≡ r → p (get_or xs k d) ≡ true)
     → ((d : X) → r < length xs → p (get_or xs r d) ≡ false)
     → IsPartitionPoint (λ x. p x ≡ true) (λ x. p x ≡ false) xs r
@@ -25,7 +28,8 @@ below Less h = cc
 below Equal h = cc
 below Greater h = cc
 
-above : (first o : Ordering) → is_lt first ≡ false → is_eq first ≡ false → ordering_index first ≤ ordering_index o → o ≡ Greater
+above : (first o : Ordering) → is_lt first ≡ false → is_eq first ≡ false → ordering_index first
+    ≤ ordering_index o → o ≡ Greater
 above Less o lt eq le = cc
 above Equal o lt eq le = cc
 above Greater Less lt eq le = absurd (omega arith)
@@ -40,11 +44,7 @@ pub gap_from_point : {X : Type 0} (side : X → Ordering) (xs : List X) (r : ℕ
     → AllWithin (λ x. side x ≡ Less) xs 0 r × AllWithin (λ x. side x ≡ Greater) xs r (length xs)
 gap_from_point side xs r rise parts apart = (
   λ k d low high. below (side (get_or xs k d)) (parts.0 k d low high),
-  λ k d low high. above (side (get_or xs r d)) (side (get_or xs k d)) (parts.1 r d (omega arith) (omega arith))
+  λ k d low high. above (side (get_or xs r d)) (side (get_or xs k d))
+      (parts.1 r d (omega arith) (omega arith))
       (apart d (omega arith)) (rise r k d low high),
 )
-
-pub tie_from : (o : Ordering) → is_eq o ≡ true → o ≡ Equal
-tie_from Less h = cc
-tie_from Equal h = cc
-tie_from Greater h = cc

@@ -1,5 +1,6 @@
 -- A list in blocks: what is read, put, taken or written at a place of the block in which it is.
-use Rattle.std.proofs.Common.{◌≡◌, ℕ, ◌+◌, ◌-◌, ◌*◌, ◌/◌, ◌<◌, ◌≤◌, List, [], length, get_or, set, take}
+use Rattle.std.proofs.Common.{◌≡◌, ℕ, ◌+◌, ◌-◌, ◌*◌, ◌/◌, ◌<◌, ◌≤◌, List, [], length, get_or, set}
+use Rattle.std.proofs.Common.{take}
 use Rattle.std.proofs.Common.{vec_len, inl, inr, sym, ◌∙◌, ap, subst, arith}
 use Rattle.std.proofs.lemmas.Bool.{cases_eq}
 use Rattle.std.specs.List.{insert, remove}
@@ -9,9 +10,11 @@ use Rattle.std.proofs.lemmas.List.Edits.{length-insert, length-remove}
 use Rattle.clr_shelf.specs.declared.block.Block.{Block}
 use Rattle.clr_shelf.specs.declared.block.TheConstants.{SIZE}
 use Rattle.clr_shelf.specs.declared.blocks.Blocks.{Blocks}
-use Rattle.clr_shelf.specs.Blocks.{joined, parts_of, size_at, IsSpread, IsCrowded, IsThinned, HasStarts}
+use Rattle.clr_shelf.specs.Blocks.{joined, parts_of, size_at, IsSpread, IsCrowded, IsThinned}
+use Rattle.clr_shelf.specs.Blocks.{HasStarts}
 use Rattle.clr_shelf.specs.Items.{items_of}
-use Rattle.clr_shelf.proofs.Parts.{parts-edit, part_read, length-parts, joined-insert, joined-remove}
+use Rattle.clr_shelf.proofs.Parts.{parts-edit, part_read, length-parts, joined-insert}
+use Rattle.clr_shelf.proofs.Parts.{joined-remove}
 use Rattle.clr_shelf.proofs.Parts.{joined-set, size-set_same, size-set_other, parts-set}
 use Rattle.clr_shelf.proofs.Spread.{crowded, thinned}
 use Rattle.clr_shelf.proofs.Starts.{same_starts, last_is_spare}
@@ -27,7 +30,8 @@ module _ {T : Type 0} (list : Blocks T) (k place start : ℕ) (block : Block T)
   near_part = omega (arith, near, length-parts list.blocks.items)
 
   begins_at : start ≡ get_or list.starts.items k 0
-  begins_at = get_or_read list.starts.items k start (omega (arith, near_part, list.begun.each_has)) begins 0
+  begins_at = get_or_read list.starts.items k start
+      (omega (arith, near_part, list.begun.each_has)) begins 0
 
   counted : start ≡ length (joined (take k (parts_of list.blocks.items)))
   counted = begins_at ∙ list.begun.counts k near_part
@@ -40,7 +44,8 @@ module _ {T : Type 0} (list : Blocks T) (k place start : ℕ) (block : Block T)
 
   -- ---- what is read
 
-  pub item_read : (x : T) → place < get_or list.starts.items k 0 + size_at (parts_of list.blocks.items) k
+  pub item_read : (x : T) → place < get_or list.starts.items k 0 + size_at
+      (parts_of list.blocks.items) k
       → x ≡ get_or block.items.items (place - start) x → x ≡ get_or (items_of list) place x
   item_read x to is =
       let parts = parts_of list.blocks.items in
@@ -55,10 +60,12 @@ module _ {T : Type 0} (list : Blocks T) (k place start : ℕ) (block : Block T)
   module _ (after : Block T) (x : T)
       (to : place ≤ get_or list.starts.items k 0 + size_at (parts_of list.blocks.items) k)
       (is : after.items.items ≡ insert block.items.items (place - start) x) where
-    pub put_items : joined (parts_of (set list.blocks.items k after)) ≡ insert (items_of list) place x
+    pub put_items : joined (parts_of (set list.blocks.items k after))
+        ≡ insert (items_of list) place x
     put_items =
         let parts = parts_of list.blocks.items in
-        ap joined (parts-edit (λ (xs : List T). insert xs (place - start) x) list.blocks.items k block after near read is)
+        ap joined (parts-edit (λ (xs : List T). insert xs (place - start) x) list.blocks.items k
+        block after near read is)
         ∙ joined-insert parts k (place - start) x near_part (omega (arith, to, from, begins_at))
         ∙ ap (λ n. insert (joined parts) n x) whole
 
@@ -79,10 +86,12 @@ module _ {T : Type 0} (list : Blocks T) (k place start : ℕ) (block : Block T)
   module _ (after : Block T)
       (to : place < get_or list.starts.items k 0 + size_at (parts_of list.blocks.items) k)
       (is : after.items.items ≡ remove block.items.items (place - start)) where
-    pub take_items : joined (parts_of (set list.blocks.items k after)) ≡ remove (items_of list) place
+    pub take_items : joined (parts_of (set list.blocks.items k after))
+        ≡ remove (items_of list) place
     take_items =
         let parts = parts_of list.blocks.items in
-        ap joined (parts-edit (λ (xs : List T). remove xs (place - start)) list.blocks.items k block after near read is)
+        ap joined (parts-edit (λ (xs : List T). remove xs (place - start)) list.blocks.items k
+        block after near read is)
         ∙ joined-remove parts k (place - start) near_part (omega (arith, to, from, begins_at))
         ∙ ap (λ n. remove (joined parts) n) whole
 
@@ -102,10 +111,12 @@ module _ {T : Type 0} (list : Blocks T) (k place start : ℕ) (block : Block T)
   module _ (after : Block T) (x : T)
       (to : place < get_or list.starts.items k 0 + size_at (parts_of list.blocks.items) k)
       (is : after.items.items ≡ set block.items.items (place - start) x) where
-    pub write_items : joined (parts_of (set list.blocks.items k after)) ≡ set (items_of list) place x
+    pub write_items : joined (parts_of (set list.blocks.items k after))
+        ≡ set (items_of list) place x
     write_items =
         let parts = parts_of list.blocks.items in
-        ap joined (parts-edit (λ (xs : List T). set xs (place - start) x) list.blocks.items k block after near read is)
+        ap joined (parts-edit (λ (xs : List T). set xs (place - start) x) list.blocks.items k
+        block after near read is)
         ∙ joined-set parts k (place - start) x near_part (omega (arith, to, from, begins_at))
         ∙ ap (λ n. set (joined parts) n x) whole
 
@@ -116,13 +127,15 @@ module _ {T : Type 0} (list : Blocks T) (k place start : ℕ) (block : Block T)
         let same : length after.items.items ≡ size_at parts k =
         ap length is ∙ length-set block.items.items (place - start) x ∙ sym size in
         rw (parts-set list.blocks.items k after) (elim (cases_eq j k) [
-          | inl here ↦ subst (λ n. size_at parts n ≡ size_at (set parts k after.items.items) n) (sym here)
+          | inl here ↦ subst (λ n. size_at parts n ≡ size_at (set parts k after.items.items) n)
+              (sym here)
               (sym (size-set_same parts k after.items.items near_part ∙ same))
           | inr other ↦ sym (size-set_other parts k after.items.items j other)
         ])
 
     pub write_spreads : IsSpread SIZE (size_at (parts_of (set list.blocks.items k after)))
-    write_spreads = subst (λ (sizes : ℕ → ℕ). IsSpread SIZE sizes) (λ i j. write_sizes j i) list.spread
+    write_spreads = subst (λ (sizes : ℕ → ℕ). IsSpread SIZE sizes) (λ i j. write_sizes j i)
+        list.spread
 
     pub write_begins : HasStarts list.starts.items (parts_of (set list.blocks.items k after))
     write_begins = same_starts list.starts.items (parts_of list.blocks.items)

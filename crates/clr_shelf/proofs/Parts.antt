@@ -1,10 +1,12 @@
 -- Lists in parts: what an edit of a part, a move between neighbours, a split and a join leave of
 -- the items and of the sizes.
-use Rattle.std.proofs.Common.{◌≡◌, ◌≢◌, ℕ, zero, suc, ◌+◌, ◌-◌, ◌<◌, ◌≤◌, List, [], ◌∷◌, ◌++◌, length}
+use Rattle.std.proofs.Common.{◌≡◌, ◌≢◌, ℕ, zero, suc, ◌+◌, ◌-◌, ◌<◌, ◌≤◌, List, [], ◌∷◌, ◌++◌}
+use Rattle.std.proofs.Common.{length}
 use Rattle.std.proofs.Common.{get_or, set, take, drop, refl, sym, ◌∙◌, ap, subst, arith}
 use Rattle.std.proofs.Common.{replicate, zero-add, append_assoc, get_or-set_same, get_or-set_other}
 use Rattle.std.specs.List.{insert, remove}
-use Rattle.std.proofs.lemmas.List.{append-nil, map-append, map-set, take-map, drop-map, length-append}
+use Rattle.std.proofs.lemmas.List.{append-nil, map-append, map-set, take-map, drop-map}
+use Rattle.std.proofs.lemmas.List.{length-append}
 use Rattle.std.proofs.lemmas.List.{get_or-map, get_or_past, take_all, take_more, drop_all}
 use Rattle.std.proofs.lemmas.List.{drop_more, set-append_left, set-append_right, length-map}
 use Rattle.std.proofs.lemmas.List.Concat.{flat_map-append}
@@ -81,7 +83,8 @@ module _ {X : Type 0} where
       ∙ ap (λ n. insert (part ++ joined rest) n x) (sym (zero-add i))
   joined-insert (part ∷ rest) (suc k) i x within fits =
       let at = length (part ++ joined (take k rest)) + i in
-      let all : length (part ++ joined (take k rest)) ≡ length part + length (joined (take k rest)) =
+      let all : length (part ++ joined (take k rest))
+      ≡ length part + length (joined (take k rest)) =
       length-append part (joined (take k rest)) in
       let is : at - length part ≡ length (joined (take k rest)) + i = omega arith in
       ap (λ (xs : List X). part ++ xs) (joined-insert rest k i x (omega arith) fits)
@@ -97,7 +100,8 @@ module _ {X : Type 0} where
       ∙ ap (λ n. remove (part ++ joined rest) n) (sym (zero-add i))
   joined-remove (part ∷ rest) (suc k) i within fits =
       let at = length (part ++ joined (take k rest)) + i in
-      let all : length (part ++ joined (take k rest)) ≡ length part + length (joined (take k rest)) =
+      let all : length (part ++ joined (take k rest))
+      ≡ length part + length (joined (take k rest)) =
       length-append part (joined (take k rest)) in
       let is : at - length part ≡ length (joined (take k rest)) + i = omega arith in
       ap (λ (xs : List X). part ++ xs) (joined-remove rest k i (omega arith) fits)
@@ -113,7 +117,8 @@ module _ {X : Type 0} where
       ∙ ap (λ n. set (part ++ joined rest) n x) (sym (zero-add i))
   joined-set (part ∷ rest) (suc k) i x within fits =
       let at = length (part ++ joined (take k rest)) + i in
-      let all : length (part ++ joined (take k rest)) ≡ length part + length (joined (take k rest)) =
+      let all : length (part ++ joined (take k rest))
+      ≡ length part + length (joined (take k rest)) =
       length-append part (joined (take k rest)) in
       let is : at - length part ≡ length (joined (take k rest)) + i = omega arith in
       ap (λ (xs : List X). part ++ xs) (joined-set rest k i x (omega arith) fits)
@@ -237,14 +242,16 @@ module _ {X : Type 0} where
   pub size-split_first : (parts : List (List X)) (k : ℕ) (first second : List X) → k < length parts
       → size_at (insert (set parts k first) (k + 1) second) k ≡ length first
   size-split_first parts k first second within =
-      let long : k + 1 ≤ length (set parts k first) = omega (arith, within, length-set parts k first) in
+      let long : k + 1 ≤ length (set parts k first) = omega
+      (arith, within, length-set parts k first) in
       ap length (get_or-insert_below (set parts k first) (k + 1) second [] k (omega arith) long)
       ∙ size-set_same parts k first within
 
   pub size-split_second : (parts : List (List X)) (k : ℕ) (first second : List X) → k < length parts
       → size_at (insert (set parts k first) (k + 1) second) (k + 1) ≡ length second
   size-split_second parts k first second within =
-      let long : k + 1 ≤ length (set parts k first) = omega (arith, within, length-set parts k first) in
+      let long : k + 1 ≤ length (set parts k first) = omega
+      (arith, within, length-set parts k first) in
       ap length (get_or-insert_at (set parts k first) (k + 1) second [] long)
 
   pub split_sizes : (parts : List (List X)) (k : ℕ) (first second : List X) → k < length parts
@@ -258,7 +265,8 @@ module _ {X : Type 0} where
         both = size-spare parts k ∙ sym same
             ∙ (λ i. sym (size-split_first parts k first second within) i
             + sym (size-split_second parts k first second within) i);
-        before = λ j sooner. size-spare parts j ∙ sym (ap length (get_or-insert_below between (k + 1)
+        before = λ j sooner. size-spare parts j
+            ∙ sym (ap length (get_or-insert_below between (k + 1)
             second [] j (omega arith) long) ∙ size-set_other parts k first j (omega arith));
         after = λ j later. size-spare parts j ∙ sym (ap length (get_or-insert_above between (k + 1)
             second [] j (omega arith) long) ∙ size-set_other parts k first j (omega arith));
@@ -309,10 +317,12 @@ module _ {T : Type 0} where
       ∙ ap (λ (xss : List (List T)). parts_of blocks ++ xss) empty
 
   -- the parts after an edit of one block
-  pub parts-edit : (edit : List T → List T) (blocks : List (Block T)) (k : ℕ) (block after : Block T)
+  pub parts-edit : (edit : List T → List T) (blocks : List (Block T)) (k : ℕ)
+      (block after : Block T)
       → k < length blocks → block ≡ get_or blocks k block
       → after.items.items ≡ edit block.items.items
-      → parts_of (set blocks k after) ≡ set (parts_of blocks) k (edit (get_or (parts_of blocks) k []))
+      → parts_of (set blocks k after) ≡ set (parts_of blocks) k
+      (edit (get_or (parts_of blocks) k []))
   parts-edit edit blocks k block after within read is =
       parts-set blocks k after ∙ ap (λ (xs : List T). set (parts_of blocks) k xs)
       (is ∙ ap edit (sym (part_read blocks k block within read)))
@@ -358,7 +368,8 @@ module _ {T : Type 0} where
       ap parts_of is ∙ parts-push shorter spare in
       let read : get_or (parts_of blocks) (length shorter) [] ≡ spare.items.items =
       ap (λ (xss : List (List T)). get_or xss (length shorter) []) parts_are
-      ∙ get_or_at (parts_of shorter) spare.items.items [] [] (length shorter) (length-parts shorter) in
+      ∙ get_or_at (parts_of shorter) spare.items.items [] [] (length shorter)
+      (length-parts shorter) in
       let none : spare.items.items ≡ [] =
       nil_from_length spare.items.items (ap length (sym read) ∙ empty) in
       parts_are ∙ ap (λ (xs : List T). parts_of shorter ++ xs ∷ []) none

@@ -22,15 +22,6 @@ pair_before size sizes filled k more has =
     subst (λ n. 0 < sizes n → size < sizes (k - 1) + sizes n) is (filled (k - 1)) has
 
 module _ (size : ℕ) (sizes : ℕ → ℕ) where
-  -- where no part has too many
-  pub settled : (at : ℕ) → IsCrowded size at sizes → sizes at ≤ size → IsSpread size sizes
-  settled at crowded fits =
-      let here = carry (λ n. sizes n ≤ size) at fits in
-      record {
-        fits = λ k. grind (arith, here k, crowded.fits k);
-        filled = crowded.filled;
-      }
-
   -- where the pairs of a part from which one was taken are filled all the same
   pub kept : (at : ℕ) → IsThinned size at sizes
       → ((k : ℕ) → k + 1 ≡ at → size < sizes k + sizes at)

@@ -1,8 +1,8 @@
 -- How many items stand before each part, and in which part a place is.
 use Rattle.std.proofs.Common.{◌≡◌, ℕ, zero, suc, ◌+◌, ◌-◌, ◌*◌, ◌/◌, ◌<◌, ◌≤◌, List, [], ◌∷◌, ◌++◌}
-use Rattle.std.proofs.Common.{length, get_or, set, take, refl, sym, ◌∙◌, ap, subst, arith}
+use Rattle.std.proofs.Common.{length, get_or, set, take, refl, ◌∙◌, subst, arith}
 use Rattle.std.proofs.Common.{inl, inr, get_or-set_same, get_or-set_other, below_more}
-use Rattle.std.proofs.lemmas.List.{length-append, length-set, take_all}
+use Rattle.std.proofs.lemmas.List.{length-append, length-set}
 use Rattle.std.proofs.lemmas.Bool.{cases_lt}
 use Rattle.clr_shelf.specs.Blocks.{joined, size_at, IsSpread, HasStarts}
 
@@ -49,28 +49,6 @@ module _ {X : Type 0} where
         length-append part (joined rest),
         counted_le rest k,
       )
-
-  pub counted_all : (parts : List (List X)) (k : ℕ) → length parts ≤ k
-      → length (joined (take k parts)) ≡ length (joined parts)
-  counted_all parts k all = ap (λ (xss : List (List X)). length (joined xss)) (take_all k parts all)
-
-  -- ---- what the starts say
-
-  pub first_start : (starts : List ℕ) (parts : List (List X)) → HasStarts starts parts
-      → 0 < length parts → get_or starts 0 0 ≡ 0
-  first_start starts parts begun some = begun.counts 0 some
-
-  pub next_start : (starts : List ℕ) (parts : List (List X)) (k : ℕ) → HasStarts starts parts
-      → k + 1 < length parts → get_or starts (k + 1) 0 ≡ get_or starts k 0 + size_at parts k
-  next_start starts parts k begun within =
-      begun.counts (k + 1) within ∙ counted_more parts k (omega arith)
-      ∙ ap (λ n. n + size_at parts k) (sym (begun.counts k (omega arith)))
-
-  pub last_start : (starts : List ℕ) (parts : List (List X)) (k : ℕ) → HasStarts starts parts
-      → k + 1 ≡ length parts → length (joined parts) ≡ get_or starts k 0 + size_at parts k
-  last_start starts parts k begun is =
-      sym (counted_all parts (k + 1) (omega arith)) ∙ counted_more parts k (omega arith)
-      ∙ ap (λ n. n + size_at parts k) (sym (begun.counts k (omega arith)))
 
   -- parts of the same sizes have the same starts
   same_counts : (parts others : List (List X)) → ((k : ℕ) → size_at parts k ≡ size_at others k)

@@ -149,7 +149,8 @@ impl<R: Row> Shelf<R> for SortedShelf<R> {
 
     ghost in_order = { λ shelf. shelf.in_order };
 
-    ghost each_once = { λ shelf. IsPermutation-rows_by_key R.key_cmp R.key_of (items_of shelf.list) };
+    ghost each_once = { λ shelf.
+        IsPermutation-rows_by_key R.key_cmp R.key_of (items_of shelf.list) };
 }
 
 impl<R: Row> GroupedShelf<R> for SortedShelf<R> {

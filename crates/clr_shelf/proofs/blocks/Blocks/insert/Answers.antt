@@ -12,29 +12,38 @@ settle-requires-clause-spare g c =
     let k = c.block_for-k.result in
     let apart : list.blocks.len - 1 ≢ k = omega (arith, c.block_for-k.ensures.spare_after) in
     rw (parts-set list.blocks.items k c.put.new.self)
-    (size-set_other (parts_of list.blocks.items) k c.put.new.self.items.items (list.blocks.len - 1) apart ∙ c.block_for-k.ensures.spare)
+    (size-set_other (parts_of list.blocks.items) k c.put.new.self.items.items
+    (list.blocks.len - 1) apart ∙ c.block_for-k.ensures.spare)
 
 pub settle-requires-clause-crowded : goal.settle-requires-clause-crowded
-settle-requires-clause-crowded g c = put_crowds c.args.self.now c.block_for-k.result c.args.place c.index.result.now c.index_mut.result.now
-    (omega (arith, c.block_for-k.ensures.spare_after)) c.index_mut.ensures.value c.index.ensures c.block_for-k.ensures.from c.put.new.self c.args.item
+settle-requires-clause-crowded g c = put_crowds c.args.self.now c.block_for-k.result c.args.place
+    c.index.result.now c.index_mut.result.now
+    (omega (arith, c.block_for-k.ensures.spare_after)) c.index_mut.ensures.value c.index.ensures
+    c.block_for-k.ensures.from c.put.new.self c.args.item
     c.block_for-k.ensures.to c.put.ensures c.block_for-k.ensures.some
 
 pub count_starts-requires-clause-fits : goal.count_starts-requires-clause-fits
 count_starts-requires-clause-fits g c =
     let list = c.args.self.now in
-    let put = c.settle.ensures.items ∙ put_items list c.block_for-k.result c.args.place c.index.result.now c.index_mut.result.now
-    (omega (arith, c.block_for-k.ensures.spare_after)) c.index_mut.ensures.value c.index.ensures c.block_for-k.ensures.from c.put.new.self c.args.item
+    let put = c.settle.ensures.items ∙ put_items list c.block_for-k.result c.args.place
+    c.index.result.now c.index_mut.result.now
+    (omega (arith, c.block_for-k.ensures.spare_after)) c.index_mut.ensures.value c.index.ensures
+    c.block_for-k.ensures.from c.put.new.self c.args.item
     c.block_for-k.ensures.to c.put.ensures in
-    let more = ap length put ∙ length-insert (items_of list) c.args.place c.args.item c.requires.in_range in
+    let more = ap length put ∙ length-insert (items_of list) c.args.place c.args.item
+    c.requires.in_range in
     rw c.deref.ensures.value (omega (arith, more, list.counted, list.bounded, c.requires.room))
 
 pub invariant_of-self : goal.invariant_of-self
 invariant_of-self g c =
     let list = c.args.self.now in
-    let put = c.settle.ensures.items ∙ put_items list c.block_for-k.result c.args.place c.index.result.now c.index_mut.result.now
-    (omega (arith, c.block_for-k.ensures.spare_after)) c.index_mut.ensures.value c.index.ensures c.block_for-k.ensures.from c.put.new.self c.args.item
+    let put = c.settle.ensures.items ∙ put_items list c.block_for-k.result c.args.place
+    c.index.result.now c.index_mut.result.now
+    (omega (arith, c.block_for-k.ensures.spare_after)) c.index_mut.ensures.value c.index.ensures
+    c.block_for-k.ensures.from c.put.new.self c.args.item
     c.block_for-k.ensures.to c.put.ensures in
-    let more = ap length put ∙ length-insert (items_of list) c.args.place c.args.item c.requires.in_range in
+    let more = ap length put ∙ length-insert (items_of list) c.args.place c.args.item
+    c.requires.in_range in
     record {
       spread = c.settle.ensures.spread;
       begun = rw c.deref.ensures.value at c.count_starts.ensures;
@@ -44,6 +53,9 @@ invariant_of-self g c =
     }
 
 pub returns-clause-items : goal.returns-clause-items
-returns-clause-items g c = c.settle.ensures.items ∙ put_items c.args.self.now c.block_for-k.result c.args.place c.index.result.now c.index_mut.result.now
-    (omega (arith, c.block_for-k.ensures.spare_after)) c.index_mut.ensures.value c.index.ensures c.block_for-k.ensures.from c.put.new.self c.args.item
+returns-clause-items g c = c.settle.ensures.items
+    ∙ put_items c.args.self.now c.block_for-k.result c.args.place c.index.result.now
+    c.index_mut.result.now
+    (omega (arith, c.block_for-k.ensures.spare_after)) c.index_mut.ensures.value c.index.ensures
+    c.block_for-k.ensures.from c.put.new.self c.args.item
     c.block_for-k.ensures.to c.put.ensures

@@ -1,4 +1,5 @@
-use Rattle.std.proofs.Common.{◌≡◌, ◌+◌, ◌-◌, ◌/◌, ◌<◌, true, false, length, get_or, refl, subst, arith}
+use Rattle.std.proofs.Common.{◌≡◌, ◌+◌, ◌-◌, ◌/◌, ◌<◌, true, false, length, get_or, refl, subst}
+use Rattle.std.proofs.Common.{arith}
 use Rattle.std.specs.Fn.{FnReturnsAt}
 use Rattle.std.proofs.lemmas.Fn.{says_at}
 use Rattle.std.proofs.lemmas.List.{get_or_read}
@@ -17,7 +18,8 @@ loop-low-preserved-then-passes g c =
       before = λ k d is.
           let here : middle ≡ k = omega arith in
           subst (λ n. FnReturnsAt g.F.Fn c.args.passes (get_or items n d) true) here
-          (subst (λ x. FnReturnsAt g.F.Fn c.args.passes x true) (get_or_read items middle c.at.result.now within c.at.ensures d) said);
+          (subst (λ x. FnReturnsAt g.F.Fn c.args.passes x true)
+          (get_or_read items middle c.at.result.now within c.at.ensures d) said);
       after = c.loop-low.invariant.after;
     }
 
@@ -31,7 +33,8 @@ loop-low-preserved g c =
       rises = omega arith;
       within = omega arith;
       before = c.loop-low.invariant.before;
-      after = λ d some. subst (λ x. FnReturnsAt g.F.Fn c.args.passes x false) (get_or_read items middle c.at.result.now within c.at.ensures d) said;
+      after = λ d some. subst (λ x. FnReturnsAt g.F.Fn c.args.passes x false)
+          (get_or_read items middle c.at.result.now within c.at.ensures d) said;
     }
 
 pub returns-clause-after : goal.returns-clause-after

@@ -7,4 +7,5 @@ invariant_of-result g c =
     rw c.new.ensures (record { in_place = none.in_place; in_order = none.in_order })
 
 pub returns : goal.returns
-returns g c = rw c.new.ensures (sorted-none g.R.Row.key_cmp g.R.Row.key_of g.R.Row.group_of g.R.Row.group_cmp).is
+returns g c = rw c.new.ensures (sorted-none g.R.Row.key_cmp g.R.Row.key_of g.R.Row.group_of
+    g.R.Row.group_cmp).is

@@ -14,7 +14,8 @@ returns-then-run g c =
     let end = c.places_of-run.result.end in
     let run = slice_range rows start end in
     let row = c.at.result.now in
-    let long : length run ≡ end - start = length-between rows start end c.places_of-run.ensures.in_range in
+    let long : length run ≡ end - start = length-between rows start end
+    c.places_of-run.ensures.in_range in
     let within : length run - 1 < length run = omega (arith, long) in
     let last : start + (length run - 1) ≡ end - 1 = omega (arith, long) in
     let read : get_or run (length run - 1) row ≡ row =
