@@ -449,7 +449,7 @@ fn answer_that_cannot_be_written(rt: HostRuntime) -> Result<(), Fail> {
     let words = ["gridclear", "--help"];
     let mut input = Counted::new(io::empty());
     let status = command_line(
-        &rt,
+        &Machine::new(&rt, AnyFiles),
         &Paths::new(&rt),
         words.as_slice(),
         &mut input,

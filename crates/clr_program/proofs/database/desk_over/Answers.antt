@@ -16,9 +16,11 @@ returns-in-Err-clause-fault g c R known =
 pub returns-in-Ok-open-clause-register : goal.returns-in-Ok-open-clause-register
 returns-in-Ok-open-clause-register g c R known =
     let was_open = c.in-Ok-open.ensures.was_open (known.clean c.in-Ok-open.desk.store) in
-    let same = c.in-Ok.ensures.opened (known.clean c.in-Ok.store) was_open in
-    (c.in-Ok-open.ensures.again (known.clean c.in-Ok-open.desk.store) R known.good
-    (subst (λ db. HasTables db (tables_of R)) (sym same) known.tables), known.good)
+    let same = c.in-Ok.ensures.opened (known.clean c.in-Ok.store) was_open in (
+      c.in-Ok-open.ensures.again (known.clean c.in-Ok-open.desk.store) R known.good
+          (subst (λ db. HasTables db (tables_of R)) (sym same) known.tables),
+      known.good,
+    )
 
 pub returns-in-Err-open-clause-fault : goal.returns-in-Err-open-clause-fault
 returns-in-Err-open-clause-fault g c R known =
