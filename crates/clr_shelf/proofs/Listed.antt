@@ -17,7 +17,8 @@ use Rattle.clr_shelf.proofs.Parts.{parts-edit, part_read, length-parts, joined-i
 use Rattle.clr_shelf.proofs.Parts.{joined-remove}
 use Rattle.clr_shelf.proofs.Parts.{joined-set, size-set_same, size-set_other, parts-set}
 use Rattle.clr_shelf.proofs.Spread.{crowded, thinned}
-use Rattle.clr_shelf.proofs.Starts.{same_starts, last_is_spare}
+use Rattle.clr_shelf.proofs.Starts.{same_starts, last_is_spare, some_there, counted_more}
+use Rattle.clr_shelf.proofs.Starts.{counted_le, counted_last}
 
 module _ {T : Type 0} (list : Blocks T) (k place start : ℕ) (block : Block T)
     (within : k < vec_len list.blocks) (read : block ≡ get_or list.blocks.items k block)
@@ -154,3 +155,50 @@ spare_last list room =
     rw (long, ← list.counted) room in
     subst (λ n. size_at (parts_of list.blocks.items) (n - 1) ≡ 0) long
     (last_is_spare SIZE (parts_of list.blocks.items) list.spread fits)
+
+module _ {T : Type 0} (list : Blocks T) (k : ℕ) (within : k < vec_len list.blocks) where
+  in_parts : k < length (parts_of list.blocks.items)
+  in_parts = omega (arith, within, list.blocks.ok.0, length-parts list.blocks.items)
+
+  -- a block that begins before the end of the list has some items
+  pub block_has : get_or list.starts.items k 0 < length (items_of list)
+      → 0 < size_at (parts_of list.blocks.items) k
+  block_has sooner = some_there SIZE (parts_of list.blocks.items) list.spread k
+      (omega (arith, sooner, list.begun.counts k in_parts))
+
+  pub first_begins : k ≡ 0 → get_or list.starts.items k 0 ≡ 0
+  first_begins first = list.begun.counts k in_parts
+      ∙ ap (λ n. length (joined (take n (parts_of list.blocks.items)))) first
+
+  -- a block ends where the next begins, or where the list ends
+  pub next_begins : k + 1 < vec_len list.blocks → get_or list.starts.items k 0
+      + size_at (parts_of list.blocks.items) k ≡ get_or list.starts.items (k + 1) 0
+  next_begins more =
+      let next : k + 1 < length (parts_of list.blocks.items) =
+      omega (arith, more, list.blocks.ok.0, length-parts list.blocks.items) in
+      omega (
+        arith,
+        list.begun.counts k in_parts,
+        list.begun.counts (k + 1) next,
+        counted_more (parts_of list.blocks.items) k in_parts,
+      )
+
+  pub last_ends : k + 1 ≡ vec_len list.blocks → get_or list.starts.items k 0
+      + size_at (parts_of list.blocks.items) k ≡ length (items_of list)
+  last_ends last =
+      let end : k + 1 ≡ length (parts_of list.blocks.items) =
+      omega (arith, last, list.blocks.ok.0, length-parts list.blocks.items) in
+      omega (
+        arith,
+        list.begun.counts k in_parts,
+        counted_last (parts_of list.blocks.items) k end,
+      )
+
+  pub block_ends : get_or list.starts.items k 0 + size_at (parts_of list.blocks.items) k
+      ≤ length (items_of list)
+  block_ends = omega (
+    arith,
+    list.begun.counts k in_parts,
+    counted_more (parts_of list.blocks.items) k in_parts,
+    counted_le (parts_of list.blocks.items) (k + 1),
+  )

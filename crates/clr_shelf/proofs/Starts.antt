@@ -1,8 +1,8 @@
 -- How many items stand before each part, and in which part a place is.
 use Rattle.std.proofs.Common.{◌≡◌, ℕ, zero, suc, ◌+◌, ◌-◌, ◌*◌, ◌/◌, ◌<◌, ◌≤◌, List, [], ◌∷◌, ◌++◌}
-use Rattle.std.proofs.Common.{length, get_or, set, take, refl, ◌∙◌, subst, arith}
+use Rattle.std.proofs.Common.{length, get_or, set, take, refl, sym, ap, ◌∙◌, subst, arith}
 use Rattle.std.proofs.Common.{inl, inr, get_or-set_same, get_or-set_other, below_more}
-use Rattle.std.proofs.lemmas.List.{length-append, length-set}
+use Rattle.std.proofs.lemmas.List.{length-append, length-set, take_all}
 use Rattle.std.proofs.lemmas.Bool.{cases_lt}
 use Rattle.clr_shelf.specs.Blocks.{joined, size_at, IsSpread, HasStarts}
 
@@ -49,6 +49,46 @@ module _ {X : Type 0} where
         length-append part (joined rest),
         counted_le rest k,
       )
+
+  rest_spread : (size : ℕ) (part : List X) (rest : List (List X))
+      → IsSpread size (size_at (part ∷ rest)) → IsSpread size (size_at rest)
+  rest_spread size part rest spread = record {
+    fits = λ j. spread.fits (suc j);
+    filled = λ j. let next : suc j + 1 ≡ suc (j + 1) = omega arith in
+        subst (λ n. 0 < size_at (part ∷ rest) n
+        → size < size_at (part ∷ rest) (suc j) + size_at (part ∷ rest) n) next
+        (spread.filled (suc j));
+  }
+
+  -- a part has some where fewer stand before it than there are
+  pub some_there : (size : ℕ) (parts : List (List X)) → IsSpread size (size_at parts) → (k : ℕ)
+      → length (joined (take k parts)) < length (joined parts) → 0 < size_at parts k
+  some_there size [] spread zero more = absurd (omega arith)
+  some_there size [] spread (suc k) more = absurd (omega arith)
+  some_there size (part ∷ rest) spread zero more = elim (cases_lt 0 (length part)) [
+    | inl some ↦ some
+    | inr none ↦
+        let next : 0 < size_at rest 0 =
+        some_there size rest (rest_spread size part rest spread) zero
+        (omega (arith, more, none, length-append part (joined rest))) in
+        absurd (omega (arith, none, spread.filled 0 next, spread.fits 1))
+  ]
+  some_there size (part ∷ rest) spread (suc k) more =
+      some_there size rest (rest_spread size part rest spread) k (omega (
+        arith,
+        more,
+        length-append part (joined (take k rest)),
+        length-append part (joined rest),
+      ))
+
+  -- the items up to the end of a part are those before the next one, or all
+  pub counted_last : (parts : List (List X)) (k : ℕ) → k + 1 ≡ length parts
+      → length (joined (take k parts)) + size_at parts k ≡ length (joined parts)
+  counted_last parts k last =
+      sym (counted_more parts k (omega arith))
+      ∙ ap (λ n. length (joined (take n parts))) last
+      ∙ ap (λ (xs : List (List X)). length (joined xs))
+      (take_all (length parts) parts (omega arith))
 
   -- parts of the same sizes have the same starts
   same_counts : (parts others : List (List X)) → ((k : ℕ) → size_at parts k ≡ size_at others k)

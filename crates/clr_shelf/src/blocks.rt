@@ -141,6 +141,17 @@ impl<T: Drop> Blocks<T> {
         ensures { result.now ≡ slice_index_or (items_of self.now) place result.now }
     {
         let k = self.block_of(place);
+        self.at_in(k, place)
+    }
+
+    // The item at a place that stands in a block.
+    fn at_in(&self, k: usize, place: usize) -> &T
+        requires in_range { k < vec_len self.now.blocks }
+        requires from { slice_index self.now.starts.items k ≤ place }
+        requires to { place < slice_index self.now.starts.items k
+            + size_at (parts_of self.now.blocks.items) k }
+        ensures { result.now ≡ slice_index_or (items_of self.now) place result.now }
+    {
         self.blocks[k].at(place - self.starts[k])
     }
 
@@ -153,11 +164,27 @@ impl<T: Drop> Blocks<T> {
         ensures after { (d : T) → result < length (items_of self.now)
             → FnReturnsAt F.Fn passes (slice_index_or (items_of self.now) result d) false }
     {
-        let mut low = 0;
-        let mut high = self.len();
+        if self.total == 0 {
+            return 0;
+        }
+        // The last block whose first item passes, or the first block.
+        let mut block = 0;
+        let mut behind = self.blocks.len();
+        while block + 1 < behind {
+            let k = block + (behind - block) / 2;
+            let start = self.starts[k];
+            if start < self.total && passes(self.at_in(k, start)) {
+                block = k;
+            } else {
+                behind = k;
+            }
+        }
+        let begin = self.starts[block];
+        let mut low = if block == 0 { 0 } else { begin + 1 };
+        let mut high = begin + self.blocks[block].len();
         while low < high {
             let middle = low + (high - low) / 2;
-            if passes(self.at(middle)) {
+            if passes(self.at_in(block, middle)) {
                 low = middle + 1;
             } else {
                 high = middle;
