@@ -11,3 +11,8 @@ pub mod Places
 pub mod Reading
 pub mod SameRows
 mod SortedPlaces
+pub mod Spread
+pub mod Parts
+pub mod Starts
+pub mod Listed
+pub mod Halves

@@ -1,6 +1,9 @@
 //! Shelves of rows: finite maps from a key to its row.
 #![tactic(auto)]
 
+mod balance;
+mod block;
+mod blocks;
 mod grouped_shelf;
 mod list_shelf;
 mod row;

@@ -1,29 +1,30 @@
 //! A shelf over a list of rows by group and then key.
-ghost use Rattle.std.specs.Prelude.{◌≡◌, ◌-◌, ◌≤◌, true, false, length, map, filter, IsTrue, IfOk};
-ghost use Rattle.std.specs.Prelude.{IfErr, vec_len, vec_capacity};
+ghost use Rattle.std.specs.Prelude.{◌≡◌, ◌≤◌, true, false, length, map, filter, IsTrue, IfOk};
+ghost use Rattle.std.specs.Prelude.{IfErr};
 ghost use Rattle.std.specs.List.Sorted.{IsPartitionPoint};
 ghost use Rattle.std.specs.Ordering.{is_lt, is_le};
 ghost use Rattle.clr_shelf.specs.ByKey.{rows_by_key, IsPermutation-rows_by_key};
+ghost use Rattle.clr_shelf.specs.Items.{items_of, room_of};
 ghost use Rattle.clr_shelf.specs.Places.{IsPlaceOf, IsGapFor, place_cmp};
 ghost use Rattle.clr_shelf.specs.Rows.{in_key_order};
 
+use crate::blocks::Blocks;
 use crate::grouped_shelf::GroupedShelf;
 use crate::row::Row;
 use crate::shelf::Shelf;
 use std::alloc::{AllocError, Global};
-use std::mem;
 use std::ops::Range;
 
-/// Rows in a `Vec`, by group and then key. A key and a group are looked up by halves.
+/// Rows in blocks, by group and then key. A key, a group and a place are looked up by halves.
 ///
-/// A put and a take move the rows that stand after the place.
+/// A put and a take move the rows of one block, or of two neighbours, and no others.
 #[derive(Drop)]
 pub struct SortedShelf<R: Row> {
-    list: Vec<R>,
+    list: Blocks<R>,
     ghost in_place: { IsTrue (in_key_order
-        (place_cmp R.key_cmp R.group_of R.group_cmp) R.key_of list.items) },
+        (place_cmp R.key_cmp R.group_of R.group_cmp) R.key_of (items_of list)) },
     ghost in_order: { IsTrue (in_key_order
-        R.key_cmp R.key_of (rows_by_key R.key_cmp R.key_of list.items)) },
+        R.key_cmp R.key_of (rows_by_key R.key_cmp R.key_of (items_of list))) },
 }
 
 impl<R: Row> SortedShelf<R> {
@@ -31,23 +32,34 @@ impl<R: Row> SortedShelf<R> {
     fn place_of(&self, key: &R::Key) -> Result<usize, usize>
         ensures found { IfOk result
             (IsPlaceOf (place_cmp R.key_cmp R.group_of R.group_cmp) R.key_of key.now
-            self.now.list.items) }
+            (items_of self.now.list)) }
         ensures absent { IfErr result
             (IsGapFor (place_cmp R.key_cmp R.group_of R.group_cmp) R.key_of key.now
-            self.now.list.items) }
+            (items_of self.now.list)) }
     {
         let group = R::group_of(key);
-        self.list
-            .binary_search_by(|row| row.compare_group(&group).then(row.compare_key(key)))
+        let place = self.list.partition_point(|row| row
+            .compare_group(&group)
+            .then(row.compare_key(key))
+            .is_lt());
+        if place == self.list.len() {
+            return Err(place);
+        }
+        let row = self.list.at(place);
+        if row.compare_group(&group).then(row.compare_key(key)).is_eq() {
+            Ok(place)
+        } else {
+            Err(place)
+        }
     }
 
     // Where the rows of a group begin, or would.
     fn start_of(&self, group: &R::Group) -> usize
-        ensures in_range { result ≤ vec_len self.now.list }
+        ensures in_range { result ≤ length (items_of self.now.list) }
         ensures parts { IsPartitionPoint
             (λ row. is_lt (R.group_cmp (R.group_of (R.key_of row)) group.now)
             ≡ true) (λ row. is_lt (R.group_cmp (R.group_of (R.key_of row)) group.now)
-            ≡ false) self.now.list.items result }
+            ≡ false) (items_of self.now.list) result }
     {
         self.list
             .partition_point(|row| row.compare_group(group).is_lt())
@@ -55,11 +67,11 @@ impl<R: Row> SortedShelf<R> {
 
     // Where the rows of a group end, or would.
     fn end_of(&self, group: &R::Group) -> usize
-        ensures in_range { result ≤ vec_len self.now.list }
+        ensures in_range { result ≤ length (items_of self.now.list) }
         ensures parts { IsPartitionPoint
             (λ row. is_le (R.group_cmp (R.group_of (R.key_of row)) group.now)
             ≡ true) (λ row. is_le (R.group_cmp (R.group_of (R.key_of row)) group.now)
-            ≡ false) self.now.list.items result }
+            ≡ false) (items_of self.now.list) result }
     {
         self.list
             .partition_point(|row| row.compare_group(group).is_le())
@@ -67,15 +79,15 @@ impl<R: Row> SortedShelf<R> {
 }
 
 impl<R: Row> Shelf<R> for SortedShelf<R> {
-    ghost rows = { λ shelf. rows_by_key R.key_cmp R.key_of shelf.list.items };
+    ghost rows = { λ shelf. rows_by_key R.key_cmp R.key_of (items_of shelf.list) };
 
-    ghost places = { λ shelf. shelf.list.items };
+    ghost places = { λ shelf. items_of shelf.list };
 
-    ghost room = { λ shelf. vec_capacity shelf.list - vec_len shelf.list };
+    ghost room = { λ shelf. room_of shelf.list };
 
     fn empty(alloc: Global) -> Self {
         SortedShelf {
-            list: Vec::new(alloc),
+            list: Blocks::new(alloc),
         }
     }
 
@@ -85,25 +97,27 @@ impl<R: Row> Shelf<R> for SortedShelf<R> {
 
     fn get(&self, key: &R::Key) -> Option<&R> {
         match self.place_of(key) {
-            Ok(place) => Some(&self.list[place]),
+            Ok(place) => Some(self.list.at(place)),
             Err(_) => None,
         }
     }
 
     fn at(&self, place: usize) -> &R {
-        &self.list[place]
+        self.list.at(place)
     }
 
     fn group(&self, group: &R::Group) -> Result<Vec<&R>, AllocError> {
         let run = self.places_of(group);
-        self.list[run.start..run.end]
-            .iter()
-            .collect(*self.list.allocator())
+        self.list.between(run.start, run.end)
     }
 
     fn last(&self, group: &R::Group) -> Option<&R> {
         let run = self.places_of(group);
-        self.list[run.start..run.end].last()
+        if run.start < run.end {
+            Some(self.list.at(run.end - 1))
+        } else {
+            None
+        }
     }
 
     fn reserve(&mut self, n: usize) -> Result<(), AllocError> {
@@ -112,18 +126,16 @@ impl<R: Row> Shelf<R> for SortedShelf<R> {
 
     fn put(&mut self, row: R) {
         match self.place_of(&row.key()) {
-            Ok(place) => self.list[place] = row,
-            Err(place) => {
-                let Ok(()) = self.list.insert(place, row) else {
-                    unreachable!()
-                };
+            Ok(place) => {
+                let _old = self.list.replace(place, row);
             }
+            Err(place) => self.list.insert(place, row),
         }
     }
 
     fn replace(&mut self, row: R) -> Option<R> {
         match self.place_of(&row.key()) {
-            Ok(place) => Some(mem::replace(&mut self.list[place], row)),
+            Ok(place) => Some(self.list.replace(place, row)),
             Err(_) => None,
         }
     }
@@ -137,7 +149,8 @@ impl<R: Row> Shelf<R> for SortedShelf<R> {
 
     ghost in_order = { λ shelf. shelf.in_order };
 
-    ghost each_once = { λ shelf. IsPermutation-rows_by_key R.key_cmp R.key_of shelf.list.items };
+    ghost each_once = { λ shelf.
+        IsPermutation-rows_by_key R.key_cmp R.key_of (items_of shelf.list) };
 }
 
 impl<R: Row> GroupedShelf<R> for SortedShelf<R> {

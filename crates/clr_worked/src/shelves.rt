@@ -1,5 +1,5 @@
 //! Shelves of berths: a berth is told by its pier and number, and its group is its number.
-ghost use Rattle.std.specs.Prelude.{ℕ, ◌==◌, refl};
+ghost use Rattle.std.specs.Prelude.{ℕ, ◌==◌, ◌<◌, refl};
 ghost use Rattle.std.specs.Ordering.{is_eq, nat_cmp, ordering_then};
 ghost use Rattle.std.specs.Cmp.Lexicographic.{slice_cmp};
 ghost use Rattle.std.proofs.lemmas.Cmp.{then_total, on_total, nat_list_cmp_total, nat_cmp_total};
@@ -187,7 +187,7 @@ fn room_serves_as_many_rows_and_a_take_gives_one_back(rt: HostRuntime) -> Result
     given_back::<SortedShelf<Berth>, HostRuntime>(&rt, rt.alloc())
 }
 
-// With the second allocation refused it shows that a refusal leaves all rows.
+// With the first allocation of the second `reserve` refused it shows that a refusal leaves all rows.
 #[test]
 fn refused_room_leaves_the_rows(rt: HostRuntime) {
     let kept = berth_at(*b"NN", 1, 1, 10);
@@ -200,4 +200,42 @@ fn refused_room_leaves_the_rows(rt: HostRuntime) {
         );
         assert_eq!(rt; shelf.len(), 1, "reserved: {reserved}");
     }
+}
+
+const MANY: u32 = 2000;
+
+// Gives each number below `MANY` once, and neighbours far apart.
+fn scattered(i: u32) -> u16
+    requires { i < 2000 }
+{
+    (i * 777 % MANY) as u16
+}
+
+// They are more than one block holds, so blocks are filled, split and joined on the way.
+#[test]
+fn many_rows_stand_in_order(rt: HostRuntime) -> Result<(), Fail> {
+    let mut shelf: SortedShelf<Berth> = Shelf::empty(rt.alloc());
+    for i in 0..MANY {
+        shelf.reserve(1)?;
+        shelf.put(berth_at(*b"NN", scattered(i), 1, 10));
+    }
+    assert_eq!(rt; shelf.len(), 2000);
+    for place in 0..shelf.len() {
+        assert_eq!(rt; usize::from(shelf.at(place).key.number), place);
+    }
+
+    // Every eighth stays.
+    for i in 0..MANY {
+        let number = scattered(i);
+        if number % 8 != 0 {
+            let pier = *b"NN";
+            assert!(rt; shelf.take(&BerthKey { pier, number }).is_some());
+        }
+    }
+    assert_eq!(rt; shelf.len(), 250);
+    for place in 0..shelf.len() {
+        assert_eq!(rt; usize::from(shelf.at(place).key.number / 8), place);
+        assert_eq!(rt; shelf.at(place).key.number % 8, 0);
+    }
+    Ok(())
 }
