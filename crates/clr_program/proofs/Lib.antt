@@ -6,6 +6,7 @@ pub mod Found
 pub mod OfNoReader
 pub mod PointsNamed
 pub mod PrintedLines
+pub mod ReadFiles
 pub mod ReplyLines
 pub mod RunAnswers
 pub mod Told

@@ -1,4 +1,6 @@
+use Rattle.clr_program.proofs.ReadFiles.{WaitsFor-read}
 use Rattle.clr_program.proofs.RunAnswers.{RunsFiles-fault, RunsFiles-over, passed_cause}
+use Rattle.clr_program.specs.declared.fault.ImportFile.TheVariants.{Sections, Points, Staff}
 use Rattle.std.proofs.Common.{Ok}
 use Rattle.clr_program.proofs.run.run_of_files.Goals as goal
 
@@ -14,3 +16,22 @@ returns-in_err-printed-clause-answer g c = RunsFiles-fault _ _ _ _ _ _ _ _ _ _ c
 
 pub returns-in_err-printed-clause-input_cause : goal.returns-in_err-printed-clause-input_cause
 returns-in_err-printed-clause-input_cause g c = passed_cause _ _ _ _ c.in_err-printed.ensures.cause c.from_residual-in_err-printed.ensures.1
+
+-- all three files were read
+pub returns-clause-points_wait : goal.returns-clause-points_wait
+returns-clause-points_wait g c = WaitsFor-read Sections Points _ _ _ _ _ _ c.in_ok-sections.ensures.rows
+
+pub returns-clause-staff_waits : goal.returns-clause-staff_waits
+returns-clause-staff_waits g c = WaitsFor-read Sections Staff _ _ _ _ _ _ c.in_ok-sections.ensures.rows
+
+pub returns-clause-staff_waits_too : goal.returns-clause-staff_waits_too
+returns-clause-staff_waits_too g c = WaitsFor-read Points Staff _ _ _ _ _ _ c.in_ok-points.ensures.rows
+
+pub returns-in_err-printed-clause-points_wait : goal.returns-in_err-printed-clause-points_wait
+returns-in_err-printed-clause-points_wait g c = WaitsFor-read Sections Points _ _ _ _ _ _ c.in_ok-sections.ensures.rows
+
+pub returns-in_err-printed-clause-staff_waits : goal.returns-in_err-printed-clause-staff_waits
+returns-in_err-printed-clause-staff_waits g c = WaitsFor-read Sections Staff _ _ _ _ _ _ c.in_ok-sections.ensures.rows
+
+pub returns-in_err-printed-clause-staff_waits_too : goal.returns-in_err-printed-clause-staff_waits_too
+returns-in_err-printed-clause-staff_waits_too g c = WaitsFor-read Points Staff _ _ _ _ _ _ c.in_ok-points.ensures.rows
