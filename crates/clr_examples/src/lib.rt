@@ -1,5 +1,5 @@
-//! Worked examples of a register, its store and its service, each named after its title in
-//! docs/EXAMPLES.md. There are only tests here.
+//! Worked examples of a register, its store and its service (docs/EXAMPLES.md). There are only tests
+//! here.
 #![tactic(auto)]
 
 #[cfg(test)]

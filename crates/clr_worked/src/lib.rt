@@ -1,5 +1,5 @@
 //! The worked network, its staff and chains, for the tests of all crates; and the tests of names,
-//! files, networks, orders and shelves, each named after its title in docs/EXAMPLES.md.
+//! files, networks, orders and shelves (docs/EXAMPLES.md).
 #![tactic(auto)]
 
 #[cfg(test)]
