@@ -9,8 +9,8 @@ use Rattle.clr_rules.specs.Run.{after}
 use Rattle.clr_rules.specs.declared.command.Command.{Command}
 use Rattle.clr_rules.specs.declared.reply.Reply.{Reply}
 use Rattle.clr_rules.proofs.keeps.EveryKind.{commands_keep_good}
-use Rattle.clr_store.specs.Contract.{IsSaved}
-use Rattle.clr_store.specs.Stored.{HasTables}
+use Rattle.clr_reading.specs.Contract.{IsSaved}
+use Rattle.clr_reading.specs.Stored.{HasTables}
 use Rattle.clr_tables.specs.Tables.{tables_of}
 use Rattle.clr_desk.specs.Answering.{has_accepted}
 use Rattle.clr_desk.specs.Kept.{Keeps}

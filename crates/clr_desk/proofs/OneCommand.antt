@@ -14,7 +14,7 @@ use Rattle.clr_rules.specs.declared.command.Command.{Command}
 use Rattle.clr_rules.specs.declared.reply.Reply.{Reply}
 use Rattle.clr_rules.proofs.near.NewAnswers.{near_is_enough}
 use Rattle.clr_store.specs.Contract.{AreEdited}
-use Rattle.clr_store.specs.Stored.{AreTables, HasTables}
+use Rattle.clr_reading.specs.Stored.{AreTables, HasTables}
 use Rattle.clr_tables.specs.TableEdits.{tables_edited}
 use Rattle.clr_tables.specs.Tables.{tables_of}
 use Rattle.clr_tables.proofs.TableChanges.{tables_follow_edits}
@@ -22,9 +22,9 @@ use Rattle.clr_desk.specs.Answering.{near_after, near_answer}
 use Rattle.clr_desk.specs.Crash.{AreAfter}
 use Rattle.clr_desk.specs.Faults.{IsOfCommand, of_store}
 use Rattle.clr_desk.specs.declared.desk_fault.DeskFault.{DeskFault}
-use Rattle.clr_store.specs.Fault.{IsOfDatabase}
-use Rattle.clr_store.specs.declared.fault.StoreFault.{StoreFault}
-use Rattle.clr_store.specs.declared.fault.StoreFault.TheVariants.{Sql, WrongVersion, BadRow, NoMemory}
+use Rattle.clr_reading.specs.Fault.{IsOfDatabase}
+use Rattle.clr_reading.specs.declared.fault.StoreFault.{StoreFault}
+use Rattle.clr_reading.specs.declared.fault.StoreFault.TheVariants.{Sql, WrongVersion, BadRow, NoMemory}
 
 -- ---- a command that is not accepted
 

@@ -3,10 +3,10 @@ use Rattle.std.proofs.Common.{◌≡◌, ◌∙◌, ◌⊎◌, Option, None, Som
 use Rattle.clr_book.specs.Book.{Shelved}
 use Rattle.clr_rules.specs.Good.{IsGood}
 use Rattle.clr_rules.specs.Register.{Register}
-use Rattle.clr_store.specs.Contract.{GivesRows}
-use Rattle.clr_store.specs.Fault.{IsOfDatabase}
-use Rattle.clr_store.specs.declared.fault.StoreFault.{StoreFault}
-use Rattle.clr_store.specs.declared.fault.StoreFault.TheVariants.{Sql, WrongVersion, BadRow, NoMemory}
+use Rattle.clr_reading.specs.Contract.{GivesRows}
+use Rattle.clr_reading.specs.Fault.{IsOfDatabase}
+use Rattle.clr_reading.specs.declared.fault.StoreFault.{StoreFault}
+use Rattle.clr_reading.specs.declared.fault.StoreFault.TheVariants.{Sql, WrongVersion, BadRow, NoMemory}
 use Rattle.clr_tables.specs.RowsRead.{Rows, rows_of, rows_read}
 use Rattle.clr_tables.specs.Tables.{tables_of}
 use Rattle.clr_tables.specs.TypedRows.{IsTyped}

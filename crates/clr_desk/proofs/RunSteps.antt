@@ -15,8 +15,8 @@ use Rattle.clr_rules.specs.declared.reply.Reply.{Reply}
 use Rattle.clr_rules.proofs.edits.Runs.{runs_go_on}
 use Rattle.clr_rules.proofs.isolation.RunReplies.{others_change_no_reply, own_stand_alone}
 use Rattle.clr_rules.proofs.keeps.EveryKind.{reached_are_good}
-use Rattle.clr_store.specs.Contract.{IsSaved}
-use Rattle.clr_store.specs.Stored.{AreTables, HasTables}
+use Rattle.clr_reading.specs.Contract.{IsSaved}
+use Rattle.clr_reading.specs.Stored.{AreTables, HasTables}
 use Rattle.clr_tables.specs.Tables.{tables_of}
 use Rattle.clr_desk.specs.Answering.{has_accepted, replies_of}
 use Rattle.clr_desk.specs.Crash.{AreAfterSome}

@@ -7,8 +7,8 @@ use Rattle.clr_rules.specs.Good.{IsGood}
 use Rattle.clr_rules.specs.Register.{Register}
 use Rattle.clr_rules.specs.Run.{after, after_all}
 use Rattle.clr_rules.specs.declared.command.Command.{Command}
-use Rattle.clr_store.specs.Contract.{IsSaved}
-use Rattle.clr_store.specs.Stored.{AreTables, HasTables}
+use Rattle.clr_reading.specs.Contract.{IsSaved}
+use Rattle.clr_reading.specs.Stored.{AreTables, HasTables}
 use Rattle.clr_tables.specs.Tables.{tables_of}
 
 -- where a database had the tables of a good register, these trees have the tables after a command

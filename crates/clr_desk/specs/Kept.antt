@@ -4,8 +4,8 @@ use Rattle.std.specs.Prelude.{IsTrue}
 use Rattle.sqlite.specs.State.{HasCleanDisk, State}
 use Rattle.clr_rules.specs.Good.{IsGood}
 use Rattle.clr_rules.specs.Register.{Register}
-use Rattle.clr_store.specs.Contract.{IsSaved}
-use Rattle.clr_store.specs.Stored.{HasTables}
+use Rattle.clr_reading.specs.Contract.{IsSaved}
+use Rattle.clr_reading.specs.Stored.{HasTables}
 use Rattle.clr_tables.specs.Tables.{tables_of}
 
 -- a good register stays good, and where the disk is clean and the connection open, they were

@@ -19,9 +19,9 @@ use Rattle.clr_tables.specs.RowsRead.{Rows, rows_of}
 use Rattle.clr_tables.specs.declared.table_name.TableName.{TableName}
 use Rattle.clr_tables.specs.declared.table_name.TableName.TheVariants as table
 use Rattle.clr_desk.specs.Filling.{filling}
-use Rattle.clr_store.specs.declared.fault.StoreFault.{StoreFault}
-use Rattle.clr_store.specs.declared.fault.StoreFault.TheVariants.{Sql, WrongVersion, BadRow}
-use Rattle.clr_store.specs.declared.fault.StoreFault.TheVariants.{NoMemory}
+use Rattle.clr_reading.specs.declared.fault.StoreFault.{StoreFault}
+use Rattle.clr_reading.specs.declared.fault.StoreFault.TheVariants.{Sql, WrongVersion, BadRow}
+use Rattle.clr_reading.specs.declared.fault.StoreFault.TheVariants.{NoMemory}
 
 -- THE REGISTER OF ROWS: their network and staff are opened, and filled with the other rows
 pub record IsRegisterOf (rows : Rows) (R : Register) : Type 0 where

@@ -7,8 +7,8 @@ use Rattle.clr_desk.specs.declared.desk_fault.DeskFault.{DeskFault}
 use Rattle.clr_desk.specs.declared.desk_fault.DeskFault.TheVariants as desk
 use Rattle.clr_rules.specs.Register.{Register}
 use Rattle.clr_store.specs.Contract.{RefusesVersion}
-use Rattle.clr_store.specs.declared.fault.StoreFault.{StoreFault}
-use Rattle.clr_store.specs.declared.fault.StoreFault.TheVariants as store
+use Rattle.clr_reading.specs.declared.fault.StoreFault.{StoreFault}
+use Rattle.clr_reading.specs.declared.fault.StoreFault.TheVariants as store
 use Rattle.clr_tables.specs.RowsRead.{read_version}
 use Rattle.clr_tables.specs.Tables.{tables_of}
 use Rattle.clr_program.specs.Answers.{Gives}

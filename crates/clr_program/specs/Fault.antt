@@ -11,8 +11,8 @@ use Rattle.clr_csv.specs.declared.fault.CsvFault.TheVariants as csv
 use Rattle.clr_csv.specs.declared.staff_fault.StaffFault.{StaffFault}
 use Rattle.clr_csv.specs.declared.staff_fault.StaffFault.TheVariants as staff
 use Rattle.clr_tables.specs.TableText.{table_text}
-use Rattle.clr_store.specs.declared.fault.StoreFault.{StoreFault}
-use Rattle.clr_store.specs.declared.fault.StoreFault.TheVariants as store
+use Rattle.clr_reading.specs.declared.fault.StoreFault.{StoreFault}
+use Rattle.clr_reading.specs.declared.fault.StoreFault.TheVariants as store
 use Rattle.clr_desk.specs.declared.desk_fault.DeskFault.{DeskFault}
 use Rattle.clr_desk.specs.declared.desk_fault.DeskFault.TheVariants as desk
 use Rattle.clr_program.specs.declared.fault.ImportFile.{ImportFile}

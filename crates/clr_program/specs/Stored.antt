@@ -7,8 +7,8 @@ use Rattle.sqlite_trees.specs.declared.store.Store.{Ghosts}
 use Rattle.clap.specs.Words.{Row, first_of}
 use Rattle.clr_rules.specs.Good.{IsGood}
 use Rattle.clr_rules.specs.Register.{Register}
-use Rattle.clr_store.specs.Stored.{HasTables}
-use Rattle.clr_store.specs.declared.fault.StoreFault.TheVariants.{Sql}
+use Rattle.clr_reading.specs.Stored.{HasTables}
+use Rattle.clr_reading.specs.declared.fault.StoreFault.TheVariants.{Sql}
 use Rattle.clr_tables.specs.Tables.{tables_of}
 use Rattle.clr_tables.specs.TypedRows.{IsTyped}
 use Rattle.clr_text.specs.Printed.{board_text}

@@ -36,13 +36,15 @@ use Rattle.clr_tables.specs.Tables.{Tables, point_row, section_row, staff_row, s
 use Rattle.clr_tables.specs.declared.table_name.TableName.{TableName}
 use Rattle.clr_tables.specs.declared.table_name.TableName.TheVariants.{Meta, Section, Point, Staff, Clearance, Step, Hold}
 use Rattle.clr_store.specs.Change.{Changes, HasEmpty, Makes, added, change_at, filled, opening_points, with_rows}
-use Rattle.clr_store.specs.Schema.{all_names, columns_in, names_before, no_schema, schema_of, table_of, tree_of}
-use Rattle.clr_store.specs.Sql.{create_sql}
-use Rattle.clr_store.specs.Stored.{HasAllRows, HasRows, HasTables, Holds, IsInOrder, rows_in}
-use Rattle.clr_store.specs.declared.fault.StoreFault.{StoreFault}
-use Rattle.clr_store.proofs.Effects.{same_value, went}
-use Rattle.clr_store.proofs.Inside.{in_any_order, then_kept}
-use Rattle.clr_store.proofs.Texts.{create_is, create_plain, create_text, created_is, defines}
+use Rattle.clr_reading.specs.Schema.{all_names, columns_in, names_before, no_schema, schema_of, table_of, tree_of}
+use Rattle.clr_reading.specs.Sql.{create_sql}
+use Rattle.clr_reading.specs.Stored.{HasAllRows, HasRows, HasTables, Holds, IsInOrder, rows_in}
+use Rattle.clr_reading.specs.declared.fault.StoreFault.{StoreFault}
+use Rattle.clr_store.proofs.Effects.{went}
+use Rattle.clr_reading.proofs.AllRead.{same_value}
+use Rattle.clr_reading.proofs.Loading.{then_kept}
+use Rattle.clr_store.proofs.Inside.{in_any_order}
+use Rattle.clr_reading.proofs.Texts.{create_is, create_plain, create_text, created_is, defines}
 
 -- ---- CREATE TABLE
 still_empty : (names : List TableName) (old new : Trees) → KeepsRows (map table_of names) old new → AllByRecursion (λ name. old (tree_of name) ≡ []) names

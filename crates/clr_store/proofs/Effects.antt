@@ -1,5 +1,5 @@
 -- What INSERT and DELETE make of the trees, whatever the table.
-use Rattle.std.proofs.Common.{◌≡◌, ◌≢◌, ◌⊎◌, inl, inr, ℕ, suc, ◌/◌, List, [], ◌∷◌, ◌++◌, map, length, Bool, true, false, cond, not, ◌&&◌, Some, None, Ok, Err, Result, slice_get, refl, sym, ap, subst, ◌∙◌, append-nil}
+use Rattle.std.proofs.Common.{◌≡◌, ◌≢◌, ◌⊎◌, inl, inr, ℕ, suc, ◌/◌, List, [], ◌∷◌, ◌++◌, map, length, Bool, true, false, cond, not, ◌&&◌, Some, None, Ok, Err, slice_get, refl, sym, ap, subst, ◌∙◌, append-nil}
 use Rattle.std.specs.Prelude.{filter}
 use Rattle.std.specs.List.{AllByRecursion, list_all, flat_map}
 use Rattle.std.specs.List.Sorted.{IsPermutation}
@@ -28,20 +28,19 @@ use Rattle.sqlite_trees.specs.View.{IsShaped}
 use Rattle.sqlite_trees.specs.declared.store.Shape.TheVariants as Shape
 use Rattle.clr_tables.specs.declared.table_name.TableName.{TableName}
 use Rattle.clr_tables.specs.declared.table_name.TableName.TheVariants.{Meta, Section, Point, Staff, Clearance, Step, Hold}
-use Rattle.clr_store.specs.Schema.{place_of, tree_of, columns_in, table_of, register_schema}
-use Rattle.clr_store.specs.Sql.{insert_sql, delete_sql}
-use Rattle.clr_store.specs.Stored.{fits_columns}
-use Rattle.clr_store.proofs.Columns.{cast_fits, cast_number, fits_length, values_all, values_from}
+use Rattle.clr_reading.specs.Schema.{place_of, tree_of, columns_in, table_of, register_schema}
+use Rattle.clr_reading.specs.Sql.{insert_sql, delete_sql}
+use Rattle.clr_reading.specs.Stored.{fits_columns}
+use Rattle.clr_reading.proofs.Columns.{cast_fits, cast_number, fits_length, values_all, values_from}
 use Rattle.clr_store.proofs.RowLemmas.{removed}
-use Rattle.clr_store.proofs.Texts.{insert_is, insert_plain, insert_terms, delete_is, delete_plain, matching, query_of, width_of}
+use Rattle.clr_reading.proofs.AllRead.{same_value}
+use Rattle.clr_reading.proofs.Loading.{laid}
+use Rattle.clr_reading.proofs.Texts.{columns_width, insert_is, insert_plain, insert_terms, delete_is, delete_plain, matching, query_of, width_of}
 
 -- a part that gave a value did not stop on the way
 pub went : {B E R : Type 0} {b : B} {Stops : E → Type 0} → ((stop : E) × Stops stop × (Ok b ≡ Err stop)) ⊎ R → R
 went (inl stopped) = absurd (let e = stopped.2 in cc)
 went (inr on) = on
-
-pub same_value : {B E : Type 0} {a b : B} → ◌≡◌ {A = Result B E} (Ok a) (Ok b) → a ≡ b
-same_value e = cc
 
 pub at_place : (name : TableName) → slice_get register_schema.tables (place_of name) ≡ Some (table_of name)
 at_place Meta = refl
@@ -79,15 +78,6 @@ pub record Inserted (old new : State) (name : TableName) (row : Row) : Type 0 wh
   pub rows : new.now.trees (tree_of name) ≡ put_row (next_row name old.now.trees row) (old.now.trees (tree_of name))
   pub fresh : is_taken (old.now.trees (tree_of name)) (next_row name old.now.trees row) ≡ false
   pub others : (other : TableName) → tree_of other ≢ tree_of name → new.now.trees (tree_of other) ≡ old.now.trees (tree_of other)
-
-pub columns_width : (name : TableName) → length (columns_in name) ≡ width_of name
-columns_width Meta = refl
-columns_width Section = refl
-columns_width Point = refl
-columns_width Staff = refl
-columns_width Clearance = refl
-columns_width Step = refl
-columns_width Hold = refl
 
 value_row : (name : TableName) (row : Row) → value_rows row (suc (width_of name)) (length (insert_terms name) / suc (width_of name)) (insert_terms name) ≡ (Null ∷ values_from 0 (width_of name) row) ∷ []
 value_row Meta row = refl
@@ -156,16 +146,6 @@ shown_of q envs kept ordered rows is same shown =
 -- whether a row of a tree is met by the tests of its key
 abbrev pub is_met : List Term → Row → Row → Bool
 is_met tests params r = list_all (holds (params ∷ r ∷ [])) tests
-
--- a table that is no part of a query is read as it is
-pub laid : (name : TableName) (db : Trees) → overlay db [] (tree_of name) ≡ db (tree_of name)
-laid Meta db = refl
-laid Section db = refl
-laid Point db = refl
-laid Staff db = refl
-laid Clearance db = refl
-laid Step db = refl
-laid Hold db = refl
 
 -- what a query without an order shows of the rows of one tree that it meets
 pub shown_rows : (tree : ℕ) (tests shown : List Term) (db : Trees) (params : Row) (rows : List Row) → overlay db [] tree ≡ db tree

@@ -37,11 +37,12 @@ use Rattle.clr_tables.specs.declared.table_name.TableName.{TableName}
 use Rattle.clr_tables.specs.declared.table_name.TableName.TheVariants.{Meta, Section, Point, Staff, Clearance, Step, Hold}
 use Rattle.clr_store.specs.Contract.{AreEdited}
 use Rattle.clr_store.specs.Change.{Changes, change_at, with_rows}
-use Rattle.clr_store.specs.Schema.{columns_in, keys_in, tree_of}
-use Rattle.clr_store.specs.Sql.{insert_sql, delete_sql}
-use Rattle.clr_store.specs.declared.fault.StoreFault.{StoreFault}
-use Rattle.clr_store.specs.Stored.{HasAllRows, HasRows, HasTables, Holds, IsInOrder, bodies, fits_columns, rows_in}
-use Rattle.clr_store.proofs.Columns.{sets_from, tests_are}
+use Rattle.clr_reading.specs.Schema.{columns_in, keys_in, tree_of}
+use Rattle.clr_reading.specs.Sql.{insert_sql, delete_sql}
+use Rattle.clr_reading.specs.declared.fault.StoreFault.{StoreFault}
+use Rattle.clr_reading.specs.Stored.{HasAllRows, HasRows, HasTables, Holds, IsInOrder, bodies, fits_columns, rows_in}
+use Rattle.clr_reading.proofs.Columns.{sets_from, tests_are}
+use Rattle.clr_reading.proofs.Loading.{then_kept}
 use Rattle.clr_store.proofs.RowLemmas.{put_fresh, shaped-filter}
 use Rattle.clr_store.proofs.Effects.{deletes, inserts, is_met_in}
 
@@ -191,9 +192,6 @@ removes old new name key count is set ran = record {
 }
 
 -- ---- statements in turn
-pub then_kept : (a b c : State) → KeepsCommit a b → KeepsCommit b c → KeepsCommit a c
-then_kept a b c p q = record { was_open = λ o. p.was_open (q.was_open o); committed = λ o. q.committed o ∙ p.committed (q.was_open o) }
-
 pub then_changes : (a b c : State) (f g : Tables → Tables) → Changes a b f → Changes b c g → Changes a c (λ t. g (f t))
 then_changes a b c f g p q = record { inside = q.inside; kept = then_kept a b c p.kept q.kept; tables = λ t has. q.tables (f t) (p.tables t has) }
 

@@ -1,13 +1,7 @@
-pub mod Texts
-pub mod Columns
 pub mod RowLemmas
 pub mod Effects
 pub mod Inside
 pub mod Updates
-pub mod Loading
 pub mod Given
 pub mod Creating
 pub mod Versions
-pub mod TextsRead
-pub mod AllRead
-pub mod AllGiven

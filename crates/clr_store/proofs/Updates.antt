@@ -39,14 +39,16 @@ use Rattle.clr_tables.specs.TableEdits.{changed_point, handed_row, placed_row, t
 use Rattle.clr_tables.specs.Tables.{position_value}
 use Rattle.clr_tables.specs.declared.table_name.TableName.TheVariants.{Point}
 use Rattle.clr_store.specs.Change.{Changes, with_rows}
-use Rattle.clr_store.specs.Schema.{columns_in, table_of, tree_of, register_schema}
-use Rattle.clr_store.specs.Stored.{HasRows, bodies, fits_columns, is_of_kind, rows_in}
-use Rattle.clr_store.proofs.Columns.{both_true, cast_fits, values_all, values_from, fits_length}
+use Rattle.clr_reading.specs.Schema.{columns_in, table_of, tree_of, register_schema}
+use Rattle.clr_reading.specs.Stored.{HasRows, bodies, fits_columns, is_of_kind, rows_in}
+use Rattle.clr_reading.proofs.Columns.{both_true, cast_fits, values_all, values_from, fits_length}
 use Rattle.clr_store.proofs.Inside.{all_changed, list_all-permutation, met_is}
 use Rattle.clr_store.proofs.RowLemmas.{put_fresh, removed, shaped-filter}
-use Rattle.clr_store.proofs.Effects.{ids_listed, is_met, laid, others_stay, same_value, shown_rows, went}
-use Rattle.clr_store.specs.Sql.{set_hand_sql, set_position_sql}
-use Rattle.clr_store.proofs.Texts.{changing, hand_terms, position_terms, set_hand_is, set_hand_plain, set_position_is, set_position_plain, tests_from}
+use Rattle.clr_store.proofs.Effects.{ids_listed, is_met, others_stay, shown_rows, went}
+use Rattle.clr_reading.proofs.AllRead.{same_value}
+use Rattle.clr_reading.proofs.Loading.{laid}
+use Rattle.clr_reading.specs.Sql.{set_hand_sql, set_position_sql}
+use Rattle.clr_reading.proofs.Texts.{changing, hand_terms, position_terms, set_hand_is, set_hand_plain, set_position_is, set_position_plain, tests_from}
 
 -- ---- rows put under numbers that they have
 given_numbers : (rows news : List Row) → numbered Given rows news ≡ news

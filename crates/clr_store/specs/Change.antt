@@ -13,9 +13,9 @@ use Rattle.clr_tables.specs.Tables.{Tables, point_row, section_row, staff_row, v
 use Rattle.clr_tables.specs.declared.table_name.TableName.{TableName}
 use Rattle.clr_tables.specs.declared.table_name.TableName.TheVariants.{Meta, Section, Point, Staff}
 use Rattle.clr_tables.specs.declared.table_name.TableName.TheVariants.{Clearance, Step, Hold}
-use Rattle.clr_store.specs.Schema.{schema_of, tree_of}
-use Rattle.clr_store.specs.Stored.{Holds, IsInOrder, rows_in}
-use Rattle.clr_store.specs.declared.fault.StoreFault.{StoreFault}
+use Rattle.clr_reading.specs.Schema.{schema_of, tree_of}
+use Rattle.clr_reading.specs.Stored.{Holds}
+use Rattle.clr_reading.specs.declared.fault.StoreFault.{StoreFault}
 
 -- a change of the rows of one table, as it is for another
 abbrev pub change_at : TableName → TableName → (List Row → List Row) → List Row → List Row
@@ -55,20 +55,6 @@ abbrev pub StepsTo : {X : Type 0} → State → State → (Database → Type 0) 
     → Result X StoreFault → Type 0
 StepsTo old new From To result = HasCleanDisk new → IsTrue old.in_transaction
     → MatchResult result (λ _. Makes old new From To) (λ _. KeepsCommit old new)
-
--- the connection was open, something that the tables tell is found, the tables stay, and nothing is committed
-pub record Finds {A : Type 0} (old new : State) (tells : Tables → A) (found : A) : Type 0 where
-  pub was_open : IsTrue old.is_open
-  pub inside : IsTrue new.in_transaction
-  pub kept : KeepsCommit old new
-  pub found_is : (t : Tables) → Holds old.now t → IsInOrder t → (found ≡ tells t) × Holds new.now t
-
--- a call inside a transaction finds it, or fails; it commits nothing
-abbrev pub Lists : {A X : Type 0} → State → State → (Tables → A) → (X → A) → Result X StoreFault
-    → Type 0
-Lists old new tells items result =
-    HasCleanDisk new → IsTrue old.in_transaction
-    → MatchResult result (λ listed. Finds old new tells (items listed)) (λ _. KeepsCommit old new)
 
 -- the database has these tables alone, and they are empty
 pub record HasEmpty (names : List TableName) (db : Database) : Type 0 where

@@ -1,24 +1,15 @@
 -- What the store promises.
-use Rattle.std.specs.Prelude.{◌≡◌, ◌≢◌, ℤ, pos, IsTrue, List, Result, Ok, Err, ⊤}
+use Rattle.std.specs.Prelude.{◌≡◌, ◌≢◌, ℤ, pos, List, Result, Ok, Err, ⊤}
 use Rattle.sqlite.specs.Effect.{Database}
-use Rattle.sqlite.specs.State.{State}
 use Rattle.sqlite.specs.Tree.{Trees}
 use Rattle.clr_rules.specs.declared.change.Edit.{Edit}
-use Rattle.clr_rules.specs.Register.{Register}
-use Rattle.clr_tables.specs.RowsRead.{Rows, rows_of}
 use Rattle.clr_tables.specs.TableEdits.{tables_edited}
 use Rattle.clr_tables.specs.Tables.{Tables}
 use Rattle.clr_tables.specs.declared.table_name.TableName.{TableName}
-use Rattle.clr_store.specs.Fault.{IsOfDatabase}
-use Rattle.clr_store.specs.Stored.{AreTables, HasTables}
-use Rattle.clr_store.specs.declared.fault.StoreFault.{StoreFault}
-use Rattle.clr_store.specs.declared.fault.StoreFault.TheVariants.{Sql, WrongVersion, BadRow}
-use Rattle.clr_store.specs.declared.fault.StoreFault.TheVariants.{NoMemory}
-use Rattle.clr_store.specs.declared.rows.Rows.{Rows as Loaded}
-
--- the connection is open, and what it shows is committed
-abbrev pub IsSaved : State → Type 0
-IsSaved s = IsTrue s.is_open × (s.committed ≡ s.now)
+use Rattle.clr_reading.specs.Stored.{AreTables, HasTables}
+use Rattle.clr_reading.specs.declared.fault.StoreFault.{StoreFault}
+use Rattle.clr_reading.specs.declared.fault.StoreFault.TheVariants.{Sql, WrongVersion, BadRow}
+use Rattle.clr_reading.specs.declared.fault.StoreFault.TheVariants.{NoMemory}
 
 -- the trees have the tables with these edits made
 abbrev pub AreEdited : Database → List Edit → Trees → Type 0
@@ -29,41 +20,6 @@ AreEdited before edits trees = (t : Tables) → HasTables before t
 abbrev pub MakesEdits : Database → List Edit → Database → Type 0
 MakesEdits before edits after = (t : Tables) → HasTables before t
     → HasTables after (tables_edited edits t)
-
--- a call gives what is read, as `view` shows it, or the table with the row that does not read,
--- unless the database refuses or memory runs out
-abbrev pub Gives : {A X : Type 0} → (X → A) → Result A TableName → Result X StoreFault → Type 0
-Gives view read (Ok value) = read ≡ Ok (view value)
-Gives view read (Err (BadRow table)) = read ≡ Err table
-Gives view read (Err (WrongVersion n)) = ⊥
-Gives view read (Err Sql) = ⊤
-Gives view read (Err NoMemory) = ⊤
-
--- the same, where the value shows as itself
-abbrev pub Tells : {A : Type 0} → Result A TableName → Result A StoreFault → Type 0
-Tells read result = Gives (λ value. value) read result
-
--- the rows that were loaded
-abbrev pub rows_told : Loaded → Rows
-rows_told rows = record {
-  version = rows.version;
-  sections = rows.sections.items;
-  points = rows.points.items;
-  states = rows.states.items;
-  staff = rows.staff.items;
-  records = rows.records.items;
-  steps = rows.steps.items;
-  holds = rows.holds.items;
-}
-
--- the rows that the tables read as are given, or the first table with a row that does not read
-abbrev pub GivesRows : Result Rows TableName → Result Loaded StoreFault → Type 0
-GivesRows read result = Gives rows_told read result
-
--- the rows of a register are given, unless the database refuses or memory runs out
-abbrev pub GivesBack : Register → Result Loaded StoreFault → Type 0
-GivesBack R (Ok rows) = rows_told rows ≡ rows_of R
-GivesBack R (Err fault) = IsOfDatabase fault
 
 -- why a database is not opened: the version does not read, or it is not 1
 abbrev pub RefusesVersion : Result ℤ TableName → StoreFault → Type 0

@@ -1,8 +1,2 @@
-pub mod Schema
-pub mod Sql
-pub mod Stored
-pub mod Fault
 pub mod Change
 pub mod Contract
-pub mod Reading
-pub mod Listed

@@ -7,12 +7,11 @@ ghost use Rattle.clr_tables.specs.Tables.{point_row, section_row, staff_row, tab
 ghost use Rattle.clr_tables.specs.Tables.{version_row};
 ghost use Rattle.clr_store.specs.Change.{HasEmpty, Steps, StepsTo, added, opening_points, filled};
 ghost use Rattle.clr_store.specs.Change.{with_rows};
-ghost use Rattle.clr_store.specs.Fault.{IsOfDatabase};
-ghost use Rattle.clr_store.specs.Contract.{IsSaved};
-ghost use Rattle.clr_store.specs.Schema.{all_names, names_before, no_schema};
-ghost use Rattle.clr_store.specs.Stored.{AreTables, HasTables};
+ghost use Rattle.clr_reading.specs.Fault.{IsOfDatabase};
+ghost use Rattle.clr_reading.specs.Contract.{IsSaved};
+ghost use Rattle.clr_reading.specs.Schema.{all_names, names_before, no_schema};
+ghost use Rattle.clr_reading.specs.Stored.{AreTables, HasTables};
 
-use crate::fault::StoreFault;
 use crate::sql::create_sql;
 use crate::statements::insert_row;
 use crate::values::{
@@ -20,6 +19,7 @@ use crate::values::{
 };
 use clr_csv::{Staff, StaffRow};
 use clr_net::{Network, PointRow, SectionRow};
+use clr_reading::StoreFault;
 use clr_tables::{TableName, role_word};
 use sqlite::types::ValueRef;
 use sqlite::{Alter, Connection, Transaction};

@@ -4,17 +4,10 @@
 
 mod create;
 mod edits;
-mod fault;
-mod load;
-mod reading;
-mod rows;
 mod sql;
 mod statements;
 mod store;
-mod table_row;
 mod values;
-mod version;
 
-pub use fault::StoreFault;
-pub use rows::Rows;
+pub use clr_reading::{Rows, StoreFault};
 pub use store::{Back, Store};

@@ -1,7 +1,7 @@
-//! The statements of a register, as texts.
+//! The statements that write the tables of a register, as texts.
 ghost use Rattle.std.specs.Prelude.{◌≡◌};
-ghost use Rattle.clr_store.specs.Schema.{keys_in};
-ghost use Rattle.clr_store.specs.Sql.{create_sql, delete_sql, insert_sql, select_sql};
+ghost use Rattle.clr_reading.specs.Schema.{keys_in};
+ghost use Rattle.clr_reading.specs.Sql.{create_sql, delete_sql, insert_sql};
 
 use clr_tables::TableName;
 
@@ -76,28 +76,5 @@ pub(crate) fn delete_sql(table: TableName) -> &'static str
             "DELETE FROM step WHERE requester = ?1 AND number = ?2 AND round = ?3 AND ordinal = ?4",
         TableName::Hold =>
             "DELETE FROM hold WHERE kind = ?1 AND place = ?2 AND requester = ?3 AND number = ?4",
-    }
-}
-
-/// Lists all rows of a table, in the order of the whole key.
-pub(crate) fn select_sql(table: TableName) -> &'static str
-    ensures { result.now ≡ select_sql table }
-{
-    match table {
-        TableName::Meta => "SELECT name, value FROM meta ORDER BY name",
-        TableName::Section => "SELECT name, source FROM section ORDER BY name",
-        TableName::Point =>
-            "SELECT name, from_end, to_end, lockable, remote, position, hand_requester, \
-             hand_number FROM point ORDER BY name",
-        TableName::Staff => "SELECT name, role, supervisor FROM staff ORDER BY name",
-        TableName::Clearance =>
-            "SELECT requester, number, holder, work, phase, last_at FROM clearance \
-             ORDER BY requester, number",
-        TableName::Step =>
-            "SELECT requester, number, round, ordinal, action, point, state, reader FROM step \
-             ORDER BY requester, number, round, ordinal",
-        TableName::Hold =>
-            "SELECT kind, place, requester, number FROM hold ORDER BY kind, place, requester, \
-             number",
     }
 }

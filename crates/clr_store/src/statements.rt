@@ -4,16 +4,16 @@ ghost use Rattle.sqlite.specs.Held.{state};
 ghost use Rattle.sqlite.specs.State.{Survives};
 ghost use Rattle.sqlite.specs.Values.{bound};
 ghost use Rattle.clr_tables.specs.TableEdits.{without_table_row};
-ghost use Rattle.clr_store.specs.Change.{Lists, Steps, with_rows};
-ghost use Rattle.clr_store.specs.Fault.{IsOfDatabase};
-ghost use Rattle.clr_store.specs.Schema.{columns_in, keys_in};
-ghost use Rattle.clr_store.specs.Stored.{fits_columns, has_key, rows_in};
+ghost use Rattle.clr_store.specs.Change.{Steps, with_rows};
+ghost use Rattle.clr_reading.specs.Fault.{IsOfDatabase};
+ghost use Rattle.clr_reading.specs.Schema.{columns_in, keys_in};
+ghost use Rattle.clr_reading.specs.Stored.{fits_columns, has_key};
 
-use crate::fault::StoreFault;
-use crate::sql::{delete_sql, insert_sql, keys_in, select_sql};
+use crate::sql::{delete_sql, insert_sql};
+use clr_reading::StoreFault;
 use clr_tables::TableName;
 use sqlite::types::ValueRef;
-use sqlite::{Alter, Row, Transaction};
+use sqlite::{Alter, Transaction};
 
 /// Inserts a row whose key is not there.
 pub(crate) fn insert_row<S: Alter>(
@@ -49,20 +49,4 @@ pub(crate) fn delete_row<S: Alter>(
 {
     tx.execute(delete_sql(table), key)?;
     Ok(())
-}
-
-/// All rows of a table, in the order of its key.
-pub(crate) fn list_rows<S: Alter>(
-    tx: &mut Transaction<'_, S>,
-    table: TableName,
-) -> Result<Vec<Row>, StoreFault>
-    ensures same_reference { tx.new.conn.ghost_name ≡ tx.old.conn.ghost_name }
-    ensures step { Lists (state S.Store tx.old.conn.now) (state S.Store tx.new.conn.now)
-        (rows_in table) (λ rows. rows.items) result }
-    ensures fault { IfErr result IsOfDatabase }
-    ensures survives { Survives (state S.Store tx.old.conn.now) (state S.Store tx.new.conn.now)
-        (λ _. ⊥) }
-{
-    let rows = tx.query_all(select_sql(table), &[])?;
-    Ok(rows)
 }

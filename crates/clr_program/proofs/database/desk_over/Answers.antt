@@ -1,5 +1,5 @@
 use Rattle.std.proofs.Common.{subst, sym}
-use Rattle.clr_store.specs.Stored.{HasTables}
+use Rattle.clr_reading.specs.Stored.{HasTables}
 use Rattle.clr_tables.specs.Tables.{tables_of}
 use Rattle.clr_program.specs.Stored.{IsOfLine}
 use Rattle.clr_program.proofs.Databases.{IsOfCommand-shut, IsOfLine-of_command, IsOfLine-of_version}

@@ -7,8 +7,8 @@ use Rattle.sqlite.proofs.Callers.{survives_begin}
 use Rattle.sqlite.proofs.StateLemmas.{survives_then}
 use Rattle.clr_rules.specs.Register.{opening}
 use Rattle.clr_tables.specs.Tables.{tables_of}
-use Rattle.clr_store.specs.Schema.{no_schema}
-use Rattle.clr_store.specs.Stored.{AreTables, HasTables}
+use Rattle.clr_reading.specs.Schema.{no_schema}
+use Rattle.clr_reading.specs.Stored.{AreTables, HasTables}
 use Rattle.clr_store.proofs.Creating.{whole}
 use Rattle.clr_store.proofs.create.make_register.Goals as goal
 

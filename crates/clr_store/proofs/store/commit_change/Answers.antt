@@ -4,7 +4,7 @@ use Rattle.sqlite.specs.Held.{state}
 use Rattle.sqlite.specs.State.{HasCleanDisk, Survives}
 use Rattle.clr_tables.specs.TableEdits.{tables_edited}
 use Rattle.clr_store.specs.Contract.{AreEdited}
-use Rattle.clr_store.specs.Stored.{HasTables}
+use Rattle.clr_reading.specs.Stored.{HasTables}
 use Rattle.clr_store.proofs.Inside.{commit_crash, edited_tables}
 use Rattle.clr_store.proofs.store.commit_change.Goals as goal
 

@@ -3,7 +3,7 @@ use Rattle.sqlite.specs.Effect.{Database}
 use Rattle.sqlite.specs.Held.{state}
 use Rattle.clr_rules.specs.Answer.{Answer}
 use Rattle.clr_rules.specs.Register.{Register}
-use Rattle.clr_store.specs.Stored.{HasTables}
+use Rattle.clr_reading.specs.Stored.{HasTables}
 use Rattle.clr_tables.specs.Tables.{Tables, tables_of}
 use Rattle.clr_book.specs.Decision.{is_accepted}
 use Rattle.clr_desk.proofs.OneCommand.{crash_after, near_after_is_after, nothing_changes, tables_after}

@@ -3,8 +3,8 @@ use Rattle.sqlite.specs.Held.{state}
 use Rattle.sqlite.specs.State.{HasCleanDisk, Survives}
 use Rattle.clr_rules.specs.Register.{Register, opening}
 use Rattle.clr_rules.specs.Run.{IsReached}
-use Rattle.clr_store.specs.Contract.{IsSaved}
-use Rattle.clr_store.specs.Stored.{AreTables, HasTables}
+use Rattle.clr_reading.specs.Contract.{IsSaved}
+use Rattle.clr_reading.specs.Stored.{AreTables, HasTables}
 use Rattle.clr_tables.specs.Tables.{tables_of}
 use Rattle.clr_book.specs.Book.{Shelved}
 use Rattle.clr_desk.proofs.OneCommand.{of_command}

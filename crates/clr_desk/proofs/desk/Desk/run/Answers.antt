@@ -10,8 +10,8 @@ use Rattle.clr_rules.specs.declared.command.Command.{Command}
 use Rattle.clr_rules.specs.declared.reply.Reply.{Reply}
 use Rattle.clr_rules.proofs.isolation.RunReplies.{others_take_nothing}
 use Rattle.clr_rules.proofs.keeps.EveryKind.{commands_keep_good}
-use Rattle.clr_store.specs.Contract.{IsSaved}
-use Rattle.clr_store.specs.Stored.{HasTables}
+use Rattle.clr_reading.specs.Contract.{IsSaved}
+use Rattle.clr_reading.specs.Stored.{HasTables}
 use Rattle.clr_tables.specs.Tables.{tables_of}
 use Rattle.clr_desk.proofs.OneCommand.{near_after_is_after, near_is_whole}
 use Rattle.clr_desk.proofs.RunSteps.{next_left, no_reply_changed, none_taken, ran_so_far, run_of_next, run_of_none, saved_left, standing_alone}

@@ -5,10 +5,10 @@ use Rattle.sqlite.specs.State.{HasCleanDisk}
 use Rattle.clr_tables.proofs.TablesRead.{tables_are_read}
 use Rattle.clr_tables.specs.RowsRead.{rows_read}
 use Rattle.clr_tables.specs.Tables.{Tables, tables_of}
-use Rattle.clr_store.specs.Contract.{GivesRows}
-use Rattle.clr_store.specs.Fault.{IsOfDatabase}
-use Rattle.clr_store.specs.Stored.{HasTables}
-use Rattle.clr_store.proofs.AllGiven.{gives_back}
+use Rattle.clr_reading.specs.Contract.{GivesRows}
+use Rattle.clr_reading.specs.Fault.{IsOfDatabase}
+use Rattle.clr_reading.specs.Stored.{HasTables}
+use Rattle.clr_reading.proofs.AllGiven.{gives_back}
 use Rattle.clr_store.proofs.store.Store.load.Goals as goal
 
 pub returns-clause-rows : goal.returns-clause-rows

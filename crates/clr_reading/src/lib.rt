@@ -1,0 +1,16 @@
+//! What the tables of a register in a database read as: the version, the rows, or the table with
+//! the first row that does not read.
+#![tactic(auto)]
+
+mod fault;
+mod listing;
+mod load;
+mod reading;
+mod rows;
+mod table_row;
+mod version;
+
+pub use fault::StoreFault;
+pub use load::load_rows;
+pub use rows::Rows;
+pub use version::read_version;
