@@ -1,4 +1,3 @@
-pub mod Filled
 pub mod OneCommand
 pub mod Opened
 pub mod RunSteps

@@ -18,7 +18,7 @@ use Rattle.clr_reading.specs.Stored.{AreTables, HasTables}
 use Rattle.clr_tables.specs.TableEdits.{tables_edited}
 use Rattle.clr_tables.specs.Tables.{tables_of}
 use Rattle.clr_tables.proofs.TableChanges.{tables_follow_edits}
-use Rattle.clr_desk.specs.Answering.{near_after, near_answer}
+use Rattle.clr_deskbook.specs.Asking.{near_after, near_answer}
 use Rattle.clr_desk.specs.Crash.{AreAfter}
 use Rattle.clr_desk.specs.Faults.{IsOfCommand, of_store}
 use Rattle.clr_desk.specs.declared.desk_fault.DeskFault.{DeskFault}

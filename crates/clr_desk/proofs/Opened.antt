@@ -1,72 +1,13 @@
--- A desk that is opened: from what the store loads to the register.
-use Rattle.std.proofs.Common.{◌≡◌, ◌∙◌, ◌⊎◌, Option, None, Some, ap, inl, inr, subst, sym, Result, Ok, Err}
-use Rattle.clr_book.specs.Book.{Shelved}
-use Rattle.clr_rules.specs.Good.{IsGood}
-use Rattle.clr_rules.specs.Register.{Register}
-use Rattle.clr_reading.specs.Contract.{GivesRows}
+-- A desk that is not opened: what its fault says.
+use Rattle.std.proofs.Common.{◌≡◌, ◌⊎◌, inl, inr}
 use Rattle.clr_reading.specs.Fault.{IsOfDatabase}
 use Rattle.clr_reading.specs.declared.fault.StoreFault.{StoreFault}
-use Rattle.clr_reading.specs.declared.fault.StoreFault.TheVariants.{Sql, WrongVersion, BadRow, NoMemory}
-use Rattle.clr_tables.specs.RowsRead.{Rows, rows_of, rows_read}
-use Rattle.clr_tables.specs.Tables.{tables_of}
-use Rattle.clr_tables.specs.TypedRows.{IsTyped}
-use Rattle.clr_tables.specs.declared.table_name.TableName.{TableName}
-use Rattle.clr_tables.proofs.TablesRead.{tables_are_read, tables_read_as_no_others}
 use Rattle.clr_desk.specs.Faults.{IsOfCommand, of_store}
-use Rattle.clr_desk.specs.Opening.{IsRegisterOf, OpensAs}
 use Rattle.clr_desk.specs.declared.desk_fault.DeskFault.{DeskFault}
-use Rattle.clr_desk.proofs.Filled.{opens_again}
-
-abbrev bad_or : TableName → Result Rows TableName → TableName
-bad_or other (Ok rows) = other
-bad_or other (Err bad) = bad
-
--- rows that were not loaded
-pub not_loaded : (told : Result Rows TableName) (fault : StoreFault) → GivesRows told (Err fault) → OpensAs (λ (book : Shelved). book.register) told (Err fault)
-not_loaded (Ok rows) (BadRow name) gives = cc
-not_loaded (Err bad) (BadRow name) gives = ap (bad_or bad) gives
-not_loaded (Ok rows) Sql gives = tt
-not_loaded (Err bad) Sql gives = tt
-not_loaded (Ok rows) NoMemory gives = tt
-not_loaded (Err bad) NoMemory gives = tt
-not_loaded told (WrongVersion n) gives = absurd gives
-
--- the tables of a good register open as this register
-pub opened_again : (R : Register) → IsGood R → (book : Shelved) (told : Result Rows TableName) → rows_read (tables_of R) ≡ told
-    → OpensAs (λ (book : Shelved). book.register) told (Ok book) → book.register ≡ R
-opened_again R good book (Ok rows) is opens =
-    let same : rows ≡ rows_of R = tables_read_as_no_others R rows good.points_known.states good.in_order is in
-    let again = opens_again R good in
-    again.register book.register (subst (λ (l : Rows). IsRegisterOf l book.register) same opens.0)
-opened_again R good book (Err bad) is opens = absurd opens
-
--- the rows of a good register are opened, unless the database fails or memory runs out
-opens_good : (R : Register) → IsGood R → (fault : StoreFault) → OpensAs (λ (book : Shelved). book.register) (Ok (rows_of R)) (Err fault)
-    → IsOfCommand (of_store fault)
-opens_good R good Sql opens = tt
-opens_good R good NoMemory opens = tt
-opens_good R good (BadRow name) opens =
-    let bad : None ≡ Some name = sym (opens_again R good).no_fault ∙ opens in
-    absurd cc
-opens_good R good (WrongVersion n) opens = absurd opens
-
--- so are its tables, where each value is of its type
-pub fails_by_database : (R : Register) → IsGood R → IsTyped R → (fault : StoreFault) (told : DeskFault)
-    → OpensAs (λ (book : Shelved). book.register) (rows_read (tables_of R)) (Err fault) → told ≡ of_store fault → IsOfCommand told
-fails_by_database R good typed fault told opens is =
-    subst IsOfCommand (sym is)
-    (opens_good R good fault
-    (subst (λ (read : Result Rows TableName). OpensAs (λ (book : Shelved). book.register) read (Err fault))
-    (tables_are_read R good.points_known.states good.in_order typed) opens))
-
-of_command : (fault : StoreFault) → IsOfDatabase fault → IsOfCommand (of_store fault)
-of_command Sql is = tt
-of_command NoMemory is = tt
-of_command (WrongVersion n) is = absurd is
-of_command (BadRow name) is = absurd is
+use Rattle.clr_desk.proofs.OneCommand.{of_command}
 
 -- a store that was shut is refused as a fault of the database
 pub shut_or_open : (Open : Type 0) (fault : StoreFault) (told : DeskFault) → Open ⊎ IsOfDatabase fault
     → told ≡ of_store fault → Open ⊎ IsOfCommand told
 shut_or_open Open fault told (inl open_then) is = inl open_then
-shut_or_open Open fault told (inr refused) is = inr (subst IsOfCommand (sym is) (of_command fault refused))
+shut_or_open Open fault told (inr refused) is = inr (of_command fault told refused is)

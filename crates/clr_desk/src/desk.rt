@@ -12,23 +12,23 @@ ghost use Rattle.clr_reading.specs.Contract.{IsSaved};
 ghost use Rattle.clr_reading.specs.Stored.{AreTables, HasTables};
 ghost use Rattle.clr_desk.specs.Crash.{AreAfter, LeavesSome};
 ghost use Rattle.clr_book.specs.Book.{Shelved};
+ghost use Rattle.clr_book.specs.Decision.{is_accepted};
 ghost use Rattle.clr_rules.specs.Register.{Register, opening};
 ghost use Rattle.clr_reading.specs.declared.fault.StoreFault.{StoreFault};
 ghost use Rattle.clr_tables.specs.RowsRead.{rows_read};
 ghost use Rattle.clr_tables.specs.Tables.{Tables, tables_of};
 ghost use Rattle.clr_tables.specs.TypedRows.{IsTyped};
-ghost use Rattle.clr_desk.specs.Opening.{OpensAs};
-ghost use Rattle.clr_desk.specs.Answering.{fault_of, has_accepted, near_after, near_answer};
-ghost use Rattle.clr_desk.specs.Answering.{replies_of};
+ghost use Rattle.clr_deskbook.specs.Opening.{OpensAs};
+ghost use Rattle.clr_deskbook.specs.Asking.{near_after, near_answer};
+ghost use Rattle.clr_desk.specs.Answering.{fault_of, has_accepted, replies_of};
 ghost use Rattle.clr_desk.specs.Faults.{IsOfCommand, count_after, of_store};
 ghost use Rattle.clr_desk.specs.Kept.{Keeps};
 
-use crate::carrying_out::{is_accepted, prepare};
 use crate::desk_fault::DeskFault;
-use crate::opening::{DeskBook, book_in};
 use crate::run::Run;
 use clr_book::Decision;
 use clr_csv::Staff;
+use clr_deskbook::{DeskBook, apply, book_in, network_of, opening_book, prepare, staff_of};
 use clr_net::Network;
 use clr_rules::{Command, Reply};
 use clr_store::{Back, Store};
@@ -72,10 +72,10 @@ impl<S: Alter + Drop> Desk<S> {
             (state S.Store back.1)
             (λ trees. AreTables trees (tables_of (opening network staff)))) }
     {
-        let Ok(book) = DeskBook::opening(alloc, network, staff) else {
+        let Ok(book) = opening_book(alloc, network, staff) else {
             return Err((DeskFault::NoMemory, connection));
         };
-        match Store::create(connection, book.network(), book.staff()) {
+        match Store::create(connection, network_of(&book), staff_of(&book)) {
             Ok(store) => Ok(Desk::over(book, store)),
             Err(Back { fault, connection }) => Err((DeskFault::from(fault), connection)),
         }
@@ -197,7 +197,7 @@ impl<S: Alter + Drop> Desk<S> {
             return Ok(reply);
         }
         self.store.commit(&change)?;
-        self.book.apply(change);
+        apply(&mut self.book, change);
         Ok(reply)
     }
 
@@ -370,4 +370,11 @@ impl<S: Alter + Drop> Desk<S> {
             fault: None,
         }
     }
+}
+
+/// Whether a reply says that the command was carried out, and not refused or shown.
+fn is_accepted(reply: &Reply) -> bool
+    ensures { result ≡ is_accepted reply.now }
+{
+    matches!(reply, Reply::Accepted(_))
 }

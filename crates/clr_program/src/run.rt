@@ -30,22 +30,15 @@ use clap::ArgMatches;
 use clr_book::Book;
 use clr_csv::{CountedRead, Staff, StaffRow, read_whole};
 use clr_desk::Desk;
+use clr_deskbook::DeskBook;
 use clr_net::{Network, PointRow, SectionRow};
 use clr_rules::{Hold, PointState, Record, StepRow};
-use clr_shelf::{Shelf, SortedShelf};
+use clr_shelf::Shelf;
 use sqlite::{Alter, Connection};
 use std::alloc::Global;
 
 /// The most bytes of standard input.
 pub const MAX_INPUT_BYTES: usize = 16_777_216;
-
-/// A book in memory.
-pub type MemoryBook = Book<
-    SortedShelf<PointState>,
-    SortedShelf<Record>,
-    SortedShelf<StepRow>,
-    SortedShelf<Hold>,
->;
 
 /// What `run [--db FILE] [FILES]...` prints; nothing where the words name both a database and
 /// files, or neither, or files that are not three.
@@ -219,7 +212,7 @@ pub fn opening_book(
     sections: Vec<SectionRow>,
     points: Vec<PointRow>,
     staff: Vec<StaffRow>,
-) -> Result<MemoryBook, Fault>
+) -> Result<DeskBook, Fault>
     ensures opens { IfOk result (λ book.
         IsOpeningOf sections.items points.items staff.items book.register) }
     ensures good { IfOk result (λ book. IsGood book.register) }
@@ -232,7 +225,7 @@ pub fn opening_book(
     let staff = Staff::build(alloc, staff)?;
     network.is_network();
     staff.is_staff();
-    let book = Book::opening(alloc, network, staff)?;
+    let book = clr_deskbook::opening_book(alloc, network, staff)?;
     Ok(book)
 }
 

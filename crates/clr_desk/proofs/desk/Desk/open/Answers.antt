@@ -4,7 +4,9 @@ use Rattle.sqlite.specs.State.{HasCleanDisk}
 use Rattle.clr_book.specs.Book.{Shelved}
 use Rattle.clr_tables.specs.RowsRead.{rows_read}
 use Rattle.clr_tables.specs.Tables.{tables_of}
-use Rattle.clr_desk.proofs.Opened.{fails_by_database, opened_again, shut_or_open}
+use Rattle.clr_deskbook.proofs.Opened.{fails_by_database, opened_again}
+use Rattle.clr_desk.proofs.OneCommand.{of_command}
+use Rattle.clr_desk.proofs.Opened.{shut_or_open}
 use Rattle.clr_desk.proofs.desk.Desk.open.Goals as goal
 
 pub returns-in-Ok-clause-again : goal.returns-in-Ok-clause-again
@@ -15,7 +17,8 @@ returns-in-Ok-clause-again g c clean R good has =
 
 pub returns-in-Err-clause-cause : goal.returns-in-Err-clause-cause
 returns-in-Err-clause-cause g c clean R good typed has =
-    fails_by_database R good typed c.in-Err.fault c.from.result (c.in-Err.ensures.tables clean (tables_of R) has) (search rules)
+    of_command c.in-Err.fault c.from.result
+    (fails_by_database R good typed c.in-Err.fault (c.in-Err.ensures.tables clean (tables_of R) has)) (search rules)
 
 pub returns-in-Err-clause-shut : goal.returns-in-Err-clause-shut
 returns-in-Err-clause-shut g c clean =

@@ -46,8 +46,8 @@ use Rattle.clr_rules.specs.declared.record.Record.{Record}
 use Rattle.clr_rules.specs.declared.step_row.StepRow.{StepRow}
 use Rattle.clr_tables.specs.RowsRead.{with_its_position}
 use Rattle.clr_tables.specs.Tables.{state_at}
-use Rattle.clr_desk.specs.Filling.{filling, hand_edit}
-use Rattle.clr_desk.specs.Opening.{OpensAgain, bad_network, bad_staff}
+use Rattle.clr_deskbook.specs.Filling.{filling, hand_edit}
+use Rattle.clr_deskbook.specs.Opening.{OpensAgain, bad_network, bad_staff}
 
 abbrev first_or : {X : Type 0} → X → List X → X
 first_or x [] = x

@@ -18,7 +18,7 @@ use Rattle.clr_rules.specs.Register.{Register, opening}
 use Rattle.clr_tables.specs.RowsRead.{Rows, rows_of}
 use Rattle.clr_tables.specs.declared.table_name.TableName.{TableName}
 use Rattle.clr_tables.specs.declared.table_name.TableName.TheVariants as table
-use Rattle.clr_desk.specs.Filling.{filling}
+use Rattle.clr_deskbook.specs.Filling.{filling}
 use Rattle.clr_reading.specs.declared.fault.StoreFault.{StoreFault}
 use Rattle.clr_reading.specs.declared.fault.StoreFault.TheVariants.{Sql, WrongVersion, BadRow}
 use Rattle.clr_reading.specs.declared.fault.StoreFault.TheVariants.{NoMemory}

@@ -14,28 +14,19 @@ ghost use Rattle.clr_tables.specs.RowsRead.{rows_read};
 ghost use Rattle.clr_tables.specs.Tables.{Tables};
 ghost use Rattle.sqlite.specs.Held.{state};
 ghost use Rattle.sqlite.specs.State.{HasCleanDisk, Survives};
-ghost use Rattle.clr_desk.specs.Filling.{filling, hand_edit};
+ghost use Rattle.clr_deskbook.specs.Filling.{filling, hand_edit};
 ghost use Rattle.clr_rules.specs.declared.change.Edit.TheVariants.{PutHold, PutRecord, PutStep};
-ghost use Rattle.clr_desk.specs.Opening.{FailsToOpen, IsRegisterOf, OpensAs, bad_table, table_of};
+ghost use Rattle.clr_deskbook.specs.Opening.{FailsToOpen, IsRegisterOf, OpensAs, bad_table, table_of};
 ghost use Rattle.clr_reading.specs.declared.fault.StoreFault.TheVariants.{BadRow, NoMemory};
 
-use clr_book::Book;
+use crate::book::{DeskBook, apply, opening_book};
 use clr_csv::{Staff, StaffFault, StaffRow};
 use clr_net::{MAX_SECTIONS, NetFault, Network, PointRow, SectionRow};
 use clr_rules::{Change, Edit, Edits, Hold, PointState, Record, StepRow};
-use clr_shelf::SortedShelf;
 use clr_store::{Rows, Store, StoreFault};
 use clr_tables::TableName;
 use sqlite::Alter;
 use std::alloc::{AllocError, Global};
-
-/// The book of a desk.
-pub type DeskBook = Book<
-    SortedShelf<PointState>,
-    SortedShelf<Record>,
-    SortedShelf<StepRow>,
-    SortedShelf<Hold>,
->;
 
 /// The edits that fill a book that was opened: each point into the hand that it is in, and then all
 /// holds, records and steps.
@@ -99,14 +90,14 @@ fn filled_book(
     ensures { IfOk result (λ book. book.register ≡ after_edits change.edits
         (opening network staff)) }
 {
-    let mut book = DeskBook::opening(alloc, network, staff)?;
+    let mut book = opening_book(alloc, network, staff)?;
     book.reserve(&change)?;
-    book.apply(change);
+    apply(&mut book, change);
     Ok(book)
 }
 
 /// The network of loaded rows.
-fn network_of(
+fn built_network(
     alloc: Global,
     sections: Vec<SectionRow>,
     points: Vec<PointRow>,
@@ -143,7 +134,7 @@ fn table_of(fault: NetFault, is_long: bool) -> TableName
 }
 
 /// The staff of loaded rows.
-fn staff_of(alloc: Global, rows: Vec<StaffRow>) -> Result<Staff, StoreFault>
+fn built_staff(alloc: Global, rows: Vec<StaffRow>) -> Result<Staff, StoreFault>
     ensures built { IfOk result (λ staff. IsStaffOf rows.items staff) }
     ensures none { IfOk result (λ _. staff_fault rows.items ≡ None) }
     ensures fault { IfErr result (λ fault. (fault ≡ NoMemory) ⊎ ((cause : _)
@@ -157,21 +148,24 @@ fn staff_of(alloc: Global, rows: Vec<StaffRow>) -> Result<Staff, StoreFault>
 }
 
 /// The book of loaded rows.
-pub(crate) fn book_of(rows: Rows) -> Result<DeskBook, StoreFault>
+fn book_of(rows: Rows) -> Result<DeskBook, StoreFault>
     ensures register { IfOk result (λ book. IsRegisterOf (rows_told rows) book.register) }
     ensures none { IfOk result (λ _. bad_table (rows_told rows) ≡ None) }
     ensures fault { IfErr result (λ fault. FailsToOpen (rows_told rows) fault) }
 {
     let alloc = *rows.sections.allocator();
     let change = filling(alloc, &rows.states, &rows.holds, &rows.records, &rows.steps)?;
-    let network = network_of(alloc, rows.sections, rows.points)?;
-    let staff = staff_of(alloc, rows.staff)?;
+    let network = built_network(alloc, rows.sections, rows.points)?;
+    let staff = built_staff(alloc, rows.staff)?;
     let book = filled_book(alloc, network, staff, change)?;
     Ok(book)
 }
 
 /// The book of what a store has. The store is only read.
-pub(crate) fn book_in<S: Alter + Drop>(store: &mut Store<S>) -> Result<DeskBook, StoreFault>
+///
+/// `BadRow` names the table with a row that does not read, or whose rows are no network or no staff;
+/// `Sql` where the database fails; `NoMemory` where memory runs out.
+pub fn book_in<S: Alter + Drop>(store: &mut Store<S>) -> Result<DeskBook, StoreFault>
     ensures tables { HasCleanDisk (state S.Store store.new) → (t : Tables)
         → HasTables (state S.Store store.old).now t
         → OpensAs (λ (book : Shelved). book.register) (rows_read t) result }

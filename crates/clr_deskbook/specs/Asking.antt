@@ -1,0 +1,15 @@
+-- ASKING A BOOK: what it answers to a command, and the register that this leaves.
+use Rattle.clr_rules.specs.Answer.{Answer, answer_with}
+use Rattle.clr_rules.specs.Edits.{after_edits}
+use Rattle.clr_rules.specs.Near.{Near, near_of}
+use Rattle.clr_rules.specs.Register.{Register}
+use Rattle.clr_rules.specs.declared.command.Command.{Command}
+
+-- the answer from the near part of the command; of a good register that is the answer of the whole
+-- register
+abbrev pub near_answer : Register → Command → Answer
+near_answer R q = answer_with (Near.known (near_of R q)) (Near.rows (near_of R q)) q
+
+-- the register with the edits of that answer
+abbrev pub near_after : Register → Command → Register
+near_after R q = after_edits (Answer.edits (near_answer R q)) R

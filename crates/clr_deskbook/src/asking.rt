@@ -1,0 +1,28 @@
+//! What is done for one command before its change is committed: it is answered, and room is made for
+//! its change.
+ghost use Rattle.std.specs.Prelude.{◌≡◌, IfOk};
+ghost use Rattle.clr_book.specs.Decision.{ChangesIfAccepted, answer_of_decision};
+ghost use Rattle.clr_book.specs.Book.{Fits, needs};
+ghost use Rattle.clr_deskbook.specs.Asking.{near_answer};
+
+use crate::book::DeskBook;
+use clr_book::Decision;
+use clr_rules::Command;
+use std::alloc::AllocError;
+
+/// What the book answers to a command. Then there is room in the book for its change, which is not
+/// made yet.
+///
+/// Where memory runs out the book has the rows that it had.
+pub fn prepare(book: &mut DeskBook, command: &Command) -> Result<Decision, AllocError>
+    ensures answer { IfOk result
+        (λ d. answer_of_decision d ≡ near_answer book.old.register command.now) }
+    ensures nothing { IfOk result ChangesIfAccepted }
+    ensures room { IfOk result (λ d. Fits (needs d.change.edits) book.new.room) }
+    ensures register { book.new.register ≡ book.old.register }
+    ensures network { book.new.network ≡ book.old.network }
+{
+    let decision = book.answer(command)?;
+    book.reserve(&decision.change)?;
+    Ok(decision)
+}

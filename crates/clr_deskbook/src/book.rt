@@ -1,0 +1,54 @@
+//! The book of a desk, and what a desk does with it.
+ghost use Rattle.std.specs.Prelude.{◌≡◌, IfOk};
+ghost use Rattle.clr_book.specs.Book.{Fits, needs};
+ghost use Rattle.clr_rules.specs.Edits.{after_edits};
+ghost use Rattle.clr_rules.specs.Register.{opening};
+ghost use Rattle.clr_rules.specs.Run.{IsReached};
+
+use clr_book::Book;
+use clr_csv::Staff;
+use clr_net::Network;
+use clr_rules::{Change, Hold, PointState, Record, StepRow};
+use clr_shelf::SortedShelf;
+use std::alloc::{AllocError, Global};
+
+/// The book of a desk.
+pub type DeskBook = Book<
+    SortedShelf<PointState>,
+    SortedShelf<Record>,
+    SortedShelf<StepRow>,
+    SortedShelf<Hold>,
+>;
+
+/// The book of an opening register: each point in the position that its row gives, in nobody's
+/// hand, and no clearance.
+pub fn opening_book(alloc: Global, network: Network, staff: Staff) -> Result<DeskBook, AllocError>
+    ensures register { IfOk result (λ book. book.register ≡ opening network staff) }
+    ensures network { IfOk result (λ book. book.network ≡ network) }
+    ensures reached { IfOk result (λ book. IsReached book.register) }
+{
+    DeskBook::opening(alloc, network, staff)
+}
+
+/// The network of a book.
+pub fn network_of(book: &DeskBook) -> &Network
+    ensures { result.now ≡ book.now.network }
+{
+    book.network()
+}
+
+/// The staff of a book.
+pub fn staff_of(book: &DeskBook) -> &Staff
+    ensures { result.now ≡ book.now.register.staff }
+{
+    book.staff()
+}
+
+/// Makes a change for which there is room.
+pub fn apply(book: &mut DeskBook, change: Change)
+    requires { Fits (needs change.edits) book.old.room }
+    ensures register { book.new.register ≡ after_edits change.edits book.old.register }
+    ensures network { book.new.network ≡ book.old.network }
+{
+    book.apply(change);
+}
