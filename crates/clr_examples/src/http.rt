@@ -127,12 +127,18 @@ const NOT_THERE: [(&str, &str, &str); 2] = [
     ),
 ];
 
-/// Serves one request, and gives the bytes that go out.
+/// Serves one request, and gives the bytes that go out. A 503, which is sent for want of memory, ends
+/// the test.
 fn served(alloc: Global, desk: &mut MemoryDesk, request: &str) -> Result<Vec<u8>, Fail> {
     let mut requests = Vec::new(alloc);
     requests.push(Vec::from_slice(alloc, request.as_bytes())?)?;
     let mut responses = serve_all(alloc, desk, requests.as_slice())?;
-    Ok(responses.pop().ok_or("a response")?)
+    let response = responses.pop().ok_or("a response")?;
+    if response.starts_with(b"HTTP/1.1 503 ") {
+        Err("out of memory")?
+    } else {
+        Ok(response)
+    }
 }
 
 /// To each request this response goes out.

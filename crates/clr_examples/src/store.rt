@@ -25,13 +25,21 @@ fn made(alloc: Global) -> Result<Store<MemStore>, Fail> {
     }
 }
 
+/// A fault of which a test says what it is to be; want of memory ends the test instead.
+fn unless_memory(fault: DeskFault) -> Result<DeskFault, Fail> {
+    match fault {
+        DeskFault::NoMemory => Err(DeskFault::NoMemory)?,
+        told => Ok(told),
+    }
+}
+
 /// The fault of a desk that is to make its tables in the database of a store.
 fn fault_of_making(alloc: Global, store: Store<MemStore>) -> Result<DeskFault, Fail> {
     let network = worked_network(alloc)?;
     let staff = worked_staff(alloc)?;
     let made = Desk::create(alloc, store.end(), network, staff);
     let (fault, _connection) = made.err().ok_or("a fault")?;
-    Ok(fault)
+    unless_memory(fault)
 }
 
 /// The store ended and opened again.
@@ -55,7 +63,10 @@ fn after(store: Store<MemStore>, statement: &str) -> Result<Store<MemStore>, Sto
 /// The fault of opening the worked register's database after a statement.
 fn fault_of_opening(alloc: Global, statement: &str) -> Result<Option<StoreFault>, Fail> {
     let store = made(alloc)?;
-    Ok(after(store, statement).err())
+    match after(store, statement).err() {
+        Some(StoreFault::NoMemory) => Err(StoreFault::NoMemory)?,
+        told => Ok(told),
+    }
 }
 
 /// The fault of opening a desk, which loads the tables, over the worked register's database after
@@ -64,7 +75,7 @@ fn fault_of_a_desk(alloc: Global, statement: &str) -> Result<DeskFault, Fail> {
     let store = made(alloc)?;
     let opened = Desk::open(after(store, statement)?);
     let (fault, _store) = opened.err().ok_or("a fault")?;
-    Ok(fault)
+    unless_memory(fault)
 }
 
 /// What JONES/1 has after its first step and an instruct of the second, at S2 and S3.
