@@ -10,13 +10,13 @@ use Rattle.clap.specs.declared.error.kind.ErrorKind.{ErrorKind}
 use Rattle.clap.specs.declared.error.kind.ErrorKind.TheVariants as kind
 use Rattle.clap.proofs.OnLiterals.{clap_on_literals}
 use Rattle.clr_rules.specs.Register.{Register}
-use Rattle.clr_program.specs.declared.fault.Fault.{Fault}
-use Rattle.clr_program.specs.declared.fault.Fault.TheVariants.{Memory}
+use Rattle.clr_files.specs.declared.fault.Fault.{Fault}
+use Rattle.clr_files.specs.declared.fault.Fault.TheVariants.{Memory}
 use Rattle.clr_program.specs.declared.outcome.Outcome.{Outcome}
 use Rattle.clr_program.specs.declared.outcome.Outcome.TheVariants.{Answer, Serve, Stopped, Unread}
 use Rattle.clr_program.specs.CommandLine.{AnswersNamed, AnswersWords, MayAnswer}
 use Rattle.clr_program.specs.Outcome.{IsAnswer, IsUnread}
-use Rattle.clr_program.specs.Syntax.{gridclear}
+use Rattle.clr_words.specs.Syntax.{gridclear}
 
 -- the kinds of error are known of the program's command line
 is_plain_gridclear : is_simple_and_free gridclear ≡ true

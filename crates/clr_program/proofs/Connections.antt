@@ -4,7 +4,7 @@ use Rattle.std.specs.Prelude.{OnErr, OnOk}
 use Rattle.std.specs.Io.KnownBytes.{Appends}
 use Rattle.clr_program.specs.Serve.{TellsFirst, TellsNext}
 use Rattle.clr_program.specs.Streams.{AppendsFront, Stream}
-use Rattle.clr_program.specs.declared.fault.Fault.{Fault}
+use Rattle.clr_files.specs.declared.fault.Fault.{Fault}
 
 -- before the first connection nothing is told
 pub first_told : (errors : Stream) → TellsFirst 0 errors errors

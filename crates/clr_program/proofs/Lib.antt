@@ -1,12 +1,3 @@
 pub mod Answered
-pub mod Asked
 pub mod Connections
-pub mod Databases
-pub mod Found
-pub mod OfNoReader
-pub mod PointsNamed
-pub mod PrintedLines
-pub mod ReadFiles
-pub mod ReplyLines
-pub mod RunAnswers
 pub mod Told

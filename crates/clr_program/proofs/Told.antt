@@ -6,9 +6,9 @@ use Rattle.clr_rules.specs.Register.{Register}
 use Rattle.clr_program.specs.CommandLine.{AnswersWords, MayAnswer}
 use Rattle.clr_program.specs.Outcome.{HasServed, IsFaulted, IsTold, Stream, Tells}
 use Rattle.clr_program.specs.Serve.{FailsServing}
-use Rattle.clr_program.specs.Syntax.{gridclear}
-use Rattle.clr_program.specs.declared.fault.Fault.{Fault}
-use Rattle.clr_program.specs.declared.fault.Fault.TheVariants.{Output}
+use Rattle.clr_words.specs.Syntax.{gridclear}
+use Rattle.clr_files.specs.declared.fault.Fault.{Fault}
+use Rattle.clr_files.specs.declared.fault.Fault.TheVariants.{Output}
 use Rattle.clr_program.specs.declared.outcome.Outcome.{Outcome}
 use Rattle.clr_program.specs.declared.outcome.Outcome.TheVariants.{Answer, Serve, Stopped, Unread}
 

@@ -6,16 +6,16 @@ use Rattle.std.specs.declared.alloc.Global.{Global}
 use Rattle.clap.specs.Words.{IsAmong, Kinds, Row, Text, fault_of, subcommand_of}
 use Rattle.clap.specs.declared.error.kind.ErrorKind.TheVariants.{DisplayHelp, DisplayVersion}
 use Rattle.clr_rules.specs.Register.{Register}
-use Rattle.clr_program.specs.Fence.{FencesAt}
-use Rattle.clr_program.specs.Init.{InitsAt}
+use Rattle.clr_subcommands.specs.Fence.{FencesAt}
+use Rattle.clr_subcommands.specs.Init.{InitsAt}
 use Rattle.clr_program.specs.Outcome.{ComesTo, IsAnswer, IsNoAnswer, IsServer, answer_of}
-use Rattle.clr_program.specs.Run.{RunsAsked}
-use Rattle.clr_program.specs.Stored.{BoardAt, OrdersAt}
-use Rattle.clr_program.specs.Syntax.{gridclear}
-use Rattle.clr_program.specs.declared.fault.Fault.{Fault}
-use Rattle.clr_program.specs.declared.fault.Fault.TheVariants.{Memory}
+use Rattle.clr_subcommands.specs.Run.{RunsAsked}
+use Rattle.clr_subcommands.specs.Stored.{BoardAt, OrdersAt}
+use Rattle.clr_words.specs.Syntax.{gridclear}
+use Rattle.clr_files.specs.declared.fault.Fault.{Fault}
+use Rattle.clr_files.specs.declared.fault.Fault.TheVariants.{Memory}
 use Rattle.clr_program.specs.declared.outcome.Outcome.{Outcome}
-use Rattle.clr_program.specs.declared.replies.Printed.{Printed}
+use Rattle.clr_subcommands.specs.declared.replies.Printed.{Printed}
 
 -- The words may have an answer: clap finds nothing wrong with them, or they ask for help. The kinds
 -- are those of the errors that it may find.

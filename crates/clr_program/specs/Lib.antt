@@ -1,17 +1,4 @@
-pub mod Answers
-pub mod Asked
 pub mod CommandLine
-pub mod Fault
-pub mod Fence
-pub mod Files
-pub mod Init
-pub mod Lines
-pub mod Order
 pub mod Outcome
-pub mod PrintedLines
-pub mod Replies
-pub mod Run
 pub mod Serve
-pub mod Stored
 pub mod Streams
-pub mod Syntax

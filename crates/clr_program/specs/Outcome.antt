@@ -3,14 +3,14 @@ use Rattle.std.specs.Prelude.{ℕ, true, ◌≡◌, ◌≤◌, ◌⊎◌, List, 
 use Rattle.std.specs.Prelude.{Result, Ok, Err, String, codes, string_bytes}
 use Rattle.std.specs.declared.alloc.Global.{Global}
 use Rattle.clap.specs.Words.{Row, first_of}
-use Rattle.clr_program.specs.Asked.{IsNumberIn, word_in}
+use Rattle.clr_words.specs.Asked.{IsNumberIn, word_in}
 use Rattle.clr_program.specs.declared.outcome.Outcome.{Outcome}
 use Rattle.clr_program.specs.declared.outcome.Outcome.TheVariants.{Answer, Serve, Stopped, Unread}
-use Rattle.clr_program.specs.declared.fault.Fault.{Fault}
-use Rattle.clr_program.specs.declared.fault.Fault.TheVariants.{Memory, Output}
-use Rattle.clr_program.specs.declared.replies.Printed.{Printed}
+use Rattle.clr_files.specs.declared.fault.Fault.{Fault}
+use Rattle.clr_files.specs.declared.fault.Fault.TheVariants.{Memory, Output}
+use Rattle.clr_subcommands.specs.declared.replies.Printed.{Printed}
 use Rattle.clr_program.specs.declared.serve.Serving.{Serving}
-use Rattle.clr_program.specs.Fault.{fault_line}
+use Rattle.clr_files.specs.Fault.{fault_line}
 use Rattle.clr_program.specs.Serve.{FailsServing, Serves}
 pub use Rattle.clr_program.specs.Streams.{AppendsFront, HasFailed, IsCut, Sends, Stream, WentOut}
 pub use Rattle.clr_program.specs.Streams.{stream}

@@ -5,8 +5,8 @@ use Rattle.clr_http.specs.declared.serve.HttpFault.{HttpFault}
 use Rattle.clr_http.specs.declared.serve.HttpFault.TheVariants.{NoMemory, ReadFailed, WriteFailed}
 use Rattle.clr_http.specs.declared.serve.Served.{Served}
 use Rattle.clr_program.specs.Streams.{IsCut, Sends, Stream, WentOut}
-use Rattle.clr_program.specs.declared.fault.Fault.{Fault}
-use Rattle.clr_program.specs.declared.fault.Fault.TheVariants.{Listen, Output}
+use Rattle.clr_files.specs.declared.fault.Fault.{Fault}
+use Rattle.clr_files.specs.declared.fault.Fault.TheVariants.{Listen, Output}
 
 -- the line that a server begins with
 abbrev pub serving_line : ℕ → List ℕ

@@ -3,11 +3,11 @@ ghost use Rattle.std.specs.Prelude.{◌≡◌, ◌+◌, ◌++◌, ◌≤◌, cod
 ghost use Rattle.std.specs.Fmt.{signed_decimal};
 ghost use Rattle.clr_tables.specs.TableText.{table_text};
 ghost use Rattle.arrayvec.specs.ArrayString.{array_string_len};
-ghost use Rattle.clr_program.specs.Fault.{detail_text};
+ghost use Rattle.clr_files.specs.Fault.{detail_text};
 ghost use Rattle.clr_program.specs.Outcome.{told_line};
 
-use crate::fault::{Detail, Fault};
 use arrayvec::ArrayString;
+use clr_files::fault::{Detail, Fault};
 use clr_tables::TableName;
 use itoa::Buffer;
 

@@ -2,12 +2,12 @@
 ghost use Rattle.std.specs.Prelude.{◌≡◌, IfErr, OnErr, OnOk};
 ghost use Rattle.clr_program.specs.Outcome.{IsCut, Sends, Tells, WentOut, stream, told_line};
 
-use crate::database::Databases;
-use crate::fault::Fault;
 use crate::line::line_of;
-use crate::loopback::Loopback;
 use crate::serve::{Serving, serve};
 use clr_csv::{CountedWrite, write_whole};
+use clr_files::fault::Fault;
+use clr_subcommands::database::Databases;
+use clr_subcommands::loopback::Loopback;
 
 /// What words come to that meet no fault.
 #[derive(Debug, Drop)]

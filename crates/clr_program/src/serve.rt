@@ -14,15 +14,15 @@ ghost use Rattle.clr_program.specs.Serve.{IsServing, Serves, ServesNot, TellsCon
 ghost use Rattle.clr_program.specs.Serve.{TellsFirst, TellsNext, connection_line};
 ghost use Rattle.clr_program.specs.Streams.{Sends, stream};
 
-use crate::database::{Databases, close, desk_over};
-use crate::fault::Fault;
-use crate::loopback::{Connection, Loopback};
 use crate::outcome::write_out;
 use crate::serve_line::{connection_line, serving_line};
-use crate::words::{count_of, port_of, word_of};
 use clap::ArgMatches;
 use clr_csv::{Counted, CountedRead, CountedWrite};
+use clr_files::fault::Fault;
 use clr_http::{HttpFault, Registrar, serve_one};
+use clr_subcommands::database::{Databases, close, desk_over};
+use clr_subcommands::loopback::{Connection, Loopback};
+use clr_words::words::{count_of, port_of, word_of};
 use sqlite::Alter;
 use std::alloc::{AllocError, Global};
 use std::io;

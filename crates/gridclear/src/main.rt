@@ -11,8 +11,8 @@ ghost use Rattle.std.specs.Process.{exit_status};
 
 use clr_csv::Counted;
 use clr_program::command_line::{command_line, no_words};
-use clr_program::machine::{AnyFiles, Machine};
-use clr_program::paths::Paths;
+use clr_subcommands::machine::{AnyFiles, Machine};
+use clr_files::paths::Paths;
 use std::process::ExitCode;
 use std::{env, io};
 
