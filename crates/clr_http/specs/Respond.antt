@@ -13,7 +13,7 @@ use Rattle.clr_rules.specs.declared.command.Kind.TheVariants.{Show}
 use Rattle.clr_rules.specs.declared.reply.Reply.{Reply}
 use Rattle.clr_rules.specs.declared.reply.Reply.TheVariants.{Accepted, Refused, Shown}
 use Rattle.clr_text.specs.FaultText.{fault_text}
-use Rattle.clr_text.specs.Printed.{board_text, order_text}
+use Rattle.clr_print.specs.Printed.{board_text, order_text}
 use Rattle.clr_text.specs.Reading.{read_command}
 use Rattle.clr_text.specs.Replies.{reply_text}
 use Rattle.clr_text.specs.declared.fault.TextFault.{TextFault}

@@ -6,8 +6,8 @@ ghost use Rattle.clr_desk.proofs.Keeping.{keeps_itself, keeps_on};
 
 use crate::registrar::Registrar;
 use clr_desk::Desk;
+use clr_print::{print_board, print_order};
 use clr_rules::{ClearanceId, Command, Reply};
-use clr_text::{print_board, print_order};
 use sqlite::Alter;
 use std::alloc::{AllocError, Global};
 

@@ -7,7 +7,7 @@ ghost use Rattle.clr_rules.specs.Records.{record_of};
 ghost use Rattle.clr_rules.specs.Register.{Register};
 ghost use Rattle.clr_rules.specs.Run.{after};
 ghost use Rattle.clr_rules.specs.Steps.{steps_of};
-ghost use Rattle.clr_text.specs.Printed.{board_text, order_text};
+ghost use Rattle.clr_print.specs.Printed.{board_text, order_text};
 ghost use Rattle.clr_http.specs.Registrar.{faults_after};
 
 use clr_rules::{ClearanceId, Command, Reply};

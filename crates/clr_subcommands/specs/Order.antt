@@ -7,7 +7,7 @@ use Rattle.clr_rules.specs.IdText.{read_id}
 use Rattle.clr_rules.specs.Records.{record_of}
 use Rattle.clr_rules.specs.Register.{Register}
 use Rattle.clr_rules.specs.Steps.{steps_of}
-use Rattle.clr_text.specs.Printed.{order_text}
+use Rattle.clr_print.specs.Printed.{order_text}
 use Rattle.clr_files.specs.declared.fault.Fault.{Fault}
 use Rattle.clr_files.specs.declared.fault.Fault.TheVariants.{NoSuch}
 

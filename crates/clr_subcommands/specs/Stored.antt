@@ -11,7 +11,7 @@ use Rattle.clr_reading.specs.Stored.{HasTables}
 use Rattle.clr_reading.specs.declared.fault.StoreFault.TheVariants.{Sql}
 use Rattle.clr_tables.specs.Tables.{tables_of}
 use Rattle.clr_tables.specs.TypedRows.{IsTyped}
-use Rattle.clr_text.specs.Printed.{board_text}
+use Rattle.clr_print.specs.Printed.{board_text}
 use Rattle.clr_words.specs.Asked.{IsOffset, word_in}
 use Rattle.clr_subcommands.specs.Order.{order_told}
 use Rattle.clr_subcommands.specs.Replies.{PrintsFirst, input_lines, reply_lines}

@@ -1,7 +1,7 @@
 //! The subcommand `board`: what clearances and switch orders are not closed.
 ghost use Rattle.std.specs.Prelude.{◌≡◌, IfErr, IfOk, Ok, neg_ℤ, pos, string_bytes, ◌≤ℤ◌};
 ghost use Rattle.clap.specs.Words.{found_of, rows_of};
-ghost use Rattle.clr_text.specs.Printed.{board_text};
+ghost use Rattle.clr_print.specs.Printed.{board_text};
 ghost use Rattle.clr_subcommands.specs.Stored.{BoardAt, HasRegister, TellsStored};
 ghost use Rattle.clr_rules.specs.Register.{Register};
 
@@ -9,9 +9,9 @@ use crate::database::{Databases, close_behind, desk_over};
 use clap::ArgMatches;
 use clr_book::Book;
 use clr_files::fault::Fault;
+use clr_print::print_board;
 use clr_rules::{Hold, PointState, Record, StepRow};
 use clr_shelf::Shelf;
-use clr_text::print_board;
 use clr_words::words::{offset_of, word_of};
 use sqlite::{Alter, Connection};
 use std::alloc::Global;

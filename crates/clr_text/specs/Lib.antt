@@ -8,7 +8,5 @@ pub mod Json
 pub mod RefusalText
 pub mod Replies
 pub mod FaultText
-pub mod Moments
-pub mod Printed
 pub mod Lines
 pub mod LineLaws

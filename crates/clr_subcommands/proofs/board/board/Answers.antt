@@ -2,7 +2,7 @@ use Rattle.std.proofs.Common.{◌≡◌, ◌∙◌, ap, rules, subst, to_z, of_z
 use Rattle.std.specs.Prelude.{IfSome, codes, string_bytes}
 use Rattle.clap.specs.Words.{first_of, found_of, rows_of}
 use Rattle.clr_rules.specs.Register.{Register}
-use Rattle.clr_text.specs.Printed.{board_text}
+use Rattle.clr_print.specs.Printed.{board_text}
 use Rattle.sqlite.specs.Files.{over_files}
 use Rattle.clr_words.specs.Asked.{IsOffset}
 use Rattle.clr_subcommands.specs.Stored.{HasRegister, TellsStored}

@@ -1,7 +1,7 @@
 use Rattle.std.proofs.Common.{◌≡◌, ◌∙◌, ap, rules, to_z, of_z, to_z-of_z, w16, FitsSigned}
 use Rattle.clr_book.specs.Book.{Shelved}
 use Rattle.clr_rules.specs.Register.{Register}
-use Rattle.clr_text.specs.Printed.{board_text}
+use Rattle.clr_print.specs.Printed.{board_text}
 use Rattle.clr_subcommands.proofs.Databases.{TellsStored-board}
 use Rattle.clr_subcommands.proofs.board.board_over.Goals as goal
 

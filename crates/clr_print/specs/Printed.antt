@@ -11,7 +11,7 @@ use Rattle.clr_rules.specs.Records.{is_closed}
 use Rattle.clr_rules.specs.Steps.{is_some_step}
 use Rattle.clr_rules.specs.declared.record.Record.{Record}
 use Rattle.clr_rules.specs.declared.step_row.StepRow.{StepRow}
-use Rattle.clr_text.specs.Moments.{moment_text}
+use Rattle.clr_print.specs.Moments.{moment_text}
 
 -- a text on the left of a column, and on the right of one; a text that is wider stands as it is
 abbrev pub left : ℕ → List ℕ → List ℕ

@@ -1,7 +1,7 @@
 use Rattle.std.proofs.Common.{◌≡◌, ℕ, ◌+◌, List, ◌++◌, ◌∷◌, [], replicate, arith}
 use Rattle.std.proofs.lemmas.Grind.{common_steps}
 use Rattle.std.proofs.lemmas.List.{replicate-append-replicate}
-use Rattle.clr_text.proofs.columns.push_blanks.Goals as goal
+use Rattle.clr_print.proofs.columns.push_blanks.Goals as goal
 
 one_more : (n : ℕ) → replicate {A = ℕ} n 32 ++ 32 ∷ [] ≡ replicate (n + 1) 32
 one_more n = replicate-append-replicate {A = ℕ} n 1 32

@@ -4,8 +4,8 @@ ghost use Rattle.std.specs.Prelude.{string_bytes, ◌==◌, ◌≤ℤ◌};
 ghost use Rattle.std.specs.List.{flat_map};
 ghost use Rattle.clr_rules.specs.Records.{record_of};
 ghost use Rattle.clr_rules.specs.Steps.{steps_of};
-ghost use Rattle.clr_text.specs.Printed.{head_text, in_round, order_name, order_text, round_text};
-ghost use Rattle.clr_text.specs.Printed.{step_line};
+ghost use Rattle.clr_print.specs.Printed.{head_text, in_round, order_name, order_text, round_text};
+ghost use Rattle.clr_print.specs.Printed.{step_line};
 
 use crate::columns::{id_text, name_or_dash, numeral, push_left, push_line, push_right};
 use crate::moments::{ClockOffset, moment_text};

@@ -2,7 +2,7 @@
 use Rattle.std.specs.Prelude.{ℕ, zero, suc, ◌+◌, ◌-◌, ◌*◌, ◌/◌, ◌%◌, nat_lt, if◌then◌else◌, List}
 use Rattle.std.specs.Prelude.{[], ◌∷◌, ◌++◌, ℤ, pos, negsuc, unsigned_abs}
 use Rattle.jiff.specs.Words.{days_in_month}
-use Rattle.clr_text.specs.declared.moments.ClockFace.{ClockFace}
+use Rattle.clr_print.specs.declared.moments.ClockFace.{ClockFace}
 
 -- a day of the calendar
 pub record Day : Type 0 where

@@ -6,8 +6,8 @@ use Rattle.jiff.specs.Words.{civil_nanos, days_in_month, epoch_day, nanos_of_sec
 use Rattle.jiff.proofs.Family.{civil_nanos-parts, days_from_civil-day, days_from_civil-max, days_from_civil-next_month, days_from_civil-next_year, epoch_day_injective, time_nanos_bound}
 use Rattle.jiff.proofs.SpanFacts.{signed_arith}
 use Rattle.jiff_core.specs.Calendar.{days_from_civil}
-use Rattle.clr_text.specs.declared.moments.ClockFace.{ClockFace}
-use Rattle.clr_text.specs.Moments.{Day, day_after, day_before, face_at, local_seconds, next_day}
+use Rattle.clr_print.specs.declared.moments.ClockFace.{ClockFace}
+use Rattle.clr_print.specs.Moments.{Day, day_after, day_before, face_at, local_seconds, next_day}
 
 -- a day of the calendar, with its number from 31 December 1969
 record IsDay (n : ℕ) (d : Day) : Type 0 where

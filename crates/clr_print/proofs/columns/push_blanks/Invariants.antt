@@ -1,5 +1,5 @@
 use Rattle.std.proofs.Common.{◌≡◌, ◌++◌, replicate, string_bytes}
-use Rattle.clr_text.proofs.columns.push_blanks.Given as goal
+use Rattle.clr_print.proofs.columns.push_blanks.Given as goal
 
 abbrev pub invariant-loop : goal.invariant-loop
 invariant-loop l = string_bytes l.out ≡ string_bytes l.initial.out ++ replicate l.counter 32

@@ -2,7 +2,7 @@
 ghost use Rattle.std.specs.Prelude.{◌≡◌, ◌++◌, IfOk, OnOk, filter, map, neg_ℤ, pos, string_bytes};
 ghost use Rattle.std.specs.Prelude.{◌≤ℤ◌};
 ghost use Rattle.std.specs.List.{flat_map};
-ghost use Rattle.clr_text.specs.Printed.{board_line, board_of, board_text, count_line, is_open};
+ghost use Rattle.clr_print.specs.Printed.{board_line, board_of, board_text, count_line, is_open};
 
 use crate::columns::{id_text, name_or_dash, push_left};
 use crate::moments::{ClockOffset, moment_text};

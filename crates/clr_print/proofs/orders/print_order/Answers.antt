@@ -4,9 +4,9 @@ use Rattle.clr_rules.specs.Records.{record_of}
 use Rattle.clr_rules.specs.Steps.{steps_of}
 use Rattle.clr_rules.specs.declared.record.Record.{Record}
 use Rattle.clr_rules.specs.declared.step_row.StepRow.{StepRow}
-use Rattle.clr_text.specs.Printed.{in_round, order_text, round_text}
-use Rattle.clr_text.proofs.RowsLent.{now-filter}
-use Rattle.clr_text.proofs.orders.print_order.Goals as goal
+use Rattle.clr_print.specs.Printed.{in_round, order_text, round_text}
+use Rattle.clr_print.proofs.RowsLent.{now-filter}
+use Rattle.clr_print.proofs.orders.print_order.Goals as goal
 
 pub returns : goal.returns
 returns g c =

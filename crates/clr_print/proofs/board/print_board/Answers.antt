@@ -1,9 +1,9 @@
 use Rattle.std.proofs.Common.{◌≡◌, ◌∙◌, ap, List, ℕ, ℤ, Bor, filter, map, FitsSigned, w16, to_z-of_z}
 use Rattle.std.proofs.lemmas.Result.{IfOk-weaker}
 use Rattle.clr_rules.specs.declared.record.Record.{Record}
-use Rattle.clr_text.specs.Printed.{board_of, board_text, is_open}
-use Rattle.clr_text.proofs.RowsLent.{now-filter}
-use Rattle.clr_text.proofs.board.print_board.Goals as goal
+use Rattle.clr_print.specs.Printed.{board_of, board_text, is_open}
+use Rattle.clr_print.proofs.RowsLent.{now-filter}
+use Rattle.clr_print.proofs.board.print_board.Goals as goal
 
 pub returns : goal.returns
 returns g c =

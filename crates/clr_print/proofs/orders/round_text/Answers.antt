@@ -2,9 +2,9 @@ use Rattle.std.proofs.Common.{◌≡◌, ◌∙◌, sym, ap, List, ℕ, ◌++◌
 use Rattle.clr_rules.specs.declared.step_row.StepRow.{StepRow}
 use Rattle.std.proofs.Common.{Bor, map, length, ◌==◌}
 use Rattle.std.specs.List.{flat_map}
-use Rattle.clr_text.specs.Printed.{step_line}
-use Rattle.clr_text.proofs.RowsLent.{some_rows}
-use Rattle.clr_text.proofs.orders.round_text.Goals as goal
+use Rattle.clr_print.specs.Printed.{step_line}
+use Rattle.clr_print.proofs.RowsLent.{some_rows}
+use Rattle.clr_print.proofs.orders.round_text.Goals as goal
 
 pub returns : goal.returns
 returns c =

@@ -2,9 +2,9 @@ use Rattle.std.proofs.Common.{◌≡◌, ℕ, ℤ, pos, ◌<◌, ◌∙◌, ◌+
 use Rattle.jiff.specs.Types.{Date, DateTime, Time}
 use Rattle.jiff.specs.Words.{civil_nanos, nanos_of_seconds}
 use Rattle.jiff.proofs.SpanFacts.{signed_arith}
-use Rattle.clr_text.specs.Moments.{face_at, local_seconds}
-use Rattle.clr_text.proofs.Calendar.{IsFace, local_face}
-use Rattle.clr_text.proofs.moments.face_at.Goals as goal
+use Rattle.clr_print.specs.Moments.{face_at, local_seconds}
+use Rattle.clr_print.proofs.Calendar.{IsFace, local_face}
+use Rattle.clr_print.proofs.moments.face_at.Goals as goal
 
 small_byte : (z : ℤ) (m n : ℕ) → z ≡ pos m → m < 128 → m ≡ n → unsigned_abs (to_z w8 (of_z w8 z)) ≡ n
 small_byte z m n e small same =

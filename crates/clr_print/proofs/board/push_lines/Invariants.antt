@@ -1,7 +1,7 @@
 use Rattle.std.proofs.Common.{◌≡◌, ◌++◌, map, drop, string_bytes}
 use Rattle.std.specs.List.{flat_map}
-use Rattle.clr_text.specs.Printed.{board_line}
-use Rattle.clr_text.proofs.board.push_lines.Given as goal
+use Rattle.clr_print.specs.Printed.{board_line}
+use Rattle.clr_print.proofs.board.push_lines.Given as goal
 
 abbrev pub invariant-loop-row : goal.invariant-loop-row
 invariant-loop-row l =

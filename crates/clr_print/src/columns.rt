@@ -1,7 +1,7 @@
 //! Lines, and texts in columns.
 ghost use Rattle.std.specs.Prelude.{◌≡◌, ◌++◌, IfOk, OnOk, decimal, replicate, string_bytes};
 ghost use Rattle.clr_rules.specs.Id.{id_text};
-ghost use Rattle.clr_text.specs.Printed.{left_column, name_or_dash, right_column, text_line};
+ghost use Rattle.clr_print.specs.Printed.{left_column, name_or_dash, right_column, text_line};
 
 use clr_net::Name;
 use clr_rules::ClearanceId;

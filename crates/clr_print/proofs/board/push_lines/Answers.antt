@@ -1,7 +1,7 @@
 use Rattle.std.proofs.Common.{◌≡◌, ◌∙◌, ◌++◌, ap, string_bytes}
-use Rattle.clr_text.specs.Printed.{board_line}
-use Rattle.clr_text.proofs.LineLoops.{line_more}
-use Rattle.clr_text.proofs.board.push_lines.Goals as goal
+use Rattle.clr_print.specs.Printed.{board_line}
+use Rattle.clr_print.proofs.LineLoops.{line_more}
+use Rattle.clr_print.proofs.board.push_lines.Goals as goal
 
 pub loop-row-preserved : goal.loop-row-preserved
 loop-row-preserved c =

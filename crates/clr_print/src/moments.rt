@@ -2,8 +2,8 @@
 ghost use Rattle.std.specs.Prelude.{◌≡◌, ◌≤◌, ◌<◌, ◌++◌, ◌∷◌, ℕ, ℤ, IfOk, IsOk, OnOk, neg_ℤ, pos};
 ghost use Rattle.std.specs.Prelude.{string_bytes, ◌≤ℤ◌, ◌+ℤ◌, ◌*ℤ◌};
 ghost use Rattle.jiff.specs.Words.{civil_nanos, nanos_of_seconds};
-ghost use Rattle.clr_text.specs.Moments.{face_at, face_text, local_seconds, moment_text};
-ghost use Rattle.clr_text.specs.Moments.{offset_text, two_digits};
+ghost use Rattle.clr_print.specs.Moments.{face_at, face_text, local_seconds, moment_text};
+ghost use Rattle.clr_print.specs.Moments.{offset_text, two_digits};
 
 use clr_rules::Moment;
 use jiff::civil::DateTime;

@@ -1,0 +1,3 @@
+pub mod Calendar
+pub mod RowsLent
+pub mod LineLoops
