@@ -1,8 +1,8 @@
 //! Whole command lines, over files of their own and writers in memory.
 use clr_csv::Counted;
+use clr_files::paths::Paths;
 use clr_program::command_line::command_line;
 use clr_subcommands::machine::{AnyFiles, Machine};
-use clr_files::paths::Paths;
 use std::env::Env;
 use std::io::Write;
 use std::rt::Files;

@@ -10,9 +10,9 @@ ghost use Rattle.std.specs.Prelude.{◌≡◌, ◌≤◌};
 ghost use Rattle.std.specs.Process.{exit_status};
 
 use clr_csv::Counted;
+use clr_files::paths::Paths;
 use clr_program::command_line::{command_line, no_words};
 use clr_subcommands::machine::{AnyFiles, Machine};
-use clr_files::paths::Paths;
 use std::process::ExitCode;
 use std::{env, io};
 
