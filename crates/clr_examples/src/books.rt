@@ -5,26 +5,11 @@ use clr_book::{
 };
 use clr_net::{Name, Position};
 use clr_order::{Action, Step, StepState};
-use clr_shelf::{ListShelf, Shelf, SortedShelf};
+use clr_shelf::{Shelf, SortedShelf};
 use clr_worked::{worked_network, worked_staff};
 use std::alloc::Global;
+use std::process::Abort;
 use std::test::Fail;
-
-/// The register on shelves that the program keeps it on.
-pub type SortedBook = Book<
-    SortedShelf<PointState>,
-    SortedShelf<Record>,
-    SortedShelf<StepRow>,
-    SortedShelf<Hold>,
->;
-
-/// The register in lists, all rows of which are walked for a group.
-pub type ListBook = Book<
-    ListShelf<PointState>,
-    ListShelf<Record>,
-    ListShelf<StepRow>,
-    ListShelf<Hold>,
->;
 
 /// The book of the worked network and staff, before the first command.
 pub fn opening_book<P: Shelf<PointState>, C: Shelf<Record>, T: Shelf<StepRow>, H: Shelf<Hold>>(
@@ -35,16 +20,18 @@ pub fn opening_book<P: Shelf<PointState>, C: Shelf<Record>, T: Shelf<StepRow>, H
     Ok(Book::opening(alloc, network, staff)?)
 }
 
-/// The same book after a change, for which room is made.
-fn book_after(alloc: Global, edits: &[Edit]) -> Result<SortedBook, Fail> {
-    let mut book: SortedBook = opening_book(alloc)?;
-    let edits = edits.iter().copied().collect(alloc)?;
+/// Makes one change in a book. Room is made for it.
+fn make<P: Shelf<PointState>, C: Shelf<Record>, T: Shelf<StepRow>, H: Shelf<Hold>>(
+    alloc: Global,
+    book: &mut Book<P, C, T, H>,
+    edits: &[Edit],
+) -> Result<(), Fail> {
     let change = Change {
-        edits: Edits::new(edits),
+        edits: Edits::new(Vec::from_slice(alloc, edits)?),
     };
     book.reserve(&change)?;
     book.apply(change);
-    Ok(book)
+    Ok(())
 }
 
 pub fn stands(
@@ -95,31 +82,41 @@ pub fn hold(kind: HoldKind, id: &str) -> Result<Hold, Fail> {
     })
 }
 
-/// Whether points stand so.
-fn has_states(book: &SortedBook, states: &[PointState]) -> bool {
-    for state in states {
-        if book.state(&state.point).copied() != Some(*state) {
-            return false;
-        }
-    }
-    true
-}
-
 /// Whether these are all records, in this order.
-fn has_records(book: &SortedBook, records: &[&Record]) -> Result<bool, Fail> {
+fn has_records<P: Shelf<PointState>, C: Shelf<Record>, T: Shelf<StepRow>, H: Shelf<Hold>>(
+    book: &Book<P, C, T, H>,
+    records: &[&Record],
+) -> Result<bool, Fail> {
     let found = book.records()?;
     Ok(found.as_slice() == records)
 }
 
 /// Whether these are all steps of a clearance, in this order.
-fn has_steps(book: &SortedBook, id: ClearanceId, steps: &[&StepRow]) -> Result<bool, Fail> {
+fn has_steps<P: Shelf<PointState>, C: Shelf<Record>, T: Shelf<StepRow>, H: Shelf<Hold>>(
+    book: &Book<P, C, T, H>,
+    id: ClearanceId,
+    steps: &[&StepRow],
+) -> Result<bool, Fail> {
     let found = book.steps(&id)?;
     Ok(found.as_slice() == steps)
 }
 
-#[test]
-fn book_before_the_first_command(rt: HostRuntime) -> Result<(), Fail> {
-    let book: SortedBook = opening_book(rt.alloc())?;
+/// Whether a point stands so.
+fn has_point<P: Shelf<PointState>, C: Shelf<Record>, T: Shelf<StepRow>, H: Shelf<Hold>>(
+    book: &Book<P, C, T, H>,
+    point: &str,
+    position: Position,
+    hand: Option<ClearanceId>,
+) -> Result<bool, Fail> {
+    let state = stands(point, position, hand)?;
+    Ok(book.state(&state.point) == Some(&state))
+}
+
+fn opens<P: Shelf<PointState>, C: Shelf<Record>, T: Shelf<StepRow>, H: Shelf<Hold>, R: Abort>(
+    rt: &R,
+    alloc: Global,
+) -> Result<(), Fail> {
+    let book: Book<P, C, T, H> = opening_book(alloc)?;
     book.stands_in_order();
     for point in ["S1", "S2", "S3", "S4"] {
         assert!(rt; has_point(&book, point, Position::Closed, None)?, "{point}");
@@ -130,10 +127,23 @@ fn book_before_the_first_command(rt: HostRuntime) -> Result<(), Fail> {
 }
 
 #[test]
-fn nothing_stands_before_the_first_command(rt: HostRuntime) -> Result<(), Fail> {
+fn book_before_the_first_command(rt: HostRuntime) -> Result<(), Fail> {
+    opens::<
+        SortedShelf<PointState>,
+        SortedShelf<Record>,
+        SortedShelf<StepRow>,
+        SortedShelf<Hold>,
+        HostRuntime,
+    >(&rt, rt.alloc())
+}
+
+fn is_empty<P: Shelf<PointState>, C: Shelf<Record>, T: Shelf<StepRow>, H: Shelf<Hold>, R: Abort>(
+    rt: &R,
+    alloc: Global,
+) -> Result<(), Fail> {
+    let book: Book<P, C, T, H> = opening_book(alloc)?;
     let section = Name::read("L1")?;
     let id = ClearanceId::read("JONES/1")?;
-    let book: SortedBook = opening_book(rt.alloc())?;
     assert!(rt; book.state(&section).is_none());
     assert!(rt; book.record(&id).is_none());
     assert!(rt; has_records(&book, &[])?);
@@ -141,101 +151,141 @@ fn nothing_stands_before_the_first_command(rt: HostRuntime) -> Result<(), Fail> 
     Ok(())
 }
 
+#[test]
+fn nothing_stands_before_the_first_command(rt: HostRuntime) -> Result<(), Fail> {
+    is_empty::<
+        SortedShelf<PointState>,
+        SortedShelf<Record>,
+        SortedShelf<StepRow>,
+        SortedShelf<Hold>,
+        HostRuntime,
+    >(&rt, rt.alloc())
+}
+
 /// S2 is opened, and S3 put into the hand of JONES/1, which holds S2 open. A tag that is not there
 /// is taken.
-fn edits_of_points(alloc: Global) -> Result<Vec<Edit>, Fail> {
+fn edits_of_points() -> Result<[Edit; 4], Fail> {
     let id = ClearanceId::read("JONES/1")?;
-    let opened = Name::read("S2")?;
-    let handed = Name::read("S3")?;
+    let (opened, handed) = (Name::read("S2")?, Name::read("S3")?);
     let held = hold(HoldKind::HeldOpen, "JONES/1")?;
     let tag = hold(HoldKind::Tag, "JONES/1")?;
-    let edits = vec![in alloc;
+    Ok([
         Edit::SetPosition {
             point: opened,
-            position: Position::Opened
+            position: Position::Opened,
         },
         Edit::SetHand {
             point: handed,
-            hand: Some(id)
+            hand: Some(id),
         },
         Edit::PutHold(held),
         Edit::TakeHold(tag),
-    ]?;
-    Ok(edits)
+    ])
 }
 
 /// T1 is closed and put into the hand of KIM/1, and then opened and in no hand.
-fn edits_of_a_point_twice(alloc: Global) -> Result<Vec<Edit>, Fail> {
+fn edits_of_a_point_twice() -> Result<[Edit; 4], Fail> {
     let id = ClearanceId::read("KIM/1")?;
     let point = Name::read("T1")?;
-    let edits = vec![in alloc;
+    Ok([
         Edit::SetPosition {
             point,
-            position: Position::Closed
+            position: Position::Closed,
         },
         Edit::SetHand {
             point,
-            hand: Some(id)
+            hand: Some(id),
         },
         Edit::SetPosition {
             point,
-            position: Position::Opened
+            position: Position::Opened,
         },
         Edit::SetHand { point, hand: None },
-    ]?;
-    Ok(edits)
+    ])
 }
 
-/// Whether a point stands so.
-fn has_point(
-    book: &SortedBook,
-    point: &str,
-    position: Position,
-    hand: Option<ClearanceId>,
-) -> Result<bool, Fail> {
-    let state = stands(point, position, hand)?;
-    Ok(has_states(book, &[state]))
-}
-
-#[test]
-fn edits_of_points_are_made(rt: HostRuntime) -> Result<(), Fail> {
+fn points_are_edited<
+    P: Shelf<PointState>,
+    C: Shelf<Record>,
+    T: Shelf<StepRow>,
+    H: Shelf<Hold>,
+    R: Abort,
+>(rt: &R, alloc: Global) -> Result<(), Fail> {
+    let mut book: Book<P, C, T, H> = opening_book(alloc)?;
     let id = ClearanceId::read("JONES/1")?;
-    let edits = edits_of_points(rt.alloc())?;
-    let book = book_after(rt.alloc(), edits.as_slice())?;
+    make(alloc, &mut book, &edits_of_points()?)?;
     assert!(rt; has_point(&book, "S1", Position::Closed, None)?);
     assert!(rt; has_point(&book, "S2", Position::Opened, None)?);
     assert!(rt; has_point(&book, "S3", Position::Closed, Some(id))?);
-    let edits = edits_of_a_point_twice(rt.alloc())?;
-    let book = book_after(rt.alloc(), edits.as_slice())?;
+    Ok(())
+}
+
+fn point_is_edited_twice<
+    P: Shelf<PointState>,
+    C: Shelf<Record>,
+    T: Shelf<StepRow>,
+    H: Shelf<Hold>,
+    R: Abort,
+>(rt: &R, alloc: Global) -> Result<(), Fail> {
+    let mut book: Book<P, C, T, H> = opening_book(alloc)?;
+    make(alloc, &mut book, &edits_of_a_point_twice()?)?;
     assert!(rt; has_point(&book, "T1", Position::Opened, None)?);
     Ok(())
 }
 
-/// Edits that put the record of KIM/1 in these phases, and its first step in these states.
-fn edits_of_kim(alloc: Global, phases: &[Phase], states: &[StepState]) -> Result<Vec<Edit>, Fail> {
-    let mut edits = Vec::new(alloc);
-    for phase in phases {
-        edits.push(Edit::PutRecord(record("KIM/1", *phase)?))?;
-    }
-    for state in states {
-        edits.push(Edit::PutStep(step("KIM/1", 1, 1, *state)?))?;
-    }
-    Ok(edits)
+#[test]
+fn edits_of_points_are_made(rt: HostRuntime) -> Result<(), Fail> {
+    points_are_edited::<
+        SortedShelf<PointState>,
+        SortedShelf<Record>,
+        SortedShelf<StepRow>,
+        SortedShelf<Hold>,
+        HostRuntime,
+    >(&rt, rt.alloc())?;
+    point_is_edited_twice::<
+        SortedShelf<PointState>,
+        SortedShelf<Record>,
+        SortedShelf<StepRow>,
+        SortedShelf<Hold>,
+        HostRuntime,
+    >(&rt, rt.alloc())
 }
 
-#[test]
-fn later_edits_win(rt: HostRuntime) -> Result<(), Fail> {
-    let edits = edits_of_kim(
-        rt.alloc(),
-        &[Phase::Requested, Phase::Ordered],
-        &[StepState::Waiting, StepState::Done],
-    )?;
-    let book = book_after(rt.alloc(), edits.as_slice())?;
+/// The record of KIM/1 is put in two phases, and its first step in two states.
+fn edits_of_kim() -> Result<[Edit; 4], Fail> {
+    Ok([
+        Edit::PutRecord(record("KIM/1", Phase::Requested)?),
+        Edit::PutRecord(record("KIM/1", Phase::Ordered)?),
+        Edit::PutStep(step("KIM/1", 1, 1, StepState::Waiting)?),
+        Edit::PutStep(step("KIM/1", 1, 1, StepState::Done)?),
+    ])
+}
+
+fn later_edit_wins<
+    P: Shelf<PointState>,
+    C: Shelf<Record>,
+    T: Shelf<StepRow>,
+    H: Shelf<Hold>,
+    R: Abort,
+>(rt: &R, alloc: Global) -> Result<(), Fail> {
+    let mut book: Book<P, C, T, H> = opening_book(alloc)?;
+    make(alloc, &mut book, &edits_of_kim()?)?;
     let ordered = record("KIM/1", Phase::Ordered)?;
     let done = step("KIM/1", 1, 1, StepState::Done)?;
     assert!(rt; has_records(&book, &[&ordered])?);
     assert!(rt; has_steps(&book, ordered.id, &[&done])?);
     Ok(())
+}
+
+#[test]
+fn later_edits_win(rt: HostRuntime) -> Result<(), Fail> {
+    later_edit_wins::<
+        SortedShelf<PointState>,
+        SortedShelf<Record>,
+        SortedShelf<StepRow>,
+        SortedShelf<Hold>,
+        HostRuntime,
+    >(&rt, rt.alloc())
 }
 
 /// Edits that put records of these clearances, and steps of these clearances, rounds and ordinals.
@@ -255,9 +305,13 @@ fn edits_of_rows(
 }
 
 /// The names of a book's clearances in the order of their records, a blank before each.
-fn names_of_records(alloc: Global, book: &SortedBook) -> Result<String, Fail> {
+fn names_of_records<P: Shelf<PointState>, C: Shelf<Record>, T: Shelf<StepRow>, H: Shelf<Hold>>(
+    alloc: Global,
+    book: &Book<P, C, T, H>,
+) -> Result<String, Fail> {
     let mut text = String::new(alloc);
-    for record in book.records()? {
+    let records = book.records()?;
+    for record in &records {
         let id = record.id;
         let name = format!(in alloc; " {id}")?;
         text.push_str(name.as_str())?;
@@ -266,10 +320,15 @@ fn names_of_records(alloc: Global, book: &SortedBook) -> Result<String, Fail> {
 }
 
 /// The rounds and ordinals of the steps of a clearance, in their order, a blank before each.
-fn places_of_steps(alloc: Global, book: &SortedBook, id: &str) -> Result<String, Fail> {
+fn places_of_steps<P: Shelf<PointState>, C: Shelf<Record>, T: Shelf<StepRow>, H: Shelf<Hold>>(
+    alloc: Global,
+    book: &Book<P, C, T, H>,
+    id: &str,
+) -> Result<String, Fail> {
     let id = ClearanceId::read(id)?;
     let mut text = String::new(alloc);
-    for row in book.steps(&id)? {
+    let rows = book.steps(&id)?;
+    for row in &rows {
         let round = row.round;
         let ordinal = row.ordinal;
         let place = format!(in alloc; " {round}.{ordinal}")?;
@@ -278,10 +337,10 @@ fn places_of_steps(alloc: Global, book: &SortedBook, id: &str) -> Result<String,
     Ok(text)
 }
 
-#[test]
-fn rows_put_in_another_order(rt: HostRuntime) -> Result<(), Fail> {
-    let edits = edits_of_rows(
-        rt.alloc(),
+/// Edits that put rows in another order than that of their keys.
+fn edits_in_another_order(alloc: Global) -> Result<Vec<Edit>, Fail> {
+    edits_of_rows(
+        alloc,
         &["KIM/1", "JONES/10", "JONES/2", "BOSS/1"],
         &[
             ("JONES/2", 2, 1),
@@ -289,13 +348,35 @@ fn rows_put_in_another_order(rt: HostRuntime) -> Result<(), Fail> {
             ("JONES/10", 1, 2),
             ("JONES/2", 1, 3),
         ],
-    )?;
-    let book = book_after(rt.alloc(), edits.as_slice())?;
-    let names = names_of_records(rt.alloc(), &book)?;
+    )
+}
+
+fn rows_are_in_order<
+    P: Shelf<PointState>,
+    C: Shelf<Record>,
+    T: Shelf<StepRow>,
+    H: Shelf<Hold>,
+    R: Abort,
+>(rt: &R, alloc: Global) -> Result<(), Fail> {
+    let mut book: Book<P, C, T, H> = opening_book(alloc)?;
+    let edits = edits_in_another_order(alloc)?;
+    make(alloc, &mut book, edits.as_slice())?;
+    let names = names_of_records(alloc, &book)?;
     assert_eq!(rt; names.as_str(), " BOSS/1 JONES/2 JONES/10 KIM/1");
-    let places = places_of_steps(rt.alloc(), &book, "JONES/2")?;
-    assert_eq!(rt; places.as_str(), " 1.3 1.10 2.1");
-    let none = places_of_steps(rt.alloc(), &book, "KIM/1")?;
-    assert_eq!(rt; none.as_str(), "");
+    for (id, places) in [("JONES/2", " 1.3 1.10 2.1"), ("KIM/1", "")] {
+        let found = places_of_steps(alloc, &book, id)?;
+        assert_eq!(rt; found.as_str(), places, "of {id}");
+    }
     Ok(())
+}
+
+#[test]
+fn rows_put_in_another_order(rt: HostRuntime) -> Result<(), Fail> {
+    rows_are_in_order::<
+        SortedShelf<PointState>,
+        SortedShelf<Record>,
+        SortedShelf<StepRow>,
+        SortedShelf<Hold>,
+        HostRuntime,
+    >(&rt, rt.alloc())
 }

@@ -1,7 +1,8 @@
 //! Requests over HTTP to a desk over a store in memory, and what goes out to each.
-use crate::desk::{MemoryDesk, new_desk};
-use clr_http::serve_all;
-use std::alloc::Global;
+use crate::desk::new_desk;
+use clr_http::{Registrar, serve_all};
+use sqlite::{Alter, Connection};
+use std::alloc::{AllocError, Global};
 use std::process::Abort;
 use std::test::Fail;
 
@@ -129,23 +130,22 @@ const NOT_THERE: [(&str, &str, &str); 2] = [
 
 /// Serves one request, and gives the bytes that go out. A 503, which is sent for want of memory, ends
 /// the test.
-fn served(alloc: Global, desk: &mut MemoryDesk, request: &str) -> Result<Vec<u8>, Fail> {
+fn served<D: Registrar>(alloc: Global, desk: &mut D, request: &str) -> Result<Vec<u8>, Fail> {
     let mut requests = Vec::new(alloc);
     requests.push(Vec::from_slice(alloc, request.as_bytes())?)?;
     let mut responses = serve_all(alloc, desk, requests.as_slice())?;
     let response = responses.pop().ok_or("a response")?;
     if response.starts_with(b"HTTP/1.1 503 ") {
-        Err("out of memory")?
-    } else {
-        Ok(response)
+        Err("out of memory")?;
     }
+    Ok(response)
 }
 
 /// To each request this response goes out.
-fn expect_responses<R: Abort>(
+fn expect_responses<D: Registrar, R: Abort>(
     rt: &R,
     alloc: Global,
-    desk: &mut MemoryDesk,
+    desk: &mut D,
     exchanges: &[(&str, &str)],
 ) -> Result<(), Fail> {
     for (request, response) in exchanges {
@@ -156,10 +156,10 @@ fn expect_responses<R: Abort>(
 }
 
 /// To each head, with the 53 bytes behind it, a response in JSON goes out: its status and body.
-fn expect_refusals<R: Abort>(
+fn expect_refusals<D: Registrar, R: Abort>(
     rt: &R,
     alloc: Global,
-    desk: &mut MemoryDesk,
+    desk: &mut D,
     heads: &[(&str, &str, &str)],
 ) -> Result<(), Fail> {
     for (head, status, body) in heads {
@@ -175,18 +175,26 @@ Connection: close\r\n\r\n{body}"
     Ok(())
 }
 
-#[test]
-fn refused_requests(rt: HostRuntime) -> Result<(), Fail> {
-    let mut desk = new_desk(rt.alloc())?;
-    expect_refusals(&rt, rt.alloc(), &mut desk, &REFUSED)?;
+fn refuses<S: Alter + Drop, R: Abort>(
+    rt: &R,
+    alloc: Global,
+    connection: Result<Connection<S>, AllocError>,
+) -> Result<(), Fail> {
+    let mut desk = new_desk(alloc, connection)?;
+    expect_refusals(rt, alloc, &mut desk, &REFUSED)?;
     let mut store = desk.end();
     let rows = store.load()?;
     assert_eq!(rt; rows.records.len(), 0);
     Ok(())
 }
 
+#[test]
+fn refused_requests(rt: HostRuntime) -> Result<(), Fail> {
+    refuses(&rt, rt.alloc(), Connection::open_in_memory(rt.alloc()))
+}
+
 /// OPS orders JONES/1, and its first step runs, each command by a request.
-fn run_first_step<R: Abort>(rt: &R, alloc: Global, desk: &mut MemoryDesk) -> Result<(), Fail> {
+fn run_first_step<D: Registrar, R: Abort>(rt: &R, alloc: Global, desk: &mut D) -> Result<(), Fail> {
     for command in FIRST_STEP {
         let length = command.len();
         let request = format!(in alloc;
@@ -198,12 +206,28 @@ fn run_first_step<R: Abort>(rt: &R, alloc: Global, desk: &mut MemoryDesk) -> Res
     Ok(())
 }
 
+fn prints_after_a_step<D: Registrar, R: Abort>(
+    rt: &R,
+    alloc: Global,
+    desk: &mut D,
+) -> Result<(), Fail> {
+    expect_responses(rt, alloc, desk, &FIRST_REQUESTS)?;
+    run_first_step(rt, alloc, desk)?;
+    expect_responses(rt, alloc, desk, &PRINTED)?;
+    expect_refusals(rt, alloc, desk, &NOT_THERE)?;
+    Ok(())
+}
+
+fn prints_of_a_new_desk<S: Alter + Drop, R: Abort>(
+    rt: &R,
+    alloc: Global,
+    connection: Result<Connection<S>, AllocError>,
+) -> Result<(), Fail> {
+    let mut desk = new_desk(alloc, connection)?;
+    prints_after_a_step(rt, alloc, &mut desk)
+}
+
 #[test]
 fn order_and_board_after_a_step(rt: HostRuntime) -> Result<(), Fail> {
-    let mut desk = new_desk(rt.alloc())?;
-    expect_responses(&rt, rt.alloc(), &mut desk, &FIRST_REQUESTS)?;
-    run_first_step(&rt, rt.alloc(), &mut desk)?;
-    expect_responses(&rt, rt.alloc(), &mut desk, &PRINTED)?;
-    expect_refusals(&rt, rt.alloc(), &mut desk, &NOT_THERE)?;
-    Ok(())
+    prints_of_a_new_desk(&rt, rt.alloc(), Connection::open_in_memory(rt.alloc()))
 }

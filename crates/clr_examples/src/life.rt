@@ -1,43 +1,17 @@
 //! A clearance's life over either kind of shelves: each kind of command from the grant on.
-use crate::books::{ListBook, SortedBook, opening_book};
-use crate::driver::{expect, own_card, say};
+use crate::books::opening_book;
+use crate::driver::{accepted, expect, own_card, say, waiting};
 use clr_book::{
     Book, Card, ClearanceId, Hold, HoldKind, Kind, Names, Phase, PointState, Record, Refusal,
-    Reply, StepRow, Tasks, Text,
+    Reply, StepRow, Text,
 };
 use clr_net::Name;
-use clr_order::{Step, read_step_text};
-use clr_shelf::Shelf;
+use clr_shelf::{ListShelf, Shelf, SortedShelf};
 use clr_worked::names;
 use std::alloc::Global;
 use std::test::Fail;
 
-/// A command that is accepted, and the card of its clearance after it.
-#[derive(Drop)]
-struct Line {
-    by: &'static str,
-    kind: Kind,
-    card: Card,
-}
-
-fn said(by: &'static str, kind: Kind, card: Card) -> Line {
-    Line { by, kind, card }
-}
-
-/// Steps that nobody has read, from their texts.
-fn waiting(alloc: Global, texts: &[&str]) -> Result<Tasks, Fail> {
-    let mut steps = Vec::new(alloc);
-    for text in texts {
-        // The checker proves this only where the type of the reader is seen.
-        steps.push(Step {
-            reader: None,
-            ..read_step_text(text)?
-        })?;
-    }
-    Ok(Tasks::new(steps))
-}
-
-/// Each step is given out, repeated by REED and reported as done.
+/// Steps run, from the first on: each is given out, repeated by REED and reported as done.
 fn run_steps<P: Shelf<PointState>, C: Shelf<Record>, T: Shelf<StepRow>, H: Shelf<Hold>>(
     alloc: Global,
     book: &mut Book<P, C, T, H>,
@@ -45,8 +19,8 @@ fn run_steps<P: Shelf<PointState>, C: Shelf<Record>, T: Shelf<StepRow>, H: Shelf
     texts: &[&str],
 ) -> Result<(), Fail> {
     for (text, step) in texts.iter().zip(1..257) {
-        let text = Text::new(String::from_str(alloc, text)?);
         let _given = say(book, "OPS", Kind::Instruct { clearance, step })?;
+        let text = Text::new(String::from_str(alloc, text)?);
         let _read = say(
             book,
             "REED",
@@ -66,27 +40,40 @@ fn run_steps<P: Shelf<PointState>, C: Shelf<Record>, T: Shelf<StepRow>, H: Shelf
     Ok(())
 }
 
-/// A requester asks for a section, and OPS has it isolated by these steps and grants it.
+/// An order at points, with these steps.
+fn order_at(
+    alloc: Global,
+    clearance: ClearanceId,
+    points: &[&str],
+    texts: &[&str],
+) -> Result<Kind, Fail> {
+    let steps = waiting(alloc, texts)?;
+    let points = Names::new(names(alloc, points)?);
+    Ok(Kind::Order {
+        clearance,
+        points,
+        steps,
+    })
+}
+
+/// A requester asks for a section, OPS has it isolated by these steps and grants it, and its
+/// clearance stands so.
 fn grant<P: Shelf<PointState>, C: Shelf<Record>, T: Shelf<StepRow>, H: Shelf<Hold>>(
     alloc: Global,
     book: &mut Book<P, C, T, H>,
-    clearance: ClearanceId,
     section: &str,
     points: &[&str],
     texts: &[&str],
-) -> Result<Reply, Fail> {
+    card: Card,
+) -> Result<(), Fail> {
     let section = Name::read(section)?;
+    let clearance = card.clearance;
     let asked = Kind::Request { section };
     let _asked = say(book, clearance.requester().as_str(), asked)?;
-    let order = Kind::Order {
-        clearance,
-        points: Names::new(names(alloc, points)?),
-        steps: waiting(alloc, texts)?,
-    };
+    let order = order_at(alloc, clearance, points, texts)?;
     let _ordered = say(book, "OPS", order)?;
     run_steps(alloc, book, clearance, texts)?;
-    let reply = say(book, "OPS", Kind::Grant { clearance })?;
-    Ok(reply)
+    accepted(book, "OPS", Kind::Grant { clearance }, card)
 }
 
 /// The steps that isolate L2 at S2 and S3.
@@ -120,155 +107,135 @@ const RESTORE_L3: [&str; 9] = [
     "LEAVE T1",
 ];
 
-/// JONES/1 is granted on L2, and KIM/1 on L3. Both hold S3 open.
-fn granted_book<P: Shelf<PointState>, C: Shelf<Record>, T: Shelf<StepRow>, H: Shelf<Hold>>(
-    alloc: Global,
-    jones: ClearanceId,
-    kim: ClearanceId,
-) -> Result<Book<P, C, T, H>, Fail> {
-    let mut book = opening_book(alloc)?;
-    expect(
-        grant(alloc, &mut book, jones, "L2", &["S2", "S3"], &ISOLATE_L2)?,
-        Reply::Accepted(own_card(jones, Phase::Granted, 1, 6, 6)),
-    )?;
-    expect(
-        grant(
-            alloc,
-            &mut book,
-            kim,
-            "L3",
-            &["S3", "S4", "T1"],
-            &ISOLATE_L3,
-        )?,
-        Reply::Accepted(own_card(kim, Phase::Granted, 1, 9, 9)),
-    )?;
-    Ok(book)
-}
-
-/// JONES works on L2 and hands the clearance on, and KIM gives hers back, which is then restored.
-fn work(alloc: Global, jones: ClearanceId, kim: ClearanceId) -> Result<Vec<Line>, Fail> {
-    let (section, crew, to) = (Name::read("L2")?, Name::read("C1")?, Name::read("KIM")?);
-    let clearance = jones;
-    let stands = own_card(jones, Phase::Granted, 1, 6, 6);
-    let handed_on = Card {
-        holder: to,
-        ..stands
-    };
-    let rows = vec![in alloc;
-        said(
-            "JONES",
-            Kind::Test {
-                clearance,
-                section,
-                dead: true
-            },
-            stands
-        ),
-        said("JONES", Kind::Ground { clearance, section }, stands),
-        said("JONES", Kind::SignOn { clearance, crew }, stands),
-        said("JONES", Kind::SignOff { clearance, crew }, stands),
-        said("JONES", Kind::Unground { clearance, section }, stands),
-        said(
-            "BOSS",
-            Kind::Transfer {
-                clearance,
-                to,
-                emergency: true
-            },
-            handed_on
-        ),
-        said(
-            "KIM",
-            Kind::Release {
-                clearance: kim,
-                notified: true,
-                clear: true
-            },
-            own_card(kim, Phase::Released, 1, 9, 9)
-        ),
-        said(
-            "OPS",
-            Kind::Restore {
-                clearance: kim,
-                steps: waiting(alloc, &RESTORE_L3)?
-            },
-            own_card(kim, Phase::Restoring, 2, 0, 9)
-        ),
-    ]?;
-    Ok(rows)
-}
-
-/// S3 is left open, and OPS makes a switch order and gives it up.
-fn end(alloc: Global, kim: ClearanceId) -> Result<Vec<Line>, Fail> {
-    let switch = ClearanceId::read("OPS/1")?;
-    let rows = vec![in alloc;
-        said(
-            "OPS",
-            Kind::Amend {
-                clearance: kim,
-                step: 3
-            },
-            own_card(kim, Phase::Restoring, 2, 2, 9)
-        ),
-        said(
-            "OPS",
-            Kind::Switch {
-                steps: waiting(alloc, &["OPEN S1"])?
-            },
-            own_card(switch, Phase::Switching, 1, 0, 1)
-        ),
-        said(
-            "OPS",
-            Kind::Cancel { clearance: switch },
-            own_card(switch, Phase::Closed, 1, 0, 1)
-        ),
-    ]?;
-    Ok(rows)
-}
-
-/// Each command of a table is accepted, and its clearance stands so.
-fn expect_all<P: Shelf<PointState>, C: Shelf<Record>, T: Shelf<StepRow>, H: Shelf<Hold>>(
+/// JONES works on L2, and BOSS hands the clearance on to KIM.
+fn work<P: Shelf<PointState>, C: Shelf<Record>, T: Shelf<StepRow>, H: Shelf<Hold>>(
     book: &mut Book<P, C, T, H>,
-    table: Vec<Line>,
+    stands: Card,
 ) -> Result<(), Fail> {
-    for line in table {
-        let reply = say(book, line.by, line.kind)?;
-        expect(reply, Reply::Accepted(line.card))?;
-    }
-    Ok(())
+    let (section, crew, to) = (Name::read("L2")?, Name::read("C1")?, Name::read("KIM")?);
+    let clearance = stands.clearance;
+    let test = Kind::Test {
+        clearance,
+        section,
+        dead: true,
+    };
+    accepted(book, "JONES", test, stands)?;
+    accepted(book, "JONES", Kind::Ground { clearance, section }, stands)?;
+    accepted(book, "JONES", Kind::SignOn { clearance, crew }, stands)?;
+    accepted(book, "JONES", Kind::SignOff { clearance, crew }, stands)?;
+    accepted(book, "JONES", Kind::Unground { clearance, section }, stands)?;
+    let transfer = Kind::Transfer {
+        clearance,
+        to,
+        emergency: true,
+    };
+    accepted(
+        book,
+        "BOSS",
+        transfer,
+        Card {
+            holder: to,
+            ..stands
+        },
+    )
 }
 
-/// What is said from the grant on, of a book in which both are granted.
-fn live_on<P: Shelf<PointState>, C: Shelf<Record>, T: Shelf<StepRow>, H: Shelf<Hold>>(
+/// KIM gives hers back, and OPS has it restored.
+fn give_back<P: Shelf<PointState>, C: Shelf<Record>, T: Shelf<StepRow>, H: Shelf<Hold>>(
     alloc: Global,
-    mut book: Book<P, C, T, H>,
-    jones: ClearanceId,
-    kim: ClearanceId,
+    book: &mut Book<P, C, T, H>,
+    clearance: ClearanceId,
 ) -> Result<(), Fail> {
-    expect_all(&mut book, work(alloc, jones, kim)?)?;
-    run_steps(alloc, &mut book, kim, &["UNTAG S3", "UNBLOCK S3"])?;
-    let close = Kind::Instruct {
-        clearance: kim,
-        step: 3,
+    let release = Kind::Release {
+        clearance,
+        notified: true,
+        clear: true,
     };
-    expect(
-        say(&mut book, "OPS", close)?,
-        Reply::Refused(Refusal::Held(jones, HoldKind::HeldOpen)),
+    accepted(
+        book,
+        "KIM",
+        release,
+        own_card(clearance, Phase::Released, 1, 9, 9),
     )?;
-    expect_all(&mut book, end(alloc, kim)?)?;
-    Ok(())
+    let steps = waiting(alloc, &RESTORE_L3)?;
+    accepted(
+        book,
+        "OPS",
+        Kind::Restore { clearance, steps },
+        own_card(clearance, Phase::Restoring, 2, 0, 9),
+    )
+}
+
+/// S3 stays open, since another holds it open, and its step is amended.
+fn leave_open<P: Shelf<PointState>, C: Shelf<Record>, T: Shelf<StepRow>, H: Shelf<Hold>>(
+    alloc: Global,
+    book: &mut Book<P, C, T, H>,
+    clearance: ClearanceId,
+    other: ClearanceId,
+) -> Result<(), Fail> {
+    run_steps(alloc, book, clearance, &["UNTAG S3", "UNBLOCK S3"])?;
+    let close = Kind::Instruct { clearance, step: 3 };
+    let refused = say(book, "OPS", close)?;
+    expect(
+        refused,
+        Reply::Refused(Refusal::Held(other, HoldKind::HeldOpen)),
+    )?;
+    accepted(
+        book,
+        "OPS",
+        Kind::Amend { clearance, step: 3 },
+        own_card(clearance, Phase::Restoring, 2, 2, 9),
+    )
+}
+
+/// OPS makes a switch order and gives it up.
+fn switch<P: Shelf<PointState>, C: Shelf<Record>, T: Shelf<StepRow>, H: Shelf<Hold>>(
+    alloc: Global,
+    book: &mut Book<P, C, T, H>,
+) -> Result<(), Fail> {
+    let clearance = ClearanceId::read("OPS/1")?;
+    let steps = waiting(alloc, &["OPEN S1"])?;
+    accepted(
+        book,
+        "OPS",
+        Kind::Switch { steps },
+        own_card(clearance, Phase::Switching, 1, 0, 1),
+    )?;
+    accepted(
+        book,
+        "OPS",
+        Kind::Cancel { clearance },
+        own_card(clearance, Phase::Closed, 1, 0, 1),
+    )
+}
+
+/// JONES/1 is granted on L2, and KIM/1 on L3. Both hold S3 open. Then each kind is said.
+fn live<P: Shelf<PointState>, C: Shelf<Record>, T: Shelf<StepRow>, H: Shelf<Hold>>(
+    alloc: Global,
+) -> Result<(), Fail> {
+    let mut book: Book<P, C, T, H> = opening_book(alloc)?;
+    let book = &mut book;
+    let (jones, kim) = (ClearanceId::read("JONES/1")?, ClearanceId::read("KIM/1")?);
+    let stands = own_card(jones, Phase::Granted, 1, 6, 6);
+    grant(alloc, book, "L2", &["S2", "S3"], &ISOLATE_L2, stands)?;
+    let granted = own_card(kim, Phase::Granted, 1, 9, 9);
+    grant(alloc, book, "L3", &["S3", "S4", "T1"], &ISOLATE_L3, granted)?;
+    work(book, stands)?;
+    give_back(alloc, book, kim)?;
+    leave_open(alloc, book, kim, jones)?;
+    switch(alloc, book)
 }
 
 #[test]
 fn each_kind_from_the_grant_on(rt: HostRuntime) -> Result<(), Fail> {
-    let (jones, kim) = (ClearanceId::read("JONES/1")?, ClearanceId::read("KIM/1")?);
-    let book: SortedBook = granted_book(rt.alloc(), jones, kim)?;
-    live_on(rt.alloc(), book, jones, kim)
+    live::<SortedShelf<PointState>, SortedShelf<Record>, SortedShelf<StepRow>, SortedShelf<Hold>>(
+        rt.alloc(),
+    )
 }
 
 #[test]
 fn each_kind_from_the_grant_on_over_lists(rt: HostRuntime) -> Result<(), Fail> {
-    let (jones, kim) = (ClearanceId::read("JONES/1")?, ClearanceId::read("KIM/1")?);
-    let book: ListBook = granted_book(rt.alloc(), jones, kim)?;
-    live_on(rt.alloc(), book, jones, kim)
+    live::<ListShelf<PointState>, ListShelf<Record>, ListShelf<StepRow>, ListShelf<Hold>>(
+        rt.alloc(),
+    )
 }

@@ -10,15 +10,15 @@ use clr_order::StepState;
 use clr_store::{Rows, Store, StoreFault};
 use clr_tables::TableName;
 use clr_worked::{worked_network, worked_staff};
-use sqlite::{Connection, MemStore};
-use std::alloc::Global;
+use sqlite::{Alter, Connection};
+use std::alloc::{AllocError, Global};
+use std::process::Abort;
 use std::test::Fail;
 
 /// The store of the worked register, made in an empty database.
-fn made(alloc: Global) -> Result<Store<MemStore>, Fail> {
+fn made<S: Alter + Drop>(alloc: Global, connection: Connection<S>) -> Result<Store<S>, Fail> {
     let network = worked_network(alloc)?;
     let staff = worked_staff(alloc)?;
-    let connection = Connection::open_in_memory(alloc)?;
     match Store::create(connection, &network, &staff) {
         Ok(store) => Ok(store),
         Err(back) => Err(back.fault)?,
@@ -33,49 +33,75 @@ fn unless_memory(fault: DeskFault) -> Result<DeskFault, Fail> {
     }
 }
 
-/// The fault of a desk that is to make its tables in the database of a store.
-fn fault_of_making(alloc: Global, store: Store<MemStore>) -> Result<DeskFault, Fail> {
+/// A desk that is to make its tables in a database that has them is refused.
+fn is_made_once<S: Alter + Drop, R: Abort>(
+    rt: &R,
+    alloc: Global,
+    connection: Result<Connection<S>, AllocError>,
+) -> Result<(), Fail> {
+    let store = made(alloc, connection?)?;
     let network = worked_network(alloc)?;
     let staff = worked_staff(alloc)?;
     let made = Desk::create(alloc, store.end(), network, staff);
     let (fault, _connection) = made.err().ok_or("a fault")?;
-    unless_memory(fault)
+    assert_eq!(rt; unless_memory(fault)?, DeskFault::Store(StoreFault::Sql));
+    Ok(())
 }
 
 /// The store ended and opened again.
-fn again(store: Store<MemStore>) -> Result<Store<MemStore>, StoreFault> {
+fn again<S: Alter + Drop>(store: Store<S>) -> Result<Store<S>, StoreFault> {
     match Store::open(store.end()) {
         Ok(store) => Ok(store),
         Err(back) => Err(back.fault),
     }
 }
 
-/// The store ended, its database changed by a statement, and opened again.
-fn after(store: Store<MemStore>, statement: &str) -> Result<Store<MemStore>, StoreFault> {
+/// The store of the worked register, its database changed by a statement, and opened again.
+fn after<S: Alter + Drop>(
+    alloc: Global,
+    connection: Connection<S>,
+    statement: &str,
+) -> Result<Result<Store<S>, StoreFault>, Fail> {
+    let store = made(alloc, connection)?;
     let mut connection = store.end();
     connection.execute(statement, &[])?;
     match Store::open(connection) {
-        Ok(store) => Ok(store),
-        Err(back) => Err(back.fault),
+        Ok(store) => Ok(Ok(store)),
+        Err(back) => Ok(Err(back.fault)),
     }
 }
 
-/// The fault of opening the worked register's database after a statement.
-fn fault_of_opening(alloc: Global, statement: &str) -> Result<Option<StoreFault>, Fail> {
-    let store = made(alloc)?;
-    match after(store, statement).err() {
-        Some(StoreFault::NoMemory) => Err(StoreFault::NoMemory)?,
-        told => Ok(told),
-    }
+/// The worked register's database is not opened after a statement, for this fault.
+fn expect_fault_of_opening<S: Alter + Drop, R: Abort>(
+    rt: &R,
+    alloc: Global,
+    connection: Result<Connection<S>, AllocError>,
+    statement: &str,
+    expected: StoreFault,
+) -> Result<(), Fail> {
+    let opened = after(alloc, connection?, statement)?;
+    let fault = unless_memory(DeskFault::from(opened.err().ok_or("a fault")?))?;
+    assert_eq!(rt; fault, DeskFault::Store(expected), "{statement}");
+    Ok(())
 }
 
-/// The fault of opening a desk, which loads the tables, over the worked register's database after
-/// a statement.
-fn fault_of_a_desk(alloc: Global, statement: &str) -> Result<DeskFault, Fail> {
-    let store = made(alloc)?;
-    let opened = Desk::open(after(store, statement)?);
-    let (fault, _store) = opened.err().ok_or("a fault")?;
-    unless_memory(fault)
+/// No desk, which loads the tables, is opened over the worked register's database after a
+/// statement, for this fault of the store.
+fn expect_fault_of_a_desk<S: Alter + Drop, R: Abort>(
+    rt: &R,
+    alloc: Global,
+    connection: Result<Connection<S>, AllocError>,
+    statement: &str,
+    expected: StoreFault,
+) -> Result<(), Fail> {
+    let store = after(alloc, connection?, statement)??;
+    let (fault, _store) = Desk::open(store).err().ok_or("a fault")?;
+    assert_eq!(rt;
+        unless_memory(fault)?,
+        DeskFault::Store(expected),
+        "{statement}"
+    );
+    Ok(())
 }
 
 /// What JONES/1 has after its first step and an instruct of the second, at S2 and S3.
@@ -100,35 +126,33 @@ fn what_is_held() -> Result<Held, Fail> {
     })
 }
 
-/// The change to what is held.
-fn change_to_held(alloc: Global) -> Result<Change, Fail> {
+/// The edits that make what is held.
+fn edits_to_held() -> Result<[Edit; 5], Fail> {
     let id = ClearanceId::read("JONES/1")?;
-    let opened = Name::read("S2")?;
-    let handed = Name::read("S3")?;
+    let (opened, handed) = (Name::read("S2")?, Name::read("S3")?);
     let held = hold(HoldKind::HeldOpen, "JONES/1")?;
     let ordered = record("JONES/1", Phase::Ordered)?;
     let done = step("JONES/1", 1, 1, StepState::Done)?;
-    let edits = vec![in alloc;
+    Ok([
         Edit::SetPosition {
             point: opened,
-            position: Position::Opened
+            position: Position::Opened,
         },
         Edit::SetHand {
             point: handed,
-            hand: Some(id)
+            hand: Some(id),
         },
         Edit::PutHold(held),
         Edit::PutRecord(ordered),
         Edit::PutStep(done),
-    ]?;
-    Ok(Change {
-        edits: Edits::new(edits),
-    })
+    ])
 }
 
 /// Makes that change in a store.
-fn hold_in(alloc: Global, store: &mut Store<MemStore>) -> Result<(), Fail> {
-    let change = change_to_held(alloc)?;
+fn hold_in<S: Alter + Drop>(alloc: Global, store: &mut Store<S>) -> Result<(), Fail> {
+    let change = Change {
+        edits: Edits::new(Vec::from_slice(alloc, &edits_to_held()?)?),
+    };
     store.commit(&change)?;
     Ok(())
 }
@@ -157,78 +181,92 @@ fn is_worked(alloc: Global, rows: &Rows) -> Result<bool, Fail> {
     )
 }
 
-#[test]
-fn register_made_and_loaded(rt: HostRuntime) -> Result<(), Fail> {
-    let mut store = made(rt.alloc())?;
+fn is_loaded<S: Alter + Drop, R: Abort>(
+    rt: &R,
+    alloc: Global,
+    connection: Result<Connection<S>, AllocError>,
+) -> Result<(), Fail> {
+    let mut store = made(alloc, connection?)?;
     let rows = store.load()?;
-    assert!(rt; is_worked(rt.alloc(), &rows)?);
+    assert!(rt; is_worked(alloc, &rows)?);
     assert_eq!(rt; rows.records.len(), 0);
     assert_eq!(rt; rows.holds.len(), 0);
     Ok(())
 }
 
 #[test]
-fn hand_and_holds_after_opening_again(rt: HostRuntime) -> Result<(), Fail> {
-    let mut store = made(rt.alloc())?;
-    hold_in(rt.alloc(), &mut store)?;
+fn register_made_and_loaded(rt: HostRuntime) -> Result<(), Fail> {
+    is_loaded(&rt, rt.alloc(), Connection::open_in_memory(rt.alloc()))
+}
+
+fn is_held_again<S: Alter + Drop, R: Abort>(
+    rt: &R,
+    alloc: Global,
+    connection: Result<Connection<S>, AllocError>,
+) -> Result<(), Fail> {
+    let mut store = made(alloc, connection?)?;
+    hold_in(alloc, &mut store)?;
     let mut store = again(store)?;
     let rows = store.load()?;
-    assert!(rt; is_worked(rt.alloc(), &rows)?);
+    assert!(rt; is_worked(alloc, &rows)?);
     assert!(rt; has_held(&rows)?);
     Ok(())
 }
 
 #[test]
+fn hand_and_holds_after_opening_again(rt: HostRuntime) -> Result<(), Fail> {
+    is_held_again(&rt, rt.alloc(), Connection::open_in_memory(rt.alloc()))
+}
+
+#[test]
 fn tables_are_made_once(rt: HostRuntime) -> Result<(), Fail> {
-    let store = made(rt.alloc())?;
-    let fault = fault_of_making(rt.alloc(), store)?;
-    assert_eq!(rt; fault, DeskFault::Store(StoreFault::Sql));
-    Ok(())
+    is_made_once(&rt, rt.alloc(), Connection::open_in_memory(rt.alloc()))
 }
 
 #[test]
 fn versions_that_are_not_opened(rt: HostRuntime) -> Result<(), Fail> {
-    let ninth = fault_of_opening(rt.alloc(), "UPDATE meta SET value = 9")?;
-    assert_eq!(rt; ninth, Some(StoreFault::WrongVersion(9)));
-    let none = fault_of_opening(rt.alloc(), "DELETE FROM meta")?;
-    assert_eq!(rt; none, Some(StoreFault::BadRow(TableName::Meta)));
-    Ok(())
+    let ninth = StoreFault::WrongVersion(9);
+    let opened = Connection::open_in_memory(rt.alloc());
+    expect_fault_of_opening(&rt, rt.alloc(), opened, "UPDATE meta SET value = 9", ninth)?;
+    let none = StoreFault::BadRow(TableName::Meta);
+    let opened = Connection::open_in_memory(rt.alloc());
+    expect_fault_of_opening(&rt, rt.alloc(), opened, "DELETE FROM meta", none)
 }
+
+/// What is not a row, and the table that it stands in.
+const NO_ROWS: [(&str, TableName); 6] = [
+    (
+        "UPDATE point SET hand_requester = 'JONES' WHERE name = 'S3'",
+        TableName::Point,
+    ),
+    (
+        "UPDATE section SET source = 2 WHERE name = 'L2'",
+        TableName::Section,
+    ),
+    (
+        "UPDATE staff SET role = 'chief' WHERE name = 'KIM'",
+        TableName::Staff,
+    ),
+    (
+        "INSERT INTO clearance VALUES ('JONES', 1, 'JONES', 'L2', 'Open', 100)",
+        TableName::Clearance,
+    ),
+    (
+        "INSERT INTO step VALUES ('JONES', 1, 256, 1, 'Open', 'S2', 'Waiting', NULL)",
+        TableName::Step,
+    ),
+    (
+        "INSERT INTO hold VALUES ('Tag', 'S2', 'JONES', 0)",
+        TableName::Hold,
+    ),
+];
 
 #[test]
 fn rows_that_do_not_read(rt: HostRuntime) -> Result<(), Fail> {
-    for (statement, table) in [
-        (
-            "UPDATE point SET hand_requester = 'JONES' WHERE name = 'S3'",
-            TableName::Point,
-        ),
-        (
-            "UPDATE section SET source = 2 WHERE name = 'L2'",
-            TableName::Section,
-        ),
-        (
-            "UPDATE staff SET role = 'chief' WHERE name = 'KIM'",
-            TableName::Staff,
-        ),
-        (
-            "INSERT INTO clearance VALUES ('JONES', 1, 'JONES', 'L2', 'Open', 100)",
-            TableName::Clearance,
-        ),
-        (
-            "INSERT INTO step VALUES ('JONES', 1, 256, 1, 'Open', 'S2', 'Waiting', NULL)",
-            TableName::Step,
-        ),
-        (
-            "INSERT INTO hold VALUES ('Tag', 'S2', 'JONES', 0)",
-            TableName::Hold,
-        ),
-    ] {
-        let fault = fault_of_a_desk(rt.alloc(), statement)?;
-        assert_eq!(rt;
-            fault,
-            DeskFault::Store(StoreFault::BadRow(table)),
-            "{statement}"
-        );
+    for (statement, table) in &NO_ROWS {
+        let opened = Connection::open_in_memory(rt.alloc());
+        let fault = StoreFault::BadRow(*table);
+        expect_fault_of_a_desk(&rt, rt.alloc(), opened, statement, fault)?;
     }
     Ok(())
 }
