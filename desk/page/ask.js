@@ -1,0 +1,24 @@
+// A question that the operator has to answer before anything goes on.
+
+import { el, button } from "./elements.js";
+
+// Shows the lines and a button for each answer, as [value, text]; gives the value of the one that was taken, null where
+// the question was left by Escape. The last answer, which does nothing, has the focus.
+export function ask(title, lines, answers) {
+  return new Promise((settle) => {
+    let given = null;
+    const close = (value) => { given = value; dialog.close(); };
+    const buttons = answers.map(([value, text], place) =>
+      button(text, () => close(value), { "data-answer": String(value), autofocus: place === answers.length - 1 }));
+    const dialog = el("dialog", { class: "ask", "aria-labelledby": "ask-title" },
+      el("h2", { id: "ask-title" }, title),
+      lines.map((line) => el("p", {}, line)),
+      el("div", { class: "answers" }, buttons));
+    dialog.addEventListener("close", () => {
+      dialog.remove();
+      settle(given);
+    });
+    document.body.append(dialog);
+    dialog.showModal();
+  });
+}

@@ -1,0 +1,68 @@
+// The board: every clearance and switch order that is not closed.
+
+import { el, panel, table } from "./elements.js";
+import { shortTime, wholeTime } from "./moments.js";
+import { holdWord, phaseWord, stateWord } from "./words.js";
+import { presentStep } from "./who.js";
+import { room, viewOf } from "./watch.js";
+
+// A holder without a supervisor is marked: in an emergency nobody can take the clearance over.
+export function holderCell(holder, work, staff) {
+  const alone = work && work !== "-" && !staff.get(holder)?.supervisor;
+  return el("span", {}, holder,
+    alone ? el("span", { class: "chip warn", title: "In an emergency nobody can transfer this clearance" }, "no supervisor") : null);
+}
+
+export function stepsWords(view) {
+  if (!view) return "";
+  const { done, steps } = view.card;
+  if (!steps) return "no steps";
+  const step = presentStep(view);
+  const next = step ? `; ${step.number} ${step.text} ${stateWord(step.state)}` : "";
+  return `${done} of ${steps} done${next}`;
+}
+
+// Tests, grounds and crews of the clearance.
+export function workWords(view) {
+  if (!view) return "";
+  const own = view.holds.filter((hold) => hold.by === view.card.clearance && (hold.kind === "Tested" || hold.kind === "Ground"));
+  const grounded = new Set(own.filter((hold) => hold.kind === "Ground").map((hold) => hold.place));
+  const words = own.filter((hold) => hold.kind === "Ground" || !grounded.has(hold.place))
+    .map((hold) => `${hold.place} ${holdWord(hold.kind)}`);
+  if (view.crews.length) words.push(`crews ${view.crews.join(", ")}`);
+  return words.join("; ");
+}
+
+function boardRow(row, staff) {
+  const view = viewOf(row.id);
+  return el("tr", { "data-id": row.id },
+    el("th", { scope: "row" }, el("a", { href: `#/clearance/${row.id}`, "data-name": row.id }, row.id)),
+    el("td", {}, el("span", { class: `phase ${row.phase}`, title: phaseWord(row.phase) }, row.phase)),
+    el("td", {}, row.work === "-" ? "switch order" : row.work),
+    el("td", {}, stepsWords(view)),
+    el("td", {}, workWords(view)),
+    el("td", {}, holderCell(row.holder, row.work, staff)),
+    el("td", { class: "moment", title: wholeTime(row.last) }, shortTime(row.last)));
+}
+
+export class BoardPage {
+  #desk; #rows = el("div", { class: "sheet" });
+  title = "Board";
+  node;
+
+  constructor(desk) {
+    this.#desk = desk;
+    this.node = el("section", { class: "board" }, el("h2", { tabindex: -1 }, "Board"), this.#rows, el("div", { class: "diagram-place" }));
+    this.update();
+  }
+
+  update() {
+    const { staff } = this.#desk.network;
+    const views = room.board.map((row) => viewOf(row.id)?.card ?? null);
+    panel(this.#rows, [room.read === null, room.board.map((row) => row.line), views, room.board.map((row) => [stepsWords(viewOf(row.id)), workWords(viewOf(row.id))])], () => {
+      if (room.read === null) return el("p", {}, "The board was not read yet.");
+      if (!room.board.length) return el("p", {}, "Nothing is open: no clearance and no switch order.");
+      return table(["Name", "Phase", "Section", "Steps", "Work", "Holder", "Last moment"], room.board.map((row) => boardRow(row, staff)), { class: "wide" });
+    });
+  }
+}

@@ -1,0 +1,176 @@
+// One clearance or switch order: its card, who may do what next, its steps, its fence, points, holds and crews.
+
+import { holderCell } from "./board.js";
+import { el, button, choice, panel, table } from "./elements.js";
+import { cancelControl, emergencyControl, grantControl, releaseControl, transferControl } from "./giving.js";
+import { shortTime, wholeTime } from "./moments.js";
+import { OrderEditor } from "./order.js";
+import { printedOrders } from "./printed.js";
+import { RestoreEditor } from "./restore.js";
+import { amendControl, instructControl, repeatControl, reportControl, stepsTable } from "./steps.js";
+import { boardLine, choose, lookAt, viewOf } from "./watch.js";
+import { offersOf } from "./who.js";
+import { holdWord, phaseWord } from "./words.js";
+import { workControl } from "./work.js";
+
+const CONTROLS = {
+  order: (context) => new OrderEditor(context.view, context).node,
+  restore: (context) => new RestoreEditor(context.view, context).node,
+  instruct: instructControl, repeat: repeatControl, report: reportControl, amend: amendControl, grant: grantControl,
+  work: workControl, release: releaseControl, cancel: cancelControl, transfer: transferControl, emergency: emergencyControl,
+};
+
+// What a control shows of the view: it is made anew only where that has changed, so that nothing typed is lost.
+const SHOWN = {
+  order: () => [],
+  restore: (view) => view.holds,
+  work: (view) => [view.fence, view.holds, view.crews],
+  transfer: (view) => view.card.holder,
+  emergency: (view) => view.card.holder,
+  cancel: (view) => view.card.phase,
+};
+
+const MOST_BUTTONS = 4;
+
+function asControl(names, desk) {
+  if (names.length <= MOST_BUTTONS) {
+    return names.map((name) => button(`Speak as ${name}`, () => desk.speakAs(name), { class: "quiet", "data-name": `as ${name}` }));
+  }
+  const pick = choice([["", "speak as…"], ...names.map((name) => [name, name])], {
+    "aria-label": "Speak as", onchange: () => pick.value && desk.speakAs(pick.value) });
+  return pick;
+}
+
+function othersList(offers, desk) {
+  return el("ul", { class: "others" }, offers.map(({ says, names }) => el("li", {},
+    el("span", {}, el("strong", {}, names.length > MOST_BUTTONS ? `${names.length} names` : names.join(" or ") || "nobody"), `: ${says} `),
+    el("span", { class: "answers" }, asControl(names, desk)))));
+}
+
+function pointRow(row, view) {
+  const holds = view.holds.filter((hold) => hold.place === row.point && !["Tested", "Ground"].includes(hold.kind));
+  const owners = [...new Set(holds.map((hold) => hold.by))];
+  return el("tr", {}, el("th", { scope: "row" }, el("a", { href: `#/points/${row.point}` }, row.point)),
+    el("td", {}, row.position), el("td", {}, row.hand ?? "–"),
+    el("td", {}, owners.length ? owners.map((owner) => el("p", {}, `${owner}: `,
+      holds.filter((hold) => hold.by === owner).map((hold) => holdWord(hold.kind)).join(", "))) : "–"));
+}
+
+function sectionRow(name, view) {
+  const holds = view.holds.filter((hold) => hold.place === name && ["Tested", "Ground"].includes(hold.kind));
+  return el("tr", {}, el("th", { scope: "row" }, name, name === view.work ? el("span", { class: "chip" }, "work section") : null),
+    el("td", {}, holds.length ? holds.map((hold) => el("p", {}, `${holdWord(hold.kind)} by ${hold.by}`)) : "–"));
+}
+
+function facts(view) {
+  const parts = [];
+  if (view.fence.length) {
+    parts.push(el("h3", {}, `Points at the fence`), table(["Point", "Position", "In hand of", "Holds"], view.points.map((row) => pointRow(row, view))));
+    parts.push(el("h3", {}, "Fence"), table(["Section", "Tests and grounds"], view.fence.map((name) => sectionRow(name, view))));
+  }
+  if (view.crews.length) parts.push(el("h3", {}, "Crews on"), el("p", {}, view.crews.join(", ")));
+  if (view.card.round) {
+    const rounds = view.card.round === 2 ? [1, 2] : [1];
+    parts.push(el("h3", {}, "On paper"), printedOrders(view.card.clearance, rounds));
+  }
+  return parts;
+}
+
+function card(view, line, staff) {
+  const { clearance, phase, holder, done, steps, round } = view.card;
+  const fact = (name, ...value) => el("div", {}, el("dt", {}, name), el("dd", {}, ...value));
+  return el("dl", { class: "card" },
+    fact("Phase", el("span", { class: `phase ${phase}` }, phase), ` ${phaseWord(phase)}`),
+    fact(view.work ? "Work section" : "Kind", view.work ?? "switch order"),
+    fact("Holder", holderCell(holder, view.work, staff)),
+    fact("Steps", steps ? `${done} of ${steps} done, round ${round}` : "none"),
+    fact("Last moment", line ? el("span", { title: wholeTime(line.last) }, shortTime(line.last)) : "not on the board"),
+    fact("Crews", view.crews.join(", ") || "none", clearance ? "" : ""));
+}
+
+export class ClearancePage {
+  #desk; #id; #made = new Map(); #missing = false;
+  #card = el("div"); #next = el("div", { class: "next-body" }); #others = el("div"); #steps = el("div"); #facts = el("div");
+  #heading = el("h3", { tabindex: -1, id: "next" }, "Next");
+  title;
+  node;
+
+  constructor(desk, id) {
+    this.#desk = desk;
+    this.#id = id;
+    this.title = id;
+    choose(id);
+    this.node = el("section", { class: "clearance", "data-id": id },
+      el("h2", { tabindex: -1 }, id), this.#card,
+      el("div", { class: "columns" },
+        el("div", {}, el("div", { class: "next" }, this.#heading, this.#next, this.#others), this.#steps),
+        el("div", {}, el("div", { class: "diagram-place small" }), this.#facts)));
+    this.update();
+    if (!viewOf(id)) lookAt(id).then((answer) => this.#noteMissing(answer));
+  }
+
+  #noteMissing(answer) {
+    this.#missing = answer?.kind === "answered" && answer.body.reply !== "shown";
+    this.update();
+  }
+
+  leave() {
+    this.#desk.pick(null);
+  }
+
+  update() {
+    const view = viewOf(this.#id);
+    if (!view) {
+      const text = this.#missing ? "The register has no clearance or switch order of this name."
+        : this.#desk.caller ? "Asking the register…" : "Say who you are, above: the register shows clearances to a name of the staff.";
+      panel(this.#card, text, () => el("p", {}, text));
+      return;
+    }
+    const line = boardLine(this.#id);
+    panel(this.#card, [view.card, view.work, view.crews, line?.last], () => card(view, line, this.#desk.network.staff));
+    this.#drawNext(view);
+    panel(this.#steps, view.steps, () => (view.steps.length ? [el("h3", {}, `Steps of round ${view.card.round}`), stepsTable(view)] : []));
+    panel(this.#facts, [view.points, view.holds, view.fence, view.crews, view.card.round, view.card.clearance], () => facts(view));
+  }
+
+  #drawNext(view) {
+    const caller = this.#desk.caller?.name;
+    const offers = offersOf(view, this.#desk.network.staff);
+    const mine = offers.filter((offer) => caller && offer.names.includes(caller));
+    const others = offers.filter((offer) => !mine.includes(offer));
+    const keys = mine.map(({ does }) => [does, (SHOWN[does] ?? ((seen) => [seen.card, seen.steps]))(view), caller]);
+    panel(this.#next, [keys, offers.length, caller], () => this.#controls(mine, keys, view, offers.length));
+    panel(this.#others, [others, caller], () => (others.length ? [el("h4", {}, caller ? "Others may" : "Who may"), othersList(others, this.#desk)] : []));
+  }
+
+  #controls(mine, keys, view, any) {
+    const made = new Map();
+    if (!mine.some(({ does }) => does === "order")) this.#desk.pick(null);
+    const nodes = mine.map(({ does }, place) => {
+      const key = JSON.stringify(keys[place]);
+      const node = this.#made.get(key) ?? CONTROLS[does](this.#context(view));
+      node.dataset.does = does;
+      made.set(key, node);
+      return node;
+    });
+    this.#made = made;
+    if (nodes.length) return nodes;
+    return el("p", {}, any ? `${this.#desk.caller?.name ?? "Nobody"} has nothing to do here now.` : "It is over; its record stays.");
+  }
+
+  #context(view) {
+    const { network, caller, pick, redraw } = this.#desk;
+    return { view, network, staff: network.staff, caller, pick, redraw, act: (parts) => this.#act(parts) };
+  }
+
+  // After a command that was accepted the heading has the focus, so that a key pressed twice gives no second one.
+  async #act(parts) {
+    const result = await this.#desk.act(parts);
+    if (result.accepted) this.#heading.focus();
+    return result;
+  }
+
+  focusNext() {
+    this.#heading.focus();
+  }
+}

@@ -1,0 +1,127 @@
+// Giving a command: its moment is looked at, it is sent once, and its reply goes to the replies.
+
+import { ask } from "./ask.js";
+import { lost } from "./lost.js";
+import { now, secondsOfField, shortTime, span, wholeTime } from "./moments.js";
+import { postCommand } from "./register.js";
+import { addReply, plainLines, replyOf } from "./replies.js";
+import { boardLine, lookAt, lookNow, room, viewOf } from "./watch.js";
+import { saidOf } from "./words.js";
+
+const FAR = 120; // seconds off the clock that are asked about
+
+let caller = null;
+let momentField = null;
+let sending = false;
+const listeners = [];
+
+export function setCaller(name) {
+  caller = name;
+}
+
+export function setMomentField(input) {
+  momentField = input;
+}
+
+// Listeners are told when a command goes out and when it is over.
+export function onSending(listener) {
+  listeners.push(listener);
+}
+
+export function isSending() {
+  return sending;
+}
+
+function noteSending(value) {
+  sending = value;
+  for (const listener of listeners) listener();
+}
+
+// The moment that the operator has set, else that of the clock.
+function statedMoment() {
+  const set = momentField?.value ? secondsOfField(momentField.value) : null;
+  return set ?? now();
+}
+
+// The register's last moment of the clearance is later: by how much, and which moment is to be sent.
+async function notBeforeLast(command, at) {
+  const last = command.clearance ? boardLine(command.clearance)?.last ?? null : null;
+  if (last === null || last <= at) return { at, asked: false };
+  const answer = await ask("The register is ahead of this moment", [
+    `The last moment of ${command.clearance} in the register is ${wholeTime(last)}.`,
+    `The moment of this command is ${wholeTime(at)}, ${span(last - at)} before it: it would be refused (EARLIER).`,
+    last - now() > FAR ? `That last moment is ${span(last - now())} after this desk's clock. Is the clock right, or was a moment mistyped?` : "",
+  ].filter(Boolean), [
+    ["last", `Give it with ${shortTime(last)}`],
+    ["same", "Give it as it is"],
+    [null, "Do not give it"],
+  ]);
+  return answer === null ? null : { at: answer === "last" ? last : at, asked: answer === "last" };
+}
+
+async function nearTheClock(at) {
+  const off = at - now();
+  if (Math.abs(off) <= FAR) return true;
+  const answer = await ask("The moment is far from the clock", [
+    `The moment of this command is ${wholeTime(at)}.`,
+    `That is ${span(off)} ${off < 0 ? "before" : "after"} this desk's clock, ${wholeTime(now())}.`,
+    "The register takes it as it is, and takes nothing earlier for this clearance afterwards.",
+  ], [["yes", "Give it with this moment"], [null, "Do not give it"]]);
+  return answer === "yes";
+}
+
+async function momentFor(command) {
+  const stated = statedMoment();
+  const found = await notBeforeLast(command, stated);
+  if (!found) return null;
+  if (!found.asked && !(await nearTheClock(found.at))) return null;
+  return found.at;
+}
+
+function noteUnsent(command, text) {
+  addReply({ kind: "unsent", at: now(), said: saidOf(command), clearance: command.clearance, lines: plainLines(text) });
+}
+
+// What was known before the command, for the case that its reply is lost.
+function before(command) {
+  const view = command.clearance ? viewOf(command.clearance) : null;
+  return { view: view ? JSON.stringify(view) : null, ids: new Set([...room.closed.keys(), ...room.board.map((row) => row.id)]) };
+}
+
+// Gives the command and tells whether it was accepted, with the clearance's name.
+export async function give(parts) {
+  if (sending) return { accepted: false };
+  const command = { by: caller, ...parts };
+  noteSending(true);
+  try {
+    const at = await momentFor(command);
+    if (at === null) {
+      noteUnsent(command, "You did not let it be sent. The register is as it was.");
+      return { accepted: false };
+    }
+    return await send({ ...command, at });
+  } finally {
+    noteSending(false);
+  }
+}
+
+async function send(command) {
+  const known = before(command);
+  const answer = await postCommand(command);
+  if (answer.kind === "lost") {
+    await lost(command, answer.why, known, () => give(withoutMoment(command)));
+    return { accepted: false };
+  }
+  addReply(replyOf(command, answer, now()));
+  if (momentField) momentField.value = "";
+  const accepted = answer.body?.reply === "accepted";
+  const id = answer.body?.card?.clearance ?? command.clearance;
+  if (id) await lookAt(id);
+  lookNow();
+  return { accepted, id };
+}
+
+// The same command once more, with the moment at which it is given again.
+function withoutMoment({ at, ...command }) {
+  return command;
+}

@@ -1,0 +1,243 @@
+// The one-line diagram: sections, the points between them, and what the register says of both.
+
+import { el, svg, button } from "./elements.js";
+import { BOX, layOut } from "./layout.js";
+import { isOffNormal, sourceOf } from "./positions.js";
+import { holdWord } from "./words.js";
+import { zoomable } from "./zoom.js";
+
+export const MOST_DRAWN = 1000;
+const LETTERS = { HeldOpen: "O", Block: "B", Control: "C", Tag: "T" };
+const MOST_MARKS = 2;
+
+// Marks as lines of text, the rest counted.
+function markLines(marks, x, y, up, anchor) {
+  const shown = marks.slice(0, MOST_MARKS);
+  if (marks.length > MOST_MARKS) shown[MOST_MARKS - 1] = `${shown[MOST_MARKS - 1]} +${marks.length - MOST_MARKS}`;
+  return shown.map((text, place) =>
+    svg("text", { class: "mark", x, y: y + (up ? -11 : 11) * place, "text-anchor": anchor }, text));
+}
+
+// Holds at a point by owner, as JONES/1 O B T.
+export function holdMarks(holds) {
+  const owners = new Map();
+  for (const { by, kind } of holds) owners.set(by, `${owners.get(by) ?? by} ${LETTERS[kind]}`);
+  return [...owners.values()];
+}
+
+function pointTitle(state, lookedThrough) {
+  const { point } = state;
+  return [
+    `${point.name}, between ${point.from} and ${point.to}`,
+    `${state.position ?? "position not clear"} (${sourceOf(state, lookedThrough)}); normally ${point.normal}`,
+    state.hand ? `in hand of ${state.hand}` : "",
+    ...state.holds.map((hold) => `${holdWord(hold.kind)} by ${hold.by}`),
+  ].filter(Boolean).join("\n");
+}
+
+// Closed is full, open is hollow with a gap; dashed where the register does not tell it; a question mark where nobody does.
+function pointSymbol(state, picked) {
+  const parts = [svg("rect", { class: "hit", x: -16, y: -16, width: 32, height: 32 })];
+  if (picked) parts.push(svg("rect", { class: "ring", x: -12, y: -12, width: 24, height: 24, rx: 4 }));
+  parts.push(svg("rect", { class: "box", x: -7, y: -7, width: 14, height: 14 }));
+  if (state.position === "open") parts.push(svg("path", { class: "gap", d: "M-4,4L4,-4" }));
+  if (state.position === null) parts.push(svg("text", { class: "unclear", x: 0, y: 4, "text-anchor": "middle" }, "?"));
+  return parts;
+}
+
+// On a row the name stands above and the marks below; elsewhere both stand beside the point, on one line.
+function pointLabels(state, kind, picked) {
+  const name = `${picked ? "✓ " : ""}${state.point.name}${isOffNormal(state) ? " ≠" : ""}`;
+  const marks = [...(state.hand ? [`hand: ${state.hand}`] : []), ...holdMarks(state.holds)];
+  if (kind !== "row") {
+    return [svg("text", { class: "label", x: 11, y: kind === "lane" ? 12 : 4 }, name,
+      marks.length ? svg("tspan", { class: "mark", dx: 5 }, marks.join(", ")) : null)];
+  }
+  return [svg("text", { class: "label", x: 0, y: -11, "text-anchor": "middle" }, name), ...markLines(marks, 0, 25, false, "middle")];
+}
+
+// What stands at each section, by clearance: its phase where the section is its work section, its test and its ground.
+function sectionMarks(room) {
+  const marks = new Map();
+  const add = (place, id, word) => {
+    const ids = marks.get(place) ?? marks.set(place, new Map()).get(place);
+    ids.set(id, (ids.get(id) ?? new Set()).add(word));
+  };
+  for (const row of room.board) if (row.work !== "-") add(row.work, row.id, row.phase);
+  for (const view of room.views.values()) {
+    const own = view.holds.filter((hold) => hold.kind === "Tested" || hold.kind === "Ground");
+    const grounded = new Set(own.filter((hold) => hold.kind === "Ground").map((hold) => hold.place + hold.by));
+    for (const { by, kind, place } of own) {
+      if (kind === "Ground" || !grounded.has(place + by)) add(place, by, kind === "Ground" ? "grounded" : "tested");
+    }
+  }
+  return new Map([...marks].map(([place, ids]) => [place, [...ids].map(([id, words]) => `${id} ${[...words].join(", ")}`)]));
+}
+
+function sectionParts(spot, section, marks, fenced, picked) {
+  const { width } = spot;
+  return [
+    svg("title", {}, [`section ${section.name}${section.source ? ", a source" : ""}`, fenced ? "in the fence" : "", ...marks].filter(Boolean).join("\n")),
+    section.source ? svg("g", { class: "feed" },
+      svg("circle", { cx: -16, cy: 0, r: 11 }), svg("path", { d: "M-22,1c3,-7 5,-7 6,-1s4,6 6,-1" }), svg("path", { d: "M-5,0H0" })) : null,
+    svg("rect", { class: "box", x: 0, y: -BOX / 2, width, height: BOX, rx: 4 }),
+    fenced ? svg("rect", { class: "hatch", x: 0, y: -BOX / 2, width, height: BOX, rx: 4, fill: "url(#hatch)" }) : null,
+    svg("text", { class: "name", x: width / 2, y: 4.5, "text-anchor": "middle" }, `${picked ? "✓ " : ""}${section.name}`),
+    ...markLines(marks, width / 2, -BOX / 2 - 9, true, "middle"),
+  ].filter(Boolean);
+}
+
+function hatch() {
+  return svg("defs", {},
+    svg("pattern", { id: "hatch", width: 8, height: 8, patternUnits: "userSpaceOnUse", patternTransform: "rotate(45)" },
+      svg("path", { d: "M0,0V8", class: "stroke" })));
+}
+
+// Where a press or a key on a point or section leads to, as long as it was no drag.
+function pressable(group, does) {
+  let from = null;
+  group.addEventListener("pointerdown", (event) => { from = [event.clientX, event.clientY]; });
+  group.addEventListener("click", (event) => {
+    if (from && Math.hypot(event.clientX - from[0], event.clientY - from[1]) > 5) return;
+    does();
+  });
+  group.addEventListener("keydown", (event) => {
+    if (event.key !== "Enter" && event.key !== " ") return;
+    event.preventDefault();
+    event.stopPropagation();
+    does();
+  });
+}
+
+export class Diagram {
+  #network; #plan; #zoom; #svg; #lines = []; #points = new Map(); #sections = new Map(); #keys = new Map();
+  #begun = false; #picking = null; #press;
+  node;
+
+  // `press(kind, name)` is told where nothing is being picked.
+  constructor(network, press) {
+    this.#network = network;
+    this.#press = press;
+    this.#plan = layOut(network);
+    this.#svg = this.#draw();
+    this.#zoom = zoomable(this.#svg, this.#plan);
+    this.node = el("div", { class: "diagram" }, this.#tools(), this.#svg, legend());
+    new ResizeObserver(() => this.#begin()).observe(this.#svg);
+  }
+
+  // Once it has a size, it shows the whole network where that can be read.
+  #begin() {
+    if (this.#begun || !this.#svg.clientWidth) return;
+    this.#begun = true;
+    this.#zoom.begin();
+  }
+
+  #draw() {
+    const base = this.#plan.edges.map((edge) => svg("path", { class: "line", d: edge.path }));
+    const dots = this.#plan.edges.filter((edge) => edge.dot)
+      .map(({ dot: [cx, cy] }) => svg("circle", { class: "dot", cx, cy, r: 2.5 }));
+    const sections = [...this.#plan.spots.values()].map((spot) => this.#group("section", spot.name, spot.x, spot.y, this.#sections));
+    const points = this.#plan.edges.map((edge) => this.#group("point", edge.point.name, edge.x, edge.y, this.#points, edge.kind));
+    return svg("svg", { class: "net", tabindex: 0, role: "group", "aria-label": "One-line diagram. Plus and minus zoom, arrows pan, 0 shows all. The points are also listed under Points." },
+      hatch(), svg("g", {}, base, dots), svg("g", {}, sections), svg("g", {}, points));
+  }
+
+  #group(kind, name, x, y, groups, lies = "row") {
+    const group = svg("g", { "data-kind": kind, "data-name": name, transform: `translate(${x},${y})` });
+    pressable(group, () => (this.#picking?.kind === kind ? this.#picking.toggle(name) : this.#press(kind, name)));
+    groups.set(name, { group, lies });
+    return group;
+  }
+
+  #tools() {
+    const find = el("input", { type: "search", placeholder: "section or point", "aria-label": "Find a section or point", size: 13 });
+    const go = () => this.find(find.value.trim().toUpperCase());
+    find.addEventListener("keydown", (event) => { if (event.key === "Enter") go(); });
+    return el("div", { class: "tools" },
+      button("Whole network", () => this.#zoom.fit()),
+      button("Closer", () => this.#zoom.zoom(this.#zoom.STEP)),
+      button("Farther", () => this.#zoom.zoom(1 / this.#zoom.STEP)),
+      find, button("Find", go));
+  }
+
+  // Brings a section or a point to the middle.
+  find(name) {
+    const spot = this.#plan.spots.get(name) ?? this.#plan.edges.find((edge) => edge.point.name === name);
+    if (spot) this.#zoom.centre(spot.x, spot.y, Math.max(1, this.#zoom.scale()));
+    return Boolean(spot);
+  }
+
+  // What is being picked: { kind, picked: Set, toggle(name) }, or null.
+  pick(picking) {
+    this.#picking = picking;
+    this.#svg.classList.toggle("picking-points", picking?.kind === "point");
+    this.#svg.classList.toggle("picking-sections", picking?.kind === "section");
+  }
+
+  // Draws what has changed since the last time.
+  update({ states, room, fence }) {
+    const marks = sectionMarks(room);
+    const picked = (kind, name) => this.#picking?.kind === kind && this.#picking.picked.has(name);
+    for (const [name, { group, lies }] of this.#points) {
+      const state = states.get(name), chosen = picked("point", name);
+      this.#redraw(group, [state.position, state.from, state.hand, state.holds, chosen, room.lookedThrough, this.#picking?.kind], () => {
+        this.#dressPoint(group, state, chosen);
+        return [svg("title", {}, pointTitle(state, room.lookedThrough)), ...pointSymbol(state, chosen), ...pointLabels(state, lies, chosen)];
+      });
+    }
+    for (const [name, { group }] of this.#sections) {
+      const own = marks.get(name) ?? [], chosen = picked("section", name), fenced = fence.has(name);
+      this.#redraw(group, [own, chosen, fenced, this.#picking?.kind], () => {
+        const section = this.#network.sections.get(name);
+        group.setAttribute("class", ["section", section.source ? "source" : "", fenced ? "fenced" : "", chosen ? "picked" : ""].join(" "));
+        this.#tellPicking(group, "section", chosen, name);
+        return sectionParts(this.#plan.spots.get(name), section, own, fenced, chosen);
+      });
+    }
+  }
+
+  #dressPoint(group, state, chosen) {
+    const known = state.from === "view" || state.from === "steps" ? "told" : "untold";
+    group.setAttribute("class", `point ${state.position ?? "unclear"} ${known}${chosen ? " picked" : ""}`);
+    this.#tellPicking(group, "point", chosen, `${state.point.name}, ${state.position ?? "position not clear"}`);
+  }
+
+  #tellPicking(group, kind, chosen, label) {
+    const on = this.#picking?.kind === kind;
+    for (const [name, value] of [["tabindex", "0"], ["role", "checkbox"], ["aria-checked", String(chosen)], ["aria-label", label]]) {
+      if (on) group.setAttribute(name, value);
+      else group.removeAttribute(name);
+    }
+  }
+
+  #redraw(group, key, draw) {
+    const text = JSON.stringify(key);
+    if (this.#keys.get(group) === text) return;
+    this.#keys.set(group, text);
+    group.replaceChildren(...draw());
+  }
+}
+
+function sample(className, position, marks = {}) {
+  const state = { position, point: { name: "" } };
+  return svg("svg", { class: "net sample", viewBox: "-14 -12 28 24", width: 28, height: 24, "aria-hidden": "true" },
+    svg("path", { class: "line", d: "M-14,0H14" }), svg("g", { class: className }, pointSymbol(state, marks.picked)));
+}
+
+function fenceSample() {
+  return svg("svg", { class: "net sample", viewBox: "0 -14 40 28", width: 40, height: 24, "aria-hidden": "true" },
+    svg("g", { class: "section fenced" }, svg("rect", { class: "box", x: 2, y: -11, width: 36, height: 22, rx: 4 }),
+      svg("rect", { class: "hatch", x: 2, y: -11, width: 36, height: 22, rx: 4, fill: "url(#hatch)" })));
+}
+
+function legend() {
+  const entry = (mark, text) => el("li", {}, mark, el("span", {}, text));
+  const sign = (text) => el("b", {}, text);
+  return el("details", { class: "legend" }, el("summary", {}, "Signs"), el("ul", {},
+    entry(sample("point closed told"), "closed"), entry(sample("point open told"), "open"),
+    entry(sample("point closed untold"), "dashed: as in the file, the register does not tell"),
+    entry(sign("≠"), "not in its normal position"),
+    entry(fenceSample(), "in the fence of the chosen clearance"),
+    entry(sign("O B C T"), "held open, blocked, control off, tagged, behind the owner's name"),
+    entry(sign("hand:"), "a step is given out there")));
+}

@@ -1,0 +1,66 @@
+// Writing the isolating order of a clearance that was asked for: the operator picks the points, the page writes the
+// steps that are needed at each of them, and the operator may put them into another order.
+
+import { el, button } from "./elements.js";
+import { PointPicker, StepList } from "./picking.js";
+
+const ACTIONS = ["OPEN", "BLOCK", "CONTROL", "TAG"];
+
+function neededAt(point) {
+  return ACTIONS.filter((action) => (action !== "BLOCK" || point.lockable) && (action !== "CONTROL" || point.remote))
+    .map((action) => `${action} ${point.name}`);
+}
+
+function byPoint(points) {
+  return points.flatMap(neededAt);
+}
+
+// All the OPENs first, then the BLOCKs, and so on.
+function byAction(points) {
+  const steps = byPoint(points);
+  return ACTIONS.flatMap((action) => steps.filter((text) => text.startsWith(`${action} `)));
+}
+
+export class OrderEditor {
+  #view; #network; #desk; #picker; #list; #arrange = byAction;
+  node;
+
+  constructor(view, desk) {
+    this.#view = view;
+    this.#network = desk.network;
+    this.#desk = desk;
+    this.#picker = new PointPicker(desk.network, () => this.#picked());
+    this.#list = new StepList();
+    this.node = this.#draw();
+    desk.pick(this.#picker);
+  }
+
+  #draw() {
+    const { clearance } = this.#view.card;
+    return el("div", { class: "offer editor" },
+      el("p", {}, `Isolating order of ${clearance} for work on `, el("strong", {}, this.#view.work),
+        ". Pick each point that is to be held open; each way to a source has to be among them, an open point too."),
+      this.#picker.node,
+      el("h3", {}, "Steps"),
+      el("div", { class: "answers" },
+        button("By action", () => this.#arranged(byAction), { "data-name": "by-action" }),
+        button("By point", () => this.#arranged(byPoint), { "data-name": "by-point" }),
+        el("span", { class: "hint" }, "at each point: OPEN, BLOCK if lockable, CONTROL if remote, TAG")),
+      this.#list.node,
+      button(`Give the order of ${clearance}`, () => this.#send(), { class: "main", "data-name": "order" }));
+  }
+
+  #arranged(arrange) {
+    this.#arrange = arrange;
+    this.#picked();
+  }
+
+  #picked() {
+    this.#list.set(this.#arrange([...this.#picker.picked].map((name) => this.#network.points.get(name))));
+    this.#desk.redraw();
+  }
+
+  #send() {
+    return this.#desk.act({ do: "order", clearance: this.#view.card.clearance, points: [...this.#picker.picked], steps: this.#list.steps });
+  }
+}

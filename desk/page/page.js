@@ -1,0 +1,191 @@
+// The page: who speaks, what is shown, and whether the register answers.
+
+import { BoardPage } from "./board.js";
+import { ClearancePage } from "./clearance.js";
+import { give, isSending, onSending, setCaller, setMomentField } from "./commands.js";
+import { Diagram, MOST_DRAWN } from "./diagram.js";
+import { el, panel } from "./elements.js";
+import { MinePage } from "./mine.js";
+import { fieldTime, now, shortTime, wholeTime } from "./moments.js";
+import { namesOfRole, readNetwork } from "./network.js";
+import { NetList } from "./netlist.js";
+import { PointsPage } from "./points.js";
+import { pointStates, strangePoints } from "./positions.js";
+import { contact, onContact } from "./register.js";
+import { showReplies } from "./replies.js";
+import { RequestForm } from "./request.js";
+import { SwitchEditor } from "./switch.js";
+import { onRoom, room, setRequesters, startWatch, viewOf, watchAs } from "./watch.js";
+
+const at = (id) => document.getElementById(id);
+const KEPT = "gridclear-caller"; // the name that this tab speaks in, over a reload
+
+let desk, page = null, chosen = null;
+
+// A page that is a heading, a form and the diagram.
+class FormPage {
+  #desk;
+  constructor(desk, title, form) {
+    this.#desk = desk;
+    this.title = title;
+    this.node = el("section", { class: "clearance" }, el("h2", { tabindex: -1 }, title),
+      el("div", { class: "columns" }, el("div", { class: "next" }, form), el("div", {}, el("div", { class: "diagram-place" }))));
+  }
+  leave() { this.#desk.pick(null); }
+  update() {}
+}
+
+class DiagramPage {
+  title = "Diagram";
+  #note = el("p", { class: "hint" });
+  node = el("section", {}, el("h2", { tabindex: -1 }, "Diagram"), this.#note, el("div", { class: "diagram-place large" }));
+  update() {
+    this.#note.textContent = chosen ? `The fence of ${chosen} is hatched.` : "Choose a clearance on the board to see its fence.";
+  }
+}
+
+function formFor(role, title, make) {
+  if (desk.caller?.role === role) return new FormPage(desk, title, make().node);
+  const names = namesOfRole(desk.network.staff, role).slice(0, 12).join(", ");
+  const what = role === "charge" ? "Those who may be in charge ask for clearances" : "Operators write switch orders";
+  return new FormPage(desk, title, el("p", {}, `${what}: ${names}. Say above that you are one of them.`));
+}
+
+const ROUTES = [
+  [/^#\/clearance\/([A-Z0-9-]+\/\d+)$/, (id) => { chosen = id; return new ClearancePage(desk, id); }],
+  [/^#\/diagram$/, () => new DiagramPage()],
+  [/^#\/points(?:\/([A-Z0-9-]+))?$/, (name) => new PointsPage(desk, name)],
+  [/^#\/mine$/, () => new MinePage(desk)],
+  [/^#\/request$/, () => formFor("charge", "Ask for a clearance", () => new RequestForm(desk))],
+  [/^#\/switch$/, () => formFor("operator", "Write a switch order", () => new SwitchEditor(desk))],
+  [/.*/, () => new BoardPage(desk)],
+];
+
+function turn(focus = true) {
+  page?.leave?.();
+  for (const [pattern, make] of ROUTES) {
+    const found = pattern.exec(location.hash);
+    if (!found) continue;
+    page = make(found[1]);
+    break;
+  }
+  at("main").replaceChildren(page.node);
+  const place = page.node.querySelector(".diagram-place");
+  place?.append(desk.diagram.node);
+  const legend = place?.querySelector(".legend");
+  if (legend) legend.open = !place.classList.contains("small");
+  document.title = `${page.title} · gridclear desk`;
+  for (const link of document.querySelectorAll("nav a")) {
+    if (link.hash === (location.hash || "#/board")) link.setAttribute("aria-current", "page");
+    else link.removeAttribute("aria-current");
+  }
+  update();
+  if (focus) page.node.querySelector("h2").focus();
+}
+
+function drawDiagram() {
+  if (!desk.diagram.node.isConnected) return;
+  desk.diagram.update({ states: desk.states(), room, fence: new Set(viewOf(chosen)?.fence ?? []) });
+}
+
+function update() {
+  page?.update();
+  drawDiagram();
+  const strange = strangePoints(desk.network, room);
+  at("strange").hidden = !strange.length;
+  at("strange").textContent = strange.length ? `The register names ${strange.slice(0, 5).join(", ")}, which the files of this page do not have: they are not the register's files, and the diagram and the lists are wrong.` : "";
+}
+
+// Whether the register answers, in words.
+function drawContact() {
+  const silent = contact.silentSince !== null;
+  const text = silent
+    ? `The register does not answer since ${shortTime(contact.silentSince)} (${contact.why}). ${contact.answered ? `Its last answer came at ${shortTime(contact.answered)}; what is shown is from then.` : "It has not answered yet."}`
+    : contact.answered ? `The register answers; last at ${shortTime(contact.answered)}.` : "Asking the register…";
+  const node = at("contact");
+  node.className = silent ? "silent" : "answers";
+  if (silent !== (node.dataset.silent === "yes")) at("spoken").textContent = text;
+  node.dataset.silent = silent ? "yes" : "no";
+  node.textContent = `${silent ? "⚠ " : "✓ "}${text}`;
+}
+
+function speakAs(name) {
+  const row = desk.network.staff.get(name) ?? null;
+  desk.caller = row;
+  setCaller(row?.name ?? null);
+  at("caller").value = row?.name ?? "";
+  at("role").textContent = row ? `${row.role === "charge" ? "may be in charge" : row.role}${row.supervisor ? `, supervisor ${row.supervisor}` : ""}` : "";
+  try {
+    sessionStorage.setItem(KEPT, row?.name ?? "");
+  } catch { /* without storage the name is asked for again after a reload */ }
+  if (row) watchAs(row.name);
+  if (page instanceof FormPage || page instanceof MinePage) turn(false);
+  else update();
+  if (page instanceof ClearancePage && document.activeElement === document.body) page.focusNext();
+}
+
+function listCallers(staff) {
+  const roles = [["operator", "Operators"], ["charge", "May be in charge"], ["field", "Field"]];
+  at("caller").replaceChildren(el("option", { value: "" }, "choose your name"), ...roles.map(([role, label]) =>
+    el("optgroup", { label }, namesOfRole(staff, role).map((name) => el("option", { value: name }, name)))));
+  at("caller").addEventListener("change", () => speakAs(at("caller").value));
+}
+
+// The moment of the next command: the clock's, unless another is set. After an accepted command it is the clock again.
+function startMoment() {
+  const field = at("moment"), line = at("moment-line"), set = at("moment-set");
+  const show = (other) => {
+    line.hidden = !other;
+    set.hidden = other;
+    field.value = other ? fieldTime(now()) : "";
+    (other ? field : set).focus();
+  };
+  setMomentField(field);
+  set.addEventListener("click", () => show(true));
+  at("moment-now").addEventListener("click", () => show(false));
+  onSending(() => {
+    if (isSending() || field.value || line.hidden) return;
+    line.hidden = true;
+    set.hidden = false;
+  });
+  const tick = () => { at("clock").textContent = wholeTime(now()); };
+  setInterval(tick, 1000);
+  tick();
+}
+
+function makeDesk(network) {
+  const states = () => pointStates(network, room);
+  const diagram = network.sections.size > MOST_DRAWN ? new NetList(network)
+    : new Diagram(network, (kind, name) => { location.hash = `#/points/${name}`; });
+  const redraw = () => drawDiagram();
+  return { network, diagram, caller: null, states, redraw, speakAs, act: give, pick: (picking) => { diagram.pick(picking); redraw(); } };
+}
+
+async function start() {
+  showReplies(at("replies"));
+  let network;
+  try {
+    network = await readNetwork();
+  } catch (fault) {
+    panel(at("main"), "none", () => [el("h2", {}, "The network cannot be shown"), el("p", {}, fault.message)]);
+    return;
+  }
+  desk = makeDesk(network);
+  setRequesters([...network.staff.values()].filter((row) => row.role !== "field").map((row) => row.name));
+  listCallers(network.staff);
+  startMoment();
+  onRoom(update);
+  onContact(drawContact);
+  onSending(() => document.body.classList.toggle("sending", isSending()));
+  addEventListener("hashchange", () => turn());
+  turn(false);
+  await startWatch();
+  let kept = "";
+  try {
+    kept = sessionStorage.getItem(KEPT) ?? "";
+  } catch { /* as above */ }
+  speakAs(kept);
+  document.body.dataset.ready = "yes";
+}
+
+start();

@@ -1,0 +1,89 @@
+// Picking points, from a list or on the diagram, and a list of steps that can be put into another order.
+
+import { el, button, panel } from "./elements.js";
+import { marksOf } from "./network.js";
+
+const MOST_LISTED = 150;
+
+// A list of all points with a box each; the diagram beside it picks the same.
+export class PointPicker {
+  #network; #changed; #filter; #list; #count;
+  picked = new Set();
+  kind = "point";
+  node;
+
+  constructor(network, changed) {
+    this.#network = network;
+    this.#changed = changed;
+    this.#filter = el("input", { type: "search", size: 14, "aria-label": "Points or sections with this in their name", placeholder: "point or section", "data-name": "filter" });
+    this.#filter.addEventListener("input", () => this.#draw());
+    this.#list = el("ul", { class: "picks" });
+    this.#count = el("span", { class: "hint" });
+    this.node = el("fieldset", { class: "picker" }, el("legend", {}, "Points: here, or on the diagram"),
+      this.#filter, this.#count, this.#list);
+    this.#draw();
+  }
+
+  toggle(name) {
+    if (!this.picked.delete(name)) this.picked.add(name);
+    this.#draw();
+    this.#changed(name, this.picked.has(name));
+  }
+
+  #found() {
+    const text = this.#filter.value.trim().toUpperCase();
+    return [...this.#network.points.values()].filter((point) =>
+      !text || point.name.includes(text) || point.from.includes(text) || point.to.includes(text));
+  }
+
+  #draw() {
+    const found = this.#found();
+    const first = found.filter((point) => this.picked.has(point.name));
+    const shown = [...first, ...found.filter((point) => !this.picked.has(point.name))].slice(0, MOST_LISTED);
+    this.#count.textContent = shown.length < found.length ? `the first ${shown.length} of ${found.length}` : `${found.length} points`;
+    panel(this.#list, [shown.map((point) => point.name), [...this.picked]], () => shown.map((point) => this.#row(point)));
+  }
+
+  #row(point) {
+    const box = el("input", { type: "checkbox", checked: this.picked.has(point.name), "data-name": `pick ${point.name}`, onchange: () => this.toggle(point.name) });
+    return el("li", {}, el("label", {}, box, el("strong", {}, point.name), ` ${point.from} – ${point.to}`,
+      el("span", { class: "hint" }, `marks: ${marksOf(point)}`)));
+  }
+}
+
+// An ordered list of step texts with buttons that move a step up and down, and where wanted take it out.
+export class StepList {
+  #changed; #remove;
+  steps = [];
+  node = el("ol", { class: "steplist" });
+
+  constructor(changed = () => {}, remove = null) {
+    this.#changed = changed;
+    this.#remove = remove;
+    this.draw();
+  }
+
+  set(steps) {
+    this.steps = steps;
+    this.draw();
+    this.#changed();
+  }
+
+  #move(place, by) {
+    const steps = [...this.steps];
+    [steps[place], steps[place + by]] = [steps[place + by], steps[place]];
+    this.set(steps);
+  }
+
+  #row(text, place) {
+    return el("li", {}, el("span", { class: "text" }, text),
+      button("↑", () => this.#move(place, -1), { "aria-label": `${text} one up`, disabled: place === 0, "data-name": `up ${text}` }),
+      button("↓", () => this.#move(place, 1), { "aria-label": `${text} one down`, disabled: place === this.steps.length - 1, "data-name": `down ${text}` }),
+      this.#remove ? button("✕", () => this.#remove(place), { "aria-label": `take ${text} out`, "data-name": `out ${text}` }) : null);
+  }
+
+  draw() {
+    panel(this.node, this.steps, () => (this.steps.length
+      ? this.steps.map((text, place) => this.#row(text, place)) : [el("li", { class: "none" }, "no steps yet")]));
+  }
+}

@@ -1,0 +1,76 @@
+// The points: position, normal position, hand, holds and steps under way; who is at a point, and what is not normal.
+
+import { el, button, field, panel, table } from "./elements.js";
+import { marksOf } from "./network.js";
+import { isOffNormal, sourceOf } from "./positions.js";
+import { room, lookThrough } from "./watch.js";
+import { holdWord, stateWord } from "./words.js";
+
+const MOST_LISTED = 300, ALL = 20000;
+
+const KINDS = {
+  all: ["all points", () => true],
+  off: ["not in their normal position", (state) => isOffNormal(state) || state.from === "unclear"],
+  held: ["held by somebody", (state) => state.holds.length > 0],
+  hand: ["in hand: a step is given out", (state) => state.hand !== null],
+};
+
+function links(ids) {
+  return ids.flatMap((id, place) => [place ? ", " : "", el("a", { href: `#/clearance/${id}` }, id)]);
+}
+
+function holdsCell(state) {
+  const owners = [...new Set(state.holds.map((hold) => hold.by))];
+  return owners.length ? owners.map((owner) => el("p", {}, ...links([owner]),
+    `: ${state.holds.filter((hold) => hold.by === owner).map((hold) => holdWord(hold.kind)).join(", ")}`)) : "–";
+}
+
+function stepsCell(state) {
+  const left = state.steps.filter((step) => step.state !== "Done");
+  return left.length ? left.map((step) => el("p", {}, ...links([step.id]),
+    ` step ${step.number} ${step.text}: ${stateWord(step.state)}${step.reader ? `, ${step.reader}` : ""}`)) : "–";
+}
+
+function row(state, lookedThrough) {
+  const { point } = state;
+  return el("tr", { "data-point": point.name },
+    el("th", { scope: "row" }, point.name), el("td", {}, `${point.from} – ${point.to}`), el("td", {}, marksOf(point)),
+    el("td", {}, el("strong", {}, state.position ?? "not clear"), isOffNormal(state) ? " ≠" : "",
+      el("p", { class: "hint" }, sourceOf(state, lookedThrough))),
+    el("td", {}, point.normal), el("td", {}, state.hand ? links([state.hand]) : "–"),
+    el("td", {}, holdsCell(state)), el("td", {}, stepsCell(state)));
+}
+
+export class PointsPage {
+  #desk; #filter; #kind = "all"; #rows = el("div", { class: "sheet" }); #told = el("p", { class: "hint" });
+  title = "Points";
+  node;
+
+  constructor(desk, name = "") {
+    this.#desk = desk;
+    this.#filter = el("input", { type: "search", size: 16, value: name, "data-name": "filter", oninput: () => this.update() });
+    const kinds = el("fieldset", { class: "kinds" }, el("legend", {}, "Show"), Object.entries(KINDS).map(([kind, [text]]) =>
+      el("label", { class: "radio" }, el("input", { type: "radio", name: "kind", checked: kind === "all", onchange: () => { this.#kind = kind; this.update(); } }), text)));
+    const look = button("Look through all closed records", () => lookThrough(ALL), { "data-name": "look" });
+    this.node = el("section", { class: "points" }, el("h2", { tabindex: -1 }, "Points"),
+      el("div", { class: "line" }, field("Point or section", this.#filter), kinds, look), this.#told, this.#rows);
+    this.update();
+  }
+
+  #found(states) {
+    const text = this.#filter.value.trim().toUpperCase();
+    const fits = ({ point }) => !text || point.name.includes(text) || point.from.includes(text) || point.to.includes(text);
+    const exact = [...states.values()].filter(({ point }) => point.name === text);
+    const found = exact.length ? exact : [...states.values()].filter(fits);
+    return found.filter(KINDS[this.#kind][1]);
+  }
+
+  update() {
+    const states = this.#desk.states();
+    const found = this.#found(states), shown = found.slice(0, MOST_LISTED);
+    const through = room.lookedThrough ? "All closed records were looked through." : "Not all closed records were looked through: a position from the file may have been changed since.";
+    this.#told.textContent = `${shown.length} of ${found.length} points. ${through}`;
+    panel(this.#rows, [shown.map((state) => [state.point.name, state.position, state.from, state.hand, state.holds, state.steps, [...state.moved]]), room.lookedThrough], () =>
+      table(["Point", "Between", "Marks", "Position", "Normally", "In hand of", "Holds", "Steps left"], shown.map((state) => row(state, room.lookedThrough)), { class: "wide" }));
+  }
+}

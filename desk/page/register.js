@@ -1,0 +1,88 @@
+// Speaking to the register: one request at a time, in turn, each once. What comes back is one of
+//   { kind: "answered", status, body }   the register has answered; body is its JSON, or text
+//   { kind: "barred", status }           the proxy did not pass it on
+//   { kind: "lost", why }                nobody knows: no answer, or a proxy's word that there was none
+
+import { now } from "./moments.js";
+
+const PATIENCE = 15000; // the proxy gives up after 10 seconds, and says so
+
+// When the register last answered, and when it first did not since then; null: it answers.
+export const contact = { answered: null, silentSince: null, why: "" };
+
+let last = Promise.resolve();
+const listeners = [];
+
+export function onContact(listener) {
+  listeners.push(listener);
+}
+
+function noteAnswer(answer) {
+  if (answer.kind === "lost") {
+    contact.silentSince = contact.silentSince ?? now();
+    contact.why = answer.why;
+  } else {
+    contact.answered = now();
+    contact.silentSince = null;
+  }
+  for (const listener of listeners) listener();
+}
+
+function parsed(text, type) {
+  if (!type.includes("json")) return text;
+  try {
+    return JSON.parse(text);
+  } catch {
+    return undefined;
+  }
+}
+
+// Where the body is none of the register's, the proxy has answered in its place.
+function judged(status, type, text) {
+  const body = parsed(text, type);
+  const printed = status === 200 && type.includes("text/plain");
+  if (printed || (body && (body.reply || body.fault))) return { kind: "answered", status, body };
+  if (status >= 400 && status < 500) return { kind: "barred", status };
+  return { kind: "lost", why: `the proxy said ${status}${text.includes("<title>") ? titleOf(text) : ""}` };
+}
+
+function titleOf(text) {
+  return `, ${/<title>\d* ?([^<]*)<\/title>/.exec(text)?.[1] ?? ""}`;
+}
+
+async function once(method, path, body) {
+  const signal = AbortSignal.timeout(PATIENCE);
+  const headers = body === undefined ? {} : { "Content-Type": "application/json" };
+  try {
+    const answer = await fetch(path, { method, body, headers, signal, cache: "no-store" });
+    return judged(answer.status, answer.headers.get("Content-Type") ?? "", await answer.text());
+  } catch (fault) {
+    const why = fault.name === "TimeoutError" ? `no answer within ${PATIENCE / 1000} seconds` : "nothing answers at this address";
+    return { kind: "lost", why };
+  }
+}
+
+function inTurn(method, path, body) {
+  const turn = last.then(() => once(method, path, body));
+  last = turn;
+  return turn.then((answer) => {
+    noteAnswer(answer);
+    return answer;
+  });
+}
+
+export function getBoard() {
+  return inTurn("GET", "board");
+}
+
+export function getView(caller, clearance) {
+  return inTurn("GET", `clearance/${caller}/${clearance}`);
+}
+
+export function getOrder(clearance, round) {
+  return inTurn("GET", `order/${clearance}/${round}`);
+}
+
+export function postCommand(command) {
+  return inTurn("POST", "command", JSON.stringify(command));
+}

@@ -1,0 +1,62 @@
+// Writing the restoring order of a clearance that was released: at each point that it holds open the page writes the
+// steps that undo what it has there, by the holds that the register shows; CLOSE or LEAVE is the operator's choice.
+
+import { el, button, table } from "./elements.js";
+import { StepList } from "./picking.js";
+import { holdWord } from "./words.js";
+
+const UNDOING = [["UNTAG", "Tag"], ["UNCONTROL", "Control"], ["UNBLOCK", "Block"]];
+
+// The points where the clearance has a HeldOpen, with the kinds of its holds there.
+function heldPoints(view) {
+  const own = view.holds.filter((hold) => hold.by === view.card.clearance);
+  return own.filter((hold) => hold.kind === "HeldOpen")
+    .map(({ place }) => ({ place, kinds: own.filter((hold) => hold.place === place).map((hold) => hold.kind) }));
+}
+
+function undoingAt({ place, kinds }) {
+  return UNDOING.filter(([, kind]) => kinds.includes(kind)).map(([action]) => `${action} ${place}`);
+}
+
+export class RestoreEditor {
+  #view; #desk; #held; #ends = new Map(); #list = new StepList();
+  node;
+
+  constructor(view, desk) {
+    this.#view = view;
+    this.#desk = desk;
+    this.#held = heldPoints(view);
+    this.node = this.#draw();
+  }
+
+  #draw() {
+    const { clearance } = this.#view.card;
+    return el("div", { class: "offer editor" },
+      el("p", {}, `Restoring order of ${clearance}. Choose at each point what it ends with.`),
+      table(["Point", "Held there", "It ends with"], this.#held.map((held) => this.#row(held)), { class: "ends" }),
+      el("h3", {}, "Steps"), this.#list.node,
+      button(`Give the restoring order of ${clearance}`, () => this.#send(), { class: "main", "data-name": "restore" }));
+  }
+
+  #row(held) {
+    const other = this.#view.holds.filter((hold) => hold.place === held.place && hold.by !== this.#view.card.clearance);
+    const end = (action) => el("label", { class: "radio" },
+      el("input", { type: "radio", name: `end-${held.place}`, value: action, "data-name": `${action} ${held.place}`, onchange: () => this.#end(held, action) }),
+      `${action} ${held.place}`);
+    return el("tr", {}, el("th", { scope: "row" }, held.place),
+      el("td", {}, held.kinds.map(holdWord).join(", "),
+        other.length ? el("p", { class: "hint" }, `also ${[...new Set(other.map((hold) => hold.by))].join(", ")}`) : null),
+      el("td", {}, end("CLOSE"), end("LEAVE")));
+  }
+
+  #end(held, action) {
+    this.#ends.set(held.place, action);
+    const steps = this.#held.filter(({ place }) => this.#ends.has(place))
+      .flatMap((one) => [...undoingAt(one), `${this.#ends.get(one.place)} ${one.place}`]);
+    this.#list.set(steps);
+  }
+
+  #send() {
+    return this.#desk.act({ do: "restore", clearance: this.#view.card.clearance, steps: this.#list.steps });
+  }
+}

@@ -1,0 +1,79 @@
+// The steps of a clearance: their table, and the three commands of a step with amend beside them.
+
+import { ask } from "./ask.js";
+import { el, button, field, table } from "./elements.js";
+import { stateWord } from "./words.js";
+import { presentStep, waitingCloses } from "./who.js";
+
+const SIGNS = { Waiting: "○", Instructed: "◔", Repeated: "◑", Done: "●" };
+
+export function stepsTable(view) {
+  const present = presentStep(view)?.number;
+  const rows = view.steps.map((step, place) =>
+    el("tr", { class: `step ${step.state}`, "aria-current": place + 1 === present ? "step" : null },
+      el("td", { class: "number" }, String(place + 1)),
+      el("td", { class: "text" }, step.text),
+      el("td", {}, el("span", { class: "sign", "aria-hidden": "true" }, SIGNS[step.state]), ` ${stateWord(step.state)}`),
+      el("td", {}, step.reader ?? "–")));
+  return table(["No", "Step", "State", "Reader"], rows, { class: "steps" });
+}
+
+export function instructControl({ view, act }) {
+  const step = presentStep(view);
+  return el("div", { class: "offer" },
+    el("p", { class: "readout" }, "Read out: ", el("strong", {}, step.text)),
+    button(`Instruct step ${step.number}`, () => act({ do: "instruct", clearance: view.card.clearance, step: step.number }),
+      { class: "main", "data-name": "instruct" }));
+}
+
+async function repeatAs(view, step, text, act) {
+  if (text !== step.text) {
+    const answer = await ask("The repeat differs", [
+      `The step says: ${step.text}`, `You typed: ${text || "nothing"}`,
+    ], [["send", "Send it as typed"], [null, "Correct it"]]);
+    if (answer !== "send") return;
+  }
+  await act({ do: "repeat", clearance: view.card.clearance, step: step.number, text });
+}
+
+export function repeatControl({ view, act }) {
+  const step = presentStep(view);
+  const input = el("input", { type: "text", autocomplete: "off", autocapitalize: "characters", spellcheck: "false", "data-name": "repeat-text", size: 24 });
+  input.addEventListener("input", () => {
+    const place = input.selectionStart;
+    input.value = input.value.toUpperCase();
+    input.setSelectionRange(place, place);
+  });
+  const send = (event) => {
+    event.preventDefault();
+    repeatAs(view, step, input.value.trim(), act);
+  };
+  return el("form", { class: "offer", onsubmit: send },
+    field(`Step ${step.number}, repeated as you heard it`, input, "word for word, as OPEN S2"),
+    el("button", { class: "main", "data-name": "repeat" }, `Repeat step ${step.number}`));
+}
+
+export function reportControl({ view, act }) {
+  const step = presentStep(view);
+  const report = (done) => act({ do: "report", clearance: view.card.clearance, step: step.number, done });
+  return el("div", { class: "offer" },
+    el("p", { class: "readout" }, "You repeated: ", el("strong", {}, step.text)),
+    el("div", { class: "answers" },
+      button(`Step ${step.number} is done`, () => report(true), { class: "main", "data-name": "done" }),
+      button(`Step ${step.number} was not done`, () => report(false), { "data-name": "not-done" })));
+}
+
+async function amendStep(view, step, act) {
+  const point = step.text.split(" ")[1];
+  const answer = await ask(`Amend step ${step.number} of ${view.card.clearance}`, [
+    `${step.text} becomes LEAVE ${point}: the point stays open, and the step's hold is taken off.`,
+  ], [["yes", `Amend to LEAVE ${point}`], [null, "Leave it as it is"]]);
+  if (answer === "yes") await act({ do: "amend", clearance: view.card.clearance, step: step.number });
+}
+
+export function amendControl({ view, act }) {
+  return el("div", { class: "offer" },
+    el("p", {}, "A CLOSE that cannot be done may be amended to a LEAVE:"),
+    el("div", { class: "answers" }, waitingCloses(view).map((step) =>
+      button(`Amend step ${step.number}, ${step.text}`, () => amendStep(view, step, act), { "data-name": `amend ${step.number}` }))));
+}

@@ -1,0 +1,33 @@
+// Writing a switch order: points that are opened and closed, and nothing is held.
+
+import { el, button } from "./elements.js";
+import { PointPicker, StepList } from "./picking.js";
+
+export class SwitchEditor {
+  #desk; #picker; #chosen = el("div", { class: "answers" }); #list;
+  node;
+
+  constructor(desk) {
+    this.#desk = desk;
+    this.#picker = new PointPicker(desk.network, (name, on) => this.#picked(name, on));
+    this.#list = new StepList(() => {}, (place) => this.#list.set(this.#list.steps.filter((_, at) => at !== place)));
+    this.node = el("div", { class: "offer editor" },
+      el("p", {}, "Pick the points, and say of each whether it is to be opened or closed. A switch order holds nothing."),
+      this.#picker.node, this.#chosen,
+      el("h3", {}, "Steps, in their order"), this.#list.node,
+      button("Give the switch order", () => this.#send(), { class: "main", "data-name": "switch" }));
+    desk.pick(this.#picker);
+  }
+
+  #picked(name, on) {
+    if (!on) this.#list.set(this.#list.steps.filter((text) => text.split(" ")[1] !== name));
+    this.#chosen.replaceChildren(...[...this.#picker.picked].flatMap((point) => ["OPEN", "CLOSE"].map((action) =>
+      button(`${action} ${point}`, () => this.#list.set([...this.#list.steps, `${action} ${point}`]), { "data-name": `${action} ${point}` }))));
+    this.#desk.redraw();
+  }
+
+  async #send() {
+    const { accepted, id } = await this.#desk.act({ do: "switch", steps: this.#list.steps });
+    if (accepted) location.hash = `#/clearance/${id}`;
+  }
+}

@@ -1,0 +1,187 @@
+// The watch over the register: the board every few seconds, and the views of what stands on it. All that the page
+// shows of the register is kept here as it was last answered.
+
+import { contact, getBoard, getView } from "./register.js";
+import { now, secondsOfPrinted } from "./moments.js";
+
+const PERIOD = 4000;      // between two looks at the board
+const HIDDEN = 20000;     // the same while nobody sees the page
+const AT_ONCE = 25;       // views that are asked for in one turn
+const ALL_AGAIN = 10;     // turns after which each view is asked for again
+const LOOK_THROUGH = 300; // closed records that are asked for without being told to
+
+export const room = {
+  board: [],            // lines of the board: id, phase, work, last, holder, line
+  read: null,           // when it was answered
+  turns: 0,             // how many boards were answered
+  views: new Map(),     // what stands on the board: id to view
+  closed: new Map(),    // what is over: id to view
+  lookedThrough: false, // whether all closed records are known
+};
+
+const stale = new Set();
+const listeners = [];
+let caller = null;
+let chosen = null;
+let timer = null;
+let running = null;
+
+export function onRoom(listener) {
+  listeners.push(listener);
+}
+
+function tell() {
+  for (const listener of listeners) listener();
+}
+
+export function parseBoard(text) {
+  return text.split("\n").slice(1).filter(Boolean).map((line) => ({
+    id: line.slice(0, 29).trim(),
+    phase: line.slice(30, 39).trim(),
+    work: line.slice(40, 64).trim(),
+    last: secondsOfPrinted(line.slice(65, 91)),
+    holder: line.slice(92).trim(),
+    line,
+  }));
+}
+
+export function boardLine(id) {
+  return room.board.find((row) => row.id === id);
+}
+
+export function viewOf(id) {
+  return room.views.get(id) ?? room.closed.get(id);
+}
+
+function keepBoard(text) {
+  const before = new Map(room.board.map((row) => [row.id, row.line]));
+  room.board = parseBoard(text);
+  room.read = now();
+  room.turns += 1;
+  const standing = new Set(room.board.map((row) => row.id));
+  const changed = room.board.filter((row) => before.get(row.id) !== row.line).map((row) => row.id);
+  const gone = [...room.views.keys()].filter((id) => !standing.has(id));
+  for (const id of [...changed, ...gone]) stale.add(id);
+  if (changed.length || gone.length || room.turns % ALL_AGAIN === 0) for (const id of standing) stale.add(id);
+  if (chosen && standing.has(chosen) && room.turns % 3 === 0) stale.add(chosen);
+}
+
+function keepView(id, view) {
+  const over = view.card.phase === "Closed";
+  (over ? room.closed : room.views).set(id, view);
+  if (over) room.views.delete(id);
+}
+
+async function readView(id) {
+  const answer = await getView(caller, id);
+  if (answer.kind !== "answered") return answer;
+  stale.delete(id);
+  if (answer.body.reply === "shown") keepView(id, answer.body.view);
+  return answer;
+}
+
+async function readViews() {
+  const wanted = [...stale].sort((a, b) => (b === chosen) - (a === chosen)).slice(0, AT_ONCE);
+  for (const id of wanted) {
+    if ((await readView(id)).kind === "lost") return;
+  }
+}
+
+async function look() {
+  const answer = await getBoard();
+  if (answer.kind === "answered" && typeof answer.body === "string") {
+    keepBoard(answer.body);
+    tell();
+    if (caller) {
+      await readViews();
+      tell();
+    }
+    return true;
+  }
+  tell();
+  return false;
+}
+
+// One look at a time; who asks while one goes on gets one that begins after it.
+export function lookNow() {
+  const turn = (running ?? Promise.resolve()).then(look).finally(() => {
+    if (running === turn) running = null;
+  });
+  running = turn;
+  clearTimeout(timer);
+  timer = setTimeout(lookAgain, document.hidden ? HIDDEN : PERIOD);
+  return turn;
+}
+
+function lookAgain() {
+  if (running) timer = setTimeout(lookAgain, PERIOD);
+  else lookNow();
+}
+
+// The clearance as it is now, whatever was known of it.
+export async function lookAt(id) {
+  stale.add(id);
+  const answer = caller ? await readView(id) : null;
+  tell();
+  return answer;
+}
+
+export function watchAs(name) {
+  if (caller === name) return;
+  const first = caller === null;
+  caller = name;
+  if (!first) return;
+  for (const row of room.board) stale.add(row.id);
+  lookNow().then(() => lookThrough(LOOK_THROUGH));
+}
+
+export function choose(id) {
+  if (chosen === id) return;
+  chosen = id;
+  if (id && caller) lookAt(id);
+}
+
+export function startWatch() {
+  document.addEventListener("visibilitychange", () => { if (!document.hidden) lookNow(); });
+  return lookNow();
+}
+
+let requesters = [];
+
+// Those who may have records: everybody who is not of the field.
+export function setRequesters(names) {
+  requesters = names;
+}
+
+// The records of a requester from the first one that is not known to the last there is. Numbers have no gaps.
+async function lookThroughOf(name, limit) {
+  for (let number = 1, asked = 0; ; number++) {
+    const id = `${name}/${number}`;
+    if (room.closed.has(id) || room.views.has(id)) continue;
+    if (asked++ >= limit) return { asked, whole: false };
+    const answer = await readView(id);
+    if (answer.kind !== "answered") return { asked, whole: false };
+    if (answer.body.reply !== "shown") return { asked, whole: true };
+  }
+}
+
+// Asks for all closed records, of at most so many names and numbers.
+export async function lookThrough(limit) {
+  let left = limit;
+  let whole = caller !== null;
+  for (const name of requesters) {
+    if (left <= 0 || contact.silentSince !== null) { whole = false; break; }
+    const found = await lookThroughOf(name, left);
+    left -= found.asked;
+    whole = whole && found.whole;
+  }
+  room.lookedThrough = room.lookedThrough || whole;
+  tell();
+  return whole;
+}
+
+// A requester's records, closed ones too.
+export async function recordsOf(name) {
+  await lookThroughOf(name, 9999);
+  tell();
+}
