@@ -60,20 +60,13 @@ fn card_value(alloc: Global, card: &Card) -> Result<Value, AllocError>
 fn view_value(alloc: Global, shown: &View) -> Result<Value, AllocError>
     ensures { IfOk result (λ value. view value ≡ view_data shown.now) }
 {
-    let card = card_value(alloc, &shown.card)?;
-    let crews = list_value(alloc, shown.crews.as_slice())?;
-    let fence = list_value(alloc, shown.fence.as_slice())?;
-    let holds = list_value(alloc, shown.holds.as_slice())?;
-    let points = list_value(alloc, shown.points.as_slice())?;
-    let steps = list_value(alloc, shown.steps.as_slice())?;
-    let work = optional_value(alloc, &shown.work)?;
     json!(in alloc; {
-        "card": card,
-        "crews": crews,
-        "fence": fence,
-        "holds": holds,
-        "points": points,
-        "steps": steps,
-        "work": work
+        "card": card_value(alloc, &shown.card)?,
+        "crews": list_value(alloc, shown.crews.as_slice())?,
+        "fence": list_value(alloc, shown.fence.as_slice())?,
+        "holds": list_value(alloc, shown.holds.as_slice())?,
+        "points": list_value(alloc, shown.points.as_slice())?,
+        "steps": list_value(alloc, shown.steps.as_slice())?,
+        "work": optional_value(alloc, &shown.work)?
     })
 }

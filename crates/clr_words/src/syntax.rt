@@ -35,19 +35,19 @@ const VERSION: &str = "1.0.0";
 pub fn command<'a>(alloc: Global) -> Result<Command<'a>, AllocError>
     ensures { IfOk result (λ c. app_of c ≡ gridclear) }
 {
+    let bare = top(alloc);
     let fence = fence::command(alloc)?;
+    let with_fence = bare.subcommand(fence)?;
     let init = init::command(alloc)?;
+    let with_init = with_fence.subcommand(init)?;
     let run = run::command(alloc)?;
+    let with_run = with_init.subcommand(run)?;
     let order = order::command(alloc)?;
+    let with_order = with_run.subcommand(order)?;
     let board = board::command(alloc)?;
+    let with_board = with_order.subcommand(board)?;
     let serve = serve::command(alloc)?;
-    let command = top(alloc)
-        .subcommand(fence)?
-        .subcommand(init)?
-        .subcommand(run)?
-        .subcommand(order)?
-        .subcommand(board)?
-        .subcommand(serve)?;
+    let command = with_board.subcommand(serve)?;
     Ok(command)
 }
 
