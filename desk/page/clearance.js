@@ -77,15 +77,15 @@ function facts(view) {
 }
 
 function card(view, line, staff) {
-  const { clearance, phase, holder, done, steps, round } = view.card;
+  const { phase, holder, done, steps, round } = view.card;
   const fact = (name, ...value) => el("div", {}, el("dt", {}, name), el("dd", {}, ...value));
   return el("dl", { class: "card" },
-    fact("Phase", el("span", { class: `phase ${phase}` }, phase), ` ${phaseWord(phase)}`),
+    fact("Phase", el("span", { class: `phase ${phase}` }, phase), el("span", { class: "words" }, ` ${phaseWord(phase)}`)),
     fact(view.work ? "Work section" : "Kind", view.work ?? "switch order"),
     fact("Holder", holderCell(holder, view.work, staff)),
     fact("Steps", steps ? `${done} of ${steps} done, round ${round}` : "none"),
     fact("Last moment", line ? el("span", { title: wholeTime(line.last) }, shortTime(line.last)) : "not on the board"),
-    fact("Crews", view.crews.join(", ") || "none", clearance ? "" : ""));
+    fact("Crews", view.crews.join(", ") || "none"));
 }
 
 export class ClearancePage {

@@ -111,7 +111,7 @@ function pressable(group, does) {
 
 export class Diagram {
   #network; #plan; #zoom; #svg; #lines = []; #points = new Map(); #sections = new Map(); #keys = new Map();
-  #begun = false; #picking = null; #press;
+  #picking = null; #press;
   node;
 
   // `press(kind, name)` is told where nothing is being picked.
@@ -122,14 +122,13 @@ export class Diagram {
     this.#svg = this.#draw();
     this.#zoom = zoomable(this.#svg, this.#plan);
     this.node = el("div", { class: "diagram" }, this.#tools(), this.#svg, legend());
-    new ResizeObserver(() => this.#begin()).observe(this.#svg);
   }
 
-  // Once it has a size, it shows the whole network where that can be read.
-  #begin() {
-    if (this.#begun || !this.#svg.clientWidth) return;
-    this.#begun = true;
-    this.#zoom.begin();
+  // Shows the whole network where that can be read; else these sections in the middle.
+  lookAt(names) {
+    const spots = names.map((name) => this.#plan.spots.get(name)).filter(Boolean);
+    const mean = (key) => spots.reduce((sum, spot) => sum + spot[key], 0) / spots.length;
+    this.#zoom.lookAt(spots.length ? { x: mean("x") + spots[0].width / 2, y: mean("y") } : null);
   }
 
   #draw() {

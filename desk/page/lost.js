@@ -14,11 +14,11 @@ const LOOKS = 1200;   // an hour of looks, then the operator has to look
 function newRecords(command, known) {
   const found = room.board.filter((row) => row.id.startsWith(`${command.by}/`) && !known.ids.has(row.id));
   if (!found.length) {
-    return [`Nothing new of ${command.by} stands on the board: so far it was not carried out.`];
+    return { stands: false, text: `Nothing new of ${command.by} stands on the board: so far it was not carried out.` };
   }
-  return found.map((row) =>
-    `New on the board since: ${row.id}, ${row.phase}${row.work === "-" ? "" : `, section ${row.work}`}, last moment ${shortTime(row.last)}`
-    + (row.last === command.at ? ", which is the moment of this command: it was carried out." : "."));
+  const words = found.map((row) => `${row.id}, ${row.phase}${row.work === "-" ? "" : `, section ${row.work}`}, last moment ${shortTime(row.last)}`);
+  const stands = found.some((row) => row.last === command.at);
+  return { stands, text: `New on the board since: ${words.join("; ")}. ${stands ? "That is the moment of this command: it was carried out." : "Was that this command?"}` };
 }
 
 function stepNow(command, view) {
@@ -27,16 +27,16 @@ function stepNow(command, view) {
 }
 
 function sameRecord(command, known) {
-  const view = viewOf(command.clearance);
-  if (!view) return [`${command.clearance} could not be looked at: show it before you go on.`];
+  const view = viewOf(command.clearance), line = boardLine(command.clearance);
+  if (!view) return { stands: false, text: `${command.clearance} could not be looked at: show it before you go on.` };
   if (JSON.stringify(view) === known.view) {
-    return [`${command.clearance} stands as it did before: so far the command was not carried out.${stepNow(command, view)}`];
+    return { stands: false, text: `${command.clearance} stands as it did before: so far the command was not carried out.${stepNow(command, view)}` };
   }
-  const line = boardLine(command.clearance);
+  const stands = line?.last === command.at;
   const moment = !line ? "It is no longer on the board."
-    : line.last === command.at ? "Its last moment is that of this command: it was carried out."
+    : stands ? "Its last moment is that of this command: it was carried out."
       : "Its last moment is another than that of this command: look at it before you go on.";
-  return [`${command.clearance} has changed since: ${cardWords(view.card)}.${stepNow(command, view)}`, moment];
+  return { stands, text: `${command.clearance} has changed since: ${cardWords(view.card)}.${stepNow(command, view)} ${moment}` };
 }
 
 function pause(milliseconds) {
@@ -59,34 +59,24 @@ export async function lost(command, why, known, again) {
       "It may have been carried out, or may still be. It is not sent again by itself; the page looks at the board as soon as the register answers."),
   });
   if (!(await lookUntilAnswered())) return;
+  await tellFound(command, why, known, reply, again);
+}
+
+// What the board and the clearance say now. Where the command stands there, it is not offered again.
+async function tellFound(command, why, known, reply, again) {
   if (command.clearance) await lookAt(command.clearance);
-  const found = command.clearance ? sameRecord(command, known) : newRecords(command, known);
-  const read = shortTime(room.read);
+  const { stands, text } = command.clearance ? sameRecord(command, known) : newRecords(command, known);
+  const look = async () => {
+    await lookNow();
+    await tellFound(command, why, known, reply, again);
+  };
   changeReply(reply, {
     kind: "found",
     lines: () => [
       el("p", {}, `No reply came: ${why}.`),
-      el("p", { class: "finding" }, el("strong", {}, `The board at ${read}: `), found.join(" ")),
-      el("p", {}, "What waits before the register may still be carried out: look once more before you give the command again."),
-    ],
-    actions: [
-      ["Look again", () => lookOnce(command, known, reply, again)],
-      ["Give it again", again],
-      ["Leave it", () => {}],
-    ],
-  });
-}
-
-async function lookOnce(command, known, reply, again) {
-  await lookNow();
-  if (command.clearance) await lookAt(command.clearance);
-  const found = command.clearance ? sameRecord(command, known) : newRecords(command, known);
-  changeReply(reply, {
-    lines: () => [el("p", { class: "finding" }, el("strong", {}, `The board at ${shortTime(room.read)}: `), found.join(" "))],
-    actions: [
-      ["Look again", () => lookOnce(command, known, reply, again)],
-      ["Give it again", again],
-      ["Leave it", () => {}],
-    ],
+      el("p", { class: "finding" }, el("strong", {}, `The board at ${shortTime(room.read)}: `), text),
+      stands ? null : el("p", {}, "What waits before the register may still be carried out: look once more before you give the command again."),
+    ].filter(Boolean),
+    actions: stands ? [] : [["Look again", look], ["Give it again", again], ["Leave it", () => {}]],
   });
 }

@@ -19,6 +19,8 @@ export class NetList {
 
   pick() {}
 
+  lookAt() {}
+
   update(seen) {
     this.#last = seen;
     if (!seen) return;

@@ -83,6 +83,17 @@ function turn(focus = true) {
   if (focus) page.node.querySelector("h2").focus();
 }
 
+// Where the network is too large to be read as a whole, the diagram begins at the chosen clearance.
+let looked = "";
+function lookAtChosen() {
+  const view = viewOf(chosen);
+  const names = view?.fence.length ? view.fence : view?.work ? [view.work] : [];
+  const key = `${location.hash} ${names}`;
+  if (looked === key) return;
+  looked = key;
+  desk.diagram.lookAt(names);
+}
+
 function drawDiagram() {
   if (!desk.diagram.node.isConnected) return;
   desk.diagram.update({ states: desk.states(), room, fence: new Set(viewOf(chosen)?.fence ?? []) });
@@ -91,6 +102,7 @@ function drawDiagram() {
 function update() {
   page?.update();
   drawDiagram();
+  lookAtChosen();
   const strange = strangePoints(desk.network, room);
   at("strange").hidden = !strange.length;
   at("strange").textContent = strange.length ? `The register names ${strange.slice(0, 5).join(", ")}, which the files of this page do not have: they are not the register's files, and the diagram and the lists are wrong.` : "";
@@ -170,6 +182,7 @@ async function start() {
     panel(at("main"), "none", () => [el("h2", {}, "The network cannot be shown"), el("p", {}, fault.message)]);
     return;
   }
+  performance.mark("network-read");
   desk = makeDesk(network);
   setRequesters([...network.staff.values()].filter((row) => row.role !== "field").map((row) => row.name));
   listCallers(network.staff);
@@ -179,6 +192,7 @@ async function start() {
   onSending(() => document.body.classList.toggle("sending", isSending()));
   addEventListener("hashchange", () => turn());
   turn(false);
+  requestAnimationFrame(() => requestAnimationFrame(() => performance.measure("drawn", "network-read")));
   await startWatch();
   let kept = "";
   try {

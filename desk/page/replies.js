@@ -43,7 +43,7 @@ function actionsOf(reply) {
 
 function item(reply) {
   const [sign, head] = HEADS[reply.kind];
-  return el("li", { class: `reply ${reply.kind}`, "data-kind": reply.kind },
+  return el("li", { class: `reply ${reply.kind}`, "data-kind": reply.kind, "data-number": reply.number },
     el("h3", {}, el("span", { class: "sign", "aria-hidden": "true" }, sign), ` ${head} `,
       el("time", { title: wholeTime(reply.at) }, shortTime(reply.at))),
     el("p", { class: "said" }, reply.said),

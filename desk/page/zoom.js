@@ -4,6 +4,8 @@ const MOST = 3, LEAST = 0.05, READABLE = 0.62, STEP = 1.25, PAN = 80;
 
 export function zoomable(drawing, size) {
   const window_ = { x: 0, y: 0, scale: 1 };
+  let own = false;   // whether the operator has zoomed or moved it
+  let middle = null; // what is to be in the middle where not all can be read
   const box = () => ({ width: drawing.clientWidth || 800, height: drawing.clientHeight || 500 });
 
   const show = () => {
@@ -38,17 +40,27 @@ export function zoomable(drawing, size) {
 
   const fit = () => centre(size.width / 2, size.height / 2, whole());
 
-  // The whole drawing where it is readable so; else its beginning.
+  // The whole drawing where it can be read so; else its middle, or its beginning.
   const begin = () => {
+    if (!drawing.clientWidth) return;
+    if (own) return show();
     if (whole() >= READABLE) return fit();
+    if (middle) return centre(middle.x, middle.y, READABLE * 1.3);
     window_.scale = READABLE;
     window_.x = window_.y = 0;
     show();
   };
 
-  listen(drawing, { zoom, zoomAt, pan, fit });
-  new ResizeObserver(show).observe(drawing);
-  return { zoom, pan, fit, begin, centre, scale: () => window_.scale, STEP };
+  const byHand = (does) => (...values) => { own = true; does(...values); };
+  const hands = { zoom: byHand(zoom), zoomAt: byHand(zoomAt), pan: byHand(pan), fit: byHand(fit), centre: byHand(centre) };
+  listen(drawing, hands);
+  new ResizeObserver(begin).observe(drawing);
+  const lookAt = (place) => {
+    own = false;
+    middle = place;
+    begin();
+  };
+  return { ...hands, lookAt, scale: () => window_.scale, STEP };
 }
 
 function listen(drawing, { zoom, zoomAt, pan, fit }) {
