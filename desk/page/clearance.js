@@ -23,7 +23,7 @@ const CONTROLS = {
 // What a control shows of the view: it is made anew only where that has changed, so that nothing typed is lost.
 const SHOWN = {
   order: () => [],
-  restore: (view) => view.holds,
+  restore: (view) => view.holds.filter((hold) => hold.by === view.card.clearance),
   work: (view) => [view.fence, view.holds, view.crews],
   transfer: (view) => view.card.holder,
   emergency: (view) => view.card.holder,
@@ -41,9 +41,15 @@ function asControl(names, desk) {
   return pick;
 }
 
+// What others may do, one line for the same names.
 function othersList(offers, desk) {
-  return el("ul", { class: "others" }, offers.map(({ says, names }) => el("li", {},
-    el("span", {}, el("strong", {}, names.length > MOST_BUTTONS ? `${names.length} names` : names.join(" or ") || "nobody"), `: ${says} `),
+  const lines = new Map();
+  for (const { says, names } of offers) {
+    const key = names.join(" ");
+    lines.set(key, { names, says: [...(lines.get(key)?.says ?? []), says] });
+  }
+  return el("ul", { class: "others" }, [...lines.values()].map(({ names, says }) => el("li", {},
+    el("span", {}, el("strong", {}, names.length > MOST_BUTTONS ? `${names.length} names` : names.join(" or ") || "nobody"), `: ${says.join("; ")} `),
     el("span", { class: "answers" }, asControl(names, desk)))));
 }
 

@@ -8,11 +8,13 @@ import { addReply, plainLines, replyOf } from "./replies.js";
 import { boardLine, lookAt, lookNow, room, viewOf } from "./watch.js";
 import { saidOf } from "./words.js";
 
-const FAR = 120; // seconds off the clock that are asked about
+const FAR = 120;     // seconds off the clock that are asked about
+const DOUBLE = 1000; // milliseconds within which a second press is none
 
 let caller = null;
 let momentField = null;
 let sending = false;
+let since = 0; // when what is being sent was begun
 const listeners = [];
 
 export function setCaller(name) {
@@ -34,6 +36,7 @@ export function isSending() {
 
 function noteSending(value) {
   sending = value;
+  since = Date.now();
   for (const listener of listeners) listener();
 }
 
@@ -47,16 +50,17 @@ function statedMoment() {
 async function notBeforeLast(command, at) {
   const last = command.clearance ? boardLine(command.clearance)?.last ?? null : null;
   if (last === null || last <= at) return { at, asked: false };
+  const far = last - now() > FAR;
   const answer = await ask("The register is ahead of this moment", [
     `The last moment of ${command.clearance} in the register is ${wholeTime(last)}.`,
     `The moment of this command is ${wholeTime(at)}, ${span(last - at)} before it: it would be refused (EARLIER).`,
-    last - now() > FAR ? `That last moment is ${span(last - now())} after this desk's clock. Is the clock right, or was a moment mistyped?` : "",
+    far ? `That last moment is ${span(last - now())} after this desk's clock. Is the clock right, or was a moment mistyped?` : "",
   ].filter(Boolean), [
     ["last", `Give it with ${shortTime(last)}`],
     ["same", "Give it as it is"],
     [null, "Do not give it"],
   ]);
-  return answer === null ? null : { at: answer === "last" ? last : at, asked: answer === "last" };
+  return answer === null ? null : { at: answer === "last" ? last : at, asked: far && answer === "last" };
 }
 
 async function nearTheClock(at) {
@@ -90,8 +94,11 @@ function before(command) {
 
 // Gives the command and tells whether it was accepted, with the clearance's name.
 export async function give(parts) {
-  if (sending) return { accepted: false };
   const command = { by: caller, ...parts };
+  if (sending) {
+    if (Date.now() - since > DOUBLE) noteUnsent(command, "Another command still waits for its reply. Look at the replies, and give this one when that is over.");
+    return { accepted: false };
+  }
   noteSending(true);
   try {
     const at = await momentFor(command);

@@ -15,13 +15,14 @@ function markLines(marks, x, y, up, anchor) {
   const shown = marks.slice(0, MOST_MARKS);
   if (marks.length > MOST_MARKS) shown[MOST_MARKS - 1] = `${shown[MOST_MARKS - 1]} +${marks.length - MOST_MARKS}`;
   return shown.map((text, place) =>
-    svg("text", { class: "mark", x, y: y + (up ? -11 : 11) * place, "text-anchor": anchor }, text));
+    svg("text", { class: "mark", x, y: y + (up ? -10 : 10) * place, "text-anchor": anchor }, text));
 }
 
-// Holds at a point by owner, as JONES/1 O B T.
-export function holdMarks(holds) {
-  const owners = new Map();
+// Holds and the hand at a point by owner, as JONES/1 O B T hand.
+export function holdMarks({ holds, hand }) {
+  const owners = new Map(hand ? [[hand, hand]] : []);
   for (const { by, kind } of holds) owners.set(by, `${owners.get(by) ?? by} ${LETTERS[kind]}`);
+  if (hand) owners.set(hand, `${owners.get(hand)} hand`);
   return [...owners.values()];
 }
 
@@ -48,7 +49,7 @@ function pointSymbol(state, picked) {
 // On a row the name stands above and the marks below; elsewhere both stand beside the point, on one line.
 function pointLabels(state, kind, picked) {
   const name = `${picked ? "✓ " : ""}${state.point.name}${isOffNormal(state) ? " ≠" : ""}`;
-  const marks = [...(state.hand ? [`hand: ${state.hand}`] : []), ...holdMarks(state.holds)];
+  const marks = holdMarks(state);
   if (kind !== "row") {
     return [svg("text", { class: "label", x: 11, y: kind === "lane" ? 12 : 4 }, name,
       marks.length ? svg("tspan", { class: "mark", dx: 5 }, marks.join(", ")) : null)];
@@ -133,8 +134,8 @@ export class Diagram {
 
   #draw() {
     const base = this.#plan.edges.map((edge) => svg("path", { class: "line", d: edge.path }));
-    const dots = this.#plan.edges.filter((edge) => edge.dot)
-      .map(({ dot: [cx, cy] }) => svg("circle", { class: "dot", cx, cy, r: 2.5 }));
+    const dots = this.#plan.edges.flatMap((edge) => [edge.dot, edge.other]).filter(Boolean)
+      .map(([cx, cy]) => svg("circle", { class: "dot", cx, cy, r: 2.5 }));
     const sections = [...this.#plan.spots.values()].map((spot) => this.#group("section", spot.name, spot.x, spot.y, this.#sections));
     const points = this.#plan.edges.map((edge) => this.#group("point", edge.point.name, edge.x, edge.y, this.#points, edge.kind));
     return svg("svg", { class: "net", tabindex: 0, role: "group", "aria-label": "One-line diagram. Plus and minus zoom, arrows pan, 0 shows all. The points are also listed under Points." },
@@ -238,5 +239,5 @@ function legend() {
     entry(sign("≠"), "not in its normal position"),
     entry(fenceSample(), "in the fence of the chosen clearance"),
     entry(sign("O B C T"), "held open, blocked, control off, tagged, behind the owner's name"),
-    entry(sign("hand:"), "a step is given out there")));
+    entry(sign("hand"), "its owner's step is given out there")));
 }

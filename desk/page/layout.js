@@ -1,10 +1,12 @@
 // Where each section and point of the one-line diagram lies: sections in columns from the sources outward, a feeder
 // along its row and its branches below it; points that close a loop run in lanes of their own between columns and rows.
 
-export const ROW = 68;        // from row to row
 export const BOX = 26;        // height of a section
+const ROW = 56, LANE = 14;    // from row to row; what each lane between them adds
+const BELOW = 18;             // where a point lies under a row on an upright line
 const LETTER = 7.4, SMALL = 6.4;
 const MARGIN = 44, TRACK = 16, MOST_WIDE = 8;
+const WIDE = 16 / 10, COLUMN = 130, MOST_STRIPS = 12;
 
 // A tree over all sections: closed points first, as the files have them, so that it follows the feeders.
 function spanning({ sections, ways }) {
@@ -56,9 +58,10 @@ function childrenOf({ parent, order }) {
 }
 
 // Columns and rows. A chain of first children keeps one row; what branches off goes below, from its end backwards, so
-// that no line down runs through a section.
-function placed({ roots, children }) {
-  const spots = new Map(), bottom = [];
+// that no line down runs through a section. Where a strip has its rows, the next source begins a strip beside it.
+function placed({ roots, children }, limit) {
+  const spots = new Map();
+  let bottom = [], begin = 0, columns = 0, rows = 0;
   const place = (first, column) => {
     const chain = [first];
     while (children.get(chain.at(-1)).length) chain.push(children.get(chain.at(-1))[0]);
@@ -67,12 +70,32 @@ function placed({ roots, children }) {
       spots.set(name, { name, column: column + step, row });
       bottom[column + step] = row;
     });
+    columns = Math.max(columns, column + chain.length);
+    rows = Math.max(rows, row + 1);
     for (let step = chain.length - 1; step >= 0; step--) {
       for (const child of children.get(chain[step]).slice(1)) place(child, column + step + 1);
     }
   };
-  for (const root of roots) place(root, 0);
-  return spots;
+  for (const root of roots) {
+    if (Math.max(0, ...bottom.filter((row) => row !== undefined)) + 1 >= limit && bottom.length) {
+      begin = columns;
+      bottom = [];
+    }
+    place(root, begin);
+  }
+  return { spots, columns, rows };
+}
+
+// As many strips as give the drawing about the shape of a screen.
+function wellPlaced(tree) {
+  const whole = placed(tree, Infinity);
+  const size = ({ columns, rows }) => Math.max((columns * COLUMN) / WIDE, rows * ROW);
+  let best = whole;
+  for (let strips = 2; strips <= MOST_STRIPS && strips <= tree.roots.length; strips++) {
+    const next = placed(tree, Math.ceil(whole.rows / strips));
+    if (size(next) < size(best)) best = next;
+  }
+  return best;
 }
 
 // The points that are not in the tree, with their left (or upper) end first.
@@ -100,15 +123,29 @@ function tracks(items, key, low, high, name) {
   return lists;
 }
 
+// A lane of its own for each tie between two columns, a track for each: lists of both.
 function tracked(ties) {
   for (const tie of ties) {
-    tie.lane = tie.a.column === tie.b.column ? null : tie.a.row < tie.b.row || tie.a.row === tie.b.row ? tie.b.row - 0.5 : tie.b.row + 0.5;
+    const level = tie.a.column === tie.b.column;
+    tie.lane = level ? null : tie.a.row <= tie.b.row ? tie.b.row - 0.5 : tie.b.row + 0.5;
   }
   const end = (tie) => tie.lane ?? tie.b.row;
   const low = (tie) => Math.min(tie.a.row, end(tie)) - 0.1, high = (tie) => Math.max(tie.a.row, end(tie)) + 0.1;
   const channels = tracks(ties, (tie) => tie.a.column, low, high, "track");
-  tracks(ties.filter((tie) => tie.lane !== null), (tie) => tie.lane, (tie) => tie.a.column, (tie) => tie.b.column + 1, "sub");
-  return channels;
+  const lanes = tracks(ties.filter((tie) => tie.lane !== null), (tie) => tie.lane, (tie) => tie.a.column, (tie) => tie.b.column + 1, "sub");
+  return { channels, lanes };
+}
+
+// The height of each row, and of the lanes between two.
+function levels(rows, lanes) {
+  const count = (gap) => lanes.get(gap)?.length ?? 0;
+  const heights = [ROW + count(-0.5) * LANE];
+  for (let row = 1; row <= rows; row++) heights.push(heights[row - 1] + ROW + count(row - 0.5) * LANE);
+  const lane = (tie) => {
+    const row = tie.lane + 0.5, above = row === 0 ? 0 : heights[row - 1];
+    return (above + heights[row]) / 2 + (tie.sub - (count(tie.lane) - 1) / 2) * LANE;
+  };
+  return { heights, lane };
 }
 
 const boxWidth = (name) => Math.max(40, name.length * LETTER + 16);
@@ -134,64 +171,60 @@ function measure(spots, parent, channels) {
   return measures;
 }
 
-function treeEdge(spot, up, from, measures) {
+// The line from a section to one that follows it. What branches off goes on from the branch above, so that no line is
+// drawn twice.
+function treeEdge(spot, up, from, ends, measures) {
   const { trunk, zone, next } = measures[from.column];
-  const y = spot.y, start = from.x + from.width;
-  const path = from.row === spot.row ? `M${start},${y}H${spot.x}` : `M${start},${from.y}H${trunk}V${y}H${spot.x}`;
-  return { point: up.point, path, x: next - zone / 2, y, kind: "row", dot: from.row === spot.row ? null : [trunk, from.y] };
+  const y = spot.y, begin = ends.get(from.name) ?? from.y;
+  const path = from.row === spot.row ? `M${from.x + from.width},${y}H${spot.x}` : `M${trunk},${begin}V${y}H${spot.x}`;
+  if (from.row !== spot.row) ends.set(from.name, y);
+  return { point: up.point, path, x: next - zone / 2, y, kind: "row", dot: from.row === spot.row ? null : [trunk, begin] };
 }
-
-const y = (row) => (row + 1) * ROW;
-
-const BELOW = 0.27; // of a row: below the lines of the row, above the lanes between the rows
 
 // Where on its line a tie's point is drawn: on the upright part, where that passes below a row, else on its lane.
-function tiePlace(tie, x, end, zone) {
+function tiePlace(tie, x, end, zone, { heights, lane }) {
   const top = Math.ceil(Math.min(end, tie.a.row)), last = Math.max(end, tie.a.row) - 1;
-  if (last >= top) {
-    const gaps = Math.floor(last - top) + 1;
-    const gap = Math.min(gaps - 1, Math.floor(gaps / 2) + (tie.track % 2));
-    return { x, y: y(top + gap + BELOW), kind: "upright" };
-  }
-  return { x: zone - (tie.sub ?? 0) * 22, y: y(end), kind: "lane" };
+  if (last < top) return { x: zone - (tie.sub ?? 0) * 22, y: lane(tie), kind: "lane" };
+  const gaps = Math.floor(last - top) + 1;
+  const gap = Math.min(gaps - 1, Math.floor(gaps / 2) + (tie.track % 2));
+  return { x, y: heights[top + gap] + BELOW, kind: "upright" };
 }
 
-function tieEdge(tie, entries, measures) {
+// The line of a tie. From a section that others follow it branches off the line to them.
+function tieEdge(tie, entries, leads, measures, level) {
   const channel = measures[tie.a.column];
   const x = channel.first + tie.track * channel.step;
-  const start = tie.a.x + tie.a.width;
+  const right = (spot) => (leads.has(spot.name) ? x : spot.x + spot.width);
+  const start = right(tie.a);
   if (tie.lane === null) {
-    const path = `M${start},${tie.a.y}H${x}V${tie.b.y}H${tie.b.x + tie.b.width}`;
-    return { point: tie.point, path, ...tiePlace(tie, x, tie.b.row), dot: [x, tie.a.y] };
+    const path = `M${start},${tie.a.y}H${x}V${tie.b.y}H${right(tie.b)}`;
+    return { point: tie.point, path, ...tiePlace(tie, x, tie.b.row, x, level), dot: [x, tie.a.y], other: [x, tie.b.y] };
   }
-  const nudge = [0, 6, -6, 3, -3][tie.sub % 5];
   const count = entries.get(tie.b.name) ?? 0;
   entries.set(tie.b.name, count + 1);
   const into = tie.b.x + tie.b.width - 12 - (count * 9) % Math.max(9, tie.b.width - 20);
-  const lane = y(tie.lane) + nudge;
   const side = tie.lane < tie.b.row ? tie.b.y - BOX / 2 : tie.b.y + BOX / 2;
-  const spot = tiePlace(tie, x, tie.lane, channel.next - channel.zone / 2);
-  if (spot.kind === "lane") spot.y = lane;
-  return { point: tie.point, path: `M${start},${tie.a.y}H${x}V${lane}H${into}V${side}`, ...spot, dot: [x, tie.a.y] };
+  const spot = tiePlace(tie, x, tie.lane, channel.next - channel.zone / 2, level);
+  return { point: tie.point, path: `M${start},${tie.a.y}H${x}V${level.lane(tie)}H${into}V${side}`, ...spot, dot: [x, tie.a.y] };
 }
 
 export function layOut(network) {
-  const tree = spanning(network);
-  const spots = placed({ roots: tree.roots, children: childrenOf(tree) });
-  const ties = tiesOf(network, spots, tree.parent);
-  const measures = measure(spots, tree.parent, tracked(ties));
-  let rows = 0;
+  const { parent, order, roots } = spanning(network);
+  const { spots, rows } = wellPlaced({ roots, children: childrenOf({ parent, order }) });
+  const ties = tiesOf(network, spots, parent);
+  const { channels, lanes } = tracked(ties);
+  const measures = measure(spots, parent, channels), level = levels(rows, lanes);
   for (const spot of spots.values()) {
     spot.width = boxWidth(spot.name);
     spot.x = measures[spot.column].left;
-    spot.y = y(spot.row);
-    rows = Math.max(rows, spot.row);
+    spot.y = level.heights[spot.row];
   }
-  const entries = new Map();
-  const edges = [...spots.values()].filter((spot) => tree.parent.get(spot.name)).map((spot) => {
-    const up = tree.parent.get(spot.name);
-    return treeEdge(spot, up, spots.get(up.from), measures);
+  const entries = new Map(), ends = new Map(), leads = new Set();
+  const edges = [...spots.values()].filter((spot) => parent.get(spot.name)).sort((a, b) => a.row - b.row).map((spot) => {
+    const up = parent.get(spot.name);
+    leads.add(up.from);
+    return treeEdge(spot, up, spots.get(up.from), ends, measures);
   });
-  edges.push(...ties.map((tie) => tieEdge(tie, entries, measures)));
-  return { spots, edges, width: measures.at(-1).next + 20, height: y(rows + 1) };
+  edges.push(...ties.map((tie) => tieEdge(tie, entries, leads, measures, level)));
+  return { spots, edges, width: measures.at(-1).next + 20, height: level.heights[rows] };
 }

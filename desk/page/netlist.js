@@ -30,7 +30,7 @@ export class NetList {
     const shown = found.sort((a, b) => seen.fence.has(b.name) - seen.fence.has(a.name)).slice(0, MOST_LISTED);
     const rows = shown.map((section) => [section, this.#network.ways.get(section.name).map((point) => {
       const state = seen.states.get(point.name);
-      const marks = holdMarks(state.holds).join(", ");
+      const marks = holdMarks(state).join(", ");
       return `${point.name} to ${point.from === section.name ? point.to : point.from}: ${state.position ?? "not clear"}${marks ? ` (${marks})` : ""}`;
     }), seen.fence.has(section.name)]);
     panel(this.#rows, [rows, found.length], () => [

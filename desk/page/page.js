@@ -10,7 +10,7 @@ import { fieldTime, now, shortTime, wholeTime } from "./moments.js";
 import { namesOfRole, readNetwork } from "./network.js";
 import { NetList } from "./netlist.js";
 import { PointsPage } from "./points.js";
-import { pointStates, strangePoints } from "./positions.js";
+import { pointStates, strangeNames } from "./positions.js";
 import { contact, onContact } from "./register.js";
 import { showReplies } from "./replies.js";
 import { RequestForm } from "./request.js";
@@ -40,7 +40,9 @@ class DiagramPage {
   #note = el("p", { class: "hint" });
   node = el("section", {}, el("h2", { tabindex: -1 }, "Diagram"), this.#note, el("div", { class: "diagram-place large" }));
   update() {
-    this.#note.textContent = chosen ? `The fence of ${chosen} is hatched.` : "Choose a clearance on the board to see its fence.";
+    const fenced = viewOf(chosen)?.fence.length;
+    this.#note.textContent = !chosen ? "Choose a clearance on the board to see its fence."
+      : fenced ? `The fence of ${chosen} is hatched.` : `${chosen} has no fence now.`;
   }
 }
 
@@ -103,15 +105,21 @@ function update() {
   page?.update();
   drawDiagram();
   lookAtChosen();
-  const strange = strangePoints(desk.network, room);
-  at("strange").hidden = !strange.length;
-  at("strange").textContent = strange.length ? `The register names ${strange.slice(0, 5).join(", ")}, which the files of this page do not have: they are not the register's files, and the diagram and the lists are wrong.` : "";
+  drawStrange();
+}
+
+// Where the copies of the files are not those that the register was made from.
+function drawStrange() {
+  const names = strangeNames(desk.network, room).slice(0, 5);
+  const node = at("strange");
+  node.hidden = !names.length;
+  node.textContent = names.length ? `⚠ The files of this page are not those of the register: ${names.join("; ")}. The diagram and the lists are wrong.` : "";
 }
 
 // Whether the register answers, in words.
 function drawContact() {
-  const silent = contact.silentSince !== null;
-  const text = silent
+  const silent = contact.silentSince !== null || contact.trouble !== "";
+  const text = contact.silentSince === null && contact.trouble ? contact.trouble : silent
     ? `The register does not answer since ${shortTime(contact.silentSince)} (${contact.why}). ${contact.answered ? `Its last answer came at ${shortTime(contact.answered)}; what is shown is from then.` : "It has not answered yet."}`
     : contact.answered ? `The register answers; last at ${shortTime(contact.answered)}.` : "Asking the register…";
   const node = at("contact");
@@ -143,7 +151,7 @@ function listCallers(staff) {
   at("caller").addEventListener("change", () => speakAs(at("caller").value));
 }
 
-// The moment of the next command: the clock's, unless another is set. After an accepted command it is the clock again.
+// The moment of the next command: the clock's, unless another is set. After a reply it is the clock's again.
 function startMoment() {
   const field = at("moment"), line = at("moment-line"), set = at("moment-set");
   const show = (other) => {

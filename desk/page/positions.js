@@ -69,11 +69,13 @@ export function sourceOf(state, lookedThrough) {
   return lookedThrough ? "as in the file; no record has moved it" : "as in the file; the register was not asked";
 }
 
-// The points that a view names and the page's files lack: then the files are not those of the register.
-export function strangePoints(network, room) {
+// What the register names and the page's files lack, or the other way round: then they are not the register's files.
+export function strangeNames(network, room) {
   const names = [...room.views.values()].flatMap((view) => [
-    ...view.points.map((row) => row.point).filter((name) => !network.points.has(name)),
-    ...view.fence.filter((name) => !network.sections.has(name)),
+    ...view.points.map((row) => row.point).filter((name) => !network.points.has(name)).map((name) => `no point ${name} in them`),
+    ...view.fence.filter((name) => !network.sections.has(name)).map((name) => `no section ${name} in them`),
   ]);
-  return [...new Set(names)];
+  const work = room.board.map((row) => row.work).filter((name) => name !== "-" && !network.sections.has(name));
+  const unknown = room.unknownCaller ? [`the register does not know ${room.unknownCaller}`] : [];
+  return [...new Set([...unknown, ...work.map((name) => `no section ${name} in them`), ...names])];
 }

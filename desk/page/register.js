@@ -3,12 +3,13 @@
 //   { kind: "barred", status }           the proxy did not pass it on
 //   { kind: "lost", why }                nobody knows: no answer, or a proxy's word that there was none
 
-import { now } from "./moments.js";
+import { now, shortTime } from "./moments.js";
 
 const PATIENCE = 15000; // the proxy gives up after 10 seconds, and says so
 
-// When the register last answered, and when it first did not since then; null: it answers.
-export const contact = { answered: null, silentSince: null, why: "" };
+// When the register last answered, and when it first did not since then; null: it answers. Trouble is what it, or the
+// proxy, answers in place of what was asked.
+export const contact = { answered: null, silentSince: null, why: "", trouble: "" };
 
 let last = Promise.resolve();
 const listeners = [];
@@ -22,10 +23,18 @@ function noteAnswer(answer) {
     contact.silentSince = contact.silentSince ?? now();
     contact.why = answer.why;
   } else {
-    contact.answered = now();
+    if (answer.kind === "answered") contact.answered = now();
     contact.silentSince = null;
+    contact.trouble = troubleIn(answer);
   }
   for (const listener of listeners) listener();
+}
+
+function troubleIn(answer) {
+  const last = contact.answered ? ` Its last answer came at ${shortTime(contact.answered)}.` : "";
+  if (answer.kind === "barred") return `The proxy lets nothing through: status ${answer.status}.${last}`;
+  if (answer.status === 503) return "The register answers, but its database or memory refuses (503). Is its disk full?";
+  return "";
 }
 
 function parsed(text, type) {

@@ -17,6 +17,7 @@ export const room = {
   views: new Map(),     // what stands on the board: id to view
   closed: new Map(),    // what is over: id to view
   lookedThrough: false, // whether all closed records are known
+  unknownCaller: null,  // a name of the staff file that the register does not know
 };
 
 const stale = new Set();
@@ -77,6 +78,7 @@ async function readView(id) {
   if (answer.kind !== "answered") return answer;
   stale.delete(id);
   if (answer.body.reply === "shown") keepView(id, answer.body.view);
+  room.unknownCaller = answer.body.refusal === "UNKNOWN_CALLER" ? caller : null;
   return answer;
 }
 

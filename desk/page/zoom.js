@@ -1,6 +1,6 @@
 // Zoom and pan of a drawing, by wheel, drag, buttons and keys.
 
-const MOST = 3, LEAST = 0.05, READABLE = 0.62, STEP = 1.25, PAN = 80;
+const MOST = 3, LEAST = 0.05, READABLE = 0.62, FAR = 0.42, STEP = 1.25, PAN = 80;
 
 export function zoomable(drawing, size) {
   const window_ = { x: 0, y: 0, scale: 1 };
@@ -11,6 +11,7 @@ export function zoomable(drawing, size) {
   const show = () => {
     const { width, height } = box();
     drawing.setAttribute("viewBox", `${window_.x} ${window_.y} ${width / window_.scale} ${height / window_.scale}`);
+    drawing.classList.toggle("far", window_.scale < FAR);
   };
 
   const zoomAt = (factor, left, top) => {
