@@ -31,7 +31,7 @@ export class NetList {
     const rows = shown.map((section) => [section, this.#network.ways.get(section.name).map((point) => {
       const state = seen.states.get(point.name);
       const marks = holdMarks(state).join(", ");
-      return `${point.name} to ${point.from === section.name ? point.to : point.from}: ${state.position ?? "not clear"}${marks ? ` (${marks})` : ""}`;
+      return `${point.name} to ${point.from === section.name ? point.to : point.from}: ${state.position ?? "not clear"}${state.from === "file" ? " in the file" : ""}${marks ? ` (${marks})` : ""}`;
     }), seen.fence.has(section.name)]);
     panel(this.#rows, [rows, found.length], () => [
       el("p", { class: "hint" }, `${shown.length} of ${found.length} sections`),
