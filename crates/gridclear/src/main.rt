@@ -1,11 +1,6 @@
 //! The switching order and clearance register of a system operator: the program.
 #![tactic(auto)]
 
-#[cfg(test)]
-mod command_lines;
-#[cfg(test)]
-mod connections;
-
 ghost use Rattle.std.specs.Prelude.{◌≡◌, ◌≤◌};
 ghost use Rattle.std.specs.Process.{exit_status};
 
