@@ -23,7 +23,7 @@ export function stepsWords(view) {
 }
 
 // Tests, grounds and crews of the clearance.
-export function workWords(view) {
+function workWords(view) {
   if (!view) return "";
   const own = view.holds.filter((hold) => hold.by === view.card.clearance && (hold.kind === "Tested" || hold.kind === "Ground"));
   const grounded = new Set(own.filter((hold) => hold.kind === "Ground").map((hold) => hold.place));

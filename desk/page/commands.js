@@ -9,6 +9,7 @@ import { boardLine, lookAt, lookNow, room, viewOf } from "./watch.js";
 import { saidOf } from "./words.js";
 
 const FAR = 120;     // seconds off the clock that are asked about
+const PENDING = "gridclear-pending";
 const DOUBLE = 1000; // milliseconds within which a second press is none
 
 let caller = null;
@@ -112,8 +113,47 @@ export async function give(parts) {
   }
 }
 
+// The command that is under way stands in the tab's storage, so that a page that is loaded anew meanwhile knows of it.
+function keepPending(pending) {
+  try {
+    if (pending) sessionStorage.setItem(PENDING, JSON.stringify(pending));
+    else sessionStorage.removeItem(PENDING);
+  } catch { /* without storage a page that is loaded anew says nothing of it */ }
+}
+
+function pendingBefore() {
+  try {
+    return JSON.parse(sessionStorage.getItem(PENDING));
+  } catch {
+    return null;
+  }
+}
+
+// What was under way when the page was loaded anew: its reply is lost.
+export async function takeUpPending() {
+  const pending = pendingBefore();
+  if (!pending) return;
+  const { command, view, ids } = pending;
+  noteSending(true);
+  try {
+    await lost(command, "the page was loaded anew before it", { view, ids: new Set(ids) }, () => give(withoutMoment(command)));
+  } finally {
+    keepPending(null);
+    noteSending(false);
+  }
+}
+
 async function send(command) {
   const known = before(command);
+  keepPending({ command, view: known.view, ids: [...known.ids] });
+  try {
+    return await sendKnowing(command, known);
+  } finally {
+    keepPending(null);
+  }
+}
+
+async function sendKnowing(command, known) {
   const answer = await postCommand(command);
   if (answer.kind === "lost") {
     await lost(command, answer.why, known, () => give(withoutMoment(command)));

@@ -4,7 +4,7 @@ import { el, svg, button } from "./elements.js";
 import { BOX, layOut } from "./layout.js";
 import { isOffNormal, sourceOf } from "./positions.js";
 import { holdWord } from "./words.js";
-import { zoomable } from "./zoom.js";
+import { Zoom } from "./zoom.js";
 
 export const MOST_DRAWN = 1000;
 const LETTERS = { HeldOpen: "O", Block: "B", Control: "C", Tag: "T" };
@@ -50,11 +50,12 @@ function pointSymbol(state, picked) {
 function pointLabels(state, kind, picked) {
   const name = `${picked ? "✓ " : ""}${state.point.name}${isOffNormal(state) ? " ≠" : ""}`;
   const marks = holdMarks(state);
+  const off = picked ? 5 : 0; // the ring of a picked point
   if (kind !== "row") {
-    return [svg("text", { class: "label", x: 11, y: kind === "lane" ? 12 : 4 }, name,
+    return [svg("text", { class: "label", x: 11 + off, y: kind === "lane" ? 12 + off : 4 }, name,
       marks.length ? svg("tspan", { class: "mark", dx: 5 }, marks.join(", ")) : null)];
   }
-  return [svg("text", { class: "label", x: 0, y: -11, "text-anchor": "middle" }, name), ...markLines(marks, 0, 25, false, "middle")];
+  return [svg("text", { class: "label", x: 0, y: -11 - off, "text-anchor": "middle" }, name), ...markLines(marks, 0, 25, false, "middle")];
 }
 
 // What stands at each section, by clearance: its phase where the section is its work section, its test and its ground.
@@ -84,7 +85,7 @@ function sectionParts(spot, section, marks, fenced, picked) {
     svg("rect", { class: "box", x: 0, y: -BOX / 2, width, height: BOX, rx: 4 }),
     fenced ? svg("rect", { class: "hatch", x: 0, y: -BOX / 2, width, height: BOX, rx: 4, fill: "url(#hatch)" }) : null,
     svg("text", { class: "name", x: width / 2, y: 4.5, "text-anchor": "middle" }, `${picked ? "✓ " : ""}${section.name}`),
-    ...markLines(marks, width / 2, -BOX / 2 - 9, true, "middle"),
+    ...markLines(marks, width / 2, -BOX / 2 - 12, true, "middle"),
   ].filter(Boolean);
 }
 
@@ -121,7 +122,7 @@ export class Diagram {
     this.#press = press;
     this.#plan = layOut(network);
     this.#svg = this.#draw();
-    this.#zoom = zoomable(this.#svg, this.#plan);
+    this.#zoom = new Zoom(this.#svg, this.#plan);
     this.node = el("div", { class: "diagram" }, this.#tools(), this.#svg, legend());
   }
 
@@ -154,16 +155,16 @@ export class Diagram {
     const go = () => this.find(find.value.trim().toUpperCase());
     find.addEventListener("keydown", (event) => { if (event.key === "Enter") go(); });
     return el("div", { class: "tools" },
-      button("Whole network", () => this.#zoom.fit()),
-      button("Closer", () => this.#zoom.zoom(this.#zoom.STEP)),
-      button("Farther", () => this.#zoom.zoom(1 / this.#zoom.STEP)),
+      button("Whole network", () => this.#zoom.all()),
+      button("Closer", () => this.#zoom.closer()),
+      button("Farther", () => this.#zoom.farther()),
       find, button("Find", go));
   }
 
   // Brings a section or a point to the middle.
   find(name) {
     const spot = this.#plan.spots.get(name) ?? this.#plan.edges.find((edge) => edge.point.name === name);
-    if (spot) this.#zoom.centre(spot.x, spot.y, Math.max(1, this.#zoom.scale()));
+    if (spot) this.#zoom.bringToMiddle(spot);
     return Boolean(spot);
   }
 

@@ -55,8 +55,3 @@ export function panel(node, key, draw) {
   if (focus) node.querySelector(`[data-name="${CSS.escape(focus)}"]`)?.focus();
   return true;
 }
-
-// The panel is drawn at the next turn, whatever its key.
-export function forget(node) {
-  drawn.delete(node);
-}

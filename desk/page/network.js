@@ -43,8 +43,10 @@ function mapped(rows) {
 function waysOf(sections, points) {
   const ways = new Map([...sections.keys()].map((name) => [name, []]));
   for (const point of points.values()) {
-    ways.get(point.from)?.push(point);
-    ways.get(point.to)?.push(point);
+    for (const end of [point.from, point.to]) {
+      if (!ways.has(end)) throw new Error(`points.csv has ${end} as an end of ${point.name}, and sections.csv has no such section`);
+      ways.get(end).push(point);
+    }
   }
   return ways;
 }

@@ -2,7 +2,7 @@
 
 import { BoardPage } from "./board.js";
 import { ClearancePage } from "./clearance.js";
-import { give, isSending, onSending, setCaller, setMomentField } from "./commands.js";
+import { give, isSending, onSending, setCaller, setMomentField, takeUpPending } from "./commands.js";
 import { Diagram, MOST_DRAWN } from "./diagram.js";
 import { el, panel } from "./elements.js";
 import { MinePage } from "./mine.js";
@@ -207,6 +207,7 @@ async function start() {
     kept = sessionStorage.getItem(KEPT) ?? "";
   } catch { /* as above */ }
   speakAs(kept);
+  takeUpPending();
   document.body.dataset.ready = "yes";
 }
 

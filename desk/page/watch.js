@@ -20,12 +20,14 @@ export const room = {
   unknownCaller: null,  // a name of the staff file that the register does not know
 };
 
-const stale = new Set();
+const urgent = new Set(); // what has changed, and is to be asked for first
+const stale = new Set();  // what may have
 const listeners = [];
 let caller = null;
 let chosen = null;
 let timer = null;
 let running = null;
+let begun = false; // whether closed records were asked for
 
 export function onRoom(listener) {
   listeners.push(listener);
@@ -35,7 +37,7 @@ function tell() {
   for (const listener of listeners) listener();
 }
 
-export function parseBoard(text) {
+function parseBoard(text) {
   return text.split("\n").slice(1).filter(Boolean).map((line) => ({
     id: line.slice(0, 29).trim(),
     phase: line.slice(30, 39).trim(),
@@ -62,7 +64,7 @@ function keepBoard(text) {
   const standing = new Set(room.board.map((row) => row.id));
   const changed = room.board.filter((row) => before.get(row.id) !== row.line).map((row) => row.id);
   const gone = [...room.views.keys()].filter((id) => !standing.has(id));
-  for (const id of [...changed, ...gone]) stale.add(id);
+  for (const id of [...changed, ...gone]) urgent.add(id);
   if (changed.length || gone.length || room.turns % ALL_AGAIN === 0) for (const id of standing) stale.add(id);
   if (chosen && standing.has(chosen) && room.turns % 3 === 0) stale.add(chosen);
 }
@@ -76,6 +78,7 @@ function keepView(id, view) {
 async function readView(id) {
   const answer = await getView(caller, id);
   if (answer.kind !== "answered") return answer;
+  urgent.delete(id);
   stale.delete(id);
   if (answer.body.reply === "shown") keepView(id, answer.body.view);
   room.unknownCaller = answer.body.refusal === "UNKNOWN_CALLER" ? caller : null;
@@ -83,7 +86,8 @@ async function readView(id) {
 }
 
 async function readViews() {
-  const wanted = [...stale].sort((a, b) => (b === chosen) - (a === chosen)).slice(0, AT_ONCE);
+  const all = new Set([...(urgent.has(chosen) || stale.has(chosen) ? [chosen] : []), ...urgent, ...stale]);
+  const wanted = [...all].slice(0, AT_ONCE);
   for (const id of wanted) {
     if ((await readView(id)).kind === "lost") return;
   }
@@ -97,6 +101,10 @@ async function look() {
     if (caller) {
       await readViews();
       tell();
+      if (!begun) {
+        begun = true;
+        lookThrough(LOOK_THROUGH);
+      }
     }
     return true;
   }
@@ -134,7 +142,7 @@ export function watchAs(name) {
   caller = name;
   if (!first) return;
   for (const row of room.board) stale.add(row.id);
-  lookNow().then(() => lookThrough(LOOK_THROUGH));
+  lookNow();
 }
 
 export function choose(id) {
@@ -172,7 +180,11 @@ export async function lookThrough(limit) {
   let left = limit;
   let whole = caller !== null;
   for (const name of requesters) {
-    if (left <= 0 || contact.silentSince !== null) { whole = false; break; }
+    if (left <= 0 || contact.silentSince !== null) {
+      begun = left <= 0;
+      whole = false;
+      break;
+    }
     const found = await lookThroughOf(name, left);
     left -= found.asked;
     whole = whole && found.whole;

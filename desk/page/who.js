@@ -50,7 +50,8 @@ const OFFERS = {
 };
 
 export function offersOf(view, staff) {
-  return OFFERS[view.card.phase](view, staff, namesOfRole(staff, "operator"));
+  const offers = OFFERS[view.card.phase] ?? (() => []);
+  return offers(view, staff, namesOfRole(staff, "operator"));
 }
 
 export function waitingCloses(view) {

@@ -43,6 +43,12 @@ const FAULTS = {
   BadValue: ["A part of the command is no value of its kind.", "Names have 1 to 24 of A to Z, 0 to 9 and -. A moment lies between 1970 and 2099."],
   NoSuch: ["There is no such clearance or round.", "Look at the name; a round without steps has no printed order."],
   Unavailable: ["The database or the memory refused. The register is as it was.", "Try again; if it comes back, is the disk full?"],
+  BadHead: ["The request was none of HTTP.", "Is the proxy that of this desk? Tell who keeps it."],
+  HeadTooLarge: ["The head of the request is too long for the register.", "Tell who keeps this desk."],
+  HeadCut: ["The request ended too early. It was not carried out.", "Give the command again."],
+  NoLength: ["The proxy sent the command without its length. It was not carried out.", "Tell who keeps this desk."],
+  BadLength: ["The proxy sent the command with a wrong length. It was not carried out.", "Tell who keeps this desk."],
+  BodyCut: ["The command ended too early. It was not carried out.", "Give it again."],
   BodyTooLarge: ["The command is longer than 65,536 bytes.", "Split the order."],
   NoRoute: ["The register has no such address.", "The page and the register are of different versions: tell who keeps this desk."],
 };
@@ -51,6 +57,7 @@ const STATUSES = {
   401: ["The proxy asks for a login.", "Load the page again and log in."],
   403: ["The proxy did not let this through.", "Open the page at the address that its keeper named."],
   404: ["The proxy knows no such address.", "The proxy's configuration is not that of this desk: tell who keeps it."],
+  405: ["The register knows this address for something else.", "The page and the register are of different versions: tell who keeps this desk."],
   408: ["The command did not reach the proxy in time. It was not carried out.", "Give it again."],
   413: ["The command is too long for the proxy.", "Split the order."],
 };

@@ -1,101 +1,136 @@
 // Zoom and pan of a drawing, by wheel, drag, buttons and keys.
 
-const MOST = 3, LEAST = 0.05, READABLE = 0.62, FAR = 0.42, STEP = 1.25, PAN = 80;
+const MOST = 3, LEAST = 0.05, READABLE = 0.62, FAR = 0.42, CLOSE = 0.8, LARGEST = 1.4, STEP = 1.25, PAN = 80, DRAG = 5;
 
-export function zoomable(drawing, size) {
-  const window_ = { x: 0, y: 0, scale: 1 };
-  let own = false;   // whether the operator has zoomed or moved it
-  let middle = null; // what is to be in the middle where not all can be read
-  const box = () => ({ width: drawing.clientWidth || 800, height: drawing.clientHeight || 500 });
+export class Zoom {
+  #drawing; #size;
+  #x = 0; #y = 0; #scale = 1;
+  #byHand = false; // whether the operator has zoomed or moved it
+  #middle = null;  // what is to be in the middle where not all can be read
 
-  const show = () => {
-    const { width, height } = box();
-    drawing.setAttribute("viewBox", `${window_.x} ${window_.y} ${width / window_.scale} ${height / window_.scale}`);
-    drawing.classList.toggle("far", window_.scale < FAR);
-  };
+  constructor(drawing, size) {
+    this.#drawing = drawing;
+    this.#size = size;
+    this.#listen();
+    new ResizeObserver(() => this.#begin()).observe(drawing);
+  }
 
-  const zoomAt = (factor, left, top) => {
-    const scale = Math.min(MOST, Math.max(LEAST, window_.scale * factor));
-    window_.x += left / window_.scale - left / scale;
-    window_.y += top / window_.scale - top / scale;
-    window_.scale = scale;
-    show();
-  };
+  #box() {
+    return { width: this.#drawing.clientWidth || 800, height: this.#drawing.clientHeight || 500 };
+  }
 
-  const zoom = (factor) => zoomAt(factor, box().width / 2, box().height / 2);
+  #show() {
+    const { width, height } = this.#box();
+    this.#drawing.setAttribute("viewBox", `${this.#x} ${this.#y} ${width / this.#scale} ${height / this.#scale}`);
+    this.#drawing.classList.toggle("far", this.#scale < FAR);
+  }
 
-  const pan = (left, top) => {
-    window_.x += left / window_.scale;
-    window_.y += top / window_.scale;
-    show();
-  };
+  #zoomAt(factor, left, top) {
+    const scale = Math.min(MOST, Math.max(LEAST, this.#scale * factor));
+    this.#x += left / this.#scale - left / scale;
+    this.#y += top / this.#scale - top / scale;
+    this.#scale = scale;
+    this.#byHand = true;
+    this.#show();
+  }
 
-  const whole = () => Math.min(box().width / size.width, box().height / size.height, 1.4);
+  #pan(left, top) {
+    this.#x += left / this.#scale;
+    this.#y += top / this.#scale;
+    this.#byHand = true;
+    this.#show();
+  }
 
-  const centre = (x, y, scale = window_.scale) => {
-    window_.scale = scale;
-    window_.x = x - box().width / scale / 2;
-    window_.y = y - box().height / scale / 2;
-    show();
-  };
+  #centre(x, y, scale) {
+    const { width, height } = this.#box();
+    this.#scale = scale;
+    this.#x = x - width / scale / 2;
+    this.#y = y - height / scale / 2;
+    this.#show();
+  }
 
-  const fit = () => centre(size.width / 2, size.height / 2, whole());
+  #whole() {
+    const { width, height } = this.#box();
+    return Math.min(width / this.#size.width, height / this.#size.height, LARGEST);
+  }
+
+  #fit() {
+    this.#centre(this.#size.width / 2, this.#size.height / 2, this.#whole());
+  }
 
   // The whole drawing where it can be read so; else its middle, or its beginning.
-  const begin = () => {
-    if (!drawing.clientWidth) return;
-    if (own) return show();
-    if (whole() >= READABLE) return fit();
-    if (middle) return centre(middle.x, middle.y, READABLE * 1.3);
-    window_.scale = READABLE;
-    window_.x = window_.y = 0;
-    show();
-  };
+  #begin() {
+    if (!this.#drawing.clientWidth) return;
+    if (this.#byHand) this.#show();
+    else if (this.#whole() >= READABLE) this.#fit();
+    else if (this.#middle) this.#centre(this.#middle.x, this.#middle.y, CLOSE);
+    else {
+      this.#scale = READABLE;
+      this.#x = this.#y = 0;
+      this.#show();
+    }
+  }
 
-  const byHand = (does) => (...values) => { own = true; does(...values); };
-  const hands = { zoom: byHand(zoom), zoomAt: byHand(zoomAt), pan: byHand(pan), fit: byHand(fit), centre: byHand(centre) };
-  listen(drawing, hands);
-  new ResizeObserver(begin).observe(drawing);
-  const lookAt = (place) => {
-    own = false;
-    middle = place;
-    begin();
-  };
-  return { ...hands, lookAt, scale: () => window_.scale, STEP };
-}
+  lookAt(place) {
+    this.#byHand = false;
+    this.#middle = place;
+    this.#begin();
+  }
 
-function listen(drawing, { zoom, zoomAt, pan, fit }) {
-  drawing.addEventListener("wheel", (event) => {
-    event.preventDefault();
-    const frame = drawing.getBoundingClientRect();
-    zoomAt(event.deltaY < 0 ? STEP : 1 / STEP, event.clientX - frame.left, event.clientY - frame.top);
-  }, { passive: false });
-  drawing.addEventListener("keydown", (event) => {
-    const moves = {
-      "+": () => zoom(STEP), "=": () => zoom(STEP), "-": () => zoom(1 / STEP), 0: fit,
-      ArrowLeft: () => pan(-PAN, 0), ArrowRight: () => pan(PAN, 0), ArrowUp: () => pan(0, -PAN), ArrowDown: () => pan(0, PAN),
+  closer() {
+    const { width, height } = this.#box();
+    this.#zoomAt(STEP, width / 2, height / 2);
+  }
+
+  farther() {
+    const { width, height } = this.#box();
+    this.#zoomAt(1 / STEP, width / 2, height / 2);
+  }
+
+  all() {
+    this.#byHand = true;
+    this.#fit();
+  }
+
+  bringToMiddle({ x, y }) {
+    this.#byHand = true;
+    this.#centre(x, y, Math.max(1, this.#scale));
+  }
+
+  #listen() {
+    this.#drawing.addEventListener("wheel", (event) => {
+      event.preventDefault();
+      const frame = this.#drawing.getBoundingClientRect();
+      this.#zoomAt(event.deltaY < 0 ? STEP : 1 / STEP, event.clientX - frame.left, event.clientY - frame.top);
+    }, { passive: false });
+    const keys = {
+      "+": () => this.closer(), "=": () => this.closer(), "-": () => this.farther(), 0: () => this.all(),
+      ArrowLeft: () => this.#pan(-PAN, 0), ArrowRight: () => this.#pan(PAN, 0),
+      ArrowUp: () => this.#pan(0, -PAN), ArrowDown: () => this.#pan(0, PAN),
     };
-    if (!moves[event.key] || event.ctrlKey || event.altKey || event.metaKey) return;
-    event.preventDefault();
-    moves[event.key]();
-  });
-  drag(drawing, pan);
-}
+    this.#drawing.addEventListener("keydown", (event) => {
+      if (!keys[event.key] || event.ctrlKey || event.altKey || event.metaKey) return;
+      event.preventDefault();
+      keys[event.key]();
+    });
+    this.#drag();
+  }
 
-function drag(drawing, pan) {
-  let from = null;
-  drawing.addEventListener("pointerdown", (event) => {
-    if (event.button === 0) from = { x: event.clientX, y: event.clientY, moved: false };
-  });
-  drawing.addEventListener("pointermove", (event) => {
-    if (!from) return;
-    const left = from.x - event.clientX, top = from.y - event.clientY;
-    if (!from.moved && Math.hypot(left, top) < 5) return;
-    if (!from.moved) drawing.setPointerCapture(event.pointerId);
-    from = { x: event.clientX, y: event.clientY, moved: true };
-    pan(left, top);
-  });
-  const stop = () => { from = null; };
-  drawing.addEventListener("pointerup", stop);
-  drawing.addEventListener("pointercancel", stop);
+  #drag() {
+    let from = null;
+    this.#drawing.addEventListener("pointerdown", (event) => {
+      if (event.button === 0) from = { x: event.clientX, y: event.clientY, moved: false };
+    });
+    this.#drawing.addEventListener("pointermove", (event) => {
+      if (!from) return;
+      const left = from.x - event.clientX, top = from.y - event.clientY;
+      if (!from.moved && Math.hypot(left, top) < DRAG) return;
+      if (!from.moved) this.#drawing.setPointerCapture(event.pointerId);
+      from = { x: event.clientX, y: event.clientY, moved: true };
+      this.#pan(left, top);
+    });
+    const stop = () => { from = null; };
+    this.#drawing.addEventListener("pointerup", stop);
+    this.#drawing.addEventListener("pointercancel", stop);
+  }
 }
