@@ -1,0 +1,88 @@
+//! The longest file, and readers that fail.
+use crate::worked::SECTIONS;
+use clr_csv::{Counted, CountedRead, CsvFault, read_sections};
+use std::alloc::Global;
+use std::io;
+use std::io::Read;
+use std::test::Fail;
+
+/// The fault of a file of sections, if it has one. Want of memory is never what a test asks for: it
+/// ends the test.
+fn fault_of<R: CountedRead>(alloc: Global, reader: &mut R) -> Result<Option<CsvFault>, Fail> {
+    match read_sections(alloc, reader) {
+        Err(CsvFault::NoMemory) => Err(CsvFault::NoMemory.into()),
+        told => Ok(told.err()),
+    }
+}
+
+#[test]
+fn longest_file_reads(rt: HostRuntime) -> Result<(), Fail> {
+    let mut file = vec![in rt.alloc(); b'\n'; 4_194_304]?;
+    for (place, byte) in SECTIONS.iter().enumerate() {
+        if place < file.len() {
+            file[place] = *byte;
+        }
+    }
+    for longer_by in 0..3usize {
+        let fault = if longer_by == 0 {
+            None
+        } else {
+            Some(CsvFault::TooLong)
+        };
+        let mut reader = Counted::new(file.as_slice());
+        assert_eq!(rt;
+            fault_of(rt.alloc(), &mut reader)?,
+            fault,
+            "longer by {longer_by}"
+        );
+        assert_eq!(rt; reader.into_inner().len(), longer_by.saturating_sub(1));
+        file.push(b'\n')?;
+    }
+    Ok(())
+}
+
+/// Gives four bytes a call, and fails at one call.
+#[derive(Drop)]
+struct FailsAt<'a> {
+    bytes: &'a [u8],
+    calls_before: u64,
+}
+
+impl<'a> Read for FailsAt<'a> {
+    fn read(&mut self, buf: &mut [u8]) -> io::Result<usize> {
+        if self.calls_before == 0 {
+            self.calls_before = u64::MAX;
+            return Err(io::ErrorKind::Interrupted.into());
+        }
+        self.calls_before -= 1;
+        let count = self.bytes.len().min(4).min(buf.len());
+        buf[..count].copy_from_slice(&self.bytes[..count]);
+        self.bytes = &self.bytes[count..];
+        Ok(count)
+    }
+}
+
+#[test]
+fn failures_are_told(rt: HostRuntime) -> Result<(), Fail> {
+    // The last call is the one that finds the end.
+    let calls = (SECTIONS.len() as u64).div_ceil(4) + 1;
+    for calls_before in 0..=calls {
+        let mut reader = Counted::new(FailsAt {
+            bytes: SECTIONS,
+            calls_before,
+        });
+        let is_read = calls_before == calls;
+        let fault = if is_read {
+            None
+        } else {
+            Some(CsvFault::ReadFailed)
+        };
+        assert_eq!(rt;
+            fault_of(rt.alloc(), &mut reader)?,
+            fault,
+            "after {calls_before} calls"
+        );
+        assert_eq!(rt; reader.failures(), u64::from(!is_read));
+    }
+    Ok(())
+}

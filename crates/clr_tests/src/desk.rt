@@ -1,0 +1,159 @@
+//! Runs of a desk over tables in memory. Commands and replies are lines, as `gridclear run` has them.
+use crate::worked::{chain, network, new_desk};
+use clr_desk::Run;
+use clr_net::Network;
+use clr_rules::Command;
+use clr_text::{command_of, reply_text};
+use std::alloc::Global;
+use std::fmt::Write;
+use std::test::Fail;
+
+fn commands_in(alloc: Global, lines: &str) -> Result<Vec<Command>, Fail> {
+    let mut commands = Vec::new(alloc);
+    for line in lines.lines() {
+        commands.push(command_of(alloc, line.as_bytes())?)?;
+    }
+    Ok(commands)
+}
+
+/// The lines of the replies. A fault of the desk ends the test.
+fn lines_of(alloc: Global, run: &Run) -> Result<String, Fail> {
+    if let Some(fault) = run.fault {
+        return Err(fault.into());
+    }
+    let mut lines = String::new(alloc);
+    for reply in &run.replies {
+        let text = reply_text(alloc, reply)?;
+        writeln!(lines, "{text}")?;
+    }
+    Ok(lines)
+}
+
+/// The replies of a new desk to commands.
+fn replies(alloc: Global, network: Network, commands: &str) -> Result<String, Fail> {
+    let commands = commands_in(alloc, commands)?;
+    let mut desk = new_desk(alloc, network)?;
+    let run = desk.run(commands);
+    lines_of(alloc, &run)
+}
+
+/// The order of JONES/1, its first five steps and a grant; then the sixth, and a grant.
+const GRANTS: &str = r#"{"at":100,"by":"JONES","do":"request","section":"L2"}
+{"at":101,"by":"OPS","clearance":"JONES/1","do":"order","points":["S2","S3"],"steps":["OPEN S2","OPEN S3","BLOCK S2","BLOCK S3","TAG S2","TAG S3"]}
+{"at":102,"by":"OPS","clearance":"JONES/1","do":"instruct","step":1}
+{"at":103,"by":"REED","clearance":"JONES/1","do":"repeat","step":1,"text":"OPEN S2"}
+{"at":104,"by":"REED","clearance":"JONES/1","do":"report","done":true,"step":1}
+{"at":105,"by":"OPS","clearance":"JONES/1","do":"instruct","step":2}
+{"at":106,"by":"REED","clearance":"JONES/1","do":"repeat","step":2,"text":"OPEN S3"}
+{"at":107,"by":"REED","clearance":"JONES/1","do":"report","done":true,"step":2}
+{"at":108,"by":"OPS","clearance":"JONES/1","do":"instruct","step":3}
+{"at":109,"by":"REED","clearance":"JONES/1","do":"repeat","step":3,"text":"BLOCK S2"}
+{"at":110,"by":"REED","clearance":"JONES/1","do":"report","done":true,"step":3}
+{"at":111,"by":"OPS","clearance":"JONES/1","do":"instruct","step":4}
+{"at":112,"by":"REED","clearance":"JONES/1","do":"repeat","step":4,"text":"BLOCK S3"}
+{"at":113,"by":"REED","clearance":"JONES/1","do":"report","done":true,"step":4}
+{"at":114,"by":"OPS","clearance":"JONES/1","do":"instruct","step":5}
+{"at":115,"by":"REED","clearance":"JONES/1","do":"repeat","step":5,"text":"TAG S2"}
+{"at":116,"by":"REED","clearance":"JONES/1","do":"report","done":true,"step":5}
+{"at":117,"by":"OPS","clearance":"JONES/1","do":"grant"}
+{"at":118,"by":"OPS","clearance":"JONES/1","do":"instruct","step":6}
+{"at":119,"by":"REED","clearance":"JONES/1","do":"repeat","step":6,"text":"TAG S3"}
+{"at":120,"by":"REED","clearance":"JONES/1","do":"report","done":true,"step":6}
+{"at":121,"by":"OPS","clearance":"JONES/1","do":"grant"}
+"#;
+
+const GRANTED: &str =
+    r#"{"card":{"clearance":"JONES/1","done":0,"holder":"JONES","phase":"Requested","round":0,"steps":0},"reply":"accepted"}
+{"card":{"clearance":"JONES/1","done":0,"holder":"JONES","phase":"Ordered","round":1,"steps":6},"reply":"accepted"}
+{"card":{"clearance":"JONES/1","done":0,"holder":"JONES","phase":"Ordered","round":1,"steps":6},"reply":"accepted"}
+{"card":{"clearance":"JONES/1","done":0,"holder":"JONES","phase":"Ordered","round":1,"steps":6},"reply":"accepted"}
+{"card":{"clearance":"JONES/1","done":1,"holder":"JONES","phase":"Ordered","round":1,"steps":6},"reply":"accepted"}
+{"card":{"clearance":"JONES/1","done":1,"holder":"JONES","phase":"Ordered","round":1,"steps":6},"reply":"accepted"}
+{"card":{"clearance":"JONES/1","done":1,"holder":"JONES","phase":"Ordered","round":1,"steps":6},"reply":"accepted"}
+{"card":{"clearance":"JONES/1","done":2,"holder":"JONES","phase":"Ordered","round":1,"steps":6},"reply":"accepted"}
+{"card":{"clearance":"JONES/1","done":2,"holder":"JONES","phase":"Ordered","round":1,"steps":6},"reply":"accepted"}
+{"card":{"clearance":"JONES/1","done":2,"holder":"JONES","phase":"Ordered","round":1,"steps":6},"reply":"accepted"}
+{"card":{"clearance":"JONES/1","done":3,"holder":"JONES","phase":"Ordered","round":1,"steps":6},"reply":"accepted"}
+{"card":{"clearance":"JONES/1","done":3,"holder":"JONES","phase":"Ordered","round":1,"steps":6},"reply":"accepted"}
+{"card":{"clearance":"JONES/1","done":3,"holder":"JONES","phase":"Ordered","round":1,"steps":6},"reply":"accepted"}
+{"card":{"clearance":"JONES/1","done":4,"holder":"JONES","phase":"Ordered","round":1,"steps":6},"reply":"accepted"}
+{"card":{"clearance":"JONES/1","done":4,"holder":"JONES","phase":"Ordered","round":1,"steps":6},"reply":"accepted"}
+{"card":{"clearance":"JONES/1","done":4,"holder":"JONES","phase":"Ordered","round":1,"steps":6},"reply":"accepted"}
+{"card":{"clearance":"JONES/1","done":5,"holder":"JONES","phase":"Ordered","round":1,"steps":6},"reply":"accepted"}
+{"number":23,"refusal":"STEPS_LEFT","reply":"refused"}
+{"card":{"clearance":"JONES/1","done":5,"holder":"JONES","phase":"Ordered","round":1,"steps":6},"reply":"accepted"}
+{"card":{"clearance":"JONES/1","done":5,"holder":"JONES","phase":"Ordered","round":1,"steps":6},"reply":"accepted"}
+{"card":{"clearance":"JONES/1","done":6,"holder":"JONES","phase":"Ordered","round":1,"steps":6},"reply":"accepted"}
+{"card":{"clearance":"JONES/1","done":6,"holder":"JONES","phase":"Granted","round":1,"steps":6},"reply":"accepted"}
+"#;
+
+#[test]
+fn grant_with_a_step_left(rt: HostRuntime) -> Result<(), Fail> {
+    let network = network(rt.alloc())?;
+    let replies = replies(rt.alloc(), network, GRANTS)?;
+    assert_eq!(rt; replies.as_str(), GRANTED);
+    Ok(())
+}
+
+/// The order of JONES/1 in the middle of a chain.
+const IN_CHAIN: &str = r#"{"at":100,"by":"JONES","do":"request","section":"C2500"}
+{"at":101,"by":"OPS","clearance":"JONES/1","do":"order","points":["P2500"],"steps":["OPEN P2500","BLOCK P2500","TAG P2500"]}
+"#;
+
+const SOURCE_INSIDE: &str =
+    r#"{"card":{"clearance":"JONES/1","done":0,"holder":"JONES","phase":"Requested","round":0,"steps":0},"reply":"accepted"}
+{"number":12,"refusal":"SOURCE_INSIDE","reply":"refused","section":"C0001"}
+"#;
+
+/// The fence of C2500 that is cut at P2500 alone goes back to the source.
+#[test]
+fn source_at_the_end_of_a_long_chain(rt: HostRuntime) -> Result<(), Fail> {
+    let network = chain(rt.alloc(), 5000, 4999)??;
+    let replies = replies(rt.alloc(), network, IN_CHAIN)?;
+    assert_eq!(rt; replies.as_str(), SOURCE_INSIDE);
+    Ok(())
+}
+
+const FOR_JONES: &str = r#"{"at":100,"by":"JONES","do":"request","section":"L2"}
+"#;
+
+const FOR_KIM: &str = r#"{"at":100,"by":"KIM","do":"request","section":"L2"}
+"#;
+
+/// After the last number of JONES none is left, and KIM still gets one.
+const NONE_IS_LEFT: &str = r#"{"number":4,"refusal":"TOO_MANY_CLEARANCES","reply":"refused"}
+{"card":{"clearance":"KIM/1","done":0,"holder":"KIM","phase":"Requested","round":0,"steps":0},"reply":"accepted"}
+"#;
+
+/// JONES asks until all numbers are given, and once more; then KIM asks.
+fn asked_for_all(alloc: Global) -> Result<String, Fail> {
+    let mut commands = String::new(alloc);
+    for _ in 1..=10000 {
+        commands.push_str(FOR_JONES)?;
+    }
+    commands.push_str(FOR_KIM)?;
+    Ok(commands)
+}
+
+/// The replies to that.
+fn all_given(alloc: Global) -> Result<String, Fail> {
+    let mut replies = String::new(alloc);
+    for number in 1..10000 {
+        writeln!(
+            replies,
+            r#"{{"card":{{"clearance":"JONES/{number}","done":0,"holder":"JONES","phase":"Requested","round":0,"steps":0}},"reply":"accepted"}}"#
+        )?;
+    }
+    replies.push_str(NONE_IS_LEFT)?;
+    Ok(replies)
+}
+
+#[test]
+fn all_numbers_of_a_requester(rt: HostRuntime) -> Result<(), Fail> {
+    let network = network(rt.alloc())?;
+    let commands = asked_for_all(rt.alloc())?;
+    let replies = replies(rt.alloc(), network, commands.as_str())?;
+    let expected = all_given(rt.alloc())?;
+    assert_eq!(rt; replies.as_str(), expected.as_str());
+    Ok(())
+}

@@ -1,0 +1,21 @@
+//! Tests of what no clause says and no session shows (docs/EXAMPLES.md). There are only tests here.
+#![tactic(auto)]
+
+#[cfg(test)]
+mod connections;
+#[cfg(test)]
+mod csv;
+#[cfg(test)]
+mod desk;
+#[cfg(test)]
+mod http;
+#[cfg(test)]
+mod limits;
+#[cfg(test)]
+mod shelves;
+#[cfg(test)]
+mod store;
+#[cfg(test)]
+mod worked;
+#[cfg(test)]
+mod writers;
