@@ -33,12 +33,13 @@ function workWords(view) {
   return words.join("; ");
 }
 
-function boardRow(row, staff) {
+function boardRow(row, staff, chosen) {
   const view = viewOf(row.id);
+  const hatched = row.id === chosen && view?.fence.length;
   return el("tr", { "data-id": row.id },
     el("th", { scope: "row" }, el("a", { href: `#/clearance/${row.id}`, "data-name": row.id }, row.id)),
     el("td", {}, el("span", { class: `phase ${row.phase}`, title: phaseWord(row.phase) }, row.phase)),
-    el("td", {}, row.work === "-" ? "switch order" : row.work),
+    el("td", {}, row.work === "-" ? "switch order" : row.work, hatched ? el("span", { class: "chip" }, "fence hatched") : null),
     el("td", {}, stepsWords(view)),
     el("td", {}, workWords(view)),
     el("td", {}, holderCell(row.holder, row.work, staff)),
@@ -58,11 +59,12 @@ export class BoardPage {
 
   update() {
     const { staff } = this.#desk.network;
-    const views = room.board.map((row) => viewOf(row.id)?.card ?? null);
-    panel(this.#rows, [room.read === null, room.board.map((row) => row.line), views, room.board.map((row) => [stepsWords(viewOf(row.id)), workWords(viewOf(row.id))])], () => {
+    const chosen = this.#desk.chosen();
+    const views = room.board.map((row) => viewOf(row.id)).map((view) => [view?.card, view?.fence.length, stepsWords(view), workWords(view)]);
+    panel(this.#rows, [room.read === null, room.board.map((row) => row.line), views, chosen], () => {
       if (room.read === null) return el("p", {}, "The board was not read yet.");
       if (!room.board.length) return el("p", {}, "Nothing is open: no clearance and no switch order.");
-      return table(["Name", "Phase", "Section", "Steps", "Work", "Holder", "Last moment"], room.board.map((row) => boardRow(row, staff)), { class: "wide" });
+      return table(["Name", "Phase", "Section", "Steps", "Work", "Holder", "Last moment"], room.board.map((row) => boardRow(row, staff, chosen)), { class: "wide" });
     });
   }
 }

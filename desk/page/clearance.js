@@ -31,6 +31,21 @@ const SHOWN = {
 };
 
 const MOST_BUTTONS = 4;
+const SETTLE = 300; // milliseconds
+
+// A control that has just come takes no press for a moment: it may have changed under a hand that meant another.
+function settle(node) {
+  node.dataset.fresh = "yes";
+  setTimeout(() => { delete node.dataset.fresh; }, SETTLE);
+  const hold = (event) => {
+    if (!node.dataset.fresh) return;
+    event.preventDefault();
+    event.stopImmediatePropagation();
+  };
+  node.addEventListener("click", hold, true);
+  node.addEventListener("submit", hold, true);
+  return node;
+}
 
 function asControl(names, desk) {
   if (names.length <= MOST_BUTTONS) {
@@ -154,7 +169,7 @@ export class ClearancePage {
     if (!mine.some(({ does }) => does === "order")) this.#desk.pick(null);
     const nodes = mine.map(({ does }, place) => {
       const key = JSON.stringify(keys[place]);
-      const node = this.#made.get(key) ?? CONTROLS[does](this.#context(view));
+      const node = this.#made.get(key) ?? settle(CONTROLS[does](this.#context(view)));
       node.dataset.does = does;
       made.set(key, node);
       return node;

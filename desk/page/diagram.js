@@ -9,6 +9,7 @@ import { Zoom } from "./zoom.js";
 export const MOST_DRAWN = 1000;
 const LETTERS = { HeldOpen: "O", Block: "B", Control: "C", Tag: "T" };
 const MOST_MARKS = 2;
+const MOST_TABBED = 60; // points that Tab goes through while points are picked; of more, the list beside them is the way
 
 // Marks as lines of text, the rest counted.
 function markLines(marks, x, y, up, anchor) {
@@ -85,7 +86,7 @@ function sectionParts(spot, section, marks, fenced, picked) {
     svg("rect", { class: "box", x: 0, y: -BOX / 2, width, height: BOX, rx: 4 }),
     fenced ? svg("rect", { class: "hatch", x: 0, y: -BOX / 2, width, height: BOX, rx: 4, fill: "url(#hatch)" }) : null,
     svg("text", { class: "name", x: width / 2, y: 4.5, "text-anchor": "middle" }, `${picked ? "✓ " : ""}${section.name}`),
-    ...markLines(marks, width / 2, -BOX / 2 - 12, true, "middle"),
+    ...markLines(marks, width / 2, -BOX / 2 - 15, true, "middle"),
   ].filter(Boolean);
 }
 
@@ -204,7 +205,7 @@ export class Diagram {
   }
 
   #tellPicking(group, kind, chosen, label) {
-    const on = this.#picking?.kind === kind;
+    const on = this.#picking?.kind === kind && this.#points.size <= MOST_TABBED;
     for (const [name, value] of [["tabindex", "0"], ["role", "checkbox"], ["aria-checked", String(chosen)], ["aria-label", label]]) {
       if (on) group.setAttribute(name, value);
       else group.removeAttribute(name);

@@ -2,7 +2,7 @@
 // along its row and its branches below it; points that close a loop run in lanes of their own between columns and rows.
 
 export const BOX = 26;        // height of a section
-const ROW = 56, LANE = 14;    // from row to row; what each lane between them adds
+const ROW = 56, LANE = 24;    // from row to row; what each lane between them adds
 const BELOW = 18;             // where a point lies under a row on an upright line
 const LETTER = 7.4, SMALL = 6.4;
 const MARGIN = 44, TRACK = 16, MOST_WIDE = 8;

@@ -4,7 +4,7 @@ import { BoardPage } from "./board.js";
 import { ClearancePage } from "./clearance.js";
 import { give, isSending, onSending, setCaller, setMomentField, takeUpPending } from "./commands.js";
 import { Diagram, MOST_DRAWN } from "./diagram.js";
-import { el, panel } from "./elements.js";
+import { choice, el, field, panel } from "./elements.js";
 import { MinePage } from "./mine.js";
 import { fieldTime, now, shortTime, wholeTime } from "./moments.js";
 import { namesOfRole, readNetwork } from "./network.js";
@@ -35,14 +35,18 @@ class FormPage {
   update() {}
 }
 
+// The diagram alone, with the clearance whose fence is hatched.
 class DiagramPage {
   title = "Diagram";
-  #note = el("p", { class: "hint" });
-  node = el("section", {}, el("h2", { tabindex: -1 }, "Diagram"), this.#note, el("div", { class: "diagram-place large" }));
+  #fenced = el("div", { class: "line" });
+  node = el("section", {}, el("h2", { tabindex: -1 }, "Diagram"), this.#fenced, el("div", { class: "diagram-place large" }));
   update() {
-    const fenced = viewOf(chosen)?.fence.length;
-    this.#note.textContent = !chosen ? "Choose a clearance on the board to see its fence."
-      : fenced ? `The fence of ${chosen} is hatched.` : `${chosen} has no fence now.`;
+    const ids = room.board.map((row) => row.id).filter((id) => viewOf(id)?.fence.length);
+    panel(this.#fenced, [ids, chosen], () => {
+      const pick = choice([["", "none"], ...ids.map((id) => [id, id])], {
+        "data-name": "fence", onchange: () => { chosen = pick.value; update(); } }, chosen ?? "");
+      return field("The fence that is hatched", pick);
+    });
   }
 }
 
@@ -178,7 +182,7 @@ function makeDesk(network) {
   const diagram = network.sections.size > MOST_DRAWN ? new NetList(network)
     : new Diagram(network, (kind, name) => { location.hash = `#/points/${name}`; });
   const redraw = () => drawDiagram();
-  return { network, diagram, caller: null, states, redraw, speakAs, act: give, pick: (picking) => { diagram.pick(picking); redraw(); } };
+  return { network, diagram, caller: null, chosen: () => chosen, states, redraw, speakAs, act: give, pick: (picking) => { diagram.pick(picking); redraw(); } };
 }
 
 async function start() {
