@@ -10,7 +10,8 @@ macro_rules! asks {
     ($head:literal) => {
         concat!(
             $head,
-            "\r\n\r\n{\"at\":100,\"by\":\"JONES\",\"do\":\"request\",\"section\":\"L2\"}"
+            "\r\n\r\n",
+            r#"{"at":100,"by":"JONES","do":"request","section":"L2"}"#
         )
     };
 }
@@ -46,10 +47,10 @@ macro_rules! stands {
     ($done:literal) => {
         concat!(
             "HTTP/1.1 200 OK\r\nContent-Type: application/json\r\nContent-Length: 115\r\n\
-            Connection: close\r\n\r\n{\"card\":{\"clearance\":\"JONES/1\",\"done\":",
+            Connection: close\r\n\r\n",
+            r#"{"card":{"clearance":"JONES/1","done":"#,
             $done,
-            ",\"holder\":\"JONES\",\"phase\":\"Ordered\",\"round\":1,\"steps\":6},\
-            \"reply\":\"accepted\"}"
+            r#","holder":"JONES","phase":"Ordered","round":1,"steps":6},"reply":"accepted"}"#
         )
     };
 }
@@ -70,34 +71,34 @@ macro_rules! prints {
 const REFUSED: [(&str, &str); 8] = [
     (
         asks!("POST /command HTTP/1.1\r\nContent-Length: 54"),
-        answers!("400 Bad Request", 19, "{\"fault\":\"BodyCut\"}"),
+        answers!("400 Bad Request", 19, r#"{"fault":"BodyCut"}"#),
     ),
     (
         asks!("POST /command HTTP/1.1\r\nHost: 127.0.0.1:8080"),
-        answers!("411 Length Required", 20, "{\"fault\":\"NoLength\"}"),
+        answers!("411 Length Required", 20, r#"{"fault":"NoLength"}"#),
     ),
     (
         asks!("POST /command HTTP/1.1\r\nContent-Length: 65537"),
-        answers!("413 Payload Too Large", 24, "{\"fault\":\"BodyTooLarge\"}"),
+        answers!("413 Payload Too Large", 24, r#"{"fault":"BodyTooLarge"}"#),
     ),
     (
         asks!("POST /command HTTP/1.1\r\nContent-Length: 53\r\ncontent-length: 53"),
-        answers!("400 Bad Request", 21, "{\"fault\":\"BadLength\"}"),
+        answers!("400 Bad Request", 21, r#"{"fault":"BadLength"}"#),
     ),
     (
         asks!("POST /command HTTP/1.1\r\nContent-Length"),
-        answers!("400 Bad Request", 19, "{\"fault\":\"BadHead\"}"),
+        answers!("400 Bad Request", 19, r#"{"fault":"BadHead"}"#),
     ),
     (
         asks!("GET /nothing HTTP/1.0"),
-        answers!("404 Not Found", 19, "{\"fault\":\"NoRoute\"}"),
+        answers!("404 Not Found", 19, r#"{"fault":"NoRoute"}"#),
     ),
     (
         asks!("GET /clearance/JONES/JONES/9 HTTP/1.1"),
         answers!(
             "409 Conflict",
             60,
-            "{\"number\":5,\"refusal\":\"UNKNOWN_CLEARANCE\",\"reply\":\"refused\"}"
+            r#"{"number":5,"refusal":"UNKNOWN_CLEARANCE","reply":"refused"}"#
         ),
     ),
     ("GET /board HTTP/1.1\r\n\r\n", prints!(8, "BOARD 0\n")),
@@ -110,7 +111,7 @@ const FIRST_STEP: [(&str, &str); 12] = [
     ("", ""),
     (
         "GET /bo",
-        answers!("400 Bad Request", 19, "{\"fault\":\"HeadCut\"}"),
+        answers!("400 Bad Request", 19, r#"{"fault":"HeadCut"}"#),
     ),
     (
         "PUT /command HTTP/1.1\r\n\r\n",
@@ -121,32 +122,28 @@ const FIRST_STEP: [(&str, &str); 12] = [
     (
         posts!(
             147,
-            "{\"at\":101,\"by\":\"OPS\",\"clearance\":\"JONES/1\",\"do\":\"order\",\
-            \"points\":[\"S2\",\"S3\"],\"steps\":[\"OPEN S2\",\"OPEN S3\",\"BLOCK S2\",\
-            \"BLOCK S3\",\"TAG S2\",\"TAG S3\"]}"
+            r#"{"at":101,"by":"OPS","clearance":"JONES/1","do":"order","points":["S2","S3"],"steps":["OPEN S2","OPEN S3","BLOCK S2","BLOCK S3","TAG S2","TAG S3"]}"#
         ),
         stands!("0"),
     ),
     (
         posts!(
             68,
-            "{\"at\":102,\"by\":\"OPS\",\"clearance\":\"JONES/1\",\"do\":\"instruct\",\"step\":1}"
+            r#"{"at":102,"by":"OPS","clearance":"JONES/1","do":"instruct","step":1}"#
         ),
         stands!("0"),
     ),
     (
         posts!(
             84,
-            "{\"at\":103,\"by\":\"REED\",\"clearance\":\"JONES/1\",\"do\":\"repeat\",\"step\":1,\
-            \"text\":\"OPEN S2\"}"
+            r#"{"at":103,"by":"REED","clearance":"JONES/1","do":"repeat","step":1,"text":"OPEN S2"}"#
         ),
         stands!("0"),
     ),
     (
         posts!(
             79,
-            "{\"at\":104,\"by\":\"REED\",\"clearance\":\"JONES/1\",\"do\":\"report\",\
-            \"done\":true,\"step\":1}"
+            r#"{"at":104,"by":"REED","clearance":"JONES/1","do":"report","done":true,"step":1}"#
         ),
         stands!("1"),
     ),
@@ -180,11 +177,11 @@ END
     ),
     (
         "GET /order/JONES/1/2 HTTP/1.1\r\n\r\n",
-        answers!("404 Not Found", 18, "{\"fault\":\"NoSuch\"}"),
+        answers!("404 Not Found", 18, r#"{"fault":"NoSuch"}"#),
     ),
     (
         "GET /order/JONES/JONES HTTP/1.1\r\n\r\n",
-        answers!("404 Not Found", 19, "{\"fault\":\"NoRoute\"}"),
+        answers!("404 Not Found", 19, r#"{"fault":"NoRoute"}"#),
     ),
 ];
 

@@ -46,6 +46,7 @@ pub const RESPONSE: &str = "HTTP/1.1 200 OK\r\n\
     {\"card\":{\"clearance\":\"JONES/1\",\"done\":0,\"holder\":\"JONES\",\"phase\":\"Requested\",\
     \"round\":0,\"steps\":0},\"reply\":\"accepted\"}";
 
+/// The worked network.
 pub fn network(alloc: Global) -> Result<Network, Fail> {
     let sections = read_sections(alloc, &mut Counted::new(SECTIONS))?;
     let points = read_points(alloc, &mut Counted::new(POINTS))?;
