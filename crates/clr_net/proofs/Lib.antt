@@ -8,3 +8,6 @@ pub mod Walks
 pub mod FencePlaces
 pub mod PlaceLists
 pub mod CutPlaces
+pub mod KeptRows
+pub mod Locality
+pub mod ByWalks

@@ -1,11 +1,12 @@
 -- The fence of a section: every section that a walk over points that are not cut leads to, whatever
 -- the points' positions.
-use Rattle.std.specs.Prelude.{ℕ, zero, suc, ◌+◌, Bool, ◌&&◌, ◌||◌, not, if◌then◌else◌, ◌==◌, List}
-use Rattle.std.specs.Prelude.{length, filter}
+use Rattle.std.specs.Prelude.{◌≡◌, ◌↔◌, ℕ, zero, suc, ◌+◌, Bool, ◌&&◌, ◌||◌, not, if◌then◌else◌}
+use Rattle.std.specs.Prelude.{◌==◌, IsTrue, List, length, filter}
 use Rattle.std.specs.List.{list_any}
 use Rattle.clr_net.specs.Name.{same_name}
 use Rattle.clr_net.specs.Names.{has_name}
 use Rattle.clr_net.specs.Grid.{Grid, section_names}
+use Rattle.clr_net.specs.Walk.{Walk}
 use Rattle.clr_net.specs.declared.section.SectionRow.{SectionRow}
 use Rattle.clr_net.specs.declared.point.PointRow.{PointRow}
 
@@ -27,6 +28,10 @@ unfoldable pub in_fence : Grid → List ℕ → List (List ℕ) → List ℕ →
 in_fence g work cut s = has_name (section_names g.sections) work
     && reaches g.points cut work (length g.sections) s
 
+-- whether a point has an end among these sections
+abbrev pub touches : (List ℕ → Bool) → PointRow → Bool
+touches inside p = inside p.from_end || inside p.to_end
+
 -- a fence as contracts see it: the rows of its sections, and of the points with an end inside, in
 -- the order of names
 pub record FenceRows : Type 0 where
@@ -37,12 +42,22 @@ pub record FenceRows : Type 0 where
 abbrev pub fence_of : Grid → List ℕ → List (List ℕ) → FenceRows
 fence_of g work cut = record {
   sections = filter (λ row. in_fence g work cut row.name) g.sections;
-  touching = filter (λ p. in_fence g work cut p.from_end || in_fence g work cut p.to_end) g.points;
+  touching = filter (touches (in_fence g work cut)) g.points;
 }
 
 -- whether a fence has a section
 abbrev pub fence_has : FenceRows → List ℕ → Bool
 fence_has fence s = has_name (section_names fence.sections) s
+
+-- A FENCE BY WALKS: it has a section exactly where the work section is one of the network's and a
+-- walk over points that are not cut leads from it to the section. Its rows are those of the network
+-- at the sections that it has, and those of the points with an end in one of these
+pub record IsFenceByWalks (g : Grid) (work : List ℕ) (cut : List (List ℕ))
+    (fence : FenceRows) : Type 0 where
+  pub walks : (s : List ℕ) → IsTrue (fence_has fence s)
+      ↔ (IsTrue (has_name (section_names g.sections) work) × Walk g.points cut work s)
+  pub sections : fence.sections ≡ filter (λ row. fence_has fence row.name) g.sections
+  pub touching : fence.touching ≡ filter (touches (fence_has fence)) g.points
 
 -- how many ends of a point lie inside a fence
 abbrev pub sides_of : FenceRows → PointRow → ℕ

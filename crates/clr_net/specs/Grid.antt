@@ -5,6 +5,7 @@ use Rattle.clr_net.specs.Name.{same_name, name_cmp}
 use Rattle.clr_net.specs.Names.{has_name}
 use Rattle.clr_net.specs.declared.section.SectionRow.{SectionRow}
 use Rattle.clr_net.specs.declared.point.PointRow.{PointRow}
+use Rattle.clr_net.specs.declared.point.Position.TheVariants.{Opened}
 
 pub record Grid : Type 0 where
   pub sections : List SectionRow
@@ -15,6 +16,10 @@ section_names sections = map (λ row. row.name) sections
 
 abbrev pub point_names : List PointRow → List (List ℕ)
 point_names points = map (λ row. row.name) points
+
+-- a point of the network, without the position that it had when its row was made
+abbrev pub unplaced : PointRow → PointRow
+unplaced p = record p { position = Opened }
 
 -- whether both ends of a point are among these sections
 abbrev pub has_ends : List (List ℕ) → PointRow → Bool

@@ -1,6 +1,6 @@
 //! Laws of the definitions: the contract of each function is the law, and its body is empty.
 ghost use Rattle.clr_net.specs.Laws.{FenceIsClosed, FenceIsLeast, FenceIsWalks};
-ghost use Rattle.clr_net.specs.Laws.{NetworksHaveNoFault};
+ghost use Rattle.clr_net.specs.Laws.{FencesAreLocal, NetworksHaveNoFault};
 
 /// A section is in the fence exactly where a walk from the work section leads to it over points
 /// that are not cut.
@@ -17,6 +17,12 @@ pub fn fence_is_closed()
 /// cut.
 pub fn fence_is_least()
     ensures { FenceIsLeast }
+{}
+
+/// Locality: two networks that have the same rows at a fence of the first have the same fence, the
+/// points' positions aside. What is changed elsewhere changes nothing there.
+pub fn fences_are_local()
+    ensures { FencesAreLocal }
 {}
 
 /// Rows of which there is a network have no fault, so that a build of them answers it.

@@ -9,7 +9,7 @@ ghost use Rattle.clr_net.specs.Grid.{Grid, IsNetwork, section_names, has_ends, h
 ghost use Rattle.clr_net.specs.Grid.{point_names};
 ghost use Rattle.clr_net.specs.Network.{Builds, Passes, size_fault, twice_fault, end_fault};
 ghost use Rattle.clr_net.specs.Names.{has_name};
-ghost use Rattle.clr_net.specs.Fence.{fence_of};
+ghost use Rattle.clr_net.specs.Fence.{IsFenceByWalks, fence_of};
 
 use crate::fence::{Fence, rows_at};
 use crate::name::Name;
@@ -115,9 +115,11 @@ impl Network {
     /// network does not have has an empty fence.
     ///
     /// Locality: a network with the same rows at the fence has the same fence, whatever it has
-    /// elsewhere (law `fences_are_local` of clr_rules, a part of what a holder may rely on).
+    /// elsewhere (law `fences_are_local`).
     pub fn fence(&self, work: &Name, cut: &[Name]) -> Result<Fence<'_>, AllocError>
-        ensures { IfOk result (λ fence. fence ≡ fence_of self.now work.now cut.now) }
+        ensures rows { IfOk result (λ fence. fence ≡ fence_of self.now work.now cut.now) }
+        ensures walks { IfOk result (λ fence.
+            IsFenceByWalks self.now work.now cut.now fence) }
     {
         let alloc = *self.sections.allocator();
         let inside = fence_places(alloc, &self.sections, &self.points, &self.ways, *work, cut)?;

@@ -1,11 +1,12 @@
 use Rattle.std.proofs.Common.{◌≡◌, ◌∙◌, ◌||◌, ap}
 use Rattle.std.specs.Prelude.{slice_get}
 use Rattle.std.specs.List.{filter_map}
-use Rattle.clr_net.specs.Grid.{Grid}
+use Rattle.clr_net.specs.Grid.{Grid, IsNetwork}
 use Rattle.clr_net.specs.Fence.{FenceRows, fence_of, in_fence}
 use Rattle.clr_net.specs.Name.{name_cmp}
 use Rattle.clr_net.specs.declared.point.PointRow.{PointRow}
 use Rattle.clr_net.specs.declared.section.SectionRow.{SectionRow}
+use Rattle.clr_net.proofs.ByWalks.{fence_by_walks}
 use Rattle.clr_net.proofs.FencePlaces.{picked_fence}
 use Rattle.clr_net.proofs.ListFacts.{rising-filter}
 use Rattle.clr_net.proofs.network.Network.fence.Goals as goal
@@ -35,8 +36,8 @@ of_rows-requires-clause-points_rise c =
     rw same (rising-filter name_cmp (λ (row : PointRow). row.name) (λ row. in_fence g c.args.work.now c.args.cut.now row.from_end || in_fence g c.args.work.now c.args.cut.now row.to_end) g.points
     c.self.invariant.0.points_rise)
 
-pub returns : goal.returns
-returns c =
+pub returns-clause-rows : goal.returns-clause-rows
+returns-clause-rows c =
     let g : Grid = record { sections = c.self.inside.sections.items; points = c.self.inside.points.items } in
     let (net, index) = c.self.invariant in
     let rows = picked_fence g net c.self.inside.ways index c.args.work.now c.args.cut.now c.in_ok-inside.inside.items c.in_ok-beside.beside.items
@@ -44,3 +45,9 @@ returns c =
     c.in_ok-beside.ensures.rising (rw c.deref-3.ensures.value at c.in_ok-beside.ensures.same) in
     c.of_rows.ensures
     ∙ rw (c.in_ok-sections.ensures, c.in_ok-touching.ensures, c.deref-4.ensures.value, c.deref-5.ensures.value, c.deref-6.ensures.value, c.deref-7.ensures.value, ← c.self.view_is) rows
+
+pub returns-clause-walks : goal.returns-clause-walks
+returns-clause-walks c =
+    let g : Grid = record { sections = c.self.inside.sections.items; points = c.self.inside.points.items } in
+    let net : IsNetwork c.args.self.now = rw (← c.self.view_is) c.self.invariant.0 in
+    fence_by_walks c.args.self.now net c.args.work.now c.args.cut.now c.of_rows.result (returns-clause-rows c)
