@@ -1,5 +1,6 @@
 -- What a clause sees of a reader or a writer with a count beside it.
-use Rattle.std.specs.Prelude.{ℕ, Bool}
+use Rattle.std.specs.Prelude.{ℕ, List, Option}
+use Rattle.clr_csv.specs.Streams.{Stream}
 use Rattle.clr_csv.specs.declared.counted.Counted.{Counted}
 
 -- the reader or writer itself
@@ -10,10 +11,15 @@ counted_inner c = c.inner
 abbrev pub counted_failures : {T : Type 0} → Counted T → ℕ
 counted_failures c = c.failures
 
--- whether its last write was given bytes and took none
-abbrev pub counted_stalled : {T : Type 0} → Counted T → Bool
-counted_stalled c = c.stalled
+-- how many of its writes were given bytes and took none
+abbrev pub counted_stalls : {T : Type 0} → Counted T → ℕ
+counted_stalls c = c.stalls
 
--- whether nothing was written since the last flush that did not fail
-abbrev pub counted_flushed : {T : Type 0} → Counted T → Bool
-counted_flushed c = c.flushed
+-- a writer as it stands, by the bytes that the writer itself holds
+abbrev pub counted_stream : {T : Type 0} → (T → Option (List ℕ)) → Counted T → Stream
+counted_stream contents c = record {
+  contents = contents c.inner;
+  failures = c.failures;
+  stalls = c.stalls;
+  flushed = c.flushed;
+}

@@ -1,4 +1,5 @@
 pub mod Failures
+pub mod Streams
 pub mod Counted
 pub mod Answers
 pub mod Whole

@@ -1,8 +1,9 @@
 //! Readers and writers that count their failures.
-ghost use Rattle.std.specs.Prelude.{◌≡◌, ℕ, Bool, OnOk, false, true};
+ghost use Rattle.std.specs.Prelude.{◌≡◌, ℕ, refl};
 ghost use Rattle.std.specs.Io.{ReadsAtMost, WritesAtMost};
 ghost use Rattle.std.specs.Io.KnownBytes.{Keeps, ReadConsumes, WriteAppends};
-ghost use Rattle.clr_csv.specs.Failures.{count_after, took_none};
+ghost use Rattle.clr_csv.specs.Failures.{count_after};
+ghost use Rattle.clr_csv.specs.Streams.{IsFlush, IsWrite, Stream};
 
 use std::io;
 use std::io::{Read, Write};
@@ -28,33 +29,28 @@ pub trait CountedRead: Read {
 /// A writer that counts its failures, so that a caller can tell a failure of the device from any
 /// other error.
 pub trait CountedWrite: Write {
-    /// How many writes and flushes have failed. The count stays at 2^64 - 1.
-    ghost failure_count: { Self → ℕ };
-
-    /// Whether the last write was given bytes and took none of them, which is no failure.
-    ghost stalled: { Self → Bool };
-
-    /// Whether nothing was written since the last flush that did not fail.
-    ghost flushed: { Self → Bool };
+    /// What is known of the writer, with how many of its calls have failed and how many of its
+    /// writes took no byte. Both counts stay at 2^64 - 1.
+    ghost stream: { Self → Stream };
 
     /// How many writes and flushes have failed, by either way to write; it stays at 2^64 - 1.
     fn failures(&self) -> u64
-        ensures { result ≡ failure_count self.now };
+        ensures { result ≡ Stream.failures (stream self.now) };
 
     /// What `write` does. A failure adds one to `failures`.
     fn write_counted(&mut self, buf: &[u8]) -> io::Result<usize>
         ensures bound { WritesAtMost result buf.now }
-        ensures bytes { WriteAppends (Self.contents self.old) (Self.contents self.new)
-            result buf.now }
-        ensures count { failure_count self.new ≡ count_after result (failure_count self.old) }
-        ensures stall { stalled self.new ≡ took_none result buf.now };
+        ensures write { IsWrite result buf.now (stream self.old) (stream self.new) };
 
+    /// The bytes of the stream are those of the writer.
+    ghost holds: { (writer : Self) → Stream.contents (stream writer) ≡ Self.contents writer };
+}
+
+/// A counted writer that is flushed.
+pub trait CountedFlush: CountedWrite {
     /// What `flush` does. A failure adds one to `failures`.
     fn flush_counted(&mut self) -> io::Result<()>
-        ensures bytes { Keeps (Self.contents self.old) (Self.contents self.new) }
-        ensures count { failure_count self.new ≡ count_after result (failure_count self.old) }
-        ensures stall { stalled self.new ≡ stalled self.old }
-        ensures flush { OnOk result (flushed self.new ≡ true) };
+        ensures { IsFlush result (Self.stream self.old) (Self.stream self.new) };
 }
 
 /// A reader or a writer with a count of its failures beside it.
@@ -62,22 +58,23 @@ pub trait CountedWrite: Write {
 pub struct Counted<T> {
     inner: T,
     failures: u64,
-    stalled: bool,
+    stalls: u64,
     flushed: bool,
 }
 
 impl<T> Counted<T> {
-    ghost use Rattle.clr_csv.specs.Counted.{counted_inner, counted_failures};
+    ghost use Rattle.clr_csv.specs.Counted.{counted_inner, counted_failures, counted_stalls};
 
     /// Begins to count, at 0.
     pub fn new(inner: T) -> Counted<T>
         ensures inner { counted_inner result ≡ inner }
         ensures failures { counted_failures result ≡ 0 }
+        ensures stalls { counted_stalls result ≡ 0 }
     {
         Counted {
             inner,
             failures: 0,
-            stalled: false,
+            stalls: 0,
             flushed: false,
         }
     }
@@ -133,8 +130,7 @@ impl<T: Read> CountedRead for Counted<T> {
 }
 
 impl<T: Write> Write for Counted<T> {
-    ghost use Rattle.clr_csv.specs.Counted.{counted_inner, counted_failures, counted_flushed};
-    ghost use Rattle.clr_csv.specs.Counted.{counted_stalled};
+    ghost use Rattle.clr_csv.specs.Counted.{counted_inner, counted_stream};
 
     ghost contents = { λ s. T.contents (counted_inner s) };
 
@@ -142,13 +138,14 @@ impl<T: Write> Write for Counted<T> {
         ensures bound { WritesAtMost result buf.now }
         ensures bytes { WriteAppends (T.contents (counted_inner self.old))
             (T.contents (counted_inner self.new)) result buf.now }
-        ensures count { counted_failures self.new
-            ≡ count_after result (counted_failures self.old) }
-        ensures stall { counted_stalled self.new ≡ took_none result buf.now }
+        ensures write { IsWrite result buf.now (counted_stream T.contents self.old)
+            (counted_stream T.contents self.new) }
     {
         let answer = self.inner.write(buf);
         self.count(&answer);
-        self.stalled = !buf.is_empty() && matches!(answer, Ok(0));
+        if !buf.is_empty() && matches!(answer, Ok(0)) {
+            self.stalls = self.stalls.saturating_add(1);
+        }
         self.flushed = false;
         answer
     }
@@ -156,10 +153,8 @@ impl<T: Write> Write for Counted<T> {
     fn flush(&mut self) -> io::Result<()>
         ensures bytes { Keeps (T.contents (counted_inner self.old))
             (T.contents (counted_inner self.new)) }
-        ensures count { counted_failures self.new
-            ≡ count_after result (counted_failures self.old) }
-        ensures stall { counted_stalled self.new ≡ counted_stalled self.old }
-        ensures flush { OnOk result (counted_flushed self.new ≡ true) }
+        ensures flush { IsFlush result (counted_stream T.contents self.old)
+            (counted_stream T.contents self.new) }
     {
         let answer = self.inner.flush();
         self.count(&answer);
@@ -169,13 +164,11 @@ impl<T: Write> Write for Counted<T> {
 }
 
 impl<T: Write> CountedWrite for Counted<T> {
-    ghost use Rattle.clr_csv.specs.Counted.{counted_failures, counted_flushed, counted_stalled};
+    ghost use Rattle.clr_csv.specs.Counted.{counted_stream};
 
-    ghost failure_count = { λ s. counted_failures s };
+    ghost stream = { λ s. counted_stream T.contents s };
 
-    ghost stalled = { λ s. counted_stalled s };
-
-    ghost flushed = { λ s. counted_flushed s };
+    ghost holds = { λ _. refl };
 
     fn failures(&self) -> u64 {
         self.failures
@@ -184,7 +177,9 @@ impl<T: Write> CountedWrite for Counted<T> {
     fn write_counted(&mut self, buf: &[u8]) -> io::Result<usize> {
         self.write(buf)
     }
+}
 
+impl<T: Write> CountedFlush for Counted<T> {
     fn flush_counted(&mut self) -> io::Result<()> {
         self.flush()
     }

@@ -16,7 +16,7 @@ mod staff_rows;
 mod table;
 mod whole;
 
-pub use counted::{Counted, CountedRead, CountedWrite};
+pub use counted::{Counted, CountedFlush, CountedRead, CountedWrite};
 pub use employee::{Role, StaffRow};
 pub use fault::CsvFault;
 pub use points::read_points;

@@ -1,15 +1,14 @@
 //! Bytes that are read whole, and bytes that are written whole.
 ghost use Rattle.std.specs.Prelude.{◌≡◌, ◌≢◌, ◌⊎◌, ◌+◌, ◌^◌, ◌<◌, Err, IsErrOf, IfErr, IfSome};
-ghost use Rattle.std.specs.Prelude.{OnErr, OnOk, length, take, true};
-ghost use Rattle.std.specs.Io.KnownBytes.{Appends};
+ghost use Rattle.std.specs.Prelude.{OnOk};
 ghost use Rattle.clr_csv.specs.Failures.{Rose};
 ghost use Rattle.clr_csv.specs.Answers.{GivesUnlessFailed};
+ghost use Rattle.clr_csv.specs.Streams.{WrotePart, WroteAll};
 ghost use Rattle.clr_csv.specs.Whole.{TakesAtMost, within};
 
 use crate::counted::{CountedRead, CountedWrite};
 use crate::fault::CsvFault;
 use std::alloc::Global;
-use std::io;
 
 /// The most bytes that a file has.
 pub const MAX_FILE_BYTES: usize = 4_194_304;
@@ -51,38 +50,21 @@ pub fn read_whole<R: CountedRead>(
     Err(CsvFault::TooLong)
 }
 
-/// Writes all these bytes. `Err` has how many of them, from the first on, went out.
-///
-/// A write that was interrupted is tried again, as by `write_all`.
+/// Writes all these bytes. `Err` has how many of them, from the first on, went out, where a write
+/// failed or took no byte. No failure is tried again.
 pub fn write_whole<W: CountedWrite>(writer: &mut W, bytes: &[u8]) -> Result<(), usize>
     ensures whole { OnOk result
-        (Appends (W.contents writer.old) (W.contents writer.new) bytes.now) }
-    ensures front { IfErr result (λ count.
-        Appends (W.contents writer.old) (W.contents writer.new) (take count bytes.now)) }
-    ensures part { IfErr result (λ count. count < length bytes.now) }
-    ensures count { Rose (W.failure_count writer.old) (W.failure_count writer.new)
-        ⊎ (W.failure_count writer.new ≡ W.failure_count writer.old) }
-    ensures cause { OnErr result (Rose (W.failure_count writer.old) (W.failure_count writer.new)
-        ⊎ (W.stalled writer.new ≡ true)) }
+        (WroteAll bytes.now (W.stream writer.old) (W.stream writer.new)) }
+    ensures part { IfErr result (λ count.
+        WrotePart count bytes.now (W.stream writer.old) (W.stream writer.new)) }
 {
     let mut written = 0;
-    for _turn in 0..u64::MAX {
-        if written == bytes.len() {
-            break;
-        }
+    while written < bytes.len() {
         match writer.write_counted(&bytes[written..]) {
             Ok(0) => return Err(written),
             Ok(count) => written += count,
-            Err(error) => {
-                if error.kind() != io::ErrorKind::Interrupted {
-                    return Err(written);
-                }
-            }
+            Err(_) => return Err(written),
         }
     }
-    if written == bytes.len() {
-        Ok(())
-    } else {
-        Err(written)
-    }
+    Ok(())
 }

@@ -1,13 +1,16 @@
-use Rattle.std.proofs.Common.{◌≡◌, ◌⊎◌, ◌≤◌, length, take}
+use Rattle.std.proofs.Common.{◌≡◌, ◌≤◌, ◌-◌, length, take}
 use Rattle.std.specs.Io.KnownBytes.{Appends}
-use Rattle.clr_csv.specs.Failures.{Rose}
 use Rattle.clr_csv.proofs.whole.write_whole.Given as goal
 
--- what was written so far went out; each turn wrote a byte at least, unless a write has failed
-abbrev pub invariant-loop-turn : goal.invariant-loop-turn
-invariant-loop-turn g l = record {
+-- what was written so far went out, and no write has failed or taken no byte
+abbrev pub invariant-loop-written : goal.invariant-loop-written
+invariant-loop-written g l = record {
   inside : l.written ≤ length l.bytes;
-  front : Appends (g.W.Write.contents l.fn.writer) (g.W.Write.contents l.writer) (take l.written l.bytes);
-  turns : Rose (g.W.CountedWrite.failure_count l.fn.writer) (g.W.CountedWrite.failure_count l.writer)
-      ⊎ ((g.W.CountedWrite.failure_count l.writer ≡ g.W.CountedWrite.failure_count l.fn.writer) × (l._turn ≤ l.written));
+  front : Appends (g.W.CountedWrite.stream l.fn.writer).contents (g.W.CountedWrite.stream l.writer).contents (take l.written l.bytes);
+  failures : (g.W.CountedWrite.stream l.writer).failures ≡ (g.W.CountedWrite.stream l.fn.writer).failures;
+  stalls : (g.W.CountedWrite.stream l.writer).stalls ≡ (g.W.CountedWrite.stream l.fn.writer).stalls;
 }
+
+-- how many bytes are still to be written
+abbrev pub decreases-loop-written : goal.decreases-loop-written
+decreases-loop-written g l = length l.bytes - l.written
