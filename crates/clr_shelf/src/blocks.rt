@@ -54,6 +54,16 @@ fn empty_blocks<T: Drop>(alloc: Global, count: usize) -> Result<Vec<Block<T>>, A
     Ok(blocks)
 }
 
+// The refusal of more numbers than any memory has room for: they are asked for all the same, so
+// that want of memory is only told where a growth was refused.
+fn refusal_of_all(alloc: Global) -> AllocError {
+    let mut numbers: Vec<usize> = Vec::new(alloc);
+    match numbers.reserve(usize::MAX) {
+        Ok(()) => AllocError,
+        Err(refused) => refused,
+    }
+}
+
 // How many pairs of blocks have room for `more` items beside those that are there, if they can.
 fn pairs_for(total: usize, more: usize) -> Option<usize>
     ensures room { IfSome result (λ pairs. total + more ≤ pairs * SIZE) }
@@ -218,7 +228,7 @@ impl<T: Drop> Blocks<T> {
             return Ok(());
         }
         let Some(pairs) = pairs_for(self.total, n) else {
-            return Err(AllocError);
+            return Err(refusal_of_all(self.allocator()));
         };
         let more = 2 * pairs - self.blocks.len();
         let mut empty = empty_blocks(self.allocator(), more)?;

@@ -51,8 +51,8 @@ impl<R: Row> Shelf<R> for ListShelf<R> {
         }
     }
 
-    fn at(&self, place: usize) -> &R {
-        &self.list[place]
+    fn at(&self, place: usize) -> Option<&R> {
+        self.list.get(place)
     }
 
     fn group(&self, group: &R::Group) -> Result<Vec<&R>, AllocError> {

@@ -32,10 +32,10 @@ pub trait Shelf<R: Row>: Drop {
     fn get(&self, key: &R::Key) -> Option<&R>
         ensures { option_copied result ≡ row_of R.key_cmp R.key_of key.now (rows self.now) };
 
-    /// The row at a place. Each row stands at one place below `len`, until the next put or take.
-    fn at(&self, place: usize) -> &R
-        requires { place < length (places self.now) }
-        ensures { slice_get (places self.now) place ≡ Some result.now };
+    /// The row at a place, which is nothing from `len` on. Each row stands at one place below `len`,
+    /// until the next put or take.
+    fn at(&self, place: usize) -> Option<&R>
+        ensures { option_copied result ≡ slice_get (places self.now) place };
 
     /// The rows of a group, in key order.
     fn group(&self, group: &R::Group) -> Result<Vec<&R>, AllocError>
@@ -51,7 +51,6 @@ pub trait Shelf<R: Row>: Drop {
     fn reserve(&mut self, n: usize) -> Result<(), AllocError>
         ensures rows { rows self.new ≡ rows self.old }
         ensures places { places self.new ≡ places self.old }
-
         ensures ok { OnOk result ((n ≤ room self.new) × (room self.old ≤ room self.new)) }
         ensures err { OnErr result (room self.new ≡ room self.old) }
         ensures succeeds { n ≤ room self.old → IsOk result };

@@ -102,8 +102,12 @@ impl<R: Row> Shelf<R> for SortedShelf<R> {
         }
     }
 
-    fn at(&self, place: usize) -> &R {
-        self.list.at(place)
+    fn at(&self, place: usize) -> Option<&R> {
+        if place < self.list.len() {
+            Some(self.list.at(place))
+        } else {
+            None
+        }
     }
 
     fn group(&self, group: &R::Group) -> Result<Vec<&R>, AllocError> {
