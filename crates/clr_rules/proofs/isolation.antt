@@ -1,6 +1,5 @@
 pub mod Agreement
 pub mod Headline
-pub mod Locality
 pub mod LookAlike
 pub mod OthersEdits
 pub mod OthersSteps

@@ -1,9 +1,8 @@
 -- The fences of clearances, and what lies in a fence or touches it.
-use Rattle.std.specs.Prelude.{ℕ, Bool, ◌||◌, if◌then◌else◌, List, [], filter, Option, None, Some}
-use Rattle.clr_net.specs.Fence.{FenceRows, fence_of}
+use Rattle.std.specs.Prelude.{ℕ, Bool, if◌then◌else◌, List, [], filter, Option, None, Some}
+use Rattle.clr_net.specs.Fence.{FenceRows, fence_of, touches}
 use Rattle.clr_net.specs.Grid.{Grid, point_names, section_names}
 use Rattle.clr_net.specs.Names.{has_name}
-use Rattle.clr_net.specs.declared.point.PointRow.{PointRow}
 use Rattle.clr_rules.specs.Prelude.{Record, StepRow, Id, Register, record_of, points_of, steps_in}
 use Rattle.clr_rules.specs.Records.{is_fenced}
 
@@ -34,10 +33,6 @@ found_order_fence g points (Some r) = work_fence g r.work points
 -- the fence that an order would make, which cuts at these points
 abbrev pub order_fence : Register → Id → List (List ℕ) → List (List ℕ)
 order_fence R c points = found_order_fence R.net points (record_of R.records c)
-
--- whether a point has an end among these sections
-abbrev pub touches : (List ℕ → Bool) → PointRow → Bool
-touches inside p = inside p.from_end || inside p.to_end
 
 -- the points with an end among these sections
 unfoldable pub touching_names : Grid → (List ℕ → Bool) → List (List ℕ)

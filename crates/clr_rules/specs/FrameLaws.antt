@@ -5,7 +5,7 @@ use Rattle.clr_rules.specs.Commands.{Known}
 use Rattle.clr_rules.specs.Command.{named_clearance}
 use Rattle.clr_rules.specs.Prelude.{Edit, Command, Kind, Id, same_id, Register, after_edits}
 use Rattle.clr_rules.specs.Footprint.{all_spare}
-use Rattle.clr_rules.specs.Good.{HandMatchesStep, IsGood, ListsAreInOrder}
+use Rattle.clr_rules.specs.Good.{HandMatchesStep, IsGoodAsSaid, ListsAreInOrder}
 use Rattle.clr_rules.specs.GoodByPhase.{outlook_of}
 use Rattle.clr_rules.specs.Isolation.{HeldStayOpen, is_others}
 use Rattle.clr_rules.specs.Run.{after}
@@ -56,5 +56,5 @@ OthersKeepOutlook =
 -- and the points that it holds are open then
 abbrev pub OthersKeepHeldOpen : Type 0
 OthersKeepHeldOpen =
-    (R : Register) (c : Id) (q : Command) → IsGood R → is_others c R q ≡ true
+    (R : Register) (c : Id) (q : Command) → IsGoodAsSaid R → is_others c R q ≡ true
     → HeldStayOpen c (after R q)

@@ -1,5 +1,6 @@
--- GOOD REGISTERS: what holds in every register that commands have made from an opening one.
--- Fourteen parts, each in its own words; GoodByPhase says the same phase by phase.
+-- GOOD REGISTERS: what holds in every register that commands have made from an opening one. Nine
+-- parts, each in its own words, of a register with a network, a staff and lists in order; and four
+-- parts besides, which are needed to keep these. GoodByPhase says the same phase by phase.
 use Rattle.std.specs.Prelude.{◌≡◌, ℕ, Bool, true, false, not, ◌&&◌, ◌||◌, IsTrue, List, [], length}
 use Rattle.std.specs.Prelude.{map, filter, All, Contains, Option, None, Some}
 use Rattle.std.specs.List.{list_any, range_with_len}
@@ -216,6 +217,12 @@ RestoringHaveSecondRound R =
 abbrev pub is_operators : Register → List ℕ → Bool
 is_operators R name = has_role is_operator (employee R.staff name)
 
+-- ONLY SWITCH ORDERS SWITCH: a Switching record has no work section
+abbrev pub OnlySwitchOrdersSwitch : Register → Type 0
+OnlySwitchOrdersSwitch R =
+    (c : Id) (r : Record) → record_of R.records c ≡ Some r → is_in_switching r.phase ≡ true
+    → is_switch_order r ≡ true
+
 -- SWITCH ORDERS ARE OPERATORS': a record has no work section exactly where its requester is an
 -- operator; such a record is Switching or Closed, and only such a one is Switching
 pub record SwitchOrdersAreOperators (R : Register) : Type 0 where
@@ -223,8 +230,7 @@ pub record SwitchOrdersAreOperators (R : Register) : Type 0 where
       → is_switch_order r ≡ is_operators R c.requester
   pub phases : (c : Id) (r : Record) → record_of R.records c ≡ Some r → is_switch_order r ≡ true
       → (is_in_switching r.phase || is_closed r.phase) ≡ true
-  pub switching : (c : Id) (r : Record) → record_of R.records c ≡ Some r
-      → is_in_switching r.phase ≡ true → is_switch_order r ≡ true
+  pub switching : OnlySwitchOrdersSwitch R
 
 -- THE NETWORK HAS NO POSITIONS: each row of a point is Opened, since where the point stands is in
 -- its state
@@ -245,10 +251,11 @@ pub record ListsAreInOrder (R : Register) : Type 0 where
   pub steps : in_key_order step_key_cmp step_key R.steps ≡ true
   pub holds : in_key_order hold_cmp hold_key R.holds ≡ true
 
--- GOOD: the register has a network and a staff, and
-pub record IsGood (R : Register) : Type 0 where
+-- GOOD AS SAID: the register has a network and a staff, its lists are in order, and
+pub record IsGoodAsSaid (R : Register) : Type 0 where
   pub network : IsNetwork R.net
   pub staff : IsStaff R.staff
+  pub in_order : ListsAreInOrder R
   pub held_points_are_open : HeldPointsAreOpen R
   pub hand_matches_step : HandMatchesStep R
   pub standing_orders_are_sound : StandingOrdersAreSound R
@@ -258,8 +265,15 @@ pub record IsGood (R : Register) : Type 0 where
   pub numbers_have_no_gaps : NumbersHaveNoGaps R
   pub steps_go_in_turn : StepsGoInTurn R
   pub holds_are_put : HoldsAreWhatDoneStepsPut R
+
+-- what a register has besides, by which each command keeps it good
+pub record IsGoodBesides (R : Register) : Type 0 where
   pub restoring_rounds : RestoringHaveSecondRound R
   pub switch_orders : SwitchOrdersAreOperators R
   pub placed : NetworkIsUnplaced R
   pub points_known : PointsAreKnown R
-  pub in_order : ListsAreInOrder R
+
+-- GOOD: as said, and what is needed besides to stay so
+pub record IsGood (R : Register) : Type 0 where
+  pub said : IsGoodAsSaid R
+  pub besides : IsGoodBesides R

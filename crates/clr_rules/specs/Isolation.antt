@@ -1,46 +1,27 @@
 -- THE STATEMENTS OF ISOLATION. Each is proved, by a law in src/laws.
-use Rattle.std.specs.Prelude.{◌≡◌, ℕ, Bool, true, false, not, ◌||◌, IsTrue, List, [], ◌∷◌, map}
-use Rattle.std.specs.Prelude.{filter, Some, Option, None}
+use Rattle.std.specs.Prelude.{◌≡◌, ℕ, Bool, true, false, not, ◌||◌, List, [], ◌∷◌, filter, Some}
+use Rattle.std.specs.Prelude.{Option, None}
 use Rattle.std.specs.List.{list_all}
-use Rattle.clr_net.specs.Fence.{FenceRows, fence_of, in_fence}
-use Rattle.clr_net.specs.Grid.{Grid, IsNetwork, section_names}
 use Rattle.clr_net.specs.Name.{same_name}
-use Rattle.clr_net.specs.Names.{has_name}
 use Rattle.clr_net.specs.declared.point.Position.TheVariants.{Opened}
 use Rattle.clr_rules.specs.Agreement.{Agree}
 use Rattle.clr_rules.specs.Answer.{Answer, answer}
 use Rattle.clr_rules.specs.Command.{named_clearance}
-use Rattle.clr_rules.specs.Fences.{touches}
 use Rattle.clr_rules.specs.Footprint.{Frame}
-use Rattle.clr_rules.specs.Good.{IsGood, has_record, is_operators}
+use Rattle.clr_rules.specs.Good.{IsGoodAsSaid, OnlySwitchOrdersSwitch}
+use Rattle.clr_rules.specs.Good.{SwitchOrdersAreOperators, has_record, is_operators}
 use Rattle.clr_rules.specs.Prelude.{Command, HeldOpen, Id, same_id, Register, position_of, has_hold}
 use Rattle.clr_rules.specs.Near.{near_of}
-use Rattle.clr_rules.specs.Register.{unplaced}
 use Rattle.clr_rules.specs.Run.{IsReached, after, after_all}
 use Rattle.clr_rules.specs.Shown.{Item, asked_row, covers, is_own_command, marks_of, own_answers}
 use Rattle.clr_rules.specs.Shown.{items_shown}
 
--- the sections of a set, and the points with an end in it, have the same rows in two networks, the
--- points' positions aside
-pub record SameRowsAt (inside : List ℕ → Bool) (g h : Grid) : Type 0 where
-  pub sections : filter (λ row. inside row.name) g.sections
-      ≡ filter (λ row. inside row.name) h.sections
-  pub points : map unplaced (filter (touches inside) g.points)
-      ≡ map unplaced (filter (touches inside) h.points)
-
--- LOCALITY: two networks that have the same rows at a fence of the first have the same fence
-abbrev pub Locality : Type 0
-Locality =
-    (g h : Grid) → IsNetwork g → IsNetwork h → (work : List ℕ) (cut : List (List ℕ))
-    → IsTrue (has_name (section_names g.sections) work)
-    → SameRowsAt (in_fence g work cut) g h
-    → FenceRows.sections (fence_of g work cut) ≡ FenceRows.sections (fence_of h work cut)
-
--- INDEPENDENCE: good registers with the same near part for a command give the same answer to it,
--- the reply and the edits
+-- INDEPENDENCE: registers that are good as said, in which only switch orders switch, and that have
+-- the same near part for a command, give the same answer to it, the reply and the edits
 abbrev pub Independence : Type 0
 Independence =
-    (R S : Register) (q : Command) → IsGood R → IsGood S → near_of R q ≡ near_of S q
+    (R S : Register) (q : Command) → IsGoodAsSaid R → OnlySwitchOrdersSwitch R → IsGoodAsSaid S
+    → OnlySwitchOrdersSwitch S → near_of R q ≡ near_of S q
     → answer R q ≡ answer S q
 
 -- whether a command that names this clearance, or none, is about another than c; a command that
@@ -56,15 +37,17 @@ is_others c R q = is_about_another c R q.caller (named_clearance q.kind)
 -- clearance as they are, clears no hand of it, and closes no point that it holds open
 abbrev pub OthersSpare : Type 0
 OthersSpare =
-    (R : Register) (c : Id) (q : Command) → IsGood R → is_others c R q ≡ true
+    (R : Register) (c : Id) (q : Command) → IsGoodAsSaid R → is_others c R q ≡ true
     → Frame c R (after R q)
 
--- two good registers that agree near a clearance whose requester is no operator, on a set that
--- covers the run of the first
+-- two registers that are good as said, in which switch orders are operators', and that agree near a
+-- clearance whose requester is no operator, on a set that covers the run of the first
 pub record AreAlike (c : Id) (inside : List ℕ
     → Bool) (R S : Register) (commands : List Command) : Type 0 where
-  pub first_good : IsGood R
-  pub second_good : IsGood S
+  pub first_good : IsGoodAsSaid R
+  pub second_good : IsGoodAsSaid S
+  pub first_orders : SwitchOrdersAreOperators R
+  pub second_orders : SwitchOrdersAreOperators S
   pub no_operator : is_operators R c.requester ≡ false
   pub agree : Agree c inside R S
   pub covered : covers c inside R commands ≡ true
@@ -97,15 +80,24 @@ LoneStep = (c : Id) (inside : List ℕ → Bool) (R S : Register) (q : Command)
     × (AreAlike c inside R S [] → marks_of S.net inside (Answer.edits (answer S q)) ≡ []
     → Agree c inside R (after S q))
 
--- THE HEADLINE, FIRST HALF: two reached registers agree near a clearance on a set that covers the
--- run of the first, and two lists of commands show it the same own commands and marks. Then every
--- reply about it and every change in its fence are equal, and the registers agree again
+-- what the headline asks for: two reached registers agree near a clearance whose requester is no
+-- operator, on a set that covers the run of the first, and two lists of commands show it the same
+-- own commands and marks
+pub record ShowTheSame (c : Id) (inside : List ℕ → Bool) (R : Register) (commands : List Command)
+    (S : Register) (others : List Command) : Type 0 where
+  pub first_reached : IsReached R
+  pub second_reached : IsReached S
+  pub no_operator : is_operators R c.requester ≡ false
+  pub agree : Agree c inside R S
+  pub covered : covers c inside R commands ≡ true
+  pub same_shown : items_shown c inside R commands ≡ items_shown c inside S others
+
+-- THE HEADLINE, FIRST HALF: where two registers and two lists of commands show a clearance the same,
+-- every reply about it and every change in its fence are equal, and the registers agree again
 abbrev pub SameShownSameAnswers : Type 0
 SameShownSameAnswers =
     (c : Id) (inside : List ℕ → Bool) (R S : Register) (commands others : List Command)
-    → IsReached R → IsReached S → is_operators R c.requester ≡ false → Agree c inside R S
-    → covers c inside R commands ≡ true
-    → items_shown c inside R commands ≡ items_shown c inside S others
+    → ShowTheSame c inside R commands S others
     → (own_answers c R commands ≡ own_answers c S others)
     × Agree c inside (after_all R commands) (after_all S others)
 
@@ -126,10 +118,18 @@ abbrev pub is_own_item : Item → Bool
 is_own_item (Item.own q row) = true
 is_own_item (Item.marks edit edits) = false
 
+-- what the consequence asks for: the requester of a clearance is no operator, a set covers the run
+-- of a reached register, and no command of others marks the set
+pub record ShowsOwnAlone (c : Id) (inside : List ℕ → Bool) (R : Register)
+    (commands : List Command) : Type 0 where
+  pub reached : IsReached R
+  pub no_operator : is_operators R c.requester ≡ false
+  pub covered : covers c inside R commands ≡ true
+  pub own_alone : list_all is_own_item (items_shown c inside R commands) ≡ true
+
 -- THE CONSEQUENCE: where no command of others marks the set, a clearance is answered as if its own
 -- commands stood alone
 abbrev pub OwnCommandsAlone : Type 0
 OwnCommandsAlone = (c : Id) (inside : List ℕ → Bool) (R : Register) (commands : List Command)
-    → IsReached R → is_operators R c.requester ≡ false → covers c inside R commands ≡ true
-    → list_all is_own_item (items_shown c inside R commands) ≡ true
+    → ShowsOwnAlone c inside R commands
     → own_answers c R commands ≡ own_answers c R (filter (is_own_command c) commands)

@@ -45,6 +45,7 @@ pub mod Footprint
 pub mod Isolation
 pub mod GoodByPhase
 pub mod LiveLaws
+pub mod HoldLaws
 pub mod EditLaws
 pub mod GoodLaws
 pub mod KeepLaws

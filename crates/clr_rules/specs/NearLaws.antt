@@ -9,7 +9,7 @@ use Rattle.clr_net.specs.declared.section.SectionRow.{SectionRow}
 use Rattle.clr_net.specs.Names.{has_name}
 use Rattle.clr_order.specs.Step.{Task, task_points}
 use Rattle.clr_rules.specs.Command.{named_clearance}
-use Rattle.clr_rules.specs.Good.{IsGood, ListsAreInOrder}
+use Rattle.clr_rules.specs.Good.{IsGoodAsSaid, ListsAreInOrder}
 use Rattle.clr_rules.specs.Prelude.{Command, Kind, Hold, Crew, PointState, Record, StepRow, Id}
 use Rattle.clr_rules.specs.Prelude.{Register, greatest_number, record_of, is_standing, points_of}
 use Rattle.clr_rules.specs.Prelude.{steps_in, is_point_kind, holds_of}
@@ -207,14 +207,14 @@ NearIsInOrder = (R : Register) (q : Command) → ListsAreInOrder R → ListsAreI
 -- its order, which touch its fence, and tests and grounds at sections of its fence
 abbrev pub OwnHoldsAreNear : Type 0
 OwnHoldsAreNear =
-    (R : Register) (q : Command) (c : Id) → IsGood R → named_clearance q.kind ≡ Some c
+    (R : Register) (q : Command) (c : Id) → IsGoodAsSaid R → named_clearance q.kind ≡ Some c
     → is_order q.kind ≡ false
     → holds_of (Register.holds (near_part R q)) c ≡ holds_of R.holds c
 
 -- the points of the first round of a standing order touch its fence
 abbrev pub OrderPointsTouchTheFence : Type 0
 OrderPointsTouchTheFence =
-    (R : Register) (c : Id) → IsGood R → (r : Record) → record_of R.records c ≡ Some r
+    (R : Register) (c : Id) → IsGoodAsSaid R → (r : Record) → record_of R.records c ≡ Some r
     → is_standing r.phase ≡ true
     → (p : List ℕ) → has_name (points_of (steps_in R.steps c 1)) p ≡ true
     → has_name (touching_names R.net (has_name (clearance_fence R c))) p ≡ true

@@ -7,7 +7,7 @@ use Rattle.clr_rules.specs.Answer.{answer, answer_with, known_of}
 use Rattle.clr_rules.specs.Prelude.{Edit, Command, Kind, Id, Register, record_of, steps_of}
 use Rattle.clr_rules.specs.Prelude.{holds_of, after_edits}
 use Rattle.clr_rules.specs.Command.{named_clearance}
-use Rattle.clr_rules.specs.Good.{IsGood, ListsAreInOrder}
+use Rattle.clr_rules.specs.Good.{IsGoodAsSaid, ListsAreInOrder, OnlySwitchOrdersSwitch}
 use Rattle.clr_rules.specs.Near.{near_part}
 use Rattle.clr_rules.specs.NearLaws.{is_order}
 use Rattle.clr_rules.specs.declared.command.Kind.TheVariants.{Instruct}
@@ -32,7 +32,7 @@ AgreeingRegistersHaveTheSame =
 -- the near part of a command that names a clearance has the same of it as the whole register
 abbrev pub NearHasTheOwn : Type 0
 NearHasTheOwn =
-    (R : Register) (q : Command) (c : Id) → IsGood R → named_clearance q.kind ≡ Some c
+    (R : Register) (q : Command) (c : Id) → IsGoodAsSaid R → named_clearance q.kind ≡ Some c
     → is_order q.kind ≡ false
     → SameOwn c R (near_part R q)
 
@@ -56,9 +56,9 @@ SameEditsKeepTheOwn =
     (c : Id) (R S : Register) → ListsAreInOrder R → ListsAreInOrder S → SameOwn c R S
     → (edits : List Edit) → SameOwn c (after_edits edits R) (after_edits edits S)
 
--- WHAT IS NEAR IS ENOUGH: in a good register a command is answered from its near part as from the
--- whole register
+-- WHAT IS NEAR IS ENOUGH: in a register that is good as said, and where only switch orders switch, a
+-- command is answered from its near part as from the whole register
 abbrev pub NearIsEnough : Type 0
 NearIsEnough =
-    (R : Register) (q : Command) → IsGood R
+    (R : Register) (q : Command) → IsGoodAsSaid R → OnlySwitchOrdersSwitch R
     → answer R q ≡ answer_with (known_of R q) (near_part R q) q

@@ -1,9 +1,8 @@
 -- The register: the network, the staff, and what is written down of points, clearances, steps and
 -- holds. Each list stands in the order of its keys, one row a key.
 use Rattle.std.specs.Prelude.{List, [], map, None}
-use Rattle.clr_net.specs.Grid.{Grid}
+use Rattle.clr_net.specs.Grid.{Grid, unplaced}
 use Rattle.clr_net.specs.declared.point.PointRow.{PointRow}
-use Rattle.clr_net.specs.declared.point.Position.TheVariants.{Opened}
 use Rattle.clr_csv.specs.declared.employee.StaffRow.{StaffRow}
 use Rattle.clr_rules.specs.declared.hold.Hold.{Hold}
 use Rattle.clr_rules.specs.declared.point_state.PointState.{PointState}
@@ -20,10 +19,7 @@ pub record Register : Type 0 where
   pub steps : List StepRow
   pub holds : List Hold
 
--- a point of the network, without the position that it had when its row was made
-abbrev pub unplaced : PointRow → PointRow
-unplaced p = record p { position = Opened }
-
+-- the network without the positions of its rows
 abbrev pub unplaced_net : Grid → Grid
 unplaced_net g = record { sections = g.sections; points = map unplaced g.points }
 

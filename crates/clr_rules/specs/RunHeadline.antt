@@ -1,16 +1,14 @@
 -- THE HEADLINE OF A RUN: what holds of the commands that a run has replied to, of its replies, and
 -- of the register that it left.
-use Rattle.std.specs.Prelude.{◌≡◌, ℕ, Bool, true, false, if◌then◌else◌, List, [], ◌∷◌, ◌++◌, map}
+use Rattle.std.specs.Prelude.{◌≡◌, ℕ, Bool, true, if◌then◌else◌, List, [], ◌∷◌, ◌++◌, map}
 use Rattle.std.specs.Prelude.{filter, length, take}
-use Rattle.std.specs.List.{list_all}
 use Rattle.clr_rules.specs.Agreement.{Agree}
 use Rattle.clr_rules.specs.Answer.{Answer}
 use Rattle.clr_rules.specs.Footprint.{Frame}
-use Rattle.clr_rules.specs.Good.{is_operators}
 use Rattle.clr_rules.specs.Prelude.{Command, Reply, Id, Register}
-use Rattle.clr_rules.specs.Isolation.{HeldStayOpen, is_others, is_own_item}
+use Rattle.clr_rules.specs.Isolation.{HeldStayOpen, ShowTheSame, ShowsOwnAlone, is_others}
 use Rattle.clr_rules.specs.Run.{IsReached, after, after_all, replies}
-use Rattle.clr_rules.specs.Shown.{covers, is_own_command, own_answers, items_shown}
+use Rattle.clr_rules.specs.Shown.{is_own_command, own_answers}
 
 -- the commands that have a reply: a run that stops leaves the later ones without
 abbrev pub with_reply : List Command → List Reply → List Command
@@ -44,10 +42,7 @@ pub record TellsTheSame (c : Id) (inside : List ℕ
 abbrev pub OthersChangeNoReply : Register → List Command → List Reply → Register → Type 0
 OthersChangeNoReply R commands told S =
     (c : Id) (inside : List ℕ → Bool) (T : Register) (others : List Command)
-    → IsReached R → IsReached T → is_operators R c.requester ≡ false → Agree c inside R T
-    → covers c inside R commands ≡ true
-    → items_shown c inside R commands ≡ items_shown c inside T others
-    → TellsTheSame c inside R commands told S T others
+    → ShowTheSame c inside R commands T others → TellsTheSame c inside R commands told S T others
 
 -- SECOND HALF: at each place of the run, a command about another clearance leaves a clearance's
 -- record, steps and holds as they are, clears no hand of it, and each point that the clearance
@@ -63,8 +58,7 @@ OthersTakeNothing R commands =
 -- own commands stood alone
 abbrev pub OwnStandAlone : Register → List Command → List Reply → Type 0
 OwnStandAlone R commands told = (c : Id) (inside : List ℕ → Bool)
-    → IsReached R → is_operators R c.requester ≡ false → covers c inside R commands ≡ true
-    → list_all is_own_item (items_shown c inside R commands) ≡ true
+    → ShowsOwnAlone c inside R commands
     → own_replies c commands told
     ≡ map (λ (a : Answer). a.reply) (own_answers c R (filter (is_own_command c) commands))
 

@@ -6,7 +6,7 @@ use Rattle.clr_net.specs.Names.{has_name}
 use Rattle.clr_net.specs.declared.point.PointRow.{PointRow}
 use Rattle.clr_net.specs.declared.point.Position.TheVariants.{Opened}
 use Rattle.clr_rules.specs.Fences.{clearance_fence}
-use Rattle.clr_rules.specs.Good.{IsFullyHeld, IsGood}
+use Rattle.clr_rules.specs.Good.{IsFullyHeld, IsGood, IsGoodAsSaid}
 use Rattle.clr_rules.specs.Prelude.{Command, Ground, Crew, Record, Id, Register, position_of}
 use Rattle.clr_rules.specs.Prelude.{record_of, is_granted, points_of, steps_in, has_hold}
 use Rattle.clr_rules.specs.Live.{IsLive, is_live}
@@ -15,14 +15,14 @@ use Rattle.clr_rules.specs.Run.{after}
 -- while a clearance is granted, no section of its fence is live
 abbrev pub GrantedFencesStayDead : Type 0
 GrantedFencesStayDead =
-    (R : Register) → IsGood R → (c : Id) (r : Record) → record_of R.records c ≡ Some r
+    (R : Register) → IsGoodAsSaid R → (c : Id) (r : Record) → record_of R.records c ≡ Some r
     → is_granted r.phase ≡ true
     → (s : List ℕ) → has_name (clearance_fence R c) s ≡ true → is_live R.net R.states s ≡ false
 
 -- and its work section is one of these
 abbrev pub GrantedWorkIsDead : Type 0
 GrantedWorkIsDead =
-    (R : Register) → IsGood R → (c : Id) (r : Record) → record_of R.records c ≡ Some r
+    (R : Register) → IsGoodAsSaid R → (c : Id) (r : Record) → record_of R.records c ≡ Some r
     → is_granted r.phase ≡ true
     → (work : List ℕ) → r.work ≡ Some work
     → (has_name (clearance_fence R c) work ≡ true) × (is_live R.net R.states work ≡ false)
@@ -30,7 +30,7 @@ GrantedWorkIsDead =
 -- no section that bears a ground is live
 abbrev pub GroundedSectionsAreDead : Type 0
 GroundedSectionsAreDead =
-    (R : Register) → IsGood R → (c : Id) (s : List ℕ) → has_hold R.holds c Ground s ≡ true
+    (R : Register) → IsGoodAsSaid R → (c : Id) (s : List ℕ) → has_hold R.holds c Ground s ≡ true
     → is_live R.net R.states s ≡ false
 
 -- NO COMMAND FEEDS A GROUND: after each command, a report of a closing too, no section that bears a
@@ -44,14 +44,14 @@ ClosingsFeedNoGround =
 -- in other words: closed points lead from no source to a ground
 abbrev pub NoSourceFeedsGrounds : Type 0
 NoSourceFeedsGrounds =
-    (R : Register) → IsGood R → (c : Id) (s : List ℕ) → has_hold R.holds c Ground s ≡ true
+    (R : Register) → IsGoodAsSaid R → (c : Id) (s : List ℕ) → has_hold R.holds c Ground s ≡ true
     → IsLive R.net R.states s → ⊥
 
 -- a point that was opened for a granted clearance is open, held open and tagged, blocked where it
 -- can be locked, and controlled where it is controlled from afar
 abbrev pub GrantedPointsBearAllHolds : Type 0
 GrantedPointsBearAllHolds =
-    (R : Register) → IsGood R → (c : Id) (r : Record) → record_of R.records c ≡ Some r
+    (R : Register) → IsGoodAsSaid R → (c : Id) (r : Record) → record_of R.records c ≡ Some r
     → is_granted r.phase ≡ true
     → (point : PointRow) → Contains (Grid.points R.net) point
     → has_name (points_of (steps_in R.steps c 1)) point.name ≡ true
@@ -69,5 +69,5 @@ pub record IsSafeWork (R : Register) (c : Id) : Type 0 where
 
 abbrev pub CrewsWorkSafely : Type 0
 CrewsWorkSafely =
-    (R : Register) → IsGood R → (c : Id) (crew : List ℕ) → has_hold R.holds c Crew crew ≡ true
+    (R : Register) → IsGoodAsSaid R → (c : Id) (crew : List ℕ) → has_hold R.holds c Crew crew ≡ true
     → IsSafeWork R c

@@ -1,7 +1,6 @@
 //! Changes: what an accepted command does to the rows of the register.
 use crate::clearance_id::ClearanceId;
 use crate::hold::Hold;
-use crate::items::Items;
 use crate::record::Record;
 use crate::step_row::StepRow;
 use clr_net::{Name, Position};
@@ -29,11 +28,8 @@ pub enum Edit {
     PutStep(StepRow),
 }
 
-/// A list of edits.
-pub type Edits = Items<Edit>;
-
 /// What an accepted command changes. That of a refused command or of `show` has no edit.
 #[derive(Debug, PartialEq, Drop)]
 pub struct Change {
-    pub edits: Edits,
+    pub edits: Vec<Edit>,
 }

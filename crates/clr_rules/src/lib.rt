@@ -20,7 +20,7 @@ mod step_row;
 mod tasks;
 mod text;
 
-pub use change::{Change, Edit, Edits};
+pub use change::{Change, Edit};
 pub use clearance_id::{ClearanceId, IdFault, MAX_CLEARANCE_NUMBER, read_number};
 pub use command::{Command, Kind};
 pub use hold::{Hold, HoldGroup};

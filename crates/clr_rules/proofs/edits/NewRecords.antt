@@ -83,7 +83,7 @@ module _ (records : List Record) (by : List ℕ) where
   known_number r there own = below_greatest (numbers_of records by) 0 r.id.number
       (there_mapped (λ (r : Record). r.id.number) (filter (is_of by) records) r (Contains-filter (is_of by) records r there own))
 
-module _ (R : Register) (good : IsGoodByPhase R) (by : List ℕ) (new : Record) (own : new.id ≡ record { requester = by; number = greatest_number R.records by + 1 }) where
+module _ (R : Register) (by : List ℕ) where
   -- the next number is no clearance's yet
   pub next_is_free : record_of R.records (record { requester = by; number = greatest_number R.records by + 1 }) ≡ None
   next_is_free = at (record_of R.records (record { requester = by; number = greatest_number R.records by + 1 })) refl
@@ -99,6 +99,7 @@ module _ (R : Register) (good : IsGoodByPhase R) (by : List ℕ) (new : Record) 
           let below = known_number R.records by r there name in
           absurd (omega arith)
 
+module _ (R : Register) (good : IsGoodByPhase R) (by : List ℕ) (new : Record) (own : new.id ≡ record { requester = by; number = greatest_number R.records by + 1 }) where
   -- it stands after the requester's others
   after_others : filter (is_of by) (with_row id_cmp record_key new R.records) ≡ filter (is_of by) R.records ++ new ∷ []
   unfolding with_row

@@ -10,7 +10,7 @@ use Rattle.clr_net.specs.declared.section.SectionRow.{SectionRow}
 use Rattle.clr_net.proofs.Walks.{fence_is_closed}
 use Rattle.clr_shelf.proofs.Members.{member-row_of}
 use Rattle.clr_rules.specs.Fences.{clearance_fence, work_fence}
-use Rattle.clr_rules.specs.Good.{IsFullyHeld, IsGood, is_known_work, works_on}
+use Rattle.clr_rules.specs.Good.{IsFullyHeld, IsGoodAsSaid, is_known_work, works_on}
 use Rattle.clr_rules.specs.Prelude.{HeldOpen, Ground, Crew, Phase, Requested, Closed, Record, Id, id_cmp, id_cmp_total, Register, position_of, record_key, record_of, is_granted}
 use Rattle.clr_rules.specs.Prelude.{points_of, steps_in, has_hold}
 use Rattle.clr_rules.specs.Live.{IsLive, is_live}
@@ -28,7 +28,7 @@ granted_is_fenced _ granted = refl
 found_record : (R : Register) (c : Id) (r : Record) → record_of R.records c ≡ Some r → Contains R.records r
 found_record R c r found = (member-row_of id_cmp record_key id_cmp_total c r R.records found).0
 
-module _ (R : Register) (good : IsGood R) (c : Id) where
+module _ (R : Register) (good : IsGoodAsSaid R) (c : Id) where
   -- the fence of a clearance that has one
   fence_of_granted : (r : Record) (work : List ℕ) → record_of R.records c ≡ Some r → is_granted r.phase ≡ true → r.work ≡ Some work
       → clearance_fence R c ≡ work_fence R.net (Some work) (points_of (steps_in R.steps r.id 1))

@@ -34,10 +34,10 @@ module _ (R : Register) (good : IsGood R) (c : Id) where
   -- each step of a round that does not wait has its turn
   turns : (round : ℕ) → go_in_turn (of_round (steps_of R.steps c) round) ≡ true
   turns round = rw (of_round_is R.steps c round)
-      (turn_by_turn (steps_in R.steps c round) (round_rises R.steps c round good.in_order.steps) (λ row there active.
+      (turn_by_turn (steps_in R.steps c round) (round_rises R.steps c round good.said.in_order.steps) (λ row there active.
       let own = All-contains (λ (row : StepRow). (row.id ≡ c) × (row.round ≡ round)) (steps_in R.steps c round) row (of_the_round R.steps c round) there in
       let turn = All-contains (λ (row : StepRow). is_waiting row.step.state ≡ false → is_in_turn (steps_in R.steps row.id row.round) row.ordinal ≡ true) (steps_in R.steps c round) row
-      (All-in_round (λ (row : StepRow). is_waiting row.step.state ≡ false → is_in_turn (steps_in R.steps row.id row.round) row.ordinal ≡ true) R.steps c round good.steps_go_in_turn.in_turn) there active in
+      (All-in_round (λ (row : StepRow). is_waiting row.step.state ≡ false → is_in_turn (steps_in R.steps row.id row.round) row.ordinal ≡ true) R.steps c round good.said.steps_go_in_turn.in_turn) there active in
       rw (own.0, own.1) at turn))
 
   -- what nobody asked for has nothing
@@ -48,32 +48,32 @@ module _ (R : Register) (good : IsGood R) (c : Id) where
   bare_steps none = no_step_of R.steps c
       (All-weaker (λ (row : StepRow). has_record R.records row.id ≡ true) (λ (row : StepRow). same_id c row.id ≡ false)
       (λ row recorded. false_from_ne_true (same_id c row.id) (λ same. unrecorded none row.id (one_id c row.id same) recorded))
-      R.steps good.numbers_have_no_gaps.steps_recorded)
+      R.steps good.said.numbers_have_no_gaps.steps_recorded)
 
   bare_holds : record_of R.records c ≡ None → HoldsNothing (outlook_of R c)
   bare_holds none kind place = false_from_ne_true (has_hold R.holds c kind place) (λ has.
-      unrecorded none c refl (All-contains (λ (h : Hold). has_record R.records h.id ≡ true) R.holds (hold_of c kind place) good.numbers_have_no_gaps.holds_recorded (hold_there R.holds c kind place has)))
+      unrecorded none c refl (All-contains (λ (h : Hold). has_record R.records h.id ≡ true) R.holds (hold_of c kind place) good.said.numbers_have_no_gaps.holds_recorded (hold_there R.holds c kind place has)))
 
   module _ (r : Record) (found : record_of R.records c ≡ Some r) where
     isolates : (work : List ℕ) → r.work ≡ Some work → is_standing r.phase ≡ true → Isolates R.net work (outlook_of R c)
-    isolates work has_work standing = rw (of_round_is R.steps c 1) (rw has_work at (good.standing_orders_are_sound c r found standing))
+    isolates work has_work standing = rw (of_round_is R.steps c 1) (rw has_work at (good.said.standing_orders_are_sound c r found standing))
 
     -- of which rounds there are steps, and where they are given out
     one_round : (is_restoring r.phase || is_closed r.phase) ≡ false → of_round (steps_of R.steps c) 2 ≡ []
     one_round other = of_round_is R.steps c 2 ∙ no_step_there (steps_in R.steps c 2) (false_from_ne_true (is_some_step (steps_in R.steps c 2)) (λ some.
-        both_ways (is_restoring r.phase || is_closed r.phase) other (good.steps_go_in_turn.second_round c r found some)))
+        both_ways (is_restoring r.phase || is_closed r.phase) other (good.said.steps_go_in_turn.second_round c r found some)))
 
     given_out : (round : ℕ) → present_of (steps_of R.steps c) ≡ round → ActiveInRound (steps_of R.steps c) round
     given_out round is = All-weaker (λ (row : StepRow). is_active row.step.state ≡ true → (is_running r.phase ≡ true) × (row.round ≡ present_round R.steps c))
         (λ (row : StepRow). is_active row.step.state ≡ true → row.round ≡ round)
-        (λ row now active. (now active).1 ∙ sym (present_of_is R.steps c) ∙ is) (steps_of R.steps c) (good.steps_go_in_turn.active_running c r found)
+        (λ row now active. (now active).1 ∙ sym (present_of_is R.steps c) ∙ is) (steps_of R.steps c) (good.said.steps_go_in_turn.active_running c r found)
 
     given_out_first : (work : List ℕ) → r.work ≡ Some work → is_standing r.phase ≡ true → (is_restoring r.phase || is_closed r.phase) ≡ false → ActiveInRound (steps_of R.steps c) 1
     given_out_first work has_work standing other = given_out 1
         (rw (one_round other, some_isolating R.net work (of_round (steps_of R.steps c) 1) (isolates work has_work standing)) refl)
 
     second_round : is_restoring r.phase ≡ true → is_some_step (of_round (steps_of R.steps c) 2) ≡ true
-    second_round restoring = rw (of_round_is R.steps c 2) (good.restoring_rounds c r found restoring)
+    second_round restoring = rw (of_round_is R.steps c 2) (good.besides.restoring_rounds c r found restoring)
 
     given_out_second : is_restoring r.phase ≡ true → ActiveInRound (steps_of R.steps c) 2
     given_out_second restoring = given_out 2 (rw (second_round restoring) refl)
@@ -83,15 +83,15 @@ module _ (R : Register) (good : IsGood R) (c : Id) where
         (All-weaker (λ (row : StepRow). is_active row.step.state ≡ true → (is_running r.phase ≡ true) × (row.round ≡ present_round R.steps c))
         (λ (row : StepRow). is_active row.step.state ≡ false)
         (λ row now. false_from_ne_true (is_active row.step.state) (λ active. both_ways (is_running r.phase) rests (now active).0))
-        (steps_of R.steps c) (good.steps_go_in_turn.active_running c r found))
+        (steps_of R.steps c) (good.said.steps_go_in_turn.active_running c r found))
 
     -- what is held
     as_put : is_standing r.phase ≡ true → is_restoring r.phase ≡ false → HoldsAsPut (outlook_of R c)
-    as_put standing not_restoring kind p at_point = rw (of_round_is R.steps c 1) (good.holds_are_put.as_put c r found standing not_restoring kind p at_point)
+    as_put standing not_restoring kind p at_point = rw (of_round_is R.steps c 1) (good.said.holds_are_put.as_put c r found standing not_restoring kind p at_point)
 
     no_work : is_granted r.phase ≡ false → HasNoWork (outlook_of R c)
     no_work not_granted kind place off_point = false_from_ne_true (has_hold R.holds c kind place) (λ has.
-        let (s, is_there, granted) = good.work_holds_belong.granted c kind place off_point has in
+        let (s, is_there, granted) = good.said.work_holds_belong.granted c kind place off_point has in
         let same : r ≡ s = same_Some r s (sym found ∙ is_there) in
         both_ways (is_granted r.phase) not_granted (rw same granted))
 
@@ -100,7 +100,7 @@ module _ (R : Register) (good : IsGood R) (c : Id) where
       where
         at : (b : Bool) → is_point_kind kind ≡ b → has_hold R.holds c kind place ≡ false
         at true e = false_from_ne_true (has_hold R.holds c kind place) (λ has.
-            let (s, is_there, standing) = good.holds_are_put.standing c kind place e has in
+            let (s, is_there, standing) = good.said.holds_are_put.standing c kind place e has in
             let same : r ≡ s = same_Some r s (sym found ∙ is_there) in
             both_ways (is_standing r.phase) not_standing (rw same standing))
         at false e = no_work not_granted kind place e
@@ -111,7 +111,7 @@ module _ (R : Register) (good : IsGood R) (c : Id) where
     -- what is held beside a HeldOpen is not held without it, and what is left of the second round undoes what is held
     beside : (kind : HoldKind) (p : List ℕ) → is_point_kind kind ≡ true → has_hold R.holds c HeldOpen p ≡ false → has_hold R.holds c kind p ≡ false
     beside kind p at_point free = false_from_ne_true (has_hold R.holds c kind p) (λ has.
-        both_ways (has_hold R.holds c HeldOpen p) free (good.held_points_are_open.beside_held_open c kind p at_point has))
+        both_ways (has_hold R.holds c HeldOpen p) free (good.said.held_points_are_open.beside_held_open c kind p at_point has))
 
     undone : is_restoring r.phase ≡ true → (p : List ℕ)
         → undoes (has_hold R.holds c Tag p) (has_hold R.holds c Control p) (has_hold R.holds c Block p) (has_hold R.holds c HeldOpen p)
@@ -121,23 +121,23 @@ module _ (R : Register) (good : IsGood R) (c : Id) where
         at : (b : Bool) → has_hold R.holds c HeldOpen p ≡ b
             → undoes (has_hold R.holds c Tag p) (has_hold R.holds c Control p) (has_hold R.holds c Block p) (has_hold R.holds c HeldOpen p)
             (actions_at (tasks_of (steps_left_of (steps_in R.steps c 2))) p) ≡ true
-        at true e = rw e (rule_undoes (held_at R.holds c p) (actions_at (tasks_of (steps_left_of (steps_in R.steps c 2))) p) (good.holds_are_put.undone c r found restoring p e))
+        at true e = rw e (rule_undoes (held_at R.holds c p) (actions_at (tasks_of (steps_left_of (steps_in R.steps c 2))) p) (good.said.holds_are_put.undone c r found restoring p e))
         at false e = rw (
           e,
           beside Tag p refl e,
           beside Control p refl e,
           beside Block p refl e,
-          none_there (has_hold R.holds c HeldOpen) p (steps_left_of (steps_in R.steps c 2)) (good.holds_are_put.nowhere_else c r found restoring) e,
+          none_there (has_hold R.holds c HeldOpen) p (steps_left_of (steps_in R.steps c 2)) (good.said.holds_are_put.nowhere_else c r found restoring) e,
         ) refl
 
     -- the phases in which a record has no work section
     not_switch_order : (is_in_switching r.phase || is_closed r.phase) ≡ false → r.work ≡ None → ⊥
-    not_switch_order other none = both_ways (is_in_switching r.phase || is_closed r.phase) other (good.switch_orders.phases c r found (ap lacks_work none))
+    not_switch_order other none = both_ways (is_in_switching r.phase || is_closed r.phase) other (good.besides.switch_orders.phases c r found (ap lacks_work none))
 
     -- the clearance as its phase wants it
     by_phase : (phase : Phase) → r.phase ≡ phase → (work : Option (List ℕ)) → r.work ≡ work → InPhase R.net phase work (outlook_of R c)
     by_phase Requested is (Some work) has_work = record {
-      no_step = good.steps_go_in_turn.none_requested c r found (ap is_requested is);
+      no_step = good.said.steps_go_in_turn.none_requested c r found (ap is_requested is);
       no_hold = no_hold (ap is_standing is) (ap is_granted is);
     }
     by_phase Ordered is (Some work) has_work = record {
@@ -150,12 +150,12 @@ module _ (R : Register) (good : IsGood R) (c : Id) where
     by_phase Granted is (Some work) has_work = record {
       isolates = isolates work has_work (ap is_standing is);
       one_round = one_round (rw is refl);
-      done = rw (of_round_is R.steps c 1) (good.granted_points_are_held.done c r found (ap is_granted is));
+      done = rw (of_round_is R.steps c 1) (good.said.granted_points_are_held.done c r found (ap is_granted is));
       none_active = none_active (ap is_running is);
       as_put = as_put (ap is_standing is) (ap is_restoring is);
-      tested_inside = λ place has. rw (← fence_is work has_work is) (good.work_holds_belong.tested_inside c place has);
-      grounded_inside = λ place has. rw (← fence_is work has_work is) (good.work_holds_belong.grounded_inside c place has);
-      crews_grounded = λ crew has. rw has_work at (good.work_holds_belong.crews_grounded c crew r has found);
+      tested_inside = λ place has. rw (← fence_is work has_work is) (good.said.work_holds_belong.tested_inside c place has);
+      grounded_inside = λ place has. rw (← fence_is work has_work is) (good.said.work_holds_belong.grounded_inside c place has);
+      crews_grounded = λ crew has. rw has_work at (good.said.work_holds_belong.crews_grounded c crew r has found);
     }
     by_phase Released is (Some work) has_work = record {
       isolates = isolates work has_work (ap is_standing is);
@@ -168,19 +168,19 @@ module _ (R : Register) (good : IsGood R) (c : Id) where
       isolates = isolates work has_work (ap is_standing is);
       second_round = second_round (ap is_restoring is);
       given_out = given_out_second (ap is_restoring is);
-      at_points = λ p has. rw (of_round_is R.steps c 1) (good.holds_are_put.at_points c HeldOpen p refl has);
-      beside_held_open = good.held_points_are_open.beside_held_open c;
+      at_points = λ p has. rw (of_round_is R.steps c 1) (good.said.holds_are_put.at_points c HeldOpen p refl has);
+      beside_held_open = good.said.held_points_are_open.beside_held_open c;
       undone = undone (ap is_restoring is);
       no_work = no_work (ap is_granted is);
     }
     by_phase Switching is None has_work = record {
-      only_switching = good.steps_go_in_turn.only_switching c r found (ap is_in_switching is);
+      only_switching = good.said.steps_go_in_turn.only_switching c r found (ap is_in_switching is);
       one_round = one_round (rw is refl);
       given_out = given_out (present_of (steps_of R.steps c)) refl;
       no_hold = no_hold (ap is_standing is) (ap is_granted is);
     }
     by_phase Switching is (Some work) has_work =
-        absurd (false≢true (sym (ap lacks_work has_work) ∙ good.switch_orders.switching c r found (ap is_in_switching is)))
+        absurd (false≢true (sym (ap lacks_work has_work) ∙ good.besides.switch_orders.switching c r found (ap is_in_switching is)))
     by_phase Closed is work has_work = record {
       none_active = none_active (ap is_running is);
       no_hold = no_hold (ap is_standing is) (ap is_granted is);
@@ -198,22 +198,22 @@ module _ (R : Register) (good : IsGood R) (c : Id) where
 
   hands : (p : List ℕ) → has_in_hand R.states c p ≡ active_at (steps_of R.steps c) p
   unfolding is_active_at
-  hands p = good.hand_matches_step.hand c p
+  hands p = good.said.hand_matches_step.hand c p
 
   in_place : IsInPlace R.net (outlook_of R c)
   in_place = record { in_turn = turns; hands = hands; phase = in_place_as (record_of R.records c) refl }
 
 pub to_phases : (R : Register) → IsGood R → IsGoodByPhase R
 to_phases R good = record {
-  network = good.network;
-  staff = good.staff;
+  network = good.said.network;
+  staff = good.said.staff;
   in_place = in_place R good;
-  operators = good.switch_orders.without_work;
-  held_open = good.held_points_are_open.open_there;
-  closing_free = good.hand_matches_step.closing;
-  numbered = good.numbers_have_no_gaps.numbered;
-  work_known = good.numbers_have_no_gaps.work_known;
-  placed = good.placed;
-  points_known = good.points_known;
-  in_order = good.in_order;
+  operators = good.besides.switch_orders.without_work;
+  held_open = good.said.held_points_are_open.open_there;
+  closing_free = good.said.hand_matches_step.closing;
+  numbered = good.said.numbers_have_no_gaps.numbered;
+  work_known = good.said.numbers_have_no_gaps.work_known;
+  placed = good.besides.placed;
+  points_known = good.besides.points_known;
+  in_order = good.said.in_order;
 }

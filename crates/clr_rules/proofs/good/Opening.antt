@@ -10,7 +10,7 @@ use Rattle.std.proofs.lemmas.List.{length-map}
 use Rattle.std.proofs.lemmas.List.Elements.{All-map, All-nil}
 use Rattle.std.proofs.lemmas.Map.Keys.{sorted_head, sorted_tail}
 use Rattle.std.proofs.lemmas.Option.{none-some}
-use Rattle.clr_net.specs.Grid.{Grid, IsNetwork, has_ends, has_one_section, point_names, section_names}
+use Rattle.clr_net.specs.Grid.{Grid, IsNetwork, has_ends, has_one_section, point_names, section_names, unplaced}
 use Rattle.clr_net.specs.Name.{name_cmp}
 use Rattle.clr_net.specs.Names.{has_name}
 use Rattle.clr_net.specs.declared.point.PointRow.{PointRow}
@@ -21,7 +21,7 @@ use Rattle.clr_shelf.specs.Rows.{in_key_order, row_of}
 use Rattle.clr_rules.specs.RunLaws.{KeepsOpening}
 use Rattle.clr_rules.specs.Good.{IsGood, ListsAreInOrder, has_record, is_active_at, is_closing_at, is_known_work}
 use Rattle.clr_rules.specs.Prelude.{Hold, HoldKind, Record, StepRow, Id, has_in_hand, state_key, state_of, record_of, is_waiting, steps_in, steps_of, has_hold}
-use Rattle.clr_rules.specs.Register.{first_state, opening, unplaced, unplaced_net}
+use Rattle.clr_rules.specs.Register.{first_state, opening, unplaced_net}
 use Rattle.clr_rules.specs.States.{hand_in, is_hand}
 use Rattle.clr_rules.specs.Steps.{is_in_turn}
 use Rattle.clr_rules.proofs.lists.StateFacts.{state_of-first, state_of-none}
@@ -107,59 +107,63 @@ opening_keeps g staff = record { same_net = refl; same_staff = refl; same_points
 
 pub opening_is_good : (g : Grid) (staff : List StaffRow) → IsNetwork g → IsStaff staff → IsGood (opening g staff)
 opening_is_good g staff net is_staff = record {
-  network = unplaced_is_network g net;
-  staff = is_staff;
-  held_points_are_open = record {
-    open_there = λ c kind p at_point held. absurd (held_nowhere c kind p held);
-    beside_held_open = λ c kind p at_point held. absurd (held_nowhere c kind p held);
+  said = record {
+    network = unplaced_is_network g net;
+    staff = is_staff;
+    in_order = opening_is_in_order g staff net;
+    held_points_are_open = record {
+      open_there = λ c kind p at_point held. absurd (held_nowhere c kind p held);
+      beside_held_open = λ c kind p at_point held. absurd (held_nowhere c kind p held);
+    };
+    hand_matches_step = record {
+      hand = λ c p. in_no_hand g.points c p ∙ sym (none_active c p);
+      closing = λ c p closing d kind at_point held. absurd (held_nowhere d kind p held);
+    };
+    standing_orders_are_sound = λ c r found standing. absurd (no_record c r found);
+    granted_points_are_held = record {
+      done = λ c r found granted. absurd (no_record c r found);
+      held = λ c r found granted point there named. absurd (no_record c r found);
+    };
+    granted_fences_are_dead = λ c r found granted s inside. absurd (no_record c r found);
+    work_holds_belong = record {
+      granted = λ c kind place at_work held. absurd (held_nowhere c kind place held);
+      tested_inside = λ c place held. absurd (held_nowhere c _ place held);
+      grounded_inside = λ c place held. absurd (held_nowhere c _ place held);
+      crews_grounded = λ c crew r held found. absurd (no_record c r found);
+    };
+    numbers_have_no_gaps = record {
+      numbered = λ requester. refl;
+      steps_recorded = All-nil (λ (row : StepRow). IsTrue (has_record [] row.id));
+      holds_recorded = All-nil (λ (h : Hold). IsTrue (has_record [] h.id));
+      hands_recorded = λ c p held. absurd (false≢true (sym (in_no_hand g.points c p) ∙ held));
+      work_known = All-nil (λ (r : Record). IsTrue (is_known_work (section_names g.sections) r.work));
+    };
+    steps_go_in_turn = record {
+      in_turn = All-nil (λ (row : StepRow). is_waiting row.step.state ≡ false → is_in_turn (steps_in [] row.id row.round) row.ordinal ≡ true);
+      active_running = λ c r found. absurd (no_record c r found);
+      none_requested = λ c r found requested. absurd (no_record c r found);
+      second_round = λ c r found second. absurd (no_record c r found);
+      only_switching = λ c r found switching. absurd (no_record c r found);
+    };
+    holds_are_put = record {
+      standing = λ c kind p at_point held. absurd (held_nowhere c kind p held);
+      at_points = λ c kind p at_point held. absurd (held_nowhere c kind p held);
+      as_put = λ c r found standing restoring kind p at_point. absurd (no_record c r found);
+      undone = λ c r found restoring p held. absurd (no_record c r found);
+      nowhere_else = λ c r found restoring. absurd (no_record c r found);
+    };
   };
-  hand_matches_step = record {
-    hand = λ c p. in_no_hand g.points c p ∙ sym (none_active c p);
-    closing = λ c p closing d kind at_point held. absurd (held_nowhere d kind p held);
+  besides = record {
+    restoring_rounds = λ c r found restoring. absurd (no_record c r found);
+    switch_orders = record {
+      without_work = λ c r found. absurd (no_record c r found);
+      phases = λ c r found switch. absurd (no_record c r found);
+      switching = λ c r found switch. absurd (no_record c r found);
+    };
+    placed = unplaced_once g;
+    points_known = record {
+      states = first_keys g.points ∙ sym (unplaced_names g.points);
+      steps = All-nil (λ (row : StepRow). IsTrue (has_name (point_names (map unplaced g.points)) row.step.point));
+    };
   };
-  standing_orders_are_sound = λ c r found standing. absurd (no_record c r found);
-  granted_points_are_held = record {
-    done = λ c r found granted. absurd (no_record c r found);
-    held = λ c r found granted point there named. absurd (no_record c r found);
-  };
-  granted_fences_are_dead = λ c r found granted s inside. absurd (no_record c r found);
-  work_holds_belong = record {
-    granted = λ c kind place at_work held. absurd (held_nowhere c kind place held);
-    tested_inside = λ c place held. absurd (held_nowhere c _ place held);
-    grounded_inside = λ c place held. absurd (held_nowhere c _ place held);
-    crews_grounded = λ c crew r held found. absurd (no_record c r found);
-  };
-  numbers_have_no_gaps = record {
-    numbered = λ requester. refl;
-    steps_recorded = All-nil (λ (row : StepRow). IsTrue (has_record [] row.id));
-    holds_recorded = All-nil (λ (h : Hold). IsTrue (has_record [] h.id));
-    hands_recorded = λ c p held. absurd (false≢true (sym (in_no_hand g.points c p) ∙ held));
-    work_known = All-nil (λ (r : Record). IsTrue (is_known_work (section_names g.sections) r.work));
-  };
-  steps_go_in_turn = record {
-    in_turn = All-nil (λ (row : StepRow). is_waiting row.step.state ≡ false → is_in_turn (steps_in [] row.id row.round) row.ordinal ≡ true);
-    active_running = λ c r found. absurd (no_record c r found);
-    none_requested = λ c r found requested. absurd (no_record c r found);
-    second_round = λ c r found second. absurd (no_record c r found);
-    only_switching = λ c r found switching. absurd (no_record c r found);
-  };
-  holds_are_put = record {
-    standing = λ c kind p at_point held. absurd (held_nowhere c kind p held);
-    at_points = λ c kind p at_point held. absurd (held_nowhere c kind p held);
-    as_put = λ c r found standing restoring kind p at_point. absurd (no_record c r found);
-    undone = λ c r found restoring p held. absurd (no_record c r found);
-    nowhere_else = λ c r found restoring. absurd (no_record c r found);
-  };
-  restoring_rounds = λ c r found restoring. absurd (no_record c r found);
-  switch_orders = record {
-    without_work = λ c r found. absurd (no_record c r found);
-    phases = λ c r found switch. absurd (no_record c r found);
-    switching = λ c r found switch. absurd (no_record c r found);
-  };
-  placed = unplaced_once g;
-  points_known = record {
-    states = first_keys g.points ∙ sym (unplaced_names g.points);
-    steps = All-nil (λ (row : StepRow). IsTrue (has_name (point_names (map unplaced g.points)) row.step.point));
-  };
-  in_order = opening_is_in_order g staff net;
 }

@@ -195,20 +195,24 @@ module _ (R : Register) (good : IsGoodByPhase R) where
 
 pub from_phases : (R : Register) → IsGoodByPhase R → IsGood R
 from_phases R good = record {
-  network = good.network;
-  staff = good.staff;
-  held_points_are_open = held_points_are_open R good;
-  hand_matches_step = hand_matches_step R good;
-  standing_orders_are_sound = λ c r found standing. rw (← of_round_is R.steps c 1) ((order R good c r found).isolates standing);
-  granted_points_are_held = granted_points_are_held R good;
-  granted_fences_are_dead = dead R good;
-  work_holds_belong = work_holds_belong R good;
-  numbers_have_no_gaps = numbers_have_no_gaps R good;
-  steps_go_in_turn = steps_go_in_turn R good;
-  holds_are_put = holds_are_put R good;
-  restoring_rounds = λ c r found restoring. rw (← of_round_is R.steps c 2) ((order R good c r found).second_round restoring);
-  switch_orders = switch_orders R good;
-  placed = good.placed;
-  points_known = good.points_known;
-  in_order = good.in_order;
+  said = record {
+    network = good.network;
+    staff = good.staff;
+    in_order = good.in_order;
+    held_points_are_open = held_points_are_open R good;
+    hand_matches_step = hand_matches_step R good;
+    standing_orders_are_sound = λ c r found standing. rw (← of_round_is R.steps c 1) ((order R good c r found).isolates standing);
+    granted_points_are_held = granted_points_are_held R good;
+    granted_fences_are_dead = dead R good;
+    work_holds_belong = work_holds_belong R good;
+    numbers_have_no_gaps = numbers_have_no_gaps R good;
+    steps_go_in_turn = steps_go_in_turn R good;
+    holds_are_put = holds_are_put R good;
+  };
+  besides = record {
+    restoring_rounds = λ c r found restoring. rw (← of_round_is R.steps c 2) ((order R good c r found).second_round restoring);
+    switch_orders = switch_orders R good;
+    placed = good.placed;
+    points_known = good.points_known;
+  };
 }

@@ -13,7 +13,8 @@ use Rattle.clr_rules.specs.Agreement.{Agree, part_near}
 use Rattle.clr_rules.specs.AgreementLaws.{LeavesAlone, concerning, concerns, is_about, is_new_of}
 use Rattle.clr_rules.specs.Prelude.{Edit, SetPosition, SetHand, PutHold, TakeHold, PutRecord, PutStep, Hold, Record, Id, id_cmp, same_id, Register, greatest_number, record_key, hold_cmp, hold_cmp_total, hold_key, holds_of, after_edit}
 use Rattle.clr_rules.specs.Prelude.{after_edits}
-use Rattle.clr_rules.specs.Fences.{touches, touching_names}
+use Rattle.clr_rules.specs.Fences.{touching_names}
+use Rattle.clr_net.specs.Fence.{touches}
 use Rattle.clr_rules.specs.Good.{ListsAreInOrder, has_record}
 use Rattle.clr_rules.specs.Records.{greater_of}
 use Rattle.clr_rules.specs.Shown.{is_mark, marks_of}

@@ -86,8 +86,10 @@ pub record Alongside (c : Id) (inside : List ℕ → Bool) (R S : Register) : Ty
 alike : (c : Id) (inside : List ℕ → Bool) (R S : Register) (commands : List Command) → Alongside c inside R S → covers c inside R commands ≡ true
     → AreAlike c inside R S commands
 alike c inside R S commands near covered = record {
-  first_good = near.first_good;
-  second_good = near.second_good;
+  first_good = near.first_good.said;
+  second_good = near.second_good.said;
+  first_orders = near.first_good.besides.switch_orders;
+  second_orders = near.second_good.besides.switch_orders;
   no_operator = near.no_operator;
   agree = near.agree;
   covered = covered;
@@ -96,7 +98,7 @@ alike c inside R S commands near covered = record {
 -- no command makes the requester an operator
 still_no_operator : (c : Id) (R : Register) (q : Command) → IsGood R → is_operators R c.requester ≡ false → is_operators (after R q) c.requester ≡ false
 still_no_operator c R q good none =
-    let kept = edited_all-network R (Answer.edits (answer R q)) good.in_order in
+    let kept = edited_all-network R (Answer.edits (answer R q)) good.said.in_order in
     ap (λ (staff : List StaffRow). has_role is_operator (employee staff c.requester)) kept.same_staff ∙ none
 
 module _ (c : Id) (inside : List ℕ → Bool) (R S : Register) (near : Alongside c inside R S) where
@@ -262,13 +264,13 @@ module _ (c : Id) (inside : List ℕ → Bool) where
 
 -- THE HEADLINE, FIRST HALF
 pub same_shown : SameShownSameAnswers
-same_shown c inside R S commands others R_reached S_reached no_operator agree covered same =
+same_shown c inside R S commands others shown =
     good_alike c inside commands R S others (record {
-      first_good = reached_are_good R R_reached;
-      second_good = reached_are_good S S_reached;
-      no_operator = no_operator;
-      agree = agree;
-    }) covered same
+      first_good = reached_are_good R shown.first_reached;
+      second_good = reached_are_good S shown.second_reached;
+      no_operator = shown.no_operator;
+      agree = shown.agree;
+    }) shown.covered shown.same_shown
 
 -- ---- own commands alone
 
@@ -321,8 +323,14 @@ module _ (c : Id) (inside : List ℕ → Bool) where
 
 -- THE CONSEQUENCE
 pub own_alone : OwnCommandsAlone
-own_alone c inside R commands reached no_operator covered all =
-    let ordered = reached_lists_are_in_order R reached in
-    let end = same_shown c inside R R commands (filter (is_own_command c) commands) reached reached no_operator (agrees_with_itself c inside R) covered
-    (shows_alone c inside commands R R ordered ordered refl all) in
+own_alone c inside R commands alone =
+    let ordered = reached_lists_are_in_order R alone.reached in
+    let end = same_shown c inside R R commands (filter (is_own_command c) commands) (record {
+      first_reached = alone.reached;
+      second_reached = alone.reached;
+      no_operator = alone.no_operator;
+      agree = agrees_with_itself c inside R;
+      covered = alone.covered;
+      same_shown = shows_alone c inside commands R R ordered ordered refl alone.own_alone;
+    }) in
     end.0

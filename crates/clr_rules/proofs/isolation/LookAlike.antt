@@ -23,7 +23,7 @@ use Rattle.clr_rules.specs.Answer.{fence_for, known_of, requester_for}
 use Rattle.clr_rules.specs.Checks.{employee, has_role, is_operator}
 use Rattle.clr_rules.specs.Command.{named_clearance}
 use Rattle.clr_rules.specs.Fences.{clearance_fence, order_fence, touching_names}
-use Rattle.clr_rules.specs.Good.{IsGood, is_operators}
+use Rattle.clr_rules.specs.Good.{IsGoodAsSaid, SwitchOrdersAreOperators, is_operators}
 use Rattle.clr_rules.specs.Holds.{is_near_hold}
 use Rattle.clr_rules.specs.Prelude.{Command, Kind, Hold, PointState, Record, StepRow, Id, same_id, Register, greatest_number, record_of}
 use Rattle.clr_rules.specs.Isolation.{AreAlike}
@@ -100,10 +100,10 @@ module _ (R : Register) (c : Id) (inside : List ℕ → Bool) (fence : List (Lis
 
 -- ---- the near part of a command that names a clearance of no operator
 
-module _ (R : Register) (c : Id) (good : IsGood R) (no_operator : is_operators R c.requester ≡ false) where
+module _ (R : Register) (c : Id) (orders : SwitchOrdersAreOperators R) (no_operator : is_operators R c.requester ≡ false) where
   no_switch_found : (o : Option Record) → record_of R.records c ≡ o → switched_by R c o ≡ []
   no_switch_found None read = refl
-  no_switch_found (Some r) read = rw (good.switch_orders.without_work c r read ∙ no_operator) refl
+  no_switch_found (Some r) read = rw (orders.without_work c r read ∙ no_operator) refl
 
   near_as_part : (q : Command) → named_clearance q.kind ≡ Some c → near_part R q ≡ at_sections R (fence_for R q.kind) c
   near_as_part q named =
@@ -134,7 +134,7 @@ fence_covered c inside R (Order d points tasks) named present coming requested =
 fence_covered c inside R kind named present coming requested =
     ap (includes inside) (fence_named R kind c named refl) ∙ present
 
-module _ (c : Id) (inside : List ℕ → Bool) (R S : Register) (agree : Agree c inside R S) (R_good : IsGood R) (S_good : IsGood S) where
+module _ (c : Id) (inside : List ℕ → Bool) (R S : Register) (agree : Agree c inside R S) (R_good : IsGoodAsSaid R) (S_good : IsGoodAsSaid S) where
   -- and the fence is the same in both
   same_fence : (kind : Kind) → named_clearance kind ≡ Some c → includes inside (fence_for R kind) ≡ true → fence_for R kind ≡ fence_for S kind
   same_fence (Order d points tasks) named covered =
@@ -146,7 +146,8 @@ module _ (c : Id) (inside : List ℕ → Bool) (R S : Register) (agree : Agree c
       let is_fence = fence_named R kind c named refl in
       is_fence ∙ same_clearance_fence R S c inside agree R_good S_good (ap (includes inside) (sym is_fence) ∙ covered) ∙ sym (fence_named S kind c named refl)
 
-  module _ (R_other : is_operators R c.requester ≡ false) (S_other : is_operators S c.requester ≡ false) where
+  module _ (R_orders : SwitchOrdersAreOperators R) (S_orders : SwitchOrdersAreOperators S)
+      (R_other : is_operators R c.requester ≡ false) (S_other : is_operators S c.requester ≡ false) where
     named_look_alike : (q : Command) → named_clearance q.kind ≡ Some c → includes inside (fence_for R q.kind) ≡ true → near_of R q ≡ near_of S q
     named_look_alike q named covered =
         let fence = same_fence q.kind named covered in
@@ -154,9 +155,9 @@ module _ (c : Id) (inside : List ℕ → Bool) (R S : Register) (agree : Agree c
         let second : (s : List ℕ) → has_name (fence_for S q.kind) s ≡ true → inside s ≡ true =
         λ s is_in. first s (ap (λ (names : List (List ℕ)). has_name names s) fence ∙ is_in) in
         let rows : near_part R q ≡ near_part S q =
-        near_as_part R c R_good R_other q named ∙ sym (at_sections-part R c inside (fence_for R q.kind) first)
+        near_as_part R c R_orders R_other q named ∙ sym (at_sections-part R c inside (fence_for R q.kind) first)
         ∙ (λ i. at_sections (agree.near i) (fence i) c)
-        ∙ at_sections-part S c inside (fence_for S q.kind) second ∙ sym (near_as_part S c S_good S_other q named) in
+        ∙ at_sections-part S c inside (fence_for S q.kind) second ∙ sym (near_as_part S c S_orders S_other q named) in
         let requester : requester_for q.caller (named_clearance q.kind) ≡ c.requester = ap (requester_for q.caller) named in
         let greatest : greatest_number R.records (requester_for q.caller (named_clearance q.kind)) ≡ greatest_number S.records (requester_for q.caller (named_clearance q.kind)) =
         ap (greatest_number R.records) requester ∙ agree.greatest ∙ ap (greatest_number S.records) (sym requester) in
@@ -185,7 +186,7 @@ only_row section (row ∷ rows) rises = at (same_name section row.name) refl (on
     at true here more = rw here (ap (λ l. row ∷ l) (filter-no_member (λ row. same_name section row.name) rows (later here)))
     at false differs more = rw differs more
 
-request_look_alike : (c : Id) (inside : List ℕ → Bool) (R S : Register) → Agree c inside R S → IsGood R → IsGood S
+request_look_alike : (c : Id) (inside : List ℕ → Bool) (R S : Register) → Agree c inside R S → IsGoodAsSaid R → IsGoodAsSaid S
     → (by : List ℕ) (at : ℕ) (section : List ℕ) → same_name c.requester by ≡ true → asked_row R (Request section) ≡ asked_row S (Request section)
     → near_of R (record { caller = by; moment = at; kind = Request section }) ≡ near_of S (record { caller = by; moment = at; kind = Request section })
 request_look_alike c inside R S agree R_good S_good by at section own asked =
@@ -217,7 +218,7 @@ request_look_alike c inside R S agree R_good S_good by at section own asked =
 -- ---- each own command
 
 -- an own command that names none is a request of the requester
-own_request : (c : Id) (inside : List ℕ → Bool) (R S : Register) → Agree c inside R S → IsGood R → IsGood S
+own_request : (c : Id) (inside : List ℕ → Bool) (R S : Register) → Agree c inside R S → IsGoodAsSaid R → IsGoodAsSaid S
     → (by : List ℕ) (at : ℕ) (kind : Kind) → named_clearance kind ≡ None → is_own_kind c by kind None ≡ true → asked_row R kind ≡ asked_row S kind
     → near_of R (record { caller = by; moment = at; kind = kind }) ≡ near_of S (record { caller = by; moment = at; kind = kind })
 own_request c inside R S agree R_good S_good by at (Request section) none own asked = request_look_alike c inside R S agree R_good S_good by at section own asked
@@ -239,7 +240,7 @@ module _ (c : Id) (inside : List ℕ → Bool) (R S : Register) (q : Command) (a
   by_name None is own = own_request c inside R S alike.agree alike.first_good alike.second_good q.caller q.moment q.kind is own asked
   by_name (Some d) is own =
       let named : named_clearance q.kind ≡ Some c = is ∙ ap Some (sym (one_id c d own)) in
-      named_look_alike c inside R S alike.agree alike.first_good alike.second_good alike.no_operator second_other q named
+      named_look_alike c inside R S alike.agree alike.first_good alike.second_good alike.first_orders alike.second_orders alike.no_operator second_other q named
       (fence_covered c inside R q.kind named covered_here.0 covered_here.1 requested)
 
 pub look_alike : (c : Id) (inside : List ℕ → Bool) (R S : Register) (q : Command) → AreAlike c inside R S (q ∷ [])

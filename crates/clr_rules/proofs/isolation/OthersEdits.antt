@@ -16,7 +16,7 @@ use Rattle.clr_rules.specs.Prelude.{Edit, SetPosition, SetHand, TakeHold, PutRec
 use Rattle.clr_rules.specs.Prelude.{present_steps, step_at, has_hold, hold_of, places_of, after_edits}
 use Rattle.clr_rules.specs.Footprint.{Frame, all_spare, both_or_neither, spares}
 use Rattle.clr_rules.specs.FrameLaws.{is_report, subject_of}
-use Rattle.clr_rules.specs.Good.{HandMatchesStep, IsGood, ListsAreInOrder}
+use Rattle.clr_rules.specs.Good.{HandMatchesStep, IsGoodAsSaid, ListsAreInOrder}
 use Rattle.clr_rules.specs.GoodByPhase.{outlook_of}
 use Rattle.clr_rules.specs.Id.{same_id_equiv}
 use Rattle.clr_rules.specs.Isolation.{HeldStayOpen, is_about_another, is_others}
@@ -216,11 +216,11 @@ pub others_keep_outlook : (R : Register) (c : Id) (q : Command) → ListsAreInOr
 others_keep_outlook R c q ordered matches others =
     sparing_edits_keep_outlook c R (Answer.edits (answer R q)) ordered (others_edits_spare R c q (λ _. matches) others)
 
-pub others_spare : (R : Register) (c : Id) (q : Command) → IsGood R → is_others c R q ≡ true → Frame c R (after R q)
+pub others_spare : (R : Register) (c : Id) (q : Command) → IsGoodAsSaid R → is_others c R q ≡ true → Frame c R (after R q)
 others_spare R c q good others =
     sparing_edits_leave_alone c R (Answer.edits (answer R q)) good.in_order (others_edits_spare R c q (λ _. good.hand_matches_step) others)
 
-pub others_keep_held_open : (R : Register) (c : Id) (q : Command) → IsGood R → is_others c R q ≡ true → HeldStayOpen c (after R q)
+pub others_keep_held_open : (R : Register) (c : Id) (q : Command) → IsGoodAsSaid R → is_others c R q ≡ true → HeldStayOpen c (after R q)
 others_keep_held_open R c q good others p held =
     let frame = others_spare R c q good others in
     let held_before : has_hold R.holds c HeldOpen p ≡ true =

@@ -66,7 +66,7 @@ late_own c R S same late by at _ own orders = cc orders
 module _ (c : Id) (inside : List ℕ → Bool) (R S : Register) (q : Command) (alike : AreAlike c inside R S (q ∷ []))
     (own : is_own_command c q ≡ true) (asked : asked_row R q.kind ≡ asked_row S q.kind) where
   by_near : (is_order q.kind ≡ true → found_phase_requested (record_of R.records c) ≡ true) → answer R q ≡ answer S q
-  by_near requested = same_near_same_answer R S q alike.first_good alike.second_good (look_alike c inside R S q alike own asked requested)
+  by_near requested = same_near_same_answer R S q alike.first_good alike.first_orders.switching alike.second_good alike.second_orders.switching (look_alike c inside R S q alike own asked requested)
 
   same_answer : (a : Bool) → is_order q.kind ≡ a → (b : Bool) → found_phase_requested (record_of R.records c) ≡ b → answer R q ≡ answer S q
   same_answer false no_order b is = by_near (λ orders. absurd (both_ways (is_order q.kind) no_order orders))

@@ -28,8 +28,8 @@ own_replies_are c R (q ∷ commands) =
 
 pub others_change_no_reply : (R : Register) (commands : List Command) (told : List Reply) (S : Register) → IsRun R commands told S
     → OthersChangeNoReply R commands told S
-others_change_no_reply R commands told S run c inside T others R_reached T_reached no_operator agree covered same =
-    let end = same_shown c inside R T commands others R_reached T_reached no_operator agree covered same in
+others_change_no_reply R commands told S run c inside T others shown =
+    let end = same_shown c inside R T commands others shown in
     record {
       replies = ap (own_replies c commands) run.replied ∙ own_replies_are c R commands ∙ ap (map (λ (x : Answer). x.reply)) end.0;
       answers = end.0;
@@ -40,10 +40,10 @@ pub others_take_nothing : (R : Register) (commands : List Command) → OthersTak
 others_take_nothing R commands c earlier q later reached split others =
     let here = after_all R earlier in
     let good = reached_are_good here (reached_go_on R reached earlier) in
-    (others_spare here c q good others, others_keep_held_open here c q good others)
+    (others_spare here c q good.said others, others_keep_held_open here c q good.said others)
 
 pub own_stand_alone : (R : Register) (commands : List Command) (told : List Reply) (S : Register) → IsRun R commands told S
     → OwnStandAlone R commands told
-own_stand_alone R commands told S run c inside reached no_operator covered all =
+own_stand_alone R commands told S run c inside alone =
     ap (own_replies c commands) run.replied ∙ own_replies_are c R commands
-    ∙ ap (map (λ (x : Answer). x.reply)) (own_alone c inside R commands reached no_operator covered all)
+    ∙ ap (map (λ (x : Answer). x.reply)) (own_alone c inside R commands alone)

@@ -4,9 +4,11 @@ use Rattle.std.specs.Prelude.{IsTrue}
 use Rattle.std.specs.List.{filter}
 use Rattle.std.proofs.lemmas.Bool.{and_parts, or_cases, or_left, or_right}
 use Rattle.std.proofs.lemmas.List.Elements.{All-contains}
-use Rattle.clr_net.specs.Fence.{in_fence}
-use Rattle.clr_net.specs.Grid.{Grid, section_names}
+use Rattle.clr_net.specs.Fence.{in_fence, touches}
+use Rattle.clr_net.specs.Grid.{Grid, section_names, unplaced}
+use Rattle.clr_net.specs.Laws.{SameRowsAt}
 use Rattle.clr_net.specs.Names.{has_name}
+use Rattle.clr_net.proofs.Locality.{fences_are_local}
 use Rattle.clr_net.specs.declared.point.PointRow.{PointRow}
 use Rattle.clr_net.specs.declared.section.SectionRow.{SectionRow}
 use Rattle.clr_shelf.proofs.Groups.{row_of-filter_inside}
@@ -14,19 +16,16 @@ use Rattle.clr_shelf.proofs.Keys.{equal}
 use Rattle.clr_shelf.proofs.Lists.{filter-filter_wider, list_all-contains}
 use Rattle.clr_shelf.proofs.Members.{member-row_of}
 use Rattle.clr_rules.specs.Agreement.{Agree, part_near}
-use Rattle.clr_rules.specs.Fences.{clearance_fence, found_fence, found_order_fence, order_fence, record_fence, touches, touching_names, work_fence}
-use Rattle.clr_rules.specs.Good.{IsGood, is_known_work}
+use Rattle.clr_rules.specs.Fences.{clearance_fence, found_fence, found_order_fence, order_fence, record_fence, touching_names, work_fence}
+use Rattle.clr_rules.specs.Good.{IsGoodAsSaid, is_known_work}
 use Rattle.clr_rules.specs.Prelude.{Record, StepRow, Id, id_cmp, id_cmp_total, same_id, Register, record_key, record_of, points_of, steps_in}
 use Rattle.clr_rules.specs.Id.{same_id_from_tie}
-use Rattle.clr_rules.specs.Isolation.{SameRowsAt}
 use Rattle.clr_rules.specs.Records.{is_fenced}
-use Rattle.clr_rules.specs.Register.{unplaced}
 use Rattle.clr_rules.specs.Shown.{includes}
 use Rattle.clr_rules.specs.Steps.{is_of_round}
 use Rattle.clr_rules.proofs.isolation.Agreement.{touching_named}
 use Rattle.clr_rules.proofs.live.FenceCuts.{named_from_in_fence}
 use Rattle.clr_rules.proofs.lists.Filters.{filter-kept, name_says}
-use Rattle.clr_rules.proofs.isolation.Locality.{same_rows}
 use Rattle.clr_rules.proofs.lists.RoundSteps.{own_id, record_id}
 
 -- what stands among names that a set includes is in the set
@@ -78,14 +77,15 @@ module _ (R S : Register) (c : Id) (inside : List ℕ → Bool) (agree : Agree c
         ∙ ap (λ (P : Register). filter (touches near) (Grid.points P.net)) agree.near ∙ points-part S c inside near wider);
   }
 
-  module _ (R_good : IsGood R) (S_good : IsGood S) where
+  module _ (R_good : IsGoodAsSaid R) (S_good : IsGoodAsSaid S) where
     -- a fence inside the set is the same in both
     same_work_fence : (o : Option (List ℕ)) (cut : List (List ℕ)) → is_known_work (section_names (Grid.sections R.net)) o ≡ true
         → includes inside (work_fence R.net o cut) ≡ true → work_fence R.net o cut ≡ work_fence S.net o cut
     same_work_fence None cut known covered = refl
     same_work_fence (Some work) cut known covered =
-        ap section_names (same_rows R.net S.net R_good.network S_good.network work cut known (rows_alike (in_fence R.net work cut)
-        (λ s there. included inside (work_fence R.net (Some work) cut) s covered (named_from_in_fence R.net work R_good.network cut s there))))
+        let same = fences_are_local R.net S.net R_good.network S_good.network work cut known (rows_alike (in_fence R.net work cut)
+        (λ s there. included inside (work_fence R.net (Some work) cut) s covered (named_from_in_fence R.net work R_good.network cut s there))) in
+        ap section_names same.sections
 
     known_work : (r : Record) → record_of R.records c ≡ Some r → is_known_work (section_names (Grid.sections R.net)) r.work ≡ true
     known_work r read = All-contains (λ (r : Record). IsTrue (is_known_work (section_names (Grid.sections R.net)) r.work)) R.records r

@@ -47,7 +47,7 @@ request_keeps : (R : Register) (by : List ℕ) (at : ℕ) (section : List ℕ) �
 unfolding after_edits
 request_keeps R by at section good known not_operator =
     let new = new_record (greatest_number R.records by) by at (Some section) Requested in
-    let bare = bare_before R new.id good (next_is_free R good by new refl) in
+    let bare = bare_before R new.id good (next_is_free R by) in
     keeps R (PutRecord new ∷ []) new.id good (changed_by R good new.id new refl (after_edits (PutRecord new ∷ []) R) refl
     (quiet R (after_edits (PutRecord new ∷ []) R) new.id new good (record {
       same_states = refl;

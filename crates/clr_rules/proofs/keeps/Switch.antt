@@ -39,7 +39,7 @@ module _ (R : Register) (by : List ℕ) (at : ℕ) (tasks : List Task) (good : I
   new = new_record (greatest_number R.records by) by at None Switching
 
   bare : IsBare (outlook_of R new.id)
-  bare = bare_before R new.id good (next_is_free R good by new refl)
+  bare = bare_before R new.id good (next_is_free R by)
 
   ready : IsReady R new.id 1 tasks
   ready = record {

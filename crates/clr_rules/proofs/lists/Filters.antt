@@ -7,6 +7,7 @@ use Rattle.clr_net.specs.Names.{has_name}
 use Rattle.clr_net.proofs.Walks.{any_from, one_name, same_itself, some_from}
 use Rattle.clr_shelf.proofs.Lists.{Contains-cases, Contains-here, Contains-later}
 use Rattle.clr_rules.proofs.lists.NamedRows.{Contains-filter}
+pub use Rattle.clr_net.proofs.KeptRows.{kept_there, mapped_from, there_mapped}
 
 -- a test says a condition
 abbrev pub Says : Bool → Type 0 → Type 0
@@ -37,18 +38,6 @@ fails a says = false_from_ne_true a says.0
 pub itself_says : (a : Bool) → Says a (a ≡ true)
 itself_says a = (λ h. h, λ h. h)
 
-module _ {X : Type 0} (p : X → Bool) where
-  pub kept_there : (xs : List X) (x : X) → Contains (filter p xs) x → Contains xs x × (p x ≡ true)
-  kept_there [] x (k, within, here) = absurd (omega arith)
-  kept_there (y ∷ ys) x member = at (p y) refl (kept_there ys x)
-    where
-      at : (b : Bool) → p y ≡ b → (Contains (filter p ys) x → Contains ys x × (p x ≡ true)) → Contains (y ∷ ys) x × (p x ≡ true)
-      at true e more = ⊎_elim
-          (λ here. (subst (λ (z : X). Contains (y ∷ ys) z) here (Contains-here y ys), subst (λ (z : X). p z ≡ true) here e))
-          (λ later. let both = more later in (Contains-later y x ys both.0, both.1))
-          (Contains-cases y x (filter p ys) (rw e at member))
-      at false e more = let both = more (rw e at member) in (Contains-later y x ys both.0, both.1)
-
 -- a filter keeps exactly the rows of the list that pass
 pub is_kept : {X : Type 0} (p : X → Bool) (xs : List X) (P : X → Type 0) → ((x : X) → Says (p x) (P x)) → (x : X)
     → Contains (filter p xs) x ↔ (Contains xs x × P x)
@@ -56,21 +45,6 @@ is_kept p xs P says x = (
   λ member. let both = kept_there p xs x member in (both.0, (says x).0 both.1),
   λ both. Contains-filter p xs x both.0 ((says x).1 both.1),
 )
-
-module _ {X Y : Type 0} (f : X → Y) where
-  pub mapped_from : (xs : List X) (y : Y) → Contains (map f xs) y → (x : X) × Contains xs x × (f x ≡ y)
-  mapped_from [] y (k, within, here) = absurd (omega arith)
-  mapped_from (x ∷ xs) y member = ⊎_elim
-      (λ here. (x, Contains-here x xs, here))
-      (λ later. let found = mapped_from xs y later in (found.0, Contains-later x found.0 xs found.1, found.2))
-      (Contains-cases (f x) y (map f xs) member)
-
-  pub there_mapped : (xs : List X) (x : X) → Contains xs x → Contains (map f xs) (f x)
-  there_mapped [] x (k, within, here) = absurd (omega arith)
-  there_mapped (z ∷ xs) x member = ⊎_elim
-      (λ here. subst (λ (y : X). Contains (map f (z ∷ xs)) (f y)) here (Contains-here (f z) (map f xs)))
-      (λ later. Contains-later (f z) (f x) (map f xs) (there_mapped xs x later))
-      (Contains-cases z x xs member)
 
 -- a name is among these
 pub name_says : (names : List (List ℕ)) (s : List ℕ) → Says (has_name names s) (Contains names s)

@@ -17,7 +17,7 @@ use Rattle.clr_rules.specs.Commands.{checks}
 use Rattle.clr_rules.specs.Checks.{earlier_moment, hold_hinders, held_by, in_hand, is_operator, no_step, other_hand, out_of_turn, unknown_caller, unknown_clearance, where_some, wrong_phase, wrong_role, wrong_state}
 use Rattle.clr_rules.specs.Command.{named_clearance}
 use Rattle.clr_rules.specs.Fences.{clearance_fence, touching_names}
-use Rattle.clr_rules.specs.Good.{IsGood, steps_left_of}
+use Rattle.clr_rules.specs.Good.{IsGoodAsSaid, OnlySwitchOrdersSwitch, steps_left_of}
 use Rattle.clr_rules.specs.Prelude.{Command, Hold, HeldOpen, Phase, Ordered, Restoring, Switching, PointState, Record, Refusal, StepRow, Id, same_id, Register, hand_of, state_key, record_of, is_running, is_standing, is_restoring}
 use Rattle.clr_rules.specs.Prelude.{is_done, is_some_step, is_waiting, points_of, present_steps, step_at, steps_in, steps_of, tasks_of, is_point_kind, has_hold, same_kind}
 use Rattle.clr_rules.specs.Holds.{first_hold, hindering_hold, hinders, is_near_hold}
@@ -68,7 +68,7 @@ running_restores _ runs second = cc runs
 step_point : (rows : List StepRow) (row : StepRow) → Contains rows row → has_name (points_of rows) row.step.point ≡ true
 step_point rows row there = has_name-row (λ (t : Task). t.point) (tasks_of rows) (task row.step) (there_mapped (λ (row : StepRow). task row.step) rows row there)
 
-module _ (R : Register) (good : IsGood R) (c : Id) (n : ℕ) (r : Record) (read : record_of R.records c ≡ Some r) (runs : is_running r.phase ≡ true)
+module _ (R : Register) (good : IsGoodAsSaid R) (switch : OnlySwitchOrdersSwitch R) (c : Id) (n : ℕ) (r : Record) (read : record_of R.records c ≡ Some r) (runs : is_running r.phase ≡ true)
     (s : FoundStep R c n) (waits : is_waiting s.row.step.state ≡ true) where
   -- in the first round of a standing order
   of_first : is_standing r.phase ≡ true → step_at (steps_in R.steps c 1) n ≡ Some s.row
@@ -98,7 +98,7 @@ module _ (R : Register) (good : IsGood R) (c : Id) (n : ℕ) (r : Record) (read 
   of_switch switching =
       let there = Contains-filter (λ (row : StepRow). same_id c row.id) R.steps s.row s.is_present.there
       (subst (λ (d : Id). same_id c d ≡ true) (sym s.is_present.own) (own_id c)) in
-      rw (read, good.switch_orders.switching c r read switching) (step_point (steps_of R.steps c) s.row there)
+      rw (read, switch c r read switching) (step_point (steps_of R.steps c) s.row there)
 
   by_phase : (b : Bool) → is_in_switching r.phase ≡ b
       → (has_name (touching_names R.net (has_name (clearance_fence R c))) s.row.step.point || has_name (switched_in R (Some c)) s.row.step.point) ≡ true
@@ -131,7 +131,7 @@ module _ (R : Register) (q : Command) (p : List ℕ) (beside : is_beside R (know
 
 -- ---- what is near is enough
 
-module _ (R : Register) (good : IsGood R) (by : List ℕ) (at : ℕ) (c : Id) (n : ℕ) where
+module _ (R : Register) (good : IsGoodAsSaid R) (switch : OnlySwitchOrdersSwitch R) (by : List ℕ) (at : ℕ) (c : Id) (n : ℕ) where
   abbrev given : Command
   given = record { caller = by; moment = at; kind = Instruct c n }
 
@@ -174,7 +174,7 @@ module _ (R : Register) (good : IsGood R) (by : List ℕ) (at : ℕ) (c : Id) (n
       let (r, read) = record_there R c clearance_passes in
       let s = step_there R c n step_passes in
       point_checks s.row s.found
-      (point_beside R good c n r read (phase_fits R c r is_running read phase_passes) s (state_fits R c n s is_waiting state_passes))
+      (point_beside R good switch c n r read (phase_fits R c r is_running read phase_passes) s (state_fits R c n s is_waiting state_passes))
 
   same_refusal : first_refusal (checks (known_of R given) R by at (Instruct c n)) ≡ first_refusal (checks (known_of R given) (near_part R given) by at (Instruct c n))
   same_refusal = first_after (early R) (at_point R) (at_point (near_part R given)) (λ h. ap first_refusal (same_point h))

@@ -6,7 +6,8 @@ use Rattle.std.proofs.lemmas.Bool.{false≢true}
 use Rattle.clr_net.specs.Grid.{Grid}
 use Rattle.clr_net.specs.Names.{has_name}
 use Rattle.clr_net.specs.declared.point.PointRow.{PointRow}
-use Rattle.clr_rules.specs.Fences.{touches, touching_names}
+use Rattle.clr_rules.specs.Fences.{touching_names}
+use Rattle.clr_net.specs.Fence.{touches}
 use Rattle.clr_rules.specs.Prelude.{Edit, SetPosition, SetHand, PutHold, TakeHold, Hold, Id, is_crew, is_point_kind, is_section_kind}
 use Rattle.clr_rules.specs.Holds.{is_near_hold, is_own}
 use Rattle.clr_rules.specs.MarkLaws.{HasEndIn, IsEditAmong, StandsAmong}

@@ -18,18 +18,16 @@ use Rattle.clr_shelf.proofs.Lists.{Contains-here, Contains-later}
 use Rattle.clr_shelf.specs.Rows.{row_of}
 use Rattle.clr_rules.specs.Answer.{answer, answer_with, first_refusal, known_of, answer_by_checks}
 use Rattle.clr_rules.specs.Commands.{checks, edits_of}
-use Rattle.clr_rules.specs.Changes.{new_record}
 use Rattle.clr_rules.specs.Checks.{refuse, too_many_clearances, unknown_caller, wrong_role, wrong_switching, is_charge, is_operator}
 use Rattle.clr_rules.specs.Command.{named_clearance}
 use Rattle.clr_rules.specs.Prelude.{Command, Kind, Hold, Requested, Record, Refusal, StepRow, Id, same_id, Register, greatest_number, record_of, steps_of, holds_of, after_edits}
-use Rattle.clr_rules.specs.Good.{IsGood, has_record}
+use Rattle.clr_rules.specs.Good.{IsGoodAsSaid, OnlySwitchOrdersSwitch, has_record}
 use Rattle.clr_rules.specs.Holds.{is_near_hold}
 use Rattle.clr_rules.specs.Near.{Near, is_beside, near_of, near_part}
 use Rattle.clr_rules.specs.OwnLaws.{SameOwn}
 use Rattle.clr_rules.specs.Refusals.{order_refusal}
 use Rattle.clr_rules.specs.declared.command.Kind.TheVariants.{Request, Switch}
 use Rattle.clr_rules.specs.declared.refusal.Refusal.TheVariants.{UnknownSection}
-use Rattle.clr_rules.proofs.good.GoodToPhases.{to_phases}
 use Rattle.clr_rules.proofs.lists.Filters.{filter-no_member, filter-nothing, kept_there, name_says}
 use Rattle.clr_rules.proofs.lists.NamedRows.{has_name-kept}
 use Rattle.clr_rules.proofs.near.NearOrder.{near_in_order}
@@ -52,12 +50,12 @@ none_of_none : (c : Id) → record_of [] c ≡ None
 unfolding row_of
 none_of_none c = refl
 
-module _ (R : Register) (good : IsGood R) (by : List ℕ) (at : ℕ) where
+module _ (R : Register) (good : IsGoodAsSaid R) (by : List ℕ) (at : ℕ) where
   abbrev new : Id
   new = record { requester = by; number = greatest_number R.records by + 1 }
 
   free : record_of R.records new ≡ None
-  free = next_is_free R (to_phases R good) by (new_record (greatest_number R.records by) by at None Requested) refl
+  free = next_is_free R by
 
   unrecorded : has_record R.records new ≡ false
   unrecorded = ap is_some free
@@ -163,20 +161,21 @@ module _ (R : Register) (good : IsGood R) (by : List ℕ) (at : ℕ) where
 
 -- ---- what is near is enough
 
-by_kind : (R : Register) → IsGood R → (by : List ℕ) (at : ℕ) (kind : Kind) (named : Option Id) → named_clearance kind ≡ named
+by_kind : (R : Register) → IsGoodAsSaid R → OnlySwitchOrdersSwitch R → (by : List ℕ) (at : ℕ) (kind : Kind) (named : Option Id) → named_clearance kind ≡ named
     → answer R (record { caller = by; moment = at; kind = kind })
     ≡ answer_with (known_of R (record { caller = by; moment = at; kind = kind })) (near_part R (record { caller = by; moment = at; kind = kind })) (record { caller = by; moment = at; kind = kind })
-by_kind R good by at (Request section) named is = request_is_enough R good by at section
-by_kind R good by at (Switch tasks) named is = switch_is_enough R good by at tasks
-by_kind R good by at kind (Some c) is = named_is_enough R (record { caller = by; moment = at; kind = kind }) c good is
-by_kind R good by at _ None is = cc is
+by_kind R good switches by at (Request section) named is = request_is_enough R good by at section
+by_kind R good switches by at (Switch tasks) named is = switch_is_enough R good by at tasks
+by_kind R good switches by at kind (Some c) is = named_is_enough R (record { caller = by; moment = at; kind = kind }) c good switches is
+by_kind R good switches by at _ None is = cc is
 
-pub near_is_enough : (R : Register) (q : Command) → IsGood R → answer R q ≡ answer_with (known_of R q) (near_part R q) q
-near_is_enough R q good = by_kind R good q.caller q.moment q.kind (named_clearance q.kind) refl
+pub near_is_enough : (R : Register) (q : Command) → IsGoodAsSaid R → OnlySwitchOrdersSwitch R → answer R q ≡ answer_with (known_of R q) (near_part R q) q
+near_is_enough R q good switches = by_kind R good switches q.caller q.moment q.kind (named_clearance q.kind) refl
 
 -- so registers with the same near part answer alike
-pub same_near_same_answer : (R S : Register) (q : Command) → IsGood R → IsGood S → near_of R q ≡ near_of S q → answer R q ≡ answer S q
-same_near_same_answer R S q R_good S_good same =
-    near_is_enough R q R_good
+pub same_near_same_answer : (R S : Register) (q : Command) → IsGoodAsSaid R → OnlySwitchOrdersSwitch R → IsGoodAsSaid S → OnlySwitchOrdersSwitch S
+    → near_of R q ≡ near_of S q → answer R q ≡ answer S q
+same_near_same_answer R S q R_good R_switch S_good S_switch same =
+    near_is_enough R q R_good R_switch
     ∙ ap (λ (near : Near). answer_with near.known near.rows q) same
-    ∙ sym (near_is_enough S q S_good)
+    ∙ sym (near_is_enough S q S_good S_switch)

@@ -13,7 +13,7 @@ use Rattle.clr_rules.specs.Answer.{answer, answer_with, first_refusal, known_of,
 use Rattle.clr_rules.specs.Commands.{checks}
 use Rattle.clr_rules.specs.Checks.{is_operator, refuse, where_some}
 use Rattle.clr_rules.specs.Fences.{order_fence, rows_of_fence}
-use Rattle.clr_rules.specs.Good.{IsGood}
+use Rattle.clr_rules.specs.Good.{IsGoodAsSaid, OnlySwitchOrdersSwitch}
 use Rattle.clr_rules.specs.Prelude.{Command, Kind, Hold, HoldKind, Phase, Requested, Granted, Record, Refusal, Id, same_id, Register, record_of, is_standing, is_granted, is_point_kind}
 use Rattle.clr_rules.specs.Prelude.{has_hold, holds_of}
 use Rattle.clr_rules.specs.Holds.{is_near_hold}
@@ -45,7 +45,7 @@ requested_not_granted Granted is = cc
 requested_not_granted _ is = refl
 
 -- a requested clearance has no hold
-module _ (R : Register) (c : Id) (good : IsGood R) (r : Record) (read : record_of R.records c ≡ Some r) (requested : is_requested r.phase ≡ true) where
+module _ (R : Register) (c : Id) (good : IsGoodAsSaid R) (r : Record) (read : record_of R.records c ≡ Some r) (requested : is_requested r.phase ≡ true) where
   no_hold_by : (kind : HoldKind) (place : List ℕ) → has_hold R.holds c kind place ≡ true → (b : Bool) → is_point_kind kind ≡ b → ⊥
   no_hold_by kind place has true at_point =
       let belongs = good.holds_are_put.standing c kind place at_point has in
@@ -66,7 +66,7 @@ module _ (R : Register) (c : Id) (good : IsGood R) (r : Record) (read : record_o
       filter-no_member (λ (h : Hold). same_id c h.id) (filter near R.holds) (λ h there. no_own_hold h (kept_there near R.holds h there).0)
       ∙ sym (filter-no_member (λ (h : Hold). same_id c h.id) R.holds no_own_hold)
 
-module _ (R : Register) (good : IsGood R) (by : List ℕ) (at : ℕ) (c : Id) (points : List (List ℕ)) (tasks : List Task) where
+module _ (R : Register) (good : IsGoodAsSaid R) (by : List ℕ) (at : ℕ) (c : Id) (points : List (List ℕ)) (tasks : List Task) where
   abbrev ordered : Command
   ordered = record { caller = by; moment = at; kind = Order c points tasks }
 
@@ -115,13 +115,13 @@ module _ (R : Register) (good : IsGood R) (by : List ℕ) (at : ℕ) (c : Id) (p
 
 -- ---- what is near is enough
 
-by_kind : (R : Register) → IsGood R → (by : List ℕ) (at : ℕ) (kind : Kind) (c : Id) → named_clearance kind ≡ Some c
+by_kind : (R : Register) → IsGoodAsSaid R → OnlySwitchOrdersSwitch R → (by : List ℕ) (at : ℕ) (kind : Kind) (c : Id) → named_clearance kind ≡ Some c
     → answer R (record { caller = by; moment = at; kind = kind })
     ≡ answer_with (known_of R (record { caller = by; moment = at; kind = kind })) (near_part R (record { caller = by; moment = at; kind = kind })) (record { caller = by; moment = at; kind = kind })
-by_kind R good by at (Order d points tasks) c named = order_is_enough R good by at d points tasks
-by_kind R good by at (Instruct d n) c named = giving_out_is_enough R good by at d n
-by_kind R good by at kind c named = near_is_enough_but_orders R (record { caller = by; moment = at; kind = kind }) c good named refl refl
+by_kind R good switch by at (Order d points tasks) c named = order_is_enough R good by at d points tasks
+by_kind R good switch by at (Instruct d n) c named = giving_out_is_enough R good switch by at d n
+by_kind R good switch by at kind c named = near_is_enough_but_orders R (record { caller = by; moment = at; kind = kind }) c good named refl refl
 
-pub named_is_enough : (R : Register) (q : Command) (c : Id) → IsGood R → named_clearance q.kind ≡ Some c
+pub named_is_enough : (R : Register) (q : Command) (c : Id) → IsGoodAsSaid R → OnlySwitchOrdersSwitch R → named_clearance q.kind ≡ Some c
     → answer R q ≡ answer_with (known_of R q) (near_part R q) q
-named_is_enough R q c good named = by_kind R good q.caller q.moment q.kind c named
+named_is_enough R q c good switch named = by_kind R good switch q.caller q.moment q.kind c named

@@ -10,8 +10,9 @@ use Rattle.clr_rules.specs.Commands.{Known, checks, edits_of}
 use Rattle.clr_rules.specs.Answer.{answer, answer_with, card_of, reply_clearance, fence_for, first_refusal, known_of, answer_by_checks, reply_of, reply_after, view_of}
 use Rattle.clr_rules.specs.Command.{named_clearance}
 use Rattle.clr_rules.specs.Prelude.{Edit, Command, Kind, Hold, Crew, PointState, Record, Refusal, Id, Register, record_of, is_done, present_steps, present_round, places_of, after_edits}
-use Rattle.clr_rules.specs.Fences.{touches, touching_names}
-use Rattle.clr_rules.specs.Good.{IsGood, ListsAreInOrder}
+use Rattle.clr_rules.specs.Fences.{touching_names}
+use Rattle.clr_net.specs.Fence.{touches}
+use Rattle.clr_rules.specs.Good.{IsGoodAsSaid, ListsAreInOrder}
 use Rattle.clr_rules.specs.Holds.{in_kind_order, is_near_hold, is_own}
 use Rattle.clr_rules.specs.Near.{is_beside, near_part}
 use Rattle.clr_rules.specs.NearLaws.{is_order}
@@ -188,7 +189,7 @@ show_settled R by at c same (Some refusal) = refl
 
 -- ---- what is near is enough
 
-module _ (R : Register) (good : IsGood R) (by : List ℕ) (at : ℕ) where
+module _ (R : Register) (good : IsGoodAsSaid R) (by : List ℕ) (at : ℕ) where
   abbrev asked : Kind → Command
   asked kind = record { caller = by; moment = at; kind = kind }
 
@@ -207,6 +208,6 @@ module _ (R : Register) (good : IsGood R) (by : List ℕ) (at : ℕ) where
       ∙ ap (λ list. answer_by_checks (known_of R (asked (Show d))) (near_part R (asked (Show d))) (asked (Show d)) (first_refusal list)) (near_checks (Show d) d refl refl refl)
   by_kind _ c named no_order no_instruct true show = cc show
 
-pub near_is_enough_but_orders : (R : Register) (q : Command) (c : Id) → IsGood R → named_clearance q.kind ≡ Some c → is_order q.kind ≡ false → is_instruct q.kind ≡ false
+pub near_is_enough_but_orders : (R : Register) (q : Command) (c : Id) → IsGoodAsSaid R → named_clearance q.kind ≡ Some c → is_order q.kind ≡ false → is_instruct q.kind ≡ false
     → answer R q ≡ answer_with (known_of R q) (near_part R q) q
 near_is_enough_but_orders R q c good named no_order no_instruct = by_kind R good q.caller q.moment q.kind c named no_order no_instruct (is_show q.kind) refl

@@ -14,7 +14,7 @@ use Rattle.clr_order.proofs.Finds.{found_passes}
 use Rattle.clr_rules.specs.Answer.{fence_for, known_of}
 use Rattle.clr_rules.specs.Command.{named_clearance}
 use Rattle.clr_rules.specs.Fences.{clearance_fence, touching_names}
-use Rattle.clr_rules.specs.Good.{IsGood, IsSoundFor}
+use Rattle.clr_rules.specs.Good.{IsGoodAsSaid, IsSoundFor}
 use Rattle.clr_rules.specs.Prelude.{Command, Hold, HoldKind, Tested, Ground, Crew, Phase, Requested, Switching, Closed, Record, StepRow, Id, same_id, Register}
 use Rattle.clr_rules.specs.Prelude.{record_of, is_standing, points_of, steps_in, tasks_of, is_crew, is_point_kind, is_section_kind, has_hold, holds_of, first_of_each}
 use Rattle.clr_rules.specs.Holds.{is_near_hold, is_own}
@@ -58,7 +58,7 @@ standing_is_fenced Switching is = cc
 standing_is_fenced Closed is = cc
 standing_is_fenced _ is = refl
 
-module _ (R : Register) (c : Id) (good : IsGood R) where
+module _ (R : Register) (c : Id) (good : IsGoodAsSaid R) where
   -- a section in the fence of a standing order is among those of the clearance's fence
   standing_fence : (r : Record) → record_of R.records c ≡ Some r → is_standing r.phase ≡ true → (work : List ℕ) → r.work ≡ Some work
       → (s : List ℕ) → in_fence R.net work (first_of_each (points_of (steps_in R.steps c 1))) s ≡ true → has_name (clearance_fence R c) s ≡ true
@@ -126,7 +126,7 @@ kind_cases Ground = inr (inl refl)
 kind_cases Crew = inr (inr refl)
 kind_cases _ = inl refl
 
-module _ (R : Register) (q : Command) (c : Id) (good : IsGood R) (named : named_clearance q.kind ≡ Some c) (no_order : is_order q.kind ≡ false) where
+module _ (R : Register) (q : Command) (c : Id) (good : IsGoodAsSaid R) (named : named_clearance q.kind ≡ Some c) (no_order : is_order q.kind ≡ false) where
   own_hold_near : (h : Hold) → Contains R.holds h → same_id c h.id ≡ true
       → is_near_hold (has_name (fence_for R q.kind)) (is_beside R (known_of R q) q.kind) (named_clearance q.kind) h ≡ true
   own_hold_near h there own = ⊎_elim

@@ -4,7 +4,7 @@ use Rattle.std.specs.List.{filter}
 use Rattle.clr_shelf.proofs.Lists.{filter-filter_wider}
 use Rattle.clr_rules.specs.Agreement.{Agree}
 use Rattle.clr_rules.specs.Command.{named_clearance}
-use Rattle.clr_rules.specs.Good.{IsGood}
+use Rattle.clr_rules.specs.Good.{IsGoodAsSaid}
 use Rattle.clr_rules.specs.Prelude.{Command, StepRow, Id, same_id, Register, steps_of}
 use Rattle.clr_rules.specs.Near.{near_part}
 use Rattle.clr_rules.specs.NearLaws.{is_order}
@@ -25,7 +25,7 @@ agreeing_have_same c inside R S agree = record {
   own_holds = agree.own_holds;
 }
 
-pub near_has_own : (R : Register) (q : Command) (c : Id) → IsGood R → named_clearance q.kind ≡ Some c → is_order q.kind ≡ false → SameOwn c R (near_part R q)
+pub near_has_own : (R : Register) (q : Command) (c : Id) → IsGoodAsSaid R → named_clearance q.kind ≡ Some c → is_order q.kind ≡ false → SameOwn c R (near_part R q)
 near_has_own R q c good named no_order = record {
   staff = refl;
   own_record = sym (rw named (record_of-own R.records c));

@@ -8,4 +8,4 @@ pub returns : goal.returns
 returns c R commands id q reached others =
     let here = after_all R commands in
     let good = reached_are_good here (reached_go_on R reached commands) in
-    (others_spare here id q good others, others_keep_held_open here id q good others)
+    (others_spare here id q good.said others, others_keep_held_open here id q good.said others)
