@@ -2,12 +2,12 @@
 use Rattle.std.proofs.Common.{◌≡◌, ◌∙◌, ◌||◌, List, [], ◌∷◌, ℕ, Some, filter, map, refl, ap}
 use Rattle.std.specs.List.Sorted.{IsStrictlySortedBy}
 use Rattle.clr_net.proofs.Walks.{same_tests}
-use Rattle.clr_net.specs.Fence.{FenceRows, fence_of, in_fence}
+use Rattle.clr_net.specs.Fence.{FenceRows, fence_of, in_fence, touches}
 use Rattle.clr_net.specs.Grid.{Grid, IsNetwork, point_names, section_names}
 use Rattle.clr_net.specs.Name.{name_cmp}
 use Rattle.clr_net.specs.Names.{has_name}
 use Rattle.clr_net.specs.declared.point.PointRow.{PointRow}
-use Rattle.clr_rules.specs.Fences.{touches, touching_names, work_fence}
+use Rattle.clr_rules.specs.Fences.{touching_names, work_fence}
 use Rattle.clr_rules.specs.Register.{unplaced_net}
 use Rattle.clr_rules.proofs.live.FenceCuts.{in_fence_from_named, named_from_in_fence}
 use Rattle.clr_book.proofs.NearFacts.{touching_are}

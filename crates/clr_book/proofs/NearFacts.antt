@@ -2,8 +2,8 @@
 use Rattle.std.proofs.Common.{◌≡◌, ◌∙◌, ◌==◌, ◌&&◌, ◌||◌, ℕ, zero, suc, Bool, true, Some, ◌++◌, List, [], ◌∷◌, map, filter, length, refl, sym, ap}
 use Rattle.std.proofs.lemmas.Bool.{and_parts}
 use Rattle.std.proofs.lemmas.List.Folds.{list_any-append}
-use Rattle.clr_net.specs.Fence.{FenceRows, fence_of, in_fence, leads, reaches}
-use Rattle.clr_net.specs.Grid.{Grid, point_names, section_names}
+use Rattle.clr_net.specs.Fence.{FenceRows, fence_of, in_fence, leads, reaches, touches}
+use Rattle.clr_net.specs.Grid.{Grid, point_names, section_names, unplaced}
 use Rattle.clr_net.specs.Name.{same_name}
 use Rattle.clr_net.specs.Names.{has_name}
 use Rattle.clr_net.specs.declared.point.PointRow.{PointRow}
@@ -14,12 +14,12 @@ use Rattle.clr_rules.specs.GoodByPhase.{of_round}
 use Rattle.clr_rules.specs.Id.{Id, same_id}
 use Rattle.clr_order.specs.Step.{task, task_points}
 use Rattle.clr_order.specs.declared.step.Step.{Step}
-use Rattle.clr_rules.specs.Fences.{touches, touching_names}
+use Rattle.clr_rules.specs.Fences.{touching_names}
 use Rattle.clr_rules.specs.Near.{Near, is_beside, switched_points, switched_in}
 use Rattle.clr_rules.specs.Records.{is_switch_order, record_of}
 use Rattle.clr_rules.specs.declared.command.Command.{Command}
 use Rattle.clr_rules.specs.declared.record.Record.{Record}
-use Rattle.clr_rules.specs.Register.{Register, unplaced, unplaced_net}
+use Rattle.clr_rules.specs.Register.{Register, unplaced_net}
 use Rattle.clr_rules.specs.Steps.{points_of, steps_in, steps_of}
 use Rattle.clr_rules.specs.declared.step_row.StepRow.{StepRow}
 use Rattle.clr_rules.proofs.lists.NamedRows.{list_any-map}

@@ -1,8 +1,8 @@
 -- The check of an isolating order does not look at positions.
 use Rattle.std.proofs.Common.{◌≡◌, ◌∙◌, ℕ, Bool, true, false, not, List, [], ◌∷◌, map, filter, find, Option, None, Some, refl, sym, ap}
 use Rattle.std.specs.Option.{option_map}
-use Rattle.clr_net.specs.Fence.{FenceRows}
-use Rattle.clr_net.specs.Grid.{Grid}
+use Rattle.clr_net.specs.Fence.{FenceRows, touches}
+use Rattle.clr_net.specs.Grid.{Grid, unplaced}
 use Rattle.clr_net.specs.Name.{same_name}
 use Rattle.clr_net.specs.Names.{has_name}
 use Rattle.clr_net.specs.declared.point.PointRow.{PointRow}
@@ -12,9 +12,8 @@ use Rattle.clr_order.specs.OrderFault.{answer_of}
 use Rattle.clr_order.specs.Step.{Task, actions_at, same_actions}
 use Rattle.clr_order.specs.declared.action.Action.{Action}
 use Rattle.clr_order.specs.declared.order_fault.OrderFault.{OrderFault}
-use Rattle.clr_rules.specs.Fences.{rows_of_fence, touches}
+use Rattle.clr_rules.specs.Fences.{rows_of_fence}
 use Rattle.clr_rules.specs.Refusals.{order_refusal}
-use Rattle.clr_rules.specs.Register.{unplaced}
 use Rattle.clr_book.specs.Orders.{refusal_of}
 
 -- what is told of a first refusal is that refusal

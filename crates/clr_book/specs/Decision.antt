@@ -26,7 +26,7 @@ abbrev pub near_edits : Near → List ℕ → ℕ → Kind → List Edit
 near_edits near by at kind = edits_of near.known.greatest near.rows by at kind
 
 abbrev pub answer_of_decision : Decision → Answer
-answer_of_decision d = record { reply = d.reply; edits = d.change.edits }
+answer_of_decision d = record { reply = d.reply; edits = d.change.edits.items }
 
 -- the edits that end with a record and steps of it
 abbrev pub all_edits : List Edit → Record → List StepRow → List Edit
@@ -46,7 +46,7 @@ is_accepted _ = false
 
 -- a command that is refused, or is shown what it asks for, changes nothing
 abbrev pub ChangesIfAccepted : Decision → Type 0
-ChangesIfAccepted d = is_accepted d.reply ≡ false → d.change.edits ≡ []
+ChangesIfAccepted d = is_accepted d.reply ≡ false → d.change.edits.items ≡ []
 
 -- whether a command only asks
 abbrev pub is_question : Kind → Bool

@@ -135,11 +135,11 @@ impl<P: Shelf<PointState>, C: Shelf<Record>, T: Shelf<StepRow>, H: Shelf<Hold>> 
     pub fn reserve(&mut self, change: &Change) -> Result<(), AllocError>
         ensures register { self.new.register ≡ self.old.register }
         ensures network { self.new.network ≡ self.old.network }
-        ensures room { OnOk result (Fits (needs change.now.edits) self.new.room) }
+        ensures room { OnOk result (Fits (needs change.now.edits.items) self.new.room) }
         ensures kept { Fits self.old.room self.new.room }
-        ensures succeeds { Fits (needs change.now.edits) self.old.room → IsOk result }
+        ensures succeeds { Fits (needs change.now.edits.items) self.old.room → IsOk result }
     {
-        let puts = puts_of(change.edits.as_slice());
+        let puts = puts_of(&change.edits);
         self.records.reserve(puts.records)?;
         self.steps.reserve(puts.steps)?;
         self.holds.reserve(puts.holds)?;
@@ -148,11 +148,11 @@ impl<P: Shelf<PointState>, C: Shelf<Record>, T: Shelf<StepRow>, H: Shelf<Hold>> 
 
     /// Makes a change, in the room that `reserve` made for it.
     pub fn apply(&mut self, change: Change)
-        requires { Fits (needs change.edits) self.old.room }
-        ensures register { self.new.register ≡ after_edits change.edits self.old.register }
+        requires { Fits (needs change.edits.items) self.old.room }
+        ensures register { self.new.register ≡ after_edits change.edits.items self.old.register }
         ensures network { self.new.network ≡ self.old.network }
     {
-        for edit in change.edits.as_slice() {
+        for edit in &change.edits {
             self.make(edit);
         }
     }

@@ -8,7 +8,7 @@ ghost use Rattle.clr_book.specs.Effect.{IsOf};
 use crate::card::{card_with, progress_with};
 use crate::effect::Effect;
 use crate::near::Near;
-use clr_rules::{Change, Edit, Edits, Record, Refusal, Reply, StepRow, View};
+use clr_rules::{Change, Edit, Record, Refusal, Reply, StepRow, View};
 use std::alloc::{AllocError, Global};
 
 /// What a command is answered, and what it changes.
@@ -27,7 +27,7 @@ pub(crate) fn refused(alloc: Global, refusal: Refusal) -> Decision
     Decision {
         reply: Reply::Refused(refusal),
         change: Change {
-            edits: Edits::new(Vec::new(alloc)),
+            edits: Vec::new(alloc),
         },
     }
 }
@@ -40,7 +40,7 @@ pub(crate) fn shown(alloc: Global, view: View) -> Decision
     Decision {
         reply: Reply::Shown(view),
         change: Change {
-            edits: Edits::new(Vec::new(alloc)),
+            edits: Vec::new(alloc),
         },
     }
 }
@@ -69,8 +69,6 @@ pub(crate) fn accept(near: &Near, effect: Effect) -> Result<Decision, AllocError
     let all = end(effect.lead, effect.clearance, &effect.steps)?;
     Ok(Decision {
         reply: Reply::Accepted(card),
-        change: Change {
-            edits: Edits::new(all),
-        },
+        change: Change { edits: all },
     })
 }

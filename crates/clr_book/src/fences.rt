@@ -3,7 +3,7 @@ ghost use Rattle.std.specs.Prelude.{◌≡◌, ◌++◌, IfOk, filter, map};
 ghost use Rattle.std.specs.List.Sorted.{IsStrictlySortedBy};
 ghost use Rattle.clr_net.specs.Name.{name_cmp};
 ghost use Rattle.clr_net.specs.Names.{has_name};
-ghost use Rattle.clr_rules.specs.Fences.{touches};
+ghost use Rattle.clr_net.specs.Fence.{touches};
 ghost use Rattle.clr_rules.specs.Holds.{is_near_hold, is_own};
 
 use crate::near::names::is_among;

@@ -2,7 +2,7 @@
 ghost use Rattle.std.specs.Prelude.{◌≡◌, false, IfOk, None};
 ghost use Rattle.clr_rules.specs.Answer.{answer, answer_with, reply_clearance};
 ghost use Rattle.clr_rules.specs.Command.{named_clearance};
-ghost use Rattle.clr_rules.specs.Good.{IsGood};
+ghost use Rattle.clr_rules.specs.Good.{IsGoodAsSaid, OnlySwitchOrdersSwitch};
 ghost use Rattle.clr_rules.specs.Near.{near_of};
 ghost use Rattle.clr_rules.specs.Register.{Register};
 ghost use Rattle.clr_book.specs.Decision.{ChangesIfAccepted, answer_of_decision, is_question};
@@ -45,7 +45,8 @@ use std::alloc::AllocError;
 pub fn decide(near: &Near, command: &Command) -> Result<Decision, AllocError>
     ensures lent { IfOk result (λ d.
         answer_with near.now.known near.now.rows command.now ≡ answer_of_decision d) }
-    ensures whole { (R : Register) → IsGood R → near_of R command.now ≡ near.now
+    ensures whole { (R : Register) → IsGoodAsSaid R → OnlySwitchOrdersSwitch R
+        → near_of R command.now ≡ near.now
         → IfOk result (λ d. answer R command.now ≡ answer_of_decision d) }
     ensures nothing { IfOk result ChangesIfAccepted }
 {

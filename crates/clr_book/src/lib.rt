@@ -16,9 +16,9 @@ mod view;
 
 pub use book::Book;
 pub use clr_rules::{
-    Card, Change, ClearanceId, Command, Edit, Edits, Hold, HoldGroup, HoldKind, Holds, IdFault,
-    Items, Kind, MAX_CLEARANCE_NUMBER, MAX_MOMENT, Moment, Names, Phase, PointState, PointStates,
-    Record, Refusal, Reply, StepKey, StepRow, Steps, Tasks, Text, View,
+    Card, Change, ClearanceId, Command, Edit, Hold, HoldGroup, HoldKind, Holds, IdFault, Items,
+    Kind, MAX_CLEARANCE_NUMBER, MAX_MOMENT, Moment, Names, Phase, PointState, PointStates, Record,
+    Refusal, Reply, StepKey, StepRow, Steps, Tasks, Text, View,
 };
 pub use decision::Decision;
 pub use kinds::decide;

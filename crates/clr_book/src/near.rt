@@ -38,14 +38,13 @@ pub struct Near<'a> {
 impl<'a> Model for Near<'a> {
     ghost use Rattle.std.specs.Prelude.{◌≡◌, ◌≤◌, true, map};
     ghost use Rattle.std.specs.List.Sorted.{IsStrictlySortedBy};
-    ghost use Rattle.clr_net.specs.Grid.{point_names, section_names};
+    ghost use Rattle.clr_net.specs.Grid.{point_names, section_names, unplaced};
     ghost use Rattle.clr_net.specs.Name.{name_cmp};
     ghost use Rattle.clr_rules.specs.Hold.{hold_cmp};
     ghost use Rattle.clr_rules.specs.Holds.{hold_key};
     ghost use Rattle.clr_rules.specs.Id.{id_cmp};
     ghost use Rattle.clr_rules.specs.Near.{Near};
     ghost use Rattle.clr_rules.specs.Records.{record_key};
-    ghost use Rattle.clr_rules.specs.Register.{unplaced};
     ghost use Rattle.clr_rules.specs.States.{state_key};
     ghost use Rattle.clr_shelf.specs.Rows.{in_key_order};
 

@@ -4,10 +4,11 @@ ghost use Rattle.std.specs.List.Sorted.{IsStrictlySortedBy};
 ghost use Rattle.clr_net.specs.Name.{name_cmp};
 ghost use Rattle.clr_net.specs.Names.{has_name};
 ghost use Rattle.clr_rules.specs.Answer.{card_of, view_of};
-ghost use Rattle.clr_rules.specs.Fences.{touches, touching_names};
+ghost use Rattle.clr_rules.specs.Fences.{touching_names};
+ghost use Rattle.clr_net.specs.Fence.{touches};
 ghost use Rattle.clr_rules.specs.Holds.{in_kind_order, is_near_hold, of_kinds, places_of};
 ghost use Rattle.clr_rules.specs.Holds.{same_kind};
-ghost use Rattle.clr_rules.specs.Register.{unplaced};
+ghost use Rattle.clr_net.specs.Grid.{unplaced};
 ghost use Rattle.clr_rules.specs.Steps.{present_steps, steps_in};
 ghost use Rattle.clr_rules.specs.declared.hold_kind.HoldKind.TheVariants as hold_kinds;
 

@@ -10,7 +10,10 @@ pub(crate) fn all_rows<R: Row, S: Shelf<R>>(alloc: Global, shelf: &S) -> Result<
 {
     let mut found = Vec::new(alloc);
     for place in 0..shelf.len() {
-        found.push(shelf.at(place))?;
+        let Some(row) = shelf.at(place) else {
+            unreachable!()
+        };
+        found.push(row)?;
     }
     found.sort_unstable_by(|a, b| a.compare_key(&b.key()));
     Ok(found)

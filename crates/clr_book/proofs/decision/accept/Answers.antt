@@ -11,8 +11,8 @@ returns-clause-answer c =
     let R = c.args.near.now.rows in
     let e = c.args.effect in
     let r = e.clearance in
-    card_is R e.lead.items r e.steps.items c.progress_with-progress.result c.new.result c.card_with-card.result
+    card_is R e.lead.items r e.steps.items c.progress_with-progress.result c.in_ok-all.all.items c.card_with-card.result
     (steps_stay e.lead.items R c.requires.lead)
     (c.progress_with-progress.ensures ∙ ap (λ (rows : List StepRow). progress_of (put_all rows R.steps) r.id) c.deref.ensures.value)
-    (c.new.ensures ∙ c.in_ok-all.ensures ∙ ap (all_edits e.lead.items r) c.deref-2.ensures.value)
+    (c.in_ok-all.ensures ∙ ap (all_edits e.lead.items r) c.deref-2.ensures.value)
     c.card_with-card.ensures

@@ -2,7 +2,7 @@ use Rattle.std.proofs.Common.{◌≡◌, ◌∙◌, ◌+◌, ◌++◌, [], ◌�
 use Rattle.std.proofs.Common.{List, Vec, ap, drop, refl, sym, map, filter}
 use Rattle.std.proofs.lemmas.List.{map-append}
 use Rattle.clr_net.specs.Names.{has_name}
-use Rattle.clr_rules.specs.Fences.{touches}
+use Rattle.clr_net.specs.Fence.{touches}
 use Rattle.clr_net.specs.declared.point.PointRow.{PointRow}
 use Rattle.clr_book.proofs.RowLoops.{kept_more, passed_over}
 use Rattle.clr_book.proofs.fences.touching_points.Goals as goal

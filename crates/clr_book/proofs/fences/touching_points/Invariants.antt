@@ -1,6 +1,6 @@
 use Rattle.std.proofs.Common.{◌≡◌, ◌++◌, map, filter, drop}
 use Rattle.clr_net.specs.Names.{has_name}
-use Rattle.clr_rules.specs.Fences.{touches}
+use Rattle.clr_net.specs.Fence.{touches}
 use Rattle.clr_book.proofs.fences.touching_points.Given as goal
 
 -- the rows so far, and those that are left, are all

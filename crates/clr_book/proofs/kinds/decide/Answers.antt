@@ -5,5 +5,5 @@ use Rattle.clr_rules.proofs.near.NewAnswers.{near_is_enough}
 use Rattle.clr_book.proofs.kinds.decide.Goals as goal
 
 pub returns-clause-whole : goal.returns-clause-whole
-returns-clause-whole c R good lent =
-    near_is_enough R c.args.command.now good ∙ ap (λ (near : Near). answer_with near.known near.rows c.args.command.now) lent ∙ c.in_ok-decision.ensures.answer
+returns-clause-whole c R good switch lent =
+    near_is_enough R c.args.command.now good switch ∙ ap (λ (near : Near). answer_with near.known near.rows c.args.command.now) lent ∙ c.in_ok-decision.ensures.answer

@@ -1,9 +1,9 @@
 use Rattle.std.proofs.Common.{◌≡◌, ◌∙◌, ◌+◌, ◌++◌, [], ◌∷◌, true, false, Bor, Global}
 use Rattle.std.proofs.Common.{List, Vec, ap, drop, refl, sym, map, filter}
-use Rattle.clr_net.specs.Grid.{point_names}
+use Rattle.clr_net.specs.Grid.{point_names, unplaced}
 use Rattle.clr_net.specs.Names.{has_name}
-use Rattle.clr_rules.specs.Fences.{touches, touching_names}
-use Rattle.clr_rules.specs.Register.{unplaced}
+use Rattle.clr_rules.specs.Fences.{touching_names}
+use Rattle.clr_net.specs.Fence.{touches}
 use Rattle.clr_net.specs.declared.name.Name.{Name}
 use Rattle.clr_net.specs.declared.point.PointRow.{PointRow}
 use Rattle.clr_book.proofs.RowLoops.{kept_more, passed_over}

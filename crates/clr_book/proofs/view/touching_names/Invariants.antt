@@ -1,8 +1,8 @@
 use Rattle.std.proofs.Common.{◌≡◌, ◌++◌, map, drop, filter}
-use Rattle.clr_net.specs.Grid.{point_names}
+use Rattle.clr_net.specs.Grid.{point_names, unplaced}
 use Rattle.clr_net.specs.Names.{has_name}
-use Rattle.clr_rules.specs.Fences.{touches, touching_names}
-use Rattle.clr_rules.specs.Register.{unplaced}
+use Rattle.clr_rules.specs.Fences.{touching_names}
+use Rattle.clr_net.specs.Fence.{touches}
 use Rattle.clr_book.proofs.view.touching_names.Given as goal
 
 abbrev pub invariant-loop-point : goal.invariant-loop-point

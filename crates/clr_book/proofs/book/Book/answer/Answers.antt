@@ -11,7 +11,7 @@ returns-clause-lent g c =
 
 pub returns-clause-whole : goal.returns-clause-whole
 returns-clause-whole g c good =
-    c.in_ok-decision.ensures.whole c.args.self.now.register good (sym c.in_ok-near.ensures)
+    c.in_ok-decision.ensures.whole c.args.self.now.register good.said good.besides.switch_orders.switching (sym c.in_ok-near.ensures)
 
 pub returns-clause-nothing : goal.returns-clause-nothing
 returns-clause-nothing g c = c.in_ok-decision.ensures.nothing

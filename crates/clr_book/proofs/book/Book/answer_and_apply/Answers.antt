@@ -14,7 +14,7 @@ returns-clause-good g c good =
     let d = c.in_ok-decision.decision in
     let made : after R q ≡ c.apply.new.self.register =
     ap (λ (a : Answer). after_edits a.edits R) (c.in_ok-decision.ensures.whole good)
-    ∙ ap (after_edits d.change.edits) (sym c.in_ok-reserve.ensures.register) ∙ sym c.apply.ensures.register in
+    ∙ ap (after_edits d.change.edits.items) (sym c.in_ok-reserve.ensures.register) ∙ sym c.apply.ensures.register in
     subst IsGood made (commands_keep_good R q good)
 
 pub returns-clause-nothing : goal.returns-clause-nothing

@@ -8,18 +8,18 @@ use Rattle.clr_book.proofs.book.Book.apply.Goals as goal
 
 pub loop-edit-preserved : goal.loop-edit-preserved
 loop-edit-preserved g c =
-    let edits = c.args.change.edits in
+    let edits = c.args.change.edits.items in
     let i = c.loop-edit.edit-index in
     let edit = c.edit-item.result in
     let step : drop i edits ≡ edit ∷ drop (i + 1) edits =
-    drop_step c.as_slice-edit-items.result.now edits i edit c.as_slice-edit-items.ensures c.edit-item.is c.loop-edit-test.true in
+    drop_step c.deref-edit-items.result.now edits i edit c.deref-edit-items.ensures.value c.edit-item.is c.loop-edit-test.true in
     let made = edit_step edit (drop (i + 1) edits) c.loop-edit.self c.make.new.self
     (subst (λ (left : List Edit). Fits (needs left) c.loop-edit.self.room) step c.loop-edit.invariant.0) c.make.ensures.room c.make.ensures.register in
     (made.0, c.make.ensures.network ∙ c.loop-edit.invariant.1, made.1 ∙ ap (λ left. after_edits left c.loop-edit.self.register) (sym step) ∙ c.loop-edit.invariant.2)
 
 pub returns-clause-register : goal.returns-clause-register
 returns-clause-register g c =
-    let edits = c.args.change.edits in
-    let none = drop_all c.loop-edit.edit-index c.as_slice-edit-items.result.now c.loop-edit-test.false in
+    let edits = c.args.change.edits.items in
+    let none = drop_all c.loop-edit.edit-index c.deref-edit-items.result.now c.loop-edit-test.false in
     sym (edits_end c.loop-edit.self.register)
-    ∙ ap (λ left. after_edits left c.loop-edit.self.register) (sym none ∙ ap (drop c.loop-edit.edit-index) c.as_slice-edit-items.ensures) ∙ c.loop-edit.invariant.2
+    ∙ ap (λ left. after_edits left c.loop-edit.self.register) (sym none ∙ ap (drop c.loop-edit.edit-index) c.deref-edit-items.ensures.value) ∙ c.loop-edit.invariant.2

@@ -6,5 +6,5 @@ use Rattle.clr_book.proofs.book.Book.apply.Given as goal
 -- the edits that are left fit the room, and end where all edits would have
 abbrev pub invariant-loop-edit : goal.invariant-loop-edit
 invariant-loop-edit g l =
-    Fits (needs (drop l.edit-index l.fn.change.edits)) l.self.room
-    × (l.self.network ≡ l.fn.self.network) × (after_edits (drop l.edit-index l.fn.change.edits) l.self.register ≡ after_edits l.fn.change.edits l.fn.self.register)
+    Fits (needs (drop l.edit-index l.fn.change.edits.items)) l.self.room
+    × (l.self.network ≡ l.fn.self.network) × (after_edits (drop l.edit-index l.fn.change.edits.items) l.self.register ≡ after_edits l.fn.change.edits.items l.fn.self.register)

@@ -12,7 +12,7 @@ use Rattle.clr_rules.specs.Holds.{hold_key, is_near_hold, is_own}
 use Rattle.clr_rules.specs.Id.{Id, id_cmp, id_cmp_total}
 use Rattle.clr_rules.specs.Near.{is_asked, is_beside, near_part, switched_points}
 use Rattle.clr_rules.specs.Records.{record_key}
-use Rattle.clr_rules.specs.Register.{unplaced}
+use Rattle.clr_net.specs.Grid.{unplaced}
 use Rattle.clr_rules.specs.States.{state_key}
 use Rattle.clr_shelf.proofs.KeyOrder.{in_key_order-filter}
 use Rattle.clr_book.specs.Book.{Shelved}

@@ -18,7 +18,7 @@ returns-clause-sections g c =
     let N = c.self.inside.network in
     rw c.in-Some.is
     (c.in_ok-sections.ensures ∙ names_shown (λ (row : Bor SectionRow). row.now) c.sections.result.now
-    ∙ ap section_names (c.sections.ensures.rows ∙ ap FenceRows.sections c.in_ok-fence.ensures ∙ fence_unplaced N c.in-Some.work c.args.cut.now)
+    ∙ ap section_names (c.sections.ensures.rows ∙ ap FenceRows.sections c.in_ok-fence.ensures.rows ∙ fence_unplaced N c.in-Some.work c.args.cut.now)
     ∙ ap (λ (v : Shelved). section_names (FenceRows.sections (fence_of v.register.net c.in-Some.work c.args.cut.now))) c.self.view_is)
 
 pub returns-clause-touching : goal.returns-clause-touching
@@ -27,9 +27,9 @@ returns-clause-touching g c =
     let rows = fence_of N c.in-Some.work c.args.cut.now in
     let sections : c.in_ok-sections.sections.items ≡ section_names (FenceRows.sections rows) =
     c.in_ok-sections.ensures ∙ names_shown (λ (row : Bor SectionRow). row.now) c.sections.result.now
-    ∙ ap section_names (c.sections.ensures.rows ∙ ap FenceRows.sections c.in_ok-fence.ensures) in
+    ∙ ap section_names (c.sections.ensures.rows ∙ ap FenceRows.sections c.in_ok-fence.ensures.rows) in
     c.in_ok-touching.ensures ∙ point_names_shown (λ (row : Bor PointRow). row.now) c.touching.result.now
-    ∙ ap point_names (c.touching.ensures.rows ∙ ap FenceRows.touching c.in_ok-fence.ensures)
+    ∙ ap point_names (c.touching.ensures.rows ∙ ap FenceRows.touching c.in_ok-fence.ensures.rows)
     ∙ touching_lent N c.points-points.ensures.network c.in-Some.work c.args.cut.now
     ∙ ap (λ (names : List (List ℕ)). touching_names (unplaced_net N) (has_name names)) (sym sections)
     ∙ ap (λ (v : Shelved). touching_names v.register.net (has_name c.in_ok-sections.sections.items)) c.self.view_is

@@ -1,4 +1,4 @@
-use Rattle.std.proofs.Common.{◌≡◌, ◌∙◌, ◌++◌, ◌∷◌, [], List, map, sym, ap, rules, subst, take, Bor}
+use Rattle.std.proofs.Common.{◌≡◌, ◌∙◌, ◌++◌, ◌∷◌, [], List, map, sym, ap, rules, subst, take, Bor, slice_get, Some, option_copied}
 use Rattle.std.specs.List.Sorted.{IsPermutation, IsSortedByKey}
 use Rattle.std.specs.Ordering.{is_lt}
 use Rattle.std.proofs.lemmas.Fn.{always_returns_same}
@@ -12,12 +12,13 @@ pub loop-place-preserved : goal.loop-place-preserved
 loop-place-preserved g c =
     let places = g.S.Shelf.places c.args.shelf.now in
     let i = c.loop-place.place in
-    let row = c.at.result.now in
+    let row = c.in-Some.row.now in
+    let found : slice_get places i ≡ Some row = sym (sym (ap option_copied c.in-Some.is) ∙ c.at.ensures) in
     ap (map (λ found. found.now)) c.in_ok-push.ensures.items
-    ∙ map-append (λ found. found.now) c.loop-place.found.items (c.at.result ∷ [])
+    ∙ map-append (λ found. found.now) c.loop-place.found.items (c.in-Some.row ∷ [])
     ∙ ap (λ (rows : List g.row.R.Denot). rows ++ row ∷ []) c.loop-place.invariant
-    ∙ ap (λ (next : g.row.R.Denot). take i places ++ next ∷ []) (sym (get_or_from_slice_get places i row row c.at.ensures))
-    ∙ sym (take_more places i row (slice_get_within places i row c.at.ensures))
+    ∙ ap (λ (next : g.row.R.Denot). take i places ++ next ∷ []) (sym (get_or_from_slice_get places i row row found))
+    ∙ sym (take_more places i row (slice_get_within places i row found))
 
 pub returns : goal.returns
 returns g c =

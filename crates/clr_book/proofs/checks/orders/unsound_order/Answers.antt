@@ -1,6 +1,6 @@
 use Rattle.std.proofs.Common.{◌≡◌, ◌∙◌, ℕ, sym, ap, map, filter, subst, Bor, List}
 use Rattle.std.specs.List.Sorted.{IsStrictlySortedBy}
-use Rattle.clr_net.specs.Fence.{FenceRows}
+use Rattle.clr_net.specs.Fence.{FenceRows, touches}
 use Rattle.clr_net.specs.Grid.{point_names, section_names}
 use Rattle.clr_net.specs.Name.{name_cmp}
 use Rattle.clr_net.specs.Names.{has_name}
@@ -8,7 +8,6 @@ use Rattle.clr_net.specs.declared.point.PointRow.{PointRow}
 use Rattle.clr_net.specs.declared.section.SectionRow.{SectionRow}
 use Rattle.clr_order.specs.Isolating.{isolating_fault}
 use Rattle.clr_order.specs.Step.{task}
-use Rattle.clr_rules.specs.Fences.{touches}
 use Rattle.clr_rules.specs.Near.{Near}
 use Rattle.clr_rules.specs.Refusals.{order_refusal}
 use Rattle.clr_book.specs.Orders.{refusal_of}
