@@ -1,10 +1,10 @@
--- The tables of a good register say all that is in it: each value of a row is one of a column.
+-- The tables of a register say all that is in it: each value of a row is one of a column.
 use Rattle.std.proofs.Common.{◌≡◌, ℕ, ◌+◌, Bool, true, false, nat_eq, List, [], ◌∷◌, map, Option, Some, None, refl, sym, ◌∙◌, ap}
 use Rattle.std.specs.Prelude.{pos, unwrap_or}
 use Rattle.sqlite.specs.Order.{Row, column}
 use Rattle.sqlite.specs.declared.types.Value.{Value}
 use Rattle.sqlite.specs.declared.types.Value.TheVariants.{Int, Text}
-use Rattle.clr_net.specs.Grid.{Grid}
+use Rattle.clr_net.specs.Grid.{Grid, unplaced}
 use Rattle.clr_net.specs.declared.point.PointRow.{PointRow}
 use Rattle.clr_net.specs.declared.point.Position.{Position}
 use Rattle.clr_net.specs.declared.point.Position.TheVariants.{Opened, Closed}
@@ -17,7 +17,7 @@ use Rattle.clr_rules.specs.Good.{ListsAreInOrder, NetworkIsUnplaced}
 use Rattle.clr_rules.specs.HoldKind.{hold_kind_named}
 use Rattle.clr_rules.specs.Id.{Id}
 use Rattle.clr_rules.specs.Phase.{phase_named}
-use Rattle.clr_rules.specs.Register.{Register, unplaced}
+use Rattle.clr_rules.specs.Register.{Register}
 use Rattle.clr_rules.specs.declared.hold.Hold.{Hold}
 use Rattle.clr_rules.specs.declared.hold_kind.HoldKind.TheVariants.{HeldOpen}
 use Rattle.clr_rules.specs.declared.phase.Phase.TheVariants.{Requested}
@@ -25,7 +25,7 @@ use Rattle.clr_rules.specs.declared.point_state.PointState.{PointState}
 use Rattle.clr_rules.specs.declared.record.Record.{Record}
 use Rattle.clr_rules.specs.declared.step_row.StepRow.{StepRow}
 use Rattle.clr_tables.specs.RowsRead.{position_if}
-use Rattle.clr_tables.specs.TableLaws.{SameTablesSameRegister, StatesAreThePoints}
+use Rattle.clr_tables.specs.TableLaws.{GoodAreToldByTables, SameTablesSameRegister, StatesAreThePoints}
 use Rattle.clr_tables.specs.Tables.{Tables, clearance_row, flag_value, hand_values, hold_row, name_or_null, point_row, position_value, section_row, staff_row, state_at, step_row, tables_of}
 use Rattle.clr_tables.specs.Words.{action_named, role_worded, state_named}
 use Rattle.clr_tables.proofs.ColumnsRead.{action_back, kind_back, phase_back, role_back, state_back}
@@ -197,5 +197,8 @@ register_said R known ordered placed =
     }
 
 pub same_tables_same_register : SameTablesSameRegister
-same_tables_same_register R S R_good S_good same =
-    sym (register_said R R_good.points_known.states R_good.in_order R_good.placed) ∙ ap register_in same ∙ register_said S S_good.points_known.states S_good.in_order S_good.placed
+same_tables_same_register R S R_told S_told same =
+    sym (register_said R R_told.states R_told.in_order R_told.no_positions) ∙ ap register_in same ∙ register_said S S_told.states S_told.in_order S_told.no_positions
+
+pub good_are_told_by_tables : GoodAreToldByTables
+good_are_told_by_tables R good = record { states = good.besides.points_known.states; in_order = good.said.in_order; no_positions = good.besides.placed }

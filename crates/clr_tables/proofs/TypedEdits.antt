@@ -29,7 +29,8 @@ use Rattle.clr_rules.specs.Holds.{hold_key, hold_of, places_of}
 use Rattle.clr_rules.specs.Id.{Id, id_cmp, id_cmp_total, is_clearance_number, is_id}
 use Rattle.clr_rules.specs.Moment.{is_moment}
 use Rattle.clr_rules.specs.Records.{greatest_number, is_switch_order, record_key, record_of}
-use Rattle.clr_rules.specs.Register.{Register, first_state, unplaced}
+use Rattle.clr_rules.specs.Register.{Register, first_state}
+use Rattle.clr_net.specs.Grid.{unplaced}
 use Rattle.clr_rules.specs.StepKey.{step_key, step_key_cmp, step_key_cmp_total}
 use Rattle.clr_rules.specs.Steps.{present_steps, step_at}
 use Rattle.clr_rules.specs.States.{change_state, changed_state, state_key, state_of}

@@ -4,7 +4,7 @@ use Rattle.std.specs.List.{list_all}
 use Rattle.clr_net.specs.Grid.{Grid, point_names}
 use Rattle.clr_csv.specs.declared.employee.StaffRow.{StaffRow}
 use Rattle.clr_rules.specs.Edits.{after_edits}
-use Rattle.clr_rules.specs.Good.{IsGood, ListsAreInOrder}
+use Rattle.clr_rules.specs.Good.{IsGood, ListsAreInOrder, NetworkIsUnplaced}
 use Rattle.clr_rules.specs.Register.{Register, opening}
 use Rattle.clr_rules.specs.Run.{after}
 use Rattle.clr_rules.specs.States.{state_key}
@@ -20,9 +20,21 @@ use Rattle.clr_tables.specs.TypedRows.{is_typed_section}
 abbrev pub StatesAreThePoints : Register → Type 0
 StatesAreThePoints R = map state_key R.states ≡ point_names (Grid.points R.net)
 
--- GOOD REGISTERS WITH THE SAME TABLES ARE THE SAME
+-- what tables do not say of a register: that its states are those of the points, that its lists are
+-- in order, and that its network has no positions
+pub record IsToldByTables (R : Register) : Type 0 where
+  pub states : StatesAreThePoints R
+  pub in_order : ListsAreInOrder R
+  pub no_positions : NetworkIsUnplaced R
+
+-- SUCH REGISTERS WITH THE SAME TABLES ARE THE SAME
 abbrev pub SameTablesSameRegister : Type 0
-SameTablesSameRegister = (R S : Register) → IsGood R → IsGood S → tables_of R ≡ tables_of S → R ≡ S
+SameTablesSameRegister = (R S : Register) → IsToldByTables R → IsToldByTables S
+    → tables_of R ≡ tables_of S → R ≡ S
+
+-- and good registers are such
+abbrev pub GoodAreToldByTables : Type 0
+GoodAreToldByTables = (R : Register) → IsGood R → IsToldByTables R
 
 -- THE TABLES OF A REGISTER READ AS ITS ROWS, where each value is of its type,
 abbrev pub TablesAreRead : Type 0

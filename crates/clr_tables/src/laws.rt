@@ -1,11 +1,13 @@
 //! Laws of the definitions: the contract of each function is the law, and its body is empty.
-ghost use Rattle.clr_tables.specs.TableLaws.{CommandsKeepTyped, OpeningsAreTyped};
-ghost use Rattle.clr_tables.specs.TableLaws.{SameTablesSameRegister, TablesAreRead};
+ghost use Rattle.clr_tables.specs.TableLaws.{CommandsKeepTyped, GoodAreToldByTables};
+ghost use Rattle.clr_tables.specs.TableLaws.{OpeningsAreTyped, SameTablesSameRegister, TablesAreRead};
 ghost use Rattle.clr_tables.specs.TableLaws.{TablesFollowEdits, TablesReadAsNoOthers};
 
-/// Good registers that have the same tables are the same.
+/// Registers that have the same tables are the same, where the states are those of the points, the
+/// lists are in order and the network has no positions, as in every good register.
 pub fn same_tables_same_register()
-    ensures { SameTablesSameRegister }
+    ensures same { SameTablesSameRegister }
+    ensures good { GoodAreToldByTables }
 {}
 
 /// The tables of the edited register are the edited tables.

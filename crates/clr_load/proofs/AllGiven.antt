@@ -1,0 +1,169 @@
+-- The seven tables read one after the other: what the whole reads as.
+use Rattle.std.proofs.Common.{◌≡◌, ◌∙◌, ℤ, Ok, Err, List, [], ◌∷◌, map, Result, refl, sym, ap}
+use Rattle.sqlite.specs.Order.{Row}
+use Rattle.sqlite_trees.proofs.ListLemmas.{map-map}
+use Rattle.clr_net.specs.declared.point.PointRow.{PointRow}
+use Rattle.clr_net.specs.declared.section.SectionRow.{SectionRow}
+use Rattle.clr_csv.specs.Rows.{◌>>=◌}
+use Rattle.clr_csv.specs.declared.employee.StaffRow.{StaffRow}
+use Rattle.clr_rules.specs.Register.{Register}
+use Rattle.clr_rules.specs.declared.hold.Hold.{Hold}
+use Rattle.clr_rules.specs.declared.point_state.PointState.{PointState}
+use Rattle.clr_rules.specs.declared.record.Record.{Record}
+use Rattle.clr_rules.specs.declared.step_row.StepRow.{StepRow}
+use Rattle.clr_tables.specs.RowsRead.{PointRead as ReadPoint, Rows, all_read, read_clearance, read_hold, read_point, read_section, read_staff, read_step, read_version, rows_by, rows_of, rows_read}
+use Rattle.clr_tables.specs.Tables.{Tables}
+use Rattle.clr_tables.specs.declared.table_name.TableName.{TableName}
+use Rattle.clr_load.specs.Contract.{Gives, GivesBack, GivesRows, Tells}
+use Rattle.clr_load.specs.Reading.{in_fields, point_values}
+use Rattle.clr_load.specs.declared.fault.StoreFault.{StoreFault}
+use Rattle.clr_load.specs.declared.fault.StoreFault.TheVariants.{Sql, WrongVersion, BadRow, NoMemory}
+use Rattle.clr_load.specs.declared.rows.Rows.{Rows as Loaded}
+use Rattle.clr_load.specs.declared.table_row.PointRead.{PointRead}
+use Rattle.clr_load.proofs.AllRead.{same_value}
+
+-- a fault of a part is that of the whole, where the whole does not read wherever the part does not
+pub fault_gives : {A B Y : Type 0} (view : Y → B) (part : Result A TableName) (whole : Result B TableName) (fault : StoreFault)
+    → ((t : TableName) → part ≡ Err t → whole ≡ Err t) → Tells part (Err fault) → Gives view whole (Err fault)
+fault_gives view part whole Sql fails gives = tt
+fault_gives view part whole NoMemory fails gives = tt
+fault_gives view part whole (BadRow t) fails gives = fails t gives
+fault_gives view part whole (WrongVersion n) fails gives = absurd gives
+
+-- tables that read as the rows of a register give these rows
+pub gives_back : (R : Register) (read : Result Rows TableName) (result : Result Loaded StoreFault) → read ≡ Ok (rows_of R)
+    → GivesRows read result → GivesBack R result
+gives_back R read (Ok rows) is gives = same_value (sym gives ∙ is)
+gives_back R read (Err Sql) is gives = tt
+gives_back R read (Err NoMemory) is gives = tt
+gives_back R read (Err (BadRow t)) is gives = let h : Ok (rows_of R) ≡ Err t = sym is ∙ gives in absurd cc
+gives_back R read (Err (WrongVersion n)) is gives = absurd gives
+
+-- ---- switching points, whose rows are read into two fields
+abbrev all_in_fields : Result (List ReadPoint) TableName → Result (List PointRead) TableName
+all_in_fields read = read >>= λ points. Ok (map in_fields points)
+
+abbrev front_in_fields : Result ReadPoint TableName → Result (List PointRead) TableName → Result (List PointRead) TableName
+front_in_fields first rest = (first >>= λ p. Ok (in_fields p)) >>= λ x. rest >>= λ xs. Ok (x ∷ xs)
+
+fields_join : (first : Result ReadPoint TableName) (rest : Result (List ReadPoint) TableName)
+    → front_in_fields first (all_in_fields rest) ≡ all_in_fields (first >>= λ p. rest >>= λ ps. Ok (p ∷ ps))
+fields_join (Err t) rest = refl
+fields_join (Ok p) (Err t) = refl
+fields_join (Ok p) (Ok ps) = refl
+
+points_read : (rows : List Row) → all_read point_values rows ≡ all_in_fields (all_read read_point rows)
+unfolding all_read
+points_read [] = refl
+points_read (row ∷ rows) =
+    ap (front_in_fields (read_point row)) (points_read rows) ∙ fields_join (read_point row) (all_read read_point rows)
+
+fields_fail : (read : Result (List ReadPoint) TableName) (t : TableName) → all_in_fields read ≡ Err t → read ≡ Err t
+fields_fail (Ok points) t h = absurd cc
+fields_fail (Err other) t h = let same : other ≡ t = cc in ap Err same
+
+pub points_fail : (rows : List Row) (t : TableName) → all_read point_values rows ≡ Err t → all_read read_point rows ≡ Err t
+points_fail rows t h = fields_fail (all_read read_point rows) t (sym (points_read rows) ∙ h)
+
+pub record PointsAre (read : Result (List ReadPoint) TableName) (both : List PointRead) : Type 0 where
+  pub points : List ReadPoint
+  pub read_is : read ≡ Ok points
+  pub both_are : both ≡ map in_fields points
+
+fields_are : (read : Result (List ReadPoint) TableName) (both : List PointRead) → all_in_fields read ≡ Ok both → PointsAre read both
+fields_are (Ok points) both h = record { points = points; read_is = refl; both_are = sym (same_value h) }
+fields_are (Err t) both h = absurd cc
+
+pub points_are : (rows : List Row) (both : List PointRead) → all_read point_values rows ≡ Ok both → PointsAre (all_read read_point rows) both
+points_are rows both h = fields_are (all_read read_point rows) both (sym (points_read rows) ∙ h)
+
+-- ---- the seven in their order
+abbrev pub rows_joined : Result ℤ TableName → Result (List SectionRow) TableName → Result (List ReadPoint) TableName
+    → Result (List StaffRow) TableName → Result (List Record) TableName → Result (List StepRow) TableName
+    → Result (List Hold) TableName → Result Rows TableName
+rows_joined v s p e r w h = do
+  version ← v
+  sections ← s
+  points ← p
+  staff ← e
+  records ← r
+  steps ← w
+  holds ← h
+  Ok (record {
+    version = version;
+    sections = sections;
+    points = map (λ (q : ReadPoint). q.point) points;
+    states = map (λ (q : ReadPoint). q.state) points;
+    staff = staff;
+    records = records;
+    steps = steps;
+    holds = holds;
+  })
+
+pub joined : (t : Tables) → rows_read t ≡ rows_joined (read_version t.meta) (all_read read_section t.sections)
+    (all_read read_point t.points) (all_read read_staff t.staff) (all_read read_clearance t.clearances)
+    (all_read read_step t.steps) (all_read read_hold t.holds)
+unfolding rows_by
+joined t = refl
+
+pub all_told : (t : Tables) (version : ℤ) (sections : List SectionRow) (points : List PointRow) (states : List PointState)
+    (staff : List StaffRow) (records : List Record) (steps : List StepRow) (holds : List Hold) (both : List PointRead)
+    → read_version t.meta ≡ Ok version → all_read read_section t.sections ≡ Ok sections
+    → all_read point_values t.points ≡ Ok both → all_read read_staff t.staff ≡ Ok staff
+    → all_read read_clearance t.clearances ≡ Ok records → all_read read_step t.steps ≡ Ok steps
+    → all_read read_hold t.holds ≡ Ok holds
+    → points ≡ map (λ (q : PointRead). q.point) both → states ≡ map (λ (q : PointRead). q.state) both
+    → rows_read t ≡ Ok (record {
+      version = version;
+      sections = sections;
+      points = points;
+      states = states;
+      staff = staff;
+      records = records;
+      steps = steps;
+      holds = holds;
+    })
+all_told t version sections points states staff records steps holds both v s p e r w h points_is states_is =
+    let them = points_are t.points both p in
+    let at_points : map (λ (q : ReadPoint). q.point) them.points ≡ points =
+    sym (points_is ∙ ap (map (λ (q : PointRead). q.point)) them.both_are
+    ∙ map-map (λ (q : PointRead). q.point) in_fields them.points) in
+    let at_states : map (λ (q : ReadPoint). q.state) them.points ≡ states =
+    sym (states_is ∙ ap (map (λ (q : PointRead). q.state)) them.both_are
+    ∙ map-map (λ (q : PointRead). q.state) in_fields them.points) in
+    let all : rows_joined (read_version t.meta) (all_read read_section t.sections) (all_read read_point t.points)
+    (all_read read_staff t.staff) (all_read read_clearance t.clearances) (all_read read_step t.steps)
+    (all_read read_hold t.holds)
+    ≡ rows_joined (Ok version) (Ok sections) (Ok them.points) (Ok staff) (Ok records) (Ok steps) (Ok holds) =
+    λ i. rows_joined (v i) (s i) (them.read_is i) (e i) (r i) (w i) (h i) in
+    let last : ◌≡◌ {A = Result Rows TableName}
+    (Ok (record {
+      version = version;
+      sections = sections;
+      points = map (λ (q : ReadPoint). q.point) them.points;
+      states = map (λ (q : ReadPoint). q.state) them.points;
+      staff = staff;
+      records = records;
+      steps = steps;
+      holds = holds;
+    }))
+    (Ok (record {
+      version = version;
+      sections = sections;
+      points = points;
+      states = states;
+      staff = staff;
+      records = records;
+      steps = steps;
+      holds = holds;
+    })) = λ i. Ok (record {
+      version = version;
+      sections = sections;
+      points = at_points i;
+      states = at_states i;
+      staff = staff;
+      records = records;
+      steps = steps;
+      holds = holds;
+    }) in
+    joined t ∙ all ∙ last

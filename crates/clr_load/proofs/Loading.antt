@@ -1,0 +1,285 @@
+-- What the listing of a table shows.
+use Rattle.std.proofs.Common.{◌≡◌, ◌≤◌, ℕ, zero, suc, List, [], ◌∷◌, map, take, drop, length, true, ◌⊎◌, inl, inr, Option, Some, None, Err, IsTrue, refl, sym, ap, subst, ◌∙◌, arith}
+use Rattle.std.specs.List.{AllByRecursion, flat_map, list_all}
+use Rattle.std.specs.List.Sorted.{IsPermutation}
+use Rattle.std.specs.Ordering.{is_lt}
+use Rattle.std.specs.declared.cmp.Ordering.{Ordering}
+use Rattle.std.specs.declared.cmp.Ordering.TheVariants.{Less, Equal, Greater}
+use Rattle.std.proofs.lemmas.List.{length-take-le}
+use Rattle.std.proofs.lemmas.List.Sorted.{IsPermutation-map, IsPermutation-trans}
+use Rattle.sqlite.specs.Order.{Row, column, row_cmp}
+use Rattle.sqlite.specs.Program.{overlay}
+use Rattle.sqlite.specs.Query.{IsAnswer, Output, output, output_cmp}
+use Rattle.sqlite.specs.Clock.{timed}
+use Rattle.sqlite.specs.Effect.{Database}
+use Rattle.sqlite.specs.Listing.{understood}
+use Rattle.sqlite.specs.State.{State, Shown, ShowsRows, IsUnchanged, IsRolledBack, KeepsCommit, RunsCommand, FailsToShow, FailsToQuery, IsNotRun, IsTooLate}
+use Rattle.sqlite.specs.declared.error.Error.{Error}
+use Rattle.sqlite_resolve.specs.declared.compiled.Compiled.{Compiled}
+use Rattle.sqlite_schema.specs.declared.command.Returning.{Returning}
+use Rattle.sqlite.specs.Term.{eval_all}
+use Rattle.sqlite.specs.Tree.{Trees, IsAscending}
+use Rattle.sqlite.specs.declared.types.Value.TheVariants.{Null}
+use Rattle.sqlite.proofs.Callers.{IsPlain, reads_as}
+use Rattle.sqlite_keyed.proofs.SortLemmas.{sorted_unique}
+use Rattle.sqlite_sql.proofs.QueryLemmas.{output_cmp_total}
+use Rattle.sqlite_trees.proofs.ListLemmas.{map-map, ascending-map}
+use Rattle.clr_shelf.specs.Rows.{in_key_order}
+use Rattle.clr_tables.specs.Tables.{Tables}
+use Rattle.clr_tables.specs.declared.table_name.TableName.{TableName}
+use Rattle.clr_tables.specs.declared.table_name.TableName.TheVariants.{Meta, Section, Point, Staff, Clearance, Step, Hold}
+use Rattle.clr_load.specs.Found.{Finds}
+use Rattle.clr_load.specs.Listed.{both_of}
+use Rattle.clr_load.specs.Schema.{behind_meta, columns_in, keys_in, no_schema, schema_of, tree_of, register_schema}
+use Rattle.clr_load.specs.Sql.{select_sql}
+use Rattle.clr_load.specs.Stored.{HasMeta, HasRows, HasTables, Holds, IsInOrder, bodies, fits_columns, rows_in}
+use Rattle.clr_load.proofs.Columns.{both_true, fits_length, key_order, met_values, values_all, values_from, values_shift, values_take}
+use Rattle.clr_load.proofs.Texts.{columns_width, listing, meta_is, meta_plain, meta_unlisted, order_from, select_is, select_plain, select_unknown, select_unlisted, width_of}
+
+-- a table that is no part of a query is read as it is
+pub laid : (name : TableName) (db : Trees) → overlay db [] (tree_of name) ≡ db (tree_of name)
+laid Meta db = refl
+laid Section db = refl
+laid Point db = refl
+laid Staff db = refl
+laid Clearance db = refl
+laid Step db = refl
+laid Hold db = refl
+
+values_none : (n at : ℕ) → values_from (suc at) n [] ≡ values_from at n []
+values_none zero at = refl
+values_none (suc n) at = ap (λ l. Null ∷ l) (values_none n (suc at))
+
+-- the columns of a row, less its number
+body_values : (n at : ℕ) (r : Row) → values_from (suc at) n r ≡ values_from at n (drop 1 r)
+body_values n at [] = values_none n at
+body_values n at (id ∷ row) = values_shift n at id row
+
+order_values : (n at : ℕ) (params r : Row) → eval_all (map (λ k. k.0) (order_from at n)) (params ∷ r ∷ []) ≡ values_from (suc at) n r
+order_values zero at params r = refl
+order_values (suc n) at params r = ap (λ l. column r (suc at) ∷ l) (order_values n (suc at) params r)
+
+-- what a row is sorted by, and what is shown of it
+abbrev shown_as : TableName → Row → Output
+shown_as name row = (values_from 0 (keys_in name) row, values_from 0 (width_of name) row)
+
+output_is : (name : TableName) (r : Row) → output (listing name) ([] ∷ r ∷ []) ≡ shown_as name (drop 1 r)
+output_is name r i = (
+  (order_values (keys_in name) 0 [] r ∙ body_values (keys_in name) 0 r) i,
+  (met_values (width_of name) 1 [] r ∙ body_values (width_of name) 0 r) i,
+)
+
+each_row : (tree : List Row) → flat_map (λ r. ([] ∷ r ∷ []) ∷ []) tree ≡ map (λ r. [] ∷ r ∷ []) tree
+each_row [] = refl
+each_row (r ∷ tree) = ap (λ l. ([] ∷ r ∷ []) ∷ l) (each_row tree)
+
+outputs : (name : TableName) (tree : List Row) → map (output (listing name)) (map (λ r. [] ∷ r ∷ []) tree) ≡ map (shown_as name) (bodies tree)
+outputs name [] = refl
+outputs name (r ∷ tree) = λ i. output_is name r i ∷ outputs name tree i
+
+keys_within : (name : TableName) → keys_in name ≤ width_of name
+keys_within Meta = omega arith
+keys_within Section = omega arith
+keys_within Point = omega arith
+keys_within Staff = omega arith
+keys_within Clearance = omega arith
+keys_within Step = omega arith
+keys_within Hold = omega arith
+
+is_less : (o : Ordering) → is_lt o ≡ true → o ≡ Less
+is_less Less h = refl
+is_less Equal h = absurd cc
+is_less Greater h = absurd cc
+
+long_enough : (name : TableName) (row : Row) → fits_columns (columns_in name) row ≡ true → keys_in name ≤ length row
+long_enough name row fits =
+    let long : length row ≡ width_of name = fits_length (columns_in name) row fits ∙ columns_width name in
+    let within = keys_within name in omega arith
+
+-- the key of a row, as it is sorted
+key_values : (name : TableName) (row : Row) → fits_columns (columns_in name) row ≡ true
+    → values_from 0 (keys_in name) (values_from 0 (keys_in name) row) ≡ take (keys_in name) row
+key_values name row fits =
+    let n = keys_in name in
+    let long = long_enough name row fits in
+    let taken : length (take n row) ≡ n = length-take-le n row long in
+    ap (values_from 0 n) (values_take n row long) ∙ values_all n (take n row) taken
+
+sorted_as : (name : TableName) (a b : Row) → fits_columns (columns_in name) a ≡ true → fits_columns (columns_in name) b ≡ true
+    → output_cmp (listing name) (shown_as name a) (shown_as name b) ≡ row_cmp (take (keys_in name) a) (take (keys_in name) b)
+sorted_as name a b fits_a fits_b =
+    key_order (keys_in name) 0 (values_from 0 (keys_in name) a) (values_from 0 (keys_in name) b)
+    ∙ (λ i. row_cmp (key_values name a fits_a i) (key_values name b fits_b i))
+
+-- rows in the order of their keys are sorted as the listing sorts them
+rises : (name : TableName) (rows : List Row) → list_all (fits_columns (columns_in name)) rows ≡ true → in_key_order row_cmp (take (keys_in name)) rows ≡ true
+    → IsAscending (λ a b. output_cmp (listing name) (shown_as name a) (shown_as name b) ≡ Less) rows
+rises name [] fits ordered = tt
+rises name (row ∷ rows) fits ordered =
+    let fit = both_true (fits_columns (columns_in name) row) (list_all (fits_columns (columns_in name)) rows) fits in
+    let parts = both_true (list_all (λ next. is_lt (row_cmp (take (keys_in name) row) (take (keys_in name) next))) rows) (in_key_order row_cmp (take (keys_in name)) rows) ordered in
+    (above rows fit.1 parts.0 fit.0, rises name rows fit.1 parts.1)
+  where
+    above : (rest : List Row) → list_all (fits_columns (columns_in name)) rest ≡ true → list_all (λ next. is_lt (row_cmp (take (keys_in name) row) (take (keys_in name) next))) rest ≡ true
+        → fits_columns (columns_in name) row ≡ true → AllByRecursion (λ b. output_cmp (listing name) (shown_as name row) (shown_as name b) ≡ Less) rest
+    above [] fits low here = tt
+    above (next ∷ rest) fits low here =
+        let fit = both_true (fits_columns (columns_in name) next) (list_all (fits_columns (columns_in name)) rest) fits in
+        let parts = both_true (is_lt (row_cmp (take (keys_in name) row) (take (keys_in name) next))) (list_all (λ next. is_lt (row_cmp (take (keys_in name) row) (take (keys_in name) next))) rest) low in
+        (sorted_as name row next here fit.0 ∙ is_less _ parts.0, above rest fit.1 parts.1 here)
+
+whole_rows : (name : TableName) (rows : List Row) → list_all (fits_columns (columns_in name)) rows ≡ true → map (values_from 0 (width_of name)) rows ≡ rows
+whole_rows name [] fits = refl
+whole_rows name (row ∷ rows) fits =
+    let fit = both_true (fits_columns (columns_in name) row) (list_all (fits_columns (columns_in name)) rows) fits in
+    λ i. values_all (width_of name) row (fits_length (columns_in name) row fit.0 ∙ columns_width name) i ∷ whole_rows name rows fit.1 i
+
+answer_is : (name : TableName) (db : Trees) (rows shown : List Row) → HasRows (columns_in name) (db (tree_of name)) rows → in_key_order row_cmp (take (keys_in name)) rows ≡ true
+    → IsAnswer (listing name) (overlay db []) [] shown → shown ≡ rows
+answer_is name db rows shown has ordered a =
+    let tree = db (tree_of name) in
+    let kept : a.kept ≡ map (shown_as name) (bodies tree) =
+    a.distinct ∙ ap (map (output (listing name))) (a.grouped ∙ ap (flat_map (λ r. ([] ∷ r ∷ []) ∷ [])) (laid name db) ∙ each_row tree) ∙ outputs name tree in
+    let all = IsPermutation-map (shown_as name) rows (bodies tree) has.same in
+    let rise = ascending-map (λ x y. output_cmp (listing name) x y ≡ Less) (shown_as name) rows (rises name rows has.fit ordered) in
+    let mixed = IsPermutation-trans _ _ _ all (subst (λ k. IsPermutation k a.ordered) kept a.same) in
+    let sorted = sorted_unique (output_cmp (listing name)) (output_cmp_total (listing name)) (map (shown_as name) rows) a.ordered rise mixed a.sorted in
+    a.shown ∙ ap (map (λ (o : Output). o.1)) sorted ∙ map-map (λ (o : Output). o.1) (shown_as name) rows ∙ whole_rows name rows has.fit
+
+pub lists : (old new : State) (name : TableName) (t : Tables) (shown : List Row) → Holds old.now t → IsInOrder t → Shown (select_sql name) [] old new shown → shown ≡ rows_in name t
+lists old new name t shown has ordered ran =
+    let read = reads_as (select_sql name) [] old new register_schema has.schema _ (select_is name) (select_plain name) (select_unlisted name) shown ran in
+    answer_is name old.now.trees (rows_in name t) shown (has.rows name) (ordered name) (read.answer Null)
+
+-- the rows that tell the version are listed whatever the other tables are
+pub lists_meta : (old new : State) (meta shown : List Row) → HasMeta old.now meta → Shown (select_sql Meta) [] old new shown → shown ≡ meta
+lists_meta old new meta shown has ran =
+    let schema = behind_meta has.others in
+    let read = reads_as (select_sql Meta) [] old new schema has.schema _ (meta_is has.others) (meta_plain has.others) (meta_unlisted has.others) shown ran in
+    answer_is Meta old.now.trees meta shown has.rows has.in_order (read.answer Null)
+
+-- nothing is listed in a database without tables
+pub never_shown : (old new : State) (name : TableName) (rows : List Row) → old.now.schema ≡ no_schema → Shown (select_sql name) [] old new rows → ⊥
+unfolding Shown
+never_shown old new name rows bare h = let unknown = sym (select_unknown name) ∙ sym (ap (λ s. understood s (select_sql name)) bare) ∙ h.1.is in cc
+
+-- the tables of a register begin with the one that tells the version
+pub has_meta : (db : Database) (t : Tables) → HasTables db t → HasMeta db t.meta
+has_meta db t has = record { others = schema_of (Section ∷ Point ∷ Staff ∷ Clearance ∷ Step ∷ Hold ∷ []); schema = has.holds.schema; rows = has.holds.rows Meta; in_order = has.in_order Meta }
+
+-- ---- what a query inside a transaction leaves of the last commit
+unchanged_keeps : (old new : State) → IsUnchanged old new → KeepsCommit old new
+unchanged_keeps old new h = record { was_open = λ _. h.0.was_open; committed = λ _. h.0.committed_is }
+
+undone_keeps : (old new : State) → IsRolledBack old new → KeepsCommit old new
+undone_keeps old new h = record { was_open = h.was_open; committed = λ is_open. (h.undone is_open).1 }
+
+-- what a query that showed rows tells of the connection
+record Keeps (old new : State) : Type 0 where
+  pub was_open : IsTrue old.is_open
+  pub inside : IsTrue new.in_transaction
+  pub kept : KeepsCommit old new
+
+shown_keeps : (sql : List ℕ) (params : Row) (old new : State) (rows : List Row) → IsTrue old.in_transaction
+    → Shown sql params old new rows → Keeps old new
+unfolding Shown
+shown_keeps sql params old new rows inside h = go h.0.returning refl
+  where
+    go : (returning : Option Returning) → h.0.returning ≡ returning → Keeps old new
+    go None is =
+        let it = subst (ShowsRows old new sql h.0 (timed params h.0.formats h.1.now) rows) is h.2 in
+        record { was_open = it.3.0.was_open; inside = rw it.3.0.mode inside; kept = unchanged_keeps old new it.3 }
+    go (Some what) is =
+        let it = subst (ShowsRows old new sql h.0 (timed params h.0.formats h.1.now) rows) is h.2 in
+        record {
+          was_open = it.1.shown.was_open;
+          inside = rw it.1.shown.mode inside;
+          kept = record { was_open = λ _. it.1.shown.was_open; committed = λ _. it.1.shown.committed_is ∙ rw inside refl };
+        }
+
+command_keeps : (old new : State) (sql : List ℕ) (c : Compiled) (params : Row) (e : Error) → RunsCommand old new sql c params (Err e) → KeepsCommit old new
+command_keeps old new sql c params e (inl h) = unchanged_keeps old new h.1
+command_keeps old new sql c params e (inr h) = undone_keeps old new h.3
+
+show_keeps : (old new : State) (sql : List ℕ) (c : Compiled) (params : Row) (e : Error) (returning : Option Returning) → FailsToShow old new sql c params e returning → KeepsCommit old new
+show_keeps old new sql c params e None h = unchanged_keeps old new h.3
+show_keeps old new sql c params e (Some what) h = command_keeps old new sql c params e h
+
+pub query_keeps : (sql : List ℕ) (params : Row) (old new : State) (e : Error) → FailsToQuery sql params old new e ⊎ IsTooLate sql params old new e → KeepsCommit old new
+unfolding FailsToQuery IsNotRun
+query_keeps sql params old new e (inl (inl (inl h))) = unchanged_keeps old new h.1
+query_keeps sql params old new e (inl (inl (inr h))) = undone_keeps old new h.3
+query_keeps sql params old new e (inl (inr h)) = show_keeps old new sql h.0 (timed params h.0.formats h.1.now) e h.0.returning h.2
+query_keeps sql params old new e (inr h) = unchanged_keeps old new h.5
+
+stays : (old new : State) (name : TableName) (rows : List Row) → old.now.schema ≡ register_schema → Shown (select_sql name) [] old new rows → new.now ≡ old.now
+unfolding Shown
+stays old new name rows has h =
+    let plain = subst (λ schema. IsPlain (understood schema (select_sql name))) (sym has) (select_plain name) in
+    let none = (subst IsPlain h.1.is plain).0 in
+    let it = subst (ShowsRows old new (select_sql name) h.0 (timed [] h.0.formats h.1.now) rows) none h.2 in
+    it.3.0.now_is
+
+pub listed : (old new : State) (name : TableName) (rows : List Row) → IsTrue old.in_transaction
+    → Shown (select_sql name) [] old new rows → Finds old new (rows_in name) rows
+listed old new name rows inside shown =
+    let keeps = shown_keeps (select_sql name) [] old new rows inside shown in
+    record {
+      was_open = keeps.was_open;
+      inside = keeps.inside;
+      kept = keeps.kept;
+      found_is = λ t has ordered.
+          let same = stays old new name rows has.schema shown in
+          (lists old new name t rows has ordered shown, subst (λ (db : Database). Holds db t) (sym same) has);
+    }
+
+-- ---- one thing found after another
+pub then_kept : (a b c : State) → KeepsCommit a b → KeepsCommit b c → KeepsCommit a c
+then_kept a b c p q = record { was_open = λ o. p.was_open (q.was_open o); committed = λ o. q.committed o ∙ p.committed (q.was_open o) }
+
+pub then_finds : {A B : Type 0} (a b c : State) (f : Tables → A) (g : Tables → B) (x : A) (y : B)
+    → Finds a b f x → Finds b c g y → Finds {A = A × B} a c (λ t. (f t, g t)) (x, y)
+then_finds a b c f g x y p q = record {
+  was_open = p.was_open;
+  inside = q.inside;
+  kept = then_kept a b c p.kept q.kept;
+  found_is = λ t has ordered.
+      let first = p.found_is t has ordered in
+      let second = q.found_is t first.1 ordered in
+      (λ i. (first.0 i, second.0 i), second.1);
+}
+
+-- the rows of all tables, found one after the other, are the tables
+pub all_found : (old a b c new : State) (meta sections points staff clearances steps holds : List Row)
+    → Finds old a (rows_in Meta) meta → Finds a b (both_of Section Point) (sections, points)
+    → Finds b c (both_of Staff Clearance) (staff, clearances) → Finds c new (both_of Step Hold) (steps, holds)
+    → Finds {A = Tables} old new (λ t. t) (record {
+      meta = meta;
+      sections = sections;
+      points = points;
+      staff = staff;
+      clearances = clearances;
+      steps = steps;
+      holds = holds;
+    })
+all_found old a b c new meta sections points staff clearances steps holds p q r s = record {
+  was_open = p.was_open;
+  inside = s.inside;
+  kept = then_kept old c new (then_kept old b c (then_kept old a b p.kept q.kept) r.kept) s.kept;
+  found_is = λ t has ordered.
+      let one = p.found_is t has ordered in
+      let two = q.found_is t one.1 ordered in
+      let three = r.found_is t two.1 ordered in
+      let four = s.found_is t three.1 ordered in (
+        λ i. record {
+          meta = one.0 i;
+          sections = (two.0 i).0;
+          points = (two.0 i).1;
+          staff = (three.0 i).0;
+          clearances = (three.0 i).1;
+          steps = (four.0 i).0;
+          holds = (four.0 i).1;
+        },
+        four.1,
+      );
+}

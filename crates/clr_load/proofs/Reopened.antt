@@ -1,0 +1,34 @@
+-- What trees that have the tables of a register open as.
+use Rattle.std.proofs.Common.{◌≡◌, ◌∙◌, IsTrue, ap, subst, sym}
+use Rattle.sqlite.specs.Effect.{Database, IsDatabase}
+use Rattle.sqlite.specs.State.{IsLive, Opens, State}
+use Rattle.sqlite.specs.Tree.{Trees}
+use Rattle.sqlite_catalog.specs.Listing.{IsSound, Lists}
+use Rattle.sqlite_catalog.proofs.ReadLemmas.{lists_once}
+use Rattle.sqlite_trees.specs.Objects.{catalog_tree}
+use Rattle.clr_tables.specs.Tables.{Tables}
+use Rattle.clr_load.specs.Contract.{IsSaved}
+use Rattle.clr_load.specs.Schema.{register_schema}
+use Rattle.clr_load.specs.Stored.{AreTables, HasAllRows, HasTables, TablesOpenAgain}
+
+-- the trees list one schema alone
+pub opened_with : TablesOpenAgain
+opened_with trees t db are sound is =
+    let there : Lists (trees catalog_tree) db.schema = subst (λ (all : Trees). Lists (all catalog_tree) db.schema) is sound.lists in
+    record {
+      holds = record {
+        schema = lists_once (trees catalog_tree) db.schema register_schema there are.listed.lists;
+        listed = subst (IsSound register_schema) (sym is) are.listed;
+        rows = subst (λ (all : Trees). HasAllRows all t) (sym is) are.rows;
+      };
+      in_order = are.in_order;
+    }
+
+-- and so the state of a connection that is opened on them has the tables, and is saved
+pub opened_again : (trees : Trees) (t : Tables) (s : State) → AreTables trees t → Opens s → IsLive s → s.now.trees ≡ trees → HasTables s.now t × IsSaved s
+opened_again trees t s are opens live is =
+    (opened_with trees t s.now are (live opens.is_open).0 is, (opens.is_open, sym opens.clean))
+
+-- the trees of a database that has the tables
+pub left_of : (db : Database) (t : Tables) → HasTables db t → AreTables db.trees t
+left_of db t has = record { listed = has.holds.listed; rows = has.holds.rows; in_order = has.in_order }

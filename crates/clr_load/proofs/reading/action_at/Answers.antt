@@ -1,0 +1,16 @@
+use Rattle.std.proofs.Common.{rules}
+use Rattle.std.specs.Prelude.{ok_or}
+use Rattle.clr_tables.specs.Words.{action_named}
+use Rattle.clr_tables.specs.declared.table_name.TableName.TheVariants.{Step}
+use Rattle.clr_load.proofs.TextsRead.{action_by_text, then_fails, then_gives}
+use Rattle.clr_load.proofs.reading.action_at.Goals as goal
+
+pub returns-in_err-word : goal.returns-in_err-word
+returns-in_err-word c =
+    let read = then_fails (λ word. ok_or (action_named word) Step) Step c.in_err-word.field-0.0 c.args.place c.args.row.now _ (action_by_text Step c.args.place c.args.row.now) c.in_err-word.ensures in
+    search rules
+
+pub returns : goal.returns
+returns c =
+    let read = then_gives (λ word. ok_or (action_named word) Step) Step _ c.args.place c.args.row.now _ (action_by_text Step c.args.place c.args.row.now) c.in_ok-word.ensures in
+    search rules

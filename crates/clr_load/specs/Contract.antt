@@ -1,0 +1,50 @@
+-- What a call that reads promises.
+use Rattle.std.specs.Prelude.{◌≡◌, IsTrue, Result, Ok, Err, ⊤}
+use Rattle.sqlite.specs.State.{State}
+use Rattle.clr_rules.specs.Register.{Register}
+use Rattle.clr_tables.specs.RowsRead.{Rows, rows_of}
+use Rattle.clr_tables.specs.declared.table_name.TableName.{TableName}
+use Rattle.clr_load.specs.Fault.{IsOfDatabase}
+use Rattle.clr_load.specs.declared.fault.StoreFault.{StoreFault}
+use Rattle.clr_load.specs.declared.fault.StoreFault.TheVariants.{Sql, WrongVersion, BadRow}
+use Rattle.clr_load.specs.declared.fault.StoreFault.TheVariants.{NoMemory}
+use Rattle.clr_load.specs.declared.rows.Rows.{Rows as Loaded}
+
+-- the connection is open, and what it shows is committed
+abbrev pub IsSaved : State → Type 0
+IsSaved s = IsTrue s.is_open × (s.committed ≡ s.now)
+
+-- a call gives what is read, as `view` shows it, or the table with the row that does not read,
+-- unless the database refuses or memory runs out
+abbrev pub Gives : {A X : Type 0} → (X → A) → Result A TableName → Result X StoreFault → Type 0
+Gives view read (Ok value) = read ≡ Ok (view value)
+Gives view read (Err (BadRow table)) = read ≡ Err table
+Gives view read (Err (WrongVersion n)) = ⊥
+Gives view read (Err Sql) = ⊤
+Gives view read (Err NoMemory) = ⊤
+
+-- the same, where the value shows as itself
+abbrev pub Tells : {A : Type 0} → Result A TableName → Result A StoreFault → Type 0
+Tells read result = Gives (λ value. value) read result
+
+-- the rows that were loaded
+abbrev pub rows_told : Loaded → Rows
+rows_told rows = record {
+  version = rows.version;
+  sections = rows.sections.items;
+  points = rows.points.items;
+  states = rows.states.items;
+  staff = rows.staff.items;
+  records = rows.records.items;
+  steps = rows.steps.items;
+  holds = rows.holds.items;
+}
+
+-- the rows that the tables read as are given, or the first table with a row that does not read
+abbrev pub GivesRows : Result Rows TableName → Result Loaded StoreFault → Type 0
+GivesRows read result = Gives rows_told read result
+
+-- the rows of a register are given, unless the database refuses or memory runs out
+abbrev pub GivesBack : Register → Result Loaded StoreFault → Type 0
+GivesBack R (Ok rows) = rows_told rows ≡ rows_of R
+GivesBack R (Err fault) = IsOfDatabase fault

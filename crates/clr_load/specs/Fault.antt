@@ -1,0 +1,20 @@
+-- Faults of the database itself.
+use Rattle.std.specs.Prelude.{◌≡◌, ⊤}
+use Rattle.clr_tables.specs.declared.table_name.TableName.TheVariants.{Meta}
+use Rattle.clr_load.specs.declared.fault.StoreFault.{StoreFault}
+use Rattle.clr_load.specs.declared.fault.StoreFault.TheVariants.{Sql, WrongVersion, BadRow}
+use Rattle.clr_load.specs.declared.fault.StoreFault.TheVariants.{NoMemory}
+
+-- the database refused or failed, or memory ran out
+abbrev pub IsOfDatabase : StoreFault → Type 0
+IsOfDatabase Sql = ⊤
+IsOfDatabase NoMemory = ⊤
+IsOfDatabase (WrongVersion n) = ⊥
+IsOfDatabase (BadRow table) = ⊥
+
+-- the database refused or failed, memory ran out, or no row tells the version
+abbrev pub IsOfVersion : StoreFault → Type 0
+IsOfVersion Sql = ⊤
+IsOfVersion NoMemory = ⊤
+IsOfVersion (WrongVersion n) = ⊥
+IsOfVersion (BadRow table) = table ≡ Meta

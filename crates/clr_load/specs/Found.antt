@@ -1,0 +1,20 @@
+-- What a call finds in the tables, inside a transaction.
+use Rattle.std.specs.Prelude.{◌≡◌, IsTrue, Result, MatchResult}
+use Rattle.sqlite.specs.State.{State, HasCleanDisk, KeepsCommit}
+use Rattle.clr_tables.specs.Tables.{Tables}
+use Rattle.clr_load.specs.Stored.{Holds, IsInOrder}
+use Rattle.clr_load.specs.declared.fault.StoreFault.{StoreFault}
+
+-- the connection was open, something that the tables tell is found, the tables stay, and nothing is committed
+pub record Finds {A : Type 0} (old new : State) (tells : Tables → A) (found : A) : Type 0 where
+  pub was_open : IsTrue old.is_open
+  pub inside : IsTrue new.in_transaction
+  pub kept : KeepsCommit old new
+  pub found_is : (t : Tables) → Holds old.now t → IsInOrder t → (found ≡ tells t) × Holds new.now t
+
+-- a call inside a transaction finds it, or fails; it commits nothing
+abbrev pub Lists : {A X : Type 0} → State → State → (Tables → A) → (X → A) → Result X StoreFault
+    → Type 0
+Lists old new tells items result =
+    HasCleanDisk new → IsTrue old.in_transaction
+    → MatchResult result (λ listed. Finds old new tells (items listed)) (λ _. KeepsCommit old new)

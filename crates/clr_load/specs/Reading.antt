@@ -1,0 +1,38 @@
+-- What a text in a column reads as.
+use Rattle.std.specs.Prelude.{◌≡◌, ℕ, Bool, true, false, if◌then◌else◌, List, Result, Ok, Err}
+use Rattle.std.specs.Str.{is_utf8}
+use Rattle.sqlite.specs.Order.{Row, column}
+use Rattle.sqlite.specs.declared.types.Value.{Value}
+use Rattle.sqlite.specs.declared.types.Value.TheVariants.{Null}
+use Rattle.clr_csv.specs.Rows.{◌>>=◌}
+use Rattle.clr_tables.specs.RowsRead.{PointRead as ReadPoint, read_point, text_at}
+use Rattle.clr_tables.specs.declared.table_name.TableName.{TableName}
+use Rattle.clr_load.specs.declared.table_row.PointRead.{PointRead}
+
+-- a text whose bytes are those of characters
+abbrev pub utf8_at : TableName → ℕ → Row → Result (List ℕ) TableName
+utf8_at t place row = do
+  text ← text_at t place row
+  if is_utf8 text then Ok text else Err t
+
+-- what is read, as `value` sees it, or the table of the row that does not read
+abbrev pub Reads : {A X : Type 0} → (X → A) → Result A TableName → Result X TableName → Type 0
+Reads value read (Ok x) = read ≡ Ok (value x)
+Reads value read (Err t) = read ≡ Err t
+
+-- whether a column is NULL. One that the row does not have counts as NULL
+abbrev pub is_null : Value → Bool
+is_null Null = true
+is_null _ = false
+
+abbrev pub is_null_at : ℕ → Row → Bool
+is_null_at place row = is_null (column row place)
+
+-- a switching point and its state, in two fields
+abbrev pub in_fields : ReadPoint → PointRead
+in_fields p = record { point = p.point; state = p.state }
+
+abbrev pub point_values : Row → Result PointRead TableName
+point_values row = do
+  p ← read_point row
+  Ok (in_fields p)

@@ -1,0 +1,18 @@
+//! What the tables of a register in a database read as: the version, the rows, or the table with
+//! the first row that does not read.
+#![tactic(auto)]
+
+mod fault;
+mod laws;
+mod listing;
+mod load;
+mod reading;
+mod rows;
+mod table_row;
+mod version;
+
+pub use fault::StoreFault;
+pub use laws::tables_open_again;
+pub use load::load_rows;
+pub use rows::Rows;
+pub use version::read_version;

@@ -1,0 +1,54 @@
+//! The statement that lists the rows of a table.
+ghost use Rattle.std.specs.Prelude.{◌≡◌, [], IfErr, IfOk};
+ghost use Rattle.sqlite.specs.Held.{state};
+ghost use Rattle.sqlite.specs.State.{HasCleanDisk, Shown, Survives};
+ghost use Rattle.clr_load.specs.Fault.{IsOfDatabase};
+ghost use Rattle.clr_load.specs.Found.{Lists};
+ghost use Rattle.clr_load.specs.Sql.{select_sql};
+ghost use Rattle.clr_load.specs.Stored.{rows_in};
+
+use crate::fault::StoreFault;
+use clr_tables::TableName;
+use sqlite::{Alter, Row, Transaction};
+
+/// Lists all rows of a table, in the order of the whole key.
+fn select_sql(table: TableName) -> &'static str
+    ensures { result.now ≡ select_sql table }
+{
+    match table {
+        TableName::Meta => "SELECT name, value FROM meta ORDER BY name",
+        TableName::Section => "SELECT name, source FROM section ORDER BY name",
+        TableName::Point =>
+            "SELECT name, from_end, to_end, lockable, remote, position, hand_requester, \
+             hand_number FROM point ORDER BY name",
+        TableName::Staff => "SELECT name, role, supervisor FROM staff ORDER BY name",
+        TableName::Clearance =>
+            "SELECT requester, number, holder, work, phase, last_at FROM clearance \
+             ORDER BY requester, number",
+        TableName::Step =>
+            "SELECT requester, number, round, ordinal, action, point, state, reader FROM step \
+             ORDER BY requester, number, round, ordinal",
+        TableName::Hold =>
+            "SELECT kind, place, requester, number FROM hold ORDER BY kind, place, requester, \
+             number",
+    }
+}
+
+/// All rows of a table, in the order of its key.
+pub(crate) fn list_rows<S: Alter>(
+    tx: &mut Transaction<'_, S>,
+    table: TableName,
+) -> Result<Vec<Row>, StoreFault>
+    ensures same_reference { tx.new.conn.ghost_name ≡ tx.old.conn.ghost_name }
+    ensures step { Lists (state S.Store tx.old.conn.now) (state S.Store tx.new.conn.now)
+        (rows_in table) (λ rows. rows.items) result }
+    ensures shown { HasCleanDisk (state S.Store tx.new.conn.now) → IfOk result (λ rows.
+        Shown (select_sql table) [] (state S.Store tx.old.conn.now)
+        (state S.Store tx.new.conn.now) rows.items) }
+    ensures fault { IfErr result IsOfDatabase }
+    ensures survives { Survives (state S.Store tx.old.conn.now) (state S.Store tx.new.conn.now)
+        (λ _. ⊥) }
+{
+    let rows = tx.query_all(select_sql(table), &[])?;
+    Ok(rows)
+}
