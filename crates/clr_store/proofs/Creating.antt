@@ -12,15 +12,17 @@ use Rattle.std.proofs.lemmas.List.Sums.{fold_more}
 use Rattle.sqlite.specs.Change.{created, next_tree, KeepsRows}
 use Rattle.sqlite.specs.Command.TheVariants.{CreateTable}
 use Rattle.sqlite.specs.Does.{Tally, lacks_sequence}
-use Rattle.sqlite.specs.Effect.{Database}
+use Rattle.sqlite.specs.Effect.{Database, IsDatabase}
 use Rattle.sqlite.specs.Order.{Row, row_cmp, value_cmp}
-use Rattle.sqlite.specs.State.{State, Writes, KeepsCommit, ExecutesInside}
+use Rattle.sqlite.specs.State.{HasCleanDisk, State, Writes, KeepsCommit, ExecutesInside}
 use Rattle.sqlite.specs.Tree.{Trees}
 use Rattle.sqlite.specs.declared.types.Value.TheVariants.{Text}
 use Rattle.sqlite.proofs.Callers.{runs_as}
+use Rattle.sqlite_catalog.specs.Listing.{IsSound}
 use Rattle.sqlite_trees.proofs.ListLemmas.{all-append}
+use Rattle.sqlite_trees.specs.View.{doubt}
 use Rattle.sqlite_value.proofs.OrderLemmas.{value_cmp-Text}
-use Rattle.clr_net.specs.Grid.{Grid, IsNetwork, point_names}
+use Rattle.clr_net.specs.Grid.{Grid, IsNetwork, point_names, unplaced}
 use Rattle.clr_net.specs.Name.{name_cmp}
 use Rattle.clr_net.specs.declared.point.PointRow.{PointRow}
 use Rattle.clr_csv.specs.Staff.{IsStaff}
@@ -29,22 +31,22 @@ use Rattle.clr_shelf.proofs.Lists.{Contains-cases, Contains-here, Contains-later
 use Rattle.clr_shelf.proofs.Members.{row_of-member}
 use Rattle.clr_shelf.specs.Rows.{in_key_order}
 use Rattle.clr_rules.proofs.good.Opening.{in_key_order-from_sorted}
-use Rattle.clr_rules.specs.Register.{first_state, opening, unplaced}
+use Rattle.clr_rules.specs.Register.{first_state, opening}
 use Rattle.clr_rules.specs.States.{state_key, state_of}
 use Rattle.std.proofs.lemmas.Cmp.{nat_list_cmp_total}
 use Rattle.clr_tables.specs.Tables.{Tables, point_row, section_row, staff_row, state_at, tables_of}
 use Rattle.clr_tables.specs.declared.table_name.TableName.{TableName}
 use Rattle.clr_tables.specs.declared.table_name.TableName.TheVariants.{Meta, Section, Point, Staff, Clearance, Step, Hold}
 use Rattle.clr_store.specs.Change.{Changes, HasEmpty, Makes, added, change_at, filled, opening_points, with_rows}
-use Rattle.clr_reading.specs.Schema.{all_names, columns_in, names_before, no_schema, schema_of, table_of, tree_of}
-use Rattle.clr_reading.specs.Sql.{create_sql}
-use Rattle.clr_reading.specs.Stored.{HasAllRows, HasRows, HasTables, Holds, IsInOrder, rows_in}
-use Rattle.clr_reading.specs.declared.fault.StoreFault.{StoreFault}
+use Rattle.clr_load.specs.Schema.{all_names, columns_in, names_before, no_schema, schema_of, table_of, tree_of}
+use Rattle.clr_load.specs.Sql.{create_sql}
+use Rattle.clr_load.specs.Stored.{HasAllRows, HasRows, HasTables, Holds, IsInOrder, rows_in}
+use Rattle.clr_load.specs.declared.fault.StoreFault.{StoreFault}
 use Rattle.clr_store.proofs.Effects.{went}
-use Rattle.clr_reading.proofs.AllRead.{same_value}
-use Rattle.clr_reading.proofs.Loading.{then_kept}
+use Rattle.clr_load.proofs.AllRead.{same_value}
+use Rattle.clr_load.proofs.Loading.{then_kept}
 use Rattle.clr_store.proofs.Inside.{in_any_order}
-use Rattle.clr_reading.proofs.Texts.{create_is, create_plain, create_text, created_is, defines}
+use Rattle.clr_load.proofs.Texts.{create_is, create_plain, create_text, created_is, defines}
 
 -- ---- CREATE TABLE
 still_empty : (names : List TableName) (old new : Trees) → KeepsRows (map table_of names) old new → AllByRecursion (λ name. old (tree_of name) ≡ []) names
@@ -75,10 +77,10 @@ pub makes_table : (old new : State) (name : TableName) (count : ℕ) → Execute
 makes_table old new name count ran = record {
   inside = ran.1.mode;
   kept = record { was_open = λ _. ran.1.was_open; committed = λ _. ran.1.committed_is };
+  sound = λ before. (writes before).sound;
   makes = λ before.
       let has = before.schema in
-      let w = subst (λ t. Writes old new None CreateTable t [] count) (create_text name)
-      (runs_as (create_sql name) [] old new (schema_of (names_before name)) has CreateTable (create_is name) (create_plain name) count ran.0) in
+      let w = writes before in
       let all = went w.changed in
       let first = went all.1 in
       let made = first.1 in
@@ -99,11 +101,15 @@ makes_table old new name count ran = record {
       };
 }
   where
+    writes : HasEmpty (names_before name) old.now → Writes old new None CreateTable (create_sql name) [] count
+    writes before = subst (λ t. Writes old new None CreateTable t [] count) (create_text name)
+        (runs_as (create_sql name) [] old new (schema_of (names_before name)) before.schema CreateTable (create_is name) (create_plain name) count ran.0)
+
     moved : (names : List TableName) (a b : Trees) → a ≡ b → AllByRecursion (λ name. b (tree_of name) ≡ []) names → AllByRecursion (λ name. a (tree_of name) ≡ []) names
     moved names a b same empty = subst (λ (t : Trees). AllByRecursion (λ name. t (tree_of name) ≡ []) names) (sym same) empty
 
 pub then_makes : (a b c : State) (F G H : Database → Type 0) → Makes a b F G → Makes b c G H → Makes a c F H
-then_makes a b c F G H p q = record { inside = q.inside; kept = then_kept a b c p.kept q.kept; makes = λ has. q.makes (p.makes has) }
+then_makes a b c F G H p q = record { inside = q.inside; kept = then_kept a b c p.kept q.kept; makes = λ has. q.makes (p.makes has); sound = λ has. q.sound (p.makes has) }
 
 pub then_ends : {X : Type 0} (a b c : State) (F G H : Database → Type 0) (r : Result X StoreFault) → Makes a b F G → MatchResult r (λ _. Makes b c G H) (λ _. KeepsCommit b c)
     → MatchResult r (λ _. Makes a c F H) (λ _. KeepsCommit a c)
@@ -197,8 +203,8 @@ no_tables = record { meta = []; sections = []; points = []; staff = []; clearanc
 empty_rows : (name : TableName) (trees : Trees) → trees (tree_of name) ≡ [] → HasRows (columns_in name) (trees (tree_of name)) []
 empty_rows name trees empty = rw empty (record { same = IsPermutation-refl _; numbered = (tt, tt); fit = refl })
 
-pub has_none : (db : Database) → HasEmpty all_names db → Holds db no_tables
-has_none db has = record { schema = has.schema; rows = at }
+pub has_none : (db : Database) → HasEmpty all_names db → IsDatabase db → Holds db no_tables
+has_none db has sound = record { schema = has.schema; listed = subst (λ s. IsSound s db.trees) has.schema sound; rows = at }
   where
     at : HasAllRows db.trees no_tables
     at Meta = empty_rows Meta db.trees has.empty.0
@@ -250,7 +256,7 @@ points_first g net (p ∷ rest) within =
 
 -- the rows that are inserted are those of the opening register
 pub fills : (db : Database) (g : Grid) (staff : List StaffRow) → IsNetwork g → IsStaff staff → Holds db (filled g.sections g.points staff no_tables) → HasTables db (tables_of (opening g staff))
-fills db g staff net is_staff has = record { holds = record { schema = has.schema; rows = at }; in_order = ordered }
+fills db g staff net is_staff has = record { holds = record { schema = has.schema; listed = has.listed; rows = at }; in_order = ordered }
   where
     front : (name : TableName) (news : List Row) → HasRows (columns_in name) (db.trees (tree_of name)) (added news []) → HasRows (columns_in name) (db.trees (tree_of name)) news
     front name news there = in_any_order (columns_in name) (db.trees (tree_of name)) (added news []) news
@@ -282,4 +288,9 @@ fills db g staff net is_staff has = record { holds = record { schema = has.schem
 pub whole : (a b c : State) (g : Grid) (staff : List StaffRow) → IsNetwork g → IsStaff staff → a.now.schema ≡ no_schema → Makes a b (HasEmpty []) (HasEmpty all_names)
     → Changes b c (filled g.sections g.points staff) → HasTables c.now (tables_of (opening g staff))
 whole a b c g staff net is_staff bare made changes =
-    fills c.now g staff net is_staff (changes.tables no_tables (has_none b.now (made.makes (record { schema = bare; empty = tt }))))
+    let none : HasEmpty [] a.now = record { schema = bare; empty = tt } in
+    fills c.now g staff net is_staff (changes.tables no_tables (has_none b.now (made.makes none) (made.sound none)))
+
+-- a disk that is clean at the end was clean before
+pub still_clean : (mid end : State) → doubt mid.is_clean ≤ doubt end.is_clean → HasCleanDisk end → HasCleanDisk mid
+still_clean mid end less clean = omega (arith, less, clean)

@@ -21,6 +21,7 @@ use Rattle.sqlite.specs.Term.{Env, Term, eval_all, holds}
 use Rattle.sqlite.specs.Tree.{Trees, put_row, rowid}
 use Rattle.sqlite.specs.declared.types.Value.TheVariants.{Null, Int}
 use Rattle.sqlite.proofs.Callers.{statement_of, runs_as, one_step}
+use Rattle.sqlite_catalog.specs.Listing.{IsSound}
 use Rattle.sqlite_rules.specs.Calls.{ids_of}
 use Rattle.sqlite_rules.specs.Edit.{id_in}
 use Rattle.sqlite_trees.proofs.ListLemmas.{map-map}
@@ -28,14 +29,14 @@ use Rattle.sqlite_trees.specs.View.{IsShaped}
 use Rattle.sqlite_trees.specs.declared.store.Shape.TheVariants as Shape
 use Rattle.clr_tables.specs.declared.table_name.TableName.{TableName}
 use Rattle.clr_tables.specs.declared.table_name.TableName.TheVariants.{Meta, Section, Point, Staff, Clearance, Step, Hold}
-use Rattle.clr_reading.specs.Schema.{place_of, tree_of, columns_in, table_of, register_schema}
-use Rattle.clr_reading.specs.Sql.{insert_sql, delete_sql}
-use Rattle.clr_reading.specs.Stored.{fits_columns}
-use Rattle.clr_reading.proofs.Columns.{cast_fits, cast_number, fits_length, values_all, values_from}
+use Rattle.clr_load.specs.Schema.{place_of, tree_of, columns_in, table_of, register_schema}
+use Rattle.clr_load.specs.Sql.{insert_sql, delete_sql}
+use Rattle.clr_load.specs.Stored.{fits_columns}
+use Rattle.clr_load.proofs.Columns.{cast_fits, cast_number, fits_length, values_all, values_from}
 use Rattle.clr_store.proofs.RowLemmas.{removed}
-use Rattle.clr_reading.proofs.AllRead.{same_value}
-use Rattle.clr_reading.proofs.Loading.{laid}
-use Rattle.clr_reading.proofs.Texts.{columns_width, insert_is, insert_plain, insert_terms, delete_is, delete_plain, matching, query_of, width_of}
+use Rattle.clr_load.proofs.AllRead.{same_value}
+use Rattle.clr_load.proofs.Loading.{laid}
+use Rattle.clr_load.proofs.Texts.{columns_width, insert_is, insert_plain, insert_terms, delete_is, delete_plain, matching, query_of, width_of}
 
 -- a part that gave a value did not stop on the way
 pub went : {B E R : Type 0} {b : B} {Stops : E → Type 0} → ((stop : E) × Stops stop × (Ok b ≡ Err stop)) ⊎ R → R
@@ -75,6 +76,7 @@ next_row name db row = Int (next_rowid (db (tree_of name))) ∷ row
 
 pub record Inserted (old new : State) (name : TableName) (row : Row) : Type 0 where
   pub schema : new.now.schema ≡ register_schema
+  pub listed : IsSound register_schema new.now.trees
   pub rows : new.now.trees (tree_of name) ≡ put_row (next_row name old.now.trees row) (old.now.trees (tree_of name))
   pub fresh : is_taken (old.now.trees (tree_of name)) (next_row name old.now.trees row) ≡ false
   pub others : (other : TableName) → tree_of other ≢ tree_of name → new.now.trees (tree_of other) ≡ old.now.trees (tree_of other)
@@ -123,6 +125,7 @@ inserts old new name row count has fits ran =
     let all : new.now.trees ≡ written.0 = ap (λ (d : Database). d.trees) now ∙ trees in
     record {
       schema = ap (λ (d : Database). d.schema) now;
+      listed = subst (λ s. IsSound s new.now.trees) (ap (λ (d : Database). d.schema) now) w.sound;
       rows = ap (λ (t : Trees). t (tree_of name)) all ∙ step.rows ∙ ap (put_all (db (tree_of name))) news;
       fresh = not_taken (db (tree_of name)) (next_row name db row) (subst (λ n. are_fresh (db (tree_of name)) n ≡ true) news step.fresh);
       others = λ other apart. ap (λ (t : Trees). t (tree_of other)) all ∙ others_stay written.0 db (tree_of name) step.tables other apart;
@@ -169,6 +172,7 @@ is_met_in name key r = is_met (Query.filter (matching name)) key r
 
 pub record Deleted (old new : State) (name : TableName) (key : Row) : Type 0 where
   pub schema : new.now.schema ≡ register_schema
+  pub listed : IsSound register_schema new.now.trees
   pub rows : new.now.trees (tree_of name) ≡ filter (λ r. not (is_met_in name key r)) (old.now.trees (tree_of name))
   pub others : (other : TableName) → tree_of other ≢ tree_of name → new.now.trees (tree_of other) ≡ old.now.trees (tree_of other)
 
@@ -194,6 +198,7 @@ deletes old new name key count has shaped ran =
     let all : new.now.trees ≡ written.0 = ap (λ (d : Database). d.trees) now ∙ trees in
     record {
       schema = ap (λ (d : Database). d.schema) now;
+      listed = subst (λ s. IsSound s new.now.trees) (ap (λ (d : Database). d.schema) now) w.sound;
       rows = ap (λ (t : Trees). t (tree_of name)) all ∙ step.rows ∙ removed (db (tree_of name)) shaped (is_met_in name key) (ids_of given.0) ids;
       others = λ other apart. ap (λ (t : Trees). t (tree_of other)) all ∙ others_stay written.0 db (tree_of name) step.tables other apart;
     }

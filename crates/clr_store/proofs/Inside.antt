@@ -37,12 +37,13 @@ use Rattle.clr_tables.specs.declared.table_name.TableName.{TableName}
 use Rattle.clr_tables.specs.declared.table_name.TableName.TheVariants.{Meta, Section, Point, Staff, Clearance, Step, Hold}
 use Rattle.clr_store.specs.Contract.{AreEdited}
 use Rattle.clr_store.specs.Change.{Changes, change_at, with_rows}
-use Rattle.clr_reading.specs.Schema.{columns_in, keys_in, tree_of}
-use Rattle.clr_reading.specs.Sql.{insert_sql, delete_sql}
-use Rattle.clr_reading.specs.declared.fault.StoreFault.{StoreFault}
-use Rattle.clr_reading.specs.Stored.{HasAllRows, HasRows, HasTables, Holds, IsInOrder, bodies, fits_columns, rows_in}
-use Rattle.clr_reading.proofs.Columns.{sets_from, tests_are}
-use Rattle.clr_reading.proofs.Loading.{then_kept}
+use Rattle.clr_load.specs.Schema.{columns_in, keys_in, tree_of}
+use Rattle.clr_load.specs.Sql.{insert_sql, delete_sql}
+use Rattle.clr_load.specs.declared.fault.StoreFault.{StoreFault}
+use Rattle.clr_load.specs.Stored.{AreTables, HasAllRows, HasRows, HasTables, Holds, IsInOrder, bodies, fits_columns, rows_in}
+use Rattle.clr_load.proofs.Columns.{sets_from, tests_are}
+use Rattle.clr_load.proofs.Loading.{then_kept}
+use Rattle.clr_load.proofs.Reopened.{left_of}
 use Rattle.clr_store.proofs.RowLemmas.{put_fresh, shaped-filter}
 use Rattle.clr_store.proofs.Effects.{deletes, inserts, is_met_in}
 
@@ -172,6 +173,7 @@ adds old new name row count fits ran = record {
       let put = put_in (columns_in name) row (old.now.trees (tree_of name)) (rows_in name t) fits did.fresh (has.rows name) in
       record {
         schema = did.schema;
+        listed = did.listed;
         rows = all_changed old.now.trees new.now.trees name (λ rows. row ∷ rows) t has.rows (subst (λ tree. HasRows (columns_in name) tree (row ∷ rows_in name t)) (sym did.rows) put) did.others;
       };
 }
@@ -186,6 +188,7 @@ removes old new name key count is set ran = record {
       let left = taken_away name key (old.now.trees (tree_of name)) (rows_in name t) is set (has.rows name) in
       record {
         schema = did.schema;
+        listed = did.listed;
         rows = all_changed old.now.trees new.now.trees name (without_table_row (keys_in name) key) t has.rows
             (subst (λ tree. HasRows (columns_in name) tree (without_table_row (keys_in name) key (rows_in name t))) (sym did.rows) left) did.others;
       };
@@ -230,7 +233,7 @@ puts a b c name row (Ok x) p q = record {
   kept = then_kept a b c p.kept q.kept;
   tables = λ t has.
       let both = q.tables (with_rows name (without_table_row (keys_in name) (take (keys_in name) row)) t) (p.tables t has) in
-      record { schema = both.schema; rows = puts_rows c.now.trees name row t both.rows };
+      record { schema = both.schema; listed = both.listed; rows = puts_rows c.now.trees name row t both.rows };
 }
 puts a b c name row (Err e) p q = then_kept a b c p.kept q
 
@@ -307,16 +310,16 @@ edits_in_order [] t ordered = ordered
 edits_in_order (edit ∷ edits) t ordered = edits_in_order edits (table_edited edit t) (edit_in_order edit t ordered)
 
 -- ---- a transaction
+pub edited_tables : (db : Database) (edits : List Edit) (t : Tables) → IsInOrder t → Holds db (tables_edited edits t) → HasTables db (tables_edited edits t)
+edited_tables db edits t ordered has = record { holds = has; in_order = edits_in_order edits t ordered }
+
 pub commit_crash : {S : Type 0} (g : Ghosts S) (old mid end : Held S) (edits : List Edit) → Survives (state g (record old { in_transaction = true })) (state g mid) (λ _. ⊥)
     → Survives (state g mid) (state g end) (λ db. db ≡ (state g mid).now.trees)
     → (HasCleanDisk (state g mid) → Changes (state g (record old { in_transaction = true })) (state g mid) (tables_edited edits))
     → Survives (state g old) (state g end) (AreEdited (state g old).now edits)
 commit_crash g old mid end edits inside ended changes =
     survives_then (state g old) (state g mid) (state g end) _ _ _ (λ _ db none. absurd none)
-    (λ clean db is t has. record {
-      rows = subst (λ (trees : Trees). HasAllRows trees (tables_edited edits t)) (sym is) ((changes (omega (arith, ended.clean))).tables t has.holds).rows;
-      in_order = edits_in_order edits t has.in_order;
-    }) (survives_begin g old (state g mid) _ inside) ended
-
-pub edited_tables : (db : Database) (edits : List Edit) (t : Tables) → IsInOrder t → Holds db (tables_edited edits t) → HasTables db (tables_edited edits t)
-edited_tables db edits t ordered has = record { holds = has; in_order = edits_in_order edits t ordered }
+    (λ clean db is t has.
+    let done = edited_tables (state g mid).now edits t has.in_order ((changes (omega (arith, ended.clean))).tables t has.holds) in
+    subst (λ (trees : Trees). AreTables trees (tables_edited edits t)) (sym is) (left_of (state g mid).now (tables_edited edits t) done))
+    (survives_begin g old (state g mid) _ inside) ended

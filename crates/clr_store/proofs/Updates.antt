@@ -24,6 +24,7 @@ use Rattle.sqlite.specs.Tree.{Trees, put_row, rowid}
 use Rattle.sqlite.specs.declared.types.Value.{Value}
 use Rattle.sqlite.specs.declared.types.Value.TheVariants.{Null, Int, Text}
 use Rattle.sqlite.proofs.Callers.{IsPlain, command_of, statement_of, runs_as, one_step}
+use Rattle.sqlite_catalog.specs.Listing.{IsSound}
 use Rattle.sqlite_rules.specs.Calls.{ids_of}
 use Rattle.sqlite_rules.specs.Edit.{id_in}
 use Rattle.sqlite_schema.specs.declared.schema.Column.{Column}
@@ -39,16 +40,16 @@ use Rattle.clr_tables.specs.TableEdits.{changed_point, handed_row, placed_row, t
 use Rattle.clr_tables.specs.Tables.{position_value}
 use Rattle.clr_tables.specs.declared.table_name.TableName.TheVariants.{Point}
 use Rattle.clr_store.specs.Change.{Changes, with_rows}
-use Rattle.clr_reading.specs.Schema.{columns_in, table_of, tree_of, register_schema}
-use Rattle.clr_reading.specs.Stored.{HasRows, bodies, fits_columns, is_of_kind, rows_in}
-use Rattle.clr_reading.proofs.Columns.{both_true, cast_fits, values_all, values_from, fits_length}
+use Rattle.clr_load.specs.Schema.{columns_in, table_of, tree_of, register_schema}
+use Rattle.clr_load.specs.Stored.{HasRows, bodies, fits_columns, is_of_kind, rows_in}
+use Rattle.clr_load.proofs.Columns.{both_true, cast_fits, values_all, values_from, fits_length}
 use Rattle.clr_store.proofs.Inside.{all_changed, list_all-permutation, met_is}
 use Rattle.clr_store.proofs.RowLemmas.{put_fresh, removed, shaped-filter}
 use Rattle.clr_store.proofs.Effects.{ids_listed, is_met, others_stay, shown_rows, went}
-use Rattle.clr_reading.proofs.AllRead.{same_value}
-use Rattle.clr_reading.proofs.Loading.{laid}
-use Rattle.clr_reading.specs.Sql.{set_hand_sql, set_position_sql}
-use Rattle.clr_reading.proofs.Texts.{changing, hand_terms, position_terms, set_hand_is, set_hand_plain, set_position_is, set_position_plain, tests_from}
+use Rattle.clr_load.proofs.AllRead.{same_value}
+use Rattle.clr_load.proofs.Loading.{laid}
+use Rattle.clr_load.specs.Sql.{set_hand_sql, set_position_sql}
+use Rattle.clr_load.proofs.Texts.{changing, hand_terms, position_terms, set_hand_is, set_hand_plain, set_position_is, set_position_plain, tests_from}
 
 -- ---- rows put under numbers that they have
 given_numbers : (rows news : List Row) → numbered Given rows news ≡ news
@@ -199,6 +200,7 @@ module _ (point : List ℕ) (more : Row) (terms : List Term) (change : Row → R
         ap (λ (t : Trees). t 4) all ∙ step.rows ∙ ap (λ l. put_all l it.news) left ∙ ap (put_all (filter (λ r. not (met r)) tree)) news in
         record {
           schema = ap (λ (d : Database). d.schema) now;
+          listed = subst (λ s. IsSound s new.now.trees) (ap (λ (d : Database). d.schema) now) w.sound;
           rows = all_changed old.now.trees new.now.trees Point (changed_point point change) t has.rows
               (subst (λ l. HasRows point_columns l (changed_point point change (rows_in Point t))) (sym there) built)
               (λ other apart. ap (λ (t : Trees). t (tree_of other)) all ∙ others_stay written.0 db 4 step.tables other apart);

@@ -2,7 +2,7 @@
 use Rattle.std.specs.Prelude.{◌≡◌, IsTrue, Result, MatchResult, if◌then◌else◌, ◌==◌, List, [], ◌∷◌}
 use Rattle.std.specs.Prelude.{fold, map}
 use Rattle.std.specs.List.{AllByRecursion}
-use Rattle.sqlite.specs.Effect.{Database}
+use Rattle.sqlite.specs.Effect.{Database, IsDatabase}
 use Rattle.sqlite.specs.Order.{Row}
 use Rattle.sqlite.specs.State.{State, HasCleanDisk, KeepsCommit}
 use Rattle.clr_net.specs.declared.section.SectionRow.{SectionRow}
@@ -13,9 +13,9 @@ use Rattle.clr_tables.specs.Tables.{Tables, point_row, section_row, staff_row, v
 use Rattle.clr_tables.specs.declared.table_name.TableName.{TableName}
 use Rattle.clr_tables.specs.declared.table_name.TableName.TheVariants.{Meta, Section, Point, Staff}
 use Rattle.clr_tables.specs.declared.table_name.TableName.TheVariants.{Clearance, Step, Hold}
-use Rattle.clr_reading.specs.Schema.{schema_of, tree_of}
-use Rattle.clr_reading.specs.Stored.{Holds}
-use Rattle.clr_reading.specs.declared.fault.StoreFault.{StoreFault}
+use Rattle.clr_load.specs.Schema.{schema_of, tree_of}
+use Rattle.clr_load.specs.Stored.{Holds}
+use Rattle.clr_load.specs.declared.fault.StoreFault.{StoreFault}
 
 -- a change of the rows of one table, as it is for another
 abbrev pub change_at : TableName → TableName → (List Row → List Row) → List Row → List Row
@@ -44,12 +44,13 @@ abbrev pub Steps : {X : Type 0} → State → State → (Tables → Tables) → 
 Steps old new change result = HasCleanDisk new → IsTrue old.in_transaction
     → MatchResult result (λ _. Changes old new change) (λ _. KeepsCommit old new)
 
--- what the database has goes from one thing to another inside the transaction, and nothing is
--- committed
+-- what the database has goes from one thing to another inside the transaction, its catalogue lists
+-- what there is, and nothing is committed
 pub record Makes (old new : State) (From To : Database → Type 0) : Type 0 where
   pub inside : IsTrue new.in_transaction
   pub kept : KeepsCommit old new
   pub makes : From old.now → To new.now
+  pub sound : From old.now → IsDatabase new.now
 
 abbrev pub StepsTo : {X : Type 0} → State → State → (Database → Type 0) → (Database → Type 0)
     → Result X StoreFault → Type 0

@@ -6,10 +6,11 @@ use Rattle.clr_rules.specs.declared.change.Edit.{Edit}
 use Rattle.clr_tables.specs.TableEdits.{tables_edited}
 use Rattle.clr_tables.specs.Tables.{Tables}
 use Rattle.clr_tables.specs.declared.table_name.TableName.{TableName}
-use Rattle.clr_reading.specs.Stored.{AreTables, HasTables}
-use Rattle.clr_reading.specs.declared.fault.StoreFault.{StoreFault}
-use Rattle.clr_reading.specs.declared.fault.StoreFault.TheVariants.{Sql, WrongVersion, BadRow}
-use Rattle.clr_reading.specs.declared.fault.StoreFault.TheVariants.{NoMemory}
+use Rattle.clr_tables.specs.declared.table_name.TableName.TheVariants.{Meta}
+use Rattle.clr_load.specs.Stored.{AreTables, HasTables}
+use Rattle.clr_load.specs.declared.fault.StoreFault.{StoreFault}
+use Rattle.clr_load.specs.declared.fault.StoreFault.TheVariants.{Sql, WrongVersion, BadRow}
+use Rattle.clr_load.specs.declared.fault.StoreFault.TheVariants.{NoMemory}
 
 -- the trees have the tables with these edits made
 abbrev pub AreEdited : Database → List Edit → Trees → Type 0
@@ -27,3 +28,11 @@ RefusesVersion read Sql = ⊤
 RefusesVersion read NoMemory = ⊤
 RefusesVersion read (BadRow table) = read ≡ Err table
 RefusesVersion read (WrongVersion n) = (read ≡ Ok n) × (n ≢ pos 1)
+
+-- why a database is not opened, whatever it has: it refused or failed, memory ran out, no row
+-- tells the version, or the version is not 1
+abbrev pub IsOfOpening : StoreFault → Type 0
+IsOfOpening Sql = ⊤
+IsOfOpening NoMemory = ⊤
+IsOfOpening (BadRow table) = table ≡ Meta
+IsOfOpening (WrongVersion n) = n ≢ pos 1

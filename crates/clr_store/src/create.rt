@@ -7,10 +7,10 @@ ghost use Rattle.clr_tables.specs.Tables.{point_row, section_row, staff_row, tab
 ghost use Rattle.clr_tables.specs.Tables.{version_row};
 ghost use Rattle.clr_store.specs.Change.{HasEmpty, Steps, StepsTo, added, opening_points, filled};
 ghost use Rattle.clr_store.specs.Change.{with_rows};
-ghost use Rattle.clr_reading.specs.Fault.{IsOfDatabase};
-ghost use Rattle.clr_reading.specs.Contract.{IsSaved};
-ghost use Rattle.clr_reading.specs.Schema.{all_names, names_before, no_schema};
-ghost use Rattle.clr_reading.specs.Stored.{AreTables, HasTables};
+ghost use Rattle.clr_load.specs.Fault.{IsOfDatabase};
+ghost use Rattle.clr_load.specs.Contract.{IsSaved};
+ghost use Rattle.clr_load.specs.Schema.{all_names, names_before, no_schema};
+ghost use Rattle.clr_load.specs.Stored.{AreTables, HasTables};
 
 use crate::sql::create_sql;
 use crate::statements::insert_row;
@@ -18,8 +18,8 @@ use crate::values::{
     flag_value, name_or_null, name_value, number_value, position_value, text_value,
 };
 use clr_csv::{Staff, StaffRow};
+use clr_load::StoreFault;
 use clr_net::{Network, PointRow, SectionRow};
-use clr_reading::StoreFault;
 use clr_tables::{TableName, role_word};
 use sqlite::types::ValueRef;
 use sqlite::{Alter, Connection, Transaction};
@@ -248,6 +248,7 @@ pub(crate) fn make_register<S: Alter>(
         (HasTables (state S.Store conn.new).now (tables_of (opening network.now staff.now))) }
     ensures saved { HasCleanDisk (state S.Store conn.new) → OnOk result
         (IsSaved (state S.Store conn.new)) }
+    ensures bare { OnOk result ((state S.Store conn.old).now.schema ≡ no_schema) }
     ensures fault { IfErr result IsOfDatabase }
     ensures none { HasCleanDisk (state S.Store conn.new) → IsTrue (state S.Store conn.new).is_open
         → OnErr result ((state S.Store conn.new).now ≡ (state S.Store conn.old).now) }

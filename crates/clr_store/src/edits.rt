@@ -7,15 +7,15 @@ ghost use Rattle.clr_rules.specs.declared.change.Edit.TheVariants.{SetPosition, 
 ghost use Rattle.clr_rules.specs.declared.change.Edit.TheVariants.{TakeHold, PutRecord, PutStep};
 ghost use Rattle.clr_tables.specs.TableEdits.{table_edited, tables_edited, with_table_row};
 ghost use Rattle.clr_store.specs.Change.{Steps, with_rows};
-ghost use Rattle.clr_reading.specs.Fault.{IsOfDatabase};
-ghost use Rattle.clr_reading.specs.Schema.{columns_in, keys_in};
-ghost use Rattle.clr_reading.specs.Stored.{fits_columns, has_key};
+ghost use Rattle.clr_load.specs.Fault.{IsOfDatabase};
+ghost use Rattle.clr_load.specs.Schema.{columns_in, keys_in};
+ghost use Rattle.clr_load.specs.Stored.{fits_columns, has_key};
 
 use crate::sql::keys_in;
 use crate::statements::{delete_row, insert_row};
 use crate::values::{name_or_null, name_value, number_value, position_value, text_value};
+use clr_load::StoreFault;
 use clr_net::{Name, Position};
-use clr_reading::StoreFault;
 use clr_rules::{ClearanceId, Edit, Hold, Record, StepRow};
 use clr_tables::{TableName, action_name, state_name};
 use sqlite::types::ValueRef;

@@ -9,5 +9,5 @@ mod statements;
 mod store;
 mod values;
 
-pub use clr_reading::{Rows, StoreFault};
+pub use clr_load::{Rows, StoreFault};
 pub use store::{Back, Store};

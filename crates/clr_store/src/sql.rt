@@ -1,7 +1,7 @@
 //! The statements that write the tables of a register, as texts.
 ghost use Rattle.std.specs.Prelude.{◌≡◌};
-ghost use Rattle.clr_reading.specs.Schema.{keys_in};
-ghost use Rattle.clr_reading.specs.Sql.{create_sql, delete_sql, insert_sql};
+ghost use Rattle.clr_load.specs.Schema.{keys_in};
+ghost use Rattle.clr_load.specs.Sql.{create_sql, delete_sql, insert_sql};
 
 use clr_tables::TableName;
 

@@ -5,12 +5,12 @@ ghost use Rattle.sqlite.specs.State.{Survives};
 ghost use Rattle.sqlite.specs.Values.{bound};
 ghost use Rattle.clr_tables.specs.TableEdits.{without_table_row};
 ghost use Rattle.clr_store.specs.Change.{Steps, with_rows};
-ghost use Rattle.clr_reading.specs.Fault.{IsOfDatabase};
-ghost use Rattle.clr_reading.specs.Schema.{columns_in, keys_in};
-ghost use Rattle.clr_reading.specs.Stored.{fits_columns, has_key};
+ghost use Rattle.clr_load.specs.Fault.{IsOfDatabase};
+ghost use Rattle.clr_load.specs.Schema.{columns_in, keys_in};
+ghost use Rattle.clr_load.specs.Stored.{fits_columns, has_key};
 
 use crate::sql::{delete_sql, insert_sql};
-use clr_reading::StoreFault;
+use clr_load::StoreFault;
 use clr_tables::TableName;
 use sqlite::types::ValueRef;
 use sqlite::{Alter, Transaction};

@@ -1,22 +1,26 @@
 //! The store: the register of a database, over a connection to it.
-ghost use Rattle.std.specs.Prelude.{◌≡◌, ◌⊎◌, false, pos, IsTrue, IfErr, IfOk, IsErrAnd, Ok, OnErr, OnOk};
+ghost use Rattle.std.specs.Prelude.{◌≡◌, ◌⊎◌, false, true, pos, List, IsTrue, IfErr, IfOk, IsErrAnd};
+ghost use Rattle.std.specs.Prelude.{MatchResult, Ok, OnErr, OnOk};
 ghost use Rattle.sqlite.specs.Held.{state};
+ghost use Rattle.sqlite.specs.Order.{Row};
 ghost use Rattle.sqlite.specs.State.{HasCleanDisk, Survives};
 ghost use Rattle.clr_rules.specs.Good.{IsGood};
 ghost use Rattle.clr_rules.specs.Register.{Register, opening};
 ghost use Rattle.clr_tables.specs.RowsRead.{read_version, rows_read};
 ghost use Rattle.clr_tables.specs.Tables.{Tables, tables_of};
 ghost use Rattle.clr_tables.specs.TypedRows.{IsTyped};
-ghost use Rattle.clr_reading.specs.Stored.{AreTables, HasTables};
-ghost use Rattle.clr_reading.specs.Fault.{IsOfDatabase};
-ghost use Rattle.clr_reading.specs.Contract.{GivesBack, GivesRows, IsSaved};
-ghost use Rattle.clr_store.specs.Contract.{AreEdited, MakesEdits, RefusesVersion};
+ghost use Rattle.clr_load.specs.Schema.{no_schema};
+ghost use Rattle.clr_load.specs.Stored.{AreTables, HasMeta, HasTables};
+ghost use Rattle.clr_load.specs.Fault.{IsOfDatabase};
+ghost use Rattle.clr_load.specs.Contract.{GivesBack, GivesRows, IsSaved};
+ghost use Rattle.clr_load.specs.declared.fault.StoreFault.TheVariants.{Sql};
+ghost use Rattle.clr_store.specs.Contract.{AreEdited, IsOfOpening, MakesEdits, RefusesVersion};
 
 use crate::create::make_register;
 use crate::edits::make_all;
 use clr_csv::Staff;
+use clr_load::{Rows, StoreFault, load_rows, read_version};
 use clr_net::Network;
-use clr_reading::{Rows, StoreFault, load_rows, read_version};
 use clr_rules::Change;
 use sqlite::{Alter, Connection};
 use std::marker::Model;
@@ -63,6 +67,12 @@ impl<S: Alter + Drop> Store<S> {
         ensures made { IfOk result (λ store. HasCleanDisk (state S.Store store)
             → IsSaved (state S.Store store) × HasTables (state S.Store store).now
             (tables_of (opening network.now staff.now))) }
+        ensures bare { IfOk result (λ _. (state S.Store connection).now.schema ≡ no_schema) }
+        ensures inside { connection.in_transaction ≡ true → IsErrAnd result
+            (λ back. back.fault ≡ Sql) }
+        ensures mode { MatchResult result
+            (λ store. store.in_transaction ≡ connection.in_transaction)
+            (λ back. back.connection.in_transaction ≡ connection.in_transaction) }
         ensures fault { IfErr result (λ back. IsOfDatabase back.fault) }
         ensures none { IfErr result (λ back. HasCleanDisk (state S.Store back.connection)
             → IsTrue (state S.Store back.connection).is_open
@@ -93,11 +103,24 @@ impl<S: Alter + Drop> Store<S> {
         ensures opened { IfOk result (λ store. HasCleanDisk (state S.Store store)
             → IsTrue (state S.Store store).is_open → (state S.Store store).now
             ≡ (state S.Store connection).now) }
-        ensures version { IfOk result (λ store. HasCleanDisk (state S.Store store) → (t : Tables)
-            → HasTables (state S.Store connection).now t → read_version t.meta ≡ Ok (pos 1)) }
+        ensures version { IfOk result (λ store. HasCleanDisk (state S.Store store)
+            → (meta : List Row) → HasMeta (state S.Store connection).now meta
+            → read_version meta ≡ Ok (pos 1)) }
+        ensures inside { connection.in_transaction ≡ true → IsErrAnd result
+            (λ back. back.fault ≡ Sql) }
+        ensures mode { MatchResult result
+            (λ store. store.in_transaction ≡ connection.in_transaction)
+            (λ back. back.connection.in_transaction ≡ connection.in_transaction) }
+        ensures fault { IfErr result (λ back. IsOfOpening back.fault) }
+        ensures bare { (state S.Store connection).now.schema ≡ no_schema → MatchResult result
+            (λ store. HasCleanDisk (state S.Store store) → ⊥)
+            (λ back. HasCleanDisk (state S.Store back.connection) → IsOfDatabase back.fault) }
         ensures none { IfErr result (λ back. HasCleanDisk (state S.Store back.connection)
             → IsTrue (state S.Store back.connection).is_open
             → (state S.Store back.connection).now ≡ (state S.Store connection).now) }
+        ensures unread { IfErr result (λ back. HasCleanDisk (state S.Store back.connection)
+            → (meta : List Row) → HasMeta (state S.Store connection).now meta
+            → RefusesVersion (read_version meta) back.fault) }
         ensures refused { IfErr result (λ back. HasCleanDisk (state S.Store back.connection)
             → (t : Tables) → HasTables (state S.Store connection).now t
             → RefusesVersion (read_version t.meta) back.fault) }
@@ -158,7 +181,7 @@ impl<S: Alter + Drop> Store<S> {
     /// of the edits is made.
     pub fn commit(&mut self, change: &Change) -> Result<(), StoreFault>
         ensures made { HasCleanDisk (state S.Store self.new)
-            → OnOk result (MakesEdits (state S.Store self.old).now change.now.edits
+            → OnOk result (MakesEdits (state S.Store self.old).now change.now.edits.items
             (state S.Store self.new).now) }
         ensures saved { HasCleanDisk (state S.Store self.new)
             → OnOk result (IsSaved (state S.Store self.new)) }
@@ -172,7 +195,7 @@ impl<S: Alter + Drop> Store<S> {
         ensures was_open { HasCleanDisk (state S.Store self.new)
             → IsTrue (state S.Store self.new).is_open → IsTrue (state S.Store self.old).is_open }
         ensures crash { Survives (state S.Store self.old) (state S.Store self.new)
-            (AreEdited (state S.Store self.old).now change.now.edits) }
+            (AreEdited (state S.Store self.old).now change.now.edits.items) }
     {
         commit_change(&mut self.connection, change)
     }
@@ -182,7 +205,8 @@ impl<S: Alter + Drop> Store<S> {
 fn commit_change<S: Alter>(conn: &mut Connection<S>, change: &Change) -> Result<(), StoreFault>
     ensures mode { conn.old.in_transaction ≡ false → conn.new.in_transaction ≡ false }
     ensures made { HasCleanDisk (state S.Store conn.new) → OnOk result
-        (MakesEdits (state S.Store conn.old).now change.now.edits (state S.Store conn.new).now) }
+        (MakesEdits (state S.Store conn.old).now change.now.edits.items
+        (state S.Store conn.new).now) }
     ensures saved { HasCleanDisk (state S.Store conn.new) → OnOk result
         (IsSaved (state S.Store conn.new)) }
     ensures still_saved { conn.old.in_transaction ≡ false → HasCleanDisk (state S.Store conn.new)
@@ -194,7 +218,7 @@ fn commit_change<S: Alter>(conn: &mut Connection<S>, change: &Change) -> Result<
     ensures was_open { HasCleanDisk (state S.Store conn.new)
         → IsTrue (state S.Store conn.new).is_open → IsTrue (state S.Store conn.old).is_open }
     ensures crash { Survives (state S.Store conn.old) (state S.Store conn.new)
-        (AreEdited (state S.Store conn.old).now change.now.edits) }
+        (AreEdited (state S.Store conn.old).now change.now.edits.items) }
 {
     if !conn.is_autocommit() {
         return Err(StoreFault::Sql);

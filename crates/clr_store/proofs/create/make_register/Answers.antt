@@ -7,9 +7,10 @@ use Rattle.sqlite.proofs.Callers.{survives_begin}
 use Rattle.sqlite.proofs.StateLemmas.{survives_then}
 use Rattle.clr_rules.specs.Register.{opening}
 use Rattle.clr_tables.specs.Tables.{tables_of}
-use Rattle.clr_reading.specs.Schema.{no_schema}
-use Rattle.clr_reading.specs.Stored.{AreTables, HasTables}
-use Rattle.clr_store.proofs.Creating.{whole}
+use Rattle.clr_load.specs.Schema.{no_schema}
+use Rattle.clr_load.specs.Stored.{AreTables, HasTables}
+use Rattle.clr_load.proofs.Reopened.{left_of}
+use Rattle.clr_store.proofs.Creating.{still_clean, whole}
 use Rattle.clr_store.proofs.create.make_register.Goals as goal
 
 pub returns-clause-made : goal.returns-clause-made
@@ -52,7 +53,9 @@ returns-clause-crash g c =
     (rw begun at c.make_tables.ensures.survives) c.fill.ensures.survives in
     let P = λ (trees : Trees). AreTables trees opens in
     let all = survives_then (state g.S.Store old) (state g.S.Store mid) (state g.S.Store end) _ _ P (λ _ db none. absurd none)
-    (λ clean db is. let there = ran (omega (arith, c.commit.ensures.survives.clean)) in subst P (sym is) (record { rows = there.holds.rows; in_order = there.in_order }))
+    (λ clean db is.
+    let late = still_clean (state g.S.Store mid) (state g.S.Store end) c.commit.ensures.survives.clean clean in
+    subst P (sym is) (left_of (state g.S.Store mid).now opens (ran late)))
     (survives_begin g.S.Store old (state g.S.Store mid) _ inside) c.commit.ensures.survives in
     subst (λ h. Survives (state g.S.Store old) (state g.S.Store h) P) same all
 
@@ -76,6 +79,8 @@ returns-in_err-commit-clause-crash g c =
     (rw begun at c.make_tables.ensures.survives) c.fill.ensures.survives in
     let P = λ (trees : Trees). AreTables trees opens in
     let all = survives_then (state g.S.Store old) (state g.S.Store mid) (state g.S.Store end) _ _ P (λ _ db none. absurd none)
-    (λ clean db is. let there = ran (omega (arith, c.commit.ensures.survives.clean)) in subst P (sym is) (record { rows = there.holds.rows; in_order = there.in_order }))
+    (λ clean db is.
+    let late = still_clean (state g.S.Store mid) (state g.S.Store end) c.commit.ensures.survives.clean clean in
+    subst P (sym is) (left_of (state g.S.Store mid).now opens (ran late)))
     (survives_begin g.S.Store old (state g.S.Store mid) _ inside) c.commit.ensures.survives in
     subst (λ h. Survives (state g.S.Store old) (state g.S.Store h) P) same all

@@ -4,7 +4,7 @@ use Rattle.sqlite.specs.State.{HasCleanDisk}
 use Rattle.sqlite.specs.Values.{bound}
 use Rattle.clr_tables.specs.TableEdits.{without_table_row}
 use Rattle.clr_store.specs.Change.{Changes, with_rows}
-use Rattle.clr_reading.specs.Schema.{keys_in}
+use Rattle.clr_load.specs.Schema.{keys_in}
 use Rattle.clr_store.proofs.Given.{bound_first}
 use Rattle.clr_store.proofs.Inside.{puts}
 use Rattle.clr_store.proofs.edits.put_row.Goals as goal

@@ -1,7 +1,7 @@
 use Rattle.sqlite.specs.Held.{state}
 use Rattle.sqlite.specs.Values.{bound}
-use Rattle.clr_reading.specs.Schema.{keys_in}
-use Rattle.clr_reading.proofs.Columns.{key_parts}
+use Rattle.clr_load.specs.Schema.{keys_in}
+use Rattle.clr_load.proofs.Columns.{key_parts}
 use Rattle.clr_store.proofs.Inside.{removes}
 use Rattle.clr_store.proofs.statements.delete_row.Goals as goal
 

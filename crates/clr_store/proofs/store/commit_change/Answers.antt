@@ -4,7 +4,7 @@ use Rattle.sqlite.specs.Held.{state}
 use Rattle.sqlite.specs.State.{HasCleanDisk, Survives}
 use Rattle.clr_tables.specs.TableEdits.{tables_edited}
 use Rattle.clr_store.specs.Contract.{AreEdited}
-use Rattle.clr_reading.specs.Stored.{HasTables}
+use Rattle.clr_load.specs.Stored.{HasTables}
 use Rattle.clr_store.proofs.Inside.{commit_crash, edited_tables}
 use Rattle.clr_store.proofs.store.commit_change.Goals as goal
 
@@ -17,10 +17,10 @@ returns-clause-made g c clean t has =
     let same : end ≡ c.conn-2-1.given.0 = search rules in
     let late : HasCleanDisk (state g.S.Store end) = search rules in
     let early : HasCleanDisk (state g.S.Store mid) = omega (arith, c.commit.ensures.survives.clean) in
-    let changes = rw (begun, c.as_slice.ensures) at (c.in_ok-make_all.ensures.step early (rw begun refl)) in
-    let made = edited_tables (state g.S.Store mid).now c.args.change.now.edits t has.in_order (changes.tables t has.holds) in
-    subst (λ h. HasTables (state g.S.Store h).now (tables_edited c.args.change.now.edits t)) same
-    (subst (λ (d : Database). HasTables d (tables_edited c.args.change.now.edits t)) (sym (c.in_ok-commit.ensures.ok late).1.now_is) made)
+    let changes = rw (begun, c.as_slice.ensures.value) at (c.in_ok-make_all.ensures.step early (rw begun refl)) in
+    let made = edited_tables (state g.S.Store mid).now c.args.change.now.edits.items t has.in_order (changes.tables t has.holds) in
+    subst (λ h. HasTables (state g.S.Store h).now (tables_edited c.args.change.now.edits.items t)) same
+    (subst (λ (d : Database). HasTables d (tables_edited c.args.change.now.edits.items t)) (sym (c.in_ok-commit.ensures.ok late).1.now_is) made)
 
 pub returns-clause-crash : goal.returns-clause-crash
 returns-clause-crash g c =
@@ -29,9 +29,9 @@ returns-clause-crash g c =
     let end = c.commit.new.self.0 in
     let begun = c.transaction-tx.ensures.begun in
     let same : end ≡ c.conn-2-1.given.0 = search rules in
-    subst (λ h. Survives (state g.S.Store old) (state g.S.Store h) (AreEdited (state g.S.Store old).now c.args.change.now.edits)) same
-    (commit_crash g.S.Store old mid end c.args.change.now.edits (rw begun at c.make_all.ensures.survives) c.commit.ensures.survives
-    (λ clean. rw (begun, c.as_slice.ensures) at (c.in_ok-make_all.ensures.step clean (rw begun refl))))
+    subst (λ h. Survives (state g.S.Store old) (state g.S.Store h) (AreEdited (state g.S.Store old).now c.args.change.now.edits.items)) same
+    (commit_crash g.S.Store old mid end c.args.change.now.edits.items (rw begun at c.make_all.ensures.survives) c.commit.ensures.survives
+    (λ clean. rw (begun, c.as_slice.ensures.value) at (c.in_ok-make_all.ensures.step clean (rw begun refl))))
 
 pub returns-in_err-commit-clause-crash : goal.returns-in_err-commit-clause-crash
 returns-in_err-commit-clause-crash g c =
@@ -40,6 +40,6 @@ returns-in_err-commit-clause-crash g c =
     let end = c.commit.new.self.0 in
     let begun = c.transaction-tx.ensures.begun in
     let same : end ≡ c.conn-2-1.given.0 = search rules in
-    subst (λ h. Survives (state g.S.Store old) (state g.S.Store h) (AreEdited (state g.S.Store old).now c.args.change.now.edits)) same
-    (commit_crash g.S.Store old mid end c.args.change.now.edits (rw begun at c.make_all.ensures.survives) c.commit.ensures.survives
-    (λ clean. rw (begun, c.as_slice.ensures) at (c.in_ok-make_all.ensures.step clean (rw begun refl))))
+    subst (λ h. Survives (state g.S.Store old) (state g.S.Store h) (AreEdited (state g.S.Store old).now c.args.change.now.edits.items)) same
+    (commit_crash g.S.Store old mid end c.args.change.now.edits.items (rw begun at c.make_all.ensures.survives) c.commit.ensures.survives
+    (λ clean. rw (begun, c.as_slice.ensures.value) at (c.in_ok-make_all.ensures.step clean (rw begun refl))))

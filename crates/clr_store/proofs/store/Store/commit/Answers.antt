@@ -8,4 +8,4 @@ pub returns-clause-made : goal.returns-clause-made
 returns-clause-made g c =
     let new = state g.S.Store c.commit_change.new.conn in
     let is : c.self.inside.connection ≡ c.args.self.now = search rules in
-    subst (λ h. HasCleanDisk new → OnOk c.commit_change.result (MakesEdits (state g.S.Store h).now c.args.change.now.edits new.now)) is c.commit_change.ensures.made
+    subst (λ h. HasCleanDisk new → OnOk c.commit_change.result (MakesEdits (state g.S.Store h).now c.args.change.now.edits.items new.now)) is c.commit_change.ensures.made

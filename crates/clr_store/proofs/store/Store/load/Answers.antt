@@ -5,10 +5,10 @@ use Rattle.sqlite.specs.State.{HasCleanDisk}
 use Rattle.clr_tables.proofs.TablesRead.{tables_are_read}
 use Rattle.clr_tables.specs.RowsRead.{rows_read}
 use Rattle.clr_tables.specs.Tables.{Tables, tables_of}
-use Rattle.clr_reading.specs.Contract.{GivesRows}
-use Rattle.clr_reading.specs.Fault.{IsOfDatabase}
-use Rattle.clr_reading.specs.Stored.{HasTables}
-use Rattle.clr_reading.proofs.AllGiven.{gives_back}
+use Rattle.clr_load.specs.Contract.{GivesRows}
+use Rattle.clr_load.specs.Fault.{IsOfDatabase}
+use Rattle.clr_load.specs.Stored.{HasTables}
+use Rattle.clr_load.proofs.AllGiven.{gives_back}
 use Rattle.clr_store.proofs.store.Store.load.Goals as goal
 
 pub returns-clause-rows : goal.returns-clause-rows
@@ -25,7 +25,7 @@ returns-clause-register g c clean R good typed has =
     let rows = subst (λ h. HasCleanDisk new → (t : Tables) → HasTables (state g.S.Store h).now t → GivesRows (rows_read t) c.load_rows.result)
     is c.load_rows.ensures.rows in
     gives_back R (rows_read (tables_of R)) c.load_rows.result
-    (tables_are_read R good.points_known.states good.in_order typed) (rows clean (tables_of R) has)
+    (tables_are_read R good.besides.points_known.states good.said.in_order typed) (rows clean (tables_of R) has)
 
 pub returns-clause-was_open : goal.returns-clause-was_open
 returns-clause-was_open g c =

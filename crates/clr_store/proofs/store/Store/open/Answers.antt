@@ -1,6 +1,19 @@
+use Rattle.std.proofs.Common.{rules}
 use Rattle.clr_tables.specs.RowsRead.{read_version}
-use Rattle.clr_store.proofs.Versions.{refuses}
+use Rattle.clr_load.proofs.Loading.{has_meta}
+use Rattle.clr_store.proofs.Versions.{of_opening, refuses}
 use Rattle.clr_store.proofs.store.Store.open.Goals as goal
 
 pub returns-in-Err-clause-refused : goal.returns-in-Err-clause-refused
-returns-in-Err-clause-refused g c clean t has = refuses (read_version t.meta) c.in-Err.fault (c.in-Err.ensures.version clean t has)
+returns-in-Err-clause-refused g c clean t has = refuses (read_version t.meta) c.in-Err.fault (c.in-Err.ensures.version clean t.meta (has_meta _ t has))
+
+pub returns-in-Err-clause-unread : goal.returns-in-Err-clause-unread
+returns-in-Err-clause-unread g c clean meta has = refuses (read_version meta) c.in-Err.fault (c.in-Err.ensures.version clean meta has)
+
+pub returns-in-Err-clause-fault : goal.returns-in-Err-clause-fault
+returns-in-Err-clause-fault g c = of_opening c.in-Err.fault c.in-Err.ensures.fault
+
+pub returns-in-Ok-clause-refused : goal.returns-in-Ok-clause-refused
+returns-in-Ok-clause-refused g c clean t has =
+    let told = c.in-Ok.ensures.version clean t.meta (has_meta _ t has) in
+    search rules
