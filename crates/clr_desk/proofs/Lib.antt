@@ -1,4 +1,9 @@
+pub mod Filled
+pub mod TypedRegisters
+pub mod RowsOpened
 pub mod OneCommand
 pub mod Opened
 pub mod RunSteps
+pub mod Reopenings
 pub mod Keeping
+pub mod NearRuns

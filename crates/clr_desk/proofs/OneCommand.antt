@@ -14,17 +14,17 @@ use Rattle.clr_rules.specs.declared.command.Command.{Command}
 use Rattle.clr_rules.specs.declared.reply.Reply.{Reply}
 use Rattle.clr_rules.proofs.near.NewAnswers.{near_is_enough}
 use Rattle.clr_store.specs.Contract.{AreEdited}
-use Rattle.clr_reading.specs.Stored.{AreTables, HasTables}
+use Rattle.clr_load.specs.Stored.{AreTables, HasTables}
 use Rattle.clr_tables.specs.TableEdits.{tables_edited}
 use Rattle.clr_tables.specs.Tables.{tables_of}
 use Rattle.clr_tables.proofs.TableChanges.{tables_follow_edits}
-use Rattle.clr_deskbook.specs.Asking.{near_after, near_answer}
+use Rattle.clr_desk.specs.Asking.{near_after, near_answer}
 use Rattle.clr_desk.specs.Crash.{AreAfter}
 use Rattle.clr_desk.specs.Faults.{IsOfCommand, of_store}
 use Rattle.clr_desk.specs.declared.desk_fault.DeskFault.{DeskFault}
-use Rattle.clr_reading.specs.Fault.{IsOfDatabase}
-use Rattle.clr_reading.specs.declared.fault.StoreFault.{StoreFault}
-use Rattle.clr_reading.specs.declared.fault.StoreFault.TheVariants.{Sql, WrongVersion, BadRow, NoMemory}
+use Rattle.clr_load.specs.Fault.{IsOfDatabase}
+use Rattle.clr_load.specs.declared.fault.StoreFault.{StoreFault}
+use Rattle.clr_load.specs.declared.fault.StoreFault.TheVariants.{Sql, WrongVersion, BadRow, NoMemory}
 
 -- ---- a command that is not accepted
 
@@ -39,7 +39,7 @@ nothing_changes R q edits is none = sym (edited_by_none R (Answer.edits (near_an
 -- ---- a good register
 
 pub near_is_whole : (R : Register) (q : Command) → IsGood R → near_answer R q ≡ answer R q
-near_is_whole R q good = sym (near_is_enough R q good)
+near_is_whole R q good = sym (near_is_enough R q good.said good.besides.switch_orders.switching)
 
 pub near_after_is_after : (R : Register) (q : Command) → IsGood R → near_after R q ≡ after R q
 near_after_is_after R q good = ap (λ (a : Answer). after_edits a.edits R) (near_is_whole R q good)
@@ -64,7 +64,7 @@ tables_left db S X (Err fault) left has = tt
 pub tables_after : (R : Register) (q : Command) (edits : List Edit) → edits ≡ Answer.edits (near_answer R q) → IsGood R
     → tables_edited edits (tables_of R) ≡ tables_of (after R q)
 tables_after R q edits is good =
-    sym (tables_follow_edits R edits good.in_order good.points_known.states)
+    sym (tables_follow_edits R edits good.said.in_order good.besides.points_known.states)
     ∙ ap (λ es. tables_of (after_edits es R)) is ∙ ap tables_of (near_after_is_after R q good)
 
 -- what a crash of its commit leaves

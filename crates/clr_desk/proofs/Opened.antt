@@ -1,7 +1,7 @@
 -- A desk that is not opened: what its fault says.
 use Rattle.std.proofs.Common.{◌≡◌, ◌⊎◌, inl, inr}
-use Rattle.clr_reading.specs.Fault.{IsOfDatabase}
-use Rattle.clr_reading.specs.declared.fault.StoreFault.{StoreFault}
+use Rattle.clr_load.specs.Fault.{IsOfDatabase}
+use Rattle.clr_load.specs.declared.fault.StoreFault.{StoreFault}
 use Rattle.clr_desk.specs.Faults.{IsOfCommand, of_store}
 use Rattle.clr_desk.specs.declared.desk_fault.DeskFault.{DeskFault}
 use Rattle.clr_desk.proofs.OneCommand.{of_command}

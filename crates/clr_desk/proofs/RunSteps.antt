@@ -9,14 +9,14 @@ use Rattle.clr_rules.specs.Answer.{Answer, answer}
 use Rattle.clr_rules.specs.Good.{IsGood}
 use Rattle.clr_rules.specs.Register.{Register}
 use Rattle.clr_rules.specs.Run.{after, after_all, replies}
-use Rattle.clr_rules.specs.RunHeadline.{IsRun, OthersChangeNoReply, OthersTakeNothing, OwnStandAlone, with_reply}
+use Rattle.clr_rules.specs.RunHeadline.{IsRun, OthersChangeNoReply, OwnStandAlone, with_reply}
 use Rattle.clr_rules.specs.declared.command.Command.{Command}
 use Rattle.clr_rules.specs.declared.reply.Reply.{Reply}
 use Rattle.clr_rules.proofs.edits.Runs.{runs_go_on}
 use Rattle.clr_rules.proofs.isolation.RunReplies.{others_change_no_reply, own_stand_alone}
 use Rattle.clr_rules.proofs.keeps.EveryKind.{reached_are_good}
-use Rattle.clr_reading.specs.Contract.{IsSaved}
-use Rattle.clr_reading.specs.Stored.{AreTables, HasTables}
+use Rattle.clr_load.specs.Contract.{IsSaved}
+use Rattle.clr_load.specs.Stored.{AreTables, HasTables}
 use Rattle.clr_tables.specs.Tables.{tables_of}
 use Rattle.clr_desk.specs.Answering.{has_accepted, replies_of}
 use Rattle.clr_desk.specs.Crash.{AreAfterSome}
@@ -66,12 +66,12 @@ one_ran R S q (Err fault) is left stays = subst (λ (X : Register). IsRun R [] [
 
 pub no_reply_changed : (R : Register) (commands : List Command) (told : List Reply) (S : Register) → (IsGood R → IsRun R commands told S)
     → OthersChangeNoReply R commands told S
-no_reply_changed R commands told S ran c inside T others reached =
-    others_change_no_reply R commands told S (ran (reached_are_good R reached)) c inside T others reached
+no_reply_changed R commands told S ran c inside T others shown =
+    others_change_no_reply R commands told S (ran (reached_are_good R shown.first_reached)) c inside T others shown
 
 pub standing_alone : (R : Register) (commands : List Command) (told : List Reply) (S : Register) → (IsGood R → IsRun R commands told S)
     → OwnStandAlone R commands told
-standing_alone R commands told S ran c inside reached = own_stand_alone R commands told S (ran (reached_are_good R reached)) c inside reached
+standing_alone R commands told S ran c inside alone = own_stand_alone R commands told S (ran (reached_are_good R alone.reached)) c inside alone
 
 -- ---- what a crash leaves
 
@@ -80,7 +80,7 @@ pub stands : (s : State) (X : Register) (trees : Trees) → IsSaved s → HasTab
     → AreTables trees (tables_of X)
 stands s X trees saved has is =
     subst (λ (db : Trees). AreTables db (tables_of X)) (sym (is ∙ ap (λ (d : Database). d.trees) saved.1))
-    (record { rows = has.holds.rows; in_order = has.in_order })
+    (record { listed = has.holds.listed; rows = has.holds.rows; in_order = has.in_order })
 
 -- what is saved
 pub saved_left : (old mid : State) (R X : Register) (commands : List Command) (told : List Reply) (i : ℕ) → length told ≡ i → i ≤ length commands
@@ -88,6 +88,7 @@ pub saved_left : (old mid : State) (R X : Register) (commands : List Command) (t
     → AreAfterSome R commands (length told) trees
 saved_left old mid R X commands told i counted within run saved has trees is = (
   i,
+  omega arith,
   omega arith,
   within,
   subst (λ (S : Register). AreTables trees (tables_of S)) run.register
@@ -103,28 +104,30 @@ next_left R X commands told i q counted within at run trees are =
       i + 1,
       omega arith,
       omega arith,
+      omega arith,
       subst (λ (S : Register). AreTables trees (tables_of S)) next.register are,
     )
 
 -- of one command
 one_left : (R : Register) (q : Command) (least : ℕ) (trees : Trees) → least ≤ 1 → AreTables trees (tables_of (after R q)) → AreAfterSome R (q ∷ []) least trees
 unfolding after_all
-one_left R q least trees few are = (1, few, omega arith, are)
+one_left R q least trees few are = (1, few, omega arith, omega arith, are)
 
 none_left : (R : Register) (q : Command) (trees : Trees) → AreTables trees (tables_of R) → AreAfterSome R (q ∷ []) 0 trees
 unfolding after_all
-none_left R q trees are = (0, omega arith, omega arith, are)
+none_left R q trees are = (0, omega arith, omega arith, omega arith, are)
 
 -- a crash leaves the tables before the command or after it, and those after it where it was answered
-pub one_survives : (old new : State) (R : Register) (q : Command) (result : Result Reply DeskFault) (trees : Trees)
-    → IsSaved old → HasTables old.now (tables_of R) → OnOk result (IsSaved new) → OnOk result (HasTables new.now (tables_of (after R q)))
+pub one_survives : (old new : State) (R S : Register) (q : Command) (result : Result Reply DeskFault) (trees : Trees)
+    → IsSaved old → HasTables old.now (tables_of R) → OnOk result (S ≡ after R q) → OnOk result (IsSaved new) → OnOk result (HasTables new.now (tables_of S))
     → (IsTrue old.is_open → old.may_leave trees → trees ≡ Database.trees (State.committed old))
     → (IsTrue new.is_open → new.may_leave trees → trees ≡ Database.trees (State.committed new))
     → new.may_leave trees → old.may_leave trees ⊎ AreTables trees (tables_of (after R q))
     → AreAfterSome R (q ∷ []) (length (replies_of result)) trees
-one_survives old new R q (Ok reply) trees saved has now made was is may survived =
-    one_left R q 1 trees (omega arith) (stands new (after R q) trees now made (is now.0 may))
-one_survives old new R q (Err fault) trees saved has now made was is may survived =
+one_survives old new R S q (Ok reply) trees saved has left now made was is may survived =
+    one_left R q 1 trees (omega arith)
+    (subst (λ (X : Register). AreTables trees (tables_of X)) left (stands new S trees now made (is now.0 may)))
+one_survives old new R S q (Err fault) trees saved has left now made was is may survived =
     ⊎_elim (λ before. none_left R q trees (stands old R trees saved has (was saved.0 before))) (one_left R q 0 trees (omega arith)) survived
 
 pub none_taken : (commands : List Command) → take 0 commands ≡ []

@@ -1,5 +1,5 @@
 -- WHAT CAME OF A CALL: whether it accepted its command, its reply and its fault.
-use Rattle.std.specs.Prelude.{Bool, true, false, List, [], ◌∷◌, Option, None, Some, Result, Ok, Err}
+use Rattle.std.specs.Prelude.{Bool, false, List, [], ◌∷◌, Option, None, Some, Result, Ok, Err}
 use Rattle.clr_rules.specs.declared.reply.Reply.{Reply}
 use Rattle.clr_book.specs.Decision.{is_accepted}
 use Rattle.clr_desk.specs.declared.desk_fault.DeskFault.{DeskFault}

@@ -1,8 +1,8 @@
 -- THE FAULTS OF A DESK, and how they are counted.
 use Rattle.std.specs.Prelude.{ℕ, ◌+◌, ◌-◌, ◌^◌, min, Option, None, Some, ⊤}
-use Rattle.clr_reading.specs.declared.fault.StoreFault.{StoreFault}
-use Rattle.clr_reading.specs.declared.fault.StoreFault.TheVariants.{Sql, WrongVersion, BadRow}
-use Rattle.clr_reading.specs.declared.fault.StoreFault.TheVariants.{NoMemory as NoMemoryThere}
+use Rattle.clr_load.specs.declared.fault.StoreFault.{StoreFault}
+use Rattle.clr_load.specs.declared.fault.StoreFault.TheVariants.{Sql, WrongVersion, BadRow}
+use Rattle.clr_load.specs.declared.fault.StoreFault.TheVariants.{NoMemory as NoMemoryThere}
 use Rattle.clr_desk.specs.declared.desk_fault.DeskFault.{DeskFault}
 use Rattle.clr_desk.specs.declared.desk_fault.DeskFault.TheVariants.{Store, NoMemory}
 

@@ -1,4 +1,11 @@
+pub mod Asking
+pub mod Filling
+pub mod Typed
+pub mod Opening
 pub mod Faults
 pub mod Answering
 pub mod Crash
+pub mod Reopening
+pub mod Carrying
 pub mod Kept
+pub mod NearRun

@@ -1,34 +1,39 @@
 //! The desk: a book and its store.
 ghost use Rattle.std.specs.Prelude.{◌≡◌, ◌⊎◌, ◌<◌, false, [], ◌∷◌, length, IfErr, IfOk, IfNone, IfSome};
-ghost use Rattle.std.specs.Prelude.{IsTrue, OnErr, OnOk, Ok, Err};
+ghost use Rattle.std.specs.Prelude.{IsErr, IsTrue, MatchResult, Ok, Err, true};
+ghost use Rattle.std.specs.List.{list_all, list_any};
 ghost use Rattle.clr_rules.specs.RunHeadline.{IsRun, OthersChangeNoReply, OthersTakeNothing};
 ghost use Rattle.clr_rules.specs.RunHeadline.{OwnStandAlone, with_reply};
 ghost use Rattle.sqlite.specs.Held.{state};
 ghost use Rattle.sqlite.specs.State.{HasCleanDisk, Survives};
-ghost use Rattle.clr_rules.specs.Answer.{Answer, answer};
 ghost use Rattle.clr_rules.specs.Good.{IsGood};
-ghost use Rattle.clr_rules.specs.Run.{IsReached, after};
-ghost use Rattle.clr_reading.specs.Contract.{IsSaved};
-ghost use Rattle.clr_reading.specs.Stored.{AreTables, HasTables};
-ghost use Rattle.clr_desk.specs.Crash.{AreAfter, LeavesSome};
+ghost use Rattle.clr_rules.specs.Run.{IsReached};
+ghost use Rattle.clr_load.specs.Contract.{IsSaved};
+ghost use Rattle.clr_load.specs.Schema.{no_schema};
+ghost use Rattle.clr_load.specs.Stored.{AreTables, HasTables};
+ghost use Rattle.clr_desk.specs.Crash.{LeavesSome};
 ghost use Rattle.clr_book.specs.Book.{Shelved};
 ghost use Rattle.clr_book.specs.Decision.{is_accepted};
 ghost use Rattle.clr_rules.specs.Register.{Register, opening};
-ghost use Rattle.clr_reading.specs.declared.fault.StoreFault.{StoreFault};
+ghost use Rattle.clr_load.specs.declared.fault.StoreFault.{StoreFault};
 ghost use Rattle.clr_tables.specs.RowsRead.{rows_read};
 ghost use Rattle.clr_tables.specs.Tables.{Tables, tables_of};
-ghost use Rattle.clr_tables.specs.TypedRows.{IsTyped};
-ghost use Rattle.clr_deskbook.specs.Opening.{OpensAs};
-ghost use Rattle.clr_deskbook.specs.Asking.{near_after, near_answer};
-ghost use Rattle.clr_desk.specs.Answering.{fault_of, has_accepted, replies_of};
+ghost use Rattle.clr_tables.specs.TypedRows.{IsTyped, is_typed_command};
+ghost use Rattle.clr_desk.specs.Opening.{OpensAs};
+ghost use Rattle.clr_desk.specs.Answering.{fault_of, replies_of};
+ghost use Rattle.clr_desk.specs.Carrying.{CarriesOut};
 ghost use Rattle.clr_desk.specs.Faults.{IsOfCommand, count_after, of_store};
 ghost use Rattle.clr_desk.specs.Kept.{Keeps};
+ghost use Rattle.clr_desk.specs.NearRun.{IsNearRun};
 
+use crate::asking::prepare;
+use crate::book::{DeskBook, apply, network_of, opening_book, staff_of};
 use crate::desk_fault::DeskFault;
+use crate::opening::book_in;
 use crate::run::Run;
+use crate::typed::{Typed, all_typed};
 use clr_book::Decision;
 use clr_csv::Staff;
-use clr_deskbook::{DeskBook, apply, book_in, network_of, opening_book, prepare, staff_of};
 use clr_net::Network;
 use clr_rules::{Command, Reply};
 use clr_store::{Back, Store};
@@ -57,10 +62,16 @@ impl<S: Alter + Drop> Desk<S> {
     ) -> Result<Desk<S>, (DeskFault, Connection<S>)>
         ensures register { IfOk result (λ desk. desk.book.register ≡ opening network staff) }
         ensures reached { IfOk result (λ desk. IsReached desk.book.register) }
+        ensures typed { IfOk result (λ desk. IsTyped desk.book.register) }
         ensures faults { IfOk result (λ desk. desk.faults ≡ 0) }
         ensures made { IfOk result (λ desk. HasCleanDisk (state S.Store desk.store)
             → IsSaved (state S.Store desk.store)
             × HasTables (state S.Store desk.store).now (tables_of (opening network staff))) }
+        ensures bare { IfOk result (λ _. (state S.Store connection).now.schema ≡ no_schema) }
+        ensures inside { connection.in_transaction ≡ true → IsErr result }
+        ensures mode { MatchResult result
+            (λ desk. desk.store.in_transaction ≡ connection.in_transaction)
+            (λ back. back.1.in_transaction ≡ connection.in_transaction) }
         ensures cause { IfErr result (λ back. IsOfCommand back.0) }
         ensures none { IfErr result (λ back. HasCleanDisk (state S.Store back.1)
             → IsTrue (state S.Store back.1).is_open
@@ -93,6 +104,7 @@ impl<S: Alter + Drop> Desk<S> {
         ensures again { IfOk result (λ desk. HasCleanDisk (state S.Store desk.store)
             → (R : Register) → IsGood R → HasTables (state S.Store store).now (tables_of R)
             → desk.book.register ≡ R) }
+        ensures typed { IfOk result (λ desk. IsTyped desk.book.register) }
         ensures was_open { IfOk result (λ desk. HasCleanDisk (state S.Store desk.store)
             → IsTrue (state S.Store store).is_open) }
         ensures faults { IfOk result (λ desk. desk.faults ≡ 0) }
@@ -115,6 +127,8 @@ impl<S: Alter + Drop> Desk<S> {
         ensures kept { IfErr result (λ back. HasCleanDisk (state S.Store back.1)
             → IsTrue (state S.Store back.1).is_open
             → (state S.Store back.1).now ≡ (state S.Store store).now) }
+        ensures saved_too { IfErr result (λ back. HasCleanDisk (state S.Store back.1)
+            → IsTrue (state S.Store back.1).is_open → IsSaved (state S.Store back.1)) }
         ensures survives_too { IfErr result (λ back. Survives (state S.Store store)
             (state S.Store back.1) (λ _. ⊥)) }
     {
@@ -161,36 +175,10 @@ impl<S: Alter + Drop> Desk<S> {
 
     /// Carries out one command, but for the count of faults: answer, room, commit, change.
     fn carry_out(&mut self, command: &Command) -> Result<Reply, DeskFault>
-        ensures reply { IfOk result (λ reply. reply ≡ Answer.reply
-            (near_answer self.old.book.register command.now)) }
-        ensures register { OnOk result
-            (self.new.book.register ≡ near_after self.old.book.register command.now) }
-        ensures unchanged { has_accepted result ≡ false
-            → self.new.book.register ≡ self.old.book.register }
-        ensures network { self.new.book.network ≡ self.old.book.network }
+        ensures carried { CarriesOut S.Store self.old self.new command.now result }
         ensures faults { self.new.faults ≡ self.old.faults }
-        ensures cause { IfErr result IsOfCommand }
-        ensures tables { HasCleanDisk (state S.Store self.new.store) → IsGood self.old.book.register
-            → HasTables (state S.Store self.old.store).now (tables_of self.old.book.register)
-            → OnOk result (HasTables (state S.Store self.new.store).now (tables_of
-            (after self.old.book.register command.now))) }
-        ensures unwritten { has_accepted result ≡ false
-            → HasCleanDisk (state S.Store self.new.store)
-            → IsTrue (state S.Store self.new.store).is_open
-            → (state S.Store self.new.store).now ≡ (state S.Store self.old.store).now }
-        ensures was_open { HasCleanDisk (state S.Store self.new.store)
-            → IsTrue (state S.Store self.new.store).is_open
-            → IsTrue (state S.Store self.old.store).is_open }
-        ensures saved { HasCleanDisk (state S.Store self.new.store)
-            → IsSaved (state S.Store self.old.store)
-            → OnOk result (IsSaved (state S.Store self.new.store)) }
-        ensures still_saved { HasCleanDisk (state S.Store self.new.store)
-            → IsTrue (state S.Store self.new.store).is_open
-            → IsSaved (state S.Store self.old.store)
-            → OnErr result (IsSaved (state S.Store self.new.store)) }
-        ensures survives { Survives (state S.Store self.old.store) (state S.Store self.new.store)
-            (AreAfter (state S.Store self.old.store).now self.old.book.register command.now) }
     {
+        command.typed();
         let decision = prepare(&mut self.book, command)?;
         let Decision { reply, change } = decision;
         if !is_accepted(&reply) {
@@ -203,35 +191,8 @@ impl<S: Alter + Drop> Desk<S> {
 
     /// Carries out one command, and counts the fault, if it met one.
     fn answer(&mut self, command: &Command) -> Result<Reply, DeskFault>
-        ensures reply { IfOk result (λ reply. reply ≡ Answer.reply
-            (near_answer self.old.book.register command.now)) }
-        ensures register { OnOk result
-            (self.new.book.register ≡ near_after self.old.book.register command.now) }
-        ensures unchanged { has_accepted result ≡ false
-            → self.new.book.register ≡ self.old.book.register }
-        ensures network { self.new.book.network ≡ self.old.book.network }
+        ensures carried { CarriesOut S.Store self.old self.new command.now result }
         ensures faults { self.new.faults ≡ count_after (fault_of result) self.old.faults }
-        ensures cause { IfErr result IsOfCommand }
-        ensures tables { HasCleanDisk (state S.Store self.new.store) → IsGood self.old.book.register
-            → HasTables (state S.Store self.old.store).now (tables_of self.old.book.register)
-            → OnOk result (HasTables (state S.Store self.new.store).now (tables_of
-            (after self.old.book.register command.now))) }
-        ensures unwritten { has_accepted result ≡ false
-            → HasCleanDisk (state S.Store self.new.store)
-            → IsTrue (state S.Store self.new.store).is_open
-            → (state S.Store self.new.store).now ≡ (state S.Store self.old.store).now }
-        ensures was_open { HasCleanDisk (state S.Store self.new.store)
-            → IsTrue (state S.Store self.new.store).is_open
-            → IsTrue (state S.Store self.old.store).is_open }
-        ensures saved { HasCleanDisk (state S.Store self.new.store)
-            → IsSaved (state S.Store self.old.store)
-            → OnOk result (IsSaved (state S.Store self.new.store)) }
-        ensures still_saved { HasCleanDisk (state S.Store self.new.store)
-            → IsTrue (state S.Store self.new.store).is_open
-            → IsSaved (state S.Store self.old.store)
-            → OnErr result (IsSaved (state S.Store self.new.store)) }
-        ensures survives { Survives (state S.Store self.old.store) (state S.Store self.new.store)
-            (AreAfter (state S.Store self.old.store).now self.old.book.register command.now) }
     {
         match self.carry_out(command) {
             Ok(reply) => Ok(reply),
@@ -248,14 +209,7 @@ impl<S: Alter + Drop> Desk<S> {
     /// `Store(Sql)` where the database refuses or fails, `NoMemory` where memory runs out. A fault
     /// leaves the register as it was, and is counted.
     pub fn one(&mut self, command: Command) -> Result<Reply, DeskFault>
-        ensures near { IfOk result (λ reply. reply ≡ Answer.reply
-            (near_answer self.old.book.register command)) }
-        ensures reply { IsGood self.old.book.register
-            → IfOk result (λ reply. reply ≡ Answer.reply (answer self.old.book.register command)) }
-        ensures register { IsGood self.old.book.register
-            → OnOk result (self.new.book.register ≡ after self.old.book.register command) }
-        ensures changed { OnOk result
-            (self.new.book.register ≡ near_after self.old.book.register command) }
+        ensures carried { CarriesOut S.Store self.old self.new command result }
         ensures ran { IsGood self.old.book.register
             → IsRun self.old.book.register
             (with_reply (command ∷ []) (replies_of result)) (replies_of result)
@@ -267,37 +221,13 @@ impl<S: Alter + Drop> Desk<S> {
             (with_reply (command ∷ []) (replies_of result)) }
         ensures alone { OwnStandAlone self.old.book.register
             (with_reply (command ∷ []) (replies_of result)) (replies_of result) }
-        ensures unchanged { has_accepted result ≡ false
-            → self.new.book.register ≡ self.old.book.register }
-        ensures network { self.new.book.network ≡ self.old.book.network }
         ensures faults { self.new.faults ≡ count_after (fault_of result) self.old.faults }
-        ensures cause { IfErr result IsOfCommand }
-        ensures tables { HasCleanDisk (state S.Store self.new.store) → IsGood self.old.book.register
-            → HasTables (state S.Store self.old.store).now (tables_of self.old.book.register)
-            → OnOk result (HasTables (state S.Store self.new.store).now
-            (tables_of self.new.book.register)) }
-        ensures unwritten { has_accepted result ≡ false
-            → HasCleanDisk (state S.Store self.new.store)
-            → IsTrue (state S.Store self.new.store).is_open
-            → (state S.Store self.new.store).now ≡ (state S.Store self.old.store).now }
-        ensures was_open { HasCleanDisk (state S.Store self.new.store)
-            → IsTrue (state S.Store self.new.store).is_open
-            → IsTrue (state S.Store self.old.store).is_open }
-        ensures saved { HasCleanDisk (state S.Store self.new.store)
-            → IsSaved (state S.Store self.old.store)
-            → OnOk result (IsSaved (state S.Store self.new.store)) }
-        ensures still_saved { HasCleanDisk (state S.Store self.new.store)
-            → IsTrue (state S.Store self.new.store).is_open
-            → IsSaved (state S.Store self.old.store)
-            → OnErr result (IsSaved (state S.Store self.new.store)) }
-        ensures survives { Survives (state S.Store self.old.store) (state S.Store self.new.store)
-            (AreAfter (state S.Store self.old.store).now self.old.book.register command) }
+        ensures keeps { Keeps (state S.Store self.old.store) self.old.book.register
+            (state S.Store self.new.store) self.new.book.register }
         ensures crash { HasCleanDisk (state S.Store self.new.store)
             → LeavesSome (state S.Store self.old.store)
             (state S.Store self.new.store) self.old.book.register (command ∷ [])
             (length (replies_of result)) }
-        ensures keeps { Keeps (state S.Store self.old.store) self.old.book.register
-            (state S.Store self.new.store) self.new.book.register }
     {
         self.answer(&command)
     }
@@ -311,6 +241,9 @@ impl<S: Alter + Drop> Desk<S> {
             → IsRun self.old.book.register
             (with_reply commands.items result.replies.items) result.replies.items
             self.new.book.register }
+        ensures near { IsNearRun self.old.book.register
+            (with_reply commands.items result.replies.items) result.replies.items
+            self.new.book.register }
         ensures ends { IfNone result.fault (length result.replies.items ≡ length commands.items) }
         ensures stops { IfSome result.fault
             (λ _. length result.replies.items < length commands.items) }
@@ -322,26 +255,24 @@ impl<S: Alter + Drop> Desk<S> {
         ensures alone { OwnStandAlone self.old.book.register
             (with_reply commands.items result.replies.items) result.replies.items }
         ensures network { self.new.book.network ≡ self.old.book.network }
+        ensures typed { IsTrue (list_all is_typed_command commands.items) }
         ensures faults { self.new.faults ≡ count_after result.fault self.old.faults }
         ensures cause { IfSome result.fault IsOfCommand }
-        ensures tables { HasCleanDisk (state S.Store self.new.store)
-            → IsTrue (state S.Store self.new.store).is_open → IsGood self.old.book.register
-            → HasTables (state S.Store self.old.store).now (tables_of self.old.book.register)
-            → HasTables (state S.Store self.new.store).now (tables_of self.new.book.register) }
-        ensures clean { HasCleanDisk (state S.Store self.new.store)
-            → HasCleanDisk (state S.Store self.old.store) }
+        ensures unwritten { list_any is_accepted result.replies.items ≡ false
+            → HasCleanDisk (state S.Store self.new.store)
+            → IsTrue (state S.Store self.new.store).is_open
+            → (state S.Store self.new.store).now ≡ (state S.Store self.old.store).now }
+        ensures keeps { Keeps (state S.Store self.old.store) self.old.book.register
+            (state S.Store self.new.store) self.new.book.register }
         ensures saved { HasCleanDisk (state S.Store self.new.store)
             → IsSaved (state S.Store self.old.store)
             → IfNone result.fault (IsSaved (state S.Store self.new.store)) }
-        ensures still_saved { HasCleanDisk (state S.Store self.new.store)
-            → IsTrue (state S.Store self.new.store).is_open
-            → IsSaved (state S.Store self.old.store)
-            → IsSaved (state S.Store self.new.store) }
         ensures crash { HasCleanDisk (state S.Store self.new.store)
             → LeavesSome (state S.Store self.old.store)
             (state S.Store self.new.store) self.old.book.register commands.items
             (length result.replies.items) }
     {
+        all_typed(commands.as_slice());
         let mut replies = Vec::new(*commands.allocator());
         if replies.reserve(commands.len()).is_err() {
             self.faults = self.faults.saturating_add(1);

@@ -1,11 +1,16 @@
-//! The desk: a book and its store, which carry out commands one after the other.
+//! The desk: a book on sorted shelves and its store, which carry out commands one after the other.
 #![tactic(auto)]
 
+mod asking;
+mod book;
 mod desk;
 mod desk_fault;
+pub mod laws;
+mod opening;
 mod run;
+mod typed;
 
-pub use clr_deskbook::DeskBook;
+pub use book::{DeskBook, opening_book};
 pub use desk::Desk;
 pub use desk_fault::DeskFault;
 pub use run::Run;

@@ -1,45 +1,91 @@
 use Rattle.std.proofs.Common.{rules, ◌≡◌, ◌∙◌, false, ap, subst, sym}
-use Rattle.sqlite.specs.Effect.{Database}
 use Rattle.sqlite.specs.Held.{state}
 use Rattle.clr_rules.specs.Answer.{Answer}
+use Rattle.clr_rules.specs.Edits.{after_edits}
 use Rattle.clr_rules.specs.Register.{Register}
-use Rattle.clr_reading.specs.Stored.{HasTables}
+use Rattle.clr_load.specs.Stored.{HasTables}
 use Rattle.clr_tables.specs.Tables.{Tables, tables_of}
 use Rattle.clr_book.specs.Decision.{is_accepted}
-use Rattle.clr_desk.proofs.OneCommand.{crash_after, near_after_is_after, nothing_changes, tables_after}
+use Rattle.clr_desk.proofs.OneCommand.{crash_after, near_after_is_after, near_is_whole, nothing_changes, tables_after}
 use Rattle.clr_desk.proofs.desk.Desk.carry_out.Goals as goal
 
-pub returns-then-not-is_accepted-clause-register : goal.returns-then-not-is_accepted-clause-register
-returns-then-not-is_accepted-clause-register g c =
-    let refused : is_accepted c.in_ok-decision.decision.reply ≡ false = search rules in
-    c.prepare.ensures.register
-    ∙ nothing_changes c.args.self.now.book.register c.args.command.now c.in_ok-decision.decision.change.edits
-    (ap (λ (a : Answer). a.edits) c.in_ok-decision.ensures.answer) (c.in_ok-decision.ensures.nothing refused)
-
-pub returns-then-not-is_accepted-clause-tables : goal.returns-then-not-is_accepted-clause-tables
-returns-then-not-is_accepted-clause-tables g c clean good has =
+-- a command that is refused or shown
+pub returns-then-not-is_accepted-clause-carried : goal.returns-then-not-is_accepted-clause-carried
+returns-then-not-is_accepted-clause-carried g c =
     let R = c.args.self.now.book.register in
     let q = c.args.command.now in
-    let refused : is_accepted c.in_ok-decision.decision.reply ≡ false = search rules in
-    let same = nothing_changes R q c.in_ok-decision.decision.change.edits
-    (ap (λ (a : Answer). a.edits) c.in_ok-decision.ensures.answer) (c.in_ok-decision.ensures.nothing refused) ∙ near_after_is_after R q good in
     let db = (state g.S.Store c.args.self.now.store).now in
-    subst (λ (S : Register). HasTables db (tables_of S)) same has
+    let refused : is_accepted c.in_ok-decision.decision.reply ≡ false = search rules in
+    let told = ap (λ (a : Answer). a.reply) c.in_ok-decision.ensures.answer in
+    let same = c.prepare.ensures.register
+    ∙ nothing_changes R q c.in_ok-decision.decision.change.edits.items
+    (ap (λ (a : Answer). a.edits) c.in_ok-decision.ensures.answer) (c.in_ok-decision.ensures.nothing refused) in
+    record {
+      near = told;
+      changed = same;
+      reply = λ good. told ∙ ap (λ (a : Answer). a.reply) (near_is_whole R q good);
+      register = λ good. same ∙ near_after_is_after R q good;
+      unchanged = search rules;
+      network = search rules;
+      cause = search rules;
+      typed = c.typed.ensures;
+      tables = λ clean good has. subst (λ (S : Register). HasTables db (tables_of S)) (sym c.prepare.ensures.register) has;
+      unwritten = search rules;
+      asked = search rules;
+      was_open = search rules;
+      saved = search rules;
+      still_saved = search rules;
+      survives = search rules;
+    }
 
-pub returns-in_err-commit-clause-survives : goal.returns-in_err-commit-clause-survives
-returns-in_err-commit-clause-survives g c =
-    crash_after (state g.S.Store c.args.self.now.store) (state g.S.Store c.commit.new.self) c.args.self.now.book.register c.args.command.now
-    c.in_ok-decision.decision.change.edits (ap (λ (a : Answer). a.edits) c.in_ok-decision.ensures.answer) c.commit.ensures.crash
+-- a change that is not committed
+pub returns-in_err-commit-clause-carried : goal.returns-in_err-commit-clause-carried
+returns-in_err-commit-clause-carried g c = record {
+  near = search rules;
+  changed = search rules;
+  reply = search rules;
+  register = search rules;
+  unchanged = search rules;
+  network = search rules;
+  cause = search rules;
+  typed = c.typed.ensures;
+  tables = search rules;
+  unwritten = search rules;
+  asked = search rules;
+  was_open = search rules;
+  saved = search rules;
+  still_saved = search rules;
+  survives = crash_after (state g.S.Store c.args.self.now.store) (state g.S.Store c.commit.new.self) c.args.self.now.book.register c.args.command.now
+      c.in_ok-decision.decision.change.edits.items (ap (λ (a : Answer). a.edits) c.in_ok-decision.ensures.answer) c.commit.ensures.crash;
+}
 
-pub returns-clause-tables : goal.returns-clause-tables
-returns-clause-tables g c clean good has =
+-- a change that is committed, and then made
+pub returns-clause-carried : goal.returns-clause-carried
+returns-clause-carried g c =
     let R = c.args.self.now.book.register in
+    let q = c.args.command.now in
     let db = (state g.S.Store c.commit.new.self).now in
-    subst (λ (t : Tables). HasTables db t)
-    (tables_after R c.args.command.now c.in_ok-decision.decision.change.edits (ap (λ (a : Answer). a.edits) c.in_ok-decision.ensures.answer) good)
-    (c.in_ok-commit.ensures.made clean (tables_of R) has)
-
-pub returns-clause-survives : goal.returns-clause-survives
-returns-clause-survives g c =
-    crash_after (state g.S.Store c.args.self.now.store) (state g.S.Store c.commit.new.self) c.args.self.now.book.register c.args.command.now
-    c.in_ok-decision.decision.change.edits (ap (λ (a : Answer). a.edits) c.in_ok-decision.ensures.answer) c.commit.ensures.crash
+    let edits = ap (λ (a : Answer). a.edits) c.in_ok-decision.ensures.answer in
+    let told = ap (λ (a : Answer). a.reply) c.in_ok-decision.ensures.answer in
+    let changed = c.apply.ensures.register ∙ (λ i. after_edits (edits i) (c.prepare.ensures.register i)) in
+    record {
+      near = told;
+      changed = changed;
+      reply = λ good. told ∙ ap (λ (a : Answer). a.reply) (near_is_whole R q good);
+      register = λ good. changed ∙ near_after_is_after R q good;
+      unchanged = search rules;
+      network = search rules;
+      cause = search rules;
+      typed = c.typed.ensures;
+      tables = λ clean good has.
+          subst (λ (t : Tables). HasTables db t)
+          (tables_after R q c.in_ok-decision.decision.change.edits.items edits good ∙ ap tables_of (sym (changed ∙ near_after_is_after R q good)))
+          (c.in_ok-commit.ensures.made clean (tables_of R) has);
+      unwritten = search rules;
+      asked = search rules;
+      was_open = search rules;
+      saved = search rules;
+      still_saved = search rules;
+      survives = crash_after (state g.S.Store c.args.self.now.store) (state g.S.Store c.commit.new.self) R q
+          c.in_ok-decision.decision.change.edits.items edits c.commit.ensures.crash;
+    }

@@ -3,9 +3,10 @@ use Rattle.sqlite.specs.Held.{state}
 use Rattle.sqlite.specs.State.{HasCleanDisk, Survives}
 use Rattle.clr_rules.specs.Register.{Register, opening}
 use Rattle.clr_rules.specs.Run.{IsReached}
-use Rattle.clr_reading.specs.Contract.{IsSaved}
-use Rattle.clr_reading.specs.Stored.{AreTables, HasTables}
+use Rattle.clr_load.specs.Contract.{IsSaved}
+use Rattle.clr_load.specs.Stored.{AreTables, HasTables}
 use Rattle.clr_tables.specs.Tables.{tables_of}
+use Rattle.clr_tables.specs.TypedRows.{IsTyped}
 use Rattle.clr_book.specs.Book.{Shelved}
 use Rattle.clr_desk.proofs.OneCommand.{of_command}
 use Rattle.clr_desk.proofs.desk.Desk.create.Goals as goal
@@ -18,6 +19,11 @@ pub returns-in-Ok-create-clause-reached : goal.returns-in-Ok-create-clause-reach
 returns-in-Ok-create-clause-reached g c =
     subst (λ (book : Shelved). IsReached book.register) (sym c.over.ensures.book)
     c.in-Ok.ensures.reached
+
+pub returns-in-Ok-create-clause-typed : goal.returns-in-Ok-create-clause-typed
+returns-in-Ok-create-clause-typed g c =
+    subst (λ (book : Shelved). IsTyped book.register) (sym c.over.ensures.book)
+    c.in-Ok.ensures.typed
 
 pub returns-in-Ok-create-clause-made : goal.returns-in-Ok-create-clause-made
 returns-in-Ok-create-clause-made g c =

@@ -4,7 +4,7 @@ use Rattle.sqlite.specs.State.{HasCleanDisk}
 use Rattle.clr_book.specs.Book.{Shelved}
 use Rattle.clr_tables.specs.RowsRead.{rows_read}
 use Rattle.clr_tables.specs.Tables.{tables_of}
-use Rattle.clr_deskbook.proofs.Opened.{fails_by_database, opened_again}
+use Rattle.clr_desk.proofs.RowsOpened.{fails_by_database, opened_again}
 use Rattle.clr_desk.proofs.OneCommand.{of_command}
 use Rattle.clr_desk.proofs.Opened.{shut_or_open}
 use Rattle.clr_desk.proofs.desk.Desk.open.Goals as goal

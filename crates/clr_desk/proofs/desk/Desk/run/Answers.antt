@@ -1,7 +1,6 @@
-use Rattle.std.proofs.Common.{rules, ◌≡◌, ◌∙◌, ◌+◌, ◌<◌, ◌∷◌, [], List, length, take, ap, arith, get_or, refl, subst, sym, ⊎_elim}
+use Rattle.std.proofs.Common.{rules, ◌≡◌, ◌∙◌, ◌<◌, ◌∷◌, ◌++◌, [], false, List, length, take, ap, arith, get_or, refl, subst, sym, ⊎_elim}
 use Rattle.sqlite.specs.Held.{state}
 use Rattle.sqlite.specs.State.{HasCleanDisk}
-use Rattle.clr_rules.specs.Answer.{Answer, answer}
 use Rattle.clr_rules.specs.Good.{IsGood}
 use Rattle.clr_rules.specs.Register.{Register}
 use Rattle.clr_rules.specs.Run.{after}
@@ -10,10 +9,11 @@ use Rattle.clr_rules.specs.declared.command.Command.{Command}
 use Rattle.clr_rules.specs.declared.reply.Reply.{Reply}
 use Rattle.clr_rules.proofs.isolation.RunReplies.{others_take_nothing}
 use Rattle.clr_rules.proofs.keeps.EveryKind.{commands_keep_good}
-use Rattle.clr_reading.specs.Contract.{IsSaved}
-use Rattle.clr_reading.specs.Stored.{HasTables}
-use Rattle.clr_tables.specs.Tables.{tables_of}
-use Rattle.clr_desk.proofs.OneCommand.{near_after_is_after, near_is_whole}
+use Rattle.clr_book.specs.Decision.{is_accepted}
+use Rattle.clr_desk.specs.NearRun.{IsNearRun}
+use Rattle.clr_desk.proofs.Keeping.{keeps_itself, keeps_on, one_keeps}
+use Rattle.clr_desk.proofs.NearRuns.{near_ran_so_far, near_run_of_next, near_run_of_none, none_before}
+use Rattle.std.specs.List.{list_any}
 use Rattle.clr_desk.proofs.RunSteps.{next_left, no_reply_changed, none_taken, ran_so_far, run_of_next, run_of_none, saved_left, standing_alone}
 use Rattle.clr_desk.proofs.desk.Desk.run.Goals as goal
 
@@ -25,6 +25,19 @@ returns-then-is_err-clause-ran g c good =
     let none : c.reserve.new.self.items ≡ [] = c.reserve.ensures.items ∙ c.new-replies.ensures.items in
     run_of_none c.args.self.now.book.register (with_reply commands c.reserve.new.self.items) c.reserve.new.self.items
     (ap (with_reply commands) none ∙ none_taken commands) none
+
+pub returns-then-is_err-clause-near : goal.returns-then-is_err-clause-near
+returns-then-is_err-clause-near g c =
+    let commands = c.args.commands.items in
+    let none : c.reserve.new.self.items ≡ [] = c.reserve.ensures.items ∙ c.new-replies.ensures.items in
+    near_run_of_none c.args.self.now.book.register (with_reply commands c.reserve.new.self.items) c.reserve.new.self.items
+    (ap (with_reply commands) none ∙ none_taken commands) none
+
+pub returns-then-is_err-clause-unwritten : goal.returns-then-is_err-clause-unwritten
+returns-then-is_err-clause-unwritten g c none clean shown = refl
+
+pub returns-then-is_err-clause-keeps : goal.returns-then-is_err-clause-keeps
+returns-then-is_err-clause-keeps g c = keeps_itself (state g.S.Store c.args.self.now.store) c.args.self.now.book.register
 
 pub returns-then-is_err-clause-headline : goal.returns-then-is_err-clause-headline
 returns-then-is_err-clause-headline g c =
@@ -62,6 +75,9 @@ loop-command-init g c =
       faults = refl;
       good = λ good. good;
       ran = λ good. run_of_none c.args.self.now.book.register (take 0 c.args.commands.items) c.reserve.new.self.items (none_taken c.args.commands.items) none;
+      near = near_run_of_none c.args.self.now.book.register (take 0 c.args.commands.items) c.reserve.new.self.items (none_taken c.args.commands.items) none;
+      keeps = keeps_itself (state g.S.Store c.args.self.now.store) c.args.self.now.book.register;
+      unwritten = λ none clean shown. refl;
       clean = λ clean. clean;
       saved = λ clean saved. saved;
       tables = λ clean good has. has;
@@ -81,33 +97,61 @@ loop-command-preserved g c =
     let same = c.as_slice-command-items.ensures.value in
     let within : i < length commands = subst (λ (l : List Command). i < length l) same c.loop-command-test.true in
     let at : q ≡ get_or commands i q = c.command-item.is ∙ ap (λ (l : List Command). get_or l i q) same in
-    let early : HasCleanDisk new → HasCleanDisk mid = λ clean. omega (arith, c.answer.ensures.survives.clean) in
-    let left : IsGood R → Y ≡ after X q = λ good. c.in-Ok.ensures.register ∙ near_after_is_after X q (inv.good good) in
+    let carried = c.answer.ensures.carried in
+    let early : HasCleanDisk new → HasCleanDisk mid = λ clean. omega (arith, carried.survives.clean) in
+    let left : IsGood R → Y ≡ after X q = λ good. c.in-Ok.ensures.carried.register (inv.good good) in
     record {
       counted = search rules;
       filled = search rules;
       room = search rules;
-      network = c.answer.ensures.network ∙ inv.network;
+      network = carried.network ∙ inv.network;
       faults = c.in-Ok.ensures.faults ∙ inv.faults;
       good = λ good. subst (λ (S : Register). IsGood S) (sym (left good)) (commands_keep_good X q (inv.good good));
       ran = λ good. run_of_next R X Y commands i q c.loop-command.replies.items c.push.new.self.items c.in-Ok.reply within at
           (search rules) (inv.ran good)
-          (c.in-Ok.ensures.reply ∙ ap (λ (a : Answer). a.reply) (near_is_whole X q (inv.good good))) (left good);
+          (c.in-Ok.ensures.carried.reply (inv.good good)) (left good);
+      near = near_run_of_next R X Y commands i q c.loop-command.replies.items c.push.new.self.items c.in-Ok.reply within at
+          (search rules) inv.near c.in-Ok.ensures.carried.near c.in-Ok.ensures.carried.changed;
+      keeps = keeps_on (state g.S.Store c.args.self.now.store) mid new R X Y inv.keeps
+          (one_keeps g.S.Store c.loop-command.self c.answer.new.self q c.answer.result carried);
+      unwritten = λ none clean shown.
+          let grown : c.push.new.self.items ≡ c.loop-command.replies.items ++ c.in-Ok.reply ∷ [] = search rules in
+          let both = none_before is_accepted c.loop-command.replies.items c.in-Ok.reply
+          (subst (λ (l : List Reply). list_any is_accepted l ≡ false) grown none) in
+          c.in-Ok.ensures.carried.unwritten both.1 clean shown ∙ inv.unwritten both.0 (early clean) (carried.was_open clean shown);
       clean = λ clean. inv.clean (early clean);
-      saved = λ clean saved. c.in-Ok.ensures.saved clean (inv.saved (early clean) saved);
-      tables = λ clean good has.
-          subst (λ (S : Register). HasTables new.now (tables_of S)) (sym (left good))
-          (c.in-Ok.ensures.tables clean (inv.good good) (inv.tables (early clean) good has));
+      saved = λ clean saved. c.in-Ok.ensures.carried.saved clean (inv.saved (early clean) saved);
+      tables = λ clean good has. c.in-Ok.ensures.carried.tables clean (inv.good good) (inv.tables (early clean) good has);
     }
 
 -- ---- a fault
+
+pub returns-in-Err-clause-near : goal.returns-in-Err-clause-near
+returns-in-Err-clause-near g c =
+    let R = c.args.self.now.book.register in
+    let told = c.loop-command.replies.items in
+    subst (λ (S : Register). IsNearRun R (with_reply c.args.commands.items told) told S) (sym (c.in-Err.ensures.carried.unchanged refl))
+    (near_ran_so_far R c.loop-command.self.book.register c.args.commands.items told c.loop-command.command-index c.loop-command.invariant.counted
+    c.loop-command.invariant.near)
+
+pub returns-in-Err-clause-unwritten : goal.returns-in-Err-clause-unwritten
+returns-in-Err-clause-unwritten g c none clean shown =
+    let early : HasCleanDisk (state g.S.Store c.loop-command.self.store) = omega (arith, c.answer.ensures.carried.survives.clean) in
+    c.in-Err.ensures.carried.unwritten refl clean shown
+    ∙ c.loop-command.invariant.unwritten none early (c.answer.ensures.carried.was_open clean shown)
+
+pub returns-in-Err-clause-keeps : goal.returns-in-Err-clause-keeps
+returns-in-Err-clause-keeps g c =
+    keeps_on (state g.S.Store c.args.self.now.store) (state g.S.Store c.loop-command.self.store) (state g.S.Store c.answer.new.self.store)
+    c.args.self.now.book.register c.loop-command.self.book.register c.answer.new.self.book.register c.loop-command.invariant.keeps
+    (one_keeps g.S.Store c.loop-command.self c.answer.new.self c.command-item.result c.answer.result c.answer.ensures.carried)
 
 pub returns-in-Err-clause-headline : goal.returns-in-Err-clause-headline
 returns-in-Err-clause-headline g c =
     let R = c.args.self.now.book.register in
     let told = c.loop-command.replies.items in
     no_reply_changed R (with_reply c.args.commands.items told) told c.answer.new.self.book.register
-    (λ good. subst (λ (S : Register). IsRun R (with_reply c.args.commands.items told) told S) (sym (c.in-Err.ensures.unchanged refl))
+    (λ good. subst (λ (S : Register). IsRun R (with_reply c.args.commands.items told) told S) (sym (c.in-Err.ensures.carried.unchanged refl))
     (ran_so_far R c.loop-command.self.book.register c.args.commands.items told c.loop-command.command-index c.loop-command.invariant.counted
     (c.loop-command.invariant.ran good)))
 
@@ -135,16 +179,21 @@ returns-in-Err-clause-crash g c clean saved good has trees may =
     let same = c.as_slice-command-items.ensures.value in
     let within : i < length commands = subst (λ (l : List Command). i < length l) same c.loop-command-test.true in
     let at : q ≡ get_or commands i q = c.command-item.is ∙ ap (λ (l : List Command). get_or l i q) same in
-    let early : HasCleanDisk mid = omega (arith, c.answer.ensures.survives.clean) in
+    let early : HasCleanDisk mid = omega (arith, c.answer.ensures.carried.survives.clean) in
     let mid_saved = inv.saved early saved in
     let mid_has = inv.tables early good has in
     ⊎_elim
     (λ before. saved_left mid mid R X commands told i inv.counted (omega arith) (inv.ran good) mid_saved mid_has trees
     (g.met.S.Store.settled c.loop-command.self.store.store trees mid_saved.0 before))
     (λ after. next_left R X commands told i q inv.counted within at (inv.ran good) trees (after (inv.good good) mid_has))
-    (c.answer.ensures.survives.crash clean trees may)
+    (c.answer.ensures.carried.survives.crash clean trees may)
 
 -- ---- the end
+
+pub returns-clause-near : goal.returns-clause-near
+returns-clause-near g c =
+    near_ran_so_far c.args.self.now.book.register c.loop-command.self.book.register c.args.commands.items c.loop-command.replies.items
+    c.loop-command.command-index c.loop-command.invariant.counted c.loop-command.invariant.near
 
 pub returns-clause-headline : goal.returns-clause-headline
 returns-clause-headline g c =

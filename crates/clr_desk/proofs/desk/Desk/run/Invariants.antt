@@ -1,10 +1,14 @@
-use Rattle.std.proofs.Common.{◌≡◌, ◌≤◌, length, take, vec_len, vec_capacity}
+use Rattle.std.proofs.Common.{◌≡◌, ◌≤◌, IsTrue, false, length, take, vec_len, vec_capacity}
+use Rattle.std.specs.List.{list_any}
+use Rattle.clr_book.specs.Decision.{is_accepted}
+use Rattle.clr_desk.specs.Kept.{Keeps}
+use Rattle.clr_desk.specs.NearRun.{IsNearRun}
 use Rattle.sqlite.specs.Held.{state}
 use Rattle.sqlite.specs.State.{HasCleanDisk}
 use Rattle.clr_rules.specs.Good.{IsGood}
 use Rattle.clr_rules.specs.RunHeadline.{IsRun}
-use Rattle.clr_reading.specs.Contract.{IsSaved}
-use Rattle.clr_reading.specs.Stored.{HasTables}
+use Rattle.clr_load.specs.Contract.{IsSaved}
+use Rattle.clr_load.specs.Stored.{HasTables}
 use Rattle.clr_tables.specs.Tables.{tables_of}
 use Rattle.clr_desk.proofs.desk.Desk.run.Given as goal
 
@@ -22,6 +26,9 @@ invariant-loop-command g l =
       faults : l.self.faults ≡ l.fn.self.faults;
       good : IsGood R → IsGood l.self.book.register;
       ran : IsGood R → IsRun R (take l.command-index l.fn.commands.items) l.replies.items l.self.book.register;
+      near : IsNearRun R (take l.command-index l.fn.commands.items) l.replies.items l.self.book.register;
+      keeps : Keeps old R now l.self.book.register;
+      unwritten : list_any is_accepted l.replies.items ≡ false → HasCleanDisk now → IsTrue now.is_open → now.now ≡ old.now;
       clean : HasCleanDisk now → HasCleanDisk old;
       saved : HasCleanDisk now → IsSaved old → IsSaved now;
       tables : HasCleanDisk now → IsGood R → HasTables old.now (tables_of R) → HasTables now.now (tables_of l.self.book.register);

@@ -7,22 +7,24 @@ ghost use Rattle.clr_rules.specs.Edits.{after_edits};
 ghost use Rattle.clr_rules.specs.Register.{opening};
 ghost use Rattle.clr_tables.specs.declared.table_name.TableName.TheVariants as table;
 ghost use Rattle.clr_book.specs.Book.{Shelved};
-ghost use Rattle.clr_reading.specs.Contract.{IsSaved, rows_told};
-ghost use Rattle.clr_reading.specs.Fault.{IsOfDatabase};
-ghost use Rattle.clr_reading.specs.Stored.{HasTables};
+ghost use Rattle.clr_load.specs.Contract.{IsSaved, rows_told};
+ghost use Rattle.clr_load.specs.Fault.{IsOfDatabase};
+ghost use Rattle.clr_load.specs.Stored.{HasTables};
 ghost use Rattle.clr_tables.specs.RowsRead.{rows_read};
 ghost use Rattle.clr_tables.specs.Tables.{Tables};
+ghost use Rattle.clr_tables.specs.TypedRows.{IsTyped};
 ghost use Rattle.sqlite.specs.Held.{state};
 ghost use Rattle.sqlite.specs.State.{HasCleanDisk, Survives};
-ghost use Rattle.clr_deskbook.specs.Filling.{filling, hand_edit};
+ghost use Rattle.clr_desk.specs.Filling.{filling, hand_edit};
 ghost use Rattle.clr_rules.specs.declared.change.Edit.TheVariants.{PutHold, PutRecord, PutStep};
-ghost use Rattle.clr_deskbook.specs.Opening.{FailsToOpen, IsRegisterOf, OpensAs, bad_table, table_of};
-ghost use Rattle.clr_reading.specs.declared.fault.StoreFault.TheVariants.{BadRow, NoMemory};
+ghost use Rattle.clr_desk.specs.Opening.{FailsToOpen, IsRegisterOf, OpensAs, bad_table, table_of};
+ghost use Rattle.clr_load.specs.declared.fault.StoreFault.TheVariants.{BadRow, NoMemory};
 
 use crate::book::{DeskBook, apply, opening_book};
+use crate::typed::Typed;
 use clr_csv::{Staff, StaffFault, StaffRow};
 use clr_net::{MAX_SECTIONS, NetFault, Network, PointRow, SectionRow};
-use clr_rules::{Change, Edit, Edits, Hold, PointState, Record, StepRow};
+use clr_rules::{Change, Edit, Hold, PointState, Record, StepRow};
 use clr_store::{Rows, Store, StoreFault};
 use clr_tables::TableName;
 use sqlite::Alter;
@@ -38,15 +40,13 @@ fn filling(
     steps: &[StepRow],
 ) -> Result<Change, AllocError>
     ensures { IfOk result
-        (λ change. change.edits ≡ filling states.now holds.now records.now steps.now) }
+        (λ change. change.edits.items ≡ filling states.now holds.now records.now steps.now) }
 {
     let mut edits = hand_edits(alloc, states)?;
     edits.extend_from_slice(&hold_edits(alloc, holds)?)?;
     edits.extend_from_slice(&record_edits(alloc, records)?)?;
     edits.extend_from_slice(&step_edits(alloc, steps)?)?;
-    Ok(Change {
-        edits: Edits::new(edits),
-    })
+    Ok(Change { edits })
 }
 
 fn hand_edits(alloc: Global, states: &[PointState]) -> Result<Vec<Edit>, AllocError>
@@ -87,7 +87,7 @@ fn filled_book(
     staff: Staff,
     change: Change,
 ) -> Result<DeskBook, AllocError>
-    ensures { IfOk result (λ book. book.register ≡ after_edits change.edits
+    ensures { IfOk result (λ book. book.register ≡ after_edits change.edits.items
         (opening network staff)) }
 {
     let mut book = opening_book(alloc, network, staff)?;
@@ -150,9 +150,11 @@ fn built_staff(alloc: Global, rows: Vec<StaffRow>) -> Result<Staff, StoreFault>
 /// The book of loaded rows.
 fn book_of(rows: Rows) -> Result<DeskBook, StoreFault>
     ensures register { IfOk result (λ book. IsRegisterOf (rows_told rows) book.register) }
+    ensures typed { IfOk result (λ book. IsTyped book.register) }
     ensures none { IfOk result (λ _. bad_table (rows_told rows) ≡ None) }
     ensures fault { IfErr result (λ fault. FailsToOpen (rows_told rows) fault) }
 {
+    rows.typed();
     let alloc = *rows.sections.allocator();
     let change = filling(alloc, &rows.states, &rows.holds, &rows.records, &rows.steps)?;
     let network = built_network(alloc, rows.sections, rows.points)?;
@@ -169,6 +171,7 @@ pub fn book_in<S: Alter + Drop>(store: &mut Store<S>) -> Result<DeskBook, StoreF
     ensures tables { HasCleanDisk (state S.Store store.new) → (t : Tables)
         → HasTables (state S.Store store.old).now t
         → OpensAs (λ (book : Shelved). book.register) (rows_read t) result }
+    ensures typed { IfOk result (λ book. IsTyped book.register) }
     ensures was_open { HasCleanDisk (state S.Store store.new)
         → IsTrue (state S.Store store.old).is_open ⊎ IsErrAnd result IsOfDatabase }
     ensures saved { HasCleanDisk (state S.Store store.new)

@@ -1,5 +1,5 @@
 -- OPENING A DESK: the register of loaded rows, and the table that is at fault where they have none.
-use Rattle.std.specs.Prelude.{◌≡◌, ◌⊎◌, ℕ, nat_lt, if◌then◌else◌, List, length, Option, None, Some}
+use Rattle.std.specs.Prelude.{◌≡◌, ◌⊎◌, nat_lt, if◌then◌else◌, List, length, Option, None, Some}
 use Rattle.std.specs.Prelude.{Result, Ok, Err, ⊤}
 use Rattle.clr_csv.specs.Staff.{IsStaffOf, first_fault as staff_fault}
 use Rattle.clr_csv.specs.declared.employee.StaffRow.{StaffRow}
@@ -18,10 +18,10 @@ use Rattle.clr_rules.specs.Register.{Register, opening}
 use Rattle.clr_tables.specs.RowsRead.{Rows, rows_of}
 use Rattle.clr_tables.specs.declared.table_name.TableName.{TableName}
 use Rattle.clr_tables.specs.declared.table_name.TableName.TheVariants as table
-use Rattle.clr_deskbook.specs.Filling.{filling}
-use Rattle.clr_reading.specs.declared.fault.StoreFault.{StoreFault}
-use Rattle.clr_reading.specs.declared.fault.StoreFault.TheVariants.{Sql, WrongVersion, BadRow}
-use Rattle.clr_reading.specs.declared.fault.StoreFault.TheVariants.{NoMemory}
+use Rattle.clr_desk.specs.Filling.{filling}
+use Rattle.clr_load.specs.declared.fault.StoreFault.{StoreFault}
+use Rattle.clr_load.specs.declared.fault.StoreFault.TheVariants.{Sql, WrongVersion, BadRow}
+use Rattle.clr_load.specs.declared.fault.StoreFault.TheVariants.{NoMemory}
 
 -- THE REGISTER OF ROWS: their network and staff are opened, and filled with the other rows
 pub record IsRegisterOf (rows : Rows) (R : Register) : Type 0 where

@@ -1,9 +1,9 @@
 -- A book that is filled with the rows of a register has this register.
-use Rattle.std.proofs.Common.{◌≡◌, ◌∙◌, ℕ, Bool, true, false, List, [], ◌∷◌, ◌++◌, map, drop, Option, None, Some, IsTrue, refl, sym, ap, arith}
+use Rattle.std.proofs.Common.{◌≡◌, ◌∙◌, ℕ, true, false, List, [], ◌∷◌, ◌++◌, map, drop, Option, None, Some, IsTrue, refl, sym, ap}
 use Rattle.std.specs.Prelude.{Contains, unwrap_or}
 use Rattle.std.specs.List.{AllByRecursion, list_all}
 use Rattle.std.specs.List.Sorted.{IsPermutation, IsStrictlySortedBy}
-use Rattle.std.specs.Ordering.{is_eq, is_lt}
+use Rattle.std.specs.Ordering.{is_lt}
 use Rattle.std.specs.Cmp.{IsTotalOrder}
 use Rattle.std.specs.declared.cmp.Ordering.{Ordering}
 use Rattle.std.specs.declared.cmp.Ordering.TheVariants.{Less, Equal}
@@ -17,7 +17,7 @@ use Rattle.clr_csv.specs.declared.employee.StaffRow.{StaffRow}
 use Rattle.clr_csv.specs.declared.staff_fault.StaffFault.{StaffFault}
 use Rattle.clr_csv.proofs.StaffFacts.{staff_has_no_fault}
 use Rattle.clr_net.proofs.BuildFacts.{network_has_no_fault}
-use Rattle.clr_net.specs.Grid.{Grid, IsNetwork, has_ends, has_one_section, point_names, section_names}
+use Rattle.clr_net.specs.Grid.{Grid, IsNetwork, has_ends, has_one_section, point_names, section_names, unplaced}
 use Rattle.clr_net.specs.Name.{name_cmp}
 use Rattle.clr_net.specs.declared.net_fault.NetFault.{NetFault}
 use Rattle.clr_net.specs.declared.point.PointRow.{PointRow}
@@ -34,7 +34,7 @@ use Rattle.clr_rules.specs.Hold.{hold_cmp, hold_cmp_total}
 use Rattle.clr_rules.specs.Holds.{hold_key}
 use Rattle.clr_rules.specs.Id.{Id, id_cmp, id_cmp_total}
 use Rattle.clr_rules.specs.Records.{record_key}
-use Rattle.clr_rules.specs.Register.{Register, first_state, opening, unplaced, unplaced_net}
+use Rattle.clr_rules.specs.Register.{Register, first_state, opening}
 use Rattle.clr_rules.proofs.lists.StateFacts.{state_of-point}
 use Rattle.clr_rules.specs.States.{change_state, changed_state, state_key, state_of}
 use Rattle.clr_rules.specs.StepKey.{step_key, step_key_cmp, step_key_cmp_total}
@@ -46,8 +46,8 @@ use Rattle.clr_rules.specs.declared.record.Record.{Record}
 use Rattle.clr_rules.specs.declared.step_row.StepRow.{StepRow}
 use Rattle.clr_tables.specs.RowsRead.{with_its_position}
 use Rattle.clr_tables.specs.Tables.{state_at}
-use Rattle.clr_deskbook.specs.Filling.{filling, hand_edit}
-use Rattle.clr_deskbook.specs.Opening.{OpensAgain, bad_network, bad_staff}
+use Rattle.clr_desk.specs.Filling.{filling, hand_edit}
+use Rattle.clr_desk.specs.Opening.{OpensAgain, bad_network, bad_staff}
 
 abbrev first_or : {X : Type 0} → X → List X → X
 first_or x [] = x
@@ -59,7 +59,7 @@ unhanded state = record state { hand = None }
 
 -- ---- rows put one after the other, in the order of their keys, are those rows
 
-put_rows : {Key Row : Type 0} → (Key → Key → Ordering) → (Row → Key) → List Row → List Row → List Row
+unfoldable pub put_rows : {Key Row : Type 0} → (Key → Key → Ordering) → (Row → Key) → List Row → List Row → List Row
 put_rows compare key_of [] front = front
 put_rows compare key_of (row ∷ rows) front = put_rows compare key_of rows (with_row compare key_of row front)
 
@@ -83,7 +83,7 @@ module _ {Key Row : Type 0} (compare : Key → Key → Ordering) (key_of : Row �
 
 -- ---- hands
 
-set_hands : List PointState → List PointState → List PointState
+unfoldable pub set_hands : List PointState → List PointState → List PointState
 set_hands [] states = states
 set_hands (state ∷ more) states = set_hands more (change_state states state.point (λ s. record s { hand = state.hand }))
 
@@ -169,7 +169,7 @@ unfolding after_edits put_rows
 steps_edited [] R = refl
 steps_edited (row ∷ steps) R = steps_edited steps (after_edit (PutStep row) R)
 
-all_edited : (states : List PointState) (holds : List Hold) (records : List Record) (steps : List StepRow) (R : Register)
+pub all_edited : (states : List PointState) (holds : List Hold) (records : List Record) (steps : List StepRow) (R : Register)
     → after_edits (filling states holds records steps) R
     ≡ record R {
       states = set_hands states R.states;
@@ -224,11 +224,11 @@ opening_now : (R : Register) → IsGood R
 opening_now R good =
     let all = R.states in
     let points = Grid.points R.net in
-    let read = each_read all all (λ state h. h) good.in_order.states in
+    let read = each_read all all (λ state h. h) good.said.in_order.states in
     (λ i. record {
-      net = (ap (λ (l : List PointRow). record { sections = Grid.sections R.net; points = l }) (unplaced_placed all points) ∙ good.placed) i;
+      net = (ap (λ (l : List PointRow). record { sections = Grid.sections R.net; points = l }) (unplaced_placed all points) ∙ good.besides.placed) i;
       staff = R.staff;
-      states = firsts_are all all points good.points_known.states read i;
+      states = firsts_are all all points good.besides.points_known.states read i;
       records = [];
       steps = [];
       holds = [];
@@ -244,10 +244,10 @@ filled R good =
     ∙ (λ i. record {
       net = R.net;
       staff = R.staff;
-      states = hands_are R.states good.in_order.states i;
-      holds = put_into_none hold_cmp hold_key hold_cmp_total R.holds good.in_order.holds i;
-      records = put_into_none id_cmp record_key id_cmp_total R.records good.in_order.records i;
-      steps = put_into_none step_key_cmp step_key step_key_cmp_total R.steps good.in_order.steps i;
+      states = hands_are R.states good.said.in_order.states i;
+      holds = put_into_none hold_cmp hold_key hold_cmp_total R.holds good.said.in_order.holds i;
+      records = put_into_none id_cmp record_key id_cmp_total R.records good.said.in_order.records i;
+      steps = put_into_none step_key_cmp step_key step_key_cmp_total R.steps good.said.in_order.steps i;
     })
 
 -- its network stays one
@@ -288,16 +288,16 @@ opens_again R good = record {
   register = λ S built.
       let net = built.network.network in
       let sections : Grid.sections built.grid ≡ Grid.sections R.net =
-      one_list (λ (row : SectionRow). row.name) (Grid.sections R.net) (Grid.sections built.grid) built.network.all_sections good.network.sections_rise net.sections_rise in
+      one_list (λ (row : SectionRow). row.name) (Grid.sections R.net) (Grid.sections built.grid) built.network.all_sections good.said.network.sections_rise net.sections_rise in
       let points : Grid.points built.grid ≡ Grid.points (grid_now R) =
-      one_list (λ (row : PointRow). row.name) (Grid.points (grid_now R)) (Grid.points built.grid) built.network.all_points (now_is_network R good.network).points_rise net.points_rise in
+      one_list (λ (row : PointRow). row.name) (Grid.points (grid_now R)) (Grid.points built.grid) built.network.all_points (now_is_network R good.said.network).points_rise net.points_rise in
       let staff : built.staff ≡ R.staff =
-      one_list (λ (row : StaffRow). row.name) R.staff built.staff built.employees.all_rows good.staff.names_rise built.employees.is_staff.names_rise in
+      one_list (λ (row : StaffRow). row.name) R.staff built.staff built.employees.all_rows good.said.staff.names_rise built.employees.is_staff.names_rise in
       built.filled
       ∙ (λ i. after_edits (filling R.states R.holds R.records R.steps) (opening (record { sections = sections i; points = points i }) (staff i)))
       ∙ filled R good;
   no_fault =
       no_bad_table (Grid.sections R.net) _ _
-      (network_has_no_fault (Grid.sections R.net) (Grid.points (grid_now R)) (grid_now R) (record { all_sections = IsPermutation-refl _; all_points = IsPermutation-refl _; network = now_is_network R good.network }))
-      (staff_has_no_fault R.staff R.staff (record { all_rows = IsPermutation-refl _; is_staff = good.staff }));
+      (network_has_no_fault (Grid.sections R.net) (Grid.points (grid_now R)) (grid_now R) (record { all_sections = IsPermutation-refl _; all_points = IsPermutation-refl _; network = now_is_network R good.said.network }))
+      (staff_has_no_fault R.staff R.staff (record { all_rows = IsPermutation-refl _; is_staff = good.said.staff }));
 }

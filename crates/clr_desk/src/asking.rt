@@ -3,7 +3,7 @@
 ghost use Rattle.std.specs.Prelude.{◌≡◌, IfOk};
 ghost use Rattle.clr_book.specs.Decision.{ChangesIfAccepted, answer_of_decision};
 ghost use Rattle.clr_book.specs.Book.{Fits, needs};
-ghost use Rattle.clr_deskbook.specs.Asking.{near_answer};
+ghost use Rattle.clr_desk.specs.Asking.{near_answer};
 
 use crate::book::DeskBook;
 use clr_book::Decision;
@@ -18,7 +18,7 @@ pub fn prepare(book: &mut DeskBook, command: &Command) -> Result<Decision, Alloc
     ensures answer { IfOk result
         (λ d. answer_of_decision d ≡ near_answer book.old.register command.now) }
     ensures nothing { IfOk result ChangesIfAccepted }
-    ensures room { IfOk result (λ d. Fits (needs d.change.edits) book.new.room) }
+    ensures room { IfOk result (λ d. Fits (needs d.change.edits.items) book.new.room) }
     ensures register { book.new.register ≡ book.old.register }
     ensures network { book.new.network ≡ book.old.network }
 {

@@ -1,6 +1,6 @@
 use Rattle.clr_tables.specs.RowsRead.{rows_read}
-use Rattle.clr_deskbook.proofs.Opened.{not_loaded}
-use Rattle.clr_deskbook.proofs.opening.book_in.Goals as goal
+use Rattle.clr_desk.proofs.RowsOpened.{not_loaded}
+use Rattle.clr_desk.proofs.opening.book_in.Goals as goal
 
 pub returns-in-Err-clause-tables : goal.returns-in-Err-clause-tables
 returns-in-Err-clause-tables g c clean t has = not_loaded (rows_read t) c.in-Err.fault (c.in-Err.ensures.rows clean t has)

@@ -4,7 +4,9 @@ ghost use Rattle.clr_book.specs.Book.{Fits, needs};
 ghost use Rattle.clr_rules.specs.Edits.{after_edits};
 ghost use Rattle.clr_rules.specs.Register.{opening};
 ghost use Rattle.clr_rules.specs.Run.{IsReached};
+ghost use Rattle.clr_tables.specs.TypedRows.{IsTyped};
 
+use crate::typed::Typed;
 use clr_book::Book;
 use clr_csv::Staff;
 use clr_net::Network;
@@ -26,8 +28,12 @@ pub fn opening_book(alloc: Global, network: Network, staff: Staff) -> Result<Des
     ensures register { IfOk result (λ book. book.register ≡ opening network staff) }
     ensures network { IfOk result (λ book. book.network ≡ network) }
     ensures reached { IfOk result (λ book. IsReached book.register) }
+    ensures typed { IfOk result (λ book. IsTyped book.register) }
 {
-    DeskBook::opening(alloc, network, staff)
+    network.typed();
+    staff.typed();
+    let book = DeskBook::opening(alloc, network, staff)?;
+    Ok(book)
 }
 
 /// The network of a book.
@@ -46,8 +52,8 @@ pub fn staff_of(book: &DeskBook) -> &Staff
 
 /// Makes a change for which there is room.
 pub fn apply(book: &mut DeskBook, change: Change)
-    requires { Fits (needs change.edits) book.old.room }
-    ensures register { book.new.register ≡ after_edits change.edits book.old.register }
+    requires { Fits (needs change.edits.items) book.old.room }
+    ensures register { book.new.register ≡ after_edits change.edits.items book.old.register }
     ensures network { book.new.network ≡ book.old.network }
 {
     book.apply(change);

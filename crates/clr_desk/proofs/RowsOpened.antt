@@ -1,19 +1,19 @@
 -- A book that is opened: from what the store loads to the register.
-use Rattle.std.proofs.Common.{◌≡◌, ◌∙◌, Option, None, Some, ap, subst, sym, Result, Ok, Err}
+use Rattle.std.proofs.Common.{◌≡◌, ◌∙◌, None, Some, ap, subst, sym, Result, Ok, Err}
 use Rattle.clr_book.specs.Book.{Shelved}
 use Rattle.clr_rules.specs.Good.{IsGood}
 use Rattle.clr_rules.specs.Register.{Register}
-use Rattle.clr_reading.specs.Contract.{GivesRows}
-use Rattle.clr_reading.specs.Fault.{IsOfDatabase}
-use Rattle.clr_reading.specs.declared.fault.StoreFault.{StoreFault}
-use Rattle.clr_reading.specs.declared.fault.StoreFault.TheVariants.{Sql, WrongVersion, BadRow, NoMemory}
+use Rattle.clr_load.specs.Contract.{GivesRows}
+use Rattle.clr_load.specs.Fault.{IsOfDatabase}
+use Rattle.clr_load.specs.declared.fault.StoreFault.{StoreFault}
+use Rattle.clr_load.specs.declared.fault.StoreFault.TheVariants.{Sql, WrongVersion, BadRow, NoMemory}
 use Rattle.clr_tables.specs.RowsRead.{Rows, rows_of, rows_read}
 use Rattle.clr_tables.specs.Tables.{tables_of}
 use Rattle.clr_tables.specs.TypedRows.{IsTyped}
 use Rattle.clr_tables.specs.declared.table_name.TableName.{TableName}
 use Rattle.clr_tables.proofs.TablesRead.{tables_are_read, tables_read_as_no_others}
-use Rattle.clr_deskbook.specs.Opening.{IsRegisterOf, OpensAs}
-use Rattle.clr_deskbook.proofs.Filled.{opens_again}
+use Rattle.clr_desk.specs.Opening.{IsRegisterOf, OpensAs}
+use Rattle.clr_desk.proofs.Filled.{opens_again}
 
 abbrev bad_or : TableName → Result Rows TableName → TableName
 bad_or other (Ok rows) = other
@@ -33,7 +33,7 @@ not_loaded told (WrongVersion n) gives = absurd gives
 pub opened_again : (R : Register) → IsGood R → (book : Shelved) (told : Result Rows TableName) → rows_read (tables_of R) ≡ told
     → OpensAs (λ (book : Shelved). book.register) told (Ok book) → book.register ≡ R
 opened_again R good book (Ok rows) is opens =
-    let same : rows ≡ rows_of R = tables_read_as_no_others R rows good.points_known.states good.in_order is in
+    let same : rows ≡ rows_of R = tables_read_as_no_others R rows good.besides.points_known.states good.said.in_order is in
     let again = opens_again R good in
     again.register book.register (subst (λ (l : Rows). IsRegisterOf l book.register) same opens.0)
 opened_again R good book (Err bad) is opens = absurd opens
@@ -54,4 +54,4 @@ pub fails_by_database : (R : Register) → IsGood R → IsTyped R → (fault : S
 fails_by_database R good typed fault opens =
     opens_good R good fault
     (subst (λ (read : Result Rows TableName). OpensAs (λ (book : Shelved). book.register) read (Err fault))
-    (tables_are_read R good.points_known.states good.in_order typed) opens)
+    (tables_are_read R good.besides.points_known.states good.said.in_order typed) opens)

@@ -1,0 +1,25 @@
+-- A RUN OF ANY REGISTER, also of one that no commands make: each command is answered from its near
+-- part. Of a good register that is the run.
+use Rattle.std.specs.Prelude.{◌≡◌, List, [], ◌∷◌}
+use Rattle.clr_rules.specs.Answer.{Answer}
+use Rattle.clr_rules.specs.Register.{Register}
+use Rattle.clr_rules.specs.declared.command.Command.{Command}
+use Rattle.clr_rules.specs.declared.reply.Reply.{Reply}
+use Rattle.clr_desk.specs.Asking.{near_after, near_answer}
+
+-- the replies
+unfoldable pub near_replies : Register → List Command → List Reply
+near_replies R [] = []
+near_replies R (q ∷ commands) =
+    Answer.reply (near_answer R q) ∷ near_replies (near_after R q) commands
+
+-- the register that is left
+unfoldable pub near_after_all : Register → List Command → Register
+near_after_all R [] = R
+near_after_all R (q ∷ commands) = near_after_all (near_after R q) commands
+
+-- these commands were told these replies, and left this register
+pub record IsNearRun (R : Register) (commands : List Command) (told : List Reply)
+    (S : Register) : Type 0 where
+  pub replied : told ≡ near_replies R commands
+  pub register : S ≡ near_after_all R commands

@@ -1,5 +1,0 @@
-use Rattle.clr_deskbook.proofs.Filled.{opens_again}
-use Rattle.clr_deskbook.proofs.laws.good_registers_open_again.Goals as goal
-
-pub returns : goal.returns
-returns c = opens_again
