@@ -2,3 +2,5 @@ pub mod MembersFacts
 pub mod ListsRead
 pub mod NoFloats
 pub mod LineReplies
+pub mod KeysInOrder
+pub mod KeyFaults

@@ -74,8 +74,8 @@ pub faults_are_of_the_line : FaultsAreOfTheLine
 faults_are_of_the_line R line fault reads = (ap (answer_text R) reads, ap (register_behind R) reads)
 
 pub same_bytes : SameShownSameAnswers → SameShownSameBytes
-same_bytes law c inside R T lines others R_reached T_reached no_operator agree covered same =
-    let end = law c inside R T (commands_in lines) (commands_in others) R_reached T_reached no_operator agree covered same in
+same_bytes law c inside R T lines others shown =
+    let end = law c inside R T (commands_in lines) (commands_in others) shown in
     let texts : own_line_replies c lines (line_replies R lines) ≡ own_line_replies c others (line_replies T others) =
     own_texts c R lines ∙ ap (λ answers. map reply_text (map (λ (a : Answer). a.reply) answers)) end.0 ∙ sym (own_texts c T others) in
     let first : Agree c inside (after_lines R lines) (after_all T (commands_in others)) =
@@ -135,10 +135,10 @@ all_own c R [] = refl
 all_own c R (line ∷ lines) = alone_step c line (is_own_line c line) (filter (is_own_line c) lines) R refl (λ S. all_own c S lines)
 
 pub own_lines_alone : OwnCommandsAlone → OwnLinesAlone
-own_lines_alone law c inside R lines reached no_operator covered all =
+own_lines_alone law c inside R lines alone =
     let texts : List Answer → List (List ℕ) = λ answers. map reply_text (map (λ (a : Answer). a.reply) answers) in
     own_texts c R lines
-    ∙ ap texts (law c inside R (commands_in lines) reached no_operator covered all)
+    ∙ ap texts (law c inside R (commands_in lines) alone)
     ∙ ap (λ commands. texts (own_answers c R commands)) (sym (own_lines_read c lines))
     ∙ sym (own_texts c R (filter (is_own_line c) lines))
     ∙ all_own c R lines

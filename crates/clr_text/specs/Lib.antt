@@ -4,6 +4,7 @@ pub mod Answers
 pub mod Values
 pub mod Kinds
 pub mod Reading
+pub mod KeyLaws
 pub mod Json
 pub mod RefusalText
 pub mod Replies

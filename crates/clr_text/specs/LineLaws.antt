@@ -1,17 +1,14 @@
 -- THE HEADLINE IN BYTES: lines that show a clearance the same give it the same replies, byte for
 -- byte.
-use Rattle.std.specs.Prelude.{◌≡◌, ℕ, Bool, true, false, List, map, filter, Err}
-use Rattle.std.specs.List.{list_all}
+use Rattle.std.specs.Prelude.{◌≡◌, ℕ, Bool, true, List, map, filter, Err}
 use Rattle.clr_rules.specs.Agreement.{Agree}
 use Rattle.clr_rules.specs.Footprint.{Frame}
-use Rattle.clr_rules.specs.Good.{is_operators}
-use Rattle.clr_rules.specs.Isolation.{HeldStayOpen, is_own_item}
+use Rattle.clr_rules.specs.Isolation.{HeldStayOpen, ShowTheSame, ShowsOwnAlone}
 use Rattle.clr_rules.specs.Id.{Id}
 use Rattle.clr_rules.specs.Register.{Register}
 use Rattle.clr_rules.specs.declared.reply.Reply.{Reply}
 use Rattle.clr_rules.specs.Run.{IsReached}
 use Rattle.clr_rules.specs.RunHeadline.{IsRun, own_replies}
-use Rattle.clr_rules.specs.Shown.{covers, items_shown}
 use Rattle.clr_text.specs.Lines.{after_line, after_lines, commands_in, is_others_line, is_own_line}
 use Rattle.clr_text.specs.Lines.{line_replies, line_reply, own_line_replies}
 use Rattle.clr_text.specs.Reading.{read_command}
@@ -38,15 +35,13 @@ FaultsAreOfTheLine = (R : Register) (line : List ℕ) (fault : TextFault)
     → read_command line ≡ Err fault
     → (line_reply R line ≡ fault_text fault) × (after_line R line ≡ R)
 
--- FIRST HALF: two reached registers agree near a clearance, whose requester is no operator, on a
--- set that covers the run of the first; and two lists of lines show it the same. Then its own lines
--- are answered with the same bytes, and the registers agree again
+-- FIRST HALF: two registers and two lists of lines show a clearance the same, by the commands that
+-- the lines read as. Then its own lines are answered with the same bytes, and the registers agree
+-- again
 abbrev pub SameShownSameBytes : Type 0
 SameShownSameBytes = (c : Id) (inside : List ℕ → Bool) (R T : Register)
     (lines others : List (List ℕ))
-    → IsReached R → IsReached T → is_operators R c.requester ≡ false → Agree c inside R T
-    → covers c inside R (commands_in lines) ≡ true
-    → items_shown c inside R (commands_in lines) ≡ items_shown c inside T (commands_in others)
+    → ShowTheSame c inside R (commands_in lines) T (commands_in others)
     → (own_line_replies c lines (line_replies R lines)
     ≡ own_line_replies c others (line_replies T others))
     × Agree c inside (after_lines R lines) (after_lines T others)
@@ -64,8 +59,6 @@ OthersLinesTakeNothing = (R : Register) (earlier : List (List ℕ)) (c : Id) (li
 -- with the bytes that they give alone
 abbrev pub OwnLinesAlone : Type 0
 OwnLinesAlone = (c : Id) (inside : List ℕ → Bool) (R : Register) (lines : List (List ℕ))
-    → IsReached R → is_operators R c.requester ≡ false
-    → covers c inside R (commands_in lines) ≡ true
-    → list_all is_own_item (items_shown c inside R (commands_in lines)) ≡ true
+    → ShowsOwnAlone c inside R (commands_in lines)
     → own_line_replies c lines (line_replies R lines)
     ≡ line_replies R (filter (is_own_line c) lines)

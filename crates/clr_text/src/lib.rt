@@ -13,6 +13,7 @@ mod replies;
 mod values;
 mod word;
 
+pub use clr_print::{print_board, print_order};
 pub use fault::TextFault;
 pub use fault_texts::fault_text;
 pub use key::Key;

@@ -1,0 +1,5 @@
+use Rattle.clr_text.proofs.KeyFaults.{least_missing_is_named}
+use Rattle.clr_text.proofs.laws.least_missing_is_named.Goals as goal
+
+pub returns : goal.returns
+returns c = least_missing_is_named
