@@ -15,13 +15,13 @@ use Rattle.clr_http.proofs.Heads.{none_at_first}
 use Rattle.clr_http.specs.Head.{HasHead, IsOutside}
 use Rattle.clr_http.specs.Length.{Field, body_length, is_called, is_length, length_of_fields, within_limit}
 use Rattle.clr_http.specs.Request.{Reading, asks, command_read, refusal_of, refused}
-use Rattle.clr_http.specs.Response.{told}
+use Rattle.clr_http.specs.Response.{fault_response}
 use Rattle.clr_http.specs.declared.head.HeadFault.{HeadFault}
 use Rattle.clr_http.specs.declared.head.HeadFault.TheVariants as head_fault
 use Rattle.clr_http.specs.declared.length.LengthFault.{LengthFault}
 use Rattle.clr_http.specs.declared.length.LengthFault.TheVariants.{BadLength, BodyTooLarge, NoLength}
 use Rattle.clr_http.specs.declared.response.Fault.TheVariants as fault
-use Rattle.clr_http.specs.declared.target.Asked.TheVariants.{Command}
+use Rattle.clr_http.specs.declared.target.Target.TheVariants.{Command}
 
 -- a length is at most the limit
 abbrev IsLimited : Result ℕ LengthFault → Type 0
@@ -61,7 +61,7 @@ body_whole input (Some ys) taken start size c le =
 
 pub body_short : (input : List ℕ) (left : Option (List ℕ)) (taken : List ℕ) (start size : ℕ)
     → Consumes (Some input) left taken → IsAtEnd left → start ≤ length taken → length taken < start + size
-    → command_read (Ok size) (drop start input) ≡ refused (told fault.BodyCut)
+    → command_read (Ok size) (drop start input) ≡ refused (fault_response fault.BodyCut)
 body_short input None taken start size c e from lt = absurd c
 body_short input (Some ys) taken start size c e from lt =
     let rest : length (drop start (taken ++ ys)) ≡ length taken - start =

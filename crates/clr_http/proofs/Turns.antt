@@ -1,5 +1,5 @@
 -- What a turn leaves: the register as it was, or as a command left it. So it stays good, and reached.
-use Rattle.std.proofs.Common.{◌≡◌, ℕ, List, [], ◌∷◌, inl, inr, refl, sym, subst}
+use Rattle.std.proofs.Common.{◌≡◌, ℕ, List, [], ◌∷◌, inl, inr, sym, subst}
 use Rattle.std.specs.Prelude.{◌⊎◌, Option, None, Some, Result, Ok, Err}
 use Rattle.clr_rules.proofs.edits.Runs.{reached_go_on}
 use Rattle.clr_rules.proofs.keeps.EveryKind.{commands_keep_good}
@@ -9,51 +9,51 @@ use Rattle.clr_rules.specs.declared.command.Command.{Command}
 use Rattle.clr_rules.specs.Run.{IsReached, after, after_all}
 use Rattle.clr_text.specs.Reading.{read_command}
 use Rattle.clr_text.specs.declared.fault.TextFault.{TextFault}
-use Rattle.clr_http.specs.Registrar.{IsTurn}
-use Rattle.clr_http.specs.Respond.{Outcome, answered, body_answered, order_answered, show_of, view_answered}
-use Rattle.clr_http.specs.Response.{Carried}
-use Rattle.clr_http.specs.declared.target.Asked.{Asked}
-use Rattle.clr_http.specs.declared.target.Asked.TheVariants as asked
-use Rattle.clr_http.specs.declared.target.Printing.{Printing}
-use Rattle.clr_http.specs.declared.target.Viewing.{Viewing}
+use Rattle.clr_http.specs.Registrar.{IsTurn, Keeper}
+use Rattle.clr_http.specs.Respond.{Outcome, target_outcome, body_outcome, order_outcome, show_of, view_outcome}
+use Rattle.clr_http.specs.Response.{Content}
+use Rattle.clr_http.specs.declared.target.Target.{Target}
+use Rattle.clr_http.specs.declared.target.Target.TheVariants as asked
+use Rattle.clr_http.specs.declared.target.OrderRequest.{OrderRequest}
+use Rattle.clr_http.specs.declared.target.ViewRequest.{ViewRequest}
 
 -- the register stays, or is the outcome's
 abbrev pub IsLeft : Outcome → Register → Register → Type 0
 IsLeft o R S = (S ≡ R) ⊎ (S ≡ o.left)
 
-pub turn_leaves : (o : Outcome) (R S : Register) (faults later : ℕ) (c : Carried) → IsTurn o R faults S later c → IsLeft o R S
-turn_leaves o R S faults later c (inl t) = inr t.1
-turn_leaves o R S faults later c (inr t) = inl t.1
+pub turn_leaves : (o : Outcome) (old new : Keeper) (c : Content) → IsTurn o old new c → IsLeft o old.register new.register
+turn_leaves o old new c (inl t) = inr t.1
+turn_leaves o old new c (inr (is, counts)) = inl counts.0
 
 after_reached : (R : Register) (q : Command) → IsReached R → IsReached (after R q)
 unfolding after_all
 after_reached R q reached = reached_go_on R reached (q ∷ [])
 
 module _ (P : Register → Type 0) (R : Register) (here : P R) (next : (q : Command) → P (after R q)) where
-  of_body : (r : Result Command TextFault) → P (Outcome.left (body_answered R r))
+  of_body : (r : Result Command TextFault) → P (Outcome.left (body_outcome R r))
   of_body (Ok q) = next q
   of_body (Err fault) = here
 
-  of_view : (v : Option Viewing) → P (Outcome.left (view_answered R v))
+  of_view : (v : Option ViewRequest) → P (Outcome.left (view_outcome R v))
   of_view None = here
   of_view (Some v) = next (show_of v)
 
-  of_order : (p : Option Printing) → P (Outcome.left (order_answered R p))
+  of_order : (p : Option OrderRequest) → P (Outcome.left (order_outcome R p))
   of_order None = here
   of_order (Some p) = here
 
-  of_asked : (a : Asked) (body : List ℕ) → P (Outcome.left (answered R a body))
+  of_asked : (a : Target) (body : List ℕ) → P (Outcome.left (target_outcome R a body))
   of_asked asked.Command body = of_body (read_command body)
   of_asked (asked.Clearance viewing) body = of_view viewing
   of_asked (asked.Order printing) body = of_order printing
   of_asked asked.Board body = here
 
-  kept_by : (S : Register) (a : Asked) (body : List ℕ) → IsLeft (answered R a body) R S → P S
+  kept_by : (S : Register) (a : Target) (body : List ℕ) → IsLeft (target_outcome R a body) R S → P S
   kept_by S a body (inl e) = subst P (sym e) here
   kept_by S a body (inr e) = subst P (sym e) (of_asked a body)
 
-pub stays_good : (R S : Register) (a : Asked) (body : List ℕ) → IsGood R → IsLeft (answered R a body) R S → IsGood S
+pub stays_good : (R S : Register) (a : Target) (body : List ℕ) → IsGood R → IsLeft (target_outcome R a body) R S → IsGood S
 stays_good R S a body good left = kept_by IsGood R good (λ q. commands_keep_good R q good) S a body left
 
-pub stays_reached : (R S : Register) (a : Asked) (body : List ℕ) → IsReached R → IsLeft (answered R a body) R S → IsReached S
+pub stays_reached : (R S : Register) (a : Target) (body : List ℕ) → IsReached R → IsLeft (target_outcome R a body) R S → IsReached S
 stays_reached R S a body reached left = kept_by IsReached R reached (λ q. after_reached R q reached) S a body left

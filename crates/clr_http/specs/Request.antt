@@ -1,6 +1,7 @@
 -- THE REQUEST: what the head and the bytes behind it ask for, or how they are refused. The checks
 -- stand in their order: route, method, length, the whole body.
-use Rattle.std.specs.Prelude.{◌≡◌, ℕ, nat_eq, nat_le, if◌then◌else◌, List, [], length, map, take}
+use Rattle.std.specs.Prelude.{◌≡◌, ◌≢◌, ℕ, nat_eq, nat_le, if◌then◌else◌, List, [], length, map}
+use Rattle.std.specs.Prelude.{take}
 use Rattle.std.specs.Prelude.{Option, Some, None, Result, Ok, Err}
 use Rattle.std.specs.Cmp.Lexicographic.{pointwise}
 use Rattle.httparse.specs.Grammar.{RequestHead}
@@ -8,8 +9,9 @@ use Rattle.httparse.specs.Spans.{name_and_value}
 use Rattle.std.specs.Io.KnownBytes.{Consumes}
 use Rattle.clr_http.specs.Head.{Explains}
 use Rattle.clr_http.specs.Length.{body_length}
-use Rattle.clr_http.specs.Response.{Carried, allow, carried, method_word, told}
-use Rattle.clr_http.specs.Target.{asked_of}
+use Rattle.clr_http.specs.Response.{Content, allow, content_of, fault_response, method_word}
+use Rattle.clr_http.specs.Response.{status_of}
+use Rattle.clr_http.specs.Target.{target_of}
 use Rattle.clr_http.specs.declared.head.HeadFault.{HeadFault}
 use Rattle.clr_http.specs.declared.head.HeadFault.TheVariants as head_fault
 use Rattle.clr_http.specs.declared.length.LengthFault.{LengthFault}
@@ -20,59 +22,64 @@ use Rattle.clr_http.specs.declared.response.Fault.{Fault}
 use Rattle.clr_http.specs.declared.response.Fault.TheVariants as fault
 use Rattle.clr_http.specs.declared.response.Method.{Method}
 use Rattle.clr_http.specs.declared.response.Method.TheVariants.{Get, Post}
-use Rattle.clr_http.specs.declared.target.Asked.{Asked}
-use Rattle.clr_http.specs.declared.target.Asked.TheVariants.{Command, Clearance, Order, Board}
+use Rattle.clr_http.specs.declared.target.Target.{Target}
+use Rattle.clr_http.specs.declared.target.Target.TheVariants.{Command, Clearance, Order, Board}
 
 -- the method of a route
-abbrev pub method_of : Asked → Method
+abbrev pub method_of : Target → Method
 method_of Command = Post
 method_of (Clearance viewing) = Get
 method_of (Order printing) = Get
 method_of Board = Get
 
-abbrev pub length_told : LengthFault → Fault
-length_told length_fault.NoLength = fault.NoLength
-length_told length_fault.BadLength = fault.BadLength
-length_told length_fault.BodyTooLarge = fault.BodyTooLarge
+abbrev pub fault_of_length : LengthFault → Fault
+fault_of_length length_fault.NoLength = fault.NoLength
+fault_of_length length_fault.BadLength = fault.BadLength
+fault_of_length length_fault.BodyTooLarge = fault.BodyTooLarge
 
 -- what a request comes to: a refusal, or what is asked for and the body, which is empty for a GET
 pub data Reading : Type 0 where
-  refused : Carried → Reading
-  asks : Asked → List ℕ → Reading
+  refused : Content → Reading
+  asks : Target → List ℕ → Reading
 
 -- a command, by the length of its body and the bytes behind the head
 abbrev pub command_read : Result ℕ LengthFault → List ℕ → Reading
-command_read (Err e) rest = refused (told (length_told e))
+command_read (Err e) rest = refused (fault_response (fault_of_length e))
 command_read (Ok n) rest = if nat_le n (length rest) then asks Command (take n rest)
-    else refused (told fault.BodyCut)
+    else refused (fault_response fault.BodyCut)
 
 -- a request with the method of its route
-abbrev pub body_read : Asked → RequestHead → List ℕ → Reading
+abbrev pub body_read : Target → RequestHead → List ℕ → Reading
 body_read Command head rest = command_read (body_length (map name_and_value head.fields)) rest
 body_read (Clearance viewing) head rest = asks (Clearance viewing) []
 body_read (Order printing) head rest = asks (Order printing) []
 body_read Board head rest = asks Board []
 
-abbrev pub route_read : Option Asked → RequestHead → List ℕ → Reading
-route_read None head rest = refused (told fault.NoRoute)
+abbrev pub route_read : Option Target → RequestHead → List ℕ → Reading
+route_read None head rest = refused (fault_response fault.NoRoute)
 route_read (Some asked) head rest =
     if pointwise nat_eq head.method (method_word (method_of asked)) then body_read asked head rest
     else refused (allow (method_of asked))
 
 -- WHAT A REQUEST COMES TO
 abbrev pub request_read : RequestHead → List ℕ → Reading
-request_read head rest = route_read (asked_of head.target) head rest
+request_read head rest = route_read (target_of head.target) head rest
 
 -- what a request that was read comes to
 abbrev pub reading : Request → Reading
-reading (made.Refused response) = refused (carried response)
+reading (made.Refused response) = refused (content_of response)
 reading (made.Asks asked body) = asks asked body.items
+
+-- a refusal that is no 503, or what is asked for
+abbrev pub IsNo503 : Reading → Type 0
+IsNo503 (refused c) = status_of c ≢ 503
+IsNo503 (asks asked body) = Unit {0}
 
 -- what a fault of the head comes to, where the bytes bear it
 abbrev pub refusal_of : HeadFault → Option Reading
-refusal_of head_fault.BadHead = Some (refused (told fault.BadHead))
-refusal_of head_fault.HeadTooLarge = Some (refused (told fault.HeadTooLarge))
-refusal_of head_fault.HeadCut = Some (refused (told fault.HeadCut))
+refusal_of head_fault.BadHead = Some (refused (fault_response fault.BadHead))
+refusal_of head_fault.HeadTooLarge = Some (refused (fault_response fault.HeadTooLarge))
+refusal_of head_fault.HeadCut = Some (refused (fault_response fault.HeadCut))
 refusal_of head_fault.ReadFailed = None
 refusal_of head_fault.NoMemory = None
 

@@ -19,21 +19,21 @@ use Rattle.clr_text.specs.Replies.{reply_text}
 use Rattle.clr_text.specs.declared.fault.TextFault.{TextFault}
 use Rattle.clr_http.specs.Head.{BeginsWith}
 use Rattle.clr_http.specs.Request.{Reading, asks, refused, request_read}
-use Rattle.clr_http.specs.Response.{Carried, json, printed, told}
+use Rattle.clr_http.specs.Response.{Content, json, printed, fault_response}
 use Rattle.clr_http.specs.declared.response.Fault.TheVariants.{NoSuch}
-use Rattle.clr_http.specs.declared.target.Asked.{Asked}
-use Rattle.clr_http.specs.declared.target.Asked.TheVariants as asked
-use Rattle.clr_http.specs.declared.target.Printing.{Printing}
-use Rattle.clr_http.specs.declared.target.Viewing.{Viewing}
+use Rattle.clr_http.specs.declared.target.Target.{Target}
+use Rattle.clr_http.specs.declared.target.Target.TheVariants as asked
+use Rattle.clr_http.specs.declared.target.OrderRequest.{OrderRequest}
+use Rattle.clr_http.specs.declared.target.ViewRequest.{ViewRequest}
 
 -- a response, and the register that it leaves
 pub record Outcome : Type 0 where
-  pub response : Carried
+  pub response : Content
   pub left : Register
 
 -- a response that leaves the register as it is
-abbrev pub only : Register → Carried → Outcome
-only R c = record { response = c; left = R }
+abbrev pub unchanged : Register → Content → Outcome
+unchanged R c = record { response = c; left = R }
 
 -- the status of a reply
 abbrev pub reply_status : Reply → ℕ
@@ -41,53 +41,56 @@ reply_status (Accepted card) = 200
 reply_status (Shown view) = 200
 reply_status (Refused refusal) = 409
 
-abbrev pub replied : Reply → Carried
-replied reply = json (reply_status reply) (reply_text reply)
+abbrev pub reply_response : Reply → Content
+reply_response reply = json (reply_status reply) (reply_text reply)
 
 -- a command that is put to the register
-abbrev pub commanded : Register → Command → Outcome
-commanded R q = record { response = replied (Answer.reply (answer R q)); left = after R q }
+abbrev pub command_outcome : Register → Command → Outcome
+command_outcome R q = record {
+  response = reply_response (Answer.reply (answer R q));
+  left = after R q;
+}
 
 -- the body of a command, or the fault of its text
-abbrev pub body_answered : Register → Result Command TextFault → Outcome
-body_answered R (Ok q) = commanded R q
-body_answered R (Err fault) = only R (json 400 (fault_text fault))
+abbrev pub body_outcome : Register → Result Command TextFault → Outcome
+body_outcome R (Ok q) = command_outcome R q
+body_outcome R (Err fault) = unchanged R (json 400 (fault_text fault))
 
 -- `show` by the caller, which looks at no moment
-abbrev pub show_of : Viewing → Command
+abbrev pub show_of : ViewRequest → Command
 show_of v = record { caller = v.caller; moment = 0; kind = Show v.id }
 
-abbrev pub view_answered : Register → Option Viewing → Outcome
-view_answered R None = only R (told NoSuch)
-view_answered R (Some v) = commanded R (show_of v)
+abbrev pub view_outcome : Register → Option ViewRequest → Outcome
+view_outcome R None = unchanged R (fault_response NoSuch)
+view_outcome R (Some v) = command_outcome R (show_of v)
 
 -- a printed text, where there is one
-abbrev pub text_told : Option (List ℕ) → Carried
-text_told None = told NoSuch
-text_told (Some text) = printed text
+abbrev pub text_response : Option (List ℕ) → Content
+text_response None = fault_response NoSuch
+text_response (Some text) = printed text
 
 -- a round of an order, by a clock at offset 0
-abbrev pub order_printed : Register → Printing → Option (List ℕ)
+abbrev pub order_printed : Register → OrderRequest → Option (List ℕ)
 order_printed R p = order_text (record_of R.records p.id) (steps_of R.steps p.id) p.round (pos 0)
 
-abbrev pub order_answered : Register → Option Printing → Outcome
-order_answered R None = only R (told NoSuch)
-order_answered R (Some p) = only R (text_told (order_printed R p))
+abbrev pub order_outcome : Register → Option OrderRequest → Outcome
+order_outcome R None = unchanged R (fault_response NoSuch)
+order_outcome R (Some p) = unchanged R (text_response (order_printed R p))
 
 -- what is asked for, with the body of a command
-abbrev pub answered : Register → Asked → List ℕ → Outcome
-answered R asked.Command body = body_answered R (read_command body)
-answered R (asked.Clearance viewing) body = view_answered R viewing
-answered R (asked.Order printing) body = order_answered R printing
-answered R asked.Board body = only R (printed (board_text R.records (pos 0)))
+abbrev pub target_outcome : Register → Target → List ℕ → Outcome
+target_outcome R asked.Command body = body_outcome R (read_command body)
+target_outcome R (asked.Clearance viewing) body = view_outcome R viewing
+target_outcome R (asked.Order printing) body = order_outcome R printing
+target_outcome R asked.Board body = unchanged R (printed (board_text R.records (pos 0)))
 
-abbrev pub reading_answered : Register → Reading → Outcome
-reading_answered R (refused c) = only R c
-reading_answered R (asks asked body) = answered R asked body
+abbrev pub reading_outcome : Register → Reading → Outcome
+reading_outcome R (refused c) = unchanged R c
+reading_outcome R (asks asked body) = target_outcome R asked body
 
 -- WHAT A HEAD AND THE BYTES BEHIND IT ARE ANSWERED
 abbrev pub respond_to : Register → RequestHead → List ℕ → Outcome
-respond_to R head rest = reading_answered R (request_read head rest)
+respond_to R head rest = reading_outcome R (request_read head rest)
 
 -- WHAT AN INPUT IS ANSWERED: it begins with a head of at most 8,192 bytes and 64 fields, and with
 -- one alone

@@ -47,22 +47,22 @@ method_word Post = codes "POST"
 
 -- WHAT A RESPONSE CARRIES: a JSON text with its status; a printed text, which is a 200; or the
 -- method that the route has, which is a 405
-pub data Carried : Type 0 where
-  json : ℕ → List ℕ → Carried
-  printed : List ℕ → Carried
-  allow : Method → Carried
+pub data Content : Type 0 where
+  json : ℕ → List ℕ → Content
+  printed : List ℕ → Content
+  allow : Method → Content
 
 -- what a response that was made carries
-abbrev pub carried : Response → Carried
-carried (made.Json status text) = json status (string_bytes text)
-carried (made.Printed text) = printed (string_bytes text)
-carried (made.Allow method) = allow method
+abbrev pub content_of : Response → Content
+content_of (made.Json status text) = json status (string_bytes text)
+content_of (made.Printed text) = printed (string_bytes text)
+content_of (made.Allow method) = allow method
 
 -- the response that tells a fault
-abbrev pub told : Fault → Carried
-told fault = json (fault_status fault) (fault_body fault)
+abbrev pub fault_response : Fault → Content
+fault_response fault = json (fault_status fault) (fault_body fault)
 
-abbrev pub status_of : Carried → ℕ
+abbrev pub status_of : Content → ℕ
 status_of (json status text) = status
 status_of (printed text) = 200
 status_of (allow method) = 405
@@ -85,7 +85,7 @@ whole_text status type body =
     (first_line status (phrase_of status) ++ fields_text type (length body)) ++ body
 
 -- THE BYTES OF A RESPONSE
-abbrev pub response_bytes : Carried → List ℕ
+abbrev pub response_bytes : Content → List ℕ
 response_bytes (json status text) = whole_text status (codes "application/json") text
 response_bytes (printed text) = whole_text 200 (codes "text/plain") text
 response_bytes (allow method) =

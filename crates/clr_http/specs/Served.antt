@@ -1,12 +1,11 @@
 -- WHAT SERVING ONE CONNECTION COMES TO: what went out, and the register after it.
-use Rattle.std.specs.Prelude.{◌≡◌, ◌≢◌, ◌⊎◌, ◌<◌, ℕ, List, Option, Some, Result, Ok, Err, length}
-use Rattle.std.specs.Prelude.{take}
-use Rattle.std.specs.Io.KnownBytes.{Appends, Keeps}
-use Rattle.clr_rules.specs.Register.{Register}
-use Rattle.clr_http.specs.Registrar.{IsTurn}
+use Rattle.std.specs.Prelude.{◌≡◌, ◌≢◌, ◌⊎◌, ℕ, List, Option, Some, Result, Ok, Err}
+use Rattle.clr_csv.specs.Failures.{Rose}
+use Rattle.clr_csv.specs.Streams.{Stream, WroteAll, WrotePart}
+use Rattle.clr_http.specs.Registrar.{Accounts, CountsFault, IsTurn, Keeper}
 use Rattle.clr_http.specs.Request.{IsRefusedHead, refused}
 use Rattle.clr_http.specs.Respond.{Outcome}
-use Rattle.clr_http.specs.Response.{Carried, response_bytes, status_of}
+use Rattle.clr_http.specs.Response.{Content, response_bytes, status_of}
 use Rattle.clr_http.specs.declared.request.ReadFault.{ReadFault}
 use Rattle.clr_http.specs.declared.request.ReadFault.TheVariants as read
 use Rattle.clr_http.specs.declared.serve.HttpFault.{HttpFault}
@@ -14,32 +13,39 @@ use Rattle.clr_http.specs.declared.serve.HttpFault.TheVariants.{NoMemory, ReadFa
 use Rattle.clr_http.specs.declared.serve.Served.{Served}
 use Rattle.clr_http.specs.declared.serve.Served.TheVariants.{Answered, Nothing}
 
--- what went out: the whole of a response of this kind, its first bytes, or nothing
-abbrev pub IsWritten : (Carried → Type 0) → Option (List ℕ) → Option (List ℕ)
-    → Result Served HttpFault → Type 0
-IsWritten kind before behind (Ok Nothing) = Keeps before behind
-IsWritten kind before behind (Ok (Answered status)) = (c : Carried) × kind c
-    × (status ≡ status_of c) × Appends before behind (response_bytes c)
-IsWritten kind before behind (Err ReadFailed) = Keeps before behind
-IsWritten kind before behind (Err (WriteFailed count)) =
-    (c : Carried) × kind c × (count < length (response_bytes c))
-    × Appends before behind (take count (response_bytes c))
-IsWritten kind before behind (Err NoMemory) = Keeps before behind
+-- what went out: the whole of a response of this kind; its first bytes, and then the writer failed;
+-- or nothing, and the writer is as it was
+abbrev pub IsWritten : (Content → Type 0) → Stream → Stream → Result Served HttpFault → Type 0
+IsWritten kind before behind (Ok Nothing) = behind ≡ before
+IsWritten kind before behind (Ok (Answered status)) = (c : Content) × kind c
+    × (status ≡ status_of c) × WroteAll (response_bytes c) before behind
+IsWritten kind before behind (Err ReadFailed) = behind ≡ before
+IsWritten kind before behind (Err (WriteFailed count)) = (c : Content) × kind c
+    × WrotePart count (response_bytes c) before behind
+IsWritten kind before behind (Err NoMemory) = behind ≡ before
 
 -- a connection whose request has this outcome: its response went out, whole or in part, or none was
 -- made
-pub record IsServed (o : Outcome) (R : Register) (faults : ℕ) (S : Register) (later : ℕ)
-    (before behind : Option (List ℕ))
+pub record IsServed (o : Outcome) (old new : Keeper) (before behind : Stream)
     (result : Result Served HttpFault) : Type 0 where
-  pub written : IsWritten (IsTurn o R faults S later) before behind result
+  pub written : IsWritten (IsTurn o old new) before behind result
   pub some : result ≢ Ok Nothing
-  pub left : (S ≡ R) ⊎ (S ≡ o.left)
+  pub left : (new.register ≡ old.register) ⊎ (new.register ≡ o.left)
+
+-- WHAT EVERY CONNECTION COMES TO, whatever its input and the register: a response went out, whole
+-- or in part, or nothing did; one fault is counted at most, and then the register is as it was; and
+-- a 503 goes out only where one was.
+pub record IsConnection (old new : Keeper) (before behind : Stream)
+    (result : Result Served HttpFault) : Type 0 where
+  pub written : IsWritten (Accounts old new) before behind result
+  pub counted : (new.faults ≡ old.faults) ⊎ CountsFault old new
+  pub unavailable : result ≡ Ok (Answered 503) → Rose old.faults new.faults
 
 -- the response to an input that begins with no head: a refusal that the bytes taken from it explain
-abbrev pub IsRefusal : List ℕ → Option (List ℕ) → Carried → Type 0
+abbrev pub IsRefusal : List ℕ → Option (List ℕ) → Content → Type 0
 IsRefusal input left c = IsRefusedHead (Some input) left (refused c)
 
 -- the fault of a connection whose request was not read
-abbrev pub read_told : ReadFault → HttpFault
-read_told read.ReadFailed = ReadFailed
-read_told read.NoMemory = NoMemory
+abbrev pub http_fault_of : ReadFault → HttpFault
+http_fault_of read.ReadFailed = ReadFailed
+http_fault_of read.NoMemory = NoMemory

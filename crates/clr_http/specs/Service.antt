@@ -1,9 +1,10 @@
 -- THE SERVICE: requests one after the other, each answered at the register that the earlier ones
 -- left.
 use Rattle.std.specs.Prelude.{◌≡◌, ◌⊎◌, ℕ, List, [], ◌∷◌, Some, All}
+use Rattle.clr_csv.specs.Failures.{one_more}
 use Rattle.clr_rules.specs.Register.{Register}
 use Rattle.clr_http.specs.Head.{HasHead}
-use Rattle.clr_http.specs.Registrar.{one_more}
+use Rattle.clr_http.specs.Registrar.{Keeper}
 use Rattle.clr_http.specs.Respond.{Outcome, Responds}
 use Rattle.clr_http.specs.Response.{response_bytes}
 
@@ -26,8 +27,8 @@ AnsweredOnce = (R : Register) (input : List ℕ) (o other : Outcome) → Respond
     → Responds R input other → o ≡ other
 
 -- one connection: its response and the register that it leaves, and no fault; or a fault is counted
-abbrev pub IsExchange : Register → ℕ → Register → ℕ → List ℕ → List ℕ → Type 0
-IsExchange R faults S later input bytes =
-    ((o : Outcome) × Responds R input o × (bytes ≡ response_bytes o.response) × (S ≡ o.left)
-    × (later ≡ faults))
-    ⊎ (later ≡ one_more faults)
+abbrev pub IsExchange : Keeper → Keeper → List ℕ → List ℕ → Type 0
+IsExchange old new input bytes =
+    ((o : Outcome) × Responds old.register input o × (bytes ≡ response_bytes o.response)
+    × (new.register ≡ o.left) × (new.faults ≡ old.faults))
+    ⊎ (new.faults ≡ one_more old.faults)

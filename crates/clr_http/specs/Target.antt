@@ -15,12 +15,12 @@ use Rattle.clr_net.specs.NameText.{read_name}
 use Rattle.clr_net.specs.declared.name.NameFault.{NameFault}
 use Rattle.clr_rules.specs.Id.{Id}
 use Rattle.clr_rules.specs.IdText.{id_of, read_number}
-use Rattle.clr_http.specs.declared.target.Asked.{Asked}
-use Rattle.clr_http.specs.declared.target.Asked.TheVariants as asked
-use Rattle.clr_http.specs.declared.target.Printing.{Printing}
+use Rattle.clr_http.specs.declared.target.Target.{Target}
+use Rattle.clr_http.specs.declared.target.Target.TheVariants as asked
+use Rattle.clr_http.specs.declared.target.OrderRequest.{OrderRequest}
 use Rattle.clr_http.specs.declared.target.Route.{Route}
 use Rattle.clr_http.specs.declared.target.Route.TheVariants.{Command, Clearance, Order, Board}
-use Rattle.clr_http.specs.declared.target.Viewing.{Viewing}
+use Rattle.clr_http.specs.declared.target.ViewRequest.{ViewRequest}
 
 -- the rows of a router with one route more, where its text reads as one
 abbrev pub with_read : Result Scan InsertError → Route → RowsOf (RouteOf Route)
@@ -62,26 +62,26 @@ read_round text = if same_text text (codes "1") then Some 1 else if same_text te
     then Some 2 else None
 
 -- what is to be viewed, and by whom, where all parts read
-abbrev pub view_asked : Result (List ℕ) NameFault → Option Id → Option Viewing
-view_asked (Ok caller) (Some id) = Some (record { caller = caller; id = id })
-view_asked (Ok caller) None = None
-view_asked (Err fault) id = None
+abbrev pub view_request : Result (List ℕ) NameFault → Option Id → Option ViewRequest
+view_request (Ok caller) (Some id) = Some (record { caller = caller; id = id })
+view_request (Ok caller) None = None
+view_request (Err fault) id = None
 
 -- which order is to be printed, where all parts read
-abbrev pub order_asked : Option Id → Option ℕ → Option Printing
-order_asked (Some id) (Some round) = Some (record { id = id; round = round })
-order_asked (Some id) None = None
-order_asked None round = None
+abbrev pub order_request : Option Id → Option ℕ → Option OrderRequest
+order_request (Some id) (Some round) = Some (record { id = id; round = round })
+order_request (Some id) None = None
+order_request None round = None
 
 -- what a target asks for, by its route
-abbrev pub asked_by : List ℕ → RouteOf Route → Route → Asked
-asked_by target r Command = asked.Command
-asked_by target r Clearance =
-    asked.Clearance (view_asked (read_name (part target r (codes "caller"))) (id_at target r))
-asked_by target r Order =
-    asked.Order (order_asked (id_at target r) (read_round (part target r (codes "round"))))
-asked_by target r Board = asked.Board
+abbrev pub target_by : List ℕ → RouteOf Route → Route → Target
+target_by target r Command = asked.Command
+target_by target r Clearance =
+    asked.Clearance (view_request (read_name (part target r (codes "caller"))) (id_at target r))
+target_by target r Order =
+    asked.Order (order_request (id_at target r) (read_round (part target r (codes "round"))))
+target_by target r Board = asked.Board
 
 -- WHAT A TARGET ASKS FOR: nothing where no route is its own
-abbrev pub asked_of : List ℕ → Option Asked
-asked_of target = option_map (λ r. asked_by target r r.value) (first the_routes target)
+abbrev pub target_of : List ℕ → Option Target
+target_of target = option_map (λ r. target_by target r r.value) (first the_routes target)

@@ -12,9 +12,7 @@ use sqlite::Alter;
 use std::alloc::{AllocError, Global};
 
 impl<S: Alter + Drop> Registrar for Desk<S> {
-    ghost register = { λ d. d.book.register };
-
-    ghost fault_count = { λ d. d.faults };
+    ghost keeper = { λ d. record { register = d.book.register; faults = d.faults } };
 
     ghost leads_to = { λ before behind. Keeps (state S.Store before.store) before.book.register
         (state S.Store behind.store) behind.book.register };

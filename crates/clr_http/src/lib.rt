@@ -17,4 +17,4 @@ pub use request::{ReadFault, Request, read_request};
 pub use response::{Fault, Method, Response};
 pub use serve::{HttpFault, Served, serve_one};
 pub use service::{inputs_are_answered_once, serve_all};
-pub use target::{Asked, Printing, Route, Viewing, asked_of};
+pub use target::{OrderRequest, Route, Target, ViewRequest, target_of};

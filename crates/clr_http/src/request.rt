@@ -10,15 +10,16 @@ ghost use Rattle.httparse.specs.Spans.{span_bytes};
 ghost use Rattle.clr_csv.specs.Failures.{Rose};
 ghost use Rattle.clr_http.specs.Head.{BeginsWith, HasHead, IsOutside};
 ghost use Rattle.clr_http.specs.Length.{body_length};
-ghost use Rattle.clr_http.specs.Request.{IsRefusedHead, command_read, length_told, method_of};
+ghost use Rattle.clr_http.specs.Request.{IsNo503, IsRefusedHead, command_read, fault_of_length};
+ghost use Rattle.clr_http.specs.Request.{method_of};
 ghost use Rattle.clr_http.specs.Request.{reading, refusal_of, refused, request_read};
-ghost use Rattle.clr_http.specs.Response.{told};
-ghost use Rattle.clr_http.specs.Target.{asked_of};
+ghost use Rattle.clr_http.specs.Response.{fault_response};
+ghost use Rattle.clr_http.specs.Target.{target_of};
 
 use crate::head::{HeadFault, MAX_FIELDS, fill, read_head};
 use crate::length::{LengthFault, body_length};
 use crate::response::{Fault, Method, Response};
-use crate::target::{Asked, asked_of};
+use crate::target::{Target, target_of};
 use clr_csv::CountedRead;
 use httparse::spans::{EMPTY_HEADER_SPAN, HeaderSpan, RequestSpans};
 use std::alloc::Global;
@@ -30,7 +31,7 @@ pub enum Request {
     /// It is refused, with this response.
     Refused(Response),
     /// It asks for this. The body is a command's, and empty for every other route.
-    Asks(Asked, Vec<u8>),
+    Asks(Target, Vec<u8>),
 }
 
 /// Why no request was read.
@@ -42,13 +43,13 @@ pub enum ReadFault {
     NoMemory,
 }
 
-impl Asked {
+impl Target {
     /// The method of the route.
     pub fn method(&self) -> Method
         ensures { result ≡ method_of self.now }
     {
         match self {
-            Asked::Command => Method::Post,
+            Target::Command => Method::Post,
             _ => Method::Get,
         }
     }
@@ -56,8 +57,8 @@ impl Asked {
 
 impl LengthFault {
     /// The fault that tells it.
-    pub fn told(self) -> Fault
-        ensures { result ≡ length_told self }
+    pub fn as_fault(self) -> Fault
+        ensures { result ≡ fault_of_length self }
     {
         match self {
             LengthFault::NoLength => Fault::NoLength,
@@ -96,7 +97,7 @@ fn fill_to<R: CountedRead>(
 
 /// The request that is refused with this fault.
 fn refused(alloc: Global, fault: Fault) -> Result<Request, ReadFault>
-    ensures reading { IfOk result (λ r. reading r ≡ refused (told fault)) }
+    ensures reading { IfOk result (λ r. reading r ≡ refused (fault_response fault)) }
     ensures calm { result ≢ Err ReadFault.ReadFailed }
 {
     match Response::of_fault(alloc, fault) {
@@ -108,6 +109,7 @@ fn refused(alloc: Global, fault: Fault) -> Result<Request, ReadFault>
 /// The request whose head has this fault.
 fn head_refused(alloc: Global, fault: HeadFault) -> Result<Request, ReadFault>
     ensures reading { IfOk result (λ r. refusal_of fault ≡ Some (reading r)) }
+    ensures plain { IfOk result (λ r. IsNo503 (reading r)) }
     ensures cause { result ≡ Err ReadFault.ReadFailed → fault ≡ HeadFault.ReadFailed }
 {
     match fault {
@@ -130,12 +132,12 @@ fn read_fault(fault: HeadFault) -> ReadFault
 }
 
 /// What a target asks for.
-fn target_asked(alloc: Global, target: &[u8]) -> Result<Option<Asked>, ReadFault>
+fn target_read(alloc: Global, target: &[u8]) -> Result<Option<Target>, ReadFault>
     requires { IsUtf8 target.now }
-    ensures asked { IfOk result (λ o. o ≡ asked_of target.now) }
+    ensures asked { IfOk result (λ o. o ≡ target_of target.now) }
     ensures calm { result ≢ Err ReadFault.ReadFailed }
 {
-    match asked_of(alloc, str::from_utf8(target).unwrap()) {
+    match target_of(alloc, str::from_utf8(target).unwrap()) {
         Ok(asked) => Ok(asked),
         Err(_) => Err(ReadFault::NoMemory),
     }
@@ -154,6 +156,7 @@ fn command_behind<R: CountedRead>(
     ensures reading { (input : List ℕ)
         → Consumes (Some input) (R.remaining reader.old) buffer.old.items
         → IfOk result (λ r. reading r ≡ command_read (Ok size) (drop start input)) }
+    ensures plain { IfOk result (λ r. IsNo503 (reading r)) }
     ensures cause { result ≡ Err ReadFault.ReadFailed
         → Rose (R.failure_count reader.old) (R.failure_count reader.new) }
 {
@@ -163,7 +166,7 @@ fn command_behind<R: CountedRead>(
         Err(fault) => return Err(read_fault(fault)),
     }
     match Vec::from_slice(alloc, &buffer[start..start + size]) {
-        Ok(body) => Ok(Request::Asks(Asked::Command, body)),
+        Ok(body) => Ok(Request::Asks(Target::Command, body)),
         Err(_) => Err(ReadFault::NoMemory),
     }
 }
@@ -183,12 +186,13 @@ fn command_in<R: CountedRead>(
         → IfOk result (λ r. reading r
         ≡ command_read (body_length (map (header_bytes buffer.old.items) headers.now))
         (drop start input)) }
+    ensures plain { IfOk result (λ r. IsNo503 (reading r)) }
     ensures cause { result ≡ Err ReadFault.ReadFailed
         → Rose (R.failure_count reader.old) (R.failure_count reader.new) }
 {
     match body_length(buffer.as_slice(), headers) {
         Ok(size) => command_behind(alloc, reader, buffer, start, size),
-        Err(fault) => refused(alloc, fault.told()),
+        Err(fault) => refused(alloc, fault.as_fault()),
     }
 }
 
@@ -207,17 +211,18 @@ fn request_in<R: CountedRead>(
         → IsRequestAt buffer.old.items headers.now spans head
         → Consumes (Some input) (R.remaining reader.old) buffer.old.items
         → IfOk result (λ r. reading r ≡ request_read head (drop spans.len input)) }
+    ensures plain { IfOk result (λ r. IsNo503 (reading r)) }
     ensures cause { result ≡ Err ReadFault.ReadFailed
         → Rose (R.failure_count reader.old) (R.failure_count reader.new) }
 {
-    let Some(asked) = target_asked(alloc, spans.path.of(buffer.as_slice()))? else {
+    let Some(asked) = target_read(alloc, spans.path.of(buffer.as_slice()))? else {
         return refused(alloc, Fault::NoRoute);
     };
     let method = asked.method();
     if spans.method.of(buffer.as_slice()) != method.word().as_bytes() {
         return Ok(Request::Refused(Response::Allow(method)));
     }
-    if asked == Asked::Command {
+    if asked == Target::Command {
         return command_in(alloc, reader, buffer, &headers[..spans.headers], spans.len);
     }
     Ok(Request::Asks(asked, Vec::new(alloc)))
@@ -238,6 +243,7 @@ pub fn read_request<R: CountedRead>(
         → ¬ (HasHead (Some input))
         → IfOk result (λ o. IfSome o (λ r.
         IsRefusedHead (Some input) (R.remaining reader.new) (reading r))) }
+    ensures plain { IfOk result (λ o. IfSome o (λ r. IsNo503 (reading r))) }
     ensures cause { result ≡ Err ReadFault.ReadFailed
         → Rose (R.failure_count reader.old) (R.failure_count reader.new) }
 {

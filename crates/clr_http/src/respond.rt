@@ -2,14 +2,15 @@
 ghost use Rattle.std.specs.Prelude.{◌≡◌, IfOk};
 ghost use Rattle.clr_rules.specs.Good.{IsGood};
 ghost use Rattle.clr_text.specs.Reading.{read_command};
-ghost use Rattle.clr_http.specs.Registrar.{IsTurned};
-ghost use Rattle.clr_http.specs.Respond.{answered, body_answered, commanded, only, order_answered};
-ghost use Rattle.clr_http.specs.Respond.{reply_status, show_of, view_answered};
-ghost use Rattle.clr_http.specs.Response.{carried, told};
+ghost use Rattle.clr_http.specs.Registrar.{AccountsFor, IsTurned};
+ghost use Rattle.clr_http.specs.Respond.{body_outcome, command_outcome, order_outcome};
+ghost use Rattle.clr_http.specs.Respond.{reply_status, show_of, target_outcome, unchanged};
+ghost use Rattle.clr_http.specs.Respond.{view_outcome};
+ghost use Rattle.clr_http.specs.Response.{content_of, fault_response};
 
 use crate::registrar::Registrar;
 use crate::response::{Fault, Response};
-use crate::target::{Asked, Printing, Viewing};
+use crate::target::{OrderRequest, Target, ViewRequest};
 use clr_rules::{Command, Kind, Moment, Reply};
 use clr_text::{TextFault, command_of, fault_text, reply_text};
 use http::StatusCode;
@@ -19,20 +20,20 @@ use std::alloc::{AllocError, Global};
 pub(crate) fn response_to<D: Registrar>(
     alloc: Global,
     desk: &mut D,
-    asked: Asked,
+    asked: Target,
     body: &[u8],
 ) -> Result<Response, AllocError>
-    ensures turn { IsGood (D.register desk.old)
-        → IsTurned (answered (D.register desk.old) asked body.now)
-        (D.register desk.old) (D.fault_count desk.old)
-        (D.register desk.new) (D.fault_count desk.new) result }
+    ensures turn { IsGood (D.keeper desk.old).register
+        → IsTurned (target_outcome (D.keeper desk.old).register asked body.now)
+        (D.keeper desk.old) (D.keeper desk.new) result }
+    ensures accounts { AccountsFor (D.keeper desk.old) (D.keeper desk.new) result }
     ensures led { D.leads_to desk.old desk.new }
 {
     match asked {
-        Asked::Command => body_answered(alloc, desk, body),
-        Asked::Clearance(viewing) => view_answered(alloc, desk, viewing),
-        Asked::Order(printing) => order_answered(alloc, desk, printing),
-        Asked::Board => {
+        Target::Command => body_response(alloc, desk, body),
+        Target::Clearance(viewing) => view_response(alloc, desk, viewing),
+        Target::Order(printing) => order_response(alloc, desk, printing),
+        Target::Board => {
             let text = desk.board(alloc)?;
             Ok(Response::Printed(text))
         }
@@ -40,19 +41,19 @@ pub(crate) fn response_to<D: Registrar>(
 }
 
 /// Answers the command of a body, or tells the fault of its text.
-fn body_answered<D: Registrar>(
+fn body_response<D: Registrar>(
     alloc: Global,
     desk: &mut D,
     body: &[u8],
 ) -> Result<Response, AllocError>
-    ensures turn { IsGood (D.register desk.old)
-        → IsTurned (body_answered (D.register desk.old) (read_command body.now))
-        (D.register desk.old) (D.fault_count desk.old)
-        (D.register desk.new) (D.fault_count desk.new) result }
+    ensures turn { IsGood (D.keeper desk.old).register
+        → IsTurned (body_outcome (D.keeper desk.old).register (read_command body.now))
+        (D.keeper desk.old) (D.keeper desk.new) result }
+    ensures accounts { AccountsFor (D.keeper desk.old) (D.keeper desk.new) result }
     ensures led { D.leads_to desk.old desk.new }
 {
     match command_of(alloc, body) {
-        Ok(command) => commanded(alloc, desk, command),
+        Ok(command) => command_response(alloc, desk, command),
         Err(TextFault::NoMemory) => Err(AllocError),
         Err(fault) => {
             let text = fault_text(alloc, &fault)?;
@@ -62,25 +63,25 @@ fn body_answered<D: Registrar>(
 }
 
 /// Shows a clearance to its caller, where the path names both.
-fn view_answered<D: Registrar>(
+fn view_response<D: Registrar>(
     alloc: Global,
     desk: &mut D,
-    viewing: Option<Viewing>,
+    viewing: Option<ViewRequest>,
 ) -> Result<Response, AllocError>
-    ensures turn { IsGood (D.register desk.old)
-        → IsTurned (view_answered (D.register desk.old) viewing)
-        (D.register desk.old) (D.fault_count desk.old)
-        (D.register desk.new) (D.fault_count desk.new) result }
+    ensures turn { IsGood (D.keeper desk.old).register
+        → IsTurned (view_outcome (D.keeper desk.old).register viewing)
+        (D.keeper desk.old) (D.keeper desk.new) result }
+    ensures accounts { AccountsFor (D.keeper desk.old) (D.keeper desk.new) result }
     ensures led { D.leads_to desk.old desk.new }
 {
     match viewing {
-        Some(viewing) => commanded(alloc, desk, show_of(viewing)),
+        Some(viewing) => command_response(alloc, desk, show_of(viewing)),
         None => Response::of_fault(alloc, Fault::NoSuch),
     }
 }
 
 /// The command `show` of a view.
-fn show_of(viewing: Viewing) -> Command
+fn show_of(viewing: ViewRequest) -> Command
     ensures { result ≡ show_of viewing }
 {
     Command {
@@ -93,15 +94,15 @@ fn show_of(viewing: Viewing) -> Command
 }
 
 /// Prints an order, where the path names one that is there.
-fn order_answered<D: Registrar>(
+fn order_response<D: Registrar>(
     alloc: Global,
     desk: &mut D,
-    printing: Option<Printing>,
+    printing: Option<OrderRequest>,
 ) -> Result<Response, AllocError>
-    ensures turn { IsGood (D.register desk.old)
-        → IsTurned (order_answered (D.register desk.old) printing)
-        (D.register desk.old) (D.fault_count desk.old)
-        (D.register desk.new) (D.fault_count desk.new) result }
+    ensures turn { IsGood (D.keeper desk.old).register
+        → IsTurned (order_outcome (D.keeper desk.old).register printing)
+        (D.keeper desk.old) (D.keeper desk.new) result }
+    ensures accounts { AccountsFor (D.keeper desk.old) (D.keeper desk.new) result }
     ensures led { D.leads_to desk.old desk.new }
 {
     let Some(printing) = printing else {
@@ -114,15 +115,15 @@ fn order_answered<D: Registrar>(
 }
 
 /// Puts a command to the register.
-fn commanded<D: Registrar>(
+fn command_response<D: Registrar>(
     alloc: Global,
     desk: &mut D,
     command: Command,
 ) -> Result<Response, AllocError>
-    ensures turn { IsGood (D.register desk.old)
-        → IsTurned (commanded (D.register desk.old) command)
-        (D.register desk.old) (D.fault_count desk.old)
-        (D.register desk.new) (D.fault_count desk.new) result }
+    ensures turn { IsGood (D.keeper desk.old).register
+        → IsTurned (command_outcome (D.keeper desk.old).register command)
+        (D.keeper desk.old) (D.keeper desk.new) result }
+    ensures accounts { AccountsFor (D.keeper desk.old) (D.keeper desk.new) result }
     ensures led { D.leads_to desk.old desk.new }
 {
     let Some(reply) = desk.answer(command) else {

@@ -1,8 +1,8 @@
 //! The response: its status, what it carries, and its bytes.
 ghost use Rattle.std.specs.Prelude.{◌≡◌, ◌++◌, IfOk, length, string_bytes};
-ghost use Rattle.clr_http.specs.Response.{allow, carried, fault_body, fault_status, fault_word};
+ghost use Rattle.clr_http.specs.Response.{allow, content_of, fault_body, fault_status, fault_word};
 ghost use Rattle.clr_http.specs.Response.{fields_text, first_line, method_word, response_bytes};
-ghost use Rattle.clr_http.specs.Response.{phrase_of, status_of, told, whole_text};
+ghost use Rattle.clr_http.specs.Response.{phrase_of, status_of, fault_response, whole_text};
 
 use http::StatusCode;
 use std::alloc::{AllocError, Global};
@@ -99,7 +99,7 @@ pub enum Response {
 impl Response {
     /// The response that tells a fault.
     pub fn of_fault(alloc: Global, fault: Fault) -> Result<Response, AllocError>
-        ensures { IfOk result (λ r. carried r ≡ told fault) }
+        ensures { IfOk result (λ r. content_of r ≡ fault_response fault) }
     {
         let word = fault.word();
         let text = format!(in alloc; "{{\"fault\":\"{word}\"}}")?;
@@ -108,7 +108,7 @@ impl Response {
 
     /// The status.
     pub fn status(&self) -> StatusCode
-        ensures { result ≡ status_of (carried self.now) }
+        ensures { result ≡ status_of (content_of self.now) }
     {
         match self {
             Response::Json(status, _) => *status,
@@ -119,7 +119,7 @@ impl Response {
 
     /// The bytes that go out.
     pub fn text(&self, alloc: Global) -> Result<String, AllocError>
-        ensures { IfOk result (λ text. string_bytes text ≡ response_bytes (carried self.now)) }
+        ensures { IfOk result (λ text. string_bytes text ≡ response_bytes (content_of self.now)) }
     {
         match self {
             Response::Json(status, text) => with_body(alloc, *status, "application/json", text),

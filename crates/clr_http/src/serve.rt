@@ -1,15 +1,15 @@
 //! One connection: its request is read and answered, and the response written.
-ghost use Rattle.std.specs.Prelude.{◌≡◌, ◌≢◌, ◌⊎◌, ℕ, List, [], Option, Some, Ok, Err, IfErr, IfOk};
-ghost use Rattle.std.specs.Prelude.{true};
-ghost use Rattle.std.specs.Io.KnownBytes.{IsAtEnd, Keeps};
+ghost use Rattle.std.specs.Prelude.{◌≡◌, ◌≢◌, ℕ, List, [], Option, Some, Ok, Err, IfErr, IfOk};
+ghost use Rattle.std.specs.Io.KnownBytes.{IsAtEnd};
 ghost use Rattle.httparse.specs.Grammar.{RequestHead};
 ghost use Rattle.clr_csv.specs.Failures.{Rose};
 ghost use Rattle.clr_rules.specs.Good.{IsGood};
 ghost use Rattle.clr_rules.specs.Run.{IsReached};
 ghost use Rattle.clr_http.specs.Head.{BeginsWith, HasHead};
 ghost use Rattle.clr_http.specs.Respond.{respond_to};
-ghost use Rattle.clr_http.specs.Response.{carried};
-ghost use Rattle.clr_http.specs.Served.{IsRefusal, IsServed, IsWritten, read_told};
+ghost use Rattle.clr_http.specs.Response.{content_of};
+ghost use Rattle.clr_http.specs.Served.{IsConnection, IsRefusal, IsServed, IsWritten};
+ghost use Rattle.clr_http.specs.Served.{http_fault_of};
 ghost use Rattle.clr_http.specs.declared.serve.HttpFault.TheVariants.{NoMemory};
 
 use crate::registrar::Registrar;
@@ -62,9 +62,9 @@ impl<T: Drop> From<AllocFailed<T>> for HttpFault {
 }
 
 impl From<ReadFault> for HttpFault {
-    ghost use Rattle.clr_http.specs.Served.{read_told};
+    ghost use Rattle.clr_http.specs.Served.{http_fault_of};
 
-    ghost from_gives = { λ fault told. told ≡ read_told fault };
+    ghost from_gives = { λ fault fault_response. fault_response ≡ http_fault_of fault };
 
     fn from(fault: ReadFault) -> HttpFault {
         match fault {
@@ -87,33 +87,27 @@ pub fn serve_one<D: Registrar, R: CountedRead, W: CountedWrite>(
 ) -> Result<Served, HttpFault>
     ensures served { (input rest : List ℕ) (head : RequestHead)
         → R.remaining reader.old ≡ Some input → BeginsWith input head rest
-        → IsGood (D.register desk.old)
-        → IsServed (respond_to (D.register desk.old) head rest)
-        (D.register desk.old) (D.fault_count desk.old)
-        (D.register desk.new) (D.fault_count desk.new)
-        (W.contents writer.old) (W.contents writer.new) result }
+        → IsGood (D.keeper desk.old).register
+        → IsServed (respond_to (D.keeper desk.old).register head rest)
+        (D.keeper desk.old) (D.keeper desk.new)
+        (W.stream writer.old) (W.stream writer.new) result }
     ensures outside { (input : List ℕ) → R.remaining reader.old ≡ Some input
         → ¬ (HasHead (Some input))
         → IsWritten (IsRefusal input (R.remaining reader.new))
-        (W.contents writer.old) (W.contents writer.new) result
-        × (D.register desk.new ≡ D.register desk.old)
-        × (D.fault_count desk.new ≡ D.fault_count desk.old) }
+        (W.stream writer.old) (W.stream writer.new) result × (desk.new ≡ desk.old) }
+    ensures always { IsConnection (D.keeper desk.old) (D.keeper desk.new)
+        (W.stream writer.old) (W.stream writer.new) result }
     ensures nothing { result ≡ Ok Served.Nothing → IsAtEnd (R.remaining reader.old)
-        × Keeps (W.contents writer.old) (W.contents writer.new)
-        × (D.register desk.new ≡ D.register desk.old)
-        × (D.fault_count desk.new ≡ D.fault_count desk.old) }
+        × (writer.new ≡ writer.old) × (desk.new ≡ desk.old) }
     ensures empty { R.remaining reader.old ≡ Some []
         → IfOk result (λ served. served ≡ Served.Nothing) }
     ensures unread { result ≡ Err HttpFault.ReadFailed
         → Rose (R.failure_count reader.old) (R.failure_count reader.new)
-        × Keeps (W.contents writer.old) (W.contents writer.new)
-        × (D.register desk.new ≡ D.register desk.old)
-        × (D.fault_count desk.new ≡ D.fault_count desk.old) }
-    ensures unwritten { (count : ℕ) → result ≡ Err (HttpFault.WriteFailed count)
-        → Rose (W.failure_count writer.old) (W.failure_count writer.new)
-        ⊎ (W.stalled writer.new ≡ true) }
-    ensures good { IsGood (D.register desk.old) → IsGood (D.register desk.new) }
-    ensures reached { IsReached (D.register desk.old) → IsReached (D.register desk.new) }
+        × (writer.new ≡ writer.old) × (desk.new ≡ desk.old) }
+    ensures unmade { result ≡ Err HttpFault.NoMemory → writer.new ≡ writer.old }
+    ensures good { IsGood (D.keeper desk.old).register → IsGood (D.keeper desk.new).register }
+    ensures reached { IsReached (D.keeper desk.old).register
+        → IsReached (D.keeper desk.new).register }
     ensures led { D.leads_to desk.old desk.new }
 {
     match read_request(alloc, reader)? {
@@ -132,13 +126,11 @@ fn send<W: CountedWrite>(
     writer: &mut W,
     response: &Response,
 ) -> Result<Served, HttpFault>
-    ensures written { IsWritten (λ c. c ≡ carried response.now)
-        (W.contents writer.old) (W.contents writer.new) result }
+    ensures written { IsWritten (λ c. c ≡ content_of response.now)
+        (W.stream writer.old) (W.stream writer.new) result }
     ensures some { result ≢ Ok Served.Nothing }
     ensures calm { result ≢ Err HttpFault.ReadFailed }
-    ensures cause { (count : ℕ) → result ≡ Err (HttpFault.WriteFailed count)
-        → Rose (W.failure_count writer.old) (W.failure_count writer.new)
-        ⊎ (W.stalled writer.new ≡ true) }
+    ensures unmade { result ≡ Err HttpFault.NoMemory → writer.new ≡ writer.old }
 {
     let text = response.text(alloc)?;
     match write_whole(writer, text.as_bytes()) {

@@ -23,14 +23,15 @@ pub fn serve_all<D: Registrar>(
     desk: &mut D,
     requests: &[Vec<u8>],
 ) -> Result<Vec<Vec<u8>>, HttpFault>
-    ensures whole { IsGood (D.register desk.old)
+    ensures whole { IsGood (D.keeper desk.old).register
         → HaveHeads (map (λ request. request.items) requests.now)
-        → D.fault_count desk.old < 2 ^ 64 - 1
-        → D.fault_count desk.new ≡ D.fault_count desk.old
-        → IfOk result (λ responses. RespondsAll (D.register desk.old)
+        → (D.keeper desk.old).faults < 2 ^ 64 - 1
+        → (D.keeper desk.new).faults ≡ (D.keeper desk.old).faults
+        → IfOk result (λ responses. RespondsAll (D.keeper desk.old).register
         (map (λ request. request.items) requests.now)
-        (map (λ response. response.items) responses.items) (D.register desk.new)) }
-    ensures reached { IsReached (D.register desk.old) → IsReached (D.register desk.new) }
+        (map (λ response. response.items) responses.items) (D.keeper desk.new).register) }
+    ensures reached { IsReached (D.keeper desk.old).register
+        → IsReached (D.keeper desk.new).register }
     ensures led { D.leads_to desk.old desk.new }
 {
     let mut responses = Vec::new(alloc);
@@ -47,11 +48,12 @@ fn response_bytes<D: Registrar>(
     desk: &mut D,
     request: &[u8],
 ) -> Result<Vec<u8>, HttpFault>
-    ensures exchange { IsGood (D.register desk.old) → HasHead (Some request.now)
-        → IfOk result (λ response. IsExchange (D.register desk.old) (D.fault_count desk.old)
-        (D.register desk.new) (D.fault_count desk.new) request.now response.items) }
-    ensures good { IsGood (D.register desk.old) → IsGood (D.register desk.new) }
-    ensures reached { IsReached (D.register desk.old) → IsReached (D.register desk.new) }
+    ensures exchange { IsGood (D.keeper desk.old).register → HasHead (Some request.now)
+        → IfOk result (λ response. IsExchange (D.keeper desk.old) (D.keeper desk.new)
+        request.now response.items) }
+    ensures good { IsGood (D.keeper desk.old).register → IsGood (D.keeper desk.new).register }
+    ensures reached { IsReached (D.keeper desk.old).register
+        → IsReached (D.keeper desk.new).register }
     ensures led { D.leads_to desk.old desk.new }
 {
     let mut reader = Counted::new(request);

@@ -6,8 +6,8 @@ ghost use Rattle.std.specs.List.{list_all};
 ghost use Rattle.matchit.specs.Seek.{first};
 ghost use Rattle.clr_rules.specs.IdText.{id_of, read_number};
 ghost use Rattle.clr_net.specs.NameText.{read_name};
-ghost use Rattle.clr_http.specs.Target.{asked_of, asked_by, order_asked, part, read_round};
-ghost use Rattle.clr_http.specs.Target.{route_in, the_routes, view_asked};
+ghost use Rattle.clr_http.specs.Target.{target_of, target_by, order_request, part, read_round};
+ghost use Rattle.clr_http.specs.Target.{route_in, the_routes, view_request};
 
 use clr_net::Name;
 use clr_rules::{ClearanceId, read_number};
@@ -29,14 +29,14 @@ pub enum Route {
 
 /// Whose view of which clearance is asked for.
 #[derive(Clone, Copy, Debug, PartialEq, Eq)]
-pub struct Viewing {
+pub struct ViewRequest {
     pub caller: Name,
     pub id: ClearanceId,
 }
 
 /// Which round of which clearance is to be printed.
 #[derive(Clone, Copy, Debug, PartialEq, Eq)]
-pub struct Printing {
+pub struct OrderRequest {
     pub id: ClearanceId,
     pub round: u8,
 }
@@ -44,10 +44,10 @@ pub struct Printing {
 /// What a target asks for. A view or an order is `None` where a name, a number or the round in the
 /// path does not read.
 #[derive(Clone, Copy, Debug, PartialEq, Eq)]
-pub enum Asked {
+pub enum Target {
     Command,
-    Clearance(Option<Viewing>),
-    Order(Option<Printing>),
+    Clearance(Option<ViewRequest>),
+    Order(Option<OrderRequest>),
     Board,
 }
 
@@ -97,27 +97,27 @@ fn id_of(requester: &str, number: &str) -> Option<ClearanceId>
 }
 
 /// The view that is asked for, where all parts read.
-fn view_asked(caller: &str, id: Option<ClearanceId>) -> Option<Viewing>
-    ensures { result ≡ view_asked (read_name caller.now) id }
+fn view_request(caller: &str, id: Option<ClearanceId>) -> Option<ViewRequest>
+    ensures { result ≡ view_request (read_name caller.now) id }
 {
     let Ok(caller) = Name::read(caller) else {
         return None;
     };
     match id {
-        Some(id) => Some(Viewing { caller, id }),
+        Some(id) => Some(ViewRequest { caller, id }),
         None => None,
     }
 }
 
 /// The order that is asked for, where all parts read.
-fn order_asked(id: Option<ClearanceId>, round: Option<u8>) -> Option<Printing>
-    ensures { result ≡ order_asked id round }
+fn order_request(id: Option<ClearanceId>, round: Option<u8>) -> Option<OrderRequest>
+    ensures { result ≡ order_request id round }
 {
     let Some(id) = id else {
         return None;
     };
     match round {
-        Some(round) => Some(Printing { id, round }),
+        Some(round) => Some(OrderRequest { id, round }),
         None => None,
     }
 }
@@ -139,41 +139,41 @@ fn part<'v>(target: &str, params: &Params<'_, 'v>, route: Route, key: &str) -> &
 }
 
 /// What a target with this route asks for.
-fn asked_by(target: &str, params: &Params<'_, '_>, route: Route) -> Asked
+fn target_by(target: &str, params: &Params<'_, '_>, route: Route) -> Target
     requires path { params.now.path.now ≡ target.now }
     requires text { IsAscii params.now.text.now }
-    ensures { result ≡ asked_by target.now (route_in params.now.pattern.now
+    ensures { result ≡ target_by target.now (route_in params.now.pattern.now
         params.now.text.now params.now.names.now route) route }
 {
     match route {
-        Route::Command => Asked::Command,
+        Route::Command => Target::Command,
         Route::Clearance => {
             let id = id_of(
                 part(target, params, route, "requester"),
                 part(target, params, route, "number"),
             );
-            Asked::Clearance(view_asked(part(target, params, route, "caller"), id))
+            Target::Clearance(view_request(part(target, params, route, "caller"), id))
         }
         Route::Order => {
             let id = id_of(
                 part(target, params, route, "requester"),
                 part(target, params, route, "number"),
             );
-            Asked::Order(order_asked(id, read_round(part(target, params, route, "round"))))
+            Target::Order(order_request(id, read_round(part(target, params, route, "round"))))
         }
-        Route::Board => Asked::Board,
+        Route::Board => Target::Board,
     }
 }
 
 /// What a target asks for. `None` where it takes no route.
-pub fn asked_of(alloc: Global, target: &str) -> Result<Option<Asked>, AllocError>
-    ensures { IfOk result (λ o. o ≡ asked_of target.now) }
+pub fn target_of(alloc: Global, target: &str) -> Result<Option<Target>, AllocError>
+    ensures { IfOk result (λ o. o ≡ target_of target.now) }
 {
     let Ok(router) = routes(alloc) else {
         return Err(AllocError);
     };
     match router.at(target) {
-        Ok(found) => Ok(Some(asked_by(target, &found.params, *found.value))),
+        Ok(found) => Ok(Some(target_by(target, &found.params, *found.value))),
         Err(_) => Ok(None),
     }
 }

@@ -1,6 +1,6 @@
 use Rattle.std.proofs.Common.{◌≡◌, ◌≤◌, ◌<◌, ◌+◌, ◌-◌, ◌∙◌, sym, ap, subst, arith, rules, length, take, drop, vec_len, Some, IfOk}
 use Rattle.clr_http.specs.Request.{asks, reading}
-use Rattle.clr_http.specs.declared.target.Asked.TheVariants.{Command}
+use Rattle.clr_http.specs.declared.target.Target.TheVariants.{Command}
 use Rattle.clr_http.proofs.Requests.{body_short, body_whole}
 use Rattle.clr_http.proofs.request.command_behind.Goals as goal
 

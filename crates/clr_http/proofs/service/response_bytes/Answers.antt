@@ -8,4 +8,4 @@ returns-clause-exchange g c good (head, rest, begins) =
     let before : Some c.new-writer.result.inner.items ≡ Some [] = search rules in
     let behind : Some c.serve_one.new.writer.inner.items ≡ Some c.into_inner.result.items = search rules in
     let served = c.in_ok-serve_one.ensures.served c.args.request.now rest head input begins good in
-    exchanged _ _ _ _ _ _ _ _ _ _ before behind (head, rest, begins, refl) served
+    exchanged _ _ _ _ _ _ _ _ served before behind (head, rest, begins, refl)

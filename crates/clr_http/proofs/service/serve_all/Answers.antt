@@ -5,7 +5,7 @@ pub loop-request-init : goal.loop-request-init
 loop-request-init g c = record {
   good = λ h. h;
   reached = λ h. h;
-  far = λ good heads small. rw c.new-responses.ensures.items (none_yet (g.D.Registrar.register c.args.desk.now) (g.D.Registrar.fault_count c.args.desk.now) small);
+  far = λ good heads small. rw c.new-responses.ensures.items (none_yet (g.D.Registrar.keeper c.args.desk.now) small);
   led = g.met.D.Registrar.stays c.args.desk.now;
 }
 
@@ -17,7 +17,7 @@ loop-request-preserved g c = record {
   good = λ h. c.response_bytes.ensures.good (c.loop-request.invariant.good h);
   reached = λ h. c.response_bytes.ensures.reached (c.loop-request.invariant.reached h);
   far = λ good heads small.
-      next_far (λ request. request.items) (λ response. response.items) _ _ _ _ _ _ _ _ c.request-item.result _ _ _ _ small heads c.loop-request-test.true
+      next_far (λ request. request.items) (λ response. response.items) _ _ _ _ _ c.request-item.result _ _ _ _ small heads c.loop-request-test.true
       c.request-item.is c.as_slice.ensures.value c.in_ok-push.ensures.items (c.loop-request.invariant.far good heads small)
       (c.in_ok-response.ensures.exchange (c.loop-request.invariant.good good));
   led = g.met.D.Registrar.goes_on _ _ _ c.loop-request.invariant.led c.response_bytes.ensures.led;
