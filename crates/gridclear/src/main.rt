@@ -4,10 +4,9 @@
 ghost use Rattle.std.specs.Prelude.{◌≡◌, ◌≤◌};
 ghost use Rattle.std.specs.Process.{exit_status};
 
+use clr_command_line::command_line::command_line;
 use clr_csv::Counted;
-use clr_files::paths::Paths;
-use clr_program::command_line::{command_line, no_words};
-use clr_subcommands::machine::{AnyFiles, Machine};
+use clr_edge::machine::{AnyFiles, Machine};
 use std::process::ExitCode;
 use std::{env, io};
 
@@ -19,18 +18,12 @@ fn main(rt: HostRuntime) -> ExitCode {
 fn program(rt: &HostRuntime) -> ExitCode
     ensures { exit_status result ≤ 2 }
 {
+    let machine = Machine::new(rt, AnyFiles);
+    let words = words_of(rt);
+    let mut input = Counted::new(rt.stdin());
+    let mut output = Counted::new(rt.stdout());
     let mut errors = Counted::new(rt.stderr());
-    let status = match gather(rt) {
-        Ok(words) => command_line(
-            &Machine::new(rt, AnyFiles),
-            &Paths::new(rt),
-            words.as_slice(),
-            &mut Counted::new(rt.stdin()),
-            &mut Counted::new(rt.stdout()),
-            &mut errors,
-        ),
-        Err(cause) => no_words(&cause, &mut errors),
-    };
+    let status = command_line(&machine, &words, &mut input, &mut output, &mut errors);
     exit_code(status)
 }
 
@@ -42,7 +35,7 @@ fn exit_code(status: u8) -> ExitCode
 }
 
 /// The words of the command line, of which the first is the program's name.
-fn gather(rt: &HostRuntime) -> io::Result<Vec<String>> {
+fn words_of(rt: &HostRuntime) -> io::Result<Vec<String>> {
     let words = env::args(rt)?.collect(rt.alloc())?;
     Ok(words)
 }

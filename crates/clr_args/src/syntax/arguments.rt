@@ -1,0 +1,57 @@
+//! The kinds of argument that the subcommands share.
+ghost use Rattle.std.specs.Prelude.{◌≡◌, codes, false};
+ghost use Rattle.clap.specs.Words.{rule_of};
+ghost use Rattle.clr_args.specs.Syntax.{number_rule, offset_rule, option_rule, repeated_rule};
+ghost use Rattle.clr_args.specs.Syntax.{required_rule};
+
+use clap::builder::ValueParser;
+use clap::{Arg, ArgAction};
+use std::alloc::Global;
+
+/// An argument that has to be given, by its place.
+pub fn required<'a>(alloc: Global, id: &'a str, help: &'a str) -> Arg<'a>
+    ensures rule { rule_of result ≡ required_rule id.entry.now }
+    ensures local { result.global ≡ false }
+{
+    Arg::new(alloc, id).required(true).help(help)
+}
+
+/// An argument that may be given any number of times, by its place.
+pub fn repeated<'a>(alloc: Global, id: &'a str, help: &'a str) -> Arg<'a>
+    ensures rule { rule_of result ≡ repeated_rule id.entry.now }
+    ensures local { result.global ≡ false }
+{
+    Arg::new(alloc, id).action(ArgAction::Append).help(help)
+}
+
+/// An argument that may be given once, by its name and a value.
+pub fn option<'a>(alloc: Global, id: &'a str, value: &'a str, help: &'a str) -> Arg<'a>
+    ensures rule { rule_of result ≡ option_rule id.entry.now }
+    ensures local { result.global ≡ false }
+{
+    Arg::new(alloc, id).long(id).value_name(value).help(help)
+}
+
+/// An option with a number from 1 to `most`, which has to be given.
+pub fn number<'a>(alloc: Global, id: &'a str, most: u64, help: &'a str) -> Arg<'a>
+    ensures rule { rule_of result ≡ number_rule id.entry.now most }
+    ensures local { result.global ≡ false }
+{
+    option(alloc, id, "N", help)
+        .required(true)
+        .value_parser(ValueParser::unsigned(1, most))
+}
+
+/// `--offset MINUTES`, from -720 to 840.
+pub fn offset<'a>(alloc: Global) -> Arg<'a>
+    ensures rule { rule_of result ≡ offset_rule }
+    ensures local { result.global ≡ false }
+{
+    option(
+        alloc,
+        "offset",
+        "MINUTES",
+        "Minutes east of Greenwich, where the clock stands",
+    )
+    .value_parser(ValueParser::signed(-720, 840))
+}

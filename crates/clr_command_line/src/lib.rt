@@ -1,0 +1,5 @@
+//! What the program does: whole command lines, over any runtime, reader and writers.
+#![tactic(auto)]
+
+pub mod command_line;
+pub mod outcome;

@@ -1,0 +1,11 @@
+pub mod AnsweredLines
+pub mod Connections
+pub mod Databases
+pub mod Found
+pub mod MadeRegisters
+pub mod OfNoReader
+pub mod PointsNamed
+pub mod ReadFiles
+pub mod RunAnswers
+pub mod RunOfInput
+pub mod Serving

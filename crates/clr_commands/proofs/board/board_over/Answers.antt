@@ -1,0 +1,20 @@
+use Rattle.std.proofs.Common.{◌≡◌, ◌∙◌, ap, rules, to_z, of_z, to_z-of_z, w16, FitsSigned}
+use Rattle.clr_book.specs.Book.{Shelved}
+use Rattle.clr_rules.specs.Register.{Register}
+use Rattle.clr_print.specs.Printed.{board_text}
+use Rattle.clr_commands.proofs.Databases.{TellsStored-board}
+use Rattle.clr_commands.proofs.board.board_over.Goals as goal
+
+-- the board of the register that the database has
+pub returns-in-Ok-clause-told : goal.returns-in-Ok-clause-told
+returns-in-Ok-clause-told g c R known =
+    let is = c.in-Ok.ensures.register R known in
+    let register : c.book.result.now.register ≡ R =
+    ap (λ (b : Shelved). b.register) c.book.ensures ∙ is.0 in
+    let fits : FitsSigned w16 c.args.offset = search rules in
+    let offset : to_z w16 (of_z w16 c.args.offset) ≡ c.args.offset = to_z-of_z fits in
+    TellsStored-board _ _ c.board_of-told.result (λ i. board_text (register i).records (offset i))
+    c.board_of-told.ensures.text c.board_of-told.ensures.fault
+
+pub returns-in-Err-clause-told : goal.returns-in-Err-clause-told
+returns-in-Err-clause-told g c R known = λ other. absurd (other (c.in-Err.ensures.fault R known))

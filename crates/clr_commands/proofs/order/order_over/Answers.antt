@@ -1,0 +1,22 @@
+use Rattle.std.proofs.Common.{◌≡◌, ◌∙◌, ap, rules, to_z, of_z, to_z-of_z, w16, FitsSigned}
+use Rattle.std.specs.Prelude.{string_bytes}
+use Rattle.clr_book.specs.Book.{Shelved}
+use Rattle.clr_rules.specs.Register.{Register}
+use Rattle.clr_commands.specs.Order.{order_told}
+use Rattle.clr_commands.proofs.Databases.{TellsStored-gives}
+use Rattle.clr_commands.proofs.order.order_over.Goals as goal
+
+-- the order of the register that the database has
+pub returns-in-Ok-clause-told : goal.returns-in-Ok-clause-told
+returns-in-Ok-clause-told g c R known =
+    let is = c.in-Ok.ensures.register R known in
+    let register : c.book.result.now.register ≡ R =
+    ap (λ (b : Shelved). b.register) c.book.ensures ∙ is.0 in
+    let fits : FitsSigned w16 c.args.offset = search rules in
+    let offset : to_z w16 (of_z w16 c.args.offset) ≡ c.args.offset = to_z-of_z fits in
+    TellsStored-gives (λ text. string_bytes text) _ _ c.order_of-told.result
+    (λ i. order_told (register i) c.args.clearance.now c.args.round.now (offset i))
+    c.order_of-told.ensures
+
+pub returns-in-Err-clause-told : goal.returns-in-Err-clause-told
+returns-in-Err-clause-told g c R known = λ other. absurd (other (c.in-Err.ensures.fault R known))

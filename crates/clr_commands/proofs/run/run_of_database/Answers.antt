@@ -1,0 +1,23 @@
+use Rattle.clr_commands.proofs.Databases.{IfSome-from, RunsAtPath-closed, RunsStored-closed}
+use Rattle.clr_commands.proofs.RunAnswers.{closed_cause, closed_waits}
+use Rattle.clr_commands.proofs.run.run_of_database.Goals as goal
+
+-- the register of the database, as far as that is known, and the bytes of the input
+pub returns-clause-answer : goal.returns-clause-answer
+returns-clause-answer g c =
+    IfSome-from _ _ _ (λ R has. IfSome-from _ _ _ (λ bytes is.
+    RunsStored-closed R bytes _ _ c.printed_behind.ensures.printed c.printed_behind.ensures.whole c.printed_behind.ensures.fault is)
+    (c.run_connected-printed.ensures.answer R has)) c.in_ok-connection.ensures.known
+
+pub returns-clause-left : goal.returns-clause-left
+returns-clause-left g c =
+    RunsAtPath-closed g.D.Medium.Disk (g.D.Databases.is_at c.args.databases.now c.args.path.now) _ c.in_ok-connection.connection c.run_connected-printed.result.1 c.run_connected-printed.result.0 c.printed_behind.result
+    c.in_ok-connection.ensures.at c.run_connected-printed.ensures.left c.printed_behind.ensures.printed c.printed_behind.ensures.fault
+
+pub returns-clause-cause : goal.returns-clause-cause
+returns-clause-cause g c =
+    closed_cause _ _ _ _ c.printed_behind.ensures.whole c.printed_behind.ensures.fault c.run_connected-printed.ensures.cause
+
+pub returns-clause-waits : goal.returns-clause-waits
+returns-clause-waits g c =
+    closed_waits _ _ _ _ c.printed_behind.ensures.whole c.printed_behind.ensures.fault c.run_connected-printed.ensures.waits

@@ -1,0 +1,11 @@
+//! What each subcommand comes to, over files, databases and input.
+#![tactic(auto)]
+
+pub mod board;
+pub mod fence;
+pub mod init;
+pub mod order;
+pub mod replies;
+pub mod run;
+pub mod serve;
+pub mod serve_line;

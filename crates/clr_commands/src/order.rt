@@ -1,0 +1,108 @@
+//! The subcommand `order`: one round of a clearance or a switch order, as it is printed.
+ghost use Rattle.std.specs.Prelude.{◌≡◌, IfOk, OnOk, codes, neg_ℤ, option_map, pos};
+ghost use Rattle.std.specs.Prelude.{string_bytes, ◌≤ℤ◌};
+ghost use Rattle.clr_edge.specs.Answers.{Gives};
+ghost use Rattle.sqlite.specs.Held.{state};
+ghost use Rattle.sqlite.specs.State.{Survives};
+ghost use Rattle.clap.specs.Words.{found_of, rows_of};
+ghost use Rattle.clr_args.specs.Asked.{word_in};
+ghost use Rattle.clr_commands.specs.Order.{order_told, read_round};
+ghost use Rattle.clr_commands.specs.Stored.{OrdersAt, TellsStored};
+ghost use Rattle.clr_edge.specs.Database.{HasRegister, IsOnlyRead, ReadsAt};
+ghost use Rattle.clr_rules.specs.Register.{Register};
+
+use clap::ArgMatches;
+use clr_args::words::{offset_of, word_of};
+use clr_book::Book;
+use clr_edge::database::{Databases, close_behind, desk_over};
+use clr_edge::fault::Fault;
+use clr_print::print_order;
+use clr_rules::{ClearanceId, Hold, PointState, Record, StepRow};
+use clr_shelf::Shelf;
+use sqlite::{Alter, Connection};
+use std::alloc::Global;
+
+/// What `order DB CLEARANCE ROUND [--offset MINUTES]` prints.
+pub fn order<R: Databases + AllocGlobal>(rt: &R, matches: &ArgMatches<'_>) -> Result<String, Fault>
+    ensures told { OrdersAt (λ text. string_bytes text) (R.register_at rt.now)
+        (rows_of (found_of matches.now)) result }
+    ensures read { OnOk result (ReadsAt R.Medium.Disk
+        (R.is_at rt.now (word_in (rows_of (found_of matches.now)) (codes "DB")))) }
+{
+    let clearance = word_of(matches, "CLEARANCE");
+    let round = word_of(matches, "ROUND");
+    let offset = offset_of(matches);
+    let connection = rt.database(word_of(matches, "DB"))?;
+    let (told, connection) = order_over(rt.alloc(), connection, clearance, round, offset);
+    close_behind(connection, told)
+}
+
+/// The printed order of the register that a database has.
+fn order_over<S: Alter + Drop>(
+    alloc: Global,
+    connection: Connection<S>,
+    clearance: &str,
+    round: &str,
+    offset: i16,
+) -> (Result<String, Fault>, Connection<S>)
+    requires low { neg_ℤ (pos 720) ≤ℤ offset }
+    requires high { offset ≤ℤ pos 840 }
+    ensures told { (R : Register) → HasRegister S.Store R connection → TellsStored
+        (λ text. string_bytes text) (order_told R clearance.now round.now offset) result.0 }
+    ensures read { OnOk result.0 (IsOnlyRead S.Store connection result.1) }
+    ensures survives { Survives (state S.Store connection) (state S.Store result.1) (λ _. ⊥) }
+{
+    match desk_over(connection) {
+        Ok(desk) => {
+            let told = order_of(alloc, desk.book(), clearance, round, offset);
+            (told, desk.end().end())
+        }
+        Err((fault, connection)) => (Err(fault), connection),
+    }
+}
+
+/// The printed order of a book that two words name.
+///
+/// `NoSuch` where `clearance` names no clearance, `round` is neither `1` nor `2`, the book has no
+/// such clearance, or that round has no steps. The offset is in minutes east of Greenwich.
+pub fn order_of<P, C, T, H>(
+    alloc: Global,
+    book: &Book<P, C, T, H>,
+    clearance: &str,
+    round: &str,
+    offset: i16,
+) -> Result<String, Fault>
+where
+    P: Shelf<PointState>,
+    C: Shelf<Record>,
+    T: Shelf<StepRow>,
+    H: Shelf<Hold>,
+    requires low { neg_ℤ (pos 720) ≤ℤ offset }
+    requires high { offset ≤ℤ pos 840 }
+    ensures { Gives (λ text. string_bytes text)
+        (order_told book.now.register clearance.now round.now offset) result }
+{
+    let Ok(id) = ClearanceId::read(clearance) else {
+        return Err(Fault::NoSuch);
+    };
+    let Some(round) = read_round(round) else {
+        return Err(Fault::NoSuch);
+    };
+    match print_order(alloc, book, &id, round, offset)? {
+        Some(text) => Ok(text),
+        None => Err(Fault::NoSuch),
+    }
+}
+
+/// The round that a word names.
+fn read_round(word: &str) -> Option<u8>
+    ensures { result ≡ read_round word.now }
+{
+    if word == "1" {
+        Some(1)
+    } else if word == "2" {
+        Some(2)
+    } else {
+        None
+    }
+}

@@ -1,0 +1,88 @@
+-- Faults of databases that are known to have a register.
+use Rattle.std.proofs.Common.{◌≡◌, ◌∙◌, ◌≤◌, ◌⊎◌, ⊎_elim, arith, inl, inr, refl, subst, ℤ, Result, Ok, Err}
+use Rattle.std.specs.Prelude.{OnOk, pos}
+use Rattle.sqlite.specs.State.{HasCleanDisk, State, Survives}
+use Rattle.sqlite_disk.specs.Disk.{MoreFaults}
+use Rattle.sqlite_trees.specs.Tree.{Trees}
+use Rattle.clr_tables.specs.declared.table_name.TableName.{TableName}
+use Rattle.clr_desk.specs.Faults.{IsOfCommand, of_store as desk_of_store}
+use Rattle.clr_desk.specs.declared.desk_fault.DeskFault.{DeskFault}
+use Rattle.clr_desk.specs.declared.desk_fault.DeskFault.TheVariants as desk
+use Rattle.clr_rules.specs.Register.{Register}
+use Rattle.clr_store.specs.Contract.{RefusesVersion}
+use Rattle.clr_load.specs.declared.fault.StoreFault.{StoreFault}
+use Rattle.clr_load.specs.declared.fault.StoreFault.TheVariants as store
+use Rattle.clr_tables.specs.RowsRead.{read_version}
+use Rattle.clr_tables.specs.Tables.{tables_of}
+use Rattle.clr_edge.specs.Fault.{of_desk, of_store}
+use Rattle.clr_edge.specs.declared.fault.Fault.{Fault}
+use Rattle.clr_edge.specs.Database.{IsOfLine}
+
+-- a fault of the desk's commands is told as one of a line
+pub IsOfLine-of_command : (fault : DeskFault) → IsOfCommand fault → IsOfLine (of_desk fault)
+IsOfLine-of_command (desk.Store store.Sql) is = inr refl
+IsOfLine-of_command (desk.Store (store.WrongVersion n)) is = absurd is
+IsOfLine-of_command (desk.Store (store.BadRow table)) is = absurd is
+IsOfLine-of_command (desk.Store store.NoMemory) is = absurd is
+IsOfLine-of_command desk.NoMemory is = inl refl
+
+-- a store that was shut is refused by the database; one that was open, as is said of it
+pub IsOfCommand-shut : (Open : Type 0) (fault : DeskFault) → Open ⊎ IsOfCommand fault → (Open → IsOfCommand fault) → IsOfCommand fault
+IsOfCommand-shut Open fault (inl open_then) is = is open_then
+IsOfCommand-shut Open fault (inr refused) is = refused
+
+-- the tables of a register are of the version that is read
+pub read_version-tables_of : (R : Register) → read_version (tables_of R).meta ≡ Ok (pos 1)
+unfolding read_version
+read_version-tables_of R = refl
+
+refused_line : (fault : StoreFault) → RefusesVersion (Ok (pos 1)) fault → IsOfLine (of_store fault)
+refused_line store.Sql is = inr refl
+refused_line (store.WrongVersion n) (is, other) = absurd (other (cc is))
+refused_line (store.BadRow table) is = absurd (cc is)
+refused_line store.NoMemory is = inl refl
+
+-- so only the database itself refuses them
+pub IsOfLine-of_version : (R : Register) (fault : StoreFault) → RefusesVersion (read_version (tables_of R).meta) fault → IsOfLine (of_store fault)
+IsOfLine-of_version R fault refused = refused_line fault (subst (λ read. RefusesVersion read fault) (read_version-tables_of R) refused)
+
+-- what two calls leave that commit nothing
+pub survives_on : (s t u : State) → Survives s t (λ _. ⊥) → Survives t u (λ _. ⊥) → Survives s u (λ _. ⊥)
+survives_on s t u first later =
+    let clean : HasCleanDisk u → HasCleanDisk t = λ c. omega (arith, later.clean, c) in
+    record {
+      clean = omega (arith, first.clean, later.clean);
+      shield = λ h. later.shield (first.shield h);
+      counts = omega (arith, first.counts, later.counts);
+      limit = later.limit ∙ first.limit;
+      closes = λ c before.
+          ⊎_elim
+          (λ between. ⊎_elim (λ after. inl after) (λ more. inr (omega (arith, first.counts, more))) (later.closes c between))
+          (λ more. inr (omega (arith, later.counts, more))) (first.closes (clean c) before);
+      crash = λ c db leaves. ⊎_elim (λ between. first.crash (clean c) db between) (λ none. absurd none) (later.crash c db leaves);
+    }
+
+-- the disk was clean before, if it is behind
+pub was_clean : (s t : State) (Commits : Trees → Type 0) → Survives s t Commits → HasCleanDisk t → HasCleanDisk s
+was_clean s t Commits survives clean = omega (arith, survives.clean, clean)
+
+-- a fault of the store, told by the desk
+pub of_desk-of_store : (cause : StoreFault) → of_desk (desk_of_store cause) ≡ of_store cause
+of_desk-of_store store.Sql = refl
+of_desk-of_store (store.WrongVersion n) = refl
+of_desk-of_store (store.BadRow table) = refl
+of_desk-of_store store.NoMemory = refl
+
+-- the database itself may refuse any version
+pub RefusesVersion-of_command : (read : Result ℤ TableName) (cause : StoreFault) → IsOfCommand (desk_of_store cause) → RefusesVersion read cause
+RefusesVersion-of_command read store.Sql is = tt
+RefusesVersion-of_command read (store.WrongVersion n) is = absurd is
+RefusesVersion-of_command read (store.BadRow table) is = absurd is
+RefusesVersion-of_command read store.NoMemory is = tt
+
+pub OnOk-any : {T : Type 0} (result : Result T Fault) (P : Type 0) → P → OnOk result P
+OnOk-any (Ok value) P holds = holds
+OnOk-any (Err fault) P holds = tt
+
+pub OnOk-was : {T : Type 0} (result : Result T Fault) (value : T) (P : Type 0) → result ≡ Ok value → OnOk result P → P
+OnOk-was {T} result value P was holds = let Q : Result T Fault → Type 0 = λ r. OnOk r P in subst Q was holds

@@ -1,0 +1,65 @@
+use Rattle.std.proofs.Common.{◌∙◌, ⊎_elim, ap, inl, inr, subst, sym}
+use Rattle.sqlite.specs.Held.{state}
+use Rattle.sqlite.specs.State.{HasCleanDisk}
+use Rattle.clr_load.specs.Stored.{HasTables}
+use Rattle.clr_tables.specs.Tables.{tables_of}
+use Rattle.clr_edge.specs.Database.{IsOfLine}
+use Rattle.clr_edge.specs.Fault.{of_desk}
+use Rattle.clr_edge.proofs.Databases.{IsOfCommand-shut, IsOfLine-of_command, IsOfLine-of_version}
+use Rattle.clr_edge.proofs.Databases.{RefusesVersion-of_command, of_desk-of_store, survives_on, was_clean}
+use Rattle.clr_desk.specs.Faults.{IsOfCommand}
+use Rattle.clr_edge.proofs.database.desk_over.Goals as goal
+
+-- the version is the one that is read
+pub returns-in-Err-clause-fault : goal.returns-in-Err-clause-fault
+returns-in-Err-clause-fault g c R known =
+    subst (λ fault. IsOfLine fault) (sym c.from.ensures)
+    (IsOfLine-of_version R _ (c.in-Err.ensures.refused
+    (known.clean c.in-Err.field-0.connection) (tables_of R) known.tables))
+
+-- the rows are those of a good register
+pub returns-in-Ok-open-clause-register : goal.returns-in-Ok-open-clause-register
+returns-in-Ok-open-clause-register g c R known =
+    let was_open = c.in-Ok-open.ensures.was_open (known.clean c.in-Ok-open.desk.store) in
+    let same = c.in-Ok.ensures.opened (known.clean c.in-Ok.store) was_open in (
+      c.in-Ok-open.ensures.again (known.clean c.in-Ok-open.desk.store) R known.good
+          (subst (λ db. HasTables db (tables_of R)) (sym same) known.tables),
+      known.good,
+    )
+
+pub returns-in-Err-open-clause-fault : goal.returns-in-Err-open-clause-fault
+returns-in-Err-open-clause-fault g c R known =
+    subst (λ fault. IsOfLine fault) (sym c.from-in-Err-open.ensures)
+    (IsOfLine-of_command _ (IsOfCommand-shut _ _
+    (c.in-Err-open.ensures.shut (known.clean c.in-Err-open.store))
+    (λ was_open. c.in-Err-open.ensures.cause (known.clean c.in-Err-open.store) R known.good
+    known.typed (subst (λ db. HasTables db (tables_of R))
+    (sym (c.in-Ok.ensures.opened (known.clean c.in-Ok.store) was_open)) known.tables))))
+
+-- the fault is the one that was answered
+pub returns-in-Err-clause-told : goal.returns-in-Err-clause-told
+returns-in-Err-clause-told g c =
+    (c.in-Err.field-0.fault, c.from.ensures, λ clean t has. inl (c.in-Err.ensures.refused clean t has))
+
+pub returns-in-Err-open-clause-told : goal.returns-in-Err-open-clause-told
+returns-in-Err-open-clause-told g c =
+    let (cause, is, refused) = c.in-Err-open.ensures.refused in (
+      cause,
+      c.from-in-Err-open.ensures ∙ (ap of_desk is ∙ of_desk-of_store cause),
+      λ clean_back t has.
+          let clean = subst (λ h. HasCleanDisk (state g.S.Store h)) c.end.ensures.connection clean_back in
+          ⊎_elim
+          (λ was_open. inr (refused clean t (subst (λ db. HasTables db t)
+          (sym (c.in-Ok.ensures.opened (was_clean _ _ _ c.in-Err-open.ensures.survives_too clean) was_open)) has)))
+          (λ shut. inl (RefusesVersion-of_command _ cause (subst (λ fault. IsOfCommand fault) is shut)))
+          (c.in-Err-open.ensures.shut clean),
+    )
+
+-- the tables are only read
+pub returns-in-Ok-open-clause-read : goal.returns-in-Ok-open-clause-read
+returns-in-Ok-open-clause-read g c = record {
+  same = λ clean shown.
+      c.in-Ok-open.ensures.same clean shown
+      ∙ c.in-Ok.ensures.opened (was_clean _ _ _ c.in-Ok-open.ensures.survives clean) (c.in-Ok-open.ensures.was_open clean);
+  survives = survives_on _ _ _ c.in-Ok.ensures.crash_opened c.in-Ok-open.ensures.survives;
+}

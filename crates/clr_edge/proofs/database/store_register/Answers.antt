@@ -1,0 +1,12 @@
+use Rattle.clr_edge.proofs.Databases.{OnOk-any, OnOk-was}
+use Rattle.clr_edge.proofs.database.store_register.Goals as goal
+
+-- the register was made over the connection to that database
+pub returns-clause-made : goal.returns-clause-made
+returns-clause-made g c =
+    OnOk-any c.close-closed.result _ (
+      c.in_ok-connection.connection,
+      c.register_made-made.result.1,
+      c.in_ok-connection.ensures.at,
+      OnOk-was c.register_made-made.result.0 _ _ c.in_ok-made.was c.register_made-made.ensures.made,
+    )

@@ -1,0 +1,87 @@
+-- Registers that databases have, and faults of the databases themselves.
+use Rattle.std.specs.Prelude.{◌≡◌, ◌⊎◌, IsTrue, Err}
+use Rattle.sqlite.specs.Effect.{Database}
+use Rattle.sqlite.specs.Files.{over_files}
+use Rattle.sqlite.specs.Held.{Held, state}
+use Rattle.sqlite.specs.State.{HasCleanDisk, Survives}
+use Rattle.sqlite_disk.specs.declared.Disk as disk
+use Rattle.sqlite_store.specs.declared.store.FileStore.{FileStore}
+use Rattle.sqlite_trees.specs.declared.store.Store.{Ghosts}
+use Rattle.clr_rules.specs.Good.{IsGood}
+use Rattle.clr_rules.specs.Register.{Register}
+use Rattle.clr_load.specs.Contract.{IsSaved}
+use Rattle.clr_load.specs.Stored.{AreTables, HasTables}
+use Rattle.clr_load.specs.declared.fault.StoreFault.{StoreFault}
+use Rattle.clr_load.specs.declared.fault.StoreFault.TheVariants.{Sql}
+use Rattle.clr_store.specs.Contract.{RefusesVersion}
+use Rattle.clr_tables.specs.RowsRead.{read_version, rows_read}
+use Rattle.clr_tables.specs.Tables.{Tables, tables_of}
+use Rattle.clr_tables.specs.TypedRows.{IsTyped}
+use Rattle.clr_book.specs.Book.{Shelved}
+use Rattle.clr_desk.specs.Opening.{OpensAs}
+use Rattle.clr_edge.specs.Fault.{of_store}
+use Rattle.clr_edge.specs.declared.fault.Fault.{Fault}
+use Rattle.clr_edge.specs.declared.fault.Fault.TheVariants.{Memory, Store}
+
+-- memory ran out, or the database refused or failed
+abbrev pub IsOfLine : Fault → Type 0
+IsOfLine fault = (fault ≡ Memory) ⊎ (fault ≡ Store Sql)
+
+-- memory ran out, or the database is at fault, or what it has
+abbrev pub IsOfStore : Fault → Type 0
+IsOfStore fault = (fault ≡ Memory) ⊎ ((cause : StoreFault) × (fault ≡ Store cause))
+
+-- What is known of a database: it has the tables of a good register, whose values are of their
+-- types, and its files give back what was written.
+pub record HasRegister {S : Type 0} (g : Ghosts S) (R : Register) (connection : Held S)
+    : Type 0 where
+  pub good : IsGood R
+  pub typed : IsTyped R
+  pub tables : HasTables (state g connection).now (tables_of R)
+  pub clean : (after : Held S) → HasCleanDisk (state g after)
+
+-- a database was read, and not changed: its tables are the same where the disk is clean and the
+-- connection open, and a crash leaves what it left before
+pub record IsOnlyRead {S : Type 0} (g : Ghosts S) (before after : Held S) : Type 0 where
+  pub same : HasCleanDisk (state g after) → IsTrue (state g after).is_open
+      → (state g after).now ≡ (state g before).now
+  pub survives : Survives (state g before) (state g after) (λ _. ⊥)
+
+-- the same of a database that was opened at a path
+abbrev pub ReadsAt : {D : Type 0} → disk.Ghosts D → (Database → Type 0) → Type 0
+ReadsAt {D} g IsAt = (before : Held (FileStore D g)) × (after : Held (FileStore D g))
+    × IsAt (state over_files before).now × IsOnlyRead over_files before after
+
+-- the tables of a register were made in a database: where the disk is clean they are there and
+-- saved, and a crash leaves them, or what it left before
+pub record IsMade {S : Type 0} (g : Ghosts S) (before : Held S) (R : Register) (after : Held S)
+    : Type 0 where
+  pub saved : HasCleanDisk (state g after) → IsSaved (state g after)
+  pub tables : HasCleanDisk (state g after) → HasTables (state g after).now (tables_of R)
+  pub survives : Survives (state g before) (state g after)
+      (λ trees. AreTables trees (tables_of R))
+
+-- they were not made: where the disk is clean and the connection open, the database is as before
+pub record IsUnmade {S : Type 0} (g : Ghosts S) (before : Held S) (R : Register) (after : Held S)
+    : Type 0 where
+  pub same : HasCleanDisk (state g after) → IsTrue (state g after).is_open
+      → (state g after).now ≡ (state g before).now
+  pub survives : Survives (state g before) (state g after)
+      (λ trees. AreTables trees (tables_of R))
+
+-- they were made in a database that was opened at a path
+abbrev pub IsMadeAt : {D : Type 0} → disk.Ghosts D → (Database → Type 0) → Register → Type 0
+IsMadeAt {D} g IsAt R = (before : Held (FileStore D g)) × (after : Held (FileStore D g))
+    × IsAt (state over_files before).now × IsMade over_files before R after
+
+-- why tables are not opened: the database refuses them, their version does not read or is not 1, or
+-- their rows give no register
+abbrev pub RefusesTables : Tables → StoreFault → Type 0
+RefusesTables t cause = RefusesVersion (read_version t.meta) cause
+    ⊎ OpensAs (λ (book : Shelved). book.register) (rows_read t) (Err cause)
+
+-- the fault that is told of a database that is not opened
+abbrev pub IsRefused : {S : Type 0} → Ghosts S → Held S → Fault → Held S → Type 0
+IsRefused g before told after = (cause : StoreFault) × (told ≡ of_store cause)
+    × (HasCleanDisk (state g after) → (t : Tables) → HasTables (state g before).now t
+    → RefusesTables t cause)

@@ -1,0 +1,196 @@
+-- The line that each fault prints: `fault: `, what it is about, a blank, the fault's name, and
+-- where it is or what it names. Want of memory is about memory, whatever answered it.
+use Rattle.std.specs.Prelude.{◌≡◌, ℕ, List, [], ◌∷◌, ◌++◌, codes, decimal}
+use Rattle.std.specs.Fmt.{signed_decimal}
+use Rattle.clr_net.specs.declared.name.NameFault.{NameFault}
+use Rattle.clr_net.specs.declared.name.NameFault.TheVariants as name
+use Rattle.clr_net.specs.declared.net_fault.NetFault.{NetFault}
+use Rattle.clr_net.specs.declared.net_fault.NetFault.TheVariants as net
+use Rattle.clr_csv.specs.declared.fault.CsvFault.{CsvFault}
+use Rattle.clr_csv.specs.declared.fault.CsvFault.TheVariants as csv
+use Rattle.clr_csv.specs.declared.staff_fault.StaffFault.{StaffFault}
+use Rattle.clr_csv.specs.declared.staff_fault.StaffFault.TheVariants as staff
+use Rattle.clr_tables.specs.TableText.{table_text}
+use Rattle.clr_load.specs.declared.fault.StoreFault.{StoreFault}
+use Rattle.clr_load.specs.declared.fault.StoreFault.TheVariants as store
+use Rattle.clr_desk.specs.declared.desk_fault.DeskFault.{DeskFault}
+use Rattle.clr_desk.specs.declared.desk_fault.DeskFault.TheVariants as desk
+use Rattle.clr_edge.specs.declared.fault.ImportFile.{ImportFile}
+use Rattle.clr_edge.specs.declared.fault.ImportFile.TheVariants.{Sections, Points, Staff}
+use Rattle.clr_edge.specs.declared.fault.InputFault.{InputFault}
+use Rattle.clr_edge.specs.declared.fault.InputFault.TheVariants as input
+use Rattle.clr_edge.specs.declared.fault.Detail.{Detail}
+use Rattle.clr_edge.specs.declared.fault.Detail.TheVariants as detail
+use Rattle.clr_edge.specs.declared.fault.Fault.{Fault}
+use Rattle.clr_edge.specs.declared.fault.Fault.TheVariants as fault
+
+-- what the line calls a file
+abbrev pub file_text : ImportFile → List ℕ
+file_text Sections = codes "sections"
+file_text Points = codes "points"
+file_text Staff = codes "staff"
+
+-- what a fault is about
+abbrev pub subject_of : Fault → List ℕ
+subject_of fault.Memory = codes "memory"
+subject_of (fault.File file cause) = file_text file
+subject_of (fault.Network cause) = codes "network"
+subject_of (fault.Staff cause) = codes "staff"
+subject_of (fault.Name cause) = codes "name"
+subject_of (fault.UnknownSection section) = codes "network"
+subject_of (fault.UnknownPoint point) = codes "network"
+subject_of (fault.Input cause) = codes "input"
+subject_of (fault.Store cause) = codes "store"
+subject_of fault.NoSuch = codes "clearance"
+subject_of fault.Output = codes "output"
+subject_of fault.Listen = codes "listen"
+
+abbrev pub file_fault_name : CsvFault → List ℕ
+file_fault_name csv.ReadFailed = codes "ReadFailed"
+file_fault_name csv.TooLong = codes "TooLong"
+file_fault_name csv.Header = codes "Header"
+file_fault_name (csv.NotText row) = codes "NotText"
+file_fault_name (csv.FieldCount row) = codes "FieldCount"
+file_fault_name (csv.BadName row column) = codes "BadName"
+file_fault_name (csv.BadWord row column) = codes "BadWord"
+file_fault_name csv.NoMemory = codes "NoMemory"
+
+abbrev pub network_fault_name : NetFault → List ℕ
+network_fault_name net.NoSections = codes "NoSections"
+network_fault_name net.TooLarge = codes "TooLarge"
+network_fault_name (net.SectionTwice row) = codes "SectionTwice"
+network_fault_name (net.PointTwice row) = codes "PointTwice"
+network_fault_name (net.UnknownEnd row) = codes "UnknownEnd"
+network_fault_name (net.SameEnds row) = codes "SameEnds"
+network_fault_name net.NoMemory = codes "NoMemory"
+
+abbrev pub staff_fault_name : StaffFault → List ℕ
+staff_fault_name (staff.Twice row) = codes "Twice"
+staff_fault_name (staff.UnknownSupervisor row) = codes "UnknownSupervisor"
+staff_fault_name (staff.OwnSupervisor row) = codes "OwnSupervisor"
+staff_fault_name staff.TooMany = codes "TooMany"
+staff_fault_name staff.NoMemory = codes "NoMemory"
+
+abbrev pub name_fault_name : NameFault → List ℕ
+name_fault_name name.Empty = codes "Empty"
+name_fault_name name.TooLong = codes "TooLong"
+name_fault_name (name.BadByte place) = codes "BadByte"
+name_fault_name name.NoMemory = codes "NoMemory"
+
+abbrev pub input_fault_name : InputFault → List ℕ
+input_fault_name input.ReadFailed = codes "ReadFailed"
+input_fault_name input.TooLong = codes "TooLong"
+
+abbrev pub store_fault_name : StoreFault → List ℕ
+store_fault_name store.Sql = codes "Sql"
+store_fault_name (store.WrongVersion n) = codes "WrongVersion"
+store_fault_name (store.BadRow table) = codes "BadRow"
+store_fault_name store.NoMemory = codes "NoMemory"
+
+-- the fault's name
+abbrev pub name_of : Fault → List ℕ
+name_of fault.Memory = codes "NoMemory"
+name_of (fault.File file cause) = file_fault_name cause
+name_of (fault.Network cause) = network_fault_name cause
+name_of (fault.Staff cause) = staff_fault_name cause
+name_of (fault.Name cause) = name_fault_name cause
+name_of (fault.UnknownSection section) = codes "UnknownSection"
+name_of (fault.UnknownPoint point) = codes "UnknownPoint"
+name_of (fault.Input cause) = input_fault_name cause
+name_of (fault.Store cause) = store_fault_name cause
+name_of fault.NoSuch = codes "NoSuch"
+name_of fault.Output = codes "WriteFailed"
+name_of fault.Listen = codes "BindFailed"
+
+abbrev pub file_fault_detail : CsvFault → Detail
+file_fault_detail (csv.NotText row) = detail.Row row
+file_fault_detail (csv.FieldCount row) = detail.Row row
+file_fault_detail (csv.BadName row column) = detail.Field row column
+file_fault_detail (csv.BadWord row column) = detail.Field row column
+file_fault_detail cause = detail.Nothing
+
+abbrev pub network_fault_detail : NetFault → Detail
+network_fault_detail (net.SectionTwice row) = detail.Row row
+network_fault_detail (net.PointTwice row) = detail.Row row
+network_fault_detail (net.UnknownEnd row) = detail.Row row
+network_fault_detail (net.SameEnds row) = detail.Row row
+network_fault_detail cause = detail.Nothing
+
+abbrev pub staff_fault_detail : StaffFault → Detail
+staff_fault_detail (staff.Twice row) = detail.Row row
+staff_fault_detail (staff.UnknownSupervisor row) = detail.Row row
+staff_fault_detail (staff.OwnSupervisor row) = detail.Row row
+staff_fault_detail cause = detail.Nothing
+
+abbrev pub name_fault_detail : NameFault → Detail
+name_fault_detail (name.BadByte place) = detail.Place place
+name_fault_detail cause = detail.Nothing
+
+abbrev pub store_fault_detail : StoreFault → Detail
+store_fault_detail (store.WrongVersion n) = detail.Version n
+store_fault_detail (store.BadRow table) = detail.Table table
+store_fault_detail cause = detail.Nothing
+
+-- where a fault is, or what it names
+abbrev pub detail_of : Fault → Detail
+detail_of (fault.File file cause) = file_fault_detail cause
+detail_of (fault.Network cause) = network_fault_detail cause
+detail_of (fault.Staff cause) = staff_fault_detail cause
+detail_of (fault.Name cause) = name_fault_detail cause
+detail_of (fault.Store cause) = store_fault_detail cause
+detail_of (fault.UnknownSection section) = detail.Named section
+detail_of (fault.UnknownPoint point) = detail.Named point
+detail_of cause = detail.Nothing
+
+-- how a line says it: rows and columns count from 1, under the header; places in a name from 0
+abbrev pub detail_text : Detail → List ℕ
+detail_text detail.Nothing = []
+detail_text (detail.Row row) = codes " row " ++ decimal row
+detail_text (detail.Field row column) = (codes " row " ++ decimal row)
+    ++ (codes " column " ++ decimal column)
+detail_text (detail.Place place) = codes " place " ++ decimal place
+detail_text (detail.Named found) = codes " " ++ found
+detail_text (detail.Version n) = codes " " ++ signed_decimal n
+detail_text (detail.Table table) = codes " " ++ table_text table
+
+abbrev pub fault_line : Fault → List ℕ
+fault_line cause = codes "fault: "
+    ++ (subject_of cause ++ (codes " " ++ (name_of cause ++ detail_text (detail_of cause))))
+
+-- the line of a fault, with its line feed
+abbrev pub told_line : Fault → List ℕ
+told_line fault = fault_line fault ++ 10 ∷ []
+
+-- The fault that a cause becomes. Want of memory is one fault, whatever answered it.
+abbrev pub of_file : ImportFile → CsvFault → Fault
+of_file file csv.NoMemory = fault.Memory
+of_file file cause = fault.File file cause
+
+abbrev pub of_input : CsvFault → Fault
+of_input csv.NoMemory = fault.Memory
+of_input csv.TooLong = fault.Input input.TooLong
+of_input cause = fault.Input input.ReadFailed
+
+abbrev pub of_network : NetFault → Fault
+of_network net.NoMemory = fault.Memory
+of_network cause = fault.Network cause
+
+abbrev pub of_staff : StaffFault → Fault
+of_staff staff.NoMemory = fault.Memory
+of_staff cause = fault.Staff cause
+
+abbrev pub of_name : NameFault → Fault
+of_name name.NoMemory = fault.Memory
+of_name cause = fault.Name cause
+
+abbrev pub of_store : StoreFault → Fault
+of_store store.NoMemory = fault.Memory
+of_store cause = fault.Store cause
+
+abbrev pub of_desk : DeskFault → Fault
+of_desk desk.NoMemory = fault.Memory
+of_desk (desk.Store cause) = of_store cause
+
+-- the fault is one of this file's, or want of memory
+abbrev pub IsOfFile : ImportFile → Fault → Type 0
+IsOfFile file found = (cause : CsvFault) × (found ≡ of_file file cause)

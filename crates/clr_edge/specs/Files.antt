@@ -1,0 +1,38 @@
+-- The rows that files give, one file after the other.
+use Rattle.std.specs.Prelude.{◌≡◌, ◌≢◌, ◌⊎◌, ℕ, List, Option, Result, Ok, Err, IfSome, IsErrOf}
+use Rattle.std.specs.Prelude.{OnErr}
+use Rattle.clr_csv.specs.Failures.{Rose}
+use Rattle.clr_csv.specs.declared.fault.CsvFault.{CsvFault}
+use Rattle.clr_csv.specs.declared.fault.CsvFault.TheVariants.{ReadFailed}
+use Rattle.clr_edge.specs.declared.fault.ImportFile.{ImportFile}
+use Rattle.clr_edge.specs.declared.fault.Fault.{Fault}
+use Rattle.clr_edge.specs.declared.fault.Fault.TheVariants.{Memory, File}
+use Rattle.clr_edge.specs.Fault.{of_file}
+
+-- what the rows of a file come to, its faults told of it
+abbrev pub told_of : {A : Type 0} → ImportFile → Result A CsvFault → Result A Fault
+told_of file (Ok rows) = Ok rows
+told_of file (Err cause) = Err (of_file file cause)
+
+-- the file's device failed, or memory ran out
+abbrev pub IsUnread : ImportFile → Fault → Type 0
+IsUnread file fault = (fault ≡ Memory) ⊎ (fault ≡ File file ReadFailed)
+
+-- the rows that are told, as `view` shows them, or the fault; only a file that goes unread may come
+-- in its place
+abbrev pub GivesRows : {A T : Type 0} → ImportFile → (T → List A) → Result (List A) Fault
+    → Result T Fault → Type 0
+GivesRows file view told (Ok rows) = told ≡ Ok (view rows)
+GivesRows file view told (Err fault) = (IsUnread file fault → ⊥) → told ≡ Err fault
+
+-- a file is told as unread only where its count of failures rose in the call
+abbrev pub HasCause : {T : Type 0} → ImportFile → Result T Fault → ℕ → ℕ → Type 0
+HasCause file result before after = IsErrOf result (File file ReadFailed) → Rose before after
+
+-- A file waits for an earlier one: where that has a fault of its own, this one stays as it was, and
+-- is not told as unread.
+abbrev pub WaitsFor : {A T X : Type 0} → Option (List ℕ) → (List ℕ → Result A CsvFault) → ImportFile
+    → Result T Fault → X → X → Type 0
+WaitsFor earlier read file result before after =
+    IfSome earlier (λ bytes.
+    OnErr (read bytes) ((after ≡ before) × (result ≢ Err (File file ReadFailed))))

@@ -1,0 +1,4 @@
+pub mod Answers
+pub mod Database
+pub mod Fault
+pub mod Files

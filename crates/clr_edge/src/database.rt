@@ -1,0 +1,147 @@
+//! The databases that registers are stored in, each opened when its turn comes, and closed.
+ghost use Rattle.std.specs.Prelude.{◌≡◌, ◌⊎◌, ℕ, List, Option, IfErr, IfOk, IfSome, IsErrAnd, OnErr};
+ghost use Rattle.std.specs.Prelude.{OnOk, ⊤};
+ghost use Rattle.sqlite.specs.Effect.{Database};
+ghost use Rattle.sqlite.specs.Files.{over_files};
+ghost use Rattle.sqlite.specs.Held.{state};
+ghost use Rattle.sqlite.specs.State.{Survives};
+ghost use Rattle.clr_rules.specs.Good.{IsGood};
+ghost use Rattle.clr_rules.specs.Register.{Register, opening};
+ghost use Rattle.clr_edge.specs.Database.{HasRegister, IsMade, IsMadeAt, IsOfLine, IsOnlyRead};
+ghost use Rattle.clr_edge.specs.Database.{IsRefused, IsUnmade};
+
+use crate::fault::Fault;
+use crate::machine::Machine;
+use clr_csv::Staff;
+use clr_desk::Desk;
+use clr_net::Network;
+use clr_store::{Back, Store, StoreFault};
+use sqlite::{Alter, Connection, FileFrom, FileStore, Start};
+use sqlite_disk::Disk;
+use std::alloc::Global;
+
+/// What opens the database in a file.
+pub trait Databases {
+    /// What a database lies in.
+    type Medium: Disk + Drop;
+
+    /// The register that the database in a file has, where that is known.
+    ghost register_at: { Self → List ℕ → Option Register };
+
+    /// That the database in a file was opened, and showed this. Only `database` says so.
+    ghost is_at: { Self → List ℕ → Database → Type 0 };
+
+    /// Opens the database in a file. A file that is not there is made, and its database is empty.
+    fn database(&self, path: &str) -> Result<Connection<FileStore<Self::Medium>>, Fault>
+        ensures at { IfOk result (λ connection.
+            is_at self.now path.now (state over_files connection).now) }
+        ensures known { IfSome (register_at self.now path.now) (λ R. IfOk result (λ connection.
+            HasRegister over_files R connection)) }
+        ensures fault { IfErr result IsOfLine };
+}
+
+impl<'a, S: Start + Copy> Databases for Machine<'a, S> {
+    ghost use Rattle.std.specs.Prelude.{None};
+
+    type Medium = FileFrom<S>;
+
+    ghost register_at = { λ _ _. None };
+
+    ghost is_at = { λ _ _ _. ⊤ };
+
+    fn database(&self, path: &str) -> Result<Connection<FileStore<FileFrom<S>>>, Fault>
+        ensures at { IfOk result (λ _. ⊤) }
+        ensures fault { IfErr result IsOfLine }
+    {
+        match Connection::open_from(self.rt, path, false, self.files) {
+            Ok(connection) => Ok(connection),
+            Err((error, _)) => Err(Fault::from(StoreFault::from(error))),
+        }
+    }
+}
+
+/// Closes a database behind what was told of it, which is lost where it cannot be closed.
+pub fn close_behind<F: Disk + Drop>(
+    connection: Connection<FileStore<F>>,
+    told: Result<String, Fault>,
+) -> Result<String, Fault>
+    ensures { (result ≡ told) ⊎ IsErrAnd result IsOfLine }
+{
+    let closed = close(connection);
+    match (told, closed) {
+        (Ok(_), Err(fault)) => Err(fault),
+        (told, _) => told,
+    }
+}
+
+/// Closes a database.
+pub fn close<F: Disk + Drop>(connection: Connection<FileStore<F>>) -> Result<(), Fault>
+    ensures { IfErr result IsOfLine }
+{
+    match connection.close() {
+        Ok(()) => Ok(()),
+        Err(error) => Err(Fault::from(StoreFault::from(error))),
+    }
+}
+
+/// Makes the tables of an opening register in the database at a path, which has to be empty, and
+/// closes it.
+pub fn store_register<D: Databases>(
+    alloc: Global,
+    databases: &D,
+    path: &str,
+    network: Network,
+    staff: Staff,
+) -> Result<(), Fault>
+    ensures made { OnOk result
+        (IsMadeAt D.Medium.Disk (D.is_at databases.now path.now) (opening network staff)) }
+    ensures fault { IfErr result IsOfLine }
+{
+    let connection = databases.database(path)?;
+    let (made, connection) = register_made(alloc, connection, network, staff);
+    let closed = close(connection);
+    made?;
+    closed
+}
+
+/// Makes the tables of an opening register in a database, which has to be empty.
+fn register_made<S: Alter + Drop>(
+    alloc: Global,
+    connection: Connection<S>,
+    network: Network,
+    staff: Staff,
+) -> (Result<(), Fault>, Connection<S>)
+    ensures made { OnOk result.0 (IsMade S.Store connection (opening network staff) result.1) }
+    ensures unmade { OnErr result.0
+        (IsUnmade S.Store connection (opening network staff) result.1) }
+    ensures fault { IfErr result.0 IsOfLine }
+{
+    match Desk::create(alloc, connection, network, staff) {
+        Ok(desk) => (Ok(()), desk.end().end()),
+        Err((fault, connection)) => (Err(Fault::from(fault)), connection),
+    }
+}
+
+/// Opens a desk over the register that a database has, which is only read. A fault gives the
+/// database back.
+pub fn desk_over<S: Alter + Drop>(
+    connection: Connection<S>,
+) -> Result<Desk<S>, (Fault, Connection<S>)>
+    ensures register { (R : Register) → HasRegister S.Store R connection → IfOk result (λ desk.
+        (desk.book.register ≡ R) × IsGood R) }
+    ensures read { IfOk result (λ desk. IsOnlyRead S.Store connection desk.store) }
+    ensures fault { (R : Register) → HasRegister S.Store R connection
+        → IfErr result (λ back. IsOfLine back.0) }
+    ensures told { IfErr result (λ back. IsRefused S.Store connection back.0 back.1) }
+    ensures unread { IfErr result (λ back. Survives (state S.Store connection)
+        (state S.Store back.1) (λ _. ⊥)) }
+{
+    let store = match Store::open(connection) {
+        Ok(store) => store,
+        Err(Back { fault, connection }) => return Err((Fault::from(fault), connection)),
+    };
+    match Desk::open(store) {
+        Ok(desk) => Ok(desk),
+        Err((fault, store)) => Err((Fault::from(fault), store.end())),
+    }
+}

@@ -1,0 +1,398 @@
+//! What ends a command before it has its answer.
+ghost use Rattle.std.specs.Prelude.{◌≡◌, ◌≤◌, length};
+ghost use Rattle.clr_edge.specs.Fault.{file_fault_detail, file_fault_name, file_text};
+ghost use Rattle.clr_edge.specs.Fault.{input_fault_name, name_fault_detail, name_fault_name};
+ghost use Rattle.clr_edge.specs.Fault.{network_fault_detail, network_fault_name};
+ghost use Rattle.clr_edge.specs.Fault.{staff_fault_detail, staff_fault_name, store_fault_detail};
+ghost use Rattle.clr_edge.specs.Fault.{store_fault_name};
+
+use clr_csv::{CsvFault, StaffFault};
+use clr_desk::DeskFault;
+use clr_net::{Name, NameFault, NetFault};
+use clr_store::StoreFault;
+use clr_tables::TableName;
+use std::alloc::{AllocError, AllocFailed};
+
+/// One of the files that a network and its staff are read from.
+#[derive(Clone, Copy, Debug, PartialEq, Eq)]
+pub enum ImportFile {
+    /// The file of sections.
+    Sections,
+    /// The file of switching points.
+    Points,
+    /// The file of the staff.
+    Staff,
+}
+
+impl ImportFile {
+    /// How a fault line calls the file.
+    pub fn as_str(self) -> &'static str
+        ensures text { result.now ≡ file_text self }
+        ensures short { length result.now ≤ 8 }
+    {
+        match self {
+            ImportFile::Sections => "sections",
+            ImportFile::Points => "points",
+            ImportFile::Staff => "staff",
+        }
+    }
+}
+
+/// Why standard input gives no commands.
+#[derive(Clone, Copy, Debug, PartialEq, Eq)]
+pub enum InputFault {
+    /// The reader failed.
+    ReadFailed,
+    /// There are more than 16,777,216 bytes.
+    TooLong,
+}
+
+/// What ends a command before it has its answer. Its line on standard error is made of `subject`,
+/// `name` and `detail`.
+#[derive(Clone, Copy, Debug, PartialEq, Eq)]
+pub enum Fault {
+    /// Memory ran out, whatever answered it.
+    Memory,
+    /// A file is not there, cannot be read, or is no table of its kind.
+    File(ImportFile, CsvFault),
+    /// The rows of the files are no network.
+    Network(NetFault),
+    /// The rows of the staff's file are no staff.
+    Staff(StaffFault),
+    /// An argument is no name.
+    Name(NameFault),
+    /// The network has no section of this name.
+    UnknownSection(Name),
+    /// The network has no switching point of this name.
+    UnknownPoint(Name),
+    /// Standard input could not be read, or is too long.
+    Input(InputFault),
+    /// The database could not be opened, its tables are no register, or it refused or failed.
+    Store(StoreFault),
+    /// An argument names no clearance, or none that has steps in the round that is named.
+    NoSuch,
+    /// The answer could not be written to standard output.
+    Output,
+    /// The port could not be listened on.
+    Listen,
+}
+
+impl From<AllocError> for Fault {
+    ghost use Rattle.clr_edge.specs.declared.fault.Fault.TheVariants.{Memory};
+
+    ghost from_gives = { λ _ fault. fault ≡ Memory };
+
+    fn from(_error: AllocError) -> Fault {
+        Fault::Memory
+    }
+}
+
+impl<T: Drop> From<AllocFailed<T>> for Fault {
+    ghost use Rattle.clr_edge.specs.declared.fault.Fault.TheVariants.{Memory};
+
+    ghost from_gives = { λ _ fault. fault ≡ Memory };
+
+    fn from(_error: AllocFailed<T>) -> Fault {
+        Fault::Memory
+    }
+}
+
+impl From<NetFault> for Fault {
+    ghost use Rattle.clr_edge.specs.Fault.{of_network};
+
+    ghost from_gives = { λ cause fault. fault ≡ of_network cause };
+
+    fn from(cause: NetFault) -> Fault {
+        match cause {
+            NetFault::NoMemory => Fault::Memory,
+            _ => Fault::Network(cause),
+        }
+    }
+}
+
+impl From<StaffFault> for Fault {
+    ghost use Rattle.clr_edge.specs.Fault.{of_staff};
+
+    ghost from_gives = { λ cause fault. fault ≡ of_staff cause };
+
+    fn from(cause: StaffFault) -> Fault {
+        match cause {
+            StaffFault::NoMemory => Fault::Memory,
+            _ => Fault::Staff(cause),
+        }
+    }
+}
+
+impl From<NameFault> for Fault {
+    ghost use Rattle.clr_edge.specs.Fault.{of_name};
+
+    ghost from_gives = { λ cause fault. fault ≡ of_name cause };
+
+    fn from(cause: NameFault) -> Fault {
+        match cause {
+            NameFault::NoMemory => Fault::Memory,
+            _ => Fault::Name(cause),
+        }
+    }
+}
+
+impl From<StoreFault> for Fault {
+    ghost use Rattle.clr_edge.specs.Fault.{of_store};
+
+    ghost from_gives = { λ cause fault. fault ≡ of_store cause };
+
+    fn from(cause: StoreFault) -> Fault {
+        match cause {
+            StoreFault::NoMemory => Fault::Memory,
+            _ => Fault::Store(cause),
+        }
+    }
+}
+
+impl From<DeskFault> for Fault {
+    ghost use Rattle.clr_edge.specs.Fault.{of_desk};
+
+    ghost from_gives = { λ cause fault. fault ≡ of_desk cause };
+
+    fn from(cause: DeskFault) -> Fault {
+        match cause {
+            DeskFault::NoMemory => Fault::Memory,
+            DeskFault::Store(cause) => Fault::from(cause),
+        }
+    }
+}
+
+impl Fault {
+    ghost use Rattle.clr_edge.specs.Fault.{of_file, of_input};
+
+    /// Why a file gives no rows.
+    pub fn of_file(file: ImportFile, cause: CsvFault) -> Fault
+        ensures { result ≡ of_file file cause }
+    {
+        match cause {
+            CsvFault::NoMemory => Fault::Memory,
+            _ => Fault::File(file, cause),
+        }
+    }
+
+    /// Why standard input gives no bytes.
+    pub fn of_input(cause: CsvFault) -> Fault
+        ensures { result ≡ of_input cause }
+    {
+        match cause {
+            CsvFault::NoMemory => Fault::Memory,
+            CsvFault::TooLong => Fault::Input(InputFault::TooLong),
+            _ => Fault::Input(InputFault::ReadFailed),
+        }
+    }
+}
+
+/// Where a fault is, or what it names.
+#[derive(Clone, Copy, Debug, PartialEq, Eq)]
+pub enum Detail {
+    /// The line says no more.
+    Nothing,
+    /// A row, counted from 1 under the header.
+    Row(usize),
+    /// A row and a column, each counted from 1.
+    Field(usize, usize),
+    /// The place of a byte in an argument, counted from 0.
+    Place(usize),
+    /// The section or the point that the network lacks.
+    Named(Name),
+    /// The version of the tables.
+    Version(i64),
+    /// The table with a row that does not read.
+    Table(TableName),
+}
+
+impl Fault {
+    ghost use Rattle.clr_edge.specs.Fault.{detail_of, name_of, subject_of};
+
+    /// What the fault is about, with which its line begins.
+    pub fn subject(&self) -> &'static str
+        ensures text { result.now ≡ subject_of self.now }
+        ensures short { length result.now ≤ 9 }
+    {
+        match *self {
+            Fault::Memory => "memory",
+            Fault::File(file, _) => file.as_str(),
+            Fault::Network(_) | Fault::UnknownSection(_) | Fault::UnknownPoint(_) => "network",
+            Fault::Staff(_) => "staff",
+            Fault::Name(_) => "name",
+            Fault::Input(_) => "input",
+            Fault::Store(_) => "store",
+            Fault::NoSuch => "clearance",
+            Fault::Output => "output",
+            Fault::Listen => "listen",
+        }
+    }
+
+    /// The fault's name in its line.
+    pub fn name(&self) -> &'static str
+        ensures text { result.now ≡ name_of self.now }
+        ensures short { length result.now ≤ 17 }
+    {
+        match *self {
+            Fault::Memory => "NoMemory",
+            Fault::File(_, fault) => file_fault_name(fault),
+            Fault::Network(fault) => network_fault_name(fault),
+            Fault::Staff(fault) => staff_fault_name(fault),
+            Fault::Name(fault) => name_fault_name(fault),
+            Fault::UnknownSection(_) => "UnknownSection",
+            Fault::UnknownPoint(_) => "UnknownPoint",
+            Fault::Input(fault) => input_fault_name(fault),
+            Fault::Store(fault) => store_fault_name(fault),
+            Fault::NoSuch => "NoSuch",
+            Fault::Output => "WriteFailed",
+            Fault::Listen => "BindFailed",
+        }
+    }
+
+    /// Where the fault is, or what it names.
+    pub fn detail(&self) -> Detail
+        ensures { result ≡ detail_of self.now }
+    {
+        match *self {
+            Fault::Memory | Fault::Input(_) | Fault::NoSuch => Detail::Nothing,
+            Fault::Output | Fault::Listen => Detail::Nothing,
+            Fault::File(_, fault) => file_fault_detail(fault),
+            Fault::Network(fault) => network_fault_detail(fault),
+            Fault::Staff(fault) => staff_fault_detail(fault),
+            Fault::Name(fault) => name_fault_detail(fault),
+            Fault::Store(fault) => store_fault_detail(fault),
+            Fault::UnknownSection(name) | Fault::UnknownPoint(name) => Detail::Named(name),
+        }
+    }
+}
+
+fn input_fault_name(fault: InputFault) -> &'static str
+    ensures text { result.now ≡ input_fault_name fault }
+    ensures short { length result.now ≤ 17 }
+{
+    match fault {
+        InputFault::ReadFailed => "ReadFailed",
+        InputFault::TooLong => "TooLong",
+    }
+}
+
+fn file_fault_name(fault: CsvFault) -> &'static str
+    ensures text { result.now ≡ file_fault_name fault }
+    ensures short { length result.now ≤ 17 }
+{
+    match fault {
+        CsvFault::ReadFailed => "ReadFailed",
+        CsvFault::TooLong => "TooLong",
+        CsvFault::Header => "Header",
+        CsvFault::NotText(_) => "NotText",
+        CsvFault::FieldCount(_) => "FieldCount",
+        CsvFault::BadName(..) => "BadName",
+        CsvFault::BadWord(..) => "BadWord",
+        CsvFault::NoMemory => "NoMemory",
+    }
+}
+
+fn file_fault_detail(fault: CsvFault) -> Detail
+    ensures { result ≡ file_fault_detail fault }
+{
+    match fault {
+        CsvFault::NotText(row) | CsvFault::FieldCount(row) => Detail::Row(row),
+        CsvFault::BadName(row, column) | CsvFault::BadWord(row, column) => {
+            Detail::Field(row, column)
+        }
+        CsvFault::ReadFailed | CsvFault::TooLong | CsvFault::Header | CsvFault::NoMemory => {
+            Detail::Nothing
+        }
+    }
+}
+
+fn network_fault_name(fault: NetFault) -> &'static str
+    ensures text { result.now ≡ network_fault_name fault }
+    ensures short { length result.now ≤ 17 }
+{
+    match fault {
+        NetFault::NoSections => "NoSections",
+        NetFault::TooLarge => "TooLarge",
+        NetFault::SectionTwice(_) => "SectionTwice",
+        NetFault::PointTwice(_) => "PointTwice",
+        NetFault::UnknownEnd(_) => "UnknownEnd",
+        NetFault::SameEnds(_) => "SameEnds",
+        NetFault::NoMemory => "NoMemory",
+    }
+}
+
+fn network_fault_detail(fault: NetFault) -> Detail
+    ensures { result ≡ network_fault_detail fault }
+{
+    match fault {
+        NetFault::SectionTwice(row) | NetFault::PointTwice(row) => Detail::Row(row),
+        NetFault::UnknownEnd(row) | NetFault::SameEnds(row) => Detail::Row(row),
+        NetFault::NoSections | NetFault::TooLarge | NetFault::NoMemory => Detail::Nothing,
+    }
+}
+
+fn staff_fault_name(fault: StaffFault) -> &'static str
+    ensures text { result.now ≡ staff_fault_name fault }
+    ensures short { length result.now ≤ 17 }
+{
+    match fault {
+        StaffFault::Twice(_) => "Twice",
+        StaffFault::UnknownSupervisor(_) => "UnknownSupervisor",
+        StaffFault::OwnSupervisor(_) => "OwnSupervisor",
+        StaffFault::TooMany => "TooMany",
+        StaffFault::NoMemory => "NoMemory",
+    }
+}
+
+fn staff_fault_detail(fault: StaffFault) -> Detail
+    ensures { result ≡ staff_fault_detail fault }
+{
+    match fault {
+        StaffFault::Twice(row) => Detail::Row(row),
+        StaffFault::UnknownSupervisor(row) | StaffFault::OwnSupervisor(row) => Detail::Row(row),
+        StaffFault::TooMany | StaffFault::NoMemory => Detail::Nothing,
+    }
+}
+
+fn name_fault_name(fault: NameFault) -> &'static str
+    ensures text { result.now ≡ name_fault_name fault }
+    ensures short { length result.now ≤ 17 }
+{
+    match fault {
+        NameFault::Empty => "Empty",
+        NameFault::TooLong => "TooLong",
+        NameFault::BadByte(_) => "BadByte",
+        NameFault::NoMemory => "NoMemory",
+    }
+}
+
+fn name_fault_detail(fault: NameFault) -> Detail
+    ensures { result ≡ name_fault_detail fault }
+{
+    match fault {
+        NameFault::BadByte(place) => Detail::Place(place),
+        NameFault::Empty | NameFault::TooLong | NameFault::NoMemory => Detail::Nothing,
+    }
+}
+
+fn store_fault_name(fault: StoreFault) -> &'static str
+    ensures text { result.now ≡ store_fault_name fault }
+    ensures short { length result.now ≤ 17 }
+{
+    match fault {
+        StoreFault::Sql => "Sql",
+        StoreFault::WrongVersion(_) => "WrongVersion",
+        StoreFault::BadRow(_) => "BadRow",
+        StoreFault::NoMemory => "NoMemory",
+    }
+}
+
+fn store_fault_detail(fault: StoreFault) -> Detail
+    ensures { result ≡ store_fault_detail fault }
+{
+    match fault {
+        StoreFault::WrongVersion(version) => Detail::Version(version),
+        StoreFault::BadRow(table) => Detail::Table(table),
+        StoreFault::Sql | StoreFault::NoMemory => Detail::Nothing,
+    }
+}

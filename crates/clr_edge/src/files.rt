@@ -1,0 +1,104 @@
+//! The files that a network and its staff are read from, each opened when its turn comes.
+ghost use Rattle.std.specs.Prelude.{◌≡◌, ◌≢◌, ◌⊎◌, Err, IfErr, IfSome, IsErrOf};
+ghost use Rattle.clr_csv.specs.Answers.{GivesUnlessFailed};
+ghost use Rattle.clr_csv.specs.Failures.{Rose};
+ghost use Rattle.clr_csv.specs.Points.{points_of};
+ghost use Rattle.clr_csv.specs.Sections.{sections_of};
+ghost use Rattle.clr_csv.specs.StaffRows.{staff_of};
+ghost use Rattle.clr_edge.specs.Fault.{IsOfFile};
+ghost use Rattle.clr_edge.specs.Files.{GivesRows, told_of};
+
+use crate::fault::{Fault, ImportFile};
+use clr_csv::{CountedRead, CsvFault, StaffRow, read_points, read_sections, read_staff};
+use clr_net::{PointRow, SectionRow};
+use std::alloc::Global;
+
+/// A file that is opened when its turn comes. It counts its failures, an open that fails among
+/// them.
+pub trait Source: CountedRead {
+    /// Opens the file at its start. One that cannot be opened counts as one that cannot be read.
+    fn open(&mut self) -> Result<(), CsvFault>
+        ensures bytes { Self.remaining self.new ≡ Self.remaining self.old }
+        ensures fault { IfErr result (λ fault.
+            (fault ≡ CsvFault.NoMemory) ⊎ (fault ≡ CsvFault.ReadFailed)) }
+        ensures cause { IsErrOf result CsvFault.ReadFailed
+            → Rose (Self.failure_count self.old) (Self.failure_count self.new) }
+        ensures others { result ≢ Err CsvFault.ReadFailed
+            → Self.failure_count self.new ≡ Self.failure_count self.old };
+}
+
+/// The rows of the file of sections.
+pub fn sections_from<S: Source>(alloc: Global, source: &mut S) -> Result<Vec<SectionRow>, Fault>
+    ensures rows { IfSome (S.remaining source.old) (λ file. GivesRows ImportFile.Sections
+        (λ rows. rows.items) (told_of ImportFile.Sections (sections_of file)) result) }
+    ensures fault { IfErr result (IsOfFile ImportFile.Sections) }
+    ensures cause { IsErrOf result (Fault.File ImportFile.Sections CsvFault.ReadFailed)
+        → Rose (S.failure_count source.old) (S.failure_count source.new) }
+{
+    told_of(ImportFile::Sections, sections_in(alloc, source))
+}
+
+fn sections_in<S: Source>(alloc: Global, source: &mut S) -> Result<Vec<SectionRow>, CsvFault>
+    ensures rows { IfSome (S.remaining source.old) (λ file.
+        GivesUnlessFailed (λ rows. rows.items) (sections_of file) result) }
+    ensures cause { IsErrOf result CsvFault.ReadFailed
+        → Rose (S.failure_count source.old) (S.failure_count source.new) }
+{
+    source.open()?;
+    let rows = read_sections(alloc, source)?;
+    Ok(rows)
+}
+
+/// The rows of the file of switching points.
+pub fn points_from<S: Source>(alloc: Global, source: &mut S) -> Result<Vec<PointRow>, Fault>
+    ensures rows { IfSome (S.remaining source.old) (λ file. GivesRows ImportFile.Points
+        (λ rows. rows.items) (told_of ImportFile.Points (points_of file)) result) }
+    ensures fault { IfErr result (IsOfFile ImportFile.Points) }
+    ensures cause { IsErrOf result (Fault.File ImportFile.Points CsvFault.ReadFailed)
+        → Rose (S.failure_count source.old) (S.failure_count source.new) }
+{
+    told_of(ImportFile::Points, points_in(alloc, source))
+}
+
+fn points_in<S: Source>(alloc: Global, source: &mut S) -> Result<Vec<PointRow>, CsvFault>
+    ensures rows { IfSome (S.remaining source.old) (λ file.
+        GivesUnlessFailed (λ rows. rows.items) (points_of file) result) }
+    ensures cause { IsErrOf result CsvFault.ReadFailed
+        → Rose (S.failure_count source.old) (S.failure_count source.new) }
+{
+    source.open()?;
+    let rows = read_points(alloc, source)?;
+    Ok(rows)
+}
+
+/// The rows of the file of the staff.
+pub fn staff_from<S: Source>(alloc: Global, source: &mut S) -> Result<Vec<StaffRow>, Fault>
+    ensures rows { IfSome (S.remaining source.old) (λ file. GivesRows ImportFile.Staff
+        (λ rows. rows.items) (told_of ImportFile.Staff (staff_of file)) result) }
+    ensures fault { IfErr result (IsOfFile ImportFile.Staff) }
+    ensures cause { IsErrOf result (Fault.File ImportFile.Staff CsvFault.ReadFailed)
+        → Rose (S.failure_count source.old) (S.failure_count source.new) }
+{
+    told_of(ImportFile::Staff, staff_in(alloc, source))
+}
+
+fn staff_in<S: Source>(alloc: Global, source: &mut S) -> Result<Vec<StaffRow>, CsvFault>
+    ensures rows { IfSome (S.remaining source.old) (λ file.
+        GivesUnlessFailed (λ rows. rows.items) (staff_of file) result) }
+    ensures cause { IsErrOf result CsvFault.ReadFailed
+        → Rose (S.failure_count source.old) (S.failure_count source.new) }
+{
+    source.open()?;
+    let rows = read_staff(alloc, source)?;
+    Ok(rows)
+}
+
+/// What the rows of a file come to, its faults told of it.
+fn told_of<T>(file: ImportFile, rows: Result<T, CsvFault>) -> Result<T, Fault>
+    ensures { result ≡ told_of file rows }
+{
+    match rows {
+        Ok(rows) => Ok(rows),
+        Err(cause) => Err(Fault::of_file(file, cause)),
+    }
+}

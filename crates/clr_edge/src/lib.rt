@@ -1,0 +1,11 @@
+//! The files at the paths that a command line names, and what ends a command before its answer.
+#![tactic(auto)]
+
+pub mod database;
+pub mod fault;
+pub mod files;
+pub mod line;
+pub mod loopback;
+pub mod machine;
+pub mod output;
+pub mod paths;

@@ -1,0 +1,77 @@
+//! What takes connections on the machine itself.
+ghost use Rattle.std.specs.Prelude.{◌≡◌, ◌⊎◌, ◌∷◌, ℕ, [], IfErr, ⊤};
+ghost use Rattle.std.specs.Net.Addr.{IsV4And, ipv4_octets};
+ghost use Rattle.std.specs.Net.Socket.{socket_ip, socket_port};
+
+use crate::fault::Fault;
+use crate::machine::Machine;
+use sqlite::Start;
+use std::io;
+use std::io::{Read, Write};
+use std::net::{IpAddr, Ipv4Addr, SocketAddr, TcpListener, TcpStream};
+
+/// What takes connections on 127.0.0.1, and on no other address.
+pub trait Loopback {
+    /// What stands on a port and takes its connections.
+    type Listener: Drop;
+
+    /// A handle of a connection.
+    type Stream: Read + Write + Drop;
+
+    /// That a port could not be had. Only `listen` says so.
+    ghost refuses: { Self → ℕ → Type 0 };
+
+    /// Listens on a port. `Listen` where another does, or where the system allows none; `Memory`
+    /// where memory ran out.
+    fn listen(&self, port: u16) -> Result<Self::Listener, Fault>
+        ensures fault { IfErr result (λ fault. (fault ≡ Fault.Memory)
+            ⊎ ((fault ≡ Fault.Listen) × refuses self.now port)) };
+
+    /// Waits for the next connection on a port.
+    fn accept(&self, listener: &Self::Listener) -> io::Result<Connection<Self::Stream>>;
+}
+
+/// A connection, which is closed once both handles are let go.
+#[derive(Drop)]
+pub struct Connection<S> {
+    /// What the request is read from.
+    pub reader: S,
+    /// What the response is written to.
+    pub writer: S,
+}
+
+impl<'a, S: Start> Loopback for Machine<'a, S> {
+    type Listener = TcpListener;
+
+    type Stream = TcpStream;
+
+    ghost refuses = { λ _ _. ⊤ };
+
+    fn listen(&self, port: u16) -> Result<TcpListener, Fault>
+        ensures fault { IfErr result (λ fault. (fault ≡ Fault.Memory)
+            ⊎ ((fault ≡ Fault.Listen) × ⊤)) }
+    {
+        match TcpListener::bind(self.rt, local_address(port)) {
+            Ok(listener) => Ok(listener),
+            Err(error) => match error.kind() {
+                io::ErrorKind::OutOfMemory => Err(Fault::Memory),
+                _ => Err(Fault::Listen),
+            },
+        }
+    }
+
+    fn accept(&self, listener: &TcpListener) -> io::Result<Connection<TcpStream>> {
+        let (reader, _) = listener.accept()?;
+        let writer = reader.try_clone()?;
+        Ok(Connection { reader, writer })
+    }
+}
+
+/// A port of 127.0.0.1.
+pub fn local_address(port: u16) -> SocketAddr
+    ensures ip { IsV4And (socket_ip result)
+        (λ address. ipv4_octets address ≡ 127 ∷ 0 ∷ 0 ∷ 1 ∷ []) }
+    ensures port { socket_port result ≡ port }
+{
+    SocketAddr::new(IpAddr::V4(Ipv4Addr::new(127, 0, 0, 1)), port)
+}

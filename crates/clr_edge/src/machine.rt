@@ -1,0 +1,59 @@
+//! The machine that the program runs on: its memory, its files, its databases and its ports.
+ghost use Rattle.std.specs.Prelude.{[], true};
+
+use crate::paths::{AtPath, Opens, Paths};
+use sqlite::Start;
+use std::alloc::Global;
+
+/// The machine, with what its database files hold.
+#[derive(Drop)]
+pub struct Machine<'a, S: Start> {
+    /// What gives memory, opens files and listens.
+    pub(crate) rt: &'a HostRuntime,
+    /// What the database files hold, which is for contracts alone.
+    pub(crate) files: S,
+}
+
+impl<'a, S: Start> Machine<'a, S> {
+    /// The machine of a runtime.
+    pub fn new(rt: &'a HostRuntime, files: S) -> Machine<'a, S> {
+        Machine { rt, files }
+    }
+}
+
+impl<'a, S: Start> Alloc for Machine<'a, S> {
+    type A = Global;
+
+    fn alloc(&self) -> Global {
+        self.rt.alloc()
+    }
+}
+
+impl<'a, S: Start> Opens<'a> for Machine<'a, S> {
+    ghost use Rattle.std.specs.Prelude.{None};
+
+    type File = AtPath<'a, HostRuntime>;
+
+    ghost bytes_at = { λ _ _. None };
+
+    fn at(&self, path: &'a str) -> AtPath<'a, HostRuntime> {
+        Paths::new(self.rt).at(path)
+    }
+}
+
+/// Files that may hold anything. A torn write leaves each of their bytes old or new, so most
+/// commits sync once, as under SQLite's `synchronous=FULL`.
+#[derive(Clone, Copy)]
+pub struct AnyFiles;
+
+impl Start for AnyFiles {
+    ghost log = { [] };
+
+    ghost db = { [] };
+
+    ghost is_mixing = { true };
+
+    fn mixes() -> bool {
+        true
+    }
+}

@@ -1,4 +1,0 @@
-pub mod CommandLine
-pub mod Outcome
-pub mod Serve
-pub mod Streams

@@ -1,8 +1,0 @@
-pub mod Fence
-pub mod Init
-pub mod Lines
-pub mod Order
-pub mod PrintedLines
-pub mod Replies
-pub mod Run
-pub mod Stored
