@@ -1,9 +1,9 @@
 //! A command line is run, and what it gave is compared with what must come.
 use crate::line::{Stream, Told};
+use clr_command_line::command_line::command_line_over;
 use clr_csv::Counted;
-use clr_files::paths::Paths;
-use clr_program::command_line::command_line;
-use clr_subcommands::machine::{AnyFiles, Machine};
+use clr_edge::machine::{AnyFiles, Machine};
+use clr_edge::paths::Paths;
 use std::alloc::{AllocError, Global};
 use std::fmt;
 
@@ -65,7 +65,7 @@ pub fn run_line(rt: &HostRuntime, line: &str, input: &str) -> anyhow::Result<Run
         .collect(rt.alloc())?;
     let mut output = Counted::new(Vec::new(rt.alloc()));
     let mut errors = Counted::new(Vec::new(rt.alloc()));
-    let status = command_line(
+    let status = command_line_over(
         &Machine::new(rt, AnyFiles),
         &Paths::new(rt),
         words.as_slice(),

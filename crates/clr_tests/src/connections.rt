@@ -1,13 +1,13 @@
 //! Connections that are served: one over loopback in one process, where the client connects, writes
 //! and ends its writing before it is served; and some on which nothing comes through.
-ghost use Rattle.std.specs.Prelude.{◌≡◌, IfErr};
+ghost use Rattle.std.specs.Prelude.{◌≡◌, ◌⊎◌, IfErr, ⊤};
 
 use crate::worked::{REQUEST, RESPONSE, network, new_desk};
+use clr_commands::serve::serve_connections;
 use clr_csv::Counted;
-use clr_files::fault::Fault;
-use clr_program::serve::serve_connections;
-use clr_subcommands::loopback::{Connection, Loopback, local_address};
-use clr_subcommands::machine::{AnyFiles, Machine};
+use clr_edge::fault::Fault;
+use clr_edge::loopback::{Connection, Loopback, local_address};
+use clr_edge::machine::{AnyFiles, Machine};
 use std::alloc::Global;
 use std::cell::Cell;
 use std::io;
@@ -101,8 +101,11 @@ impl Loopback for Torn {
 
     type Stream = TornStream;
 
+    ghost refuses = { λ _ _. ⊤ };
+
     fn listen(&self, _port: u16) -> Result<(), Fault>
-        ensures fault { IfErr result (λ fault. fault ≡ Fault.Listen) }
+        ensures fault { IfErr result (λ fault. (fault ≡ Fault.Memory)
+            ⊎ ((fault ≡ Fault.Listen) × ⊤)) }
     {
         Ok(())
     }

@@ -1,9 +1,8 @@
 //! The longest file, and readers that fail.
+use crate::fakes::FailsAt;
 use crate::worked::SECTIONS;
 use clr_csv::{Counted, CountedRead, CsvFault, read_sections};
 use std::alloc::Global;
-use std::io;
-use std::io::Read;
 use std::test::Fail;
 
 /// The fault of a file of sections, if it has one. Want of memory is never what a test asks for: it
@@ -41,27 +40,6 @@ fn longest_file_reads(rt: HostRuntime) -> Result<(), Fail> {
     Ok(())
 }
 
-/// Gives four bytes a call, and fails at one call.
-#[derive(Drop)]
-struct FailsAt<'a> {
-    bytes: &'a [u8],
-    calls_before: u64,
-}
-
-impl<'a> Read for FailsAt<'a> {
-    fn read(&mut self, buf: &mut [u8]) -> io::Result<usize> {
-        if self.calls_before == 0 {
-            self.calls_before = u64::MAX;
-            return Err(io::ErrorKind::Interrupted.into());
-        }
-        self.calls_before -= 1;
-        let count = self.bytes.len().min(4).min(buf.len());
-        buf[..count].copy_from_slice(&self.bytes[..count]);
-        self.bytes = &self.bytes[count..];
-        Ok(count)
-    }
-}
-
 #[test]
 fn failures_are_told(rt: HostRuntime) -> Result<(), Fail> {
     // The last call is the one that finds the end.
@@ -69,6 +47,7 @@ fn failures_are_told(rt: HostRuntime) -> Result<(), Fail> {
     for calls_before in 0..=calls {
         let mut reader = Counted::new(FailsAt {
             bytes: SECTIONS,
+            bytes_per_call: 4,
             calls_before,
         });
         let is_read = calls_before == calls;

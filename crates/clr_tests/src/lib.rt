@@ -8,6 +8,8 @@ mod csv;
 #[cfg(test)]
 mod desk;
 #[cfg(test)]
+mod fakes;
+#[cfg(test)]
 mod http;
 #[cfg(test)]
 mod limits;

@@ -52,7 +52,10 @@ fn fill_and_thin<S: Shelf<PointState>, R: Abort>(rt: &R, alloc: Global) -> Resul
     assert_eq!(rt; shelf.len(), 2000);
     for place in 0..2000 {
         let name = numbered(alloc, 'P', place)?;
-        assert_eq!(rt; shelf.at(usize::from(place)).point, name);
+        assert_eq!(rt;
+            shelf.at(usize::from(place)).map(|row| row.point),
+            Some(name)
+        );
     }
 
     // Every eighth stays.
@@ -66,7 +69,10 @@ fn fill_and_thin<S: Shelf<PointState>, R: Abort>(rt: &R, alloc: Global) -> Resul
     assert_eq!(rt; shelf.len(), 250);
     for place in 0..250 {
         let name = numbered(alloc, 'P', place * 8)?;
-        assert_eq!(rt; shelf.at(usize::from(place)).point, name);
+        assert_eq!(rt;
+            shelf.at(usize::from(place)).map(|row| row.point),
+            Some(name)
+        );
     }
     Ok(())
 }

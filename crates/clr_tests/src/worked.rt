@@ -53,10 +53,15 @@ pub fn network(alloc: Global) -> Result<Network, Fail> {
     Ok(Network::build(alloc, sections, points)?)
 }
 
+/// The worked staff.
+pub fn staff(alloc: Global) -> Result<Staff, Fail> {
+    let rows = read_staff(alloc, &mut Counted::new(STAFF))?;
+    Ok(Staff::build(alloc, rows)?)
+}
+
 /// A desk over new tables of a network and the worked staff.
 pub fn new_desk(alloc: Global, network: Network) -> Result<Desk<MemStore>, Fail> {
-    let rows = read_staff(alloc, &mut Counted::new(STAFF))?;
-    let staff = Staff::build(alloc, rows)?;
+    let staff = staff(alloc)?;
     let connection = Connection::open_in_memory(alloc)?;
     let desk = Desk::create(alloc, connection, network, staff).ok();
     Ok(desk.ok_or("new tables")?)
