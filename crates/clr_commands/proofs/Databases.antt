@@ -25,23 +25,10 @@ pub IfSome-from : {A : Type 0} (o : Option A) (P Q : A → Type 0) → ((a : A) 
 IfSome-from None P Q from is = tt
 IfSome-from (Some a) P Q from is = from a is
 
--- what holds of an answer, behind which its database is closed
-pub OnOk-closed : {T : Type 0} (told result : Result T Fault) (P : Type 0) → OnOk told P
-    → (result ≡ told) ⊎ IsErrAnd result (λ fault. IsOfLine fault) → OnOk result P
-OnOk-closed {T} told result P is (inl same) = subst (λ (r : Result T Fault). OnOk r P) (sym same) is
-OnOk-closed told (Ok value) P is (inr failed) = absurd failed
-OnOk-closed told (Err fault) P is (inr failed) = tt
-
+-- what follows of the value of an answer
 pub OnOk-from : {T : Type 0} (told : Result T Fault) (P Q : Type 0) → (P → Q) → OnOk told P → OnOk told Q
 OnOk-from (Ok value) P Q from is = from is
 OnOk-from (Err fault) P Q from is = tt
-
--- what is told of a stored register, behind which its database is closed
-pub TellsStored-closed : {T : Type 0} (view : T → List ℕ) (expected : Result (List ℕ) Fault) (told result : Result T Fault)
-    → TellsStored view expected told → (result ≡ told) ⊎ IsErrAnd result (λ fault. IsOfLine fault) → TellsStored view expected result
-TellsStored-closed view expected told result tells (inl same) = subst (λ r. TellsStored view expected r) (sym same) tells
-TellsStored-closed view expected told (Ok value) tells (inr is) = absurd is
-TellsStored-closed view expected told (Err fault) tells (inr is) = λ other. absurd (other is)
 
 -- an answer that only want of memory may come in place of
 pub TellsStored-gives : {T : Type 0} (view : T → List ℕ) (gave expected : Result (List ℕ) Fault) (told : Result T Fault)

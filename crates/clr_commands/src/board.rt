@@ -13,7 +13,7 @@ ghost use Rattle.clr_rules.specs.Register.{Register};
 use clap::ArgMatches;
 use clr_args::words::{offset_of, word_of};
 use clr_book::Book;
-use clr_edge::database::{Databases, close_behind, desk_over};
+use clr_edge::database::{Databases, close_read, desk_over};
 use clr_edge::fault::Fault;
 use clr_print::print_board;
 use clr_rules::{Hold, PointState, Record, StepRow};
@@ -29,9 +29,10 @@ pub fn board<R: Databases + AllocGlobal>(rt: &R, matches: &ArgMatches<'_>) -> Re
         (R.is_at rt.now (word_in (rows_of (found_of matches.now)) (codes "DB")))) }
 {
     let offset = offset_of(matches);
-    let connection = rt.database(word_of(matches, "DB"))?;
+    let connection = rt.stored(word_of(matches, "DB"))?;
     let (told, connection) = board_over(rt.alloc(), connection, offset);
-    close_behind(connection, told)
+    close_read(connection);
+    told
 }
 
 /// The printed board of the register that a database has.

@@ -14,7 +14,7 @@ ghost use Rattle.clr_rules.specs.Register.{Register};
 use clap::ArgMatches;
 use clr_args::words::{offset_of, word_of};
 use clr_book::Book;
-use clr_edge::database::{Databases, close_behind, desk_over};
+use clr_edge::database::{Databases, close_read, desk_over};
 use clr_edge::fault::Fault;
 use clr_print::print_order;
 use clr_rules::{ClearanceId, Hold, PointState, Record, StepRow};
@@ -32,9 +32,10 @@ pub fn order<R: Databases + AllocGlobal>(rt: &R, matches: &ArgMatches<'_>) -> Re
     let clearance = word_of(matches, "CLEARANCE");
     let round = word_of(matches, "ROUND");
     let offset = offset_of(matches);
-    let connection = rt.database(word_of(matches, "DB"))?;
+    let connection = rt.stored(word_of(matches, "DB"))?;
     let (told, connection) = order_over(rt.alloc(), connection, clearance, round, offset);
-    close_behind(connection, told)
+    close_read(connection);
+    told
 }
 
 /// The printed order of the register that a database has.

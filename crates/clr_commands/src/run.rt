@@ -101,7 +101,7 @@ pub fn run_of_database<D: Databases, I: CountedRead>(
         → Rose (I.failure_count input.old) (I.failure_count input.new) }
     ensures waits { InputWaits result input.old input.new }
 {
-    let connection = databases.database(path)?;
+    let connection = databases.stored(path)?;
     let (printed, connection) = run_connected(alloc, connection, input);
     let closed = close(connection);
     printed_behind(printed, closed)

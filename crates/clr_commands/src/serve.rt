@@ -73,7 +73,7 @@ pub fn serve<R: Databases + Loopback + AllocGlobal, W: CountedFlush, E: CountedF
     ensures served { OnOk result
         (ServesAt R.Medium.Disk (R.is_at rt.now (string_bytes args.now.path))) }
 {
-    let connection = rt.database(args.path.as_str())?;
+    let connection = rt.stored(args.path.as_str())?;
     let (port, count) = (args.port, args.count);
     let (served, connection) = serve_over(rt.alloc(), rt, connection, port, count, output, errors);
     let closed = close(connection);

@@ -1,5 +1,5 @@
 //! The databases that registers are stored in, each opened when its turn comes, and closed.
-ghost use Rattle.std.specs.Prelude.{◌≡◌, ◌⊎◌, ℕ, List, Option, IfErr, IfOk, IfSome, IsErrAnd, OnErr};
+ghost use Rattle.std.specs.Prelude.{◌≡◌, ◌⊎◌, ℕ, List, Option, IfErr, IfOk, IfSome, OnErr};
 ghost use Rattle.std.specs.Prelude.{OnOk, ⊤};
 ghost use Rattle.sqlite.specs.Effect.{Database};
 ghost use Rattle.sqlite.specs.Files.{over_files};
@@ -19,6 +19,8 @@ use clr_store::{Back, Store, StoreFault};
 use sqlite::{Alter, Connection, FileFrom, FileStore, Start};
 use sqlite_disk::Disk;
 use std::alloc::Global;
+use std::rt::Files;
+use std::{fs, io};
 
 /// What opens the database in a file.
 pub trait Databases {
@@ -33,6 +35,15 @@ pub trait Databases {
 
     /// Opens the database in a file. A file that is not there is made, and its database is empty.
     fn database(&self, path: &str) -> Result<Connection<FileStore<Self::Medium>>, Fault>
+        ensures at { IfOk result (λ connection.
+            is_at self.now path.now (state over_files connection).now) }
+        ensures known { IfSome (register_at self.now path.now) (λ R. IfOk result (λ connection.
+            HasRegister over_files R connection)) }
+        ensures fault { IfErr result IsOfLine };
+
+    /// The same of a file that has a database already. One that is not there, or is empty, is
+    /// refused, and no file is made or changed.
+    fn stored(&self, path: &str) -> Result<Connection<FileStore<Self::Medium>>, Fault>
         ensures at { IfOk result (λ connection.
             is_at self.now path.now (state over_files connection).now) }
         ensures known { IfSome (register_at self.now path.now) (λ R. IfOk result (λ connection.
@@ -58,20 +69,31 @@ impl<'a, S: Start + Copy> Databases for Machine<'a, S> {
             Err((error, _)) => Err(Fault::from(StoreFault::from(error))),
         }
     }
+
+    fn stored(&self, path: &str) -> Result<Connection<FileStore<FileFrom<S>>>, Fault>
+        ensures at { IfOk result (λ _. ⊤) }
+        ensures fault { IfErr result IsOfLine }
+    {
+        expect_bytes(self.rt, path)?;
+        self.database(path)
+    }
 }
 
-/// Closes a database behind what was told of it, which is lost where it cannot be closed.
-pub fn close_behind<F: Disk + Drop>(
-    connection: Connection<FileStore<F>>,
-    told: Result<String, Fault>,
-) -> Result<String, Fault>
-    ensures { (result ≡ told) ⊎ IsErrAnd result IsOfLine }
+/// Refuses a file that is not there, cannot be looked at or is empty: it has no database.
+fn expect_bytes<R: Files>(files: &R, path: &str) -> Result<(), Fault>
+    ensures { IfErr result IsOfLine }
 {
-    let closed = close(connection);
-    match (told, closed) {
-        (Ok(_), Err(fault)) => Err(fault),
-        (told, _) => told,
+    match fs::metadata(files, path) {
+        Ok(metadata) if metadata.len() > 0 => Ok(()),
+        Err(error) if error.kind() == io::ErrorKind::OutOfMemory => Err(Fault::Memory),
+        _ => Err(Fault::Store(StoreFault::Sql)),
     }
+}
+
+/// Closes a database that was only read. What was read of it stands, also where it cannot be
+/// closed, as on a full disk.
+pub fn close_read<F: Disk + Drop>(connection: Connection<FileStore<F>>) {
+    let _closed = close(connection);
 }
 
 /// Closes a database.

@@ -8,7 +8,7 @@ use Rattle.sqlite.specs.Held.{state}
 use Rattle.clr_args.specs.Asked.{offset_in}
 use Rattle.clr_commands.specs.Stored.{TellsStored}
 use Rattle.clr_edge.specs.Database.{HasRegister, ReadsAt}
-use Rattle.clr_commands.proofs.Databases.{IfSome-from, OnOk-closed, OnOk-from, TellsStored-closed}
+use Rattle.clr_commands.proofs.Databases.{IfSome-from, OnOk-from}
 use Rattle.clr_commands.proofs.board.board.Goals as goal
 
 -- the board of the register that the database has
@@ -21,15 +21,13 @@ returns-clause-told g c =
     let rows = rows_of (found_of c.args.matches.now) in
     let tells : (R : Register) → HasRegister over_files R c.in_ok-connection.connection
     → TellsStored (λ text. string_bytes text)
-    (Ok (board_text R.records (offset_in (first_of (codes "offset") rows)))) c.close_behind.result =
+    (Ok (board_text R.records (offset_in (first_of (codes "offset") rows)))) c.board_over-told.result.0 =
     λ R has.
     let fits : FitsSigned w16 c.offset_of-offset.result = search rules in
     let offset : to_z w16 (of_z w16 c.offset_of-offset.result) ≡ offset_in (first_of (codes "offset") rows) =
     to_z-of_z fits ∙ c.offset_of-offset.ensures.named in
-    TellsStored-closed _ _ told _
     (subst (λ expected. TellsStored (λ text. string_bytes text) expected told)
-    (λ i. Ok (board_text R.records (offset i))) (c.board_over-told.ensures.told R has))
-    c.close_behind.ensures in
+    (λ i. Ok (board_text R.records (offset i))) (c.board_over-told.ensures.told R has)) in
     IfSome-from _ _ _ tells known
 
 -- the database is the one at the path
@@ -39,5 +37,5 @@ returns-clause-read g c =
     c.word_of.ensures c.in_ok-connection.ensures.at in
     let Reads : Type 0 = ReadsAt g.R.Databases.Medium.Disk
     (g.R.Databases.is_at c.args.rt.now (word_in (rows_of (found_of c.args.matches.now)) (codes "DB"))) in
-    OnOk-closed _ _ Reads (OnOk-from _ _ Reads (λ read. (c.in_ok-connection.connection, c.board_over-told.result.1, at, read))
-    c.board_over-told.ensures.read) c.close_behind.ensures
+    OnOk-from _ _ Reads (λ read. (c.in_ok-connection.connection, c.board_over-told.result.1, at, read))
+    c.board_over-told.ensures.read
