@@ -9,9 +9,10 @@ ghost use Rattle.clr_edge.specs.Fault.{IsOfFile};
 ghost use Rattle.clr_edge.specs.Files.{GivesRows, told_of};
 
 use crate::fault::{Fault, ImportFile};
-use clr_csv::{CountedRead, CsvFault, StaffRow, read_points, read_sections, read_staff};
+use clr_csv::{Counted, CountedRead, CsvFault, StaffRow, read_points, read_sections, read_staff};
 use clr_net::{PointRow, SectionRow};
 use std::alloc::Global;
+use std::io::Read;
 
 /// A file that is opened when its turn comes. It counts its failures, an open that fails among
 /// them.
@@ -25,6 +26,13 @@ pub trait Source: CountedRead {
             → Rose (Self.failure_count self.old) (Self.failure_count self.new) }
         ensures others { result ≢ Err CsvFault.ReadFailed
             → Self.failure_count self.new ≡ Self.failure_count self.old };
+}
+
+/// A reader that stands at its start is open already.
+impl<R: Read> Source for Counted<R> {
+    fn open(&mut self) -> Result<(), CsvFault> {
+        Ok(())
+    }
 }
 
 /// The rows of the file of sections.
