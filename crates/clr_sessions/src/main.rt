@@ -23,7 +23,7 @@ fn main(rt: HostRuntime) -> ExitCode {
     }
 }
 
-/// What the sessions came to so far.
+/// How many sessions were replayed so far, and whether all went well.
 #[derive(Drop)]
 struct Tally {
     sessions: usize,
@@ -41,8 +41,8 @@ struct Own {
     replies: String,
 }
 
-/// Replays each session, and says of each how it went, and what they were in all. Whether all went
-/// as they must.
+/// Replays each session, and says of each how it went, and how many there were. The result says
+/// whether all went well.
 fn replay_all(rt: &HostRuntime) -> anyhow::Result<bool> {
     let names = session_names(rt)?;
     let mut tally = Tally {

@@ -7,7 +7,7 @@ use anyhow::Context;
 use std::alloc::Global;
 use std::fs;
 
-/// What a session has come to.
+/// How far a session has been replayed.
 #[derive(Drop)]
 pub struct Session<'t> {
     alloc: Global,
@@ -25,7 +25,7 @@ pub struct Session<'t> {
     /// What must come from it, or from the run of the commands since the register was closed.
     awaited: Vec<Awaited<'t>>,
     commands: Vec<&'t str>,
-    /// All commands of the session, and the replies that must come to them.
+    /// All commands of the session, and the replies that they must have.
     all_commands: Vec<&'t str>,
     replies: Vec<Awaited<'t>>,
     /// The own replies, those of the session that they must equal, and whether the last command
@@ -169,7 +169,7 @@ impl<'t> Session<'t> {
         Ok(())
     }
 
-    /// The reply that must come to the last command.
+    /// The reply that the last command must have.
     fn reply(&mut self, text: &'t str) -> anyhow::Result<()> {
         let awaited = Awaited {
             line: self.line,

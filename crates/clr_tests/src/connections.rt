@@ -15,8 +15,8 @@ use std::io::{Read, Write};
 use std::net::{Shutdown, TcpStream};
 use std::test::Fail;
 
-/// Serves so many connections from a new desk, and gives the lines that tell which failed. Want of
-/// memory is never what a test asks for: it ends the test.
+/// Serves so many connections from a new desk, and gives the lines that tell which failed. Out of
+/// memory ends the test.
 fn failures<L: Loopback>(
     alloc: Global,
     net: &L,
@@ -41,7 +41,7 @@ fn client(rt: &HostRuntime, port: u16) -> io::Result<TcpStream> {
     Ok(client)
 }
 
-/// All that a client reads. A 503, which is sent for want of memory, ends the test.
+/// All that a client reads. A 503, which is sent when out of memory, ends the test.
 fn response(alloc: Global, mut client: TcpStream) -> Result<String, Fail> {
     let mut response = Vec::new(alloc);
     client.read_to_end(&mut response)?;
@@ -64,8 +64,8 @@ fn a_request_and_its_response_byte_for_byte(rt: HostRuntime) -> Result<(), Fail>
     Ok(())
 }
 
-/// Connections on which nothing comes through: each first one is not accepted, each second one
-/// cannot be read, each third one not be written to.
+/// Connections on which nothing comes through: by turns one is not accepted, one cannot be read and
+/// one cannot be written to.
 #[derive(Drop)]
 struct Torn {
     accepted: Cell<u8>,

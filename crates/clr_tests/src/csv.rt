@@ -5,8 +5,7 @@ use clr_csv::{Counted, CountedRead, CsvFault, read_sections};
 use std::alloc::Global;
 use std::test::Fail;
 
-/// The fault of a file of sections, if it has one. Want of memory is never what a test asks for: it
-/// ends the test.
+/// The fault of a file of sections, if it has one. Out of memory ends the test.
 fn fault_of<R: CountedRead>(alloc: Global, reader: &mut R) -> Result<Option<CsvFault>, Fail> {
     match read_sections(alloc, reader) {
         Err(CsvFault::NoMemory) => Err(CsvFault::NoMemory.into()),

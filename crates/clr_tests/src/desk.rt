@@ -1,4 +1,4 @@
-//! Runs of a desk over tables in memory. Commands and replies are lines, as `gridclear run` has them.
+//! Runs of a desk over tables in memory. Commands and replies are lines, as in `gridclear run`.
 use crate::worked::{chain, network, new_desk};
 use clr_desk::Run;
 use clr_net::Network;

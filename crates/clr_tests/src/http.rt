@@ -195,7 +195,7 @@ fn responses(alloc: Global, exchanges: &[(&str, &str)]) -> Result<Vec<Vec<u8>>, 
     Ok(serve_all(alloc, &mut desk, requests.as_slice())?)
 }
 
-/// To each request its response goes out. A 503, which is sent for want of memory, ends the test.
+/// To each request its response goes out. A 503, which is sent when out of memory, ends the test.
 fn expect_responses<R: Abort>(
     rt: &R,
     alloc: Global,

@@ -32,8 +32,7 @@ fn chain_of_five_thousand_sections(rt: HostRuntime) -> Result<(), Fail> {
     Ok(())
 }
 
-/// The fault of a chain, if it has one. Want of memory is never what a test asks for: it ends the
-/// test.
+/// The fault of a chain, if it has one. Out of memory ends the test.
 fn chain_fault(alloc: Global, sections: u16, points: u16) -> Result<Option<NetFault>, Fail>
     requires { 1 < sections }
 {
@@ -57,7 +56,7 @@ fn one_section_too_many(rt: HostRuntime) -> Result<(), Fail> {
 }
 
 /// The fault of the staff E0001, E0002 and on, each but the first with the one before as supervisor,
-/// if it has one. Want of memory ends the test.
+/// if it has one. Out of memory ends the test.
 fn staff_fault(alloc: Global, count: u16) -> Result<Option<StaffFault>, Fail> {
     let mut rows = Vec::new(alloc);
     let mut supervisor = None;

@@ -7,8 +7,8 @@ use std::alloc::Global;
 use std::process::Abort;
 use std::test::Fail;
 
-/// Why no desk is opened over the worked register, once a statement has changed its tables. Want of
-/// memory is never what a test asks for: it ends the test.
+/// Why no desk is opened over the worked register, once a statement has changed its tables. Out of
+/// memory ends the test.
 fn fault_after(alloc: Global, statement: &str) -> Result<DeskFault, Fail> {
     let mut connection = new_desk(alloc, network(alloc)?)?.end().end();
     connection.execute(statement, &[])?;
