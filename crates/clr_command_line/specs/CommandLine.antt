@@ -1,4 +1,4 @@
--- What a command line comes to: the answer of the subcommand that it names, help, or why it does
+-- What a command line results in: the answer of the subcommand that it names, help, or why it does
 -- not parse.
 use Rattle.std.specs.Prelude.{◌≡◌, ◌≢◌, ◌⊎◌, ℕ, List, [], Option, Some, None, Result, Err}
 use Rattle.std.specs.Prelude.{IfOk, OnOk, String, codes, string_bytes}
@@ -68,7 +68,7 @@ around g bytes_at register_at is_at input = record {
   IsRun = λ path. RunsAtPath g (is_at path) input;
 }
 
--- What the subcommand of this name comes to, on the words that its arguments were given.
+-- What the subcommand of this name results in, on the words that its arguments were given.
 pub record AnswersTo (world : Around) (name : Text) (rows : List Row)
     (result : Result Outcome Fault) : Type 0 where
   pub fence : name ≡ codes "fence"
@@ -93,8 +93,8 @@ abbrev pub AnswersNamed : Around → Option (Text × List Row) → Result Outcom
 AnswersNamed world (Some (name, rows)) result = AnswersTo world name rows result
 AnswersNamed world None result = IsNoAnswer result
 
--- What words come to, of which the first is the program's name. Where clap finds nothing wrong with
--- them, it is what the subcommand that they name comes to, and else help that they ask for, or why
+-- What words result in, of which the first is the program's name. Where clap finds nothing wrong with
+-- them, it is what the subcommand that they name results in, and else help that they ask for, or why
 -- they do not parse.
 pub record AnswersWords (world : Around) (words : List Text) (result : Result Outcome Fault)
     : Type 0 where

@@ -106,14 +106,14 @@ IsUsage (Serve args) = ⊥
 IsUsage (Unread text) = string_bytes text
     ≡ codes "error: run takes three files, or --db FILE and no files\n"
 
--- what a `run` comes to: its replies, whole or as far as they came, or why it is not taken
+-- what a `run` results in: its replies, whole or as far as they came, or why it is not taken
 abbrev pub ComesTo : Result (Option Printed) Fault → Result Outcome Fault → Type 0
 ComesTo (Ok (Some printed)) result = result ≡ Ok (printed_as printed.text printed.fault)
 ComesTo (Ok None) (Ok outcome) = IsUsage outcome
 ComesTo (Ok None) (Err fault) = fault ≡ Memory
 ComesTo (Err fault) result = result ≡ Err fault
 
--- what a `serve` comes to: a server of what it was asked for, unless memory ran out
+-- what a `serve` results in: a server of what it was asked for, unless memory ran out
 abbrev pub IsServer : List Row → Result Outcome Fault → Type 0
 IsServer rows (Ok (Answer text)) = ⊥
 IsServer rows (Ok (Stopped text fault)) = ⊥

@@ -112,7 +112,7 @@ fn no_words<E: CountedFlush>(cause: &io::Error, errors: &mut E) -> u8
     }
 }
 
-/// What the words come to.
+/// What the words result in.
 fn answer<'a, R, O, S, I>(
     rt: &R,
     paths: &O,
@@ -144,7 +144,7 @@ where
     }
 }
 
-/// What the subcommand of this name comes to.
+/// What the subcommand of this name results in.
 fn answer_to<'a, R, O, I>(
     rt: &R,
     paths: &O,
@@ -210,7 +210,7 @@ fn outcome_of(printed: Printed) -> Outcome
     }
 }
 
-/// What words come to that give no matches.
+/// What words result in that give no matches.
 fn unparsed(alloc: Global, error: &clap::Error) -> Result<Outcome, Fault>
     ensures memory { kind_of error.now ≡ ErrorKind.OutOfMemory → result ≡ Err Fault.Memory }
     ensures faults { IfErr result (λ fault. fault ≡ Fault.Memory) }

@@ -1,4 +1,4 @@
-//! What a command line comes to, and how it is told.
+//! What a command line results in, and how it is told.
 ghost use Rattle.std.specs.Prelude.{◌≡◌};
 ghost use Rattle.clr_command_line.specs.Outcome.{Tells};
 ghost use Rattle.clr_edge.specs.Fault.{told_line};
@@ -12,7 +12,7 @@ use clr_edge::line::line_of;
 use clr_edge::loopback::Loopback;
 use clr_edge::output::write_out;
 
-/// What words come to that meet no fault.
+/// What words result in that meet no fault.
 #[derive(Debug, Drop)]
 pub enum Outcome {
     /// The answer, or the help that was asked for.
@@ -25,7 +25,7 @@ pub enum Outcome {
     Unread(String),
 }
 
-/// Writes what words came to where it belongs, and returns the exit status: an answer to `output`,
+/// Writes what words resulted in where it belongs, and returns the exit status: an answer to `output`,
 /// 0; a fault to `errors`, 1, behind what came before it; why words do not parse to `errors`, 2. An
 /// answer that cannot be written is a fault. What cannot be written to `errors` is lost. A server
 /// is run to its end, and its status is 0 unless it meets a fault.

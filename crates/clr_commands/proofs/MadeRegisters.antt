@@ -18,7 +18,10 @@ abbrev value_in : {T : Type 0} → T → Result T Fault → T
 value_in other (Ok value) = value
 value_in other (Err fault) = other
 
-same_value : {T : Type 0} {a b : T} → Ok {E = Fault} a ≡ Ok b → a ≡ b
+ok_of : {T : Type 0} → T → Result T Fault
+ok_of value = Ok value
+
+same_value : {T : Type 0} {a b : T} → ok_of a ≡ ok_of b → a ≡ b
 same_value {T} {a} {b} e = ap (value_in a) e
 
 made_of_rows : (IsMade : Register → Type 0) (s : Result (List SectionRow) CsvFault) (p : Result (List PointRow) CsvFault)

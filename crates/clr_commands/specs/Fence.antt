@@ -66,7 +66,7 @@ IsFenceOf (Some cause) sections points work cut told = told ≡ Err (of_network 
 IsFenceOf None sections points work cut told = (g : Grid) × IsGridOf sections points g
     × (told ≡ fence_lines g work cut)
 
--- the same of rows, as a call answers it; only want of memory may come in place of the answer
+-- the same of rows, as a call answers it; only out of memory may come in place of the answer
 abbrev pub FencesRows : {T : Type 0} → (T → List ℕ) → List SectionRow → List PointRow → List ℕ
     → List (List ℕ) → Result T Fault → Type 0
 FencesRows view sections points work cut (Ok value) =
@@ -83,7 +83,7 @@ IsFenceOfFiles section_file point_file work cut =
     After (told_of Points (points_of point_file)) (λ points.
     IsFenceOf (first_fault sections points) sections points work cut))
 
--- the same of bytes, as a call answers it; only want of memory, or a file that goes unread, may
+-- the same of bytes, as a call answers it; only out of memory, or a file that goes unread, may
 -- come in place of the answer
 abbrev pub FencesFiles : {T : Type 0} → (T → List ℕ) → List ℕ → List ℕ → List ℕ → List (List ℕ)
     → Result T Fault → Type 0

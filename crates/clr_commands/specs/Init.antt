@@ -43,7 +43,7 @@ counts_of_files section_file point_file staff_file = do
   employees ← told_of Staff (staff_of staff_file)
   counts_of sections points employees
 
--- the same, as a call answers it; only want of memory, or a file that goes unread, may come in
+-- the same, as a call answers it; only out of memory, or a file that goes unread, may come in
 -- place of the answer
 abbrev pub CountsFiles : {T : Type 0} → (T → List ℕ) → List ℕ → List ℕ → List ℕ → Result T Fault
     → Type 0

@@ -56,7 +56,7 @@ IsRunOver R input (Ok printed) = (length input ≤ 16777216) × (S : Register) �
     × AnswersInput R S input told printed
 IsRunOver R input (Err fault) = (fault ≡ Input TooLong) × (16777216 < length input)
 
--- the same, as a call answers it; only want of memory, or an input that goes unread, may come in
+-- the same, as a call answers it; only out of memory, or an input that goes unread, may come in
 -- its place
 abbrev pub RunsOver : Register → List ℕ → Result Printed Fault → Type 0
 RunsOver R input (Ok printed) = IsRunOver R input (Ok printed)
@@ -79,7 +79,7 @@ IsRunOfFiles section_file point_file staff_file input =
     After (told_of Staff (staff_of staff_file)) (λ employees.
     IsRunOf sections points employees input)))
 
--- the same, as a call answers it; only want of memory, a file or an input that goes unread, or a
+-- the same, as a call answers it; only out of memory, a file or an input that goes unread, or a
 -- database in memory that refuses the opening register, may come in its place
 abbrev pub RunsFiles : List ℕ → List ℕ → List ℕ → List ℕ → Result Printed Fault → Type 0
 RunsFiles section_file point_file staff_file input (Ok printed) =

@@ -90,7 +90,7 @@ FailsServing refuses port count fault output output' errors errors' =
     ⊎ (ServesNot refuses port fault output output' errors errors'
     ⊎ (IsOfLine fault × Serves port count output output' errors errors'))
 
--- what `serve` comes to
+-- what `serve` results in
 abbrev pub IsServing : {T : Type 0} → (ℕ → Type 0) → ℕ → ℕ → Result T Fault → Stream → Stream
     → Stream → Stream → Type 0
 IsServing refuses port count (Ok value) output output' errors errors' =

@@ -1,4 +1,4 @@
-//! What each subcommand comes to, over files, databases and input.
+//! What each subcommand results in, over files, databases and input.
 #![tactic(auto)]
 
 pub mod board;

@@ -5,7 +5,7 @@ use Rattle.clr_rules.specs.Register.{Register}
 use Rattle.clr_print.specs.Printed.{board_text}
 use Rattle.sqlite.specs.Files.{over_files}
 use Rattle.sqlite.specs.Held.{state}
-use Rattle.clr_args.specs.Asked.{offset_in}
+use Rattle.clr_args.specs.Asked.{offset_in, word_in}
 use Rattle.clr_commands.specs.Stored.{TellsStored}
 use Rattle.clr_edge.specs.Database.{HasRegister, ReadsAt}
 use Rattle.clr_commands.proofs.Databases.{IfSome-from, OnOk-from}
@@ -35,7 +35,7 @@ pub returns-clause-read : goal.returns-clause-read
 returns-clause-read g c =
     let at = subst (λ (path : List ℕ). g.R.Databases.is_at c.args.rt.now path (state over_files c.in_ok-connection.connection).now)
     c.word_of.ensures c.in_ok-connection.ensures.at in
-    let Reads : Type 0 = ReadsAt g.R.Databases.Medium.Disk
+    let Reads : Type 0 = ReadsAt g.R.Medium.Disk
     (g.R.Databases.is_at c.args.rt.now (word_in (rows_of (found_of c.args.matches.now)) (codes "DB"))) in
     OnOk-from _ _ Reads (λ read. (c.in_ok-connection.connection, c.board_over-told.result.1, at, read))
     c.board_over-told.ensures.read

@@ -36,7 +36,7 @@ pub returns-clause-read : goal.returns-clause-read
 returns-clause-read g c =
     let at = subst (λ (path : List ℕ). g.R.Databases.is_at c.args.rt.now path (state over_files c.in_ok-connection.connection).now)
     c.word_of.ensures c.in_ok-connection.ensures.at in
-    let Reads : Type 0 = ReadsAt g.R.Databases.Medium.Disk
+    let Reads : Type 0 = ReadsAt g.R.Medium.Disk
     (g.R.Databases.is_at c.args.rt.now (word_in (rows_of (found_of c.args.matches.now)) (codes "DB"))) in
     OnOk-from _ _ Reads (λ read. (c.in_ok-connection.connection, c.order_over-told.result.1, at, read))
     c.order_over-told.ensures.read

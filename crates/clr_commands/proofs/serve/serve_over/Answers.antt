@@ -1,4 +1,4 @@
-use Rattle.std.proofs.Common.{◌∙◌, inl, refl}
+use Rattle.std.proofs.Common.{◌≡◌, inl, refl}
 use Rattle.clr_edge.proofs.Databases.{OnOk-any}
 use Rattle.clr_commands.proofs.Serving.{IsOfServing-desk, IsOfStore-told, IsServing-desk, ServesRegister-led}
 use Rattle.clr_commands.proofs.serve.serve_over.Goals as goal
@@ -13,11 +13,12 @@ returns-in-Ok-clause-known g c R known = IsOfServing-desk (g.L.Loopback.refuses 
 -- the desk went on from the register that was opened
 pub returns-in-Ok-clause-served : goal.returns-in-Ok-clause-served
 returns-in-Ok-clause-served g c =
+    let same : c.end-in-Ok.result ≡ c.serve_desk-served.new.desk.store = cc in
     OnOk-any c.serve_desk-served.result _
-    (ServesRegister-led g.S.Store c.args.connection c.in-Ok.desk.store c.serve_desk-served.new.desk.store c.end.result
+    (ServesRegister-led g.S.Store c.args.connection c.in-Ok.desk.store c.serve_desk-served.new.desk.store c.end-in-Ok.result
     c.in-Ok.desk.book.register c.serve_desk-served.new.desk.book.register c.in-Ok.ensures.read c.in-Ok.ensures.register
     c.serve_desk-served.ensures.led c.serve_desk-served.ensures.good c.serve_desk-served.ensures.reached
-    (c.end.ensures.connection ∙ c.end-in-Ok.ensures))
+    same)
 
 -- a database that was not opened
 pub returns-in-Err-clause-told : goal.returns-in-Err-clause-told
