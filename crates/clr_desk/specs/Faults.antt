@@ -6,7 +6,7 @@ use Rattle.clr_load.specs.declared.fault.StoreFault.TheVariants.{NoMemory as NoM
 use Rattle.clr_desk.specs.declared.desk_fault.DeskFault.{DeskFault}
 use Rattle.clr_desk.specs.declared.desk_fault.DeskFault.TheVariants.{Store, NoMemory}
 
--- a fault of the store; out of memory is no fault of its own
+-- a fault of the store; want of memory is no fault of its own
 abbrev pub of_store : StoreFault → DeskFault
 of_store Sql = Store Sql
 of_store (WrongVersion n) = Store (WrongVersion n)

@@ -56,7 +56,7 @@ abbrev pub bad_table : Rows → Option TableName
 bad_table rows = bad_network rows.sections (network_fault rows.sections rows.points)
     (bad_staff (staff_fault rows.staff))
 
--- why rows are not opened: out of memory, or a table at fault
+-- why rows are not opened: want of memory, or a table at fault
 abbrev pub FailsToOpen : Rows → StoreFault → Type 0
 FailsToOpen rows fault = (fault ≡ NoMemory)
     ⊎ ((bad : TableName) × (bad_table rows ≡ Some bad) × (fault ≡ BadRow bad))

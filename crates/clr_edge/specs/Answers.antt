@@ -9,7 +9,7 @@ abbrev pub ◌>>=◌ : {A B : Type 0} → Result A Fault → (A → Result B Fau
 Ok value >>= next = next value
 Err fault >>= next = Err fault
 
--- the answer that is told, as `view` shows it; only out of memory may come in its place
+-- the answer that is told, as `view` shows it; only want of memory may come in its place
 abbrev pub Gives : {A T : Type 0} → (T → A) → Result A Fault → Result T Fault → Type 0
 Gives view told (Ok value) = told ≡ Ok (view value)
 Gives view told (Err fault) = fault ≢ Memory → told ≡ Err fault

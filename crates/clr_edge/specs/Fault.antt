@@ -1,5 +1,5 @@
 -- The line that each fault prints: `fault: `, what it is about, a blank, the fault's name, and
--- where it is or what it names. Out of memory is about memory, whatever answered it.
+-- where it is or what it names. Want of memory is about memory, whatever answered it.
 use Rattle.std.specs.Prelude.{◌≡◌, ℕ, List, [], ◌∷◌, ◌++◌, codes, decimal}
 use Rattle.std.specs.Fmt.{signed_decimal}
 use Rattle.clr_net.specs.declared.name.NameFault.{NameFault}
@@ -161,7 +161,7 @@ fault_line cause = codes "fault: "
 abbrev pub told_line : Fault → List ℕ
 told_line fault = fault_line fault ++ 10 ∷ []
 
--- The fault that a cause becomes. Out of memory is one fault, whatever answered it.
+-- The fault that a cause becomes. Want of memory is one fault, whatever answered it.
 abbrev pub of_file : ImportFile → CsvFault → Fault
 of_file file csv.NoMemory = fault.Memory
 of_file file cause = fault.File file cause
@@ -191,6 +191,6 @@ abbrev pub of_desk : DeskFault → Fault
 of_desk desk.NoMemory = fault.Memory
 of_desk (desk.Store cause) = of_store cause
 
--- the fault is one of this file's, or out of memory
+-- the fault is one of this file's, or want of memory
 abbrev pub IsOfFile : ImportFile → Fault → Type 0
 IsOfFile file found = (cause : CsvFault) × (found ≡ of_file file cause)

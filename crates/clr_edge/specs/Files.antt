@@ -9,7 +9,7 @@ use Rattle.clr_edge.specs.declared.fault.Fault.{Fault}
 use Rattle.clr_edge.specs.declared.fault.Fault.TheVariants.{Memory, File}
 use Rattle.clr_edge.specs.Fault.{of_file}
 
--- the rows of a file, its faults told of it
+-- what the rows of a file come to, its faults told of it
 abbrev pub told_of : {A : Type 0} → ImportFile → Result A CsvFault → Result A Fault
 told_of file (Ok rows) = Ok rows
 told_of file (Err cause) = Err (of_file file cause)

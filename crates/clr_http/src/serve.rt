@@ -21,7 +21,7 @@ use http::StatusCode;
 use std::alloc::{AllocError, AllocFailed, Global};
 use thiserror::Error;
 
-/// How a connection ended.
+/// What a connection came to.
 #[derive(Clone, Copy, Debug, PartialEq, Eq)]
 pub enum Served {
     /// The input ended before its first byte.
