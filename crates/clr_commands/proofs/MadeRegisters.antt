@@ -18,7 +18,7 @@ abbrev value_in : {T : Type 0} → T → Result T Fault → T
 value_in other (Ok value) = value
 value_in other (Err fault) = other
 
-ok_of : {T : Type 0} → T → Result T Fault
+abbrev ok_of : {T : Type 0} → T → Result T Fault
 ok_of value = Ok value
 
 same_value : {T : Type 0} {a b : T} → ok_of a ≡ ok_of b → a ≡ b

@@ -1,6 +1,6 @@
 -- What a server comes to, from what its parts do.
 use Rattle.std.proofs.Common.{◌≡◌, ◌⊎◌, inl, inr, refl, subst, sym, ℕ, Result, Ok, Err}
-use Rattle.std.specs.Prelude.{IfErr, IsErrAnd, OnOk}
+use Rattle.std.specs.Prelude.{IfErr, IfSome, IsErrAnd, None, OnOk, Option, Some}
 use Rattle.sqlite.specs.Held.{Held, state}
 use Rattle.sqlite_trees.specs.declared.store.Store.{Ghosts}
 use Rattle.clr_rules.specs.Good.{IsGood}
@@ -76,3 +76,42 @@ ServesRegister-led {S} g connection before behind after R Q read opened led good
                 (sym (read.same (has.clean before) (led.was_open clean shown))) has.tables));
           },
         )
+
+-- what holds of each value that may be there
+pub IfSome-all : {A : Type 0} (o : Option A) (P : A → Type 0) → ((a : A) → P a) → IfSome o P
+IfSome-all None P holds = tt
+IfSome-all (Some a) P holds = holds a
+
+-- what holds of the fault that there was
+pub IfErr-was : {T E : Type 0} (result : Result T E) (fault : E) (P : E → Type 0) → result ≡ Err fault → P fault → IfErr result P
+IfErr-was {T} {E} result fault P is holds = subst (λ (r : Result T E). IfErr r P) (sym is) holds
+
+serving_closed : {T : Type 0} (refuses : ℕ → Type 0) (port count : ℕ) (closed : Result T Fault) (output output' errors errors' : Stream)
+    → Serves port count output output' errors errors' → IfErr closed (λ fault. IsOfLine fault)
+    → IsServing refuses port count closed output output' errors errors'
+serving_closed refuses port count (Ok value) output output' errors errors' serves line = serves
+serving_closed refuses port count (Err fault) output output' errors errors' serves line = inr (inr (line, serves))
+
+-- a database that was closed behind the last connection
+pub IsServing-closed : {T U : Type 0} (refuses : ℕ → Type 0) (port count : ℕ) (served : Result T Fault) (closed : Result U Fault) (value : T)
+    (output output' errors errors' : Stream) → served ≡ Ok value → IsServing refuses port count served output output' errors errors'
+    → IfErr closed (λ fault. IsOfLine fault) → IsServing refuses port count closed output output' errors errors'
+IsServing-closed {T} refuses port count served closed value output output' errors errors' was is line =
+    let serves : Serves port count output output' errors errors' =
+    subst (λ (r : Result T Fault). IsServing refuses port count r output output' errors errors') was is in
+    serving_closed refuses port count closed output output' errors errors' serves line
+
+pub IsOfServing-line : {T : Type 0} (closed : Result T Fault) → IfErr closed (λ fault. IsOfLine fault) → IfErr closed IsOfServing
+IsOfServing-line (Ok value) line = tt
+IsOfServing-line (Err fault) line = inl line
+
+serving_failed : {T : Type 0} (result : Result T Fault) (fault : Fault) → IsErrAnd result (λ cause. cause ≡ fault) → IsOfServing fault → IfErr result IsOfServing
+serving_failed (Ok value) fault is fails = absurd is
+serving_failed (Err cause) fault is fails = subst (λ (f : Fault). IsOfServing f) (sym is) fails
+
+-- the fault of a server that is passed on
+pub IsOfServing-failed : {T U : Type 0} (served : Result T Fault) (result : Result U Fault) (fault : Fault) → served ≡ Err fault
+    → IsErrAnd result (λ cause. cause ≡ fault) → IfErr served IsOfServing → IfErr result IsOfServing
+IsOfServing-failed {T} served result fault was is fails =
+    let of : IsOfServing fault = subst (λ (r : Result T Fault). IfErr r IsOfServing) was fails in
+    serving_failed result fault is of

@@ -1,9 +1,12 @@
-use Rattle.std.proofs.Common.{◌≡◌, ◌∙◌, ap, rules, to_z, of_z, to_z-of_z, w16, FitsSigned}
+use Rattle.std.proofs.Common.{◌≡◌, ◌∙◌, ap, rules, subst, sym, to_z, of_z, to_z-of_z, w16, FitsSigned}
 use Rattle.std.specs.Prelude.{string_bytes}
+use Rattle.sqlite.specs.Held.{Held}
 use Rattle.clr_book.specs.Book.{Shelved}
 use Rattle.clr_rules.specs.Register.{Register}
 use Rattle.clr_commands.specs.Order.{order_told}
 use Rattle.clr_commands.proofs.Databases.{TellsStored-gives}
+use Rattle.clr_edge.specs.Database.{IsOnlyRead}
+use Rattle.clr_edge.proofs.Databases.{OnOk-any}
 use Rattle.clr_commands.proofs.order.order_over.Goals as goal
 
 -- the order of the register that the database has
@@ -20,3 +23,10 @@ returns-in-Ok-clause-told g c R known =
 
 pub returns-in-Err-clause-told : goal.returns-in-Err-clause-told
 returns-in-Err-clause-told g c R known = λ other. absurd (other (c.in-Err.ensures.fault R known))
+
+-- the connection that is given back is the one that was read
+pub returns-in-Ok-clause-read : goal.returns-in-Ok-clause-read
+returns-in-Ok-clause-read g c =
+    let same : c.end-in-Ok.result ≡ c.in-Ok.desk.store = cc in
+    OnOk-any c.order_of-told.result _
+    (subst (λ (h : Held g.row.S.Denot). IsOnlyRead g.S.Store c.args.connection h) (sym same) c.in-Ok.ensures.read)

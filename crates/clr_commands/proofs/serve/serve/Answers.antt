@@ -1,0 +1,40 @@
+use Rattle.std.proofs.Common.{List, ℕ, subst}
+use Rattle.std.specs.Prelude.{IfSome, string_bytes}
+use Rattle.sqlite.specs.Files.{over_files}
+use Rattle.sqlite.specs.Held.{state}
+use Rattle.clr_edge.specs.Database.{HasRegister}
+use Rattle.clr_edge.proofs.Databases.{OnOk-any, OnOk-was}
+use Rattle.clr_commands.proofs.Databases.{IfSome-from}
+use Rattle.clr_commands.proofs.Serving.{IfSome-all, IsOfServing-failed, IsOfServing-line, IsServing-closed}
+use Rattle.clr_commands.proofs.serve.serve.Goals as goal
+
+-- the register that the database has is served
+pub returns-in_err-served-clause-known : goal.returns-in_err-served-clause-known
+returns-in_err-served-clause-known g c =
+    let known = subst (λ (path : List ℕ). IfSome (g.R.Databases.register_at c.args.rt.now path)
+    (λ R. HasRegister over_files R c.in_ok-connection.connection))
+    c.as_str.ensures.value c.in_ok-connection.ensures.known in
+    IfSome-from _ _ _ (λ R has. IsOfServing-failed c.serve_over-served.result.0 c.from_residual-in_err-served.result
+    c.in_err-served.field-0.0 c.in_err-served.was c.from_residual-in_err-served.ensures.1
+    (c.serve_over-served.ensures.known R has)) known
+
+-- the database is closed behind the last connection
+pub returns-clause-told : goal.returns-clause-told
+returns-clause-told g c =
+    IsServing-closed (g.R.Loopback.refuses c.args.rt.now) c.args.args.now.port c.args.args.now.count c.serve_over-served.result.0
+    c.close-closed.result c.in_ok-served.field-0 _ _ _ _ c.in_ok-served.was c.serve_over-served.ensures.told c.close-closed.ensures
+
+pub returns-clause-known : goal.returns-clause-known
+returns-clause-known g c = IfSome-all _ _ (λ _. IsOfServing-line c.close-closed.result c.close-closed.ensures)
+
+-- the database is the one at the path
+pub returns-clause-served : goal.returns-clause-served
+returns-clause-served g c =
+    let at = subst (λ (path : List ℕ). g.R.Databases.is_at c.args.rt.now path (state over_files c.in_ok-connection.connection).now)
+    c.as_str.ensures.value c.in_ok-connection.ensures.at in
+    OnOk-any c.close-closed.result _ (
+      c.in_ok-connection.connection,
+      c.serve_over-served.result.1,
+      at,
+      OnOk-was c.serve_over-served.result.0 c.in_ok-served.field-0 _ c.in_ok-served.was c.serve_over-served.ensures.served,
+    )
