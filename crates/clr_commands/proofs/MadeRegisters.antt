@@ -1,5 +1,5 @@
 -- The register that `init` makes of its files.
-use Rattle.std.proofs.Common.{◌≡◌, ap, subst, sym, ℕ, List, Option, Result, Ok, Err}
+use Rattle.std.proofs.Common.{◌≡◌, ◌∙◌, ap, subst, sym, ℕ, List, Option, Result, Ok, Err}
 use Rattle.std.specs.Prelude.{Some, None, IfSome, IsErrAnd, OnOk}
 use Rattle.clr_net.specs.declared.section.SectionRow.{SectionRow}
 use Rattle.clr_net.specs.declared.point.PointRow.{PointRow}
@@ -9,10 +9,11 @@ use Rattle.clr_csv.specs.StaffRows.{staff_of}
 use Rattle.clr_csv.specs.declared.employee.StaffRow.{StaffRow}
 use Rattle.clr_csv.specs.declared.fault.CsvFault.{CsvFault}
 use Rattle.clr_rules.specs.Register.{Register}
+use Rattle.clr_edge.specs.Answers.{◌>>=◌}
 use Rattle.clr_edge.specs.Files.{told_of}
 use Rattle.clr_edge.specs.declared.fault.Fault.{Fault}
 use Rattle.clr_edge.specs.declared.fault.ImportFile.TheVariants.{Sections, Points, Staff}
-use Rattle.clr_commands.specs.Init.{MakesOfFiles, MakesOfRows, MakesOpening}
+use Rattle.clr_commands.specs.Init.{MakesFiles, MakesOfFiles, MakesOfRows, MakesOpening, counts_of}
 
 abbrev value_in : {T : Type 0} → T → Result T Fault → T
 value_in other (Ok value) = value
@@ -57,3 +58,15 @@ MakesOfFiles-none (Some s) None eo IsMade result P is = tt
 MakesOfFiles-none (Some s) (Some p) None IsMade result P is = tt
 MakesOfFiles-none (Some s) (Some p) (Some e) IsMade (Ok value) P is = absurd is
 MakesOfFiles-none (Some s) (Some p) (Some e) IsMade (Err fault) P is = tt
+
+-- the line of counts of files whose rows were read
+pub MakesFiles-read : {T : Type 0} (so po eo : Option (List ℕ)) (view : T → List ℕ) (sections : List SectionRow) (points : List PointRow)
+    (employees : List StaffRow) (text : T)
+    → IfSome so (λ f. told_of Sections (sections_of f) ≡ Ok sections) → IfSome po (λ f. told_of Points (points_of f) ≡ Ok points)
+    → IfSome eo (λ f. told_of Staff (staff_of f) ≡ Ok employees) → counts_of sections points employees ≡ Ok (view text)
+    → IfSome so (λ s. IfSome po (λ p. IfSome eo (λ e. MakesFiles view s p e (Ok text))))
+MakesFiles-read None po eo view sections points employees text first second third line = tt
+MakesFiles-read (Some s) None eo view sections points employees text first second third line = tt
+MakesFiles-read (Some s) (Some p) None view sections points employees text first second third line = tt
+MakesFiles-read (Some s) (Some p) (Some e) view sections points employees text first second third line =
+    (λ i. first i >>= (λ a. second i >>= (λ b. third i >>= (λ d. counts_of a b d)))) ∙ line
