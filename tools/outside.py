@@ -1,0 +1,159 @@
+"""What tools/stops and tools/no-memory share: the built program run from outside under a small library that is loaded
+before the C library, folders for its files, the tables that it leaves, and a shift with its replies. It needs gcc and
+sqlite3 (Debian's packages of these names). GRIDCLEAR names another program than tools/gridclear."""
+import collections
+import os
+import shutil
+import socket
+import subprocess
+import sys
+import threading
+import time
+
+TOP = os.path.dirname(os.path.dirname(os.path.realpath(__file__)))
+GRIDCLEAR = os.environ.get("GRIDCLEAR", os.path.join(TOP, "tools", "gridclear"))
+EXAMPLES = os.path.join(TOP, "examples")
+FILES = [os.path.join(EXAMPLES, name) for name in ("sections.csv", "points.csv", "staff.csv")]
+IMPORTED = "sections 5 points 5 staff 6\n"
+NO_REGISTER = "fault: store Sql\n"
+NO_OUTPUT = "fault: output WriteFailed\n"
+ALLOWED = 60  # seconds for one run of a program
+
+Ended = collections.namedtuple("Ended", "status, output, errors")
+
+
+class Differs(Exception):
+    """What was seen is not what may be."""
+
+
+def expect(holds, text):
+    if not holds:
+        raise Differs(text)
+
+
+def missing(text):
+    print(f"{os.path.basename(sys.argv[0])}: {text}", file=sys.stderr)
+    sys.exit(2)
+
+
+def program_behind(command):
+    """The program that a command ends in, which may be a script: it is looked at while it waits for its input."""
+    told = subprocess.run([command, "--help"], capture_output=True, check=False)
+    if told.returncode != 0:
+        missing(f"{command} does not run")
+    with subprocess.Popen([command, "run", *FILES], stdin=subprocess.PIPE, stdout=subprocess.DEVNULL) as waiting:
+        while True:
+            found = os.readlink(f"/proc/{waiting.pid}/exe")
+            if os.path.basename(found) not in ("env", "bash"):
+                return found
+            time.sleep(0.01)
+
+
+class Bench:
+    """The library, built from its C text, the program that is tried, and folders for its files."""
+
+    def __init__(self, folder, library):
+        self.folder = folder
+        self.library = os.path.join(folder, "library.so")
+        self.lock = threading.Lock()
+        self.count = 0
+        for needed in ("gcc", "sqlite3"):
+            if not shutil.which(needed):
+                missing(f"{needed} is not installed")
+        source = os.path.join(folder, "library.c")
+        with open(source, "w", encoding="ascii") as file:
+            file.write(library)
+        subprocess.run(["gcc", "-O1", "-shared", "-fPIC", "-o", self.library, source, "-ldl"], check=True)
+        self.program = program_behind(GRIDCLEAR)
+
+    def under(self, **words):
+        """An environment in which the library is loaded and finds these words."""
+        return {**os.environ, "LD_PRELOAD": self.library, **words}
+
+    def new(self, held=None):
+        """A new folder, which begins with the files of another."""
+        with self.lock:
+            self.count += 1
+            path = os.path.join(self.folder, str(self.count))
+        if held:
+            shutil.copytree(held, path)
+        else:
+            os.mkdir(path)
+        return path
+
+    def run(self, folder, words, lines=(), env=None):
+        done = subprocess.run([self.program, *words], cwd=folder, env=env, input="".join(lines), capture_output=True,
+                              text=True, timeout=ALLOWED, check=False)
+        return Ended(done.returncode, done.stdout, done.stderr)
+
+    def tables(self, held, may_be_none=False):
+        """The tables as the distribution's sqlite3 reads a copy of the files. A file that is no database yet has none."""
+        folder = self.new(held)
+        words = ["sqlite3", "-batch", "room.db", "PRAGMA integrity_check", ".dump"]
+        done = subprocess.run(words, cwd=folder, capture_output=True, text=True, timeout=ALLOWED, check=False)
+        shutil.rmtree(folder)
+        lines = done.stdout.splitlines()
+        if may_be_none and "file is not a database" in done.stderr:
+            return ()
+        expect(done.returncode == 0 and lines[:1] == ["ok"], f"sqlite3: {done.stdout[:200]}{done.stderr[:200]}")
+        return tuple(sorted(line for line in lines[1:] if line.startswith(("CREATE", "INSERT"))))
+
+
+class Shift:
+    """Commands over an opening register: their replies, and the tables after each number of them."""
+
+    def __init__(self, bench, opening):
+        self.bench = bench
+        self.opening = opening
+        with open(os.path.join(EXAMPLES, "shift.jsonl"), encoding="ascii") as file:
+            self.lines = file.readlines()
+        whole = bench.run(bench.new(opening), ["run", "--db", "room.db"], self.lines)
+        expect(whole.status == 0, f"run: {whole}")
+        self.replies = whole.output.splitlines(keepends=True)
+        folder = bench.new(opening)
+        self.tables = [bench.tables(folder)]
+        for line in self.lines:
+            bench.run(folder, ["run", "--db", "room.db"], [line])
+            self.tables.append(bench.tables(folder))
+
+    def go_on(self, folder, least, most, last):
+        """What is left stands after so many commands, which is told, and the others up to the last go on from there."""
+        tables = self.bench.tables(folder)
+        places = [place for place in range(least, min(most, last) + 1) if self.tables[place] == tables]
+        everywhere = [place for place, known in enumerate(self.tables) if known == tables]
+        expect(places, f"answered {least}, to stand at most {most}: the tables are those after {everywhere}")
+        board = self.bench.run(folder, ["board", "room.db"])
+        expect(board.status == 0 and board.errors == "", f"board: {board}")
+        expect(self.bench.tables(folder) == tables, "board changes the tables")
+        place = places[0]
+        rest = self.bench.run(folder, ["run", "--db", "room.db"], self.lines[place:last])
+        expect(rest == Ended(0, "".join(self.replies[place:last]), ""), f"from {place}: {rest}")
+        expect(self.bench.tables(folder) == self.tables[last], "the tables at the end")
+        return places
+
+
+def free_port():
+    with socket.socket() as found:
+        found.bind(("127.0.0.1", 0))
+        return found.getsockname()[1]
+
+
+def ask(port, line):
+    """The status and the body of the response to a command, or None where none came whole."""
+    body = line.rstrip("\n")
+    request = f"POST /command HTTP/1.1\r\nHost: 127.0.0.1\r\nContent-Length: {len(body)}\r\n\r\n{body}"
+    received = b""
+    try:
+        with socket.create_connection(("127.0.0.1", port), timeout=ALLOWED) as connection:
+            connection.sendall(request.encode("ascii"))
+            while piece := connection.recv(65536):
+                received += piece
+    except ConnectionError:
+        return None, ""
+    head, found, rest = received.decode("ascii").partition("\r\n\r\n")
+    if not found:
+        return None, ""
+    length = [int(field.split(":")[1]) for field in head.split("\r\n") if field.startswith("Content-Length:")][0]
+    if len(rest) != length:
+        return None, ""
+    return int(head.split(" ")[1]), rest
