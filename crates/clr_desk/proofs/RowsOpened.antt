@@ -1,8 +1,10 @@
 -- A book that is opened: from what the store loads to the register.
-use Rattle.std.proofs.Common.{◌≡◌, ◌∙◌, None, Some, ap, subst, sym, Result, Ok, Err}
+use Rattle.std.proofs.Common.{◌≡◌, ◌∙◌, inl, inr, None, Some, ap, subst, sym, Result, Ok, Err}
 use Rattle.clr_book.specs.Book.{Shelved}
 use Rattle.clr_rules.specs.Good.{IsGood}
 use Rattle.clr_rules.specs.Register.{Register}
+use Rattle.sqlite.specs.State.{State}
+use Rattle.clr_load.specs.Cause.{SqlHasCause}
 use Rattle.clr_load.specs.Contract.{GivesRows}
 use Rattle.clr_load.specs.Fault.{IsOfDatabase}
 use Rattle.clr_load.specs.declared.fault.StoreFault.{StoreFault}
@@ -12,7 +14,7 @@ use Rattle.clr_tables.specs.Tables.{tables_of}
 use Rattle.clr_tables.specs.TypedRows.{IsTyped}
 use Rattle.clr_tables.specs.declared.table_name.TableName.{TableName}
 use Rattle.clr_tables.proofs.TablesRead.{tables_are_read, tables_read_as_no_others}
-use Rattle.clr_desk.specs.Opening.{IsRegisterOf, OpensAs}
+use Rattle.clr_desk.specs.Opening.{FailsToOpen, IsRegisterOf, OpensAs}
 use Rattle.clr_desk.proofs.Filled.{opens_again}
 
 abbrev bad_or : TableName → Result Rows TableName → TableName
@@ -28,6 +30,11 @@ not_loaded (Err bad) Sql gives = tt
 not_loaded (Ok rows) NoMemory gives = tt
 not_loaded (Err bad) NoMemory gives = tt
 not_loaded told (WrongVersion n) gives = absurd gives
+
+-- rows that are loaded are not refused as `Sql`
+pub opened_cause : (rows : Rows) (fault : StoreFault) (old new : State) → FailsToOpen rows fault → SqlHasCause old new fault
+opened_cause rows fault old new (inl memory) = rw memory tt
+opened_cause rows fault old new (inr bad) = rw bad.2 tt
 
 -- the tables of a good register open as this register
 pub opened_again : (R : Register) → IsGood R → (book : Shelved) (told : Result Rows TableName) → rows_read (tables_of R) ≡ told

@@ -8,6 +8,7 @@ ghost use Rattle.sqlite.specs.Held.{state};
 ghost use Rattle.sqlite.specs.State.{HasCleanDisk, Survives};
 ghost use Rattle.clr_rules.specs.Good.{IsGood};
 ghost use Rattle.clr_rules.specs.Run.{IsReached};
+ghost use Rattle.clr_load.specs.Cause.{SqlHasCause};
 ghost use Rattle.clr_load.specs.Contract.{IsSaved};
 ghost use Rattle.clr_load.specs.Schema.{no_schema};
 ghost use Rattle.clr_load.specs.Stored.{AreTables, HasTables};
@@ -118,7 +119,8 @@ impl<S: Alter + Drop> Desk<S> {
         ensures refused { IfErr result (λ back. (fault : StoreFault) × (back.0 ≡ of_store fault)
             × (HasCleanDisk (state S.Store back.1) → (t : Tables)
             → HasTables (state S.Store store).now t
-            → OpensAs (λ (book : Shelved). book.register) (rows_read t) (Err fault))) }
+            → OpensAs (λ (book : Shelved). book.register) (rows_read t) (Err fault)
+            × SqlHasCause (state S.Store store) (state S.Store back.1) fault)) }
         ensures cause { IfErr result (λ back. HasCleanDisk (state S.Store back.1)
             → (R : Register) → IsGood R → IsTyped R
             → HasTables (state S.Store store).now (tables_of R) → IsOfCommand back.0) }

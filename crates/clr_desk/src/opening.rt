@@ -8,6 +8,7 @@ ghost use Rattle.clr_rules.specs.Register.{opening};
 ghost use Rattle.clr_tables.specs.declared.table_name.TableName.TheVariants as table;
 ghost use Rattle.clr_book.specs.Book.{Shelved};
 ghost use Rattle.clr_load.specs.Contract.{IsSaved, rows_told};
+ghost use Rattle.clr_load.specs.Cause.{SqlHasCause};
 ghost use Rattle.clr_load.specs.Fault.{IsOfDatabase};
 ghost use Rattle.clr_load.specs.Stored.{HasTables};
 ghost use Rattle.clr_tables.specs.RowsRead.{rows_read};
@@ -165,13 +166,16 @@ fn book_of(rows: Rows) -> Result<DeskBook, StoreFault>
 
 /// The book of what a store has. The store is only read.
 ///
-/// `BadRow` names the table with a row that does not read, or whose rows are no network or no staff;
+/// `BadRow` names the table with a row that does not read, or whose rows are no network or staff;
 /// `Sql` where the database fails; `NoMemory` where memory runs out.
 pub fn book_in<S: Alter + Drop>(store: &mut Store<S>) -> Result<DeskBook, StoreFault>
     ensures tables { HasCleanDisk (state S.Store store.new) → (t : Tables)
         → HasTables (state S.Store store.old).now t
         → OpensAs (λ (book : Shelved). book.register) (rows_read t) result }
     ensures typed { IfOk result (λ book. IsTyped book.register) }
+    ensures cause { HasCleanDisk (state S.Store store.new) → (t : Tables)
+        → HasTables (state S.Store store.old).now t
+        → IfErr result (SqlHasCause (state S.Store store.old) (state S.Store store.new)) }
     ensures was_open { HasCleanDisk (state S.Store store.new)
         → IsTrue (state S.Store store.old).is_open ⊎ IsErrAnd result IsOfDatabase }
     ensures saved { HasCleanDisk (state S.Store store.new)

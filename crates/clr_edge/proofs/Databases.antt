@@ -1,5 +1,5 @@
 -- Faults of databases that are known to have a register.
-use Rattle.std.proofs.Common.{◌≡◌, ◌∙◌, ◌≤◌, ◌⊎◌, ⊎_elim, arith, inl, inr, refl, subst, ℤ, Result, Ok, Err}
+use Rattle.std.proofs.Common.{◌≡◌, ◌∙◌, ◌⊎◌, IsTrue, ⊎_elim, arith, inl, inr, refl, subst, ℤ, Result, Ok, Err}
 use Rattle.std.specs.Prelude.{OnOk, pos}
 use Rattle.sqlite.specs.State.{HasCleanDisk, State, Survives}
 use Rattle.sqlite_disk.specs.Disk.{MoreFaults}
@@ -9,6 +9,11 @@ use Rattle.clr_desk.specs.Faults.{IsOfCommand, of_store as desk_of_store}
 use Rattle.clr_desk.specs.declared.desk_fault.DeskFault.{DeskFault}
 use Rattle.clr_desk.specs.declared.desk_fault.DeskFault.TheVariants as desk
 use Rattle.clr_rules.specs.Register.{Register}
+use Rattle.sqlite.specs.declared.error.Error.{Error}
+use Rattle.sqlite.specs.declared.error.Error.TheVariants.{SqliteFailure}
+use Rattle.sqlite.specs.declared.error.ErrorCode.TheVariants as code
+use Rattle.clr_load.specs.Cause.{SqlHasCause, fault_of}
+use Rattle.clr_load.proofs.Causes.{able_or_failed, has_cause}
 use Rattle.clr_store.specs.Contract.{RefusesVersion}
 use Rattle.clr_load.specs.declared.fault.StoreFault.{StoreFault}
 use Rattle.clr_load.specs.declared.fault.StoreFault.TheVariants as store
@@ -61,6 +66,23 @@ survives_on s t u first later =
           (λ more. inr (omega (arith, later.counts, more))) (first.closes (clean c) before);
       crash = λ c db leaves. ⊎_elim (λ between. first.crash (clean c) db between) (λ none. absurd none) (later.crash c db leaves);
     }
+
+-- `Sql` that the later of two calls tells, of a connection that the first left open, has a cause
+-- in both
+pub opened_cause : (s t u : State) (fault : StoreFault) → Survives s t (λ _. ⊥) → Survives t u (λ _. ⊥) → HasCleanDisk u
+    → (IsTrue t.is_open → SqlHasCause t u fault) → SqlHasCause s u fault
+opened_cause s t u fault first later clean cause =
+    let between : HasCleanDisk t = omega (arith, later.clean, clean) in
+    has_cause s u fault (λ sql able.
+    ⊎_elim
+    (λ still. let more : MoreFaults t.faults u.faults = subst (SqlHasCause t u) sql (cause still.is_open) still in omega (arith, more, first.counts))
+    (λ more. omega (arith, more, later.counts))
+    (able_or_failed s t (λ _. ⊥) first between able))
+
+-- an error of the database is told as one of a line
+pub line_of_error : (e : Error) → IsOfLine (of_store (fault_of e))
+line_of_error (SqliteFailure code.OutOfMemory) = inl refl
+line_of_error _ = inr refl
 
 -- the disk was clean before, if it is behind
 pub was_clean : (s t : State) (Commits : Trees → Type 0) → Survives s t Commits → HasCleanDisk t → HasCleanDisk s

@@ -1,5 +1,5 @@
 -- Registers that databases have, and faults of the databases themselves.
-use Rattle.std.specs.Prelude.{◌≡◌, ◌⊎◌, IsTrue, Err}
+use Rattle.std.specs.Prelude.{◌≡◌, ◌⊎◌, false, IsTrue, Err}
 use Rattle.sqlite.specs.Effect.{Database}
 use Rattle.sqlite.specs.Files.{over_files}
 use Rattle.sqlite.specs.Held.{Held, state}
@@ -9,6 +9,7 @@ use Rattle.sqlite_store.specs.declared.store.FileStore.{FileStore}
 use Rattle.sqlite_trees.specs.declared.store.Store.{Ghosts}
 use Rattle.clr_rules.specs.Good.{IsGood}
 use Rattle.clr_rules.specs.Register.{Register}
+use Rattle.clr_load.specs.Cause.{SqlHasCause}
 use Rattle.clr_load.specs.Contract.{IsSaved}
 use Rattle.clr_load.specs.Stored.{AreTables, HasTables}
 use Rattle.clr_load.specs.declared.fault.StoreFault.{StoreFault}
@@ -80,8 +81,13 @@ abbrev pub RefusesTables : Tables → StoreFault → Type 0
 RefusesTables t cause = RefusesVersion (read_version t.meta) cause
     ⊎ OpensAs (λ (book : Shelved). book.register) (rows_read t) (Err cause)
 
--- the fault that is told of a database that is not opened
-abbrev pub IsRefused : {S : Type 0} → Ghosts S → Held S → Fault → Held S → Type 0
-IsRefused g before told after = (cause : StoreFault) × (told ≡ of_store cause)
-    × (HasCleanDisk (state g after) → (t : Tables) → HasTables (state g before).now t
-    → RefusesTables t cause)
+-- the fault that is told of a database that is not opened. Of tables that are there it is theirs,
+-- and `Sql` has a cause
+pub record IsRefused {S : Type 0} (g : Ghosts S) (before : Held S) (told : Fault) (after : Held S)
+    : Type 0 where
+  pub fault : StoreFault
+  pub told_is : told ≡ of_store fault
+  pub refuses : HasCleanDisk (state g after) → (t : Tables) → HasTables (state g before).now t
+      → RefusesTables t fault
+  pub cause : HasCleanDisk (state g after) → before.in_transaction ≡ false → (t : Tables)
+      → HasTables (state g before).now t → SqlHasCause (state g before) (state g after) fault

@@ -16,7 +16,7 @@ use clr_csv::Staff;
 use clr_desk::Desk;
 use clr_net::Network;
 use clr_store::{Back, Store, StoreFault};
-use sqlite::{Alter, Connection, FileFrom, FileStore, Start};
+use sqlite::{Alter, Connection, Error, FileFrom, FileStore, Start};
 use sqlite_disk::Disk;
 use std::alloc::Global;
 use std::rt::Files;
@@ -66,7 +66,7 @@ impl<'a, S: Start + Copy> Databases for Machine<'a, S> {
     {
         match Connection::open_from(self.rt, path, false, self.files) {
             Ok(connection) => Ok(connection),
-            Err((error, _)) => Err(Fault::from(StoreFault::from(error))),
+            Err((error, _)) => Err(fault_of(error)),
         }
     }
 
@@ -77,6 +77,13 @@ impl<'a, S: Start + Copy> Databases for Machine<'a, S> {
         expect_bytes(self.rt, path)?;
         self.database(path)
     }
+}
+
+/// The fault by which an error of a database is told.
+fn fault_of(error: Error) -> Fault
+    ensures { IsOfLine result }
+{
+    Fault::from(StoreFault::from(error))
 }
 
 /// Refuses a file that is not there, cannot be looked at or is empty: it has no database.
@@ -102,7 +109,7 @@ pub fn close<F: Disk + Drop>(connection: Connection<FileStore<F>>) -> Result<(),
 {
     match connection.close() {
         Ok(()) => Ok(()),
-        Err(error) => Err(Fault::from(StoreFault::from(error))),
+        Err(error) => Err(fault_of(error)),
     }
 }
 

@@ -1,5 +1,6 @@
 pub mod Texts
 pub mod Columns
+pub mod Causes
 pub mod Loading
 pub mod Versions
 pub mod TextsRead

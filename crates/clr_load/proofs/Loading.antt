@@ -13,7 +13,7 @@ use Rattle.sqlite.specs.Query.{IsAnswer, Output, output, output_cmp}
 use Rattle.sqlite.specs.Clock.{timed}
 use Rattle.sqlite.specs.Effect.{Database}
 use Rattle.sqlite.specs.Listing.{understood}
-use Rattle.sqlite.specs.State.{State, Shown, ShowsRows, IsUnchanged, IsRolledBack, KeepsCommit, RunsCommand, FailsToShow, FailsToQuery, IsNotRun, IsTooLate}
+use Rattle.sqlite.specs.State.{State, HasCleanDisk, Survives, Shown, ShowsRows, IsUnchanged, IsRolledBack, KeepsCommit, RunsCommand, FailsToShow, FailsToQuery, IsNotRun, IsTooLate}
 use Rattle.sqlite.specs.declared.error.Error.{Error}
 use Rattle.sqlite_resolve.specs.declared.compiled.Compiled.{Compiled}
 use Rattle.sqlite_schema.specs.declared.command.Returning.{Returning}
@@ -28,11 +28,13 @@ use Rattle.clr_shelf.specs.Rows.{in_key_order}
 use Rattle.clr_tables.specs.Tables.{Tables}
 use Rattle.clr_tables.specs.declared.table_name.TableName.{TableName}
 use Rattle.clr_tables.specs.declared.table_name.TableName.TheVariants.{Meta, Section, Point, Staff, Clearance, Step, Hold}
-use Rattle.clr_load.specs.Found.{Finds}
+use Rattle.clr_load.specs.Found.{Fails, Finds}
 use Rattle.clr_load.specs.Listed.{both_of}
 use Rattle.clr_load.specs.Schema.{behind_meta, columns_in, keys_in, no_schema, schema_of, tree_of, register_schema}
 use Rattle.clr_load.specs.Sql.{select_sql}
 use Rattle.clr_load.specs.Stored.{HasMeta, HasRows, HasTables, Holds, IsInOrder, bodies, fits_columns, rows_in}
+use Rattle.clr_load.specs.declared.fault.StoreFault.{StoreFault}
+use Rattle.clr_load.proofs.Causes.{then_cause}
 use Rattle.clr_load.proofs.Columns.{both_true, fits_length, key_order, met_values, values_all, values_from, values_shift, values_take}
 use Rattle.clr_load.proofs.Texts.{columns_width, listing, meta_is, meta_plain, meta_unlisted, order_from, select_is, select_plain, select_unknown, select_unlisted, width_of}
 
@@ -247,6 +249,14 @@ then_finds a b c f g x y p q = record {
       let first = p.found_is t has ordered in
       let second = q.found_is t first.1 ordered in
       (λ i. (first.0 i, second.0 i), second.1);
+}
+
+-- what fails after something was found has failed from there on
+pub then_fails : {A : Type 0} (a b c : State) (f : Tables → A) (x : A) (fault : StoreFault) (Commits : Trees → Type 0)
+    → Finds a b f x → Survives a b Commits → HasCleanDisk b → b.faults ≤ c.faults → Fails b c fault → Fails a c fault
+then_fails a b c f x fault Commits found first clean later failed = record {
+  kept = then_kept a b c found.kept failed.kept;
+  cause = λ t has ordered. then_cause a b c Commits fault first clean later (failed.cause t (found.found_is t has ordered).1 ordered);
 }
 
 -- the rows of all tables, found one after the other, are the tables

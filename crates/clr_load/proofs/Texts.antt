@@ -89,12 +89,12 @@ abbrev pub insert_terms : TableName → List Term
 insert_terms name = lit Null ∷ terms_from 0 0 (width_of name)
 
 -- ---- what each text is compiled to: the one place where it is read
-abbrev numbered : ℕ → List (List ℕ)
+abbrev pub numbered : ℕ → List (List ℕ)
 numbered given = take given (codes "?1" ∷ codes "?2" ∷ codes "?3" ∷ codes "?4" ∷ codes "?5"
     ∷ codes "?6" ∷ codes "?7" ∷ codes "?8" ∷ [])
 
 -- a command that is all of its text, with so many parameters, and no RETURNING or time
-abbrev all_of : List ℕ → ℕ → Command → Compiled
+abbrev pub all_of : List ℕ → ℕ → Command → Compiled
 all_of sql given command = record {
   command = command;
   returning = None;
@@ -111,7 +111,7 @@ inserting name = Insert (place_of name) (Values (insert_terms name) (suc (width_
 abbrev deleting : TableName → Command
 deleting name = Delete (place_of name) (record { lets = []; body = matching name })
 
-abbrev selecting : TableName → Command
+abbrev pub selecting : TableName → Command
 selecting name =
     Select (record { lets = []; body = listing name }) (names_of_columns (columns_in name))
 
@@ -137,7 +137,7 @@ delete_reads Clearance = refl
 delete_reads Step = refl
 delete_reads Hold = refl
 
-select_reads : (name : TableName) → compiled register_schema (select_sql name)
+pub select_reads : (name : TableName) → compiled register_schema (select_sql name)
     ≡ Ok (all_of (select_sql name) 0 (selecting name))
 unfolding everything
 select_reads Meta = refl
@@ -149,7 +149,7 @@ select_reads Step = refl
 select_reads Hold = refl
 
 -- the version is read whatever tables there are behind the one that tells it
-meta_reads : (others : Schema) → compiled (behind_meta others) (select_sql Meta)
+pub meta_reads : (others : Schema) → compiled (behind_meta others) (select_sql Meta)
     ≡ Ok (all_of (select_sql Meta) 0 (selecting Meta))
 unfolding everything
 meta_reads others = refl
@@ -222,7 +222,7 @@ unfolding everything
 set_hand_reads = refl
 
 -- ---- what follows of a text that is compiled
-understood_as : (schema : Schema) (sql : List ℕ) (c : Compiled) → compiled schema sql ≡ Ok c
+pub understood_as : (schema : Schema) (sql : List ℕ) (c : Compiled) → compiled schema sql ≡ Ok c
     → understood schema sql ≡ Ok c
 unfolding understood
 understood_as schema sql c is = rw is refl

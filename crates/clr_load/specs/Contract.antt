@@ -23,7 +23,15 @@ Gives view read (Err (WrongVersion n)) = ⊥
 Gives view read (Err Sql) = ⊤
 Gives view read (Err NoMemory) = ⊤
 
--- the same, where the value shows as itself
+-- the same of rows that lie in memory, where no database is asked
+abbrev pub Yields : {A X : Type 0} → (X → A) → Result A TableName → Result X StoreFault → Type 0
+Yields view read (Ok value) = read ≡ Ok (view value)
+Yields view read (Err (BadRow table)) = read ≡ Err table
+Yields view read (Err (WrongVersion n)) = ⊥
+Yields view read (Err Sql) = ⊥
+Yields view read (Err NoMemory) = ⊤
+
+-- what a database gives, where the value shows as itself
 abbrev pub Tells : {A : Type 0} → Result A TableName → Result A StoreFault → Type 0
 Tells read result = Gives (λ value. value) read result
 
@@ -43,6 +51,10 @@ rows_told rows = record {
 -- the rows that the tables read as are given, or the first table with a row that does not read
 abbrev pub GivesRows : Result Rows TableName → Result Loaded StoreFault → Type 0
 GivesRows read result = Gives rows_told read result
+
+-- the same of the rows that were listed
+abbrev pub YieldsRows : Result Rows TableName → Result Loaded StoreFault → Type 0
+YieldsRows read result = Yields rows_told read result
 
 -- the rows of a register are given, unless the database refuses or memory runs out
 abbrev pub GivesBack : Register → Result Loaded StoreFault → Type 0

@@ -2,6 +2,7 @@
 use Rattle.std.specs.Prelude.{◌≡◌, IsTrue, Result, MatchResult}
 use Rattle.sqlite.specs.State.{State, HasCleanDisk, KeepsCommit}
 use Rattle.clr_tables.specs.Tables.{Tables}
+use Rattle.clr_load.specs.Cause.{SqlHasCause}
 use Rattle.clr_load.specs.Stored.{Holds, IsInOrder}
 use Rattle.clr_load.specs.declared.fault.StoreFault.{StoreFault}
 
@@ -12,9 +13,14 @@ pub record Finds {A : Type 0} (old new : State) (tells : Tables → A) (found : 
   pub kept : KeepsCommit old new
   pub found_is : (t : Tables) → Holds old.now t → IsInOrder t → (found ≡ tells t) × Holds new.now t
 
+-- nothing is found or committed. Where the tables are there, `Sql` has a cause
+pub record Fails (old new : State) (fault : StoreFault) : Type 0 where
+  pub kept : KeepsCommit old new
+  pub cause : (t : Tables) → Holds old.now t → IsInOrder t → SqlHasCause old new fault
+
 -- a call inside a transaction finds it, or fails; it commits nothing
 abbrev pub Lists : {A X : Type 0} → State → State → (Tables → A) → (X → A) → Result X StoreFault
     → Type 0
 Lists old new tells items result =
     HasCleanDisk new → IsTrue old.in_transaction
-    → MatchResult result (λ listed. Finds old new tells (items listed)) (λ _. KeepsCommit old new)
+    → MatchResult result (λ listed. Finds old new tells (items listed)) (Fails old new)

@@ -2,6 +2,7 @@ pub mod Schema
 pub mod Sql
 pub mod Stored
 pub mod Fault
+pub mod Cause
 pub mod Found
 pub mod Contract
 pub mod Reading

@@ -1,6 +1,6 @@
 //! Why the store did not do what it was asked.
 ghost use Rattle.std.specs.Prelude.{◌≡◌};
-ghost use Rattle.clr_load.specs.Fault.{IsOfDatabase};
+ghost use Rattle.clr_load.specs.Cause.{fault_of};
 ghost use Rattle.clr_load.specs.declared.fault.StoreFault.TheVariants.{BadRow, NoMemory};
 
 use clr_tables::TableName;
@@ -21,7 +21,7 @@ pub enum StoreFault {
 }
 
 impl From<Error> for StoreFault {
-    ghost from_gives = { λ _ fault. IsOfDatabase fault };
+    ghost from_gives = { λ error fault. fault ≡ fault_of error };
 
     fn from(error: Error) -> StoreFault {
         match error {

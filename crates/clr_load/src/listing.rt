@@ -1,11 +1,13 @@
 //! The statement that lists the rows of a table.
-ghost use Rattle.std.specs.Prelude.{◌≡◌, [], IfErr, IfOk};
+ghost use Rattle.std.specs.Prelude.{◌≡◌, [], List, IfErr, IfOk, IsTrue};
 ghost use Rattle.sqlite.specs.Held.{state};
+ghost use Rattle.sqlite.specs.Order.{Row as SqlRow};
 ghost use Rattle.sqlite.specs.State.{HasCleanDisk, Shown, Survives};
+ghost use Rattle.clr_load.specs.Cause.{SqlHasCause};
 ghost use Rattle.clr_load.specs.Fault.{IsOfDatabase};
 ghost use Rattle.clr_load.specs.Found.{Lists};
 ghost use Rattle.clr_load.specs.Sql.{select_sql};
-ghost use Rattle.clr_load.specs.Stored.{rows_in};
+ghost use Rattle.clr_load.specs.Stored.{HasMeta, rows_in};
 
 use crate::fault::StoreFault;
 use clr_tables::TableName;
@@ -46,6 +48,11 @@ pub(crate) fn list_rows<S: Alter>(
         Shown (select_sql table) [] (state S.Store tx.old.conn.now)
         (state S.Store tx.new.conn.now) rows.items) }
     ensures fault { IfErr result IsOfDatabase }
+    ensures cause { HasCleanDisk (state S.Store tx.new.conn.now)
+        → IsTrue (state S.Store tx.old.conn.now).in_transaction → table ≡ TableName.Meta
+        → (meta : List SqlRow) → HasMeta (state S.Store tx.old.conn.now).now meta
+        → IfErr result (SqlHasCause (state S.Store tx.old.conn.now)
+        (state S.Store tx.new.conn.now)) }
     ensures survives { Survives (state S.Store tx.old.conn.now) (state S.Store tx.new.conn.now)
         (λ _. ⊥) }
 {

@@ -4,7 +4,8 @@ ghost use Rattle.sqlite.specs.Held.{state};
 ghost use Rattle.sqlite.specs.State.{HasCleanDisk, Survives};
 ghost use Rattle.clr_tables.specs.RowsRead.{rows_read};
 ghost use Rattle.clr_tables.specs.Tables.{Tables};
-ghost use Rattle.clr_load.specs.Contract.{GivesRows, IsSaved};
+ghost use Rattle.clr_load.specs.Cause.{SqlHasCause};
+ghost use Rattle.clr_load.specs.Contract.{GivesRows, IsSaved, YieldsRows};
 ghost use Rattle.clr_load.specs.Fault.{IsOfDatabase};
 ghost use Rattle.clr_load.specs.Found.{Lists};
 ghost use Rattle.clr_load.specs.Listed.{both_of, tables_in};
@@ -91,7 +92,7 @@ fn states_of(alloc: Global, read: &[PointRead]) -> Result<Vec<PointState>, Alloc
 
 /// Reads the rows of all tables, up to the first that does not read.
 fn rows_of(listed: &Listed) -> Result<Rows, StoreFault>
-    ensures { GivesRows (rows_read (tables_in listed.now)) result }
+    ensures { YieldsRows (rows_read (tables_in listed.now)) result }
 {
     let alloc = *listed.meta.allocator();
     let version = version_in(&listed.meta)?;
@@ -120,6 +121,9 @@ pub fn load_rows<S: Alter>(conn: &mut Connection<S>) -> Result<Rows, StoreFault>
     ensures mode { conn.old.in_transaction ≡ false → conn.new.in_transaction ≡ false }
     ensures rows { HasCleanDisk (state S.Store conn.new) → (t : Tables)
         → HasTables (state S.Store conn.old).now t → GivesRows (rows_read t) result }
+    ensures cause { conn.old.in_transaction ≡ false → HasCleanDisk (state S.Store conn.new)
+        → (t : Tables) → HasTables (state S.Store conn.old).now t
+        → IfErr result (SqlHasCause (state S.Store conn.old) (state S.Store conn.new)) }
     ensures was_open { HasCleanDisk (state S.Store conn.new)
         → IsTrue (state S.Store conn.old).is_open ⊎ IsErrAnd result IsOfDatabase }
     ensures saved { conn.old.in_transaction ≡ false → HasCleanDisk (state S.Store conn.new)

@@ -3,7 +3,7 @@
 ghost use Rattle.std.specs.Prelude.{◌≡◌};
 ghost use Rattle.clr_tables.specs.RowsRead.{all_read, read_clearance, read_hold, read_section};
 ghost use Rattle.clr_tables.specs.RowsRead.{read_staff, read_step};
-ghost use Rattle.clr_load.specs.Contract.{Gives};
+ghost use Rattle.clr_load.specs.Contract.{Yields};
 ghost use Rattle.clr_load.specs.Reading.{point_values};
 
 use crate::fault::StoreFault;
@@ -158,7 +158,7 @@ impl TableRow for Hold {
 
 /// Reads all rows of a table, up to the first that does not read.
 pub(crate) fn all_read<T: TableRow>(alloc: Global, rows: &[Row]) -> Result<Vec<T>, StoreFault>
-    ensures { Gives (λ items. items.items) (all_read T.TableRow.values rows.now) result }
+    ensures { Yields (λ items. items.items) (all_read T.TableRow.values rows.now) result }
 {
     let mut items = Vec::new(alloc);
     for row in rows {

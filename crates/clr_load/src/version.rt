@@ -1,10 +1,11 @@
 //! The version that the tables say they are of.
-ghost use Rattle.std.specs.Prelude.{◌≡◌, find, List, IsTrue, IfErr, IsErrAnd};
+ghost use Rattle.std.specs.Prelude.{◌≡◌, false, find, List, IsTrue, IfErr, IsErrAnd};
 ghost use Rattle.std.specs.Option.{option_copied};
 ghost use Rattle.sqlite.specs.Held.{state};
 ghost use Rattle.sqlite.specs.Order.{Row, column};
 ghost use Rattle.sqlite.specs.State.{HasCleanDisk, Survives};
 ghost use Rattle.clr_tables.specs.RowsRead.{integer_of, is_version_name, read_version};
+ghost use Rattle.clr_load.specs.Cause.{SqlHasCause};
 ghost use Rattle.clr_load.specs.Contract.{Tells};
 ghost use Rattle.clr_load.specs.Fault.{IsOfDatabase, IsOfVersion};
 ghost use Rattle.clr_load.specs.Schema.{no_schema};
@@ -64,6 +65,9 @@ pub fn read_version<S: Alter>(conn: &mut Connection<S>) -> Result<i64, StoreFaul
     ensures bare { HasCleanDisk (state S.Store conn.new)
         → (state S.Store conn.old).now.schema ≡ no_schema → IsErrAnd result IsOfDatabase }
     ensures fault { IfErr result IsOfVersion }
+    ensures cause { conn.old.in_transaction ≡ false → HasCleanDisk (state S.Store conn.new)
+        → (meta : List Row) → HasMeta (state S.Store conn.old).now meta
+        → IfErr result (SqlHasCause (state S.Store conn.old) (state S.Store conn.new)) }
     ensures same { HasCleanDisk (state S.Store conn.new) → IsTrue (state S.Store conn.new).is_open
         → (state S.Store conn.new).now ≡ (state S.Store conn.old).now }
     ensures survives { Survives (state S.Store conn.old) (state S.Store conn.new) (λ _. ⊥) }

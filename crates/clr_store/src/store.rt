@@ -11,6 +11,7 @@ ghost use Rattle.clr_tables.specs.Tables.{Tables, tables_of};
 ghost use Rattle.clr_tables.specs.TypedRows.{IsTyped};
 ghost use Rattle.clr_load.specs.Schema.{no_schema};
 ghost use Rattle.clr_load.specs.Stored.{AreTables, HasMeta, HasTables};
+ghost use Rattle.clr_load.specs.Cause.{SqlHasCause};
 ghost use Rattle.clr_load.specs.Fault.{IsOfDatabase};
 ghost use Rattle.clr_load.specs.Contract.{GivesBack, GivesRows, IsSaved};
 ghost use Rattle.clr_load.specs.declared.fault.StoreFault.TheVariants.{Sql};
@@ -118,6 +119,10 @@ impl<S: Alter + Drop> Store<S> {
         ensures none { IfErr result (λ back. HasCleanDisk (state S.Store back.connection)
             → IsTrue (state S.Store back.connection).is_open
             → (state S.Store back.connection).now ≡ (state S.Store connection).now) }
+        ensures cause { IfErr result (λ back. HasCleanDisk (state S.Store back.connection)
+            → connection.in_transaction ≡ false → (meta : List Row)
+            → HasMeta (state S.Store connection).now meta → SqlHasCause (state S.Store connection)
+            (state S.Store back.connection) back.fault) }
         ensures unread { IfErr result (λ back. HasCleanDisk (state S.Store back.connection)
             → (meta : List Row) → HasMeta (state S.Store connection).now meta
             → RefusesVersion (read_version meta) back.fault) }
@@ -163,6 +168,9 @@ impl<S: Alter + Drop> Store<S> {
         ensures register { HasCleanDisk (state S.Store self.new) → (R : Register) → IsGood R
             → IsTyped R → HasTables (state S.Store self.old).now (tables_of R)
             → GivesBack R result }
+        ensures cause { HasCleanDisk (state S.Store self.new) → (t : Tables)
+            → HasTables (state S.Store self.old).now t
+            → IfErr result (SqlHasCause (state S.Store self.old) (state S.Store self.new)) }
         ensures was_open { HasCleanDisk (state S.Store self.new)
             → IsTrue (state S.Store self.old).is_open ⊎ IsErrAnd result IsOfDatabase }
         ensures saved { HasCleanDisk (state S.Store self.new)

@@ -26,4 +26,4 @@ returns-in-Ok-clause-waits g c = waits_of_input c.run_over-printed.result _ _ c.
 
 -- the input is not read where the database is refused
 pub returns-in-Err-clause-cause : goal.returns-in-Err-clause-cause
-returns-in-Err-clause-cause g c is = absurd (of_store-no_input c.in-Err.ensures.told.0 c.in-Err.fault c.in-Err.ensures.told.1 (cc is))
+returns-in-Err-clause-cause g c is = absurd (of_store-no_input c.in-Err.ensures.told.fault c.in-Err.fault c.in-Err.ensures.told.told_is (cc is))

@@ -23,8 +23,7 @@ returns-in-Ok-clause-served g c =
 -- a database that was not opened
 pub returns-in-Err-clause-told : goal.returns-in-Err-clause-told
 returns-in-Err-clause-told g c =
-    let (cause, told, tables) = c.in-Err.ensures.told in
-    inl (IsOfStore-told cause _ told, refl, refl)
+    inl (IsOfStore-told c.in-Err.ensures.told.fault _ c.in-Err.ensures.told.told_is, refl, refl)
 
 pub returns-in-Err-clause-known : goal.returns-in-Err-clause-known
 returns-in-Err-clause-known g c R known = inl (c.in-Err.ensures.fault R known)

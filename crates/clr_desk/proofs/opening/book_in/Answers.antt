@@ -4,3 +4,6 @@ use Rattle.clr_desk.proofs.opening.book_in.Goals as goal
 
 pub returns-in-Err-clause-tables : goal.returns-in-Err-clause-tables
 returns-in-Err-clause-tables g c clean t has = not_loaded (rows_read t) c.in-Err.fault (c.in-Err.ensures.rows clean t has)
+
+pub returns-in-Err-clause-cause : goal.returns-in-Err-clause-cause
+returns-in-Err-clause-cause g c clean t has = c.in-Err.ensures.cause clean t has

@@ -1,12 +1,14 @@
 use Rattle.std.proofs.Common.{◌∙◌, ⊎_elim, ap, inl, inr, subst, sym}
 use Rattle.sqlite.specs.Held.{state}
 use Rattle.sqlite.specs.State.{HasCleanDisk}
+use Rattle.clr_load.specs.Cause.{SqlHasCause}
 use Rattle.clr_load.specs.Stored.{HasTables}
+use Rattle.clr_load.proofs.Loading.{has_meta}
 use Rattle.clr_tables.specs.Tables.{tables_of}
 use Rattle.clr_edge.specs.Database.{IsOfLine}
 use Rattle.clr_edge.specs.Fault.{of_desk}
 use Rattle.clr_edge.proofs.Databases.{IsOfCommand-shut, IsOfLine-of_command, IsOfLine-of_version}
-use Rattle.clr_edge.proofs.Databases.{RefusesVersion-of_command, of_desk-of_store, survives_on, was_clean}
+use Rattle.clr_edge.proofs.Databases.{RefusesVersion-of_command, of_desk-of_store, opened_cause, survives_on, was_clean}
 use Rattle.clr_desk.specs.Faults.{IsOfCommand}
 use Rattle.clr_edge.proofs.database.desk_over.Goals as goal
 
@@ -39,21 +41,34 @@ returns-in-Err-open-clause-fault g c R known =
 -- the fault is the one that was answered
 pub returns-in-Err-clause-told : goal.returns-in-Err-clause-told
 returns-in-Err-clause-told g c =
-    (c.in-Err.field-0.fault, c.from.ensures, λ clean t has. inl (c.in-Err.ensures.refused clean t has))
+    record {
+      fault = c.in-Err.field-0.fault;
+      told_is = c.from.ensures;
+      refuses = λ clean t has. inl (c.in-Err.ensures.refused clean t has);
+      cause = λ clean out t has. c.in-Err.ensures.cause clean out t.meta (has_meta _ t has);
+    }
 
 pub returns-in-Err-open-clause-told : goal.returns-in-Err-open-clause-told
 returns-in-Err-open-clause-told g c =
-    let (cause, is, refused) = c.in-Err-open.ensures.refused in (
-      cause,
-      c.from-in-Err-open.ensures ∙ (ap of_desk is ∙ of_desk-of_store cause),
-      λ clean_back t has.
+    let (fault, is, refused) = c.in-Err-open.ensures.refused in
+    let before = state g.S.Store c.args.connection in
+    record {
+      fault = fault;
+      told_is = c.from-in-Err-open.ensures ∙ (ap of_desk is ∙ of_desk-of_store fault);
+      refuses = λ clean_back t has.
           let clean = subst (λ h. HasCleanDisk (state g.S.Store h)) c.end.ensures.connection clean_back in
           ⊎_elim
           (λ was_open. inr (refused clean t (subst (λ db. HasTables db t)
-          (sym (c.in-Ok.ensures.opened (was_clean _ _ _ c.in-Err-open.ensures.survives_too clean) was_open)) has)))
-          (λ shut. inl (RefusesVersion-of_command _ cause (subst (λ fault. IsOfCommand fault) is shut)))
-          (c.in-Err-open.ensures.shut clean),
-    )
+          (sym (c.in-Ok.ensures.opened (was_clean _ _ _ c.in-Err-open.ensures.survives_too clean) was_open)) has)).0)
+          (λ shut. inl (RefusesVersion-of_command _ fault (subst (λ told. IsOfCommand told) is shut)))
+          (c.in-Err-open.ensures.shut clean);
+      cause = λ clean_back out t has.
+          let clean = subst (λ h. HasCleanDisk (state g.S.Store h)) c.end.ensures.connection clean_back in
+          subst (λ h. SqlHasCause before (state g.S.Store h) fault) (sym c.end.ensures.connection)
+          (opened_cause before _ _ fault c.in-Ok.ensures.crash_opened c.in-Err-open.ensures.survives_too clean
+          (λ was_open. (refused clean t (subst (λ db. HasTables db t)
+          (sym (c.in-Ok.ensures.opened (was_clean _ _ _ c.in-Err-open.ensures.survives_too clean) was_open)) has)).1));
+    }
 
 -- the tables are only read
 pub returns-in-Ok-open-clause-read : goal.returns-in-Ok-open-clause-read

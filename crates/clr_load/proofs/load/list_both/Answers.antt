@@ -1,8 +1,9 @@
 use Rattle.std.proofs.Common.{arith, rules}
 use Rattle.sqlite.specs.Held.{state}
-use Rattle.sqlite.specs.State.{HasCleanDisk, KeepsCommit}
+use Rattle.sqlite.specs.State.{HasCleanDisk}
+use Rattle.clr_load.specs.Found.{Fails}
 use Rattle.clr_load.specs.Stored.{rows_in}
-use Rattle.clr_load.proofs.Loading.{then_finds, then_kept}
+use Rattle.clr_load.proofs.Loading.{then_fails, then_finds}
 use Rattle.clr_load.proofs.load.list_both.Goals as goal
 
 pub returns-clause-step : goal.returns-clause-step
@@ -22,5 +23,7 @@ returns-in_err-second-clause-step g c clean inside =
     let new = state g.S.Store c.list_rows-2.new.tx.conn.now in
     let early : HasCleanDisk mid = omega (arith, c.list_rows-2.ensures.survives.clean) in
     let one = c.in_ok-first.ensures.step early inside in
-    let kept : KeepsCommit old new = then_kept old mid new one.kept (c.in_err-second.ensures.step clean one.inside) in
+    let failed : Fails old new c.in_err-second.field-0.0 =
+    then_fails old mid new (rows_in c.args.one) _ _ _ one c.list_rows.ensures.survives early c.list_rows-2.ensures.survives.counts
+    (c.in_err-second.ensures.step clean one.inside) in
     search rules

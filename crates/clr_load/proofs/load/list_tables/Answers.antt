@@ -1,7 +1,8 @@
 use Rattle.std.proofs.Common.{arith, rules}
 use Rattle.sqlite.specs.Held.{state}
-use Rattle.sqlite.specs.State.{HasCleanDisk, KeepsCommit}
-use Rattle.clr_load.proofs.Loading.{all_found, then_kept}
+use Rattle.sqlite.specs.State.{HasCleanDisk}
+use Rattle.clr_load.specs.Found.{Fails}
+use Rattle.clr_load.proofs.Loading.{all_found, then_fails}
 use Rattle.clr_load.proofs.load.list_tables.Goals as goal
 
 pub returns-clause-step : goal.returns-clause-step
@@ -27,7 +28,8 @@ returns-in_err-network-clause-step g c clean inside =
     let b = state g.S.Store c.list_both.new.tx.conn.now in
     let clean_a : HasCleanDisk a = omega (arith, c.list_both.ensures.survives.clean) in
     let meta = c.in_ok-meta.ensures.step clean_a inside in
-    let kept : KeepsCommit old b = then_kept old a b meta.kept (c.in_err-network.ensures.step clean meta.inside) in
+    let failed : Fails old b c.in_err-network.field-0.0 =
+    then_fails old a b _ _ _ _ meta c.list_rows.ensures.survives clean_a c.list_both.ensures.survives.counts (c.in_err-network.ensures.step clean meta.inside) in
     search rules
 
 pub returns-in_err-people-clause-step : goal.returns-in_err-people-clause-step
@@ -40,7 +42,12 @@ returns-in_err-people-clause-step g c clean inside =
     let clean_a : HasCleanDisk a = omega (arith, c.list_both.ensures.survives.clean) in
     let meta = c.in_ok-meta.ensures.step clean_a inside in
     let network = c.in_ok-network.ensures.step clean_b meta.inside in
-    let kept : KeepsCommit old d = then_kept old b d (then_kept old a b meta.kept network.kept) (c.in_err-people.ensures.step clean network.inside) in
+    let up_d = c.list_both-2.ensures.survives.counts in
+    let up_b = c.list_both.ensures.survives.counts in
+    let from_a : Fails a d c.in_err-people.field-0.0 =
+    then_fails a b d _ _ _ _ network c.list_both.ensures.survives clean_b up_d (c.in_err-people.ensures.step clean network.inside) in
+    let failed : Fails old d c.in_err-people.field-0.0 =
+    then_fails old a d _ _ _ _ meta c.list_rows.ensures.survives clean_a (omega (arith, up_b, up_d)) from_a in
     search rules
 
 pub returns-in_err-work-clause-step : goal.returns-in_err-work-clause-step
@@ -56,6 +63,13 @@ returns-in_err-work-clause-step g c clean inside =
     let meta = c.in_ok-meta.ensures.step clean_a inside in
     let network = c.in_ok-network.ensures.step clean_b meta.inside in
     let people = c.in_ok-people.ensures.step clean_d network.inside in
-    let kept : KeepsCommit old new = then_kept old d new (then_kept old b d (then_kept old a b meta.kept network.kept) people.kept)
-    (c.in_err-work.ensures.step clean people.inside) in
+    let up_new = c.list_both-3.ensures.survives.counts in
+    let up_d = c.list_both-2.ensures.survives.counts in
+    let up_b = c.list_both.ensures.survives.counts in
+    let from_b : Fails b new c.in_err-work.field-0.0 =
+    then_fails b d new _ _ _ _ people c.list_both-2.ensures.survives clean_d up_new (c.in_err-work.ensures.step clean people.inside) in
+    let from_a : Fails a new c.in_err-work.field-0.0 =
+    then_fails a b new _ _ _ _ network c.list_both.ensures.survives clean_b (omega (arith, up_d, up_new)) from_b in
+    let failed : Fails old new c.in_err-work.field-0.0 =
+    then_fails old a new _ _ _ _ meta c.list_rows.ensures.survives clean_a (omega (arith, up_b, up_d, up_new)) from_a in
     search rules

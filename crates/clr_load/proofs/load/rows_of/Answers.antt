@@ -1,7 +1,7 @@
 use Rattle.std.proofs.Common.{◌≡◌, ◌∙◌, Ok, Err, FitsSigned, ap, map, of_z, rules, subst, sym, to_z, to_z-of_z, w64}
 use Rattle.clr_tables.specs.RowsRead.{all_read, read_clearance, read_hold, read_point, read_section, read_staff, read_step, read_version, rows_read}
 use Rattle.clr_tables.specs.declared.table_name.TableName.{TableName}
-use Rattle.clr_load.specs.Contract.{GivesRows, rows_told}
+use Rattle.clr_load.specs.Contract.{YieldsRows, rows_told}
 use Rattle.clr_load.specs.Listed.{tables_in}
 use Rattle.clr_load.specs.Reading.{point_values}
 use Rattle.clr_load.specs.declared.fault.StoreFault.TheVariants.{BadRow}
@@ -19,7 +19,7 @@ returns-in_err-version c =
     let whole : rows_read t ≡ Err bad = joined t ∙ (λ i. rows_joined (v i) (all_read read_section t.sections)
     (all_read read_point t.points) (all_read read_staff t.staff) (all_read read_clearance t.clearances)
     (all_read read_step t.steps) (all_read read_hold t.holds)) in
-    subst (GivesRows (rows_read t)) (sym told) whole
+    subst (YieldsRows (rows_read t)) (sym told) whole
 
 pub returns-in_err-sections : goal.returns-in_err-sections
 returns-in_err-sections c =
@@ -30,7 +30,7 @@ returns-in_err-sections c =
     let fails : (bad : TableName) → all_read read_section c.deref-2.result.now ≡ Err bad → rows_read t ≡ Err bad = λ bad is.
     let here : all_read read_section t.sections ≡ Err bad = ap (all_read read_section) (sym c.deref-2.ensures.value) ∙ is in
     joined t ∙ (λ i. rows_joined (v i) (here i) (all_read read_point t.points) (all_read read_staff t.staff) (all_read read_clearance t.clearances) (all_read read_step t.steps) (all_read read_hold t.holds)) in
-    subst (GivesRows (rows_read t)) (sym told)
+    subst (YieldsRows (rows_read t)) (sym told)
     (fault_gives rows_told (all_read read_section c.deref-2.result.now) (rows_read t) c.in_err-sections.field-0.0 fails c.in_err-sections.ensures)
 
 pub returns-in_err-read : goal.returns-in_err-read
@@ -44,7 +44,7 @@ returns-in_err-read c =
     let fails : (bad : TableName) → all_read point_values c.deref-3.result.now ≡ Err bad → rows_read t ≡ Err bad = λ bad is.
     let here : all_read read_point t.points ≡ Err bad = points_fail t.points bad (ap (all_read point_values) (sym c.deref-3.ensures.value) ∙ is) in
     joined t ∙ (λ i. rows_joined (v i) (s i) (here i) (all_read read_staff t.staff) (all_read read_clearance t.clearances) (all_read read_step t.steps) (all_read read_hold t.holds)) in
-    subst (GivesRows (rows_read t)) (sym told)
+    subst (YieldsRows (rows_read t)) (sym told)
     (fault_gives rows_told (all_read point_values c.deref-3.result.now) (rows_read t) c.in_err-read.field-0.0 fails c.in_err-read.ensures)
 
 pub returns-in_err-staff : goal.returns-in_err-staff
@@ -61,7 +61,7 @@ returns-in_err-staff c =
     let fails : (bad : TableName) → all_read read_staff c.deref-4.result.now ≡ Err bad → rows_read t ≡ Err bad = λ bad is.
     let here : all_read read_staff t.staff ≡ Err bad = ap (all_read read_staff) (sym c.deref-4.ensures.value) ∙ is in
     joined t ∙ (λ i. rows_joined (v i) (s i) (them.read_is i) (here i) (all_read read_clearance t.clearances) (all_read read_step t.steps) (all_read read_hold t.holds)) in
-    subst (GivesRows (rows_read t)) (sym told)
+    subst (YieldsRows (rows_read t)) (sym told)
     (fault_gives rows_told (all_read read_staff c.deref-4.result.now) (rows_read t) c.in_err-staff.field-0.0 fails c.in_err-staff.ensures)
 
 pub returns-in_err-records : goal.returns-in_err-records
@@ -80,7 +80,7 @@ returns-in_err-records c =
     let fails : (bad : TableName) → all_read read_clearance c.deref-5.result.now ≡ Err bad → rows_read t ≡ Err bad = λ bad is.
     let here : all_read read_clearance t.clearances ≡ Err bad = ap (all_read read_clearance) (sym c.deref-5.ensures.value) ∙ is in
     joined t ∙ (λ i. rows_joined (v i) (s i) (them.read_is i) (e i) (here i) (all_read read_step t.steps) (all_read read_hold t.holds)) in
-    subst (GivesRows (rows_read t)) (sym told)
+    subst (YieldsRows (rows_read t)) (sym told)
     (fault_gives rows_told (all_read read_clearance c.deref-5.result.now) (rows_read t) c.in_err-records.field-0.0 fails c.in_err-records.ensures)
 
 pub returns-in_err-steps : goal.returns-in_err-steps
@@ -101,7 +101,7 @@ returns-in_err-steps c =
     let fails : (bad : TableName) → all_read read_step c.deref-6.result.now ≡ Err bad → rows_read t ≡ Err bad = λ bad is.
     let here : all_read read_step t.steps ≡ Err bad = ap (all_read read_step) (sym c.deref-6.ensures.value) ∙ is in
     joined t ∙ (λ i. rows_joined (v i) (s i) (them.read_is i) (e i) (r i) (here i) (all_read read_hold t.holds)) in
-    subst (GivesRows (rows_read t)) (sym told)
+    subst (YieldsRows (rows_read t)) (sym told)
     (fault_gives rows_told (all_read read_step c.deref-6.result.now) (rows_read t) c.in_err-steps.field-0.0 fails c.in_err-steps.ensures)
 
 pub returns-in_err-holds : goal.returns-in_err-holds
@@ -124,7 +124,7 @@ returns-in_err-holds c =
     let fails : (bad : TableName) → all_read read_hold c.deref-7.result.now ≡ Err bad → rows_read t ≡ Err bad = λ bad is.
     let here : all_read read_hold t.holds ≡ Err bad = ap (all_read read_hold) (sym c.deref-7.ensures.value) ∙ is in
     joined t ∙ (λ i. rows_joined (v i) (s i) (them.read_is i) (e i) (r i) (w i) (here i)) in
-    subst (GivesRows (rows_read t)) (sym told)
+    subst (YieldsRows (rows_read t)) (sym told)
     (fault_gives rows_told (all_read read_hold c.deref-7.result.now) (rows_read t) c.in_err-holds.field-0.0 fails c.in_err-holds.ensures)
 
 pub returns : goal.returns

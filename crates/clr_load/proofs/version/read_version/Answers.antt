@@ -4,6 +4,8 @@ use Rattle.sqlite.specs.State.{HasCleanDisk}
 use Rattle.clr_tables.specs.RowsRead.{read_version}
 use Rattle.clr_tables.specs.declared.table_name.TableName.TheVariants.{Meta}
 use Rattle.clr_load.specs.declared.fault.StoreFault.TheVariants.{BadRow}
+use Rattle.clr_load.specs.Cause.{SqlHasCause}
+use Rattle.clr_load.proofs.Causes.{begun_cause, cause_later}
 use Rattle.clr_load.proofs.Loading.{lists_meta, never_shown}
 use Rattle.clr_load.proofs.Versions.{of_meta, tells_fault, told_of_meta}
 use Rattle.clr_load.proofs.version.read_version.Goals as goal
@@ -19,6 +21,18 @@ returns-in_err-version-clause-version g c clean meta has =
     let told : c.from_residual-in_err-version.result ≡ Err (BadRow c.in_err-version.field-0.0) = search rules in
     let read : read_version meta ≡ Err c.in_err-version.field-0.0 = sym (c.version_in.ensures ∙ ap read_version (c.deref.ensures.value ∙ rows)) ∙ got in
     tells_fault (read_version meta) c.from_residual-in_err-version.result c.in_err-version.field-0.0 read told
+
+pub returns-in_err-rows-clause-cause : goal.returns-in_err-rows-clause-cause
+returns-in_err-rows-clause-cause g c out clean meta has =
+    let mid = c.list_rows.new.tx.conn.now in
+    let end = c.drop-tx.new.self.0 in
+    let begun = c.transaction-tx.ensures.begun in
+    let late : HasCleanDisk (state g.S.Store end) = search rules in
+    let early : HasCleanDisk (state g.S.Store mid) = omega (arith, c.drop-tx.ensures.survives.clean) in
+    let failed = rw begun at (c.in_err-rows.ensures.cause early (rw begun refl) refl meta (rw begun has)) in
+    let caused : SqlHasCause (state g.S.Store c.args.conn.now) (state g.S.Store end) c.in_err-rows.field-0.0 =
+    cause_later _ (state g.S.Store mid) _ _ _ c.drop-tx.ensures.survives (begun_cause g.S.Store c.args.conn.now (state g.S.Store mid) _ failed) in
+    search rules
 
 pub returns-in_err-version-clause-fault : goal.returns-in_err-version-clause-fault
 returns-in_err-version-clause-fault g c =

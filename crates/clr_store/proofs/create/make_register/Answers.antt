@@ -11,6 +11,7 @@ use Rattle.clr_load.specs.Schema.{no_schema}
 use Rattle.clr_load.specs.Stored.{AreTables, HasTables}
 use Rattle.clr_load.proofs.Reopened.{left_of}
 use Rattle.clr_store.proofs.Creating.{still_clean, whole}
+use Rattle.clr_load.proofs.Causes.{told_of_database}
 use Rattle.clr_store.proofs.create.make_register.Goals as goal
 
 pub returns-clause-made : goal.returns-clause-made
@@ -84,3 +85,8 @@ returns-in_err-commit-clause-crash g c =
     subst P (sym is) (left_of (state g.S.Store mid).now opens (ran late)))
     (survives_begin g.S.Store old (state g.S.Store mid) _ inside) c.commit.ensures.survives in
     subst (λ h. Survives (state g.S.Store old) (state g.S.Store h) P) same all
+
+pub returns-in_err-commit-clause-fault : goal.returns-in_err-commit-clause-fault
+returns-in_err-commit-clause-fault g c =
+    let told = told_of_database c.in_err-commit.field-0.0 in
+    search rules

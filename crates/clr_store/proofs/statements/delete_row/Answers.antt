@@ -1,8 +1,10 @@
+use Rattle.std.proofs.Common.{rules}
 use Rattle.sqlite.specs.Held.{state}
 use Rattle.sqlite.specs.Values.{bound}
 use Rattle.clr_load.specs.Schema.{keys_in}
 use Rattle.clr_load.proofs.Columns.{key_parts}
 use Rattle.clr_store.proofs.Inside.{removes}
+use Rattle.clr_load.proofs.Causes.{told_of_database}
 use Rattle.clr_store.proofs.statements.delete_row.Goals as goal
 
 pub returns-clause-step : goal.returns-clause-step
@@ -10,3 +12,8 @@ returns-clause-step g c clean inside =
     let parts = key_parts (keys_in c.args.table) (bound c.args.key.now) c.requires in
     removes (state g.S.Store c.args.tx.now.conn.now) (state g.S.Store c.execute.new.self.conn.now) c.args.table (bound c.args.key.now) c.in_ok-execute.field-0 parts.0 parts.1
     (rw c.delete_sql.ensures at (c.in_ok-execute.ensures.runs clean inside))
+
+pub returns-in_err-execute-clause-fault : goal.returns-in_err-execute-clause-fault
+returns-in_err-execute-clause-fault g c =
+    let told = told_of_database c.in_err-execute.field-0.0 in
+    search rules

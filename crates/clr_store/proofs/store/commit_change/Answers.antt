@@ -6,6 +6,7 @@ use Rattle.clr_tables.specs.TableEdits.{tables_edited}
 use Rattle.clr_store.specs.Contract.{AreEdited}
 use Rattle.clr_load.specs.Stored.{HasTables}
 use Rattle.clr_store.proofs.Inside.{commit_crash, edited_tables}
+use Rattle.clr_load.proofs.Causes.{told_of_database}
 use Rattle.clr_store.proofs.store.commit_change.Goals as goal
 
 pub returns-clause-made : goal.returns-clause-made
@@ -43,3 +44,8 @@ returns-in_err-commit-clause-crash g c =
     subst (λ h. Survives (state g.S.Store old) (state g.S.Store h) (AreEdited (state g.S.Store old).now c.args.change.now.edits.items)) same
     (commit_crash g.S.Store old mid end c.args.change.now.edits.items (rw begun at c.make_all.ensures.survives) c.commit.ensures.survives
     (λ clean. rw (begun, c.as_slice.ensures.value) at (c.in_ok-make_all.ensures.step clean (rw begun refl))))
+
+pub returns-in_err-commit-clause-fault : goal.returns-in_err-commit-clause-fault
+returns-in_err-commit-clause-fault g c =
+    let told = told_of_database c.in_err-commit.field-0.0 in
+    search rules

@@ -23,3 +23,7 @@ returns-in-Err-clause-cause g c clean R good typed has =
 pub returns-in-Err-clause-shut : goal.returns-in-Err-clause-shut
 returns-in-Err-clause-shut g c clean =
     shut_or_open _ c.in-Err.fault c.from.result (c.in-Err.ensures.was_open clean) (search rules)
+
+pub returns-in-Err-clause-refused : goal.returns-in-Err-clause-refused
+returns-in-Err-clause-refused g c =
+    (c.in-Err.fault, c.from.ensures, λ clean t has. (c.in-Err.ensures.tables clean t has, c.in-Err.ensures.cause clean t has))

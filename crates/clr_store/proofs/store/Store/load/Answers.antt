@@ -1,10 +1,11 @@
-use Rattle.std.proofs.Common.{◌≡◌, ◌⊎◌, IsTrue, rules, subst}
-use Rattle.std.specs.Prelude.{IsErrAnd}
+use Rattle.std.proofs.Common.{◌≡◌, ◌⊎◌, IsTrue, false, rules, subst}
+use Rattle.std.specs.Prelude.{IfErr, IsErrAnd}
 use Rattle.sqlite.specs.Held.{state}
 use Rattle.sqlite.specs.State.{HasCleanDisk}
 use Rattle.clr_tables.proofs.TablesRead.{tables_are_read}
 use Rattle.clr_tables.specs.RowsRead.{rows_read}
 use Rattle.clr_tables.specs.Tables.{Tables, tables_of}
+use Rattle.clr_load.specs.Cause.{SqlHasCause}
 use Rattle.clr_load.specs.Contract.{GivesRows}
 use Rattle.clr_load.specs.Fault.{IsOfDatabase}
 use Rattle.clr_load.specs.Stored.{HasTables}
@@ -33,3 +34,11 @@ returns-clause-was_open g c =
     let is : c.self.inside.connection ≡ c.args.self.now = search rules in
     subst (λ h. HasCleanDisk new → IsTrue (state g.S.Store h).is_open ⊎ IsErrAnd c.load_rows.result IsOfDatabase)
     is c.load_rows.ensures.was_open
+
+pub returns-clause-cause : goal.returns-clause-cause
+returns-clause-cause g c clean t has =
+    let new = state g.S.Store c.load_rows.new.conn in
+    let is : c.self.inside.connection ≡ c.args.self.now = search rules in
+    let out : c.self.inside.connection.in_transaction ≡ false = search rules in
+    subst (λ h. (t : Tables) → HasTables (state g.S.Store h).now t → IfErr c.load_rows.result (SqlHasCause (state g.S.Store h) new))
+    is (c.load_rows.ensures.cause out clean) t has

@@ -7,6 +7,9 @@ use Rattle.clr_store.proofs.store.Store.open.Goals as goal
 pub returns-in-Err-clause-refused : goal.returns-in-Err-clause-refused
 returns-in-Err-clause-refused g c clean t has = refuses (read_version t.meta) c.in-Err.fault (c.in-Err.ensures.version clean t.meta (has_meta _ t has))
 
+pub returns-in-Err-clause-cause : goal.returns-in-Err-clause-cause
+returns-in-Err-clause-cause g c clean out meta has = c.in-Err.ensures.cause out clean meta has
+
 pub returns-in-Err-clause-unread : goal.returns-in-Err-clause-unread
 returns-in-Err-clause-unread g c clean meta has = refuses (read_version meta) c.in-Err.fault (c.in-Err.ensures.version clean meta has)
 
