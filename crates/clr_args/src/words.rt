@@ -36,8 +36,8 @@ pub fn words_of<'a>(
     Ok(words)
 }
 
-/// The minutes of `--offset`; 0 where they are not given. clap lets no others pass than from -720 to
-/// 840.
+/// The minutes of `--offset`; 0 where they are not given. clap lets only those from -720 to 840
+/// pass.
 pub fn offset_of(matches: &ArgMatches<'_>) -> i16
     ensures low { neg_ℤ (pos 720) ≤ℤ result }
     ensures high { result ≤ℤ pos 840 }
@@ -83,8 +83,8 @@ fn port_in(word: &str) -> u16
     }
 }
 
-/// How many connections `--count` asks for. clap lets no words pass without it, nor any other number
-/// than from 1 to 1000000.
+/// How many connections `--count` asks for. clap lets no words pass without it, and only numbers
+/// from 1 to 1000000.
 pub fn count_of(matches: &ArgMatches<'_>) -> usize
     ensures { result
         ≡ number_in 1000000 (first_of (codes "count") (rows_of (found_of matches.now))) }

@@ -25,10 +25,10 @@ pub enum Outcome {
     Unread(String),
 }
 
-/// Writes what words resulted in where it belongs, and returns the exit status: an answer to `output`,
-/// 0; a fault to `errors`, 1, behind what came before it; why words do not parse to `errors`, 2. An
-/// answer that cannot be written is a fault. What cannot be written to `errors` is lost. A server
-/// is run to its end, and its status is 0 unless it meets a fault.
+/// Writes what words resulted in where it belongs, and returns the exit status: an answer to
+/// `output`, 0; a fault to `errors`, 1, behind what came before it; why words do not parse to
+/// `errors`, 2. An answer that cannot be written is a fault. What cannot be written to `errors` is
+/// lost. A server is run to its end, and its status is 0 unless it meets a fault.
 pub fn tell<R: Databases + Loopback + AllocGlobal, W: CountedFlush, E: CountedFlush>(
     rt: &R,
     told: Result<Outcome, Fault>,

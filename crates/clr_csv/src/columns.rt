@@ -12,9 +12,9 @@ use csv::StringRecord;
 /// Why a column of a row does not read. Columns count from 1.
 #[derive(Clone, Copy, Debug, PartialEq, Eq)]
 pub(crate) enum ColumnFault {
-    /// The field is no name.
+    /// The field is not a name.
     BadName(usize),
-    /// The field is none of the words that may stand there.
+    /// The field is not a word that may stand there.
     BadWord(usize),
 }
 
@@ -38,7 +38,7 @@ fn field_in(column: usize, fields: &StringRecord) -> &str
     fields.get(column - 1).unwrap_or("")
 }
 
-/// Reads a name. It is stored in place, so there is no want of memory.
+/// Reads a name. It is stored in place, so no memory is asked for.
 pub(crate) fn name_in(column: usize, fields: &StringRecord) -> Result<Name, ColumnFault>
     requires { 0 < column }
     ensures { result ≡ name_in column (fields_of fields.now) }

@@ -24,10 +24,10 @@ pub enum CsvFault {
     /// This row has fewer or more fields than the header.
     #[error("row {0} has not as many fields as the header")]
     FieldCount(usize),
-    /// The field of this row and column is no name.
+    /// The field of this row and column is not a name.
     #[error("row {0}, column {1}: no name")]
     BadName(usize, usize),
-    /// The field of this row and column is none of the words that may stand there.
+    /// The field of this row and column is not a word that may stand there.
     #[error("row {0}, column {1}: not a word that may stand there")]
     BadWord(usize, usize),
     /// Memory ran out.

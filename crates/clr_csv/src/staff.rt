@@ -112,7 +112,7 @@ fn check_supervisors(by_name: &[StaffRow], rows: &[StaffRow]) -> Result<(), Staf
     Ok(())
 }
 
-/// The first place of a row with a supervisor who is none of the staff.
+/// The first place of a row with a supervisor who is not among the staff.
 fn unknown_supervisor(by_name: &[StaffRow], rows: &[StaffRow]) -> Option<usize>
     requires { IsStrictlySortedBy name_cmp (staff_names by_name.now) }
     ensures { result

@@ -14,7 +14,7 @@ pub enum StaffFault {
     /// This row has the name of an earlier one.
     #[error("row {0} of the staff has the name of an earlier row")]
     Twice(usize),
-    /// This row has a supervisor who is none of the staff.
+    /// This row has a supervisor who is not among the staff.
     #[error("row {0} of the staff has a supervisor who is none of the staff")]
     UnknownSupervisor(usize),
     /// This row has its own name as its supervisor.

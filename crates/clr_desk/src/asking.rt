@@ -1,5 +1,5 @@
-//! What is done for one command before its change is committed: it is answered, and room is made for
-//! its change.
+//! What is done for one command before its change is committed: it is answered, and room is made
+//! for its change.
 ghost use Rattle.std.specs.Prelude.{◌≡◌, IfOk};
 ghost use Rattle.clr_book.specs.Decision.{ChangesIfAccepted, answer_of_decision};
 ghost use Rattle.clr_book.specs.Book.{Fits, needs};

@@ -9,7 +9,7 @@ use std::alloc::{AllocError, AllocFailed};
 /// Why the desk did not carry out a command, or was not opened.
 #[derive(Clone, Copy, Debug, PartialEq, Eq)]
 pub enum DeskFault {
-    /// The store answered this fault, which is never want of memory.
+    /// The store answered this fault, which is never `NoMemory`.
     Store(StoreFault),
     /// Memory ran out.
     NoMemory,

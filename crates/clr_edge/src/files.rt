@@ -101,7 +101,7 @@ fn staff_in<S: Source>(alloc: Global, source: &mut S) -> Result<Vec<StaffRow>, C
     Ok(rows)
 }
 
-/// What the rows of a file come to, its faults told of it.
+/// The rows of a file; a fault is told with the file that has it.
 fn told_of<T>(file: ImportFile, rows: Result<T, CsvFault>) -> Result<T, Fault>
     ensures { result ≡ told_of file rows }
 {

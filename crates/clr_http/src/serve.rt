@@ -21,7 +21,7 @@ use http::StatusCode;
 use std::alloc::{AllocError, AllocFailed, Global};
 use thiserror::Error;
 
-/// What a connection came to.
+/// How a connection ended.
 #[derive(Clone, Copy, Debug, PartialEq, Eq)]
 pub enum Served {
     /// The input ended before its first byte.

@@ -43,8 +43,8 @@ impl<'a> Model for Fence<'a> {
 }
 
 impl<'a> Fence<'a> {
-    /// The fence that has these rows, each list in the order of names: one whose rows were lent
-    /// apart from their network.
+    /// The fence that has these rows, each list in the order of names: rows that were lent apart
+    /// from their network.
     pub fn of_rows(sections: Vec<&'a SectionRow>, touching: Vec<&'a PointRow>) -> Self
         requires sections_rise { IsStrictlySortedBy name_cmp
             (section_names (map (λ row. row.now) sections.items)) }

@@ -24,7 +24,7 @@ pub enum StepState {
 }
 
 impl StepState {
-    /// All states, in the order in which a step comes to them.
+    /// All states, in the order in which a step passes through them.
     const ALL: [StepState; 4] = [
         StepState::Waiting,
         StepState::Instructed,

@@ -55,7 +55,7 @@ fn empty_blocks<T: Drop>(alloc: Global, count: usize) -> Result<Vec<Block<T>>, A
 }
 
 // The refusal of more numbers than any memory has room for: they are asked for all the same, so
-// that want of memory is only told where a growth was refused.
+// that out of memory is only told where a growth was refused.
 fn refusal_of_all(alloc: Global) -> AllocError {
     let mut numbers: Vec<usize> = Vec::new(alloc);
     match numbers.reserve(usize::MAX) {

@@ -32,8 +32,8 @@ pub trait Shelf<R: Row>: Drop {
     fn get(&self, key: &R::Key) -> Option<&R>
         ensures { option_copied result ≡ row_of R.key_cmp R.key_of key.now (rows self.now) };
 
-    /// The row at a place, which is nothing from `len` on. Each row stands at one place below `len`,
-    /// until the next put or take.
+    /// The row at a place; nothing from `len` on. Each row stands at one place below `len`, until
+    /// the next put or take.
     fn at(&self, place: usize) -> Option<&R>
         ensures { option_copied result ≡ slice_get (places self.now) place };
 

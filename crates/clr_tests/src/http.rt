@@ -105,8 +105,8 @@ const REFUSED: [(&str, &str); 8] = [
 ];
 
 /// From the opening register on: an input of no bytes, one that ends within the head, a method that
-/// the route has not, a request, an order and its first step, and what is printed then. The last two
-/// are not there: another round, and no round at all.
+/// the route has not, a request, an order and its first step, and what is printed then. The last
+/// two are not there: another round, and no round at all.
 const FIRST_STEP: [(&str, &str); 12] = [
     ("", ""),
     (

@@ -55,8 +55,8 @@ fn one_section_too_many(rt: HostRuntime) -> Result<(), Fail> {
     Ok(())
 }
 
-/// The fault of the staff E0001, E0002 and on, each but the first with the one before as supervisor,
-/// if it has one. Out of memory ends the test.
+/// The fault of the staff E0001, E0002 and on, if it has one; each but the first has the one before
+/// as supervisor. Out of memory ends the test.
 fn staff_fault(alloc: Global, count: u16) -> Result<Option<StaffFault>, Fail> {
     let mut rows = Vec::new(alloc);
     let mut supervisor = None;

@@ -17,7 +17,8 @@ fn closed(point: Name) -> PointState {
     }
 }
 
-// With the first allocation of the second `reserve` refused it shows that a refusal leaves all rows.
+// With the first allocation of the second `reserve` refused, it shows that a refusal leaves all
+// rows.
 #[test]
 fn refused_room_leaves_the_rows(rt: HostRuntime) -> Result<(), Fail> {
     let kept = closed(Name::read("S1")?);

@@ -1,4 +1,4 @@
-//! What is read of a shelf as a whole.
+//! Reads whole shelves.
 ghost use Rattle.std.specs.Prelude.{◌≡◌, IfOk, map};
 
 use clr_shelf::{Row, Shelf};

@@ -9,7 +9,7 @@ use clr_csv::Role;
 use clr_net::Name;
 use clr_rules::Refusal;
 
-/// Whether the caller is none of the staff.
+/// Whether the caller is not among the staff.
 pub(crate) fn unknown_caller(near: &Near, by: Name) -> Option<Refusal>
     ensures { result ≡ unknown_caller near.now.rows by }
 {
@@ -35,7 +35,7 @@ pub(crate) fn not_field(near: &Near, by: Name) -> Option<Refusal>
     refuse(!matches!(row.role, Role::Field), Refusal::WrongRole)
 }
 
-/// Whether the caller is none who may be in charge.
+/// Whether the caller may not be in charge.
 pub(crate) fn not_charge(near: &Near, by: Name) -> Option<Refusal>
     ensures { result ≡ wrong_role near.now.rows by is_charge }
 {

@@ -146,8 +146,8 @@ fn refusal_of(told: Result<(), OrderFault>) -> Option<Refusal>
     }
 }
 
-/// The refusal of a command whose order has this fault. Want of memory is none, and no check of an
-/// order answers it.
+/// The refusal of a command whose order has this fault. Out of memory is not a refusal, and no
+/// check of an order answers it.
 fn order_refusal(fault: OrderFault) -> Option<Refusal>
     ensures { result ≡ order_refusal (Some fault) }
 {

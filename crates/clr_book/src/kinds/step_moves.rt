@@ -1,4 +1,4 @@
-//! A step that has come to another state.
+//! A step that moves to another state.
 ghost use Rattle.std.specs.Prelude.{◌≡◌};
 ghost use Rattle.clr_rules.specs.Changes.{step_moved};
 
