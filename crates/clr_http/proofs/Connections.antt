@@ -1,17 +1,19 @@
 -- What went out to a connection, by what was read and how it was answered.
-use Rattle.std.proofs.Common.{◌≡◌, ℕ, List, Option, Some, arith, inl, inr, refl, sym, subst}
+use Rattle.std.proofs.Common.{◌≡◌, ℕ, List, Option, Some, ap, arith, inl, inr, refl, sym, subst}
 use Rattle.std.specs.Prelude.{◌≢◌, ◌⊎◌, Result, Ok, Err}
 use Rattle.clr_csv.specs.Failures.{Rose, one_more}
 use Rattle.clr_csv.specs.Streams.{Stream}
 use Rattle.clr_http.proofs.Turns.{IsLeft, turn_leaves}
-use Rattle.clr_http.specs.Registrar.{Accounts, CountsFault, IsTurn, Keeper}
+use Rattle.clr_http.specs.Registrar.{Accounts, AccountsFor, CountsFault, IsTurn, Keeper}
 use Rattle.clr_http.specs.Request.{IsNo503, IsRefusedHead, asks, refusal_of, refused}
 use Rattle.clr_http.specs.Respond.{Outcome, unchanged}
-use Rattle.clr_http.specs.Response.{Content, status_of}
+use Rattle.clr_http.specs.Response.{Content, content_of, status_of}
 use Rattle.clr_http.specs.Served.{IsConnection, IsServed, IsWritten, http_fault_of}
 use Rattle.clr_http.specs.declared.head.HeadFault.{HeadFault}
 use Rattle.clr_http.specs.declared.head.HeadFault.TheVariants as head_fault
 use Rattle.clr_http.specs.declared.request.ReadFault.{ReadFault}
+use Rattle.clr_http.specs.declared.response.Response.{Response}
+use Rattle.clr_http.specs.declared.response.Response.TheVariants as made
 use Rattle.clr_http.specs.declared.request.ReadFault.TheVariants as read
 use Rattle.clr_http.specs.declared.serve.HttpFault.{HttpFault}
 use Rattle.clr_http.specs.declared.serve.HttpFault.TheVariants.{NoMemory, ReadFailed, WriteFailed}
@@ -79,24 +81,40 @@ counted_once : (old new : Keeper) (c : Content) → Accounts old new c → (new.
 counted_once old new c (inl (other, same)) = inl same
 counted_once old new c (inr (is, counts)) = inr counts
 
+-- a response that was made, by what it carries
+accounts_of : (old new : Keeper) (r : Response) → AccountsFor old new (Ok r) → Accounts old new (content_of r)
+accounts_of old new r (inl plain) = inl plain
+accounts_of old new r (inr (is, counts)) = inr (ap content_of is, counts)
+
+-- behind one that takes memory no fault was counted
+uncounted : (old new : Keeper) (r : Response) (result : Result Served HttpFault) → AccountsFor old new (Ok r)
+    → (r ≡ made.Unavailable → result ≢ Err NoMemory) → result ≡ Err NoMemory → new.faults ≡ old.faults
+uncounted old new r result (inl plain) fixed e = plain.1
+uncounted old new r result (inr (is, counts)) fixed e = absurd (fixed is e)
+
 -- a connection whose response was made
-pub connection : (old new : Keeper) (before behind : Stream) (result : Result Served HttpFault) (c : Content)
-    → Accounts old new c → IsWritten (λ x. x ≡ c) before behind result → IsConnection old new before behind result
-connection old new before behind result c accounts w = record {
+pub connection : (old new : Keeper) (before behind : Stream) (result : Result Served HttpFault) (r : Response)
+    → AccountsFor old new (Ok r) → (r ≡ made.Unavailable → result ≢ Err NoMemory)
+    → IsWritten (λ x. x ≡ content_of r) before behind result → IsConnection old new before behind result
+connection old new before behind result r accounts fixed w = record {
   written = out;
-  counted = counted_once old new c accounts;
+  counted = counted_once old new (content_of r) told;
   unavailable = λ e. rises (subst (IsWritten (Accounts old new) before behind) e out);
+  unmade = uncounted old new r result accounts fixed;
 }
   where
+    told : Accounts old new (content_of r)
+    told = accounts_of old new r accounts
+
     out : IsWritten (Accounts old new) before behind result
-    out = of_kind (Accounts old new) c before behind result accounts w
+    out = of_kind (Accounts old new) (content_of r) before behind result told w
 
     rises : IsWritten (Accounts old new) before behind (Ok (Answered 503)) → Rose old.faults new.faults
     rises (x, k, same, whole) = counted_503 old new x k same
 
 -- a refusal counts no fault
-pub refusal_accounts : (k : Keeper) (c : Content) → IsNo503 (refused c) → Accounts k k c
-refusal_accounts k c other = inl (other, refl)
+pub refusal_accounts : (k : Keeper) (r : Response) → IsNo503 (refused (content_of r)) → AccountsFor k k (Ok r)
+refusal_accounts k r other = inl (other, refl)
 
 -- one whose request was not read
 pub unread_connection : (k : Keeper) (stream : Stream) (result : Result Served HttpFault) (fault : ReadFault)
@@ -104,18 +122,19 @@ pub unread_connection : (k : Keeper) (stream : Stream) (result : Result Served H
 unread_connection k stream result fault e = subst (IsConnection k k stream stream) (sym e) (none fault)
   where
     none : (fault : ReadFault) → IsConnection k k stream stream (Err (http_fault_of fault))
-    none read.ReadFailed = record { written = refl; counted = inl refl; unavailable = λ x. cc x }
-    none read.NoMemory = record { written = refl; counted = inl refl; unavailable = λ x. cc x }
+    none read.ReadFailed = record { written = refl; counted = inl refl; unavailable = λ x. cc x; unmade = λ x. refl }
+    none read.NoMemory = record { written = refl; counted = inl refl; unavailable = λ x. cc x; unmade = λ x. refl }
 
 -- one that ended before its first byte
 pub empty_connection : (k : Keeper) (stream : Stream) → IsConnection k k stream stream (Ok Nothing)
-empty_connection k stream = record { written = refl; counted = inl refl; unavailable = λ x. cc x }
+empty_connection k stream = record { written = refl; counted = inl refl; unavailable = λ x. cc x; unmade = λ x. refl }
 
 -- one for whose response memory ran out
 pub unmade_connection : (old new : Keeper) (stream : Stream) (result : Result Served HttpFault)
-    → result ≡ Err NoMemory → (new.faults ≡ old.faults) ⊎ CountsFault old new → IsConnection old new stream stream result
-unmade_connection old new stream result e counted =
-    let none : IsConnection old new stream stream (Err NoMemory) = record { written = refl; counted = counted; unavailable = λ x. cc x } in
+    → result ≡ Err NoMemory → new.faults ≡ old.faults → IsConnection old new stream stream result
+unmade_connection old new stream result e same =
+    let none : IsConnection old new stream stream (Err NoMemory) =
+    record { written = refl; counted = inl same; unavailable = λ x. cc x; unmade = λ x. same } in
     subst (IsConnection old new stream stream) (sym e) none
 
 -- what is asked for is no refusal of a head

@@ -7,6 +7,7 @@ use Rattle.clr_http.specs.Respond.{Outcome}
 use Rattle.clr_http.specs.Response.{Content, content_of, fault_response, status_of}
 use Rattle.clr_http.specs.declared.response.Fault.TheVariants.{Unavailable}
 use Rattle.clr_http.specs.declared.response.Response.{Response}
+use Rattle.clr_http.specs.declared.response.Response.TheVariants as made
 
 -- what is kept: the register, and how many commands were not answered
 pub record Keeper : Type 0 where
@@ -40,7 +41,10 @@ abbrev pub Accounts : Keeper → Keeper → Content → Type 0
 Accounts old new c = ((status_of c ≢ 503) × (new.faults ≡ old.faults))
     ⊎ ((c ≡ fault_response Unavailable) × CountsFault old new)
 
--- the same of a turn for whose response memory may have run out
+-- The same of a turn whose response was made, or for which memory ran out. A fault that was counted
+-- is told by the response that takes no memory: so want of memory comes only where none was.
 abbrev pub AccountsFor : Keeper → Keeper → Result Response AllocError → Type 0
-AccountsFor old new (Ok response) = Accounts old new (content_of response)
-AccountsFor old new (Err e) = (new.faults ≡ old.faults) ⊎ CountsFault old new
+AccountsFor old new (Ok response) =
+    ((status_of (content_of response) ≢ 503) × (new.faults ≡ old.faults))
+    ⊎ ((response ≡ made.Unavailable) × CountsFault old new)
+AccountsFor old new (Err e) = new.faults ≡ old.faults

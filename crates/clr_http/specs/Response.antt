@@ -52,15 +52,16 @@ pub data Content : Type 0 where
   printed : List ℕ → Content
   allow : Method → Content
 
+-- the response that tells a fault
+abbrev pub fault_response : Fault → Content
+fault_response fault = json (fault_status fault) (fault_body fault)
+
 -- what a response that was made carries
 abbrev pub content_of : Response → Content
 content_of (made.Json status text) = json status (string_bytes text)
 content_of (made.Printed text) = printed (string_bytes text)
 content_of (made.Allow method) = allow method
-
--- the response that tells a fault
-abbrev pub fault_response : Fault → Content
-fault_response fault = json (fault_status fault) (fault_body fault)
+content_of made.Unavailable = fault_response Unavailable
 
 abbrev pub status_of : Content → ℕ
 status_of (json status text) = status

@@ -33,13 +33,15 @@ pub record IsServed (o : Outcome) (old new : Keeper) (before behind : Stream)
   pub left : (new.register ≡ old.register) ⊎ (new.register ≡ o.left)
 
 -- WHAT EVERY CONNECTION COMES TO, whatever its input and the register: a response went out, whole
--- or in part, or nothing did; one fault is counted at most, and then the register is as it was; and
--- a 503 goes out only where one was.
+-- or in part, or nothing did; one fault is counted at most, and then the register is as it was; a
+-- 503 goes out only where one was; and one that was is told by the 503, whole or in part, since out
+-- of memory comes only where none was.
 pub record IsConnection (old new : Keeper) (before behind : Stream)
     (result : Result Served HttpFault) : Type 0 where
   pub written : IsWritten (Accounts old new) before behind result
   pub counted : (new.faults ≡ old.faults) ⊎ CountsFault old new
   pub unavailable : result ≡ Ok (Answered 503) → Rose old.faults new.faults
+  pub unmade : result ≡ Err NoMemory → new.faults ≡ old.faults
 
 -- the response to an input that begins with no head: a refusal that the bytes taken from it explain
 abbrev pub IsRefusal : List ℕ → Option (List ℕ) → Content → Type 0

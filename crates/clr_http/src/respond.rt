@@ -127,7 +127,7 @@ fn command_response<D: Registrar>(
     ensures led { D.leads_to desk.old desk.new }
 {
     let Some(reply) = desk.answer(command) else {
-        return Response::of_fault(alloc, Fault::Unavailable);
+        return Ok(Response::Unavailable);
     };
     let text = reply_text(alloc, &reply)?;
     Ok(Response::Json(reply_status(&reply), text))

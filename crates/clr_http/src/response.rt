@@ -3,6 +3,7 @@ ghost use Rattle.std.specs.Prelude.{◌≡◌, ◌++◌, IfOk, length, string_by
 ghost use Rattle.clr_http.specs.Response.{allow, content_of, fault_body, fault_status, fault_word};
 ghost use Rattle.clr_http.specs.Response.{fields_text, first_line, method_word, response_bytes};
 ghost use Rattle.clr_http.specs.Response.{phrase_of, status_of, fault_response, whole_text};
+ghost use Rattle.clr_http.specs.declared.response.Fault.TheVariants.{Unavailable};
 
 use http::StatusCode;
 use std::alloc::{AllocError, Global};
@@ -94,6 +95,8 @@ pub enum Response {
     Printed(String),
     /// The route has another method, this one: 405.
     Allow(Method),
+    /// The store or memory refused: 503. It takes no memory, to be made or to be written.
+    Unavailable,
 }
 
 impl Response {
@@ -114,6 +117,7 @@ impl Response {
             Response::Json(status, _) => *status,
             Response::Printed(_) => StatusCode::OK,
             Response::Allow(_) => StatusCode::METHOD_NOT_ALLOWED,
+            Response::Unavailable => StatusCode::SERVICE_UNAVAILABLE,
         }
     }
 
@@ -125,8 +129,17 @@ impl Response {
             Response::Json(status, text) => with_body(alloc, *status, "application/json", text),
             Response::Printed(text) => with_body(alloc, StatusCode::OK, "text/plain", text),
             Response::Allow(method) => without_body(alloc, *method),
+            Response::Unavailable => String::from_str(alloc, unavailable_text()),
         }
     }
+}
+
+/// The bytes of the response `Unavailable`, which stand in the program.
+pub(crate) fn unavailable_text() -> &'static str
+    ensures { result.now ≡ response_bytes (fault_response Unavailable) }
+{
+    "HTTP/1.1 503 Service Unavailable\r\nContent-Type: application/json\r\nContent-Length: 23\r\n\
+    Connection: close\r\n\r\n{\"fault\":\"Unavailable\"}"
 }
 
 /// The phrase of a status, or nothing where it has none.

@@ -7,15 +7,16 @@ ghost use Rattle.clr_rules.specs.Good.{IsGood};
 ghost use Rattle.clr_rules.specs.Run.{IsReached};
 ghost use Rattle.clr_http.specs.Head.{BeginsWith, HasHead};
 ghost use Rattle.clr_http.specs.Respond.{respond_to};
-ghost use Rattle.clr_http.specs.Response.{content_of};
+ghost use Rattle.clr_http.specs.Response.{content_of, response_bytes};
 ghost use Rattle.clr_http.specs.Served.{IsConnection, IsRefusal, IsServed, IsWritten};
 ghost use Rattle.clr_http.specs.Served.{http_fault_of};
+ghost use Rattle.clr_http.specs.declared.response.Response.TheVariants.{Unavailable};
 ghost use Rattle.clr_http.specs.declared.serve.HttpFault.TheVariants.{NoMemory};
 
 use crate::registrar::Registrar;
 use crate::request::{ReadFault, Request, read_request};
 use crate::respond::response_to;
-use crate::response::Response;
+use crate::response::{Response, unavailable_text};
 use clr_csv::{CountedRead, CountedWrite, write_whole};
 use http::StatusCode;
 use std::alloc::{AllocError, AllocFailed, Global};
@@ -120,7 +121,7 @@ pub fn serve_one<D: Registrar, R: CountedRead, W: CountedWrite>(
     }
 }
 
-/// Writes a response.
+/// Writes a response. It asks for no memory where that is `Unavailable`.
 fn send<W: CountedWrite>(
     alloc: Global,
     writer: &mut W,
@@ -131,8 +132,28 @@ fn send<W: CountedWrite>(
     ensures some { result ≢ Ok Served.Nothing }
     ensures calm { result ≢ Err HttpFault.ReadFailed }
     ensures unmade { result ≡ Err HttpFault.NoMemory → writer.new ≡ writer.old }
+    ensures fixed { response.now ≡ Unavailable → result ≢ Err HttpFault.NoMemory }
 {
+    if let Response::Unavailable = response {
+        return write_text(writer, response, unavailable_text());
+    }
     let text = response.text(alloc)?;
+    write_text(writer, response, &text)
+}
+
+/// Writes the bytes of a response.
+fn write_text<W: CountedWrite>(
+    writer: &mut W,
+    response: &Response,
+    text: &str,
+) -> Result<Served, HttpFault>
+    requires { text.now ≡ response_bytes (content_of response.now) }
+    ensures written { IsWritten (λ c. c ≡ content_of response.now)
+        (W.stream writer.old) (W.stream writer.new) result }
+    ensures some { result ≢ Ok Served.Nothing }
+    ensures calm { result ≢ Err HttpFault.ReadFailed }
+    ensures unmade { result ≢ Err HttpFault.NoMemory }
+{
     match write_whole(writer, text.as_bytes()) {
         Ok(()) => Ok(Served::Answered(response.status())),
         Err(count) => Err(HttpFault::WriteFailed(count)),

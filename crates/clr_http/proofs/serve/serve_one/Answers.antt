@@ -105,7 +105,7 @@ returns-in-Some-Refused-clause-always g c =
     let found : c.in_ok-read_request.field-0 ≡ Some (made.Refused c.in-Some-Refused.response) = search rules in
     let plain : IsNo503 (refused (content_of c.in-Some-Refused.response)) =
     subst (λ o. IfSome o (λ r. IsNo503 (reading r))) found c.in_ok-read_request.ensures.plain in
-    connection _ _ _ _ _ _ (refusal_accounts _ _ plain) c.send.ensures.written
+    connection _ _ _ _ _ _ (refusal_accounts _ _ plain) c.send.ensures.fixed c.send.ensures.written
 
 pub returns-in_err-response-in-Some-Asks-clause-always : goal.returns-in_err-response-in-Some-Asks-clause-always
 returns-in_err-response-in-Some-Asks-clause-always g c =
@@ -114,4 +114,4 @@ returns-in_err-response-in-Some-Asks-clause-always g c =
 
 pub returns-in_ok-response-in-Some-Asks-clause-always : goal.returns-in_ok-response-in-Some-Asks-clause-always
 returns-in_ok-response-in-Some-Asks-clause-always g c =
-    connection _ _ _ _ _ _ c.in_ok-response-in-Some-Asks.ensures.accounts c.send-in-Some-Asks.ensures.written
+    connection _ _ _ _ _ _ c.in_ok-response-in-Some-Asks.ensures.accounts c.send-in-Some-Asks.ensures.fixed c.send-in-Some-Asks.ensures.written
