@@ -1,5 +1,5 @@
 -- Registers that databases are known to have.
-use Rattle.std.proofs.Common.{◌≡◌, ◌∙◌, ◌⊎◌, ◌<◌, ◌≤◌, ap, inl, inr, refl, subst, sym, ℕ, List, Option, Result, Ok, Err, length}
+use Rattle.std.proofs.Common.{◌≡◌, ◌∙◌, ◌⊎◌, ◌<◌, ◌≤◌, ap, inl, inr, refl, subst, sym, ℕ, List, [], Option, Result, Ok, Err, length}
 use Rattle.std.specs.Prelude.{Some, None, IfErr, IfOk, IfSome, IsErrAnd, IsErrOf, IsSome, OnOk, String, string_bytes}
 use Rattle.std.proofs.lemmas.Bool.{false≢true}
 use Rattle.std.specs.declared.alloc.Global.{Global}
@@ -7,7 +7,7 @@ use Rattle.clr_rules.specs.Register.{Register}
 use Rattle.clr_edge.specs.Answers.{Gives}
 use Rattle.clr_rules.specs.declared.reply.Reply.{Reply}
 use Rattle.clr_commands.specs.Replies.{AnswersInput}
-use Rattle.clr_commands.specs.Run.{IsClosed, IsOfInput, RunsAtPath, RunsIn, RunsStored}
+use Rattle.clr_commands.specs.Run.{IsClosed, IsOfInput, RunsAtPath, RunsIn, RunsOn, RunsStored, RunsStoredAt}
 use Rattle.sqlite.specs.Effect.{Database}
 use Rattle.sqlite.specs.Files.{over_files}
 use Rattle.sqlite.specs.Held.{Held, state}
@@ -100,3 +100,11 @@ RunsAtPath-closed g IsAt input before after (Ok run) (Ok told) at runs closes sa
 RunsAtPath-closed g IsAt input before after (Ok run) (Err fault) at runs closes same = tt
 RunsAtPath-closed g IsAt input before after (Err fault) (Ok told) at runs closes same = absurd (cc same)
 RunsAtPath-closed g IsAt input before after (Err fault) (Err other) at runs closes same = tt
+
+-- a run of a database, by the words
+pub RunsOn-database : (bytes_at : List ℕ → Option (List ℕ)) (register_at : List ℕ → Option Register) (db : Option (List ℕ)) (files : List (List ℕ))
+    (path : List ℕ) (input : Option (List ℕ)) (printed : Printed) → Some path ≡ db → [] ≡ files
+    → RunsStoredAt register_at path input (Ok printed) → RunsOn bytes_at register_at db files input (Ok (Some printed))
+RunsOn-database bytes_at register_at db files path input printed named none is =
+    subst (λ (d : Option (List ℕ)). RunsOn bytes_at register_at d files input (Ok (Some printed))) named
+    (subst (λ (f : List (List ℕ)). RunsOn bytes_at register_at (Some path) f input (Ok (Some printed))) none is)

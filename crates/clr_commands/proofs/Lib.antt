@@ -1,6 +1,7 @@
 pub mod AnsweredLines
 pub mod Connections
 pub mod Databases
+pub mod Faults
 pub mod Found
 pub mod MadeRegisters
 pub mod OfNoReader
@@ -9,3 +10,4 @@ pub mod ReadFiles
 pub mod RunAnswers
 pub mod RunOfInput
 pub mod Serving
+pub mod Unanswered

@@ -1,3 +1,4 @@
+pub mod Faults
 pub mod Fence
 pub mod Init
 pub mod Lines

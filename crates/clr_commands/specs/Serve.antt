@@ -82,6 +82,10 @@ ServesNot refuses port fault output output' errors errors' = (errors' ≡ errors
     ⊎ ((fault ≡ Listen) × refuses port × (output' ≡ output))
     ⊎ ((fault ≡ Output) × IsCut output output' (serving_line port)))
 
+-- why a server did not begin, though it had its register
+abbrev pub IsOfServer : Fault → Type 0
+IsOfServer fault = (fault ≡ Memory) ⊎ (fault ≡ Listen) ⊎ (fault ≡ Output)
+
 -- A fault ended `serve`: of the database that was opened, where nothing went out; of the listening
 -- or of the first line; or of the database that was closed behind the last connection.
 abbrev pub FailsServing : (ℕ → Type 0) → ℕ → ℕ → Fault → Stream → Stream → Stream → Stream → Type 0

@@ -1,12 +1,20 @@
--- What is printed of registers that databases have.
-use Rattle.std.specs.Prelude.{◌≡◌, ℕ, IfSome, List, Option, Result, Ok, Err, codes}
+-- What is printed of registers that databases have, and why nothing is.
+use Rattle.std.specs.Prelude.{◌≡◌, ◌⊎◌, ℕ, IfErr, IfSome, List, Option, Result, Ok, Err, codes}
+use Rattle.sqlite.specs.Effect.{Database}
+use Rattle.sqlite.specs.Files.{over_files}
+use Rattle.sqlite.specs.Held.{Held, state}
+use Rattle.sqlite.specs.State.{Survives}
+use Rattle.sqlite_disk.specs.declared.Disk as disk
+use Rattle.sqlite_store.specs.declared.store.FileStore.{FileStore}
+use Rattle.sqlite_trees.specs.declared.store.Store.{Ghosts}
 use Rattle.clap.specs.Words.{Row, first_of}
 use Rattle.clr_rules.specs.Register.{Register}
 use Rattle.clr_print.specs.Printed.{board_text}
 use Rattle.clr_args.specs.Asked.{offset_in, word_in}
 use Rattle.clr_commands.specs.Order.{order_told}
-use Rattle.clr_edge.specs.Database.{IsOfLine}
+use Rattle.clr_edge.specs.Database.{IsOfLine, IsRefused}
 use Rattle.clr_edge.specs.declared.fault.Fault.{Fault}
+use Rattle.clr_edge.specs.declared.fault.Fault.TheVariants.{Memory, NoSuch}
 
 -- what is told of a stored register, as `view` shows it; the database may refuse, or memory run
 -- out, in its place
@@ -28,3 +36,27 @@ abbrev pub BoardAt : {T : Type 0} → (T → List ℕ) → (List ℕ → Option 
 BoardAt view register_at rows result =
     IfSome (register_at (word_in rows (codes "DB"))) (λ R. TellsStored view
     (Ok (board_text R.records (offset_in (first_of (codes "offset") rows)))) result)
+
+-- why a register has no such order: memory ran out, or it is not there
+abbrev pub IsOfOrder : Fault → Type 0
+IsOfOrder fault = (fault ≡ Memory) ⊎ (fault ≡ NoSuch)
+
+-- WHY NOTHING CAME OF A DATABASE that was opened: a fault of the subcommand's own, or the one with
+-- which the tables were refused. The database was not changed: a crash leaves what it left before.
+pub record IsUnanswered {S : Type 0} (g : Ghosts S) (before after : Held S)
+    (IsOwn : Fault → Type 0) (fault : Fault) : Type 0 where
+  pub cause : IsOwn fault ⊎ IsRefused g before fault after
+  pub survives : Survives (state g before) (state g after) (λ _. ⊥)
+
+-- the same of a database at a path, unless it was not opened, or memory ran out
+abbrev pub UnansweredAt : {D : Type 0} → disk.Ghosts D → (Database → Type 0) → (Fault → Type 0)
+    → Fault → Type 0
+UnansweredAt {D} g IsAt IsOwn fault = IsOfLine fault
+    ⊎ ((before : Held (FileStore D g)) × (after : Held (FileStore D g))
+    × IsAt (state over_files before).now × IsUnanswered over_files before after IsOwn fault)
+
+-- the same of the database that the words name, if they name one: `IsUnrun` says it of a path
+abbrev pub UnansweredNamed : {T : Type 0} → (List ℕ → Fault → Type 0) → List Row → Result T Fault
+    → Type 0
+UnansweredNamed IsUnrun rows result =
+    IfSome (first_of (codes "db") rows) (λ path. IfErr result (IsUnrun path))

@@ -1,13 +1,14 @@
 //! The subcommand `board`: what clearances and switch orders are not closed.
-ghost use Rattle.std.specs.Prelude.{◌≡◌, IfErr, IfOk, Ok, OnOk, codes, neg_ℤ, pos};
+ghost use Rattle.std.specs.Prelude.{◌≡◌, ◌⊎◌, IfErr, IfOk, Ok, OnOk, codes, neg_ℤ, pos};
 ghost use Rattle.std.specs.Prelude.{string_bytes, ◌≤ℤ◌};
 ghost use Rattle.sqlite.specs.Held.{state};
 ghost use Rattle.sqlite.specs.State.{Survives};
 ghost use Rattle.clap.specs.Words.{found_of, rows_of};
 ghost use Rattle.clr_args.specs.Asked.{word_in};
 ghost use Rattle.clr_print.specs.Printed.{board_text};
-ghost use Rattle.clr_commands.specs.Stored.{BoardAt, TellsStored};
-ghost use Rattle.clr_edge.specs.Database.{HasRegister, IsOnlyRead, ReadsAt};
+ghost use Rattle.clr_commands.specs.Faults.{IsOfSubcommand};
+ghost use Rattle.clr_commands.specs.Stored.{BoardAt, TellsStored, UnansweredAt};
+ghost use Rattle.clr_edge.specs.Database.{HasRegister, IsOnlyRead, IsRefused, ReadsAt};
 ghost use Rattle.clr_rules.specs.Register.{Register};
 
 use clap::ArgMatches;
@@ -27,6 +28,10 @@ pub fn board<R: Databases + AllocGlobal>(rt: &R, matches: &ArgMatches<'_>) -> Re
         (rows_of (found_of matches.now)) result }
     ensures read { OnOk result (ReadsAt R.Medium.Disk
         (R.is_at rt.now (word_in (rows_of (found_of matches.now)) (codes "DB")))) }
+    ensures refused { IfErr result (UnansweredAt R.Medium.Disk
+        (R.is_at rt.now (word_in (rows_of (found_of matches.now)) (codes "DB")))
+        (λ fault. fault ≡ Fault.Memory)) }
+    ensures faults { IfErr result IsOfSubcommand }
 {
     let offset = offset_of(matches);
     let connection = rt.stored(word_of(matches, "DB"))?;
@@ -47,6 +52,9 @@ fn board_over<S: Alter + Drop>(
         (λ text. string_bytes text) (Ok (board_text R.records offset)) result.0 }
     ensures read { OnOk result.0 (IsOnlyRead S.Store connection result.1) }
     ensures survives { Survives (state S.Store connection) (state S.Store result.1) (λ _. ⊥) }
+    ensures refused { IfErr result.0 (λ fault. (fault ≡ Fault.Memory)
+        ⊎ IsRefused S.Store connection fault result.1) }
+    ensures faults { IfErr result.0 IsOfSubcommand }
 {
     match desk_over(connection) {
         Ok(desk) => {

@@ -1,8 +1,9 @@
 //! The subcommand `fence`: the sections that can be reached from one without passing a cut.
-ghost use Rattle.std.specs.Prelude.{◌≡◌, ◌++◌, IfOk, IfSome, OnOk, map, string_bytes};
+ghost use Rattle.std.specs.Prelude.{◌≡◌, ◌++◌, IfErr, IfOk, IfSome, OnOk, map, string_bytes};
 ghost use Rattle.clap.specs.Words.{found_of, rows_of};
 ghost use Rattle.clr_csv.specs.Sections.{sections_of};
 ghost use Rattle.clr_edge.specs.Answers.{Gives};
+ghost use Rattle.clr_commands.specs.Faults.{IsOfSubcommand};
 ghost use Rattle.clr_commands.specs.Fence.{FencesAt, FencesFiles, FencesRows, fence_lines};
 ghost use Rattle.clr_commands.specs.Fence.{point_named, points_named, section_named};
 ghost use Rattle.clr_edge.specs.Files.{HasCause, WaitsFor};
@@ -22,8 +23,9 @@ pub fn fence<'a, O: Opens<'a>>(
     paths: &O,
     matches: &ArgMatches<'a>,
 ) -> Result<String, Fault>
-    ensures { FencesAt (λ text. string_bytes text) (O.bytes_at paths.now)
+    ensures answer { FencesAt (λ text. string_bytes text) (O.bytes_at paths.now)
         (rows_of (found_of matches.now)) result }
+    ensures faults { IfErr result IsOfSubcommand }
 {
     let mut sections = paths.at(word_of(matches, "SECTIONS"));
     let mut points = paths.at(word_of(matches, "POINTS"));
@@ -52,6 +54,7 @@ pub fn fence_of_files<S: Source, P: Source>(
         (P.failure_count points.old) (P.failure_count points.new) }
     ensures points_wait { WaitsFor (S.remaining sections.old) sections_of ImportFile.Points result
         points.old points.new }
+    ensures faults { IfErr result IsOfSubcommand }
 {
     let sections = sections_from(alloc, sections)?;
     let points = points_from(alloc, points)?;
@@ -68,8 +71,9 @@ pub fn fence_of_rows(
     work: &str,
     cut: &[&str],
 ) -> Result<String, Fault>
-    ensures { FencesRows (λ text. string_bytes text) sections.items points.items
+    ensures answer { FencesRows (λ text. string_bytes text) sections.items points.items
         work.now (map (λ word. word.now) cut.now) result }
+    ensures faults { IfErr result IsOfSubcommand }
 {
     let network = Network::build(alloc, sections, points)?;
     let text = fence_between(alloc, &network, work, cut)?;
@@ -83,8 +87,9 @@ pub fn fence_between(
     work: &str,
     cut: &[&str],
 ) -> Result<String, Fault>
-    ensures { Gives (λ text. string_bytes text)
+    ensures answer { Gives (λ text. string_bytes text)
         (fence_lines network.now work.now (map (λ word. word.now) cut.now)) result }
+    ensures faults { IfErr result IsOfSubcommand }
 {
     let work = section_named(network, work)?;
     let cut = points_named(alloc, network, cut)?;
@@ -95,7 +100,8 @@ pub fn fence_between(
 
 /// The section that a word names.
 fn section_named(network: &Network, word: &str) -> Result<Name, Fault>
-    ensures { result ≡ section_named network.now word.now }
+    ensures answer { result ≡ section_named network.now word.now }
+    ensures faults { IfErr result IsOfSubcommand }
 {
     let name = Name::read(word)?;
     match network.section(&name) {
@@ -106,7 +112,8 @@ fn section_named(network: &Network, word: &str) -> Result<Name, Fault>
 
 /// The switching point that a word names.
 fn point_named(network: &Network, word: &str) -> Result<Name, Fault>
-    ensures { result ≡ point_named network.now word.now }
+    ensures answer { result ≡ point_named network.now word.now }
+    ensures faults { IfErr result IsOfSubcommand }
 {
     let name = Name::read(word)?;
     match network.point(&name) {
@@ -117,8 +124,9 @@ fn point_named(network: &Network, word: &str) -> Result<Name, Fault>
 
 /// The switching points that words name. The first word from the left that names none is told.
 fn points_named(alloc: Global, network: &Network, words: &[&str]) -> Result<Vec<Name>, Fault>
-    ensures { Gives (λ names. names.items)
+    ensures answer { Gives (λ names. names.items)
         (points_named network.now (map (λ word. word.now) words.now)) result }
+    ensures faults { IfErr result IsOfSubcommand }
 {
     let mut names = Vec::new(alloc);
     for word in words {

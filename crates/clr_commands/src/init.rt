@@ -5,6 +5,7 @@ ghost use Rattle.clr_csv.specs.Points.{points_of};
 ghost use Rattle.clr_csv.specs.Sections.{sections_of};
 ghost use Rattle.clr_edge.specs.Answers.{Gives};
 ghost use Rattle.clr_edge.specs.Files.{HasCause, WaitsFor};
+ghost use Rattle.clr_commands.specs.Faults.{IsOfSubcommand};
 ghost use Rattle.clr_commands.specs.Init.{CountsFiles, InitsAt, MakesAt, MakesFiles, MakesOfFiles};
 ghost use Rattle.clr_commands.specs.Init.{MakesOpening, counts_line, counts_of};
 ghost use Rattle.clr_edge.specs.Database.{IsMadeAt, IsOfLine};
@@ -30,6 +31,7 @@ pub fn init<'a, R: Databases + AllocGlobal, O: Opens<'a>>(
     ensures made { MakesAt (O.bytes_at paths.now)
         (λ path register. IsMadeAt R.Medium.Disk (R.is_at rt.now path) register)
         (rows_of (found_of matches.now)) result }
+    ensures faults { IfErr result IsOfSubcommand }
 {
     let alloc = rt.alloc();
     let mut sections = paths.at(word_of(matches, "SECTIONS"));
@@ -73,6 +75,7 @@ pub fn register_of_files<S: Source, P: Source, E: Source, D: Databases>(
         staff.old staff.new }
     ensures staff_waits_too { WaitsFor (P.remaining points.old) points_of ImportFile.Staff result
         staff.old staff.new }
+    ensures faults { IfErr result IsOfSubcommand }
 {
     let section_rows = sections_from(alloc, sections)?;
     let point_rows = points_from(alloc, points)?;
@@ -98,6 +101,7 @@ pub fn register_of_rows<D: Databases>(
         sections.items points.items staff.items) }
     ensures fault { IfErr result (λ fault. IsOfLine fault
         ⊎ (counts_of sections.items points.items staff.items ≡ Err fault)) }
+    ensures faults { IfErr result IsOfSubcommand }
 {
     let (section_count, point_count, staff_count) = (sections.len(), points.len(), staff.len());
     let network = Network::build(alloc, sections, points)?;
@@ -131,6 +135,7 @@ pub fn counts_of_files<S: Source, P: Source, E: Source>(
         staff.old staff.new }
     ensures staff_waits_too { WaitsFor (P.remaining points.old) points_of ImportFile.Staff result
         staff.old staff.new }
+    ensures faults { IfErr result IsOfSubcommand }
 {
     let sections = sections_from(alloc, sections)?;
     let points = points_from(alloc, points)?;
@@ -146,8 +151,9 @@ pub fn counts_of_rows(
     points: Vec<PointRow>,
     staff: Vec<StaffRow>,
 ) -> Result<String, Fault>
-    ensures { Gives (λ text. string_bytes text)
+    ensures answer { Gives (λ text. string_bytes text)
         (counts_of sections.items points.items staff.items) result }
+    ensures faults { IfErr result IsOfSubcommand }
 {
     let (section_count, point_count, staff_count) = (sections.len(), points.len(), staff.len());
     let _network = Network::build(alloc, sections, points)?;

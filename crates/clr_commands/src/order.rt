@@ -1,14 +1,15 @@
 //! The subcommand `order`: one round of a clearance or a switch order, as it is printed.
-ghost use Rattle.std.specs.Prelude.{◌≡◌, IfOk, OnOk, codes, neg_ℤ, option_map, pos};
+ghost use Rattle.std.specs.Prelude.{◌≡◌, ◌⊎◌, IfErr, IfOk, OnOk, codes, neg_ℤ, option_map, pos};
 ghost use Rattle.std.specs.Prelude.{string_bytes, ◌≤ℤ◌};
 ghost use Rattle.clr_edge.specs.Answers.{Gives};
 ghost use Rattle.sqlite.specs.Held.{state};
 ghost use Rattle.sqlite.specs.State.{Survives};
 ghost use Rattle.clap.specs.Words.{found_of, rows_of};
 ghost use Rattle.clr_args.specs.Asked.{word_in};
+ghost use Rattle.clr_commands.specs.Faults.{IsOfSubcommand};
 ghost use Rattle.clr_commands.specs.Order.{order_told, read_round};
-ghost use Rattle.clr_commands.specs.Stored.{OrdersAt, TellsStored};
-ghost use Rattle.clr_edge.specs.Database.{HasRegister, IsOnlyRead, ReadsAt};
+ghost use Rattle.clr_commands.specs.Stored.{IsOfOrder, OrdersAt, TellsStored, UnansweredAt};
+ghost use Rattle.clr_edge.specs.Database.{HasRegister, IsOnlyRead, IsRefused, ReadsAt};
 ghost use Rattle.clr_rules.specs.Register.{Register};
 
 use clap::ArgMatches;
@@ -28,6 +29,9 @@ pub fn order<R: Databases + AllocGlobal>(rt: &R, matches: &ArgMatches<'_>) -> Re
         (rows_of (found_of matches.now)) result }
     ensures read { OnOk result (ReadsAt R.Medium.Disk
         (R.is_at rt.now (word_in (rows_of (found_of matches.now)) (codes "DB")))) }
+    ensures refused { IfErr result (UnansweredAt R.Medium.Disk
+        (R.is_at rt.now (word_in (rows_of (found_of matches.now)) (codes "DB"))) IsOfOrder) }
+    ensures faults { IfErr result IsOfSubcommand }
 {
     let clearance = word_of(matches, "CLEARANCE");
     let round = word_of(matches, "ROUND");
@@ -52,6 +56,9 @@ fn order_over<S: Alter + Drop>(
         (λ text. string_bytes text) (order_told R clearance.now round.now offset) result.0 }
     ensures read { OnOk result.0 (IsOnlyRead S.Store connection result.1) }
     ensures survives { Survives (state S.Store connection) (state S.Store result.1) (λ _. ⊥) }
+    ensures refused { IfErr result.0 (λ fault. IsOfOrder fault
+        ⊎ IsRefused S.Store connection fault result.1) }
+    ensures faults { IfErr result.0 IsOfSubcommand }
 {
     match desk_over(connection) {
         Ok(desk) => {
@@ -80,8 +87,9 @@ where
     H: Shelf<Hold>,
     requires low { neg_ℤ (pos 720) ≤ℤ offset }
     requires high { offset ≤ℤ pos 840 }
-    ensures { Gives (λ text. string_bytes text)
+    ensures answer { Gives (λ text. string_bytes text)
         (order_told book.now.register clearance.now round.now offset) result }
+    ensures faults { IfErr result IsOfOrder }
 {
     let Ok(id) = ClearanceId::read(clearance) else {
         return Err(Fault::NoSuch);

@@ -1,9 +1,10 @@
 //! The replies of a run: one line for each line of its input that is not empty.
-ghost use Rattle.std.specs.Prelude.{◌≡◌, ◌++◌, ◌∷◌, [], ◌<◌, ℕ, IfOk, OnErr, OnOk};
+ghost use Rattle.std.specs.Prelude.{◌≡◌, ◌++◌, ◌∷◌, [], ◌<◌, ℕ, IfOk, IfSome, OnErr, OnOk};
 ghost use Rattle.std.specs.Prelude.{filter, length, map, option_map, string_bytes, take};
 ghost use Rattle.clr_edge.specs.Fault.{of_desk};
 ghost use Rattle.sqlite.specs.Held.{state};
 ghost use Rattle.clr_text.specs.Lines.{commands_in};
+ghost use Rattle.clr_commands.specs.Faults.{IsOfSubcommand, StopsAsSubcommand};
 ghost use Rattle.clr_commands.specs.Replies.{AnswersOver, Prints, answers, as_lines};
 ghost use Rattle.clr_commands.specs.Replies.{asked_commands, asked_lines, command_in, input_lines};
 ghost use Rattle.clr_commands.specs.Replies.{is_asked, reading_in, readings_of};
@@ -52,6 +53,7 @@ pub fn run_lines<S: Alter + Drop>(
         (state S.Store desk.old.store) (state S.Store desk.new.store)
         desk.old.book.register desk.new.book.register input.now) }
     ensures none { OnErr result (desk.new ≡ desk.old) }
+    ensures stops { IfOk result StopsAsSubcommand }
 {
     let asked = read_lines(alloc, input)?;
     let run = desk.run(asked.commands);
@@ -116,7 +118,8 @@ fn read_line(alloc: Global, line: &[u8], asked: &mut Asked) -> Result<(), AllocE
 
 /// Prints the answers to lines, and tells the fault of their run.
 fn print(alloc: Global, readings: &[Reading], run: Run) -> Printed
-    ensures { Prints (answers readings.now run.replies.items) run.fault result }
+    ensures answer { Prints (answers readings.now run.replies.items) run.fault result }
+    ensures stops { StopsAsSubcommand result }
 {
     let mut text = String::new(alloc);
     match add_answers(alloc, readings, run.replies.as_slice(), &mut text) {
@@ -133,7 +136,8 @@ fn print(alloc: Global, readings: &[Reading], run: Run) -> Printed
 
 /// The fault of a desk, as the program tells it.
 fn fault_told(fault: Option<DeskFault>) -> Option<Fault>
-    ensures { result ≡ option_map of_desk fault }
+    ensures told { result ≡ option_map of_desk fault }
+    ensures stops { IfSome result IsOfSubcommand }
 {
     match fault {
         Some(fault) => Some(Fault::from(fault)),

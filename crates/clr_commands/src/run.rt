@@ -1,7 +1,7 @@
 //! The subcommand `run`: the commands of standard input, run as one list over a register in memory
 //! or over a stored one.
-ghost use Rattle.std.specs.Prelude.{◌≡◌, ◌≢◌, ◌<◌, ◌≤◌, ℕ, Err, IfErr, IfOk, IfSome, IsErrOf, List};
-ghost use Rattle.std.specs.Prelude.{Ok, OnErr, OnOk, length};
+ghost use Rattle.std.specs.Prelude.{◌≡◌, ◌≢◌, ◌⊎◌, ◌<◌, ◌≤◌, ℕ, Err, IfErr, IfOk, IfSome, IsErrOf};
+ghost use Rattle.std.specs.Prelude.{List, Ok, OnErr, OnOk, length};
 ghost use Rattle.sqlite.specs.Held.{state};
 ghost use Rattle.sqlite.specs.State.{Survives};
 ghost use Rattle.clap.specs.Words.{found_of, rows_of};
@@ -11,11 +11,13 @@ ghost use Rattle.clr_csv.specs.Sections.{sections_of};
 ghost use Rattle.clr_rules.specs.Register.{Register};
 ghost use Rattle.clr_rules.specs.Run.{IsReached};
 ghost use Rattle.clr_edge.specs.Files.{HasCause, WaitsFor};
+ghost use Rattle.clr_commands.specs.Faults.{IsOfSubcommand, StopsAsSubcommand};
 ghost use Rattle.clr_commands.specs.Replies.{AnswersOver};
 ghost use Rattle.clr_commands.specs.Run.{InputWaits, InputWaitsAsked, IsClosed, IsOfInput};
 ghost use Rattle.clr_commands.specs.Run.{IsOpeningOf, RunsAsked, RunsAt, RunsFiles, RunsStored};
 ghost use Rattle.clr_commands.specs.Run.{RunsAtPath, RunsIn, RunsNamed, RunsStoredAt, rows_fault};
-ghost use Rattle.clr_edge.specs.Database.{HasRegister, IsOfLine};
+ghost use Rattle.clr_commands.specs.Stored.{UnansweredAt, UnansweredNamed};
+ghost use Rattle.clr_edge.specs.Database.{HasRegister, IsOfLine, IsRefused};
 
 use crate::replies::{Printed, run_lines};
 use clap::ArgMatches;
@@ -46,9 +48,13 @@ pub fn run<'a, R: Databases + AllocGlobal, O: Opens<'a>, I: CountedRead>(
         (rows_of (found_of matches.now)) (I.remaining input.old) result }
     ensures left { RunsNamed (λ path. RunsAtPath R.Medium.Disk (R.is_at rt.now path)
         (I.remaining input.old)) (rows_of (found_of matches.now)) result }
+    ensures refused { UnansweredNamed (λ path. UnansweredAt R.Medium.Disk (R.is_at rt.now path)
+        IsOfInput) (rows_of (found_of matches.now)) result }
     ensures cause { IsErrOf result (Fault.Input InputFault.ReadFailed)
         → Rose (I.failure_count input.old) (I.failure_count input.new) }
     ensures waits { InputWaitsAsked result input.old input.new }
+    ensures faults { IfErr result IsOfSubcommand }
+    ensures stops { IfOk result (λ taken. IfSome taken StopsAsSubcommand) }
 {
     let files = words_of(rt.alloc(), matches, "FILES")?;
     match (option_of(matches, "db"), files.as_slice()) {
@@ -78,6 +84,8 @@ fn run_at<'a, O: Opens<'a>, I: CountedRead>(
     ensures cause { IsErrOf result (Fault.Input InputFault.ReadFailed)
         → Rose (I.failure_count input.old) (I.failure_count input.new) }
     ensures waits { InputWaits result input.old input.new }
+    ensures faults { IfErr result IsOfSubcommand }
+    ensures stops { IfOk result StopsAsSubcommand }
 {
     let mut sections = paths.at(sections);
     let mut points = paths.at(points);
@@ -97,9 +105,13 @@ pub fn run_of_database<D: Databases, I: CountedRead>(
         (I.remaining input.old) result }
     ensures left { IfOk result (RunsAtPath D.Medium.Disk (D.is_at databases.now path.now)
         (I.remaining input.old)) }
+    ensures refused { IfErr result (UnansweredAt D.Medium.Disk
+        (D.is_at databases.now path.now) IsOfInput) }
     ensures cause { IsErrOf result (Fault.Input InputFault.ReadFailed)
         → Rose (I.failure_count input.old) (I.failure_count input.new) }
     ensures waits { InputWaits result input.old input.new }
+    ensures faults { IfErr result IsOfSubcommand }
+    ensures stops { IfOk result StopsAsSubcommand }
 {
     let connection = databases.stored(path)?;
     let (printed, connection) = run_connected(alloc, connection, input);
@@ -116,6 +128,7 @@ fn printed_behind(
     ensures printed { IfOk printed (λ before. IfOk result (IsClosed before)) }
     ensures whole { OnOk printed (IfErr result (λ _. ⊥)) }
     ensures fault { IfErr printed (λ _. result ≡ printed) }
+    ensures stops { IfOk printed StopsAsSubcommand → IfOk result StopsAsSubcommand }
 {
     match (printed, closed) {
         (Ok(Printed { text, fault: None }), Err(fault)) => Ok(Printed {
@@ -138,9 +151,13 @@ fn run_connected<S: Alter + Drop, I: CountedRead>(
         (RunsIn S.Store connection result.1 (I.remaining input.old)) }
     ensures unrun { OnErr result.0
         (Survives (state S.Store connection) (state S.Store result.1) (λ _. ⊥)) }
+    ensures refused { IfErr result.0 (λ fault. IsOfInput fault
+        ⊎ IsRefused S.Store connection fault result.1) }
     ensures cause { IsErrOf result.0 (Fault.Input InputFault.ReadFailed)
         → Rose (I.failure_count input.old) (I.failure_count input.new) }
     ensures waits { InputWaits result.0 input.old input.new }
+    ensures faults { IfErr result.0 IsOfSubcommand }
+    ensures stops { IfOk result.0 StopsAsSubcommand }
 {
     match desk_over(connection) {
         Ok(mut desk) => {
@@ -171,6 +188,7 @@ pub fn run_over<S: Alter + Drop, I: CountedRead>(
     ensures short { IfSome (I.remaining input.old) (λ bytes.
         OnOk result (length bytes ≤ 16777216)) }
     ensures others { IfErr result IsOfInput }
+    ensures stops { IfOk result StopsAsSubcommand }
 {
     let bytes = input_bytes(alloc, input)?;
     let printed = run_lines(alloc, desk, bytes.as_slice())?;
@@ -206,6 +224,8 @@ pub fn run_of_files<S: Source, P: Source, E: Source, I: CountedRead>(
     ensures staff_waits_too { WaitsFor (P.remaining points.old) points_of ImportFile.Staff result
         staff.old staff.new }
     ensures input_waits { InputWaits result input.old input.new }
+    ensures faults { IfErr result IsOfSubcommand }
+    ensures stops { IfOk result StopsAsSubcommand }
 {
     let sections = sections_from(alloc, sections)?;
     let points = points_from(alloc, points)?;
@@ -231,6 +251,7 @@ pub fn desk_in_memory(
     ensures fault { IfErr result (λ fault. fault ≢ Fault.Memory
         → fault ≢ Fault.Store StoreFault.Sql
         → rows_fault sections.items points.items staff.items ≡ Err fault) }
+    ensures faults { IfErr result IsOfSubcommand }
 {
     let network = Network::build(alloc, sections, points)?;
     let staff = Staff::build(alloc, staff)?;

@@ -1,5 +1,5 @@
 //! The subcommand `serve`: the register of a database, answered over HTTP.
-ghost use Rattle.std.specs.Prelude.{◌≡◌, ℕ, List, Err, IfErr, IfOk, IfSome, OnOk, Result, Some};
+ghost use Rattle.std.specs.Prelude.{◌≡◌, ◌⊎◌, ℕ, List, Err, IfErr, IfOk, IfSome, OnOk, Result, Some};
 ghost use Rattle.std.specs.Prelude.{string_bytes};
 ghost use Rattle.std.specs.IoError.{error_kind};
 ghost use Rattle.clap.specs.Words.{found_of, rows_of};
@@ -13,9 +13,10 @@ ghost use Rattle.clr_http.specs.Served.{IsRefusal, IsServed, IsWritten};
 ghost use Rattle.clr_http.specs.declared.serve.HttpFault.{HttpFault};
 ghost use Rattle.clr_http.specs.declared.serve.Served.{Served};
 ghost use Rattle.clr_csv.specs.Streams.{Sends};
-ghost use Rattle.clr_edge.specs.Database.{HasRegister};
+ghost use Rattle.clr_edge.specs.Database.{HasRegister, IsRefused};
+ghost use Rattle.clr_commands.specs.Faults.{HasFailedWriter};
 ghost use Rattle.clr_commands.specs.Serve.{IsOfServing, IsServing, Serves, ServesAsked, ServesAt};
-ghost use Rattle.clr_commands.specs.Serve.{ServesNot, ServesRegister, TellsConnection, TellsFirst};
+ghost use Rattle.clr_commands.specs.Serve.{IsOfServer, ServesNot, ServesRegister, TellsConnection, TellsFirst};
 ghost use Rattle.clr_commands.specs.Serve.{TellsNext, accept_fault, connection_line};
 
 use crate::serve_line::{connection_line, serving_line};
@@ -72,6 +73,8 @@ pub fn serve<R: Databases + Loopback + AllocGlobal, W: CountedFlush, E: CountedF
         (λ _. IfErr result IsOfServing) }
     ensures served { OnOk result
         (ServesAt R.Medium.Disk (R.is_at rt.now (string_bytes args.now.path))) }
+    ensures faults { IfErr result (λ fault.
+        HasFailedWriter fault (W.stream output.old) (W.stream output.new)) }
 {
     let connection = rt.stored(args.path.as_str())?;
     let (port, count) = (args.port, args.count);
@@ -96,6 +99,8 @@ fn serve_over<S: Alter + Drop, L: Loopback, W: CountedFlush, E: CountedFlush>(
     ensures known { (R : Register) → HasRegister S.Store R connection
         → IfErr result.0 IsOfServing }
     ensures served { OnOk result.0 (ServesRegister S.Store connection result.1) }
+    ensures refused { IfErr result.0 (λ fault. IsOfServer fault
+        ⊎ IsRefused S.Store connection fault result.1) }
 {
     match desk_over(connection) {
         Ok(mut desk) => {

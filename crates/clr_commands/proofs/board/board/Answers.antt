@@ -9,6 +9,8 @@ use Rattle.clr_args.specs.Asked.{offset_in, word_in}
 use Rattle.clr_commands.specs.Stored.{TellsStored}
 use Rattle.clr_edge.specs.Database.{HasRegister, ReadsAt}
 use Rattle.clr_commands.proofs.Databases.{IfSome-from, OnOk-from}
+use Rattle.clr_edge.specs.declared.fault.Fault.TheVariants.{Memory}
+use Rattle.clr_commands.proofs.Unanswered.{unanswered_at}
 use Rattle.clr_commands.proofs.board.board.Goals as goal
 
 -- the board of the register that the database has
@@ -39,3 +41,11 @@ returns-clause-read g c =
     (g.R.Databases.is_at c.args.rt.now (word_in (rows_of (found_of c.args.matches.now)) (codes "DB"))) in
     OnOk-from _ _ Reads (λ read. (c.in_ok-connection.connection, c.board_over-told.result.1, at, read))
     c.board_over-told.ensures.read
+
+-- the database that was opened refused, or was asked in vain
+pub returns-clause-refused : goal.returns-clause-refused
+returns-clause-refused g c =
+    let at = subst (λ (path : List ℕ). g.R.Databases.is_at c.args.rt.now path (state over_files c.in_ok-connection.connection).now)
+    c.word_of.ensures c.in_ok-connection.ensures.at in
+    unanswered_at g.R.Medium.Disk (g.R.Databases.is_at c.args.rt.now (word_in (rows_of (found_of c.args.matches.now)) (codes "DB"))) (λ fault. fault ≡ Memory)
+    c.board_over-told.result.0 c.in_ok-connection.connection c.board_over-told.result.1 at c.board_over-told.ensures.refused c.board_over-told.ensures.survives

@@ -6,6 +6,9 @@ use Rattle.clr_print.specs.Printed.{board_text}
 use Rattle.clr_commands.proofs.Databases.{TellsStored-board}
 use Rattle.clr_edge.specs.Database.{IsOnlyRead}
 use Rattle.clr_edge.proofs.Databases.{OnOk-any}
+use Rattle.clr_edge.specs.declared.fault.Fault.TheVariants.{Memory}
+use Rattle.clr_commands.proofs.Faults.{each_plain, memory_plain}
+use Rattle.clr_commands.proofs.Unanswered.{own_fault}
 use Rattle.clr_commands.proofs.board.board_over.Goals as goal
 
 -- the board of the register that the database has
@@ -28,3 +31,10 @@ returns-in-Ok-clause-read g c =
     let same : c.end-in-Ok.result ≡ c.in-Ok.desk.store = cc in
     OnOk-any c.board_of-told.result _
     (subst (λ (h : Held g.row.S.Denot). IsOnlyRead g.S.Store c.args.connection h) (sym same) c.in-Ok.ensures.read)
+
+-- a fault of the board is want of memory
+pub returns-in-Ok-clause-refused : goal.returns-in-Ok-clause-refused
+returns-in-Ok-clause-refused g c = own_fault c.board_of-told.result (λ fault. fault ≡ Memory) _ c.board_of-told.ensures.fault
+
+pub returns-in-Ok-clause-faults : goal.returns-in-Ok-clause-faults
+returns-in-Ok-clause-faults g c = each_plain c.board_of-told.result (λ fault. fault ≡ Memory) memory_plain c.board_of-told.ensures.fault

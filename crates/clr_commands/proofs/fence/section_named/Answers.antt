@@ -5,14 +5,14 @@ use Rattle.clr_net.specs.Grid.{section_names}
 use Rattle.clr_commands.proofs.Found.{is_some-find}
 use Rattle.clr_commands.proofs.fence.section_named.Goals as goal
 
-pub returns-in-Some : goal.returns-in-Some
-returns-in-Some c =
+pub returns-in-Some-clause-answer : goal.returns-in-Some-clause-answer
+returns-in-Some-clause-answer c =
     let is_known : has_name (section_names c.args.network.now.sections) c.in_ok-name.name ≡ true =
     sym (is_some-find (λ row. row.name) c.in_ok-name.name c.args.network.now.sections) ∙ ap is_some (sym c.in-Some.ensures) in
     rw (← c.in_ok-name.ensures.reads, is_known) refl
 
-pub returns-in-None : goal.returns-in-None
-returns-in-None c =
+pub returns-in-None-clause-answer : goal.returns-in-None-clause-answer
+returns-in-None-clause-answer c =
     let is_unknown : has_name (section_names c.args.network.now.sections) c.in_ok-name.name ≡ false =
     sym (is_some-find (λ row. row.name) c.in_ok-name.name c.args.network.now.sections) ∙ ap is_some (sym c.in-None.ensures) in
     rw (← c.in_ok-name.ensures.reads, is_unknown) refl

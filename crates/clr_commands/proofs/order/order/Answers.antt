@@ -9,6 +9,8 @@ use Rattle.clr_commands.specs.Order.{order_told}
 use Rattle.clr_commands.specs.Stored.{TellsStored}
 use Rattle.clr_edge.specs.Database.{HasRegister, ReadsAt}
 use Rattle.clr_commands.proofs.Databases.{IfSome-from, OnOk-from}
+use Rattle.clr_commands.specs.Stored.{IsOfOrder}
+use Rattle.clr_commands.proofs.Unanswered.{unanswered_at}
 use Rattle.clr_commands.proofs.order.order.Goals as goal
 
 -- the order of the register that the database has
@@ -40,3 +42,11 @@ returns-clause-read g c =
     (g.R.Databases.is_at c.args.rt.now (word_in (rows_of (found_of c.args.matches.now)) (codes "DB"))) in
     OnOk-from _ _ Reads (λ read. (c.in_ok-connection.connection, c.order_over-told.result.1, at, read))
     c.order_over-told.ensures.read
+
+-- the database that was opened refused, or was asked in vain
+pub returns-clause-refused : goal.returns-clause-refused
+returns-clause-refused g c =
+    let at = subst (λ (path : List ℕ). g.R.Databases.is_at c.args.rt.now path (state over_files c.in_ok-connection.connection).now)
+    c.word_of.ensures c.in_ok-connection.ensures.at in
+    unanswered_at g.R.Medium.Disk (g.R.Databases.is_at c.args.rt.now (word_in (rows_of (found_of c.args.matches.now)) (codes "DB"))) (λ fault. IsOfOrder fault)
+    c.order_over-told.result.0 c.in_ok-connection.connection c.order_over-told.result.1 at c.order_over-told.ensures.refused c.order_over-told.ensures.survives

@@ -7,6 +7,9 @@ use Rattle.clr_commands.specs.Order.{order_told}
 use Rattle.clr_commands.proofs.Databases.{TellsStored-gives}
 use Rattle.clr_edge.specs.Database.{IsOnlyRead}
 use Rattle.clr_edge.proofs.Databases.{OnOk-any}
+use Rattle.clr_commands.specs.Stored.{IsOfOrder}
+use Rattle.clr_commands.proofs.Faults.{each_plain, order_plain}
+use Rattle.clr_commands.proofs.Unanswered.{own_fault}
 use Rattle.clr_commands.proofs.order.order_over.Goals as goal
 
 -- the order of the register that the database has
@@ -19,7 +22,7 @@ returns-in-Ok-clause-told g c R known =
     let offset : to_z w16 (of_z w16 c.args.offset) ≡ c.args.offset = to_z-of_z fits in
     TellsStored-gives (λ text. string_bytes text) _ _ c.order_of-told.result
     (λ i. order_told (register i) c.args.clearance.now c.args.round.now (offset i))
-    c.order_of-told.ensures
+    c.order_of-told.ensures.answer
 
 pub returns-in-Err-clause-told : goal.returns-in-Err-clause-told
 returns-in-Err-clause-told g c R known = λ other. absurd (other (c.in-Err.ensures.fault R known))
@@ -30,3 +33,10 @@ returns-in-Ok-clause-read g c =
     let same : c.end-in-Ok.result ≡ c.in-Ok.desk.store = cc in
     OnOk-any c.order_of-told.result _
     (subst (λ (h : Held g.row.S.Denot). IsOnlyRead g.S.Store c.args.connection h) (sym same) c.in-Ok.ensures.read)
+
+-- a fault of the order is its own
+pub returns-in-Ok-clause-refused : goal.returns-in-Ok-clause-refused
+returns-in-Ok-clause-refused g c = own_fault c.order_of-told.result (λ fault. IsOfOrder fault) _ c.order_of-told.ensures.faults
+
+pub returns-in-Ok-clause-faults : goal.returns-in-Ok-clause-faults
+returns-in-Ok-clause-faults g c = each_plain c.order_of-told.result (λ fault. IsOfOrder fault) order_plain c.order_of-told.ensures.faults

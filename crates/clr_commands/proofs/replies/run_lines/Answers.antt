@@ -18,4 +18,4 @@ returns-clause-answer g c =
       keeps = c.run-run.ensures.keeps;
       crash = c.run-run.ensures.crash;
     })
-    c.print.ensures
+    c.print.ensures.answer

@@ -1,5 +1,10 @@
+use Rattle.clr_edge.specs.declared.fault.Fault.{Fault}
 use Rattle.clr_commands.proofs.Databases.{IfSome-from, RunsAtPath-closed, RunsStored-closed}
 use Rattle.clr_commands.proofs.RunAnswers.{closed_cause, closed_waits}
+use Rattle.clr_commands.specs.Faults.{IsOfSubcommand}
+use Rattle.clr_commands.specs.Run.{IsOfInput}
+use Rattle.clr_commands.specs.Stored.{UnansweredAt}
+use Rattle.clr_commands.proofs.Unanswered.{told_behind, unanswered_behind}
 use Rattle.clr_commands.proofs.run.run_of_database.Goals as goal
 
 -- the register of the database, as far as that is known, and the bytes of the input
@@ -21,3 +26,17 @@ returns-clause-cause g c =
 pub returns-clause-waits : goal.returns-clause-waits
 returns-clause-waits g c =
     closed_waits _ _ _ _ c.printed_behind.ensures.whole c.printed_behind.ensures.fault c.run_connected-printed.ensures.waits
+
+-- a fault is the one that was told before the closing
+pub returns-clause-refused : goal.returns-clause-refused
+returns-clause-refused g c =
+    let IsAt = g.D.Databases.is_at c.args.databases.now c.args.path.now in
+    let IsIt : Fault → Type 0 = UnansweredAt g.D.Medium.Disk IsAt (λ fault. IsOfInput fault) in
+    told_behind c.run_connected-printed.result.0 c.printed_behind.result IsIt c.printed_behind.ensures.whole c.printed_behind.ensures.fault
+    (unanswered_behind g.D.Medium.Disk IsAt (λ fault. IsOfInput fault) c.run_connected-printed.result.0 c.in_ok-connection.connection
+    c.run_connected-printed.result.1 c.in_ok-connection.ensures.at c.run_connected-printed.ensures.refused c.run_connected-printed.ensures.unrun)
+
+pub returns-clause-faults : goal.returns-clause-faults
+returns-clause-faults g c =
+    told_behind c.run_connected-printed.result.0 c.printed_behind.result (λ fault. IsOfSubcommand fault) c.printed_behind.ensures.whole
+    c.printed_behind.ensures.fault c.run_connected-printed.ensures.faults

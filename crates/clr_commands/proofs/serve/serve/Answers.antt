@@ -6,6 +6,7 @@ use Rattle.clr_edge.specs.Database.{HasRegister}
 use Rattle.clr_edge.proofs.Databases.{OnOk-any, OnOk-was}
 use Rattle.clr_commands.proofs.Databases.{IfSome-from}
 use Rattle.clr_commands.proofs.Serving.{IfSome-all, IsOfServing-failed, IsOfServing-line, IsServing-closed}
+use Rattle.clr_commands.proofs.Faults.{served_failed, served_output}
 use Rattle.clr_commands.proofs.serve.serve.Goals as goal
 
 -- the register that the database has is served
@@ -38,3 +39,14 @@ returns-clause-served g c =
       at,
       OnOk-was c.serve_over-served.result.0 c.in_ok-served.field-0 _ c.in_ok-served.was c.serve_over-served.ensures.served,
     )
+
+-- the output is at fault only where it failed
+pub returns-clause-faults : goal.returns-clause-faults
+returns-clause-faults g c =
+    served_output (g.R.Loopback.refuses c.args.rt.now) c.args.args.now.port c.args.args.now.count c.close-closed.result _ _ _ _ (returns-clause-told g c)
+
+pub returns-in_err-served-clause-faults : goal.returns-in_err-served-clause-faults
+returns-in_err-served-clause-faults g c =
+    served_failed (g.R.Loopback.refuses c.args.rt.now) c.args.args.now.port c.args.args.now.count c.serve_over-served.result.0
+    c.from_residual-in_err-served.result c.in_err-served.field-0.0 _ _ _ _ c.in_err-served.was c.from_residual-in_err-served.ensures.1
+    c.serve_over-served.ensures.told

@@ -1,0 +1,147 @@
+-- What a subcommand may answer is no fault of the output or of listening.
+use Rattle.std.proofs.Common.{◌≡◌, ◌∙◌, ◌⊎◌, ap, inl, inr, refl, subst, sym, Bool, true, false, ℕ, Result, Ok, Err}
+use Rattle.std.specs.Prelude.{IfErr, IfSome, IsErrAnd, None, Option, Some, option_map}
+use Rattle.clr_net.specs.declared.name.NameFault.{NameFault}
+use Rattle.clr_net.specs.declared.name.NameFault.TheVariants as name
+use Rattle.clr_net.specs.declared.net_fault.NetFault.{NetFault}
+use Rattle.clr_net.specs.declared.net_fault.NetFault.TheVariants as net
+use Rattle.clr_csv.specs.Streams.{Stream}
+use Rattle.clr_csv.specs.declared.fault.CsvFault.{CsvFault}
+use Rattle.clr_csv.specs.declared.fault.CsvFault.TheVariants as csv
+use Rattle.clr_csv.specs.declared.staff_fault.StaffFault.{StaffFault}
+use Rattle.clr_csv.specs.declared.staff_fault.StaffFault.TheVariants as staff
+use Rattle.clr_load.specs.declared.fault.StoreFault.{StoreFault}
+use Rattle.clr_load.specs.declared.fault.StoreFault.TheVariants as store
+use Rattle.clr_desk.specs.declared.desk_fault.DeskFault.{DeskFault}
+use Rattle.clr_desk.specs.declared.desk_fault.DeskFault.TheVariants as desk
+use Rattle.clr_edge.specs.Database.{IsOfLine, IsOfStore}
+use Rattle.clr_edge.specs.Fault.{IsOfFile, of_desk, of_file, of_name, of_network, of_staff, of_store}
+use Rattle.clr_edge.specs.declared.fault.Fault.{Fault}
+use Rattle.clr_edge.specs.declared.fault.Fault.TheVariants.{Listen, Memory, Output}
+use Rattle.clr_edge.specs.declared.fault.ImportFile.{ImportFile}
+use Rattle.clr_commands.specs.Faults.{HasFailedWriter, IsOfSubcommand}
+use Rattle.clr_commands.specs.Run.{IsOfInput}
+use Rattle.clr_commands.specs.Serve.{FailsServing, IsServing}
+use Rattle.clr_commands.specs.Stored.{IsOfOrder}
+
+abbrev is_plain : Fault → Bool
+is_plain Output = false
+is_plain Listen = false
+is_plain fault = true
+
+plain : (fault : Fault) → is_plain fault ≡ true → IsOfSubcommand fault
+plain fault is = (λ e. cc (sym is ∙ ap is_plain e), λ e. cc (sym is ∙ ap is_plain e))
+
+plain_as : (fault found : Fault) → fault ≡ found → is_plain found ≡ true → IsOfSubcommand fault
+plain_as fault found e is = plain fault (ap is_plain e ∙ is)
+
+-- the causes, as they are told
+pub of_network_plain : (cause : NetFault) → IsOfSubcommand (of_network cause)
+of_network_plain net.NoSections = plain _ refl
+of_network_plain net.TooLarge = plain _ refl
+of_network_plain (net.SectionTwice row) = plain _ refl
+of_network_plain (net.PointTwice row) = plain _ refl
+of_network_plain (net.UnknownEnd row) = plain _ refl
+of_network_plain (net.SameEnds row) = plain _ refl
+of_network_plain net.NoMemory = plain _ refl
+
+pub of_staff_plain : (cause : StaffFault) → IsOfSubcommand (of_staff cause)
+of_staff_plain (staff.Twice row) = plain _ refl
+of_staff_plain (staff.UnknownSupervisor row) = plain _ refl
+of_staff_plain (staff.OwnSupervisor row) = plain _ refl
+of_staff_plain staff.TooMany = plain _ refl
+of_staff_plain staff.NoMemory = plain _ refl
+
+pub of_name_plain : (cause : NameFault) → IsOfSubcommand (of_name cause)
+of_name_plain name.Empty = plain _ refl
+of_name_plain name.TooLong = plain _ refl
+of_name_plain (name.BadByte place) = plain _ refl
+of_name_plain name.NoMemory = plain _ refl
+
+pub of_store_plain : (cause : StoreFault) → IsOfSubcommand (of_store cause)
+of_store_plain store.Sql = plain _ refl
+of_store_plain (store.WrongVersion n) = plain _ refl
+of_store_plain (store.BadRow table) = plain _ refl
+of_store_plain store.NoMemory = plain _ refl
+
+pub of_desk_plain : (cause : DeskFault) → IsOfSubcommand (of_desk cause)
+of_desk_plain desk.NoMemory = plain _ refl
+of_desk_plain (desk.Store cause) = of_store_plain cause
+
+of_file_plain : (file : ImportFile) (cause : CsvFault) → IsOfSubcommand (of_file file cause)
+of_file_plain file csv.ReadFailed = plain _ refl
+of_file_plain file csv.TooLong = plain _ refl
+of_file_plain file csv.Header = plain _ refl
+of_file_plain file (csv.NotText row) = plain _ refl
+of_file_plain file (csv.FieldCount row) = plain _ refl
+of_file_plain file (csv.BadName row column) = plain _ refl
+of_file_plain file (csv.BadWord row column) = plain _ refl
+of_file_plain file csv.NoMemory = plain _ refl
+
+-- the faults that parts may answer
+pub memory_plain : (fault : Fault) → fault ≡ Memory → IsOfSubcommand fault
+memory_plain fault e = plain_as fault Memory e refl
+
+pub line_plain : (fault : Fault) → IsOfLine fault → IsOfSubcommand fault
+line_plain fault (inl memory) = memory_plain fault memory
+line_plain fault (inr refused) = plain_as fault _ refused refl
+
+pub order_plain : (fault : Fault) → IsOfOrder fault → IsOfSubcommand fault
+order_plain fault (inl memory) = memory_plain fault memory
+order_plain fault (inr none) = plain_as fault _ none refl
+
+pub store_plain : (fault : Fault) → IsOfStore fault → IsOfSubcommand fault
+store_plain fault (inl memory) = memory_plain fault memory
+store_plain fault (inr (cause, is)) = plain_as fault _ is refl
+
+pub input_plain : (fault : Fault) → IsOfInput fault → IsOfSubcommand fault
+input_plain fault (inl memory) = memory_plain fault memory
+input_plain fault (inr (inl failed)) = plain_as fault _ failed refl
+input_plain fault (inr (inr long)) = plain_as fault _ long refl
+
+pub file_plain : (file : ImportFile) (fault : Fault) → IsOfFile file fault → IsOfSubcommand fault
+file_plain file fault (cause, is) = subst (λ (f : Fault). IsOfSubcommand f) (sym is) (of_file_plain file cause)
+
+-- a fault that is passed on
+pub passed : {T : Type 0} (result : Result T Fault) (found : Fault) → IsErrAnd result (λ cause. cause ≡ found)
+    → IsOfSubcommand found → IfErr result IsOfSubcommand
+passed (Ok value) found is of = tt
+passed (Err cause) found is of = subst (λ (f : Fault). IsOfSubcommand f) (sym is) of
+
+-- what holds of each fault holds of the one that there is
+pub each_plain : {T : Type 0} (result : Result T Fault) (P : Fault → Type 0) → ((fault : Fault) → P fault → IsOfSubcommand fault)
+    → IfErr result P → IfErr result IsOfSubcommand
+each_plain (Ok value) P of is = tt
+each_plain (Err fault) P of is = of fault is
+
+-- a fault that was told, if one was
+pub told_plain : (fault : Option Fault) (cause : Option DeskFault) → fault ≡ option_map of_desk cause → IfSome fault IsOfSubcommand
+told_plain fault None e = subst (λ (f : Option Fault). IfSome f IsOfSubcommand) (sym e) tt
+told_plain fault (Some cause) e = subst (λ (f : Option Fault). IfSome f IsOfSubcommand) (sym e) (of_desk_plain cause)
+
+-- a server's fault is of the output only where that failed
+of_output : (fault : Fault) (output output' : Stream) → IsOfSubcommand fault → HasFailedWriter fault output output'
+of_output fault output output' of = λ e. absurd (of.0 e)
+
+failed_writer : (refuses : ℕ → Type 0) (port count : ℕ) (fault : Fault) (output output' errors errors' : Stream)
+    → FailsServing refuses port count fault output output' errors errors' → HasFailedWriter fault output output'
+failed_writer refuses port count fault output output' errors errors' (inl (store, same, quiet)) = of_output fault output output' (store_plain fault store)
+failed_writer refuses port count fault output output' errors errors' (inr (inl (quiet, inl (memory, same)))) = of_output fault output output' (memory_plain fault memory)
+failed_writer refuses port count fault output output' errors errors' (inr (inl (quiet, inr (inl (listen, refused, same))))) = λ e. cc (sym listen ∙ e)
+failed_writer refuses port count fault output output' errors errors' (inr (inl (quiet, inr (inr (is_output, cut))))) = λ e. cut.1
+failed_writer refuses port count fault output output' errors errors' (inr (inr (line, serves))) = of_output fault output output' (line_plain fault line)
+
+pub served_output : {T : Type 0} (refuses : ℕ → Type 0) (port count : ℕ) (result : Result T Fault) (output output' errors errors' : Stream)
+    → IsServing refuses port count result output output' errors errors' → IfErr result (λ fault. HasFailedWriter fault output output')
+served_output refuses port count (Ok value) output output' errors errors' is = tt
+served_output refuses port count (Err fault) output output' errors errors' is = failed_writer refuses port count fault output output' errors errors' is
+
+-- the same of a fault that is passed on
+pub served_failed : {T U : Type 0} (refuses : ℕ → Type 0) (port count : ℕ) (served : Result T Fault) (result : Result U Fault) (fault : Fault)
+    (output output' errors errors' : Stream) → served ≡ Err fault → IsErrAnd result (λ cause. cause ≡ fault)
+    → IsServing refuses port count served output output' errors errors' → IfErr result (λ cause. HasFailedWriter cause output output')
+served_failed refuses port count served (Ok value) fault output output' errors errors' was is told = absurd is
+served_failed {T} refuses port count served (Err cause) fault output output' errors errors' was is told =
+    let fails : FailsServing refuses port count fault output output' errors errors' =
+    subst (λ (r : Result T Fault). IsServing refuses port count r output output' errors errors') was told in
+    λ e. failed_writer refuses port count fault output output' errors errors' fails (sym is ∙ e)
