@@ -14,7 +14,8 @@ use Rattle.clr_edge.specs.declared.fault.Fault.TheVariants.{Memory}
 use Rattle.clr_command_line.specs.declared.outcome.Outcome.{Outcome}
 use Rattle.clr_command_line.specs.declared.outcome.Outcome.TheVariants.{Answer, Serve, Stopped, Unread}
 use Rattle.clr_command_line.specs.CommandLine.{AnswersNamed, AnswersWords, Around, MayAnswer}
-use Rattle.clr_command_line.specs.Outcome.{IsAnswer, IsHelpOrUnread, IsUnread}
+use Rattle.clr_command_line.specs.Outcome.{IsAnswer, IsHelpOrUnread, IsUnread, TellsOwnFault}
+use Rattle.clr_commands.proofs.Faults.{memory_plain}
 use Rattle.clr_args.specs.Syntax.{gridclear}
 
 -- the kinds of error are known of the program's command line
@@ -70,7 +71,7 @@ pub AnswersWords-memory : (world : Around) (words : List Text) (result : Result 
     → IsErrAnd result (λ fault. fault ≡ Memory) → AnswersWords world words result
 AnswersWords-memory world words (Ok outcome) is = absurd is
 AnswersWords-memory world words (Err fault) is =
-    record { parsed = λ none. inl (ap Err is); unparsed = λ some. is; helped = tt }
+    record { parsed = λ none. inl (ap Err is); unparsed = λ some. is; helped = tt; faults = memory_plain fault is }
 
 -- the same where its fault is passed on
 pub AnswersWords-passed : (world : Around) (words : List Text) (fault : Fault) (result : Result Outcome Fault)
@@ -90,12 +91,13 @@ pub AnswersWords-told : (world : Around) (words : List Text) (error : Error) (ou
     → HasKind (fault_of gridclear words) error
     → (kind_of error ≡ kind.OutOfMemory → ⊥)
     → (kind_of error ≢ kind.OutOfMemory → kind_of error ≢ kind.DisplayHelp → kind_of error ≢ kind.DisplayVersion → IsUnread outcome)
-    → IsHelpOrUnread (Ok outcome)
+    → IsHelpOrUnread (Ok outcome) → TellsOwnFault (Ok outcome)
     → AnswersWords world words (Ok outcome)
-AnswersWords-told world words error outcome has memory mistake helps = record {
+AnswersWords-told world words error outcome has memory mistake helps own = record {
   parsed = λ none. absurd (memory (no_kind (fault_of gridclear words) error has none));
   unparsed = λ some. helps;
   helped = MayAnswer-from_help (fault_of gridclear words) error outcome has memory mistake;
+  faults = own;
 }
 
 if_ok_may : (words : List Text) (result : Result Outcome Fault) → fault_of gridclear words ≡ []
@@ -106,9 +108,13 @@ if_ok_may words (Err fault) none = tt
 -- words that parse come to what is answered of the subcommand that they name
 pub AnswersWords-parsed : (world : Around) (words : List Text) (result : Result Outcome Fault)
     → fault_of gridclear words ≡ [] → AnswersNamed world (subcommand_of gridclear words) result
-    → AnswersWords world words result
-AnswersWords-parsed world words result none answers =
-    record { parsed = λ again. inr answers; unparsed = λ some. absurd (some none); helped = if_ok_may words result none }
+    → TellsOwnFault result → AnswersWords world words result
+AnswersWords-parsed world words result none answers own = record {
+  parsed = λ again. inr answers;
+  unparsed = λ some. absurd (some none);
+  helped = if_ok_may words result none;
+  faults = own;
+}
 
 -- the subcommand that a parse met, as its matches show it
 abbrev pub shown : Option (Bor (List ℕ) × Bor ArgMatches) → Option (Text × List Row)
@@ -151,8 +157,8 @@ pub AnswersWords-met : (world : Around) (words : List Text) (result : Result Out
     → app ≡ gridclear → (is_simple_and_free app ≡ true → fault_of app words ≡ []) → HasMatchesOf app words m
     → option_map (λ p. p.0.now) met ≡ subcommand_name_of m
     → option_map (λ p. rows_of (found_of p.1.now)) met ≡ option_map (λ p. p.1) (subcommand_rows (out-ArgMatches m).subcommand)
-    → shown met ≡ named → AnswersNamed world named result → AnswersWords world words result
-AnswersWords-met world words result app m met named shape kinds has name rows is answers =
+    → shown met ≡ named → AnswersNamed world named result → TellsOwnFault result → AnswersWords world words result
+AnswersWords-met world words result app m met named shape kinds has name rows is answers own =
     let P : Option (Text × List Row) → Type 0 = λ o. AnswersNamed world o result in
     AnswersWords-parsed world words result (fault_of-parsed app words shape kinds)
-    (subst P (sym is ∙ subcommand_of-met app words m met shape has name rows) answers)
+    (subst P (sym is ∙ subcommand_of-met app words m met shape has name rows) answers) own

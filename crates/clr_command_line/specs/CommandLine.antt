@@ -13,7 +13,7 @@ use Rattle.clr_rules.specs.Register.{Register}
 use Rattle.clr_commands.specs.Fence.{FencesAt}
 use Rattle.clr_commands.specs.Init.{InitsAt, MakesAt}
 use Rattle.clr_command_line.specs.Outcome.{ComesTo, IsAnswer, IsHelpOrUnread, IsNoAnswer, IsServer}
-use Rattle.clr_command_line.specs.Outcome.{answer_of}
+use Rattle.clr_command_line.specs.Outcome.{TellsOwnFault, answer_of}
 use Rattle.clr_commands.specs.Run.{RunsAsked, RunsAtPath, RunsNamed}
 use Rattle.clr_commands.specs.Stored.{BoardAt, OrdersAt}
 use Rattle.clr_args.specs.Asked.{word_in}
@@ -95,13 +95,14 @@ AnswersNamed world None result = IsNoAnswer result
 
 -- What words result in, of which the first is the program's name. Where clap finds nothing wrong with
 -- them, it is what the subcommand that they name results in, and else help that they ask for, or why
--- they do not parse.
+-- they do not parse. Its fault is never that of writing it.
 pub record AnswersWords (world : Around) (words : List Text) (result : Result Outcome Fault)
     : Type 0 where
   pub parsed : fault_of gridclear words ≡ [] → (result ≡ Err Memory)
       ⊎ AnswersNamed world (subcommand_of gridclear words) result
   pub unparsed : fault_of gridclear words ≢ [] → IsHelpOrUnread result
   pub helped : IfOk result (λ outcome. IsAnswer outcome → MayAnswer (fault_of gridclear words))
+  pub faults : TellsOwnFault result
 
 -- why the program has no words: memory ran out, or an argument is no text
 abbrev pub TellsNoWords : ErrorKind → ℕ → Stream → Stream → Type 0

@@ -1,5 +1,5 @@
 -- How an outcome is told: the status, and what is written where.
-use Rattle.std.specs.Prelude.{ℕ, true, ◌≡◌, ◌≤◌, ◌⊎◌, List, [], ◌∷◌, ◌++◌, Option, Some, None}
+use Rattle.std.specs.Prelude.{ℕ, true, ◌≡◌, ◌≢◌, ◌≤◌, ◌⊎◌, List, [], ◌∷◌, ◌++◌, Option, Some, None}
 use Rattle.std.specs.Prelude.{Result, Ok, Err, String, codes, string_bytes}
 use Rattle.std.specs.declared.alloc.Global.{Global}
 use Rattle.clap.specs.Words.{Row}
@@ -9,6 +9,7 @@ use Rattle.clr_edge.specs.declared.fault.Fault.{Fault}
 use Rattle.clr_edge.specs.declared.fault.Fault.TheVariants.{Memory, Output}
 use Rattle.clr_commands.specs.declared.replies.Printed.{Printed}
 use Rattle.clr_edge.specs.Fault.{told_line}
+use Rattle.clr_commands.specs.Faults.{IsOfSubcommand}
 use Rattle.clr_commands.specs.Serve.{FailsServing, Serves, ServesAsked}
 use Rattle.clr_csv.specs.Streams.{HasFailed, IsCut, Sends, Stream, WentOut}
 
@@ -37,11 +38,13 @@ Tells refuses (Ok (Unread text)) status output output' errors errors' = (status 
 Tells refuses (Err fault) status output output' errors errors' = (status ≡ 1) × (output' ≡ output)
     × Sends errors errors' (told_line fault)
 
--- what went to the output before a fault, which was flushed; a failed write is a fault of its own
+-- what went to the output before a fault: the fault is of the output exactly where that failed; at
+-- any other it was flushed, if anything went to it
 abbrev pub IsFaulted : Fault → Stream → Stream → Type 0
 IsFaulted fault output output' =
     ((fault ≡ Output) × HasFailed output output')
-    ⊎ ((output' ≡ output) ⊎ ((front : List ℕ) × WentOut output output' front))
+    ⊎ ((fault ≢ Output)
+    × ((output' ≡ output) ⊎ ((front : List ℕ) × WentOut output output' front)))
 
 -- a server began: the errors were told of connections that failed
 abbrev pub HasServed : Stream → Stream → Stream → Stream → Type 0
@@ -49,8 +52,8 @@ HasServed output output' errors errors' = (port : ℕ) × (count : ℕ)
     × Serves port count output output' errors errors'
 
 -- What every outcome keeps to: the status is 0, 1 or 2; at 0 what was written was flushed, and
--- nothing went to the errors; at 1 the line of a fault did, that of a failed write only where the
--- output failed, and what went to the output before it was flushed; at 2 nothing went to the
+-- nothing went to the errors; at 1 the line of a fault did, that of a failed write exactly where the
+-- output failed, and what went to the output before any other was flushed; at 2 nothing went to the
 -- output. Of a server the errors were told of connections that failed, before the line of a fault.
 pub record IsTold (status : ℕ) (output output' errors errors' : Stream) : Type 0 where
   pub statuses : status ≤ 2
@@ -59,7 +62,7 @@ pub record IsTold (status : ℕ) (output output' errors errors' : Stream) : Type
   pub faulted : status ≡ 1 → (fault : Fault) × (middle : Stream)
       × Sends middle errors' (told_line fault)
       × (((middle ≡ errors) × IsFaulted fault output output')
-      ⊎ HasServed output output' errors middle)
+      ⊎ ((fault ≢ Output) × HasServed output output' errors middle))
   pub unread : status ≡ 2 → output' ≡ output
 
 -- an answer, whole or as far as it came, help that was asked for, or a server
@@ -88,6 +91,15 @@ IsHelpOrUnread (Err fault) = fault ≡ Memory
 abbrev pub IsNoAnswer : Result Outcome Fault → Type 0
 IsNoAnswer (Ok outcome) = IsUnread outcome
 IsNoAnswer (Err fault) = fault ≡ Memory
+
+-- the fault that comes in place of an answer, or behind the front of one, is a subcommand's: that
+-- the output could not be written is told of no outcome before it was written
+abbrev pub TellsOwnFault : Result Outcome Fault → Type 0
+TellsOwnFault (Ok (Answer text)) = Unit {0}
+TellsOwnFault (Ok (Stopped text fault)) = IsOfSubcommand fault
+TellsOwnFault (Ok (Serve args)) = Unit {0}
+TellsOwnFault (Ok (Unread text)) = Unit {0}
+TellsOwnFault (Err fault) = IsOfSubcommand fault
 
 -- an answer that is whole, as a command comes to it
 abbrev pub answer_of : Result (String Global) Fault → Result Outcome Fault

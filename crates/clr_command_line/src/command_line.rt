@@ -1,13 +1,15 @@
 //! Whole command lines: from the words to the exit status.
-ghost use Rattle.std.specs.Prelude.{◌≡◌, ◌≢◌, ◌⊎◌, Err, IfErr, IfOk, Result, map};
+ghost use Rattle.std.specs.Prelude.{◌≡◌, ◌≢◌, ◌⊎◌, Err, IfErr, IfOk, IfSome, Ok, Result, map};
 ghost use Rattle.std.specs.IoError.{error_kind};
 ghost use Rattle.clap.specs.Words.{fault_of, found_of, kind_of, rows_of};
 ghost use Rattle.clr_args.specs.Syntax.{gridclear};
+ghost use Rattle.clr_commands.specs.Faults.{IsOfSubcommand, StopsAsSubcommand};
 ghost use Rattle.clr_edge.specs.declared.fault.Fault.{Fault as AnyFault};
 ghost use Rattle.clr_command_line.specs.CommandLine.{AnswersTo, AnswersWords, MayAnswer};
 ghost use Rattle.clr_command_line.specs.CommandLine.{TellsNoWords, around};
 ghost use Rattle.clr_command_line.specs.Outcome.{ComesTo, IsAnswer, IsHelpOrUnread, IsTold};
-ghost use Rattle.clr_command_line.specs.Outcome.{IsUnread, Tells, answer_of, printed_as};
+ghost use Rattle.clr_command_line.specs.Outcome.{IsUnread, Tells, TellsOwnFault, answer_of};
+ghost use Rattle.clr_command_line.specs.Outcome.{printed_as};
 ghost use Rattle.clr_command_line.specs.declared.outcome.Outcome.{Outcome as AnyOutcome};
 
 use crate::outcome::{Outcome, tell, tell_fault};
@@ -156,8 +158,10 @@ where
     R: Databases + AllocGlobal,
     O: Opens<'a>,
     I: CountedRead,
-    ensures { AnswersTo (around R.Medium.Disk (O.bytes_at paths.now) (R.register_at rt.now)
-        (R.is_at rt.now) (I.remaining input.old)) name.now (rows_of (found_of matches.now)) result }
+    ensures answer { AnswersTo (around R.Medium.Disk (O.bytes_at paths.now)
+        (R.register_at rt.now) (R.is_at rt.now) (I.remaining input.old)) name.now
+        (rows_of (found_of matches.now)) result }
+    ensures faults { TellsOwnFault result }
 {
     match name {
         "fence" => whole(fence(rt.alloc(), paths, matches)),
@@ -178,7 +182,8 @@ where
 
 /// An answer that is whole, if there is no fault.
 fn whole(told: Result<String, Fault>) -> Result<Outcome, Fault>
-    ensures { result ≡ answer_of told }
+    ensures answer { result ≡ answer_of told }
+    ensures faults { IfErr told IsOfSubcommand → TellsOwnFault result }
 {
     match told {
         Ok(text) => Ok(Outcome::Answer(text)),
@@ -188,7 +193,9 @@ fn whole(told: Result<String, Fault>) -> Result<Outcome, Fault>
 
 /// Replies as an answer, whole or as far as they came; without any, why the `run` is not taken.
 fn replies(alloc: Global, told: Result<Option<Printed>, Fault>) -> Result<Outcome, Fault>
-    ensures { ComesTo told result }
+    ensures answer { ComesTo told result }
+    ensures faults { IfErr told IsOfSubcommand
+        → IfOk told (λ taken. IfSome taken StopsAsSubcommand) → TellsOwnFault result }
 {
     match told? {
         Some(printed) => Ok(outcome_of(printed)),
@@ -201,7 +208,8 @@ fn replies(alloc: Global, told: Result<Option<Printed>, Fault>) -> Result<Outcom
 
 /// Replies as an answer, whole or as far as they came.
 fn outcome_of(printed: Printed) -> Outcome
-    ensures { result ≡ printed_as printed.text printed.fault }
+    ensures answer { result ≡ printed_as printed.text printed.fault }
+    ensures faults { StopsAsSubcommand printed → TellsOwnFault (Ok result) }
 {
     let Printed { text, fault } = printed;
     match fault {
@@ -220,6 +228,7 @@ fn unparsed(alloc: Global, error: &clap::Error) -> Result<Outcome, Fault>
         → kind_of error.now ≢ ErrorKind.DisplayHelp
         → kind_of error.now ≢ ErrorKind.DisplayVersion → IfOk result IsUnread }
     ensures words { IsHelpOrUnread result }
+    ensures own { TellsOwnFault result }
 {
     if error.kind() == ErrorKind::OutOfMemory {
         return Err(Fault::Memory);

@@ -18,15 +18,15 @@ pub returns-in-Err : goal.returns-in-Err
 returns-in-Err g c =
     let has = HasKind-words _ _ c.in-Err.error c.in_ok-command.ensures c.in-Err.ensures.kinds in
     let told = c.in_ok-outcome-in-Err.ensures in
-    AnswersWords-told _ _ c.in-Err.error c.in_ok-outcome-in-Err.outcome has (λ memory. cc (told.memory memory)) told.mistake told.words
+    AnswersWords-told _ _ c.in-Err.error c.in_ok-outcome-in-Err.outcome has (λ memory. cc (told.memory memory)) told.mistake told.words told.own
 
 -- the words parse, and name a subcommand or none
 pub returns-in-Some : goal.returns-in-Some
 returns-in-Some g c =
     AnswersWords-met _ _ _ _ _ (Some (c.in-Some.name, c.in-Some.matches)) _ c.in_ok-command.ensures c.in-Ok.ensures.kinds c.in-Ok.ensures.ok.2
-    c.in-Some.ensures.name c.in-Some.ensures.rows refl c.answer_to.ensures
+    c.in-Some.ensures.name c.in-Some.ensures.rows refl c.answer_to.ensures.answer c.answer_to.ensures.faults
 
 pub returns : goal.returns
 returns g c =
     AnswersWords-met _ _ _ _ _ None _ c.in_ok-command.ensures c.in-Ok.ensures.kinds c.in-Ok.ensures.ok.2
-    c.in-None.ensures.name c.in-None.ensures.rows refl tt
+    c.in-None.ensures.name c.in-None.ensures.rows refl tt tt

@@ -5,7 +5,7 @@ pub returns-clause-answer : goal.returns-clause-answer
 returns-clause-answer g c = (_, c.answer.ensures, c.tell.ensures)
 
 pub returns-clause-told : goal.returns-clause-told
-returns-clause-told g c = IsTold-from_tells _ _ _ _ _ _ _ c.tell.ensures
+returns-clause-told g c = IsTold-from_tells _ _ _ _ _ _ _ c.answer.ensures.faults c.tell.ensures
 
 pub returns-clause-words : goal.returns-clause-words
 returns-clause-words g c = MayAnswer-from_tells _ _ _ _ _ _ _ _ _ c.answer.ensures c.tell.ensures
