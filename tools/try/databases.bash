@@ -1,0 +1,165 @@
+# Databases that are none, are not whole, are another's, or were written by another; paths without a register; a disk
+# that is full. Read by tools/try-program.
+
+place=$work/databases
+mkdir "$place"
+
+# each_reader COMMAND.. PATH: COMMAND with the words of each subcommand that opens a register, at this path.
+each_reader() {
+  local path=${*: -1} command=("${@:1:$#-1}")
+  cp "$work/one" "$work/input"
+  "${command[@]}" run --db "$path"
+  "${command[@]}" order "$path" JONES/1 1
+  "${command[@]}" board "$path"
+  "${command[@]}" serve "$path" --port "$port" --count 1
+  : >"$work/input"
+}
+
+# write_to PATH STATEMENT..: what somebody else writes to a database, by SQLite itself.
+write_to() {
+  python3 - "$@" <<'END'
+import sqlite3, sys
+connection = sqlite3.connect(sys.argv[1])
+for statement in sys.argv[2:]:
+    connection.execute(statement)
+connection.commit()
+connection.close()
+END
+}
+
+# A log that a run leaves that is killed: it has the commands, and the database beside it has none of them.
+new_register "$work/killed.db"
+"$program" serve "$work/killed.db" --port "$port" --count 1000 >"$work/told" 2>/dev/null &
+server=$!
+for _ in $(seq 100); do [ -s "$work/told" ] || sleep 0.1; done
+while IFS= read -r line; do
+  ask 'POST /command HTTP/1.1' "Content-Length: ${#line}" "$line" >/dev/null
+done <"$work/two"
+kill -9 "$server"
+wait "$server" 2>/dev/null
+expect 'the log of a killed server has the commands' test "$(wc -c <"$work/killed.db-wal")" -gt 4096
+
+# Only `init` makes a database: a path where there is no file, or an empty one, is left alone, and so is a log beside
+# it.
+no_register() {
+  local title=$1
+  shift
+  keeping "$place" try "$1, $title" 1 '' "$no_store" "$@"
+}
+each_reader no_register 'no file' "$place/room.db"
+: >"$place/room.db"
+each_reader no_register 'an empty file' "$place/room.db"
+cp "$work/killed.db-wal" "$place/room.db-wal"
+each_reader no_register 'an empty file beside a log' "$place/room.db"
+rm "$place/room.db"
+each_reader no_register 'no file beside a log' "$place/room.db"
+rm "$place/room.db-wal"
+
+# keeps_file FAULT TITLE WORD..: a run that ends with this fault of the store, and leaves the database as it was. A log
+# may stand beside it.
+keeps_file() {
+  local fault=$1 title=$2
+  shift 2
+  cp "$place/room.db" "$work/before.db"
+  try "$1, $title" 1 '' "fault: store $fault$feed" "$@"
+  expect "$1, $title: the database is unchanged" cmp "$place/room.db" "$work/before.db"
+}
+# all_refuse FAULT TITLE: each subcommand that opens the database at $place/room.db, and `init` on it too.
+all_refuse() {
+  each_reader keeps_file "$@" "$place/room.db"
+  keeps_file Sql "$2" init "${three[@]}" --db "$place/room.db"
+  rm -f "$place"/*
+}
+
+cp "$files/points.csv" "$place/room.db"
+all_refuse Sql 'a text for a database'
+head -c 30720 "$work/ordered.db" >"$place/room.db"
+all_refuse Sql 'a database that was cut in the middle'
+head -c 100 "$work/ordered.db" >"$place/room.db"
+all_refuse Sql 'the first hundred bytes of a database'
+for page in 1 4; do
+  cp "$work/ordered.db" "$place/room.db"
+  head -c 4096 /dev/zero | tr '\0' '\377' | dd of="$place/room.db" bs=4096 seek=$((page - 1)) conv=notrunc status=none
+  all_refuse Sql "a database with page $page damaged"
+done
+write_to "$place/room.db" 'CREATE TABLE meters (name TEXT PRIMARY KEY, value INTEGER)'
+all_refuse Sql 'a database with a table of somebody else'
+write_to "$place/room.db" 'CREATE TABLE meta (name TEXT PRIMARY KEY, value INTEGER)'
+all_refuse 'BadRow meta' 'a database with another meta'
+
+# written FAULT TITLE STATEMENT..: the register with an order, to which somebody else has written this.
+written() {
+  local fault=$1 title=$2
+  shift 2
+  cp "$work/ordered.db" "$place/room.db"
+  write_to "$place/room.db" "$@"
+  all_refuse "$fault" "$title"
+}
+huge="CAST(replace(hex(zeroblob(1000000)), '00', 'A') AS TEXT)"
+written 'WrongVersion 9' 'another version' 'UPDATE meta SET value = 9'
+written 'WrongVersion -9223372036854775808' 'the least version' 'UPDATE meta SET value = -9223372036854775808'
+written 'BadRow meta' 'no version' 'DELETE FROM meta'
+written 'BadRow section' 'a name of a million bytes' "UPDATE section SET name = $huge WHERE name = 'L2'"
+written 'BadRow section' 'a name of 25 bytes' "UPDATE section SET name = 'ABCDEFGHIJKLMNOPQRSTUVWXY' WHERE name = 'G'"
+written 'BadRow section' 'an empty name' "UPDATE section SET name = '' WHERE name = 'G'"
+written 'BadRow section' 'a mark that is neither 0 nor 1' "UPDATE section SET source = 2 WHERE name = 'G'"
+written 'BadRow point' 'an end of a million bytes' "UPDATE point SET to_end = $huge WHERE name = 'S2'"
+written 'BadRow point' 'a position beyond its type' "UPDATE point SET position = 9223372036854775807 WHERE name = 'S2'"
+written 'BadRow point' 'half a hand' "UPDATE point SET hand_requester = 'JONES' WHERE name = 'S2'"
+written 'BadRow point' "a hand's number beyond its type" "UPDATE point SET hand_requester = 'JONES', hand_number = 65537"
+written 'BadRow staff' 'a role of a million bytes' "UPDATE staff SET role = $huge WHERE name = 'OPS'"
+written 'BadRow staff' 'a supervisor of a million bytes' "UPDATE staff SET supervisor = $huge WHERE name = 'JONES'"
+written 'BadRow clearance' 'a number beyond its type' 'UPDATE clearance SET number = 65537'
+written 'BadRow clearance' 'the number 10,000' 'UPDATE clearance SET number = 10000'
+written 'BadRow clearance' 'the number 0' 'UPDATE clearance SET number = 0'
+written 'BadRow clearance' 'a moment beyond the last' 'UPDATE clearance SET last_at = 4102444800'
+written 'BadRow clearance' 'a moment before the first' 'UPDATE clearance SET last_at = -1'
+written 'BadRow clearance' 'a holder of a million bytes' "UPDATE clearance SET holder = $huge"
+written 'BadRow step' 'a round beyond its type' 'UPDATE step SET round = 256'
+written 'BadRow step' 'an ordinal beyond its type' 'UPDATE step SET ordinal = 65536 WHERE ordinal = 6'
+written 'BadRow step' 'a point of a million bytes' "UPDATE step SET point = $huge WHERE ordinal = 1"
+written 'BadRow hold' "a hold's number beyond its type" "INSERT INTO hold VALUES ('Tag', 'S2', 'JONES', -1)"
+written 'BadRow hold' 'a place of a million bytes' "INSERT INTO hold VALUES ('Tag', $huge, 'JONES', 1)"
+
+# Locked by SQLite: whoever has it open, reading or writing, has it alone. What it holds is not touched, and when it is
+# let go it opens.
+for lock in 'SELECT count(*) FROM point' 'BEGIN IMMEDIATE' 'BEGIN EXCLUSIVE'; do
+  cp "$work/ordered.db" "$place/room.db"
+  mkfifo "$place/locked" "$place/done"
+  python3 - "$place" "$lock" <<'END' &
+import sqlite3, sys
+place, statement = sys.argv[1:]
+connection = sqlite3.connect(f"{place}/room.db", isolation_level=None)
+connection.execute(statement).fetchall()
+open(f"{place}/locked", "w").close()
+open(f"{place}/done").read()
+connection.close()
+END
+  cat "$place/locked"
+  each_reader keeps_file Sql "a database in which sqlite3 has said $lock" "$place/room.db"
+  : >"$place/done"
+  wait $!
+  try 'the board when it is let go' 0 "~BOARD 1$feed" '' board "$place/room.db"
+  rm -f "$place"/*
+done
+
+# A disk that is full when the database is closed: what was read of it is printed. The limit on the size of files lets
+# nothing be written that is longer than the log's head, so that the log cannot be folded into the database.
+on_full_disk() {
+  local title=$1 output=$2
+  shift 2
+  cp "$work/killed.db" "$place/room.db"
+  cp "$work/killed.db-wal" "$place/room.db-wal"
+  (trap '' XFSZ && ulimit -f 4 && exec timeout 60 "$program" "$@" 2>&1) </dev/null | cat >"$work/output"
+  found=${PIPESTATUS[0]}
+  : >"$work/errors"
+  judge "$title on a full disk" 0 "$output" '' "$found"
+}
+cp "$work/killed.db" "$place/other.db"
+cp "$work/killed.db-wal" "$place/other.db-wal"
+board=$(bounded board "$place/other.db")
+order=$(bounded order "$place/other.db" JONES/1 1)
+expect 'the board behind a killed server' test "${board%%$feed*}" = 'BOARD 1'
+on_full_disk 'the board' "$board$feed" board "$place/room.db"
+on_full_disk 'the order' "$order$feed" order "$place/room.db" JONES/1 1
+rm -f "$place"/*
