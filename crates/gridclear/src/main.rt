@@ -4,6 +4,9 @@
 ghost use Rattle.std.specs.Prelude.{◌≡◌, ◌≤◌};
 ghost use Rattle.std.specs.Process.{exit_status};
 
+mod input;
+
+use crate::input::StandardInput;
 use clr_command_line::command_line::command_line;
 use clr_csv::Counted;
 use clr_edge::machine::{AnyFiles, Machine};
@@ -20,7 +23,7 @@ fn program(rt: &HostRuntime) -> ExitCode
 {
     let machine = Machine::new(rt, AnyFiles);
     let words = words_of(rt);
-    let mut input = Counted::new(rt.stdin());
+    let mut input = Counted::new(StandardInput::new(rt.stdin()));
     let mut output = Counted::new(rt.stdout());
     let mut errors = Counted::new(rt.stderr());
     let status = command_line(&machine, &words, &mut input, &mut output, &mut errors);
