@@ -1,0 +1,75 @@
+-- What it says that the list of clearances fits.
+use Rattle.std.proofs.Common.{◌≡◌, ℕ, Bool, true, false, ◌&&◌, List, length, Some, None, IsTrue, All, refl, sym, subst}
+use Rattle.std.specs.List.{list_all, range_with_len}
+use Rattle.std.proofs.lemmas.Bool.{and_from, and_parts}
+use Rattle.std.proofs.lemmas.List.Elements.{All-contains}
+use Rattle.clr_net.specs.Grid.{Grid, section_names}
+use Rattle.clr_shelf.proofs.Lists.{list_all-contains}
+use Rattle.clr_shelf.proofs.Members.{member-row_of, row_of-member}
+use Rattle.clr_shelf.specs.Rows.{in_key_order}
+use Rattle.clr_rules.specs.Good.{is_known_work, is_operators}
+use Rattle.clr_rules.specs.Prelude.{Id, Register, id_cmp, id_cmp_total, record_key, record_of}
+use Rattle.clr_rules.specs.declared.record.Record.{Record}
+use Rattle.clr_rules.specs.Records.{is_switch_order, numbers_of}
+use Rattle.clr_rules.proofs.lists.RoundSteps.{All-from_each, record_id}
+use Rattle.clr_good.specs.Clearances.{answers_alike, clearances_fit, numbers_fit, record_fits, work_fits}
+use Rattle.clr_good.proofs.NumbersSay.{numbers_said, numbers_say}
+use Rattle.clr_good.proofs.Tests.{list_all_from}
+
+pub record ClearancesSay (R : Register) : Type 0 where
+  pub numbered : (requester : List ℕ) → numbers_of R.records requester ≡ range_with_len 1 (length (numbers_of R.records requester))
+  pub work_known : All (λ r. IsTrue (is_known_work (section_names (Grid.sections R.net)) r.work)) R.records
+  pub operators : (c : Id) (r : Record) → record_of R.records c ≡ Some r → is_switch_order r ≡ is_operators R c.requester
+  pub works : (c : Id) (r : Record) → record_of R.records c ≡ Some r → work_fits r.phase r.work ≡ true
+
+alike : (a b : Bool) → answers_alike a b ≡ true → a ≡ b
+alike true b h = sym h
+alike false false h = refl
+alike false true h = h
+
+alike_back : (a b : Bool) → a ≡ b → answers_alike a b ≡ true
+alike_back true b h = sym h
+alike_back false false h = refl
+alike_back false true h = h
+
+record_parts : (R : Register) (r : Record) → record_fits R r ≡ true
+    → (work_fits r.phase r.work ≡ true) × (is_known_work (section_names (Grid.sections R.net)) r.work ≡ true) × (is_switch_order r ≡ is_operators R r.id.requester)
+record_parts R r fits =
+    let known = is_known_work (section_names (Grid.sections R.net)) r.work in
+    let alike_test = answers_alike (is_switch_order r) (is_operators R r.id.requester) in
+    let parts = and_parts (work_fits r.phase r.work) (known && alike_test) fits in
+    let rest = and_parts known alike_test parts.1 in
+    (parts.0, rest.0, alike (is_switch_order r) (is_operators R r.id.requester) rest.1)
+
+record_back : (R : Register) (r : Record) → work_fits r.phase r.work ≡ true → is_known_work (section_names (Grid.sections R.net)) r.work ≡ true
+    → is_switch_order r ≡ is_operators R r.id.requester → record_fits R r ≡ true
+record_back R r works known same =
+    let known_test = is_known_work (section_names (Grid.sections R.net)) r.work in
+    let alike_test = answers_alike (is_switch_order r) (is_operators R r.id.requester) in
+    and_from (work_fits r.phase r.work) (known_test && alike_test) works (and_from known_test alike_test known (alike_back (is_switch_order r) (is_operators R r.id.requester) same))
+
+pub clearances_say : (R : Register) → in_key_order id_cmp record_key R.records ≡ true → clearances_fit R ≡ true → ClearancesSay R
+clearances_say R ordered fits = record {
+  numbered = numbers_say None R.records tt ordered parts.0;
+  work_known = All-from_each (λ (r : Record). is_known_work (section_names (Grid.sections R.net)) r.work ≡ true) R.records
+      (λ r there. (record_parts R r (list_all-contains (record_fits R) R.records r parts.1 there)).1);
+  operators = λ c r found. subst (λ (d : Id). is_switch_order r ≡ is_operators R d.requester) (record_id R.records c r found) (of_found c r found).2;
+  works = λ c r found. (of_found c r found).0;
+}
+  where
+    parts : (numbers_fit None R.records ≡ true) × (list_all (record_fits R) R.records ≡ true)
+    parts = and_parts (numbers_fit None R.records) (list_all (record_fits R) R.records) fits
+
+    of_found : (c : Id) (r : Record) → record_of R.records c ≡ Some r
+        → (work_fits r.phase r.work ≡ true) × (is_known_work (section_names (Grid.sections R.net)) r.work ≡ true) × (is_switch_order r ≡ is_operators R r.id.requester)
+    of_found c r found = record_parts R r (list_all-contains (record_fits R) R.records r parts.1 (member-row_of id_cmp record_key id_cmp_total c r R.records found).0)
+
+pub clearances_said : (R : Register) → in_key_order id_cmp record_key R.records ≡ true → ClearancesSay R → clearances_fit R ≡ true
+clearances_said R ordered say =
+    and_from (numbers_fit None R.records) (list_all (record_fits R) R.records)
+    (numbers_said None R.records tt ordered say.numbered)
+    (list_all_from (record_fits R) R.records (λ r there.
+    let found = row_of-member id_cmp record_key id_cmp_total r R.records ordered there in
+    record_back R r (say.works r.id r found)
+    (All-contains (λ (r : Record). is_known_work (section_names (Grid.sections R.net)) r.work ≡ true) R.records r say.work_known there)
+    (say.operators r.id r found)))

@@ -1,0 +1,9 @@
+pub mod Tests
+pub mod PointsSay
+pub mod NumbersSay
+pub mod ClearancesSay
+pub mod StepsSay
+pub mod HoldsSay
+pub mod ByPhase
+pub mod TestIsExact
+pub mod CodeFacts
