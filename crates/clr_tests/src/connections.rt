@@ -2,12 +2,13 @@
 //! and ends its writing before it is served; and some on which nothing comes through.
 ghost use Rattle.std.specs.Prelude.{◌≡◌, ◌⊎◌, IfErr, ⊤};
 
-use crate::worked::{REQUEST, RESPONSE, network, new_desk};
+use crate::worked::{REQUEST, RESPONSE};
 use clr_commands::serve::serve_connections;
 use clr_csv::Counted;
 use clr_edge::fault::Fault;
 use clr_edge::loopback::{Connection, Loopback, local_address};
 use clr_edge::machine::{AnyFiles, Machine};
+use clr_worked::{network, new_desk};
 use std::alloc::Global;
 use std::cell::Cell;
 use std::io;

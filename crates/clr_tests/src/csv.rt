@@ -1,16 +1,32 @@
 //! The longest file, and readers that fail.
 use crate::fakes::FailsAt;
-use crate::worked::SECTIONS;
-use clr_csv::{Counted, CountedRead, CsvFault, read_sections};
+use clr_csv::{Counted, CountedRead, CsvFault, read_points, read_sections};
+use clr_worked::{POINTS, SECTIONS};
 use std::alloc::Global;
 use std::test::Fail;
 
-/// The fault of a file of sections, if it has one. Out of memory ends the test.
-fn fault_of<R: CountedRead>(alloc: Global, reader: &mut R) -> Result<Option<CsvFault>, Fail> {
-    match read_sections(alloc, reader) {
+/// The fault that was told, if one was. Out of memory ends the test.
+fn fault_in<T: Drop>(told: Result<T, CsvFault>) -> Result<Option<CsvFault>, Fail> {
+    match told {
         Err(CsvFault::NoMemory) => Err(CsvFault::NoMemory.into()),
         told => Ok(told.err()),
     }
+}
+
+/// The fault of a file of sections, if it has one.
+fn fault_of_sections<R: CountedRead>(
+    alloc: Global,
+    reader: &mut R,
+) -> Result<Option<CsvFault>, Fail> {
+    fault_in(read_sections(alloc, reader))
+}
+
+/// The fault of a file of points, if it has one.
+fn fault_of_points<R: CountedRead>(
+    alloc: Global,
+    reader: &mut R,
+) -> Result<Option<CsvFault>, Fail> {
+    fault_in(read_points(alloc, reader))
 }
 
 #[test]
@@ -29,7 +45,7 @@ fn longest_file_reads(rt: HostRuntime) -> Result<(), Fail> {
         };
         let mut reader = Counted::new(file.as_slice());
         assert_eq!(rt;
-            fault_of(rt.alloc(), &mut reader)?,
+            fault_of_sections(rt.alloc(), &mut reader)?,
             fault,
             "longer by {longer_by}"
         );
@@ -42,10 +58,10 @@ fn longest_file_reads(rt: HostRuntime) -> Result<(), Fail> {
 #[test]
 fn failures_are_told(rt: HostRuntime) -> Result<(), Fail> {
     // The last call is the one that finds the end.
-    let calls = (SECTIONS.len() as u64).div_ceil(4) + 1;
+    let calls = (POINTS.len() as u64).div_ceil(4) + 1;
     for calls_before in 0..=calls {
         let mut reader = Counted::new(FailsAt {
-            bytes: SECTIONS,
+            bytes: POINTS,
             bytes_per_call: 4,
             calls_before,
         });
@@ -56,7 +72,7 @@ fn failures_are_told(rt: HostRuntime) -> Result<(), Fail> {
             Some(CsvFault::ReadFailed)
         };
         assert_eq!(rt;
-            fault_of(rt.alloc(), &mut reader)?,
+            fault_of_points(rt.alloc(), &mut reader)?,
             fault,
             "after {calls_before} calls"
         );

@@ -1,9 +1,10 @@
 //! Runs of a desk over tables in memory. Commands and replies are lines, as in `gridclear run`.
-use crate::worked::{chain, network, new_desk};
+use crate::worked::chain;
 use clr_desk::Run;
 use clr_net::Network;
 use clr_rules::Command;
 use clr_text::{command_of, reply_text};
+use clr_worked::{network, new_desk};
 use std::alloc::Global;
 use std::fmt::Write;
 use std::test::Fail;

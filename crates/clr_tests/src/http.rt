@@ -1,6 +1,7 @@
 //! Requests over HTTP to a desk over tables in memory, and what goes out to each, byte for byte.
-use crate::worked::{REQUEST, RESPONSE, network, new_desk};
+use crate::worked::{REQUEST, RESPONSE};
 use clr_http::serve_all;
+use clr_worked::{network, new_desk};
 use std::alloc::Global;
 use std::process::Abort;
 use std::test::Fail;

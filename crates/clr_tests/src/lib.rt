@@ -10,6 +10,10 @@ mod desk;
 #[cfg(test)]
 mod fakes;
 #[cfg(test)]
+mod frozen;
+#[cfg(test)]
+mod hostile;
+#[cfg(test)]
 mod http;
 #[cfg(test)]
 mod limits;

@@ -1,8 +1,8 @@
 //! Tables that stand in a database and are not opened.
-use crate::worked::{network, new_desk};
 use clr_desk::{Desk, DeskFault};
 use clr_store::{Store, StoreFault};
 use clr_tables::TableName;
+use clr_worked::{network, new_desk};
 use std::alloc::Global;
 use std::process::Abort;
 use std::test::Fail;

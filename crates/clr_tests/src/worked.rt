@@ -1,31 +1,9 @@
-//! The worked network and staff as the texts of their files, chains of sections, and a desk.
+//! The worked request and its response, and chains of sections.
 ghost use Rattle.std.specs.Prelude.{◌<◌};
 
-use clr_csv::{Counted, Staff, read_points, read_sections, read_staff};
-use clr_desk::Desk;
 use clr_net::{Name, NetFault, Network, PointRow, Position, SectionRow};
-use sqlite::{Connection, MemStore};
 use std::alloc::Global;
 use std::test::Fail;
-
-pub const SECTIONS: &[u8] = b"section,source\nG,yes\nL1,no\nL2,no\nL3,no\nH,yes\n";
-
-const POINTS: &[u8] = b"point,from,to,lockable,remote,position
-S1,G,L1,yes,no,closed
-S2,L1,L2,yes,no,closed
-S3,L2,L3,yes,no,closed
-S4,L3,H,yes,yes,closed
-T1,L1,L3,no,no,open
-";
-
-const STAFF: &[u8] = b"employee,role,supervisor
-OPS,operator,
-REED,field,
-DALE,field,
-JONES,charge,BOSS
-KIM,charge,
-BOSS,charge,
-";
 
 /// JONES asks for L2 over HTTP.
 pub const REQUEST: &str = "POST /command HTTP/1.1\r\n\
@@ -45,27 +23,6 @@ pub const RESPONSE: &str = "HTTP/1.1 200 OK\r\n\
     \r\n\
     {\"card\":{\"clearance\":\"JONES/1\",\"done\":0,\"holder\":\"JONES\",\"phase\":\"Requested\",\
     \"round\":0,\"steps\":0},\"reply\":\"accepted\"}";
-
-/// The worked network.
-pub fn network(alloc: Global) -> Result<Network, Fail> {
-    let sections = read_sections(alloc, &mut Counted::new(SECTIONS))?;
-    let points = read_points(alloc, &mut Counted::new(POINTS))?;
-    Ok(Network::build(alloc, sections, points)?)
-}
-
-/// The worked staff.
-pub fn staff(alloc: Global) -> Result<Staff, Fail> {
-    let rows = read_staff(alloc, &mut Counted::new(STAFF))?;
-    Ok(Staff::build(alloc, rows)?)
-}
-
-/// A desk over new tables of a network and the worked staff.
-pub fn new_desk(alloc: Global, network: Network) -> Result<Desk<MemStore>, Fail> {
-    let staff = staff(alloc)?;
-    let connection = Connection::open_in_memory(alloc)?;
-    let desk = Desk::create(alloc, connection, network, staff).ok();
-    Ok(desk.ok_or("new tables")?)
-}
 
 /// The sections C0001, a source, C0002 and on, each joined to the next by a closed point: C0001 and
 /// C0002 by P0001. Points that are left over begin again at C0001.

@@ -1,0 +1,335 @@
+//! One connection whose client is hostile or whose device fails: requests that are cut short, the
+//! longest heads, readers and writers that fail at each call in turn, and a keeper that answers no
+//! command.
+use crate::fakes::{FailsAt, Narrow};
+use crate::worked::{REQUEST, RESPONSE};
+use clr_csv::{Counted, CountedRead, CountedWrite};
+use clr_desk::Desk;
+use clr_http::{HttpFault, Registrar, Served, serve_one};
+use clr_rules::{ClearanceId, Command, Reply};
+use clr_store::Rows;
+use clr_worked::{are_same, network, new_desk};
+use http::StatusCode;
+use sqlite::{Alter, MemStore};
+use std::alloc::{AllocError, Global};
+use std::io;
+use std::process::Abort;
+use std::test::Fail;
+
+/// How many bytes the head of the request has.
+const HEAD_BYTES: usize = 137;
+
+/// The longest head, and the most fields of one.
+const MAX_HEAD_BYTES: usize = 8192;
+
+const MAX_FIELDS: usize = 64;
+
+const EMPTY_BOARD: &str = "BOARD 0\n";
+
+/// A response that tells a fault: its status, its length and its word.
+macro_rules! tells {
+    ($status:literal, $length:literal, $fault:literal) => {
+        concat!(
+            "HTTP/1.1 ",
+            $status,
+            "\r\nContent-Type: application/json\r\nContent-Length: ",
+            $length,
+            "\r\nConnection: close\r\n\r\n{\"fault\":\"",
+            $fault,
+            "\"}"
+        )
+    };
+}
+
+const HEAD_CUT: &str = tells!("400 Bad Request", 19, "HeadCut");
+
+const BODY_CUT: &str = tells!("400 Bad Request", 19, "BodyCut");
+
+const HEAD_TOO_LARGE: &str = tells!("400 Bad Request", 24, "HeadTooLarge");
+
+pub const UNAVAILABLE: &str = tells!("503 Service Unavailable", 23, "Unavailable");
+
+const BOARD: &str = "HTTP/1.1 200 OK\r\nContent-Type: text/plain\r\nContent-Length: 8\r\n\
+    Connection: close\r\n\r\nBOARD 0\n";
+
+/// A writer with room for so many bytes.
+fn writer(
+    alloc: Global,
+    bytes_per_call: usize,
+    room: usize,
+    failure: Option<io::ErrorKind>,
+) -> Result<Counted<Narrow>, AllocError> {
+    Ok(Counted::new(Narrow {
+        taken: Vec::with_capacity(alloc, RESPONSE.len())?,
+        bytes_per_call,
+        room,
+        failure,
+    }))
+}
+
+/// What a connection came to. Out of memory ends the test.
+fn serve<D: Registrar, R: CountedRead, W: CountedWrite>(
+    alloc: Global,
+    desk: &mut D,
+    reader: &mut R,
+    writer: &mut W,
+) -> Result<Result<Served, HttpFault>, Fail> {
+    match serve_one(alloc, desk, reader, writer) {
+        Err(HttpFault::NoMemory) => Err(HttpFault::NoMemory.into()),
+        served => Ok(served),
+    }
+}
+
+/// What goes out to these bytes.
+pub fn response<D: Registrar>(
+    alloc: Global,
+    desk: &mut D,
+    request: &[u8],
+) -> Result<Vec<u8>, Fail> {
+    let mut reader = Counted::new(request);
+    let mut writer = writer(alloc, usize::MAX, usize::MAX, None)?;
+    serve_one(alloc, desk, &mut reader, &mut writer)?;
+    Ok(writer.into_inner().taken)
+}
+
+/// To these bytes this response goes out. A 503, which is sent when out of memory, ends
+/// the test.
+fn expect_response<A: Abort, D: Registrar>(
+    rt: &A,
+    alloc: Global,
+    desk: &mut D,
+    request: &[u8],
+    expected: &str,
+) -> Result<(), Fail> {
+    let response = response(alloc, desk, request)?;
+    if response.starts_with(b"HTTP/1.1 503 ") {
+        return Err(Fail::new("out of memory"));
+    }
+    assert_eq!(rt; response.as_slice(), expected.as_bytes());
+    Ok(())
+}
+
+/// The rows of a desk's tables, and the desk opened again over them.
+fn rows_of<S: Alter + Drop>(desk: Desk<S>) -> Result<(Rows, Desk<S>), Fail> {
+    let mut store = desk.end();
+    let rows = store.load()?;
+    match Desk::open(store) {
+        Ok(desk) => Ok((rows, desk)),
+        Err((fault, _store)) => Err(fault.into()),
+    }
+}
+
+/// To these bytes this response goes out, and the tables keep their rows.
+fn expect_no_change<A: Abort, S: Alter + Drop>(
+    rt: &A,
+    alloc: Global,
+    mut desk: Desk<S>,
+    rows: &Rows,
+    request: &[u8],
+    expected: &str,
+) -> Result<Desk<S>, Fail> {
+    expect_response(rt, alloc, &mut desk, request, expected)?;
+    let (found, desk) = rows_of(desk)?;
+    assert!(rt; are_same(&found, rows));
+    Ok(desk)
+}
+
+/// Each front of a request is refused and changes no row; then the whole is answered.
+fn expect_fronts<A: Abort, S: Alter + Drop>(
+    rt: &A,
+    alloc: Global,
+    desk: Desk<S>,
+) -> Result<(), Fail> {
+    let (rows, mut desk) = rows_of(desk)?;
+    for count in 0..REQUEST.len() {
+        let expected = match count {
+            0 => "",
+            1..HEAD_BYTES => HEAD_CUT,
+            _ => BODY_CUT,
+        };
+        let front = &REQUEST.as_bytes()[..count];
+        desk = expect_no_change(rt, alloc, desk, &rows, front, expected)?;
+    }
+    expect_response(rt, alloc, &mut desk, REQUEST.as_bytes(), RESPONSE)
+}
+
+#[test]
+fn requests_that_are_cut_short(rt: HostRuntime) -> Result<(), Fail> {
+    let desk = new_desk(rt.alloc(), network(rt.alloc())?)?;
+    expect_fronts(&rt, rt.alloc(), desk)
+}
+
+/// A head that asks for the board, with so many fields, the last of which fills it to so many
+/// bytes.
+fn board_head(alloc: Global, fields: usize, bytes: usize) -> Result<String, AllocError> {
+    let mut head = String::from_str(alloc, "GET /board HTTP/1.1\r\n")?;
+    for _field in 1..fields {
+        head.push_str("A:\r\n")?;
+    }
+    head.push_str("A:")?;
+    for _byte in head.len()..bytes.saturating_sub(4) {
+        head.push_str("a")?;
+    }
+    head.push_str("\r\n\r\n")?;
+    Ok(head)
+}
+
+#[test]
+fn longest_heads(rt: HostRuntime) -> Result<(), Fail> {
+    let mut desk = new_desk(rt.alloc(), network(rt.alloc())?)?;
+    let heads = [
+        (1, MAX_HEAD_BYTES, BOARD),
+        (1, MAX_HEAD_BYTES + 1, HEAD_TOO_LARGE),
+        (MAX_FIELDS, 0, BOARD),
+        (MAX_FIELDS + 1, 0, HEAD_TOO_LARGE),
+    ];
+    for (fields, bytes, expected) in heads {
+        let head = board_head(rt.alloc(), fields, bytes)?;
+        assert!(rt; bytes == 0 || head.len() == bytes);
+        expect_response(&rt, rt.alloc(), &mut desk, head.as_bytes(), expected)?;
+    }
+    Ok(())
+}
+
+#[test]
+fn reader_fails_at_each_call(rt: HostRuntime) -> Result<(), Fail> {
+    let mut desk = new_desk(rt.alloc(), network(rt.alloc())?)?;
+    for calls_before in 0..REQUEST.len() as u64 {
+        let mut reader = Counted::new(FailsAt {
+            bytes: REQUEST.as_bytes(),
+            bytes_per_call: 1,
+            calls_before,
+        });
+        let mut writer = writer(rt.alloc(), usize::MAX, usize::MAX, None)?;
+        let served = serve(rt.alloc(), &mut desk, &mut reader, &mut writer)?;
+        assert_eq!(rt;
+            served,
+            Err(HttpFault::ReadFailed),
+            "after {calls_before} calls"
+        );
+        assert_eq!(rt; reader.failures(), 1);
+        assert!(rt; writer.into_inner().taken.is_empty());
+    }
+    let board = desk.board(rt.alloc())?;
+    assert_eq!(rt; board.as_str(), EMPTY_BOARD);
+    expect_response(&rt, rt.alloc(), &mut desk, REQUEST.as_bytes(), RESPONSE)
+}
+
+/// What goes out to the request at its n-th time, counted from 1.
+pub fn nth_response(alloc: Global, n: usize) -> Result<String, AllocError> {
+    let body = format!(in alloc;
+        "{{\"card\":{{\"clearance\":\"JONES/{n}\",\"done\":0,\"holder\":\"JONES\",\
+        \"phase\":\"Requested\",\"round\":0,\"steps\":0}},\"reply\":\"accepted\"}}"
+    )?;
+    let length = body.len();
+    format!(in alloc;
+        "HTTP/1.1 200 OK\r\nContent-Type: application/json\r\nContent-Length: {length}\r\n\
+        Connection: close\r\n\r\n{body}"
+    )
+}
+
+/// After each failure the clearance stands: the next response has the next number.
+#[test]
+fn writer_fails_after_each_byte(rt: HostRuntime) -> Result<(), Fail> {
+    let mut desk = new_desk(rt.alloc(), network(rt.alloc())?)?;
+    for room in 0..RESPONSE.len() {
+        let mut reader = Counted::new(REQUEST.as_bytes());
+        let mut writer = writer(
+            rt.alloc(),
+            usize::MAX,
+            room,
+            Some(io::ErrorKind::BrokenPipe),
+        )?;
+        let served = serve(rt.alloc(), &mut desk, &mut reader, &mut writer)?;
+        assert_eq!(rt; served, Err(HttpFault::WriteFailed(room)));
+        assert_eq!(rt; writer.failures(), 1);
+        let expected = nth_response(rt.alloc(), room + 1)?;
+        let taken = writer.into_inner().taken;
+        assert_eq!(rt; Some(taken.as_slice()), expected.as_bytes().get(..room));
+    }
+    let expected = nth_response(rt.alloc(), RESPONSE.len() + 1)?;
+    expect_response(
+        &rt,
+        rt.alloc(),
+        &mut desk,
+        REQUEST.as_bytes(),
+        expected.as_str(),
+    )
+}
+
+#[test]
+fn slow_and_full_writers(rt: HostRuntime) -> Result<(), Fail> {
+    let ends = [
+        (
+            1,
+            usize::MAX,
+            Ok(Served::Answered(StatusCode::OK)),
+            RESPONSE.len(),
+        ),
+        (3, 10, Err(HttpFault::WriteFailed(10)), 10),
+    ];
+    for (bytes_per_call, room, expected, count) in ends {
+        let mut desk = new_desk(rt.alloc(), network(rt.alloc())?)?;
+        let mut reader = Counted::new(REQUEST.as_bytes());
+        let mut writer = writer(rt.alloc(), bytes_per_call, room, None)?;
+        let served = serve(rt.alloc(), &mut desk, &mut reader, &mut writer)?;
+        assert_eq!(rt; served, expected);
+        assert_eq!(rt; writer.failures(), 0);
+        let taken = writer.into_inner().taken;
+        assert_eq!(rt; taken.as_slice(), &RESPONSE.as_bytes()[..count]);
+    }
+    Ok(())
+}
+
+/// Keeps a register, and answers no command.
+#[derive(Drop)]
+struct Unanswering {
+    desk: Desk<MemStore>,
+    faults: u64,
+}
+
+impl Registrar for Unanswering {
+    ghost keeper = { λ k. record { register = k.desk.book.register; faults = k.faults } };
+
+    ghost leads_to = { λ _ _. Unit {0} };
+
+    ghost stays = { λ _. tt };
+
+    ghost goes_on = { λ _ _ _ _ _. tt };
+
+    fn faults(&self) -> u64 {
+        self.faults
+    }
+
+    fn answer(&mut self, _command: Command) -> Option<Reply> {
+        self.faults = self.faults.saturating_add(1);
+        None
+    }
+
+    fn order(
+        &self,
+        alloc: Global,
+        id: &ClearanceId,
+        round: u8,
+    ) -> Result<Option<String>, AllocError> {
+        self.desk.order(alloc, id, round)
+    }
+
+    fn board(&self, alloc: Global) -> Result<String, AllocError> {
+        self.desk.board(alloc)
+    }
+}
+
+#[test]
+fn keeper_that_answers_no_command(rt: HostRuntime) -> Result<(), Fail> {
+    let desk = new_desk(rt.alloc(), network(rt.alloc())?)?;
+    let mut keeper = Unanswering { desk, faults: 0 };
+    for faults in 1..3 {
+        let response = response(rt.alloc(), &mut keeper, REQUEST.as_bytes())?;
+        assert_eq!(rt; response.as_slice(), UNAVAILABLE.as_bytes());
+        assert_eq!(rt; keeper.faults(), faults);
+    }
+    let board = keeper.board(rt.alloc())?;
+    assert_eq!(rt; board.as_str(), EMPTY_BOARD);
+    Ok(())
+}
