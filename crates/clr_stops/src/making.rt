@@ -1,9 +1,8 @@
 //! A stop while the tables of a register are made.
-use crate::trial::{Trial, again, stops};
-use clr_store::{Rows, Store, StoreFault};
-use clr_worked::{Held, Part, are_same, close, connect, files_of, made, new_register};
-use sqlite::{Alter, Connection, Files};
-use sqlite_disk::Disk;
+use crate::trial::{Trial, stops};
+use clr_store::Rows;
+use clr_worked::{Fused, Held, Part, are_same, make_in, new_register, rows_in, whole_files};
+use sqlite_disk::Files;
 use std::alloc::Global;
 use std::process::Abort;
 use std::test::Fail;
@@ -14,72 +13,50 @@ struct Making {
     opening: Rows,
 }
 
+impl Making {
+    /// Whether files hold the opening register.
+    fn is_in(&self, alloc: Global, files: Files<Fused>) -> Result<bool, Fail> {
+        match rows_in(alloc, files)? {
+            Some(rows) => Ok(are_same(&rows, &self.opening)),
+            None => Ok(false),
+        }
+    }
+
+    /// Whether no table is there: only then can the tables be made.
+    fn is_to_come(&self, alloc: Global, held: &Held) -> Result<bool, Fail> {
+        if rows_in(alloc, whole_files(alloc, held)?)?.is_some() {
+            return Ok(false);
+        }
+        let (is_made, files) = make_in(alloc, whole_files(alloc, held)?)?;
+        if !is_made {
+            return Err("no new tables, or out of memory".into());
+        }
+        self.is_in(alloc, files)
+    }
+}
+
 impl Trial for Making {
     fn steps(&self) -> usize {
         1
     }
 
-    fn act<D: Disk + Drop>(
-        &self,
-        alloc: Global,
-        files: Files<D>,
-    ) -> Result<(usize, Files<D>), Fail> {
-        let connection = match connect(alloc, files) {
-            Ok(connection) => connection,
-            Err(files) => return Ok((0, files)),
-        };
-        match made(alloc, connection)? {
-            Ok(store) => Ok((1, close(store.end()))),
-            Err(back) => Ok((0, close(back.connection))),
+    fn act(&self, alloc: Global, files: Files<Fused>) -> Result<(usize, Files<Fused>), Fail> {
+        let (is_made, files) = make_in(alloc, files)?;
+        Ok((usize::from(is_made), files))
+    }
+
+    fn is_sound(&self, alloc: Global, held: &Held, answered: usize) -> Result<bool, Fail> {
+        if self.is_in(alloc, whole_files(alloc, held)?)? {
+            return Ok(true);
         }
-    }
-
-    fn is_sound<D: Disk + Drop>(
-        &self,
-        alloc: Global,
-        files: Files<D>,
-        answered: usize,
-    ) -> Result<bool, Fail> {
-        match Store::open(again(alloc, files)?) {
-            Ok(store) => has_rows(store, &self.opening),
-            // No table is there, else none could be made.
-            Err(back) if answered == 0 && back.fault == StoreFault::Sql => {
-                makes_rows(alloc, back.connection, &self.opening)
-            }
-            Err(back) => Err(back.fault.into()),
-        }
-    }
-}
-
-/// Whether the tables of a store have these rows.
-fn has_rows<S: Alter + Drop>(mut store: Store<S>, rows: &Rows) -> Result<bool, Fail> {
-    Ok(are_same(&store.load()?, rows))
-}
-
-/// Whether the tables can be made, and then have these rows.
-fn makes_rows<S: Alter + Drop>(
-    alloc: Global,
-    connection: Connection<S>,
-    rows: &Rows,
-) -> Result<bool, Fail> {
-    match made(alloc, connection)? {
-        Ok(store) => has_rows(store, rows),
-        Err(back) => Err(back.fault.into()),
-    }
-}
-
-/// The rows of the database that files hold.
-fn rows_in<D: Disk + Drop>(alloc: Global, files: Files<D>) -> Result<Rows, Fail> {
-    match Store::open(again(alloc, files)?) {
-        Ok(mut store) => Ok(store.load()?),
-        Err(back) => Err(back.fault.into()),
+        Ok(answered == 0 && self.is_to_come(alloc, held)?)
     }
 }
 
 /// Stops a file while the tables are made.
 fn stops_of_making<R: Abort>(rt: &R, alloc: Global, part: Part) -> Result<u64, Fail> {
     let register = new_register(alloc)?;
-    let opening = rows_in(alloc, files_of(alloc, &register, part, u64::MAX)?)?;
+    let opening = rows_in(alloc, whole_files(alloc, &register)?)?.ok_or("tables")?;
     let nothing = Held::nothing(alloc);
     stops(rt, alloc, &Making { opening }, &nothing, part)
 }

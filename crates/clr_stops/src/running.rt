@@ -1,13 +1,12 @@
 //! A stop while commands are carried out.
-use crate::trial::{Trial, again, stops};
-use clr_desk::{Desk, Run};
-use clr_rules::{Command, Reply};
-use clr_store::{Rows, Store};
+use crate::trial::{Trial, stops};
+use clr_rules::Reply;
+use clr_store::Rows;
 use clr_worked::{
-    FIRST_STEP, Held, Part, are_same, close, files_of, new_register, opened, some_commands,
+    FIRST_STEP, Fused, Held, Part, are_same, new_register, rows_in, run_in, some_commands,
+    whole_files,
 };
-use sqlite::{Alter, Files};
-use sqlite_disk::Disk;
+use sqlite_disk::Files;
 use std::alloc::Global;
 use std::process::Abort;
 use std::test::Fail;
@@ -19,32 +18,18 @@ struct Outcome {
     rows: Rows,
 }
 
-/// Carries out commands where no call fails.
-fn carried_out<S: Alter + Drop>(store: Store<S>, commands: Vec<Command>) -> Result<Outcome, Fail> {
-    let mut desk = match Desk::open(store) {
-        Ok(desk) => desk,
-        Err((fault, _store)) => return Err(fault.into()),
-    };
-    let Run { replies, fault } = desk.run(commands);
-    if let Some(fault) = fault {
-        return Err(fault.into());
-    }
-    match desk.end().load() {
-        Ok(rows) => Ok(Outcome { replies, rows }),
-        Err(fault) => Err(fault.into()),
-    }
-}
-
-/// What so many commands come to over the files of an opening register.
-fn outcome_in<D: Disk + Drop>(
-    alloc: Global,
-    files: Files<D>,
-    count: usize,
-) -> Result<Outcome, Fail> {
-    let commands = some_commands(alloc, 0, count)?;
-    match Store::open(again(alloc, files)?) {
-        Ok(store) => carried_out(store, commands),
-        Err(back) => Err(back.fault.into()),
+/// Carries out so many of the commands, behind the first few, over what files hold.
+fn carried_out(alloc: Global, held: &Held, first: usize, count: usize) -> Result<Outcome, Fail> {
+    let commands = some_commands(alloc, first, count)?;
+    let (run, files) = run_in(alloc, whole_files(alloc, held)?, commands);
+    let rows = rows_in(alloc, files)?.ok_or("tables")?;
+    let run = run.ok_or("a desk")?;
+    match run.fault {
+        Some(fault) => Err(fault.into()),
+        None => Ok(Outcome {
+            replies: run.replies,
+            rows,
+        }),
     }
 }
 
@@ -62,8 +47,7 @@ impl Running {
         let mut tables = Vec::new(alloc);
         let mut replies = Vec::new(alloc);
         for count in 0..=FIRST_STEP.len() {
-            let files = files_of(alloc, register, Part::Log, u64::MAX)?;
-            let outcome = outcome_in(alloc, files, count)?;
+            let outcome = carried_out(alloc, register, 0, count)?;
             tables.push(outcome.rows)?;
             replies = outcome.replies;
         }
@@ -76,14 +60,8 @@ impl Running {
     }
 
     /// Whether the run goes on behind so many steps as if nothing had stopped.
-    fn goes_on<S: Alter + Drop>(
-        &self,
-        alloc: Global,
-        store: Store<S>,
-        steps: usize,
-    ) -> Result<bool, Fail> {
-        let commands = some_commands(alloc, steps, FIRST_STEP.len())?;
-        let Outcome { replies, rows } = carried_out(store, commands)?;
+    fn goes_on(&self, alloc: Global, held: &Held, steps: usize) -> Result<bool, Fail> {
+        let Outcome { replies, rows } = carried_out(alloc, held, steps, FIRST_STEP.len())?;
         let is_rest = replies.iter().eq(self.replies.iter().skip(steps));
         Ok(is_rest && self.steps_to(&rows) == Some(FIRST_STEP.len()))
     }
@@ -94,34 +72,17 @@ impl Trial for Running {
         FIRST_STEP.len()
     }
 
-    fn act<D: Disk + Drop>(
-        &self,
-        alloc: Global,
-        files: Files<D>,
-    ) -> Result<(usize, Files<D>), Fail> {
+    fn act(&self, alloc: Global, files: Files<Fused>) -> Result<(usize, Files<Fused>), Fail> {
         let commands = some_commands(alloc, 0, FIRST_STEP.len())?;
-        match opened(alloc, files) {
-            Ok(mut desk) => {
-                let run = desk.run(commands);
-                Ok((run.replies.len(), close(desk.end().end())))
-            }
-            Err(files) => Ok((0, files)),
-        }
+        let (run, files) = run_in(alloc, files, commands);
+        Ok((run.map_or(0, |run| run.replies.len()), files))
     }
 
-    fn is_sound<D: Disk + Drop>(
-        &self,
-        alloc: Global,
-        files: Files<D>,
-        answered: usize,
-    ) -> Result<bool, Fail> {
-        let mut store = match Store::open(again(alloc, files)?) {
-            Ok(store) => store,
-            Err(back) => return Err(back.fault.into()),
-        };
-        match self.steps_to(&store.load()?) {
+    fn is_sound(&self, alloc: Global, held: &Held, answered: usize) -> Result<bool, Fail> {
+        let rows = rows_in(alloc, whole_files(alloc, held)?)?.ok_or("tables")?;
+        match self.steps_to(&rows) {
             Some(steps) if steps == answered || steps.checked_sub(1) == Some(answered) => {
-                self.goes_on(alloc, store, steps)
+                self.goes_on(alloc, held, steps)
             }
             _ => Ok(false),
         }

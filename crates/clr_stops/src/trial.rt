@@ -1,8 +1,7 @@
 //! Work over two files, of which one stops at each of its calls in turn.
 use crate::crashes::Crashes;
-use clr_worked::{Held, Left, Part, connect, files_of, left_by, pass_one};
-use sqlite::{Connection, FileStore, Files};
-use sqlite_disk::Disk;
+use clr_worked::{Fused, Held, Left, Part, files_of, left_by, pass_one};
+use sqlite_disk::Files;
 use std::alloc::Global;
 use std::process::Abort;
 use std::test::Fail;
@@ -19,31 +18,11 @@ pub trait Trial {
     fn steps(&self) -> usize;
 
     /// Does the work, and tells how many of its steps were answered.
-    fn act<D: Disk + Drop>(
-        &self,
-        alloc: Global,
-        files: Files<D>,
-    ) -> Result<(usize, Files<D>), Fail>;
+    fn act(&self, alloc: Global, files: Files<Fused>) -> Result<(usize, Files<Fused>), Fail>;
 
-    /// Whether the files hold what stands after so many steps, or after one more, and what is left
-    /// to do is done from there as if nothing had stopped. No call to these files fails.
-    fn is_sound<D: Disk + Drop>(
-        &self,
-        alloc: Global,
-        files: Files<D>,
-        answered: usize,
-    ) -> Result<bool, Fail>;
-}
-
-/// The database that files hold, where no call fails.
-pub fn again<D: Disk + Drop>(
-    alloc: Global,
-    files: Files<D>,
-) -> Result<Connection<FileStore<D>>, Fail> {
-    match connect(alloc, files) {
-        Ok(connection) => Ok(connection),
-        Err(_files) => Err("a database".into()),
-    }
+    /// Whether files hold what stands after so many steps, or after one more, and what is left to do
+    /// is done from there as if nothing had stopped.
+    fn is_sound(&self, alloc: Global, held: &Held, answered: usize) -> Result<bool, Fail>;
 }
 
 /// What work came to that was stopped: how many steps were answered, and what the files hold.
@@ -78,8 +57,7 @@ fn unsound_place<T: Trial>(
     left: &[Held],
 ) -> Result<Option<usize>, Fail> {
     for (place, held) in left.iter().enumerate() {
-        let files = files_of(alloc, held, Part::Log, u64::MAX)?;
-        if !trial.is_sound(alloc, files, answered)? {
+        if !trial.is_sound(alloc, held, answered)? {
             return Ok(Some(place));
         }
     }

@@ -1,7 +1,7 @@
 //! A desk over a database whose disk stops while a request is served, and works again for the next.
 use crate::hostile::{UNAVAILABLE, nth_response, response};
 use crate::worked::{REQUEST, RESPONSE};
-use clr_worked::{Held, Part, close, files_of, left_by, new_register, opened};
+use clr_worked::{Held, Part, close, files_of, left_by, new_register, opened, whole_files};
 use sqlite::Files;
 use sqlite_disk::Disk;
 use std::alloc::Global;
@@ -18,8 +18,9 @@ fn response_over<D: Disk + Drop>(
 ) -> Result<(Option<Vec<u8>>, Files<D>), Fail> {
     match opened(alloc, files) {
         Ok(mut desk) => {
-            let response = response(alloc, &mut desk, REQUEST.as_bytes())?;
-            Ok((Some(response), close(desk.end().end())))
+            let response = response(alloc, &mut desk, REQUEST.as_bytes());
+            let files = close(desk.end().end());
+            Ok((Some(response?), files))
         }
         Err(files) => Ok((None, files)),
     }
@@ -39,7 +40,7 @@ fn two_responses(
         log: left_by(alloc, files.log)?.seen,
         db: left_by(alloc, files.db)?.seen,
     };
-    let (next, _files) = response_over(alloc, files_of(alloc, &left, part, u64::MAX)?)?;
+    let (next, _files) = response_over(alloc, whole_files(alloc, &left)?)?;
     Ok((first, next.ok_or("a desk that opens again")?))
 }
 

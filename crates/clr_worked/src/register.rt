@@ -1,9 +1,10 @@
 //! The worked register: its tables made in memory or in two files, and a desk over them.
 use crate::files::{network, staff};
-use crate::stopping::{Held, Part, close, connect, files_of, left_by};
-use clr_desk::Desk;
+use crate::stopping::{Held, close, connect, left_by, whole_files};
+use clr_desk::{Desk, Run};
 use clr_net::Network;
-use clr_store::{Back, Store};
+use clr_rules::Command;
+use clr_store::{Back, Rows, Store, StoreFault};
 use sqlite::{Alter, Connection, FileStore, Files, MemStore};
 use sqlite_disk::Disk;
 use std::alloc::Global;
@@ -18,7 +19,7 @@ pub fn new_desk(alloc: Global, network: Network) -> Result<Desk<MemStore>, Fail>
 }
 
 /// Makes the tables of the worked register, or hands the connection back with the fault.
-pub fn made<S: Alter + Drop>(
+fn made<S: Alter + Drop>(
     alloc: Global,
     connection: Connection<S>,
 ) -> Result<Result<Store<S>, Back<S>>, Fail> {
@@ -42,21 +43,58 @@ pub fn opened<D: Disk + Drop>(
     }
 }
 
-/// Makes the tables of the worked register in two files.
-fn made_in<D: Disk + Drop>(alloc: Global, files: Files<D>) -> Result<Files<D>, Fail> {
+/// Makes the tables of the worked register in two files, and tells whether they were made.
+pub fn make_in<D: Disk + Drop>(alloc: Global, files: Files<D>) -> Result<(bool, Files<D>), Fail> {
+    let connection = match connect(alloc, files) {
+        Ok(connection) => connection,
+        Err(files) => return Ok((false, files)),
+    };
+    match made(alloc, connection)? {
+        Ok(store) => Ok((true, close(store.end()))),
+        Err(back) => Ok((false, close(back.connection))),
+    }
+}
+
+/// Carries out commands over the database of two files, where a desk can be opened.
+pub fn run_in<D: Disk + Drop>(
+    alloc: Global,
+    files: Files<D>,
+    commands: Vec<Command>,
+) -> (Option<Run>, Files<D>) {
+    match opened(alloc, files) {
+        Ok(mut desk) => {
+            let run = desk.run(commands);
+            (Some(run), close(desk.end().end()))
+        }
+        Err(files) => (None, files),
+    }
+}
+
+/// The rows of a store.
+fn rows_of<S: Alter + Drop>(mut store: Store<S>) -> Result<Rows, StoreFault> {
+    store.load()
+}
+
+/// The rows of the database that files hold, or none where it is refused as `Sql`, as one without
+/// tables is. No call to these files fails.
+pub fn rows_in<D: Disk + Drop>(alloc: Global, files: Files<D>) -> Result<Option<Rows>, Fail> {
     let Ok(connection) = connect(alloc, files) else {
         return Err("a database".into());
     };
-    match made(alloc, connection)? {
-        Ok(store) => Ok(close(store.end())),
+    match Store::open(connection) {
+        Ok(store) => Ok(Some(rows_of(store)?)),
+        Err(back) if back.fault == StoreFault::Sql => Ok(None),
         Err(back) => Err(back.fault.into()),
     }
 }
 
 /// The two files of the worked register before its first command.
 pub fn new_register(alloc: Global) -> Result<Held, Fail> {
-    let files = files_of(alloc, &Held::nothing(alloc), Part::Log, u64::MAX)?;
-    let Files { log, db } = made_in(alloc, files)?;
+    let (is_made, files) = make_in(alloc, whole_files(alloc, &Held::nothing(alloc))?)?;
+    if !is_made {
+        return Err("new tables".into());
+    }
+    let Files { log, db } = files;
     let log = left_by(alloc, log)?.synced;
     let db = left_by(alloc, db)?.synced;
     Ok(Held { log, db })

@@ -59,6 +59,11 @@ pub fn files_of(alloc: Global, held: &Held, part: Part, calls: u64) -> Result<Fi
     Ok(Files { log, db })
 }
 
+/// Both files, which stop at no call.
+pub fn whole_files(alloc: Global, held: &Held) -> Result<Files<Fused>, Fail> {
+    files_of(alloc, held, Part::Log, u64::MAX)
+}
+
 /// Opens the database of two files, or hands the files back.
 pub fn connect<D: Disk + Drop>(
     alloc: Global,
