@@ -101,7 +101,7 @@ fn stops_of_running<R: Abort>(rt: &R, alloc: Global, part: Part) -> Result<u64, 
 
 #[test]
 fn log_stops_while_commands_run(rt: HostRuntime) -> Result<(), Fail> {
-    assert_eq!(rt; stops_of_running(&rt, rt.alloc(), Part::Log)?, 0);
+    assert_eq!(rt; stops_of_running(&rt, rt.alloc(), Part::Log)?, 72);
     Ok(())
 }
 
