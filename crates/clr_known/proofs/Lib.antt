@@ -1,0 +1,4 @@
+pub mod Clean
+pub mod OneList
+pub mod WorkedRows
+pub mod JonesRegister

@@ -1,0 +1,54 @@
+//! Files whose bytes are known.
+ghost use Rattle.std.specs.Prelude.{◌≡◌, option_map};
+ghost use Rattle.clr_known.specs.Known.{bytes_among};
+
+use crate::Known;
+use clr_csv::Counted;
+use clr_edge::paths::Opens;
+use std::io;
+use std::io::Read;
+
+/// A path, and what stands in the file there.
+pub type File<'f> = (&'f str, &'f [u8]);
+
+/// What is left of a file, or of none.
+#[derive(Drop)]
+pub struct Bytes<'f> {
+    pub left: Option<&'f [u8]>,
+}
+
+impl<'f> Read for Bytes<'f> {
+    ghost use Rattle.std.specs.Prelude.{option_map};
+
+    ghost remaining = { λ bytes. option_map (λ left. left.now) bytes.left };
+
+    fn read(&mut self, buf: &mut [u8]) -> io::Result<usize> {
+        match &mut self.left {
+            Some(bytes) => bytes.read(buf),
+            None => Err(io::ErrorKind::NotFound.into()),
+        }
+    }
+}
+
+impl<'a, 'f> Opens<'a> for Known<'f> {
+    ghost use Rattle.clr_known.specs.Known.{bytes_among};
+
+    type File = Counted<Bytes<'f>>;
+
+    ghost bytes_at = { λ machine path. bytes_among machine.files.now path };
+
+    fn at(&self, path: &'a str) -> Counted<Bytes<'f>> {
+        let left = bytes_of(self.files, path);
+        Counted::new(Bytes { left })
+    }
+}
+
+/// What stands in the file at a path.
+fn bytes_of<'f>(files: &'f [File<'f>], path: &str) -> Option<&'f [u8]>
+    ensures { option_map (λ bytes. bytes.now) result ≡ bytes_among files.now path.now }
+{
+    match files.iter().find(|file| file.0 == path) {
+        Some(file) => Some(file.1),
+        None => None,
+    }
+}
