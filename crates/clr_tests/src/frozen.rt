@@ -53,7 +53,7 @@ fn unavailable_count<R: Abort>(
     part: Part,
 ) -> Result<u64, Fail> {
     let second = nth_response(alloc, 2)?;
-    let mut unavailable = 0;
+    let mut unavailable: u64 = 0;
     for calls in 0..MOST_CALLS {
         let (first, next) = two_responses(alloc, register, part, calls)?;
         let is_second = next.as_slice() == second.as_bytes();
@@ -63,7 +63,9 @@ fn unavailable_count<R: Abort>(
         );
         match first {
             None => assert!(rt; !is_second, "{part:?} at {calls}"),
-            Some(first) if first.as_slice() == UNAVAILABLE.as_bytes() => unavailable += 1,
+            Some(first) if first.as_slice() == UNAVAILABLE.as_bytes() => {
+                unavailable = unavailable.saturating_add(1);
+            }
             Some(first) => {
                 assert_eq!(rt; first.as_slice(), RESPONSE.as_bytes());
                 assert!(rt; is_second, "{part:?} at {calls}");

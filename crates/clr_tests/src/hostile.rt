@@ -270,7 +270,7 @@ fn slow_and_full_writers(rt: HostRuntime) -> Result<(), Fail> {
         assert_eq!(rt; served.err(), fault);
         assert_eq!(rt; writer.failures(), 0);
         let taken = writer.into_inner().taken;
-        assert_eq!(rt; taken.as_slice(), &RESPONSE.as_bytes()[..count]);
+        assert_eq!(rt; Some(taken.as_slice()), RESPONSE.as_bytes().get(..count));
     }
     Ok(())
 }
