@@ -9,8 +9,9 @@ use Rattle.std.specs.declared.cmp.Ordering.{Ordering}
 use Rattle.std.specs.declared.cmp.Ordering.TheVariants.{Less, Equal, Greater}
 use Rattle.std.proofs.lemmas.Bool.{cases_eq, cases_lt, false≢true, le-ltb, lt-ltb, or_cases, or_left, or_right}
 use Rattle.std.proofs.lemmas.Cmp.{nat_cmp_total}
+use Rattle.std.proofs.lemmas.List.{get_or_default}
 use Rattle.std.proofs.lemmas.List.Elements.{All-contains}
-use Rattle.std.proofs.lemmas.List.Folds.{list_any-append, list_any_at, list_any_none}
+use Rattle.std.proofs.lemmas.List.Folds.{Any-from_list_any, list_any-append, list_any_at, list_any_none}
 use Rattle.std.proofs.lemmas.List.Kept.{AllPairs-from_increasing}
 use Rattle.std.proofs.lemmas.List.Sorted.{list_any-IsPermutation, searchable_from_sorted}
 use Rattle.std.proofs.lemmas.Map.Keys.{Less-from_sorted, sorted_from_strictly_increasing}
@@ -35,6 +36,13 @@ same_place i = grind (arith, nat_tests)
 -- the place at each index
 pub has_at : (places : List ℕ) (k d : ℕ) → k < length places → has_place places (get_or places k d) ≡ true
 has_at places k d inside = list_any_at (λ p. get_or places k d == p) places k d inside (same_place (get_or places k d))
+
+-- and each one that is there has an index
+pub place_of_has : (places : List ℕ) (i : ℕ) → has_place places i ≡ true → (k : ℕ) × (k < length places) × (get_or places k 0 ≡ i)
+place_of_has places i there =
+    let (k, x, inside, is, same) = Any-from_list_any (λ p. i == p) places there in
+    let one : x ≡ i = grind (arith, nat_tests) in
+    (k, inside, get_or_default places k 0 x inside ∙ is ∙ one)
 
 -- what holds of all of them holds of each that is there, and the other way round
 pub has_all : (P : ℕ → Type 0) (places : List ℕ) (i : ℕ) → All P places → has_place places i ≡ true → P i

@@ -1,6 +1,6 @@
--- The search of a fence, by places: which sections are marked and which wait to be looked at, what
--- was found, and the points there.
-use Rattle.std.specs.Prelude.{◌≡◌, ◌<◌, ◌≤◌, ◌+◌, ◌*◌, ◌⊎◌, ◌↔◌, ℕ, Bool, true, false, not, List}
+-- The search of a fence, by places: which sections are marked and stand in the queue, what was
+-- found, and the points there.
+use Rattle.std.specs.Prelude.{◌≡◌, ◌<◌, ◌+◌, ◌-◌, ◌⊎◌, ◌↔◌, ℕ, Bool, true, false, not, List}
 use Rattle.std.specs.Prelude.{[], ◌∷◌, ◌++◌, length, map, count_by, Contains}
 use Rattle.std.specs.List.{slice_index_or}
 use Rattle.clr_net.specs.Fence.{in_fence}
@@ -18,25 +18,27 @@ abbrev pub Finds : List (List Way) → List ℕ → ℕ → List ℕ → Type 0
 Finds around cuts start found = (i : ℕ) → i < length around
     → (has_place found i ≡ true) ↔ PlaceWalk around cuts start i
 
--- the work that is left: what waits, and twice what is not marked yet
-abbrev pub work_left : List Bool → List ℕ → ℕ
-work_left marked waiting = 2 * count_by not marked + length waiting
+-- the work that is left, where the first ones of the queue were looked at: what waits, and what is
+-- not marked yet
+abbrev pub work_left : List Bool → List ℕ → ℕ → ℕ
+work_left marked queue looked_at = count_by not marked + (length queue - looked_at)
+
+-- the queue has exactly the sections that are marked
+abbrev pub IsQueued : List Bool → List ℕ → Type 0
+IsQueued marked queue = (i : ℕ) → (has_place queue i ≡ true) ↔ (is_marked marked i ≡ true)
 
 -- the ways over points that are not cut were followed: what they lead to is marked, and nothing
--- else; what is newly marked waits
-pub record Follows (ways : List Way) (cuts : List ℕ) (old_marked : List Bool) (old_waiting : List ℕ)
-    (marked : List Bool) (waiting : List ℕ) : Type 0 where
+-- else; what is newly marked stands behind what was in the queue
+pub record Follows (ways : List Way) (cuts : List ℕ) (old_marked : List Bool) (old_queue : List ℕ)
+    (marked : List Bool) (queue : List ℕ) : Type 0 where
   pub kept : (i : ℕ) → is_marked old_marked i ≡ true → is_marked marked i ≡ true
   pub led : (w : Way) → Contains ways w → has_place cuts w.point ≡ false → is_marked marked w.to
       ≡ true
   pub sound : (i : ℕ) → is_marked marked i ≡ true → (is_marked old_marked i ≡ true)
       ⊎ ((w : Way) × Contains ways w × (has_place cuts w.point ≡ false) × (w.to ≡ i))
-  pub waits : (i : ℕ) → is_marked marked i ≡ true → (is_marked old_marked i ≡ true)
-      ⊎ Contains waiting i
-  pub still : (i : ℕ) → Contains old_waiting i → Contains waiting i
-  pub waiting_marked : (i : ℕ) → Contains waiting i → Contains old_waiting i
-      ⊎ (is_marked marked i ≡ true)
-  pub less : work_left marked waiting ≤ work_left old_marked old_waiting
+  pub queued : IsQueued old_marked old_queue → IsQueued marked queue
+  pub behind : (more : List ℕ) × (queue ≡ old_queue ++ more)
+  pub once : count_by not marked + length queue ≡ count_by not old_marked + length old_queue
 
 -- the places are those of the sections of the fence
 abbrev pub ListsFence : Grid → List ℕ → List (List ℕ) → List ℕ → Type 0

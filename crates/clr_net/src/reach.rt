@@ -101,7 +101,8 @@ fn has_place(places: &[usize], place: usize) -> bool
 }
 
 /// The places of the sections that a walk over points that are not cut leads to from the section at
-/// `start`.
+/// `start`. The sections that were found stand in a queue: the first one that came is the first
+/// whose ways are followed.
 fn reach(alloc: Global, ways: &Ways, cuts: &[usize], start: usize) -> Result<Vec<usize>, AllocError>
     requires start { start < vec_len ways.now.around }
     requires cuts { IsStrictlyIncreasing cuts.now }
@@ -109,35 +110,37 @@ fn reach(alloc: Global, ways: &Ways, cuts: &[usize], start: usize) -> Result<Vec
     ensures inside { IfOk result (λ found. All (λ i. i < vec_len ways.now.around) found.items) }
     ensures finds { IfOk result (λ found. Finds (around_of ways.now) cuts.now start found.items) }
 {
-    let mut marked = vec![in alloc; false; ways.around.len()]?;
-    let mut waiting = Vec::new(alloc);
-    let mut found = Vec::new(alloc);
+    let count = ways.around.len();
+    let mut marked = vec![in alloc; false; count]?;
+    let mut queue = Vec::with_capacity(alloc, count)?;
     marked[start] = true;
-    waiting.push(start)?;
-    while let Some(place) = waiting.pop() {
-        found.push(place)?;
-        follow(&ways.around[place], cuts, &mut marked, &mut waiting)?;
+    queue.push(start)?;
+    let mut head = 0;
+    while head < queue.len() {
+        let place = queue[head];
+        follow(&ways.around[place], cuts, &mut marked, &mut queue)?;
+        head += 1;
     }
-    Ok(found)
+    Ok(queue)
 }
 
-/// Marks the sections that ways over points that are not cut lead to, and lets those wait that were
-/// not marked before.
+/// Marks the sections that ways over points that are not cut lead to, and puts those that were not
+/// marked before at the end of the queue.
 fn follow(
     ways: &[Way],
     cuts: &[usize],
     marked: &mut [bool],
-    waiting: &mut Vec<usize>,
+    queue: &mut Vec<usize>,
 ) -> Result<(), AllocError>
     requires cuts { IsStrictlyIncreasing cuts.now }
     requires fit { All (λ w. w.to < length marked.old) ways.now }
     ensures { OnOk result
-        (Follows ways.now cuts.now marked.old waiting.old.items marked.new waiting.new.items) }
+        (Follows ways.now cuts.now marked.old queue.old.items marked.new queue.new.items) }
 {
     for way in ways {
         if !has_place(cuts, way.point) && !marked[way.to] {
             marked[way.to] = true;
-            waiting.push(way.to)?;
+            queue.push(way.to)?;
         }
     }
     Ok(())

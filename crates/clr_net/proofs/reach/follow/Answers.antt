@@ -14,12 +14,12 @@ loop-way-preserved c =
     let fits = c.requires.fit c.loop-way.way-index no_way c.loop-way-test.true in
     elim c.if-not-has_place.branch [
       | then-not-has_place+then-not-marked-way+in_ok-push w ↦
-          rw (more, w.marked-is, w.waiting-is, w.in_ok-push.ensures.items)
+          rw (more, w.marked-is, w.queue-is, w.in_ok-push.ensures.items)
           (follows_mark _ way _ _ _ _ _ c.loop-way.invariant (omega arith) (sym c.has_place.ensures ∙ w.if-not-has_place.true) w.if-not-marked-way.true)
       | else-not-has_place w ↦ elim w.else-not-has_place.branch [
         | else-not-has_place-via-then-not-has_place+else-not-marked-way w' ↦
-            rw (more, w.marked-is, w.waiting-is) (follows_skip _ way _ _ _ _ _ c.loop-way.invariant (λ _. w'.if-not-marked-way.false))
+            rw (more, w.marked-is, w.queue-is) (follows_skip _ way _ _ _ _ _ c.loop-way.invariant (λ _. w'.if-not-marked-way.false))
         | else-not-has_place-via-else-not-has_place w' ↦
-            rw (more, w.marked-is, w.waiting-is) (follows_skip _ way _ _ _ _ _ c.loop-way.invariant (λ passes. absurd (both_ways _ passes (sym c.has_place.ensures ∙ w'.if-not-has_place.false))))
+            rw (more, w.marked-is, w.queue-is) (follows_skip _ way _ _ _ _ _ c.loop-way.invariant (λ passes. absurd (both_ways _ passes (sym c.has_place.ensures ∙ w'.if-not-has_place.false))))
       ]
     ]

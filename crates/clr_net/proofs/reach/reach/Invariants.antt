@@ -4,11 +4,11 @@ use Rattle.clr_net.specs.Ways.{around_of}
 use Rattle.clr_net.proofs.SearchSteps.{IsSearching}
 use Rattle.clr_net.proofs.reach.reach.Given as goal
 
-abbrev pub invariant-loop-place : goal.invariant-loop-place
-invariant-loop-place l = record {
-  search : IsSearching (around_of l.ways) l.cuts l.start l.marked.items l.waiting.items l.found.items;
+abbrev pub invariant-loop-head : goal.invariant-loop-head
+invariant-loop-head l = record {
+  search : IsSearching (around_of l.ways) l.cuts l.start l.marked.items l.queue.items l.head;
   len : length l.marked.items ≡ vec_len l.ways.around;
 }
 
-abbrev pub decreases-loop-place : goal.decreases-loop-place
-decreases-loop-place l = work_left l.marked.items l.waiting.items
+abbrev pub decreases-loop-head : goal.decreases-loop-head
+decreases-loop-head l = work_left l.marked.items l.queue.items l.head
