@@ -1,5 +1,5 @@
 -- The search over places finds the fence of the names.
-use Rattle.std.proofs.Common.{◌≡◌, ◌∙◌, ℕ, zero, suc, ◌<◌, inl, inr, ◌&&◌, ◌||◌, Bool, true, false, not, Some, Vec, Global, List, [], ◌∷◌, length, get_or, map, filter, position, refl, sym, ap, arith}
+use Rattle.std.proofs.Common.{◌≡◌, ◌∙◌, ℕ, zero, suc, ◌<◌, inl, inr, ◌&&◌, ◌||◌, Bool, true, false, not, Some, List, [], ◌∷◌, length, get_or, map, filter, position, refl, sym, ap, arith}
 use Rattle.std.specs.Prelude.{All, Contains, IsTrue, is_some, slice_get}
 use Rattle.std.specs.List.{filter_map}
 use Rattle.std.specs.List.Sorted.{IsStrictlyIncreasing, IsStrictlySortedBy}
@@ -116,13 +116,11 @@ module _ (g : Grid) (net : IsNetwork g) (ways : Ways) (index : IsIndexOf g ways)
         ]
 
   -- what the search finds is the fence
-  pub finds_fence : (found : List ℕ) → position (same_name work) (section_names g.sections) ≡ Some start → Finds (around_of ways) cuts start found → ListsFence g work cut found
+  pub finds_fence : (found : List ℕ) → position (same_name work) (section_names g.sections) ≡ Some start → Finds (around_of ways) (length g.sections) cuts start found → ListsFence g work cut found
   finds_fence found started finds i inside =
       let known = sym (is_some-position (same_name work) (section_names g.sections)) ∙ ap is_some started in
       let s = get_or (section_names g.sections) i [] in
       let size = length-map g.sections (λ (row : SectionRow). row.name) in
-      let around_size = length-map ways.around.items (λ (out : Vec Way Global). out.items) in
-      let count = index.count in
       let (on, back) = finds i (omega arith) in
       same_tests (has_place found i) (in_fence g work cut s)
       (λ e. (fence_is_walks g net work cut s).1 (known, walk_of_places started i (on e)))
@@ -141,12 +139,11 @@ module _ (g : Grid) (net : IsNetwork g) (ways : Ways) (index : IsIndexOf g ways)
       rw (index.ends, ← size) (ends_below (section_names g.sections) g.points net.ends_known)
 
   -- so the ways fit the marks
-  pub index_fits : WaysFit (around_of ways) (length ways.around.items) (length g.points)
+  pub index_fits : WaysFit (around_of ways) (length g.sections) (length g.points)
   index_fits i w there =
       let (below, joined) = index.around.real i w there in
       let ends_size : length ways.ends.items ≡ length g.points = rw index.ends (length-map g.points (ends_in (section_names g.sections))) in
-      let fits = ends_fit w.point (record { from = 0; to = 0 }) (omega arith) in
-      let count = index.count in (
+      let fits = ends_fit w.point (record { from = 0; to = 0 }) (omega arith) in (
         below,
         elim joined [
           | inl forth ↦ let to = ap (λ (e : Ends). e.to) forth in omega (arith, fits.1)

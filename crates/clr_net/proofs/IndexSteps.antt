@@ -1,11 +1,16 @@
--- The steps that build the index of a network.
-use Rattle.std.proofs.Common.{◌≡◌, ℕ, zero, suc, ◌+◌, ◌<◌, ◌⊎◌, inl, inr, List, [], ◌∷◌, ◌++◌, length, map, replicate, refl, sym, arith}
+-- The steps that fill the index of a network, and what is read of it.
+use Rattle.std.proofs.Common.{◌≡◌, ◌∙◌, ℕ, zero, suc, ◌+◌, ◌-◌, ◌<◌, ◌≤◌, ◌⊎◌, inl, inr, ◌==◌, Bool, true, false, List, [], ◌∷◌, ◌++◌, length, map, filter, take, drop, get_or, nat_lt, refl, sym, ap, arith}
 use Rattle.std.specs.Prelude.{All, Contains, IsTrue}
-use Rattle.std.proofs.lemmas.Bool.{and_parts, cases_eq}
-use Rattle.std.proofs.lemmas.List.{get_or-set_same, get_or-set_other, length-set}
+use Rattle.std.specs.List.{AllWithin}
+use Rattle.std.specs.List.Sorted.{IsPermutation}
+use Rattle.std.proofs.lemmas.Bool.{and_parts, cases_eq, cases_lt, false≢true}
+use Rattle.std.proofs.lemmas.Bool.Decides.{nat_tests}
+use Rattle.std.proofs.lemmas.List.{get_or-map, get_or_append_left, get_or_at, length-map}
 use Rattle.std.proofs.lemmas.List.Elements.{All-map, All-weaker, Contains-append_left, Contains-push, Contains-push_cases}
-use Rattle.clr_net.specs.Index.{AddsWay, AreBelow, IsAround, ends_at, ends_in, way, ways_at}
+use Rattle.std.proofs.lemmas.List.Sorted.{Contains-permutation, IsPermutation-sym}
+use Rattle.clr_net.specs.Index.{AreBelow, AreStarts, IsAround, IsStart, ends_at, ends_in, out_at, way, ways_in}
 use Rattle.clr_net.specs.declared.ways.Way.{Way}
+use Rattle.clr_net.specs.declared.ways.Out.{Out}
 use Rattle.clr_net.specs.declared.ways.Ends.{Ends}
 use Rattle.clr_net.proofs.SearchSteps.{nothing_in_nil}
 use Rattle.clr_net.proofs.Places.{place_inside}
@@ -14,65 +19,151 @@ use Rattle.clr_net.specs.Names.{has_name}
 use Rattle.clr_net.specs.Name.{same_name}
 use Rattle.clr_net.specs.declared.point.PointRow.{PointRow}
 
--- no way out of any section
-no_way_at : (n i : ℕ) → ways_at (replicate n []) i ≡ []
-no_way_at zero i = refl
-no_way_at (suc n) zero = refl
-no_way_at (suc n) (suc i) = no_way_at n i
+-- the way out of the i-th section over the k-th point
+abbrev out_over : ℕ → ℕ → ℕ → Out
+out_over i k to = record { from = i; way = way k to }
 
-pub around_none : (ends : List Ends) (n : ℕ) → IsAround ends 0 (replicate n [])
-around_none ends n = record {
-  real = λ i w there. absurd (nothing_in_nil w (rw (no_way_at n i) at there));
+contains_first : {X : Type 0} (x : X) (xs : List X) → Contains (x ∷ xs) x
+contains_first x xs = (0, omega arith, refl)
+
+contains_later : {X : Type 0} (x y : X) (xs : List X) → Contains xs y → Contains (x ∷ xs) y
+contains_later x y xs there = let (k, inside, is) = there in (suc k, omega arith, is)
+
+contains_cases : {X : Type 0} (x y : X) (xs : List X) → Contains (x ∷ xs) y → (x ≡ y) ⊎ Contains xs y
+contains_cases x y xs (zero, inside, is) = inl is
+contains_cases x y xs (suc k, inside, is) = inr (k, omega arith, is)
+
+-- a way that leads out of a section is one of those out of it
+pub way_there : (out : List Out) (i : ℕ) (w : Way) → Contains out (record { from = i; way = w }) → Contains (ways_in out i) w
+way_there [] i w there = absurd (nothing_in_nil _ there)
+way_there (o ∷ out) i w there = at (way_there out i w) (o.from == i) refl (contains_cases o (record { from = i; way = w }) out there)
+  where
+    at : (Contains out (record { from = i; way = w }) → Contains (ways_in out i) w) → (b : Bool) → (o.from == i) ≡ b → (o ≡ record { from = i; way = w }) ⊎ Contains out (record { from = i; way = w }) → Contains (ways_in (o ∷ out) i) w
+    at rest true e (inl same) = rw e (rw (← ap Out.way same) (contains_first o.way (ways_in out i)))
+    at rest true e (inr later) = rw e (contains_later o.way w (ways_in out i) (rest later))
+    at rest false e (inl same) = let one : o.from ≡ i = ap Out.from same in let yes : (o.from == i) ≡ true = grind (arith, nat_tests) in absurd (false≢true (sym e ∙ yes))
+    at rest false e (inr later) = rw e (rest later)
+
+-- and the other way round
+pub out_there : (out : List Out) (i : ℕ) (w : Way) → Contains (ways_in out i) w → Contains out (record { from = i; way = w })
+out_there [] i w there = absurd (nothing_in_nil w there)
+out_there (o ∷ out) i w there = at (out_there out i w) (o.from == i) refl there
+  where
+    at : (Contains (ways_in out i) w → Contains out (record { from = i; way = w })) → (b : Bool) → (o.from == i) ≡ b → Contains (ways_in (o ∷ out) i) w → Contains (o ∷ out) (record { from = i; way = w })
+    at rest true e here = elim (contains_cases o.way w (ways_in out i) (rw e at here)) [
+      | inl same ↦
+          let one : o.from ≡ i = grind (arith, nat_tests) in
+          let is : o ≡ record { from = i; way = w } = (λ j. record { from = one j; way = same j }) in
+          (0, omega arith, is)
+      | inr later ↦ contains_later o (record { from = i; way = w }) out (rest later)
+    ]
+    at rest false e here = contains_later o (record { from = i; way = w }) out (rest (rw e at here))
+
+-- no way over no point
+pub around_none : (ends : List Ends) → IsAround ends 0 (ways_in [])
+around_none ends = record {
+  real = λ i w there. absurd (nothing_in_nil w there);
   whole = λ k below. absurd (omega arith);
 }
 
--- the ways out of a section after one was added
-ways_kept : (old new : List (List Way)) (place : ℕ) (w : Way) → place < length old → AddsWay old new place w → (i : ℕ) (v : Way) → Contains (ways_at old i) v → Contains (ways_at new i) v
-ways_kept old new place w inside adds i v there = at (cases_eq i place)
-  where
-    at : (i ≡ place) ⊎ (i ≡ place → ⊥) → Contains (ways_at new i) v
-    at (inl same) = rw (adds, same, get_or-set_same old place (ways_at old place ++ w ∷ []) [] inside) (Contains-append_left (ways_at old place) (w ∷ []) v (rw same at there))
-    at (inr other) = rw (adds, get_or-set_other old place i (ways_at old place ++ w ∷ []) [] other) there
-
-ways_there : (old new : List (List Way)) (place : ℕ) (w : Way) → place < length old → AddsWay old new place w → Contains (ways_at new place) w
-ways_there old new place w inside adds = rw (adds, get_or-set_same old place (ways_at old place ++ w ∷ []) [] inside) (Contains-push (ways_at old place) w)
-
-ways_added : (old new : List (List Way)) (place : ℕ) (w : Way) → place < length old → AddsWay old new place w → (i : ℕ) (v : Way) → Contains (ways_at new i) v → Contains (ways_at old i) v ⊎ ((place ≡ i) × (w ≡ v))
-ways_added old new place w inside adds i v there = at (cases_eq i place)
-  where
-    at : (i ≡ place) ⊎ (i ≡ place → ⊥) → Contains (ways_at old i) v ⊎ ((place ≡ i) × (w ≡ v))
-    at (inl same) =
-        elim (Contains-push_cases (ways_at old place) w v (rw (adds, same, get_or-set_same old place (ways_at old place ++ w ∷ []) [] inside) at there)) [
-          | inl before ↦ inl (rw same before)
-          | inr here ↦ inr (sym same, here)
-        ]
-    at (inr other) = inl (rw (adds, get_or-set_other old place i (ways_at old place ++ w ∷ []) [] other) at there)
-
 -- one point more, which is a way at both its ends
-pub around_more : (ends : List Ends) (k : ℕ) (e : Ends) (old middle new : List (List Way)) → IsAround ends k old → ends_at ends k ≡ e → AreBelow (length old) e
-    → AddsWay old middle e.from (way k e.to) → AddsWay middle new e.to (way k e.from) → IsAround ends (k + 1) new
-around_more ends k e old middle new a is below first second =
-    let size : length middle ≡ length old = rw first (length-set old e.from (ways_at old e.from ++ way k e.to ∷ [])) in
-    let to_inside : e.to < length middle = omega (arith, below.1) in
-    record {
-      real = λ i w there. elim (ways_added middle new e.to (way k e.from) to_inside second i w there) [
-        | inl before ↦ elim (ways_added old middle e.from (way k e.to) below.0 first i w before) [
-          | inl long ↦ let (lower, joined) = a.real i w long in (omega arith, joined)
-          | inr by ↦ let (from, same) = by in (rw (← same) (omega arith), inl (rw (← same, ← from, is) refl))
-        ]
-        | inr by ↦ let (to, same) = by in (rw (← same) (omega arith), inr (rw (← same, ← to, is) refl))
-      ];
-      whole = λ j lower. elim (cases_eq j k) [
-        | inl same ↦ rw (same, is) (
-          ways_kept middle new e.to (way k e.from) to_inside second e.from (way k e.to) (ways_there old middle e.from (way k e.to) below.0 first),
-          ways_there middle new e.to (way k e.from) to_inside second,
-        )
-        | inr other ↦
-            let (one, two) = a.whole j (omega arith) in
-            let keeps = λ (i : ℕ) (w : Way) (there : Contains (ways_at old i) w). ways_kept middle new e.to (way k e.from) to_inside second i w (ways_kept old middle e.from (way k e.to) below.0 first i w there) in
-            (keeps (ends_at ends j).from (way j (ends_at ends j).to) one, keeps (ends_at ends j).to (way j (ends_at ends j).from) two)
-      ];
-    }
+pub around_more : (ends : List Ends) (k : ℕ) (e : Ends) (out : List Out) → IsAround ends k (ways_in out) → ends_at ends k ≡ e
+    → IsAround ends (k + 1) (ways_in ((out ++ out_over e.from k e.to ∷ []) ++ out_over e.to k e.from ∷ []))
+around_more ends k e out a is = record {
+  real = λ i w there. elim (Contains-push_cases (out ++ forth ∷ []) back (record { from = i; way = w }) (out_there _ i w there)) [
+    | inl before ↦ elim (Contains-push_cases out forth (record { from = i; way = w }) before) [
+      | inl long ↦ let (lower, joined) = a.real i w (way_there out i w long) in (omega arith, joined)
+      | inr by ↦ rw (← ap Out.from by, ← ap Out.way by) (omega arith, inl (rw is refl))
+    ]
+    | inr by ↦ rw (← ap Out.from by, ← ap Out.way by) (omega arith, inr (rw is refl))
+  ];
+  whole = λ j lower. elim (cases_eq j k) [
+    | inl same ↦ rw (same, is) (
+      way_there _ e.from (way k e.to) (Contains-append_left (out ++ forth ∷ []) (back ∷ []) forth (Contains-push out forth)),
+      way_there _ e.to (way k e.from) (Contains-push (out ++ forth ∷ []) back),
+    )
+    | inr other ↦
+        let (one, two) = a.whole j (omega arith) in
+        (keeps (ends_at ends j).from (way j (ends_at ends j).to) one, keeps (ends_at ends j).to (way j (ends_at ends j).from) two)
+  ];
+}
+  where
+    forth : Out
+    forth = out_over e.from k e.to
+
+    back : Out
+    back = out_over e.to k e.from
+
+    keeps : (i : ℕ) (w : Way) → Contains (ways_in out i) w → Contains (ways_in ((out ++ forth ∷ []) ++ back ∷ []) i) w
+    keeps i w there = way_there _ i w
+        (Contains-append_left (out ++ forth ∷ []) (back ∷ []) _ (Contains-append_left out (forth ∷ []) _ (out_there out i w there)))
+
+-- the order of the ways plays no part
+pub around_permuted : (ends : List Ends) (n : ℕ) (old new : List Out) → IsPermutation old new → IsAround ends n (ways_in old) → IsAround ends n (ways_in new)
+around_permuted ends n old new moved a = record {
+  real = λ i w there. a.real i w (way_there old i w (Contains-permutation new old _ (IsPermutation-sym old new moved) (out_there new i w there)));
+  whole = λ k below. let (one, two) = a.whole k below in (
+    way_there new _ _ (Contains-permutation old new _ moved (out_there old _ _ one)),
+    way_there new _ _ (Contains-permutation old new _ moved (out_there old _ _ two)),
+  );
+}
+
+-- one section more of which it is known where its ways begin
+pub starts_more : (out : List Out) (starts : List ℕ) (i start : ℕ) → length starts ≡ i → ((j : ℕ) → j < i → IsStart out j (get_or starts j 0)) → IsStart out i start
+    → (j : ℕ) → j < i + 1 → IsStart out j (get_or (starts ++ start ∷ []) j 0)
+starts_more out starts i start size before now j lower = elim (cases_eq j i) [
+  | inl same ↦ rw (same, get_or_at starts start [] 0 i size) now
+  | inr other ↦ rw (get_or_append_left starts (start ∷ []) 0 j (omega arith)) (before j (omega arith))
+]
+
+-- a filter keeps a run where its test passes that run and nothing before or after it
+filter-run : {X : Type 0} (p : X → Bool) (xs : List X) (start count : ℕ) → start + count ≤ length xs
+    → AllWithin (λ x. p x ≡ false) xs 0 start → AllWithin (λ x. p x ≡ true) xs start (start + count)
+    → AllWithin (λ x. p x ≡ false) xs (start + count) (length xs)
+    → filter p xs ≡ take count (drop start xs)
+filter-run p [] zero zero fits before within after = refl
+filter-run p [] zero (suc count) fits before within after = absurd (omega arith)
+filter-run p [] (suc start) count fits before within after = absurd (omega arith)
+filter-run p (x ∷ rest) zero zero fits before within after =
+    rw (after 0 x (omega arith) (omega arith))
+    (filter-run p rest 0 0 (omega arith) (λ k d le lt. absurd (omega arith)) (λ k d le lt. absurd (omega arith)) (λ k d le lt. after (suc k) d (omega arith) (omega arith)))
+filter-run p (x ∷ rest) zero (suc count) fits before within after =
+    rw (within 0 x (omega arith) (omega arith))
+    (ap (λ xs. x ∷ xs) (filter-run p rest 0 count (omega arith) (λ k d le lt. absurd (omega arith)) (λ k d le lt. within (suc k) d (omega arith) (omega arith)) (λ k d le lt. after (suc k) d (omega arith) (omega arith))))
+filter-run p (x ∷ rest) (suc start) count fits before within after =
+    rw (before 0 x (omega arith) (omega arith))
+    (filter-run p rest start count (omega arith) (λ k d le lt. before (suc k) d (omega arith) (omega arith)) (λ k d le lt. within (suc k) d (omega arith) (omega arith)) (λ k d le lt. after (suc k) d (omega arith) (omega arith)))
+
+module _ (out : List Out) (i start end : ℕ) (starts : IsStart out i start) (ends : IsStart out (i + 1) end) where
+  -- the ways out of a section begin no later than those out of the next
+  pub start_le_end : start ≤ end
+  start_le_end = elim (cases_lt end start) [
+    | inl later ↦
+        let o : Out = out_over 0 0 0 in
+        let lower : nat_lt (get_or out end o).from i ≡ true = starts.1.0 end o (omega arith) later in
+        let higher : nat_lt (get_or out end o).from (i + 1) ≡ false = ends.1.1 end o (omega arith) (let fits = starts.0 in omega arith) in
+        absurd (grind (arith, nat_tests))
+    | inr before ↦ before
+  ]
+
+  -- and are the run between these two places
+  pub run_is : out_at out i ≡ take (end - start) (drop start out)
+  run_is =
+      let le = start_le_end in
+      let fits = ends.0 in
+      filter-run (λ (o : Out). o.from == i) out start (end - start) (omega arith)
+      (λ k d low high. let before : nat_lt (get_or out k d).from i ≡ true = starts.1.0 k d low high in let no : ((get_or out k d).from == i) ≡ false = grind (arith, nat_tests) in no)
+      (λ k d low high.
+      let from : nat_lt (get_or out k d).from i ≡ false = starts.1.1 k d low (omega arith) in
+      let below : nat_lt (get_or out k d).from (i + 1) ≡ true = ends.1.0 k d (omega arith) (omega arith) in
+      let yes : ((get_or out k d).from == i) ≡ true = grind (arith, nat_tests) in yes)
+      (λ k d low high. let after : nat_lt (get_or out k d).from (i + 1) ≡ false = ends.1.1 k d (omega arith) high in let no : ((get_or out k d).from == i) ≡ false = grind (arith, nat_tests) in no)
+
+-- the ways out of one section lead to sections
+pub outs_fit : (outs : List Out) (n : ℕ) → ((w : Way) → Contains (map (λ o. o.way) outs) w → w.to < n) → All (λ (o : Out). o.way.to < n) outs
+outs_fit outs n fit k d inside =
+    let size = length-map outs (λ (o : Out). o.way) in
+    fit (get_or outs k d).way (k, omega (arith, size), get_or-map (λ (o : Out). o.way) outs k d (get_or outs k d).way inside)
 
 -- the places of known ends are below the number of names
 pub ends_below : (names : List (List ℕ)) (points : List PointRow) → All (λ p. IsTrue (has_ends names p)) points → All (AreBelow (length names)) (map (ends_in names) points)

@@ -20,7 +20,7 @@ use Rattle.std.specs.Cmp.{unsigned_ties}
 use Rattle.std.specs.Option.{option_copied}
 use Rattle.std.specs.Slice.{IsItemAt}
 use Rattle.std.proofs.Math.Bool.{or-false}
-use Rattle.clr_net.specs.Index.{has_place, ways_at}
+use Rattle.clr_net.specs.Index.{has_place}
 use Rattle.clr_net.specs.Search.{points_around}
 use Rattle.clr_net.specs.declared.ways.Way.{Way}
 use Rattle.clr_net.proofs.ListFacts.{any-dedup}
@@ -167,16 +167,16 @@ picked_is_filter test rows places rise same =
     (λ i x inside is. ap (has_place places) (from_zero i) ∙ same i x inside is)
 
 -- a point of these sections' ways is one of theirs
-pub around_has : (around : List (List Way)) (places : List ℕ) (i : ℕ) (w : Way) → has_place places i ≡ true → Contains (ways_at around i) w
+pub around_has : (around : ℕ → List Way) (places : List ℕ) (i : ℕ) (w : Way) → has_place places i ≡ true → Contains (around i) w
     → has_place (points_around around places) w.point ≡ true
 around_has around [] i w here there = absurd (false≢true here)
 around_has around (p ∷ places) i w here there =
-    list_any-append (λ k. w.point == k) (map (λ (w : Way). w.point) (ways_at around p)) (points_around around places)
+    list_any-append (λ k. w.point == k) (map (λ (w : Way). w.point) (around p)) (points_around around places)
     ∙ elim (or_cases (i == p) (has_place places i) here) [
       | inl now ↦
           let one : p ≡ i = grind (arith, nat_tests) in
-          let at_p : Contains (ways_at around p) w = rw one there in
-          or_left _ _ (has_point (ways_at around p) w at_p)
+          let at_p : Contains (around p) w = rw one there in
+          or_left _ _ (has_point (around p) w at_p)
       | inr later ↦ or_right _ _ (around_has around places i w later there)
     ]
   where
@@ -188,14 +188,14 @@ around_has around (p ∷ places) i w here there =
         any_map (v ∷ ways) = ap (λ b. (w.point == v.point) || b) (any_map ways)
 
 -- and each of theirs is such a point
-pub has_around : (around : List (List Way)) (places : List ℕ) (k : ℕ) → has_place (points_around around places) k ≡ true
-    → (i : ℕ) × (has_place places i ≡ true) × ((w : Way) × Contains (ways_at around i) w × (w.point ≡ k))
+pub has_around : (around : ℕ → List Way) (places : List ℕ) (k : ℕ) → has_place (points_around around places) k ≡ true
+    → (i : ℕ) × (has_place places i ≡ true) × ((w : Way) × Contains (around i) w × (w.point ≡ k))
 has_around around [] k there = absurd (false≢true there)
 has_around around (p ∷ places) k there =
-    elim (or_cases (has_place (map (λ (w : Way). w.point) (ways_at around p)) k) (has_place (points_around around places) k)
-    (sym (list_any-append (λ q. k == q) (map (λ (w : Way). w.point) (ways_at around p)) (points_around around places)) ∙ there)) [
+    elim (or_cases (has_place (map (λ (w : Way). w.point) (around p)) k) (has_place (points_around around places) k)
+    (sym (list_any-append (λ q. k == q) (map (λ (w : Way). w.point) (around p)) (points_around around places)) ∙ there)) [
       | inl now ↦
-          let (w, in_ways, same) = some_from (λ (v : Way). k == v.point) (ways_at around p) (sym (any_map (ways_at around p)) ∙ now) in
+          let (w, in_ways, same) = some_from (λ (v : Way). k == v.point) (around p) (sym (any_map (around p)) ∙ now) in
           (p, or_left (p == p) (has_place places p) (same_place p), (w, in_ways, grind (arith, nat_tests)))
       | inr later ↦
           let (i, here, found) = has_around around places k later in

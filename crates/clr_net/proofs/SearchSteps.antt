@@ -1,15 +1,13 @@
 -- The steps of the search of a fence.
-use Rattle.std.proofs.Common.{◌≡◌, ◌∙◌, ℕ, zero, suc, ◌+◌, ◌<◌, ◌≤◌, ◌⊎◌, inl, inr, Bool, true, false, cond, not, List, [], ◌∷◌, ◌++◌, length, get_or, set, take, drop, replicate, Vec, Global, refl, sym, ap, arith}
+use Rattle.std.proofs.Common.{◌≡◌, ◌∙◌, ℕ, zero, suc, ◌+◌, ◌<◌, ◌≤◌, ◌⊎◌, inl, inr, Bool, true, false, cond, not, List, [], ◌∷◌, ◌++◌, length, get_or, set, take, drop, replicate, refl, sym, ap, arith}
 use Rattle.std.specs.Prelude.{count_by, Contains, All}
 use Rattle.std.proofs.lemmas.Bool.{false≢true, cases_eq}
-use Rattle.std.proofs.lemmas.List.{append-nil, append_assoc, drop_all, get_or_append_left, get_or-map, get_or-set_same, get_or-set_other, length-append}
+use Rattle.std.proofs.lemmas.List.{append-nil, append_assoc, drop_all, get_or_append_left, get_or-set_same, get_or-set_other, length-append}
 use Rattle.std.proofs.lemmas.List.Sums.{sum_by-set}
 use Rattle.std.proofs.lemmas.List.Elements.{Contains-append_left, Contains-get_or, Contains-push, Contains-push_cases}
 use Rattle.std.proofs.Math.Seq.{take-length}
-use Rattle.clr_net.specs.Index.{PlaceWalk, has_place, ways_at}
+use Rattle.clr_net.specs.Index.{PlaceWalk, has_place}
 use Rattle.clr_net.specs.Index.PlaceWalk.{begins, follows}
-use Rattle.clr_net.specs.Ways.{around_of}
-use Rattle.clr_net.specs.declared.ways.Ways.{Ways}
 use Rattle.clr_net.specs.Search.{Finds, Follows, IsQueued, is_marked, work_left}
 use Rattle.clr_net.proofs.PlaceLists.{has_at, has_before, has_cases, has_now, place_of_has}
 use Rattle.clr_net.specs.declared.ways.Way.{Way}
@@ -103,16 +101,16 @@ follows_mark done w cuts old old_queue marked queue f inside passes fresh = reco
 
 -- the search so far: the queue has what is marked, and each of these was reached; what the first ones lead to, which were
 -- looked at, is marked
-pub record IsSearching (around : List (List Way)) (cuts : List ℕ) (start : ℕ) (marked : List Bool) (queue : List ℕ) (looked_at : ℕ) : Type 0 where
+pub record IsSearching (around : ℕ → List Way) (cuts : List ℕ) (start : ℕ) (marked : List Bool) (queue : List ℕ) (looked_at : ℕ) : Type 0 where
   pub begun : is_marked marked start ≡ true
   pub sound : (i : ℕ) → is_marked marked i ≡ true → PlaceWalk around cuts start i
   pub queued : IsQueued marked queue
-  pub done : (k : ℕ) → k < looked_at → (w : Way) → Contains (ways_at around (get_or queue k 0)) w → has_place cuts w.point ≡ false → is_marked marked w.to ≡ true
+  pub done : (k : ℕ) → k < looked_at → (w : Way) → Contains (around (get_or queue k 0)) w → has_place cuts w.point ≡ false → is_marked marked w.to ≡ true
   pub within : looked_at ≤ length queue
 
 -- where the whole queue was looked at, the search is over
-pub search_over : (around : List (List Way)) (cuts : List ℕ) (start : ℕ) (marked : List Bool) (queue : List ℕ) (looked_at : ℕ) → IsSearching around cuts start marked queue looked_at → length queue ≤ looked_at → Finds around cuts start queue
-search_over around cuts start marked queue looked_at s all i inside = (λ there. s.sound i ((s.queued i).0 there), λ walk. (s.queued i).1 (reached i walk))
+pub search_over : (around : ℕ → List Way) (n : ℕ) (cuts : List ℕ) (start : ℕ) (marked : List Bool) (queue : List ℕ) (looked_at : ℕ) → IsSearching around cuts start marked queue looked_at → length queue ≤ looked_at → Finds around n cuts start queue
+search_over around n cuts start marked queue looked_at s all i inside = (λ there. s.sound i ((s.queued i).0 there), λ walk. (s.queued i).1 (reached i walk))
   where
     reached : (i : ℕ) → PlaceWalk around cuts start i → is_marked marked i ≡ true
     reached i (begins i' same) = rw (← same) s.begun
@@ -121,12 +119,12 @@ search_over around cuts start marked queue looked_at s all i inside = (λ there.
         s.done k (omega arith) w (rw same there) passes
 
 -- what stands in the queue are places of sections
-pub queue_inside : (around : List (List Way)) (cuts : List ℕ) (start : ℕ) (marked : List Bool) (queue : List ℕ) (looked_at : ℕ) → IsSearching around cuts start marked queue looked_at
+pub queue_inside : (around : ℕ → List Way) (cuts : List ℕ) (start : ℕ) (marked : List Bool) (queue : List ℕ) (looked_at : ℕ) → IsSearching around cuts start marked queue looked_at
     → All (λ i. i < length marked) queue
 queue_inside around cuts start marked queue looked_at s k d inside = marked_inside marked (get_or queue k d) ((s.queued (get_or queue k d)).0 (has_at queue k d inside))
 
 -- the start
-pub search_start : (around : List (List Way)) (cuts : List ℕ) (start : ℕ) (marked : List Bool) → ((i : ℕ) → is_marked marked i ≡ false) → start < length marked
+pub search_start : (around : ℕ → List Way) (cuts : List ℕ) (start : ℕ) (marked : List Bool) → ((i : ℕ) → is_marked marked i ≡ false) → start < length marked
     → IsSearching around cuts start (set marked start true) (start ∷ []) 0
 search_start around cuts start marked none inside = record {
   begun = get_or-set_same marked start true false inside;
@@ -137,8 +135,8 @@ search_start around cuts start marked none inside = record {
 }
 
 -- the ways of the next one in the queue were followed
-pub search_step : (around : List (List Way)) (cuts : List ℕ) (start : ℕ) (marked : List Bool) (queue : List ℕ) (looked_at : ℕ) (new_marked : List Bool) (new_queue : List ℕ)
-    → IsSearching around cuts start marked queue looked_at → looked_at < length queue → Follows (ways_at around (get_or queue looked_at 0)) cuts marked queue new_marked new_queue
+pub search_step : (around : ℕ → List Way) (cuts : List ℕ) (start : ℕ) (marked : List Bool) (queue : List ℕ) (looked_at : ℕ) (new_marked : List Bool) (new_queue : List ℕ)
+    → IsSearching around cuts start marked queue looked_at → looked_at < length queue → Follows (around (get_or queue looked_at 0)) cuts marked queue new_marked new_queue
     → IsSearching around cuts start new_marked new_queue (looked_at + 1)
 search_step around cuts start marked queue looked_at new_marked new_queue s waits f =
     let place = get_or queue looked_at 0 in
@@ -176,15 +174,7 @@ none_marked zero i = refl
 none_marked (suc n) zero = refl
 none_marked (suc n) (suc i) = none_marked n i
 
--- the ways of one section lead to sections
-pub ways_fit : (ways : List Way) (n : ℕ) → ((w : Way) → Contains ways w → w.to < n) → All (λ (w : Way). w.to < n) ways
-ways_fit ways n fit k d inside = fit (get_or ways k d) (Contains-get_or ways k d inside)
-
 -- a slice of a whole vector that was written, put back
 pub put_back : {X : Type 0} (new old : List X) (n : ℕ) → length new ≡ length old → n ≡ length old → take n (new ++ drop (length new) old) ≡ new
 put_back new old n same size =
     rw (drop_all (length new) old (omega arith), append-nil new, size, sym same) (take-length new)
-
--- the ways out of one section, as they are read
-pub ways_read : (ways : Ways) (place : ℕ) (out : Vec Way Global) → place < length ways.around.items → out ≡ get_or ways.around.items place out → ways_at (around_of ways) place ≡ out.items
-ways_read ways place out inside is = get_or-map (λ out. out.items) ways.around.items place out [] inside ∙ ap (λ (v : Vec Way Global). v.items) (sym is)

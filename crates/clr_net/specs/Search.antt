@@ -5,7 +5,7 @@ use Rattle.std.specs.Prelude.{[], ◌∷◌, ◌++◌, length, map, count_by, Co
 use Rattle.std.specs.List.{slice_index_or}
 use Rattle.clr_net.specs.Fence.{in_fence}
 use Rattle.clr_net.specs.Grid.{Grid, section_names}
-use Rattle.clr_net.specs.Index.{PlaceWalk, has_place, ways_at}
+use Rattle.clr_net.specs.Index.{PlaceWalk, has_place}
 use Rattle.clr_net.specs.Names.{has_name}
 use Rattle.clr_net.specs.declared.ways.Way.{Way}
 
@@ -13,9 +13,9 @@ use Rattle.clr_net.specs.declared.ways.Way.{Way}
 abbrev pub is_marked : List Bool → ℕ → Bool
 is_marked marked i = slice_index_or marked i false
 
--- found is exactly what a walk over points that are not cut leads to from the start
-abbrev pub Finds : List (List Way) → List ℕ → ℕ → List ℕ → Type 0
-Finds around cuts start found = (i : ℕ) → i < length around
+-- of n sections, found is exactly what a walk over points that are not cut leads to from the start
+abbrev pub Finds : (ℕ → List Way) → ℕ → List ℕ → ℕ → List ℕ → Type 0
+Finds around n cuts start found = (i : ℕ) → i < n
     → (has_place found i ≡ true) ↔ PlaceWalk around cuts start i
 
 -- the work that is left, where the first ones of the queue were looked at: what waits, and what is
@@ -51,7 +51,7 @@ ListsCut points cut places = (k : ℕ) → k < length points → has_place place
     ≡ has_name cut (slice_index_or points k [])
 
 -- the places of the points over which ways lead out of these sections
-abbrev pub points_around : List (List Way) → List ℕ → List ℕ
+abbrev pub points_around : (ℕ → List Way) → List ℕ → List ℕ
 points_around around [] = []
-points_around around (i ∷ places) = map (λ w. w.point) (ways_at around i)
+points_around around (i ∷ places) = map (λ w. w.point) (around i)
     ++ points_around around places

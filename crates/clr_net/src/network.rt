@@ -18,7 +18,7 @@ use crate::net_fault::NetFault;
 use crate::point::PointRow;
 use crate::reach::{fence_places, places_beside};
 use crate::section::SectionRow;
-use crate::ways::{Ways, all_ends, index};
+use crate::ways::Ways;
 use std::alloc::{AllocError, Global};
 use std::marker::Model;
 
@@ -62,9 +62,9 @@ impl Network {
         let ordered = in_order(alloc, &sections)?;
         let ordered_points = in_order(alloc, &points)?;
         check_names(alloc, &sections, &ordered, &points, &ordered_points)?;
-        let ends = all_ends(alloc, &ordered, &ordered_points)?;
-        check_ends(&ordered, &points, ends.is_some())?;
-        let ways = index(alloc, &ordered, &ordered_points, ends.unwrap())?;
+        let mut ways = Ways::empty(alloc)?;
+        let all_known = ways.fill(&ordered, &ordered_points)?;
+        check_ends(&ordered, &points, all_known)?;
         Ok(Network {
             sections: ordered,
             points: ordered_points,

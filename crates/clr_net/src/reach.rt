@@ -1,8 +1,8 @@
 //! Which sections a walk over points that are not cut leads to: a search over the index. It looks
 //! at the ways out of the sections that it finds, and at no others.
-ghost use Rattle.std.specs.Prelude.{◌≡◌, ◌<◌, ◌++◌, ℕ, All, length, map, IfOk, OnOk, vec_len};
+ghost use Rattle.std.specs.Prelude.{◌≡◌, ◌<◌, ◌++◌, ℕ, All, length, map, IfOk, OnOk};
 ghost use Rattle.clr_net.specs.Index.{WaysFit, has_place};
-ghost use Rattle.clr_net.specs.Ways.{IsIndexOf, around_of};
+ghost use Rattle.clr_net.specs.Ways.{HasStarts, IsIndexOf, around_of};
 ghost use Rattle.clr_net.specs.Search.{Finds, Follows, ListsCut, ListsFence, points_around};
 ghost use Rattle.std.specs.List.Sorted.{IsStrictlyIncreasing, IsStrictlySortedBy};
 ghost use Rattle.clr_net.specs.Grid.{Grid, IsNetwork, point_names};
@@ -12,7 +12,7 @@ use crate::name::Name;
 use crate::named::place_of;
 use crate::point::PointRow;
 use crate::section::SectionRow;
-use crate::ways::{Way, Ways};
+use crate::ways::{Out, Ways};
 use std::alloc::{AllocError, Global};
 
 /// The places of the sections in the fence of the work section, cut at these points.
@@ -35,7 +35,7 @@ pub(crate) fn fence_places(
         return Ok(Vec::new(alloc));
     };
     let cuts = cut_places(alloc, points, cut)?;
-    let found = reach(alloc, ways, &cuts, start)?;
+    let found = reach(alloc, ways, sections.len(), &cuts, start)?;
     Ok(in_order(found))
 }
 
@@ -45,24 +45,25 @@ pub(crate) fn places_beside(
     ways: &Ways,
     inside: &[usize],
 ) -> Result<Vec<usize>, AllocError>
-    requires { All (λ i. i < vec_len ways.now.around) inside.now }
+    requires { (n : ℕ) × HasStarts n ways.now × All (λ i. i < n) inside.now }
     ensures rising { IfOk result (λ places. IsStrictlyIncreasing places.items) }
     ensures same { IfOk result (λ places. (k : ℕ)
         → has_place places.items k ≡ has_place (points_around (around_of ways.now) inside.now) k) }
 {
     let mut points = Vec::new(alloc);
     for place in inside {
-        push_points(&mut points, &ways.around[*place])?;
+        push_points(&mut points, ways.out_of(*place))?;
     }
     Ok(in_order(points))
 }
 
 /// The places of the points of these ways, behind others.
-fn push_points(points: &mut Vec<usize>, ways: &[Way]) -> Result<(), AllocError>
-    ensures { OnOk result (points.new.items ≡ points.old.items ++ map (λ way. way.point) ways.now) }
+fn push_points(points: &mut Vec<usize>, ways: &[Out]) -> Result<(), AllocError>
+    ensures { OnOk result (points.new.items
+        ≡ points.old.items ++ map (λ w. w.point) (map (λ o. o.way) ways.now)) }
 {
-    for way in ways {
-        points.push(way.point)?;
+    for out in ways {
+        points.push(out.way.point)?;
     }
     Ok(())
 }
@@ -100,17 +101,24 @@ fn has_place(places: &[usize], place: usize) -> bool
     places.binary_search(&place).is_ok()
 }
 
-/// The places of the sections that a walk over points that are not cut leads to from the section at
-/// `start`. The sections that were found stand in a queue: the first one that came is the first
-/// whose ways are followed.
-fn reach(alloc: Global, ways: &Ways, cuts: &[usize], start: usize) -> Result<Vec<usize>, AllocError>
-    requires start { start < vec_len ways.now.around }
+/// The places of the sections, of `count`, that a walk over points that are not cut leads to from
+/// the section at `start`. The sections that were found stand in a queue: the first one that came is
+/// the first whose ways are followed.
+fn reach(
+    alloc: Global,
+    ways: &Ways,
+    count: usize,
+    cuts: &[usize],
+    start: usize,
+) -> Result<Vec<usize>, AllocError>
+    requires start { start < count }
+    requires starts { HasStarts count ways.now }
     requires cuts { IsStrictlyIncreasing cuts.now }
-    requires fit { (m : ℕ) × WaysFit (around_of ways.now) (vec_len ways.now.around) m }
-    ensures inside { IfOk result (λ found. All (λ i. i < vec_len ways.now.around) found.items) }
-    ensures finds { IfOk result (λ found. Finds (around_of ways.now) cuts.now start found.items) }
+    requires fit { (m : ℕ) × WaysFit (around_of ways.now) count m }
+    ensures inside { IfOk result (λ found. All (λ i. i < count) found.items) }
+    ensures finds { IfOk result (λ found.
+        Finds (around_of ways.now) count cuts.now start found.items) }
 {
-    let count = ways.around.len();
     let mut marked = vec![in alloc; false; count]?;
     let mut queue = Vec::with_capacity(alloc, count)?;
     marked[start] = true;
@@ -118,7 +126,7 @@ fn reach(alloc: Global, ways: &Ways, cuts: &[usize], start: usize) -> Result<Vec
     let mut head = 0;
     while head < queue.len() {
         let place = queue[head];
-        follow(&ways.around[place], cuts, &mut marked, &mut queue)?;
+        follow(ways.out_of(place), cuts, &mut marked, &mut queue)?;
         head += 1;
     }
     Ok(queue)
@@ -127,17 +135,18 @@ fn reach(alloc: Global, ways: &Ways, cuts: &[usize], start: usize) -> Result<Vec
 /// Marks the sections that ways over points that are not cut lead to, and puts those that were not
 /// marked before at the end of the queue.
 fn follow(
-    ways: &[Way],
+    ways: &[Out],
     cuts: &[usize],
     marked: &mut [bool],
     queue: &mut Vec<usize>,
 ) -> Result<(), AllocError>
     requires cuts { IsStrictlyIncreasing cuts.now }
-    requires fit { All (λ w. w.to < length marked.old) ways.now }
-    ensures { OnOk result
-        (Follows ways.now cuts.now marked.old queue.old.items marked.new queue.new.items) }
+    requires fit { All (λ o. o.way.to < length marked.old) ways.now }
+    ensures { OnOk result (Follows (map (λ o. o.way) ways.now) cuts.now
+        marked.old queue.old.items marked.new queue.new.items) }
 {
-    for way in ways {
+    for out in ways {
+        let way = out.way;
         if !has_place(cuts, way.point) && !marked[way.to] {
             marked[way.to] = true;
             queue.push(way.to)?;

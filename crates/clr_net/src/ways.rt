@@ -1,14 +1,15 @@
-//! The index of a network: the places of each point's ends, and the ways out of each section.
-ghost use Rattle.std.specs.Prelude.{◌≡◌, ◌<◌, ℕ, List, [], length, map, replicate, All, IfOk, OnOk};
-ghost use Rattle.std.specs.Prelude.{IfSome, IsTrue, is_some, vec_len};
+//! The index of a network: the places of each point's ends, and the ways out of all sections in one
+//! list, so that it is filled anew within the memory that it has.
+ghost use Rattle.std.specs.Prelude.{◌≡◌, ◌<◌, ℕ, length, map, IfOk, IfSome, IsTrue, OnOk, is_some};
 ghost use Rattle.std.specs.List.{list_all};
-ghost use Rattle.std.specs.List.Sorted.{IsStrictlySortedBy};
+ghost use Rattle.std.specs.List.Sorted.{IsNonDecreasingBy, IsStrictlySortedBy};
 ghost use Rattle.clr_net.specs.Name.{name_cmp};
 ghost use Rattle.clr_net.specs.Grid.{section_names, has_ends};
-ghost use Rattle.clr_net.specs.Ways.{IsIndexOf};
-ghost use Rattle.clr_net.specs.Index.{ends_in, AddsWay, AreBelow, IsAround};
+ghost use Rattle.clr_net.specs.Ways.{HasStarts, IsIndexOf};
+ghost use Rattle.clr_net.specs.Index.{ends_in, ways_in, out_at, AreStarts, IsAround};
 
 use crate::named::place_of;
+use crate::network::{MAX_POINTS, MAX_SECTIONS};
 use crate::point::PointRow;
 use crate::section::SectionRow;
 use std::alloc::{AllocError, Global};
@@ -18,6 +19,13 @@ use std::alloc::{AllocError, Global};
 pub struct Way {
     pub point: usize,
     pub to: usize,
+}
+
+/// A way, with the place of the section that it leads out of.
+#[derive(Clone, Copy, Debug, PartialEq, Eq)]
+pub struct Out {
+    pub from: usize,
+    pub way: Way,
 }
 
 /// The places of the sections at a point's ends.
@@ -43,94 +51,111 @@ fn ends_of(sections: &[SectionRow], point: &PointRow) -> Option<Ends>
     Some(Ends { from, to })
 }
 
-/// The places of each point's ends, unless one of them is no section.
-pub(crate) fn all_ends(
-    alloc: Global,
-    sections: &[SectionRow],
-    points: &[PointRow],
-) -> Result<Option<Vec<Ends>>, AllocError>
-    requires { IsStrictlySortedBy name_cmp (section_names sections.now) }
-    ensures ends { IfOk result (λ found. IfSome found (λ ends.
-        ends.items ≡ map (ends_in (section_names sections.now)) points.now)) }
-    ensures known { IfOk result (λ found. is_some found
-        ≡ list_all (has_ends (section_names sections.now)) points.now) }
-{
-    let mut ends = Vec::with_capacity(alloc, points.len())?;
-    for point in points {
-        match ends_of(sections, point) {
-            Some(found) => ends.push(found)?,
-            None => return Ok(None),
-        }
-    }
-    Ok(Some(ends))
-}
-
-/// The ways out of each of `count` sections.
-fn ways_around(alloc: Global, count: usize, ends: &[Ends]) -> Result<Vec<Vec<Way>>, AllocError>
-    requires { All (AreBelow count) ends.now }
-    ensures len { IfOk result (λ around. vec_len around ≡ count) }
-    ensures index { IfOk result (λ around.
-        IsAround ends.now (length ends.now) (map (λ ways. ways.items) around.items)) }
-{
-    let mut around = no_ways(alloc, count)?;
-    for (point, end) in ends.iter().enumerate() {
-        let forth = Way { point, to: end.to };
-        let back = Way {
-            point,
-            to: end.from,
-        };
-        add_way(&mut around, end.from, forth)?;
-        add_way(&mut around, end.to, back)?;
-    }
-    Ok(around)
-}
-
-/// No way out of any of `count` sections.
-fn no_ways(alloc: Global, count: usize) -> Result<Vec<Vec<Way>>, AllocError>
-    ensures len { IfOk result (λ around. vec_len around ≡ count) }
-    ensures none { IfOk result (λ around.
-        map (λ ways. ways.items) around.items ≡ replicate count []) }
-{
-    let mut around = Vec::with_capacity(alloc, count)?;
-    for _ in 0..count {
-        around.push(Vec::new(alloc))?;
-    }
-    Ok(around)
-}
-
-/// One way more out of the section at a place.
-fn add_way(around: &mut Vec<Vec<Way>>, place: usize, way: Way) -> Result<(), AllocError>
-    requires { place < vec_len around.old }
-    ensures len { vec_len around.new ≡ vec_len around.old }
-    ensures adds { OnOk result (AddsWay (map (λ ways. ways.items) around.old.items)
-        (map (λ ways. ways.items) around.new.items) place way) }
-{
-    let ways = &mut around[place];
-    ways.push(way)?;
-    Ok(())
-}
-
 /// The index of a network.
 #[derive(Debug, Drop)]
 pub struct Ways {
     /// The ends of each point, by the point's place.
     pub ends: Vec<Ends>,
-    /// The ways out of each section, by the section's place.
-    pub around: Vec<Vec<Way>>,
+    /// The ways out of all sections, in the order of the sections' places.
+    pub out: Vec<Out>,
+    /// Where those out of each section begin, by the section's place, and the end of the last ones.
+    pub starts: Vec<usize>,
 }
 
-/// The index of sections and points, each in the order of their names, with the places of the
-/// points' ends.
-pub(crate) fn index(
-    alloc: Global,
+impl Ways {
+    /// An index of nothing, with room for that of any network.
+    pub fn empty(alloc: Global) -> Result<Ways, AllocError> {
+        Ok(Ways {
+            ends: Vec::with_capacity(alloc, MAX_POINTS)?,
+            out: Vec::with_capacity(alloc, 2 * MAX_POINTS)?,
+            starts: Vec::with_capacity(alloc, MAX_SECTIONS + 1)?,
+        })
+    }
+
+    /// Fills the index anew, where all ends of these points are among these sections, and tells
+    /// whether they are. Sections and points stand in the order of their names.
+    pub fn fill(&mut self, sections: &[SectionRow], points: &[PointRow]) -> Result<bool, AllocError>
+        requires { IsStrictlySortedBy name_cmp (section_names sections.now) }
+        ensures known { IfOk result (λ known. known
+            ≡ list_all (has_ends (section_names sections.now)) points.now) }
+        ensures index { IfOk result (λ known. IsTrue known
+            → IsIndexOf (record { sections = sections.now; points = points.now }) self.new) }
+    {
+        if !fill_ends(&mut self.ends, sections, points)? {
+            return Ok(false);
+        }
+        fill_out(&mut self.out, &self.ends)?;
+        fill_starts(&mut self.starts, &self.out, sections.len())?;
+        Ok(true)
+    }
+
+    /// The ways out of the section at a place.
+    pub fn out_of(&self, place: usize) -> &[Out]
+        requires { (n : ℕ) × HasStarts n self.now × (place < n) }
+        ensures { result.now ≡ out_at self.now.out.items place }
+    {
+        let start = self.starts[place];
+        let end = self.starts[place + 1];
+        &self.out[start..end]
+    }
+}
+
+/// The places of each point's ends, where all ends are sections, and whether they are.
+fn fill_ends(
+    ends: &mut Vec<Ends>,
     sections: &[SectionRow],
     points: &[PointRow],
-    ends: Vec<Ends>,
-) -> Result<Ways, AllocError>
-    requires ends { ends.items ≡ map (ends_in (section_names sections.now)) points.now }
-    requires known { All (λ p. IsTrue (has_ends (section_names sections.now) p)) points.now }
-    ensures { IfOk result (IsIndexOf (record { sections = sections.now; points = points.now })) }
+) -> Result<bool, AllocError>
+    requires { IsStrictlySortedBy name_cmp (section_names sections.now) }
+    ensures known { IfOk result (λ known. known
+        ≡ list_all (has_ends (section_names sections.now)) points.now) }
+    ensures ends { IfOk result (λ known. IsTrue known
+        → ends.new.items ≡ map (ends_in (section_names sections.now)) points.now) }
 {
-    let around = ways_around(alloc, sections.len(), &ends)?;
-    Ok(Ways { ends, around })
+    ends.clear();
+    for point in points {
+        match ends_of(sections, point) {
+            Some(found) => ends.push(found)?,
+            None => return Ok(false),
+        }
+    }
+    Ok(true)
+}
+
+/// The ways over each point, in the order of the sections that they lead out of.
+fn fill_out(out: &mut Vec<Out>, ends: &[Ends]) -> Result<(), AllocError>
+    ensures around { OnOk result
+        (IsAround ends.now (length ends.now) (ways_in out.new.items)) }
+    ensures rising { OnOk result (IsNonDecreasingBy (λ o. o.from) out.new.items) }
+{
+    out.clear();
+    for (point, end) in ends.iter().enumerate() {
+        out.push(way_out(point, end.from, end.to))?;
+        out.push(way_out(point, end.to, end.from))?;
+    }
+    out.sort_unstable_by_key(|out| out.from);
+    Ok(())
+}
+
+/// The way over a point from one section to another.
+fn way_out(point: usize, from: usize, to: usize) -> Out
+    ensures { result ≡ record { from = from; way = record { point = point; to = to } } }
+{
+    Out {
+        from,
+        way: Way { point, to },
+    }
+}
+
+/// Where the ways out of each of `count` sections begin, and the end of the last ones.
+fn fill_starts(starts: &mut Vec<usize>, out: &[Out], count: usize) -> Result<(), AllocError>
+    requires { IsNonDecreasingBy (λ o. o.from) out.now }
+    ensures { OnOk result (AreStarts count out.now starts.new.items) }
+{
+    starts.clear();
+    for place in 0..=count {
+        let start = out.partition_point(|out| out.from < place);
+        starts.push(start)?;
+    }
+    Ok(())
 }

@@ -1,4 +1,4 @@
-use Rattle.std.proofs.Common.{◌≡◌, ◌∙◌, ◌<◌, ap, arith, length, sym, vec_len}
+use Rattle.std.proofs.Common.{◌≡◌, ◌∙◌, ◌<◌, ap, length, sym}
 use Rattle.std.specs.Prelude.{is_some}
 use Rattle.clr_net.specs.Grid.{Grid, section_names}
 use Rattle.clr_net.specs.Name.{same_name}
@@ -13,21 +13,18 @@ returns-in_default-clause-fence c i inside =
     let unknown = sym (is_some-position (same_name c.args.work) (section_names c.args.sections.now)) ∙ ap is_some (sym c.place_of.ensures ∙ c.in_default.is) in
     rw c.new.ensures.items (sym (no_fence g c.args.work c.args.cut.now _ unknown))
 
+pub reach-requires-clause-starts : goal.reach-requires-clause-starts
+reach-requires-clause-starts c = c.requires.index.starts
+
 pub reach-requires-clause-fit : goal.reach-requires-clause-fit
 reach-requires-clause-fit c =
-    let g : Grid = record { sections = c.args.sections.now; points = c.args.points.now } in (
-      length c.args.points.now,
-      λ i w there.
-          let (point, to) = index_fits g c.requires.network c.args.ways.now c.requires.index i w there in
-          (point, omega (arith, c.args.ways.now.around.ok)),
-    )
+    let g : Grid = record { sections = c.args.sections.now; points = c.args.points.now } in
+    (length c.args.points.now, index_fits g c.requires.network c.args.ways.now c.requires.index)
 
 pub returns-clause-inside : goal.returns-clause-inside
 returns-clause-inside c =
     all_from_has (λ i. i < length c.args.sections.now) c.in_order.result.items (λ i there.
-    let below = has_all (λ i. i < vec_len c.args.ways.now.around) c.in_ok-found.found.items i c.in_ok-found.ensures.inside (sym (c.in_order.ensures.same i) ∙ there) in
-    let count = c.requires.index.count in
-    omega (arith, c.args.ways.now.around.ok))
+    has_all (λ i. i < length c.args.sections.now) c.in_ok-found.found.items i c.in_ok-found.ensures.inside (sym (c.in_order.ensures.same i) ∙ there))
 
 pub returns-clause-fence : goal.returns-clause-fence
 returns-clause-fence c i inside =

@@ -1,31 +1,20 @@
 use Rattle.std.proofs.Common.{◌≡◌, ◌∙◌, None, sym, inl, inr, true}
-use Rattle.std.proofs.lemmas.List.Sorted.{All-permutation}
 use Rattle.std.proofs.lemmas.List.Sums.{list_all-from_AllPass}
 use Rattle.std.proofs.lemmas.Result.{err_from_is_err_and}
 use Rattle.std.specs.List.Sorted.{IsPermutation}
-use Rattle.std.specs.Prelude.{IsTrue}
 use Rattle.clr_net.specs.Grid.{IsNetwork, has_ends, section_names}
-use Rattle.clr_net.specs.declared.point.PointRow.{PointRow}
 use Rattle.clr_net.proofs.BuildFacts.{end_fault-IsPermutation, first_fault_is, names_permuted, network_from}
 use Rattle.clr_net.proofs.Places.{list_all-permuted}
 use Rattle.clr_net.proofs.network.Network.build.Goals as goal
+use Rattle.clr_net.proofs.network.Network.build.Goals.{In_ok-check_ends}
 
 pub check_ends-requires-clause-all : goal.check_ends-requires-clause-all
 check_ends-requires-clause-all c =
     let names = section_names c.in_ok-ordered.ordered.items in
     let moved = rw c.deref-4.ensures.value at c.in_ok-ordered_points.ensures.permutation in
     rw (c.deref-11.ensures.value, c.deref-12.ensures.value)
-    (c.is_some.ensures ∙ (rw (c.deref-9.ensures.value, c.deref-10.ensures.value) at c.in_ok-ends.ensures.known)
+    ((rw (c.deref-9.ensures.value, c.deref-10.ensures.value) at c.in_ok-all_known.ensures.known)
     ∙ sym (list_all-permuted (has_ends names) c.args.points.items c.in_ok-ordered_points.ordered_points.items moved))
-
-pub unwrap-requires : goal.unwrap-requires
-unwrap-requires c =
-    let names = section_names c.in_ok-ordered.ordered.items in
-    let moved = rw c.deref-4.ensures.value at c.in_ok-ordered_points.ensures.permutation in
-    (rw (c.deref-9.ensures.value, c.deref-10.ensures.value) at c.in_ok-ends.ensures.known)
-    ∙ sym (list_all-permuted (has_ends names) c.args.points.items c.in_ok-ordered_points.ordered_points.items moved)
-    ∙ list_all-from_AllPass (has_ends names) c.args.points.items
-    (rw (c.deref-11.ensures.value, c.deref-12.ensures.value) at c.in_ok-check_ends.ensures.known)
 
 pub returns-in_err-check_ends : goal.returns-in_err-check_ends
 returns-in_err-check_ends c =
@@ -39,15 +28,17 @@ returns-in_err-check_ends c =
           (sym (end_fault-IsPermutation _ _ moved c.args.points.items None) ∙ rw (c.deref-11.ensures.value, c.deref-12.ensures.value) at (found None)))
     ])
 
-pub index-requires-clause-known : goal.index-requires-clause-known
-index-requires-clause-known c =
+-- all ends are known, so the index was filled
+all_known : (c : In_ok-check_ends) → c.in_ok-all_known.all_known ≡ true
+all_known c =
     let names = section_names c.in_ok-ordered.ordered.items in
-    rw (c.deref-13.ensures.value, c.deref-14.ensures.value)
-    (All-permutation (λ (p : PointRow). IsTrue (has_ends names p)) c.args.points.items c.in_ok-ordered_points.ordered_points.items
-    (rw c.deref-4.ensures.value at c.in_ok-ordered_points.ensures.permutation)
-    (rw (c.deref-11.ensures.value, c.deref-12.ensures.value) at c.in_ok-check_ends.ensures.known))
+    let moved = rw c.deref-4.ensures.value at c.in_ok-ordered_points.ensures.permutation in
+    (rw (c.deref-9.ensures.value, c.deref-10.ensures.value) at c.in_ok-all_known.ensures.known)
+    ∙ sym (list_all-permuted (has_ends names) c.args.points.items c.in_ok-ordered_points.ordered_points.items moved)
+    ∙ list_all-from_AllPass (has_ends names) c.args.points.items
+    (rw (c.deref-11.ensures.value, c.deref-12.ensures.value) at c.in_ok-check_ends.ensures.known)
 
-network_is : (c : goal.In_ok-ways) → IsNetwork (record { sections = c.in_ok-ordered.ordered.items; points = c.in_ok-ordered_points.ordered_points.items })
+network_is : (c : In_ok-check_ends) → IsNetwork (record { sections = c.in_ok-ordered.ordered.items; points = c.in_ok-ordered_points.ordered_points.items })
 network_is c = network_from c.args.sections.items c.in_ok-ordered.ordered.items c.args.points.items c.in_ok-ordered_points.ordered_points.items
     (rw c.deref-3.ensures.value at c.in_ok-ordered.ensures.permutation) (rw c.deref-4.ensures.value at c.in_ok-ordered_points.ensures.permutation)
     (rw c.deref.ensures.value at c.in_ok-check_size.ensures.some)
@@ -59,7 +50,8 @@ network_is c = network_from c.args.sections.items c.in_ok-ordered.ordered.items 
     (rw c.deref-12.ensures.value at c.in_ok-check_ends.ensures.differ)
 
 pub invariant_of-result : goal.invariant_of-result
-invariant_of-result c = (network_is c, rw (c.deref-13.ensures.value, c.deref-14.ensures.value) at c.in_ok-ways.ensures)
+invariant_of-result c = let d = (goal.at.invariant_of-result c).In_ok-check_ends in
+    (network_is d, rw (c.deref-9.ensures.value, c.deref-10.ensures.value) at (c.in_ok-all_known.ensures.index (all_known d)))
 
 pub returns : goal.returns
 returns c =
@@ -73,14 +65,6 @@ returns c =
       record {
         all_sections = sections_moved;
         all_points = points_moved;
-        network = network_from c.args.sections.items c.in_ok-ordered.ordered.items c.args.points.items c.in_ok-ordered_points.ordered_points.items
-            (rw c.deref-3.ensures.value at c.in_ok-ordered.ensures.permutation) (rw c.deref-4.ensures.value at c.in_ok-ordered_points.ensures.permutation)
-            (rw c.deref.ensures.value at c.in_ok-check_size.ensures.some)
-            (rw c.deref.ensures.value at c.in_ok-check_size.ensures.sections_fit)
-            (rw c.deref-2.ensures.value at c.in_ok-check_size.ensures.points_fit)
-            ((rw c.deref-3.ensures.value at c.in_ok-ordered.ensures.rising) (rw c.deref-5.ensures.value at c.in_ok-check_names.ensures.sections_once))
-            ((rw c.deref-4.ensures.value at c.in_ok-ordered_points.ensures.rising) (rw c.deref-7.ensures.value at c.in_ok-check_names.ensures.points_once))
-            (rw (c.deref-11.ensures.value, c.deref-12.ensures.value) at c.in_ok-check_ends.ensures.known)
-            (rw c.deref-12.ensures.value at c.in_ok-check_ends.ensures.differ);
+        network = network_is (goal.at.returns c).In_ok-check_ends;
       },
     )

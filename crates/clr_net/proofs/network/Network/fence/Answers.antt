@@ -1,4 +1,4 @@
-use Rattle.std.proofs.Common.{◌≡◌, ◌∙◌, ◌||◌, ap}
+use Rattle.std.proofs.Common.{◌≡◌, ◌∙◌, ◌||◌, ap, length}
 use Rattle.std.specs.Prelude.{slice_get}
 use Rattle.std.specs.List.{filter_map}
 use Rattle.clr_net.specs.Grid.{Grid, IsNetwork}
@@ -22,6 +22,10 @@ picked c =
     picked_fence g net c.self.inside.ways index c.args.work.now c.args.cut.now c.in_ok-inside.inside.items c.in_ok-beside.beside.items
     c.in_ok-inside.ensures.rising (rw (c.deref.ensures.value, c.deref-2.ensures.value) at c.in_ok-inside.ensures.fence) (rw c.deref.ensures.value at c.in_ok-inside.ensures.inside)
     c.in_ok-beside.ensures.rising (rw c.deref-3.ensures.value at c.in_ok-beside.ensures.same)
+
+pub places_beside-requires : goal.places_beside-requires
+places_beside-requires c =
+    (length c.self.inside.sections.items, c.self.invariant.1.starts, rw (c.deref.ensures.value, ← c.deref-3.ensures.value) at c.in_ok-inside.ensures.inside)
 
 pub of_rows-requires-clause-sections_rise : goal.of_rows-requires-clause-sections_rise
 of_rows-requires-clause-sections_rise c =
