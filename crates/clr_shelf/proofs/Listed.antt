@@ -1,8 +1,8 @@
 -- A list in blocks: what is read, put, taken or written at a place of the block in which it is.
 use Rattle.std.proofs.Common.{◌≡◌, ℕ, ◌+◌, ◌-◌, ◌*◌, ◌/◌, ◌<◌, ◌≤◌, List, [], length, get_or, set}
-use Rattle.std.proofs.Common.{take}
+use Rattle.std.proofs.Common.{take, zero, suc}
 use Rattle.std.proofs.Common.{vec_len, inl, inr, sym, ◌∙◌, ap, subst, arith}
-use Rattle.std.proofs.lemmas.Bool.{cases_eq}
+use Rattle.std.proofs.lemmas.Bool.{cases_eq, cases_lt}
 use Rattle.std.specs.List.{insert, remove}
 use Rattle.std.proofs.lemmas.List.{get_or_read, length-set}
 use Rattle.std.proofs.lemmas.List.Concat.{get_or-flat_map}
@@ -17,11 +17,17 @@ use Rattle.clr_shelf.proofs.Parts.{parts-edit, part_read, length-parts, joined-i
 use Rattle.clr_shelf.proofs.Parts.{joined-remove}
 use Rattle.clr_shelf.proofs.Parts.{joined-set, size-set_same, size-set_other, parts-set}
 use Rattle.clr_shelf.proofs.Spread.{crowded, thinned}
-use Rattle.clr_shelf.proofs.Starts.{same_starts, last_is_spare, some_there, counted_more}
-use Rattle.clr_shelf.proofs.Starts.{counted_le, counted_last}
+use Rattle.clr_shelf.proofs.Starts.{kept_starts, kept_begin, last_is_spare, counted_more}
+use Rattle.clr_shelf.proofs.Starts.{counted_le, counted_all}
+
+-- what stands before a block that has items, or before the first
+block_begins : {T : Type 0} (list : Blocks T) (k : ℕ) → (0 < k → k < list.used)
+    → get_or list.starts.items k 0 ≡ length (joined (take k (parts_of list.blocks.items)))
+block_begins list zero here = list.begun.first
+block_begins list (suc k) here = list.begun.counts (suc k) (here (omega arith))
 
 module _ {T : Type 0} (list : Blocks T) (k place start : ℕ) (block : Block T)
-    (within : k < vec_len list.blocks) (read : block ≡ get_or list.blocks.items k block)
+    (within : k < vec_len list.blocks) (here : 0 < k → k < list.used) (read : block ≡ get_or list.blocks.items k block)
     (begins : start ≡ get_or list.starts.items k start)
     (from : get_or list.starts.items k 0 ≤ place) where
   near : k < length list.blocks.items
@@ -35,7 +41,7 @@ module _ {T : Type 0} (list : Blocks T) (k place start : ℕ) (block : Block T)
       (omega (arith, near_part, list.begun.each_has)) begins 0
 
   counted : start ≡ length (joined (take k (parts_of list.blocks.items)))
-  counted = begins_at ∙ list.begun.counts k near_part
+  counted = begins_at ∙ block_begins list k here
 
   whole : length (joined (take k (parts_of list.blocks.items))) + (place - start) ≡ place
   whole = omega (arith, from, begins_at, counted)
@@ -70,15 +76,15 @@ module _ {T : Type 0} (list : Blocks T) (k place start : ℕ) (block : Block T)
         ∙ joined-insert parts k (place - start) x near_part (omega (arith, to, from, begins_at))
         ∙ ap (λ n. insert (joined parts) n x) whole
 
-    pub put_crowds : (0 < k → 0 < size_at (parts_of list.blocks.items) k)
-        → IsCrowded SIZE k (size_at (parts_of (set list.blocks.items k after)))
-    put_crowds some =
+    pub put_crowds : IsCrowded SIZE k (size_at (parts_of (set list.blocks.items k after)))
+    put_crowds =
         let parts = parts_of list.blocks.items in
         let more : length after.items.items ≡ size_at parts k + 1 =
         ap length is ∙ length-insert block.items.items (place - start) x
         (omega (arith, to, from, begins_at, size)) ∙ ap (λ n. n + 1) (sym size) in
         rw (parts-set list.blocks.items k after)
-        (crowded SIZE (size_at parts) (size_at (set parts k after.items.items)) k list.spread some
+        (crowded SIZE (size_at parts) (size_at (set parts k after.items.items)) k list.spread
+        (λ later. list.begun.some k (here later))
         (size-set_same parts k after.items.items near_part ∙ more)
         (λ j other. size-set_other parts k after.items.items j other))
 
@@ -138,11 +144,16 @@ module _ {T : Type 0} (list : Blocks T) (k place start : ℕ) (block : Block T)
     write_spreads = subst (λ (sizes : ℕ → ℕ). IsSpread SIZE sizes) (λ i j. write_sizes j i)
         list.spread
 
-    pub write_begins : HasStarts list.starts.items (parts_of (set list.blocks.items k after))
-    write_begins = same_starts list.starts.items (parts_of list.blocks.items)
-        (parts_of (set list.blocks.items k after)) list.begun
+    pub write_begins : HasStarts list.used list.starts.items
+        (parts_of (set list.blocks.items k after))
+    write_begins = kept_starts list.used list.used list.starts.items
+        (parts_of list.blocks.items) (parts_of (set list.blocks.items k after)) list.begun
         (length-parts list.blocks.items ∙ sym (length-set list.blocks.items k after)
-        ∙ sym (length-parts (set list.blocks.items k after))) write_sizes
+        ∙ sym (length-parts (set list.blocks.items k after))) (λ j sooner. write_sizes j)
+        (omega arith)
+
+    pub write_ends : size_at (parts_of (set list.blocks.items k after)) list.used ≡ 0
+    write_ends = sym (write_sizes list.used) ∙ list.ended
 
 -- where there is room, the last block has nothing
 pub spare_last : {T : Type 0} (list : Blocks T) → list.total < vec_len list.blocks / 2 * SIZE
@@ -156,49 +167,89 @@ spare_last list room =
     subst (λ n. size_at (parts_of list.blocks.items) (n - 1) ≡ 0) long
     (last_is_spare SIZE (parts_of list.blocks.items) list.spread fits)
 
-module _ {T : Type 0} (list : Blocks T) (k : ℕ) (within : k < vec_len list.blocks) where
+-- after an edit of a block, and a balance that kept the sizes of the blocks before its neighbours,
+-- the starts of those are right
+module _ {T : Type 0} (list : Blocks T) (k : ℕ) (here : 0 < k → k < list.used) (edited : Block T)
+    (settled : List (Block T)) (long : length settled ≡ length list.blocks.items)
+    (before : (j : ℕ) → j + 1 < k → size_at (parts_of settled) j
+    ≡ size_at (parts_of (set list.blocks.items k edited)) j) where
+  kept_long : length (parts_of list.blocks.items) ≡ length (parts_of settled)
+  kept_long = length-parts list.blocks.items ∙ sym long ∙ sym (length-parts settled)
+
+  kept_sizes : (j : ℕ) → j < k - 1 → size_at (parts_of list.blocks.items) j
+      ≡ size_at (parts_of settled) j
+  kept_sizes j sooner = sym (before j (omega arith)
+      ∙ ap (λ (parts : List (List T)). size_at parts j) (parts-set list.blocks.items k edited)
+      ∙ size-set_other (parts_of list.blocks.items) k edited.items.items j (omega arith))
+
+  kept_used : 0 < k - 1 → k - 1 < list.used
+  kept_used later = omega (arith, here (omega arith))
+
+  pub kept_begun : HasStarts (k - 1) list.starts.items (parts_of settled)
+  kept_begun = kept_starts list.used (k - 1) list.starts.items (parts_of list.blocks.items)
+      (parts_of settled) list.begun kept_long kept_sizes
+      (elim (cases_lt 0 k) [
+        | inl later ↦ omega (arith, here later)
+        | inr first ↦ omega arith
+      ])
+
+  pub kept_begins : get_or list.starts.items (k - 1) 0
+      ≡ length (joined (take (k - 1) (parts_of settled)))
+  kept_begins = kept_begin list.used (k - 1) list.starts.items (parts_of list.blocks.items)
+      (parts_of settled) list.begun kept_long kept_sizes kept_used
+
+module _ {T : Type 0} (list : Blocks T) (k : ℕ) (within : k < list.used) where
   in_parts : k < length (parts_of list.blocks.items)
-  in_parts = omega (arith, within, list.blocks.ok.0, length-parts list.blocks.items)
+  in_parts = omega (arith, within, list.begun.within)
 
-  -- a block that begins before the end of the list has some items
-  pub block_has : get_or list.starts.items k 0 < length (items_of list)
-      → 0 < size_at (parts_of list.blocks.items) k
-  block_has sooner = some_there SIZE (parts_of list.blocks.items) list.spread k
-      (omega (arith, sooner, list.begun.counts k in_parts))
-
-  pub first_begins : k ≡ 0 → get_or list.starts.items k 0 ≡ 0
-  first_begins first = list.begun.counts k in_parts
-      ∙ ap (λ n. length (joined (take n (parts_of list.blocks.items)))) first
+  pub in_blocks : k < vec_len list.blocks
+  in_blocks = omega (arith, in_parts, list.blocks.ok.0, length-parts list.blocks.items)
 
   -- a block ends where the next begins, or where the list ends
-  pub next_begins : k + 1 < vec_len list.blocks → get_or list.starts.items k 0
+  pub next_begins : k + 1 < list.used → get_or list.starts.items k 0
       + size_at (parts_of list.blocks.items) k ≡ get_or list.starts.items (k + 1) 0
-  next_begins more =
-      let next : k + 1 < length (parts_of list.blocks.items) =
-      omega (arith, more, list.blocks.ok.0, length-parts list.blocks.items) in
-      omega (
-        arith,
-        list.begun.counts k in_parts,
-        list.begun.counts (k + 1) next,
-        counted_more (parts_of list.blocks.items) k in_parts,
-      )
+  next_begins more = omega (
+    arith,
+    list.begun.counts k within,
+    list.begun.counts (k + 1) more,
+    counted_more (parts_of list.blocks.items) k in_parts,
+  )
 
-  pub last_ends : k + 1 ≡ vec_len list.blocks → get_or list.starts.items k 0
+  pub last_ends : k + 1 ≡ list.used → get_or list.starts.items k 0
       + size_at (parts_of list.blocks.items) k ≡ length (items_of list)
   last_ends last =
-      let end : k + 1 ≡ length (parts_of list.blocks.items) =
-      omega (arith, last, list.blocks.ok.0, length-parts list.blocks.items) in
+      let none : size_at (parts_of list.blocks.items) (k + 1) ≡ 0 =
+      subst (λ n. size_at (parts_of list.blocks.items) n ≡ 0) (sym last) list.ended in
       omega (
         arith,
-        list.begun.counts k in_parts,
-        counted_last (parts_of list.blocks.items) k end,
+        list.begun.counts k within,
+        counted_more (parts_of list.blocks.items) k in_parts,
+        counted_all SIZE (parts_of list.blocks.items) list.spread (k + 1) none,
       )
 
   pub block_ends : get_or list.starts.items k 0 + size_at (parts_of list.blocks.items) k
       ≤ length (items_of list)
   block_ends = omega (
     arith,
-    list.begun.counts k in_parts,
+    list.begun.counts k within,
     counted_more (parts_of list.blocks.items) k in_parts,
     counted_le (parts_of list.blocks.items) (k + 1),
   )
+
+  pub block_inside : get_or list.starts.items k 0 < length (items_of list)
+  block_inside = omega (arith, block_ends, list.begun.some k within)
+
+pub first_begins : {T : Type 0} (list : Blocks T) (k : ℕ) → k ≡ 0
+    → get_or list.starts.items k 0 ≡ 0
+first_begins list k is = ap (λ n. get_or list.starts.items n 0) is ∙ list.begun.first
+
+-- a list that has items has them in blocks
+pub some_used : {T : Type 0} (list : Blocks T) → 0 < length (items_of list) → 0 < list.used
+some_used list some = elim (cases_lt 0 list.used) [
+  | inl used ↦ used
+  | inr unused ↦
+      let none : size_at (parts_of list.blocks.items) 0 ≡ 0 =
+      subst (λ n. size_at (parts_of list.blocks.items) n ≡ 0) (omega arith) list.ended in
+      let all = counted_all SIZE (parts_of list.blocks.items) list.spread 0 none in
+      absurd (omega (arith, all, some))
+]

@@ -119,11 +119,10 @@ module _ (size : ℕ) (old new : ℕ → ℕ) where
         );
       }
 
-  -- the last item of a part with too many was moved to the next, where the one before is full
-  pub moved_right : (at : ℕ) → IsCrowded size at old → old at ≡ size + 1
-      → ((k : ℕ) → k + 1 ≡ at → size ≤ old k) → old (at + 1) < size → IsMove at (at + 1) old new
-      → IsSpread size new
-  moved_right at crowded full before room move =
+  -- the last item of a part with too many was moved to the next
+  pub moved_right : (at : ℕ) → IsCrowded size at old → old at ≡ size + 1 → old (at + 1) < size
+      → IsMove at (at + 1) old new → IsSpread size new
+  moved_right at crowded full room move =
       let given = carry (λ n. new n + 1 ≡ old n) at move.given in
       let taken = carry (λ n. new n ≡ old n + 1) (at + 1) move.taken in
       let full_at = carry (λ n. old n ≡ size + 1) at full in
@@ -142,7 +141,7 @@ module _ (size : ℕ) (old new : ℕ → ℕ) where
           arith,
           has,
           crowded.filled k,
-          before k,
+          crowded.before k,
           full_at k,
           full_at (k + 1),
           given k,

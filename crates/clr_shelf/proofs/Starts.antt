@@ -2,9 +2,12 @@
 use Rattle.std.proofs.Common.{◌≡◌, ℕ, zero, suc, ◌+◌, ◌-◌, ◌*◌, ◌/◌, ◌<◌, ◌≤◌, List, [], ◌∷◌, ◌++◌}
 use Rattle.std.proofs.Common.{length, get_or, set, take, refl, sym, ap, ◌∙◌, subst, arith}
 use Rattle.std.proofs.Common.{inl, inr, get_or-set_same, get_or-set_other, below_more}
-use Rattle.std.proofs.lemmas.List.{length-append, length-set, take_all}
+use Rattle.std.proofs.Common.{replicate}
+use Rattle.std.proofs.lemmas.List.{length-append, length-set, length-replicate}
+use Rattle.std.proofs.lemmas.List.{get_or_append_left, take-append-le}
 use Rattle.std.proofs.lemmas.Bool.{cases_lt}
 use Rattle.clr_shelf.specs.Blocks.{joined, size_at, IsSpread, HasStarts}
+use Rattle.clr_shelf.proofs.Parts.{size-spares}
 
 -- with a part, each before it has some
 some_before : (size : ℕ) (sizes : ℕ → ℕ) → IsSpread size sizes → (n k : ℕ) → 0 < sizes (n + k)
@@ -15,6 +18,19 @@ some_before size sizes spread (suc n) k has =
     let here : 0 < sizes (n + k + 1) = subst (λ m. 0 < sizes m) next has in
     some_before size sizes spread n k
     (omega (arith, here, spread.filled (n + k) here, spread.fits (n + k + 1)))
+
+-- what stands before the first part is none, also where the count begins anew
+first_kept : (k begin : ℕ) (starts : List ℕ) → get_or starts 0 0 ≡ 0 → k < length starts
+    → (k ≡ 0 → begin ≡ 0) → get_or (set starts k begin) 0 0 ≡ 0
+first_kept zero begin starts first within is = get_or-set_same starts 0 begin 0 within ∙ is refl
+first_kept (suc k) begin starts first within is =
+    get_or-set_other starts (suc k) 0 begin 0 (omega arith) ∙ first
+
+first_more : (starts : List ℕ) (n : ℕ) → get_or starts 0 0 ≡ 0
+    → get_or (starts ++ replicate n 0) 0 0 ≡ 0
+first_more [] zero first = refl
+first_more [] (suc n) first = refl
+first_more (start ∷ starts) n first = first
 
 module _ {X : Type 0} where
   more_at : (parts : List (List X)) (k : ℕ) → k < length parts
@@ -81,38 +97,82 @@ module _ {X : Type 0} where
         length-append part (joined rest),
       ))
 
-  -- the items up to the end of a part are those before the next one, or all
-  pub counted_last : (parts : List (List X)) (k : ℕ) → k + 1 ≡ length parts
-      → length (joined (take k parts)) + size_at parts k ≡ length (joined parts)
-  counted_last parts k last =
-      sym (counted_more parts k (omega arith))
-      ∙ ap (λ n. length (joined (take n parts))) last
-      ∙ ap (λ (xs : List (List X)). length (joined xs))
-      (take_all (length parts) parts (omega arith))
+  -- all items are in the parts before an empty one
+  pub counted_all : (size : ℕ) (parts : List (List X)) → IsSpread size (size_at parts) → (k : ℕ)
+      → size_at parts k ≡ 0 → length (joined (take k parts)) ≡ length (joined parts)
+  counted_all size parts spread k none =
+      elim (cases_lt (length (joined (take k parts))) (length (joined parts))) [
+        | inl more ↦ absurd (omega (arith, none, some_there size parts spread k more))
+        | inr all ↦ omega (arith, all, counted_le parts k)
+      ]
 
-  -- parts of the same sizes have the same starts
-  same_counts : (parts others : List (List X)) → ((k : ℕ) → size_at parts k ≡ size_at others k)
-      → length parts ≡ length others → (k : ℕ)
+  -- parts of the same sizes have as many items
+  same_counts : (parts others : List (List X)) (k : ℕ)
+      → ((j : ℕ) → j < k → size_at parts j ≡ size_at others j)
+      → k ≤ length parts → k ≤ length others
       → length (joined (take k parts)) ≡ length (joined (take k others))
-  same_counts [] [] same long k = refl
-  same_counts [] (other ∷ others) same long k = absurd (omega arith)
-  same_counts (part ∷ parts) [] same long k = absurd (omega arith)
-  same_counts (part ∷ parts) (other ∷ others) same long zero = refl
-  same_counts (part ∷ parts) (other ∷ others) same long (suc k) =
+  same_counts parts others zero same within there = refl
+  same_counts [] others (suc k) same within there = absurd (omega arith)
+  same_counts (part ∷ parts) [] (suc k) same within there = absurd (omega arith)
+  same_counts (part ∷ parts) (other ∷ others) (suc k) same within there =
       omega (
         arith,
         length-append part (joined (take k parts)),
         length-append other (joined (take k others)),
-        same 0,
-        same_counts parts others (λ j. same (suc j)) (omega arith) k,
+        same 0 (omega arith),
+        same_counts parts others k (λ j sooner. same (suc j) (omega arith)) (omega arith)
+            (omega arith),
       )
 
-  pub same_starts : (starts : List ℕ) (parts others : List (List X)) → HasStarts starts parts
-      → length parts ≡ length others → ((k : ℕ) → size_at parts k ≡ size_at others k)
-      → HasStarts starts others
-  same_starts starts parts others begun long same = record {
-    each_has = begun.each_has ∙ long;
-    counts = λ k within. begun.counts k (omega arith) ∙ same_counts parts others same long k;
+  module _ (used from : ℕ) (starts : List ℕ) (parts others : List (List X))
+      (begun : HasStarts used starts parts) (long : length parts ≡ length others)
+      (same : (j : ℕ) → j < from → size_at parts j ≡ size_at others j) where
+    -- the first parts keep their starts where they keep their sizes
+    pub kept_starts : from ≤ used → HasStarts from starts others
+    kept_starts sooner = record {
+      each_has = begun.each_has ∙ long;
+      within = omega (arith, begun.within, long, sooner);
+      first = begun.first;
+      some = λ k before. subst (λ n. 0 < n) (same k before)
+          (begun.some k (omega (arith, before, sooner)));
+      counts = λ k before. begun.counts k (omega (arith, before, sooner))
+          ∙ same_counts parts others k (λ j less. same j (omega arith))
+          (omega (arith, begun.within)) (omega (arith, begun.within, long));
+    }
+
+  -- and so does the one after them
+  pub kept_begin : (used from : ℕ) (starts : List ℕ) (parts others : List (List X))
+      → HasStarts used starts parts → length parts ≡ length others
+      → ((j : ℕ) → j < from → size_at parts j ≡ size_at others j) → (0 < from → from < used)
+      → get_or starts from 0 ≡ length (joined (take from others))
+  kept_begin used zero starts parts others begun long same here = begun.first
+  kept_begin used (suc from) starts parts others begun long same here =
+      let sooner : suc from < used = here (omega arith) in
+      begun.counts (suc from) sooner ∙ same_counts parts others (suc from) same
+      (omega (arith, begun.within)) (omega (arith, begun.within, long))
+
+  -- empty parts at the end change no starts
+  pub more_starts : (used n : ℕ) (starts : List ℕ) (parts : List (List X))
+      → HasStarts used starts parts
+      → HasStarts used (starts ++ replicate n 0) (parts ++ replicate n [])
+  more_starts used n starts parts begun = record {
+    each_has = omega (
+      arith,
+      length-append starts (replicate n 0),
+      length-append parts (replicate n []),
+      length-replicate {A = List X} n [],
+      length-replicate {A = ℕ} n 0,
+      begun.each_has,
+    );
+    within = omega (arith, begun.within, length-append parts (replicate n []));
+    first = first_more starts n begun.first;
+    some = λ k before. rw (size-spares parts n k) (begun.some k before);
+    counts = λ k before.
+        let here : k < length starts = omega (arith, before, begun.within, begun.each_has) in
+        let there : k ≤ length parts = omega (arith, before, begun.within) in
+        get_or_append_left starts (replicate n 0) 0 k here ∙ begun.counts k before
+        ∙ sym (ap (λ (xs : List (List X)). length (joined xs))
+        (take-append-le k parts (replicate n []) there));
   }
 
   -- ---- where there is room, the last part has nothing
@@ -163,33 +223,28 @@ module _ {X : Type 0} where
 
   -- ---- the loop that counts
 
-  pub record IsCounted (total k : ℕ) (starts : List ℕ) (parts : List (List X)) : Type 0 where
-    pub sum : total ≡ length (joined (take k parts))
-    pub each_has : length starts ≡ length parts
-    pub counts : (j : ℕ) → j < k → get_or starts j 0 ≡ length (joined (take j parts))
+  pub record IsCounted (begin used : ℕ) (starts : List ℕ) (parts : List (List X)) : Type 0 where
+    pub sum : begin ≡ length (joined (take used parts))
+    pub begun : HasStarts used starts parts
 
-  pub counted_none : (starts : List ℕ) (parts : List (List X)) → length starts ≡ length parts
-      → IsCounted 0 0 starts parts
-  counted_none starts parts long = record {
-    sum = refl;
-    each_has = long;
-    counts = λ j none. absurd (omega arith);
-  }
-
-  pub counted_step : (total k n : ℕ) (starts : List ℕ) (parts : List (List X))
-      → IsCounted total k starts parts → k < length parts → n ≡ size_at parts k
-      → IsCounted (total + n) (k + 1) (set starts k total) parts
-  counted_step total k n starts parts counted within is = record {
-    sum = omega (arith, counted.sum, counted_more parts k within);
-    each_has = length-set starts k total ∙ counted.each_has;
-    counts = below_more (λ j. get_or (set starts k total) j 0 ≡ length (joined (take j parts))) k
-        (λ j sooner. get_or-set_other starts k j total 0 (omega arith) ∙ counted.counts j sooner)
-        (get_or-set_same starts k total 0 (omega (arith, counted.each_has)) ∙ counted.sum);
-  }
-
-  pub counted_end : (total k : ℕ) (starts : List ℕ) (parts : List (List X))
-      → IsCounted total k starts parts → length parts ≤ k → HasStarts starts parts
-  counted_end total k starts parts counted all = record {
-    each_has = counted.each_has;
-    counts = λ j within. counted.counts j (omega arith);
-  }
+  pub counted_step : (begin k n : ℕ) (starts : List ℕ) (parts : List (List X))
+      → IsCounted begin k starts parts → k < length parts → n ≡ size_at parts k → 0 < n
+      → IsCounted (begin + n) (k + 1) (set starts k begin) parts
+  counted_step begin k n starts parts counted within is has =
+      let there : k < length starts = omega (arith, within, counted.begun.each_has) in
+      record {
+        sum = omega (arith, is, counted.sum, counted_more parts k within);
+        begun = record {
+          each_has = length-set starts k begin ∙ counted.begun.each_has;
+          within = omega arith;
+          first = first_kept k begin starts counted.begun.first there
+              (λ zero. counted.sum ∙ ap (λ n. length (joined (take n parts))) zero);
+          some = below_more (λ j. 0 < size_at parts j) k counted.begun.some
+              (omega (arith, is, has));
+          counts = below_more
+              (λ j. get_or (set starts k begin) j 0 ≡ length (joined (take j parts))) k
+              (λ j sooner. get_or-set_other starts k j begin 0 (omega arith)
+              ∙ counted.begun.counts j sooner)
+              (get_or-set_same starts k begin 0 there ∙ counted.sum);
+        };
+      }

@@ -50,8 +50,10 @@ pub record IsJoin (at : ℕ) (apart together : ℕ → ℕ) : Type 0 where
   pub before : (k : ℕ) → k < at → together k ≡ apart k
   pub after : (k : ℕ) → at < k → together k ≡ apart (k + 1)
 
--- for each part how many items stand before it
-pub record HasStarts {T : Type 0} (starts : List ℕ) (parts : List (List T)) : Type 0 where
+-- the first `used` parts have items, and for each of them it is known how many stand before it
+pub record HasStarts {T : Type 0} (used : ℕ) (starts : List ℕ) (parts : List (List T)) : Type 0 where
   pub each_has : length starts ≡ length parts
-  pub counts : (k : ℕ) → k < length parts
-      → slice_index_or starts k 0 ≡ length (joined (take k parts))
+  pub within : used ≤ length parts
+  pub first : slice_index_or starts 0 0 ≡ 0
+  pub some : (k : ℕ) → k < used → 0 < size_at parts k
+  pub counts : (k : ℕ) → k < used → slice_index_or starts k 0 ≡ length (joined (take k parts))

@@ -77,14 +77,16 @@ pub(crate) fn settle<T: Drop>(blocks: &mut Vec<Block<T>>, k: usize)
     ensures len { vec_len blocks.new ≡ vec_len blocks.old }
     ensures items { joined (parts_of blocks.new.items) ≡ joined (parts_of blocks.old.items) }
     ensures spread { IsSpread SIZE (size_at (parts_of blocks.new.items)) }
+    ensures before { (j : ℕ) → j + 1 < k → size_at (parts_of blocks.new.items) j
+        ≡ size_at (parts_of blocks.old.items) j }
 {
     if blocks[k].len() <= SIZE {
         return;
     }
-    if k > 0 && blocks[k - 1].len() < SIZE {
-        move_left(blocks, k - 1);
-    } else if blocks[k + 1].len() < SIZE {
+    if blocks[k + 1].len() < SIZE {
         move_right(blocks, k);
+    } else if k > 0 && blocks[k - 1].len() < SIZE {
+        move_left(blocks, k - 1);
     } else {
         split(blocks, k);
     }
@@ -97,6 +99,8 @@ pub(crate) fn merge<T: Drop>(blocks: &mut Vec<Block<T>>, k: usize)
     ensures len { vec_len blocks.new ≡ vec_len blocks.old }
     ensures items { joined (parts_of blocks.new.items) ≡ joined (parts_of blocks.old.items) }
     ensures spread { IsSpread SIZE (size_at (parts_of blocks.new.items)) }
+    ensures before { (j : ℕ) → j + 1 < k → size_at (parts_of blocks.new.items) j
+        ≡ size_at (parts_of blocks.old.items) j }
 {
     if k > 0 && blocks[k - 1].len() + blocks[k].len() <= SIZE {
         join(blocks, k - 1);

@@ -1,6 +1,6 @@
 //! Lists in blocks.
 ghost use Rattle.std.specs.Prelude.{◌≡◌, ℕ, ◌+◌, ◌-◌, ◌*◌, ◌/◌, ◌^◌, ◌<◌, ◌≤◌, [], length, map};
-ghost use Rattle.std.specs.Prelude.{slice_index, slice_index_or, slice_set, replicate, vec_len};
+ghost use Rattle.std.specs.Prelude.{slice_index, slice_index_or, slice_set, replicate, take, vec_len};
 ghost use Rattle.std.specs.Prelude.{true, false, IfOk, OnOk, OnErr, IsOk, IfSome};
 ghost use Rattle.std.specs.List.{insert, remove, slice_range};
 ghost use Rattle.std.specs.Fn.{FnReturnsAt};
@@ -20,27 +20,38 @@ use std::alloc::{AllocError, Global};
 pub(crate) struct Blocks<T> {
     // Those that are empty stand last.
     blocks: Vec<Block<T>>,
-    // How many items stand before each block.
+    // How many have items.
+    used: usize,
+    // How many items stand before each block that has any.
     starts: Vec<usize>,
     total: usize,
     ghost spread: { IsSpread SIZE (size_at (parts_of blocks.items)) },
-    ghost begun: { HasStarts starts.items (parts_of blocks.items) },
+    ghost begun: { HasStarts used starts.items (parts_of blocks.items) },
+    ghost ended: { size_at (parts_of blocks.items) used ≡ 0 },
     ghost counted: { total ≡ length (joined (parts_of blocks.items)) },
     ghost held: { total ≤ vec_len blocks / 2 * SIZE },
     ghost bounded: { vec_len blocks / 2 * SIZE < 2 ^ 64 },
 }
 
-// Counts how many items stand before each block.
-fn count_starts<T: Drop>(starts: &mut Vec<usize>, blocks: &[Block<T>])
-    requires each_has { vec_len starts.old ≡ length blocks.now }
+// Counts how many items stand before each block from the one before `touched` up to the first that
+// is empty, and returns where that is.
+fn count_starts<T: Drop>(starts: &mut Vec<usize>, blocks: &[Block<T>], touched: usize) -> usize
+    requires in_range { touched < length blocks.now }
     requires fits { length (joined (parts_of blocks.now)) < 2 ^ 64 }
-    ensures { HasStarts starts.new.items (parts_of blocks.now) }
+    requires begun { HasStarts (touched - 1) starts.old.items (parts_of blocks.now) }
+    requires begins { slice_index_or starts.old.items (touched - 1) 0
+        ≡ length (joined (take (touched - 1) (parts_of blocks.now))) }
+    ensures begun { HasStarts result starts.new.items (parts_of blocks.now) }
+    ensures ended { size_at (parts_of blocks.now) result ≡ 0 }
 {
-    let mut total = 0;
-    for k in 0..blocks.len() {
-        starts[k] = total;
-        total += blocks[k].len();
+    let mut used = touched.saturating_sub(1);
+    let mut begin = starts[used];
+    while used < blocks.len() && blocks[used].len() > 0 {
+        starts[used] = begin;
+        begin += blocks[used].len();
+        used += 1;
     }
+    used
 }
 
 // Blocks that have nothing.
@@ -85,6 +96,7 @@ impl<T: Drop> Blocks<T> {
     {
         Blocks {
             blocks: Vec::new(alloc),
+            used: 0,
             starts: Vec::new(alloc),
             total: 0,
         }
@@ -110,12 +122,17 @@ impl<T: Drop> Blocks<T> {
     fn block_of(&self, place: usize) -> usize
         requires { place < length (items_of self.now) }
         ensures in_range { result < vec_len self.now.blocks }
+        ensures used { result < self.now.used }
         ensures from { slice_index self.now.starts.items result ≤ place }
         ensures to { place < slice_index self.now.starts.items result
             + size_at (parts_of self.now.blocks.items) result }
     {
+        let last = self.used - 1;
+        if self.starts[last] <= place {
+            return last;
+        }
         let mut low = 0;
-        let mut high = self.starts.len();
+        let mut high = last;
         while low + 1 < high {
             let middle = low + (high - low) / 2;
             if self.starts[middle] <= place {
@@ -132,10 +149,10 @@ impl<T: Drop> Blocks<T> {
         requires in_range { place ≤ length (items_of self.now) }
         requires room { 0 < room_of self.now }
         ensures spare_after { result + 1 < vec_len self.now.blocks }
+        ensures used { 0 < result → result < self.now.used }
         ensures from { slice_index self.now.starts.items result ≤ place }
         ensures to { place ≤ slice_index self.now.starts.items result
             + size_at (parts_of self.now.blocks.items) result }
-        ensures some { 0 < result → 0 < size_at (parts_of self.now.blocks.items) result }
         ensures spare { size_at (parts_of self.now.blocks.items)
             (vec_len self.now.blocks - 1) ≡ 0 }
     {
@@ -156,7 +173,7 @@ impl<T: Drop> Blocks<T> {
 
     // The item at a place that stands in a block.
     fn at_in(&self, k: usize, place: usize) -> &T
-        requires in_range { k < vec_len self.now.blocks }
+        requires in_range { k < self.now.used }
         requires from { slice_index self.now.starts.items k ≤ place }
         requires to { place < slice_index self.now.starts.items k
             + size_at (parts_of self.now.blocks.items) k }
@@ -179,11 +196,11 @@ impl<T: Drop> Blocks<T> {
         }
         // The last block whose first item passes, or the first block.
         let mut block = 0;
-        let mut behind = self.blocks.len();
+        let mut behind = self.used;
         while block + 1 < behind {
             let k = block + (behind - block) / 2;
             let start = self.starts[k];
-            if start < self.total && passes(self.at_in(k, start)) {
+            if passes(self.at_in(k, start)) {
                 block = k;
             } else {
                 behind = k;
@@ -240,7 +257,6 @@ impl<T: Drop> Blocks<T> {
         let Ok(()) = self.starts.resize(self.blocks.len(), 0) else {
             unreachable!()
         };
-        count_starts(&mut self.starts, &self.blocks);
         Ok(())
     }
 
@@ -254,7 +270,7 @@ impl<T: Drop> Blocks<T> {
         self.blocks[k].put(place - self.starts[k], item);
         self.total += 1;
         settle(&mut self.blocks, k);
-        count_starts(&mut self.starts, &self.blocks);
+        self.used = count_starts(&mut self.starts, &self.blocks, k);
     }
 
     pub(crate) fn remove(&mut self, place: usize) -> T
@@ -267,7 +283,7 @@ impl<T: Drop> Blocks<T> {
         let item = self.blocks[k].take(place - self.starts[k]);
         self.total -= 1;
         merge(&mut self.blocks, k);
-        count_starts(&mut self.starts, &self.blocks);
+        self.used = count_starts(&mut self.starts, &self.blocks, k);
         item
     }
 

@@ -74,3 +74,11 @@ returns-else-k-len-clause-spread g c =
           absurd (omega (arith, has, none))
     ] in
     kept SIZE sizes k c.requires.thinned before after
+
+pub returns-then-len-le-SIZE-clause-before : goal.returns-then-len-le-SIZE-clause-before
+returns-then-len-le-SIZE-clause-before g c = λ j sooner.
+    c.join.ensures.sizes.before j (omega arith)
+
+pub returns-then-len-le-SIZE-2-clause-before : goal.returns-then-len-le-SIZE-2-clause-before
+returns-then-len-le-SIZE-2-clause-before g c = λ j sooner.
+    c.join-then-len-le-SIZE-2.ensures.sizes.before j (omega arith)

@@ -1,46 +1,52 @@
 use Rattle.std.proofs.Common.{◌≡◌, ◌+◌, ◌-◌, ◌/◌, ◌<◌, true, false, length, get_or, refl, subst}
-use Rattle.std.proofs.Common.{inl, inr, sym, arith, vec_len}
+use Rattle.std.proofs.Common.{inl, inr, sym, arith}
 use Rattle.std.specs.Fn.{FnReturnsAt}
 use Rattle.std.proofs.lemmas.Bool.{cases_lt}
 use Rattle.std.proofs.lemmas.Fn.{says_at}
 use Rattle.std.proofs.lemmas.List.{get_or_read}
 use Rattle.clr_shelf.specs.Blocks.{parts_of, size_at}
 use Rattle.clr_shelf.specs.Items.{items_of}
-use Rattle.clr_shelf.proofs.Listed.{block_has, block_ends, first_begins, next_begins, last_ends}
-use Rattle.clr_shelf.proofs.Parts.{length-parts, size_read}
+use Rattle.clr_shelf.proofs.Listed.{block_inside, block_ends, first_begins, next_begins, last_ends}
+use Rattle.clr_shelf.proofs.Listed.{in_blocks, some_used}
+use Rattle.clr_shelf.proofs.Parts.{size_read}
 use Rattle.clr_shelf.proofs.blocks.Blocks.partition_point.Goals.{then-block-eq0, else-block-eq0}
 use Rattle.clr_shelf.proofs.blocks.Blocks.partition_point.Goals as goal
+
+pub loop-block-init : goal.loop-block-init
+loop-block-init g c =
+    let list = c.args.self.now in
+    record {
+      rises = some_used list (omega (arith, list.counted));
+      within = omega arith;
+      before = λ d later. absurd (omega arith);
+      after = λ d inside. absurd (omega arith);
+    }
 
 pub at_in-requires-clause-to : goal.at_in-requires-clause-to
 at_in-requires-clause-to g c =
     let list = c.args.self.now in
     let k = c.loop-block.block + (c.loop-block.behind - c.loop-block.block) / 2 in
-    let long : length list.starts.items ≡ vec_len list.blocks =
-    omega (arith, list.begun.each_has, length-parts list.blocks.items, list.blocks.ok.0) in
-    let within : k < length list.starts.items = omega (arith, c.loop-block.invariant.within) in
-    let begins = get_or_read list.starts.items k c.index-start.result.now within
+    let within : k < list.used = omega (arith, c.loop-block.invariant.within) in
+    let there : k < length list.starts.items =
+    omega (arith, within, list.begun.within, list.begun.each_has) in
+    let begins = get_or_read list.starts.items k c.index-start.result.now there
     c.index-start.ensures 0 in
-    omega (
-      arith,
-      begins,
-      block_has list k (omega (arith, within, long))
-          (omega (arith, begins, list.counted, c.if-start-self.true)),
-    )
+    omega (arith, begins, list.begun.some k within)
 
 pub loop-block-preserved-then-passes : goal.loop-block-preserved-then-passes
 loop-block-preserved-then-passes g c =
     let list = c.args.self.now in
     let k = c.loop-block.block + (c.loop-block.behind - c.loop-block.block) / 2 in
     let start = c.index-start.result.now in
-    let within : k < length list.starts.items = omega (arith, c.loop-block.invariant.within) in
-    let begins = get_or_read list.starts.items k start within c.index-start.ensures 0 in
-    let some : start < length (items_of list) =
-    omega (arith, list.counted, c.if-start-self.true) in
+    let within : k < list.used = omega (arith, c.loop-block.invariant.within) in
+    let there : k < length list.starts.items =
+    omega (arith, within, list.begun.within, list.begun.each_has) in
+    let begins = get_or_read list.starts.items k start there c.index-start.ensures 0 in
+    let some : start < length (items_of list) = omega (arith, begins, block_inside list k within) in
     let said = says_at g.F.Fn c.if-passes.ensures refl in
     record {
       rises = omega arith;
       within = c.loop-block.invariant.within;
-      some = λ later. omega (arith, some, begins);
       before = λ d later.
           subst (λ n. FnReturnsAt g.F.Fn c.args.passes (get_or (items_of list) n d) true) begins
           (subst (λ x. FnReturnsAt g.F.Fn c.args.passes x true)
@@ -53,54 +59,47 @@ loop-block-preserved g c =
     let list = c.args.self.now in
     let k = c.loop-block.block + (c.loop-block.behind - c.loop-block.block) / 2 in
     let start = c.index-start.result.now in
-    let within : k < length list.starts.items = omega (arith, c.loop-block.invariant.within) in
-    let begins = get_or_read list.starts.items k start within c.index-start.ensures 0 in
-    elim c.else-start-self.branch [
-      | goal.else-start-self-via-then-start-self+else-passes w ↦
-          let said = says_at g.F.Fn w.if-passes.ensures refl in
-          let some : start < length (items_of list) =
-          omega (arith, list.counted, w.if-start-self.true) in
-          record {
-            rises = omega arith;
-            within = omega arith;
-            some = c.loop-block.invariant.some;
-            before = c.loop-block.invariant.before;
-            after = λ d inside sooner.
-                subst (λ n. FnReturnsAt g.F.Fn c.args.passes (get_or (items_of list) n d) false)
-                begins (subst (λ x. FnReturnsAt g.F.Fn c.args.passes x false)
-                (get_or_read (items_of list) start w.at_in.result.now some w.at_in.ensures d)
-                said);
-          }
-      | goal.else-start-self-via-else-start-self w ↦ record {
-        rises = omega arith;
-        within = omega arith;
-        some = c.loop-block.invariant.some;
-        before = c.loop-block.invariant.before;
-        after = λ d inside sooner. absurd
-            (omega (arith, sooner, begins, list.counted, w.if-start-self.false));
-      }
-    ]
+    let within : k < list.used = omega (arith, c.loop-block.invariant.within) in
+    let there : k < length list.starts.items =
+    omega (arith, within, list.begun.within, list.begun.each_has) in
+    let begins = get_or_read list.starts.items k start there c.index-start.ensures 0 in
+    let some : start < length (items_of list) = omega (arith, begins, block_inside list k within) in
+    let said = says_at g.F.Fn c.if-passes.ensures refl in
+    record {
+      rises = omega arith;
+      within = omega arith;
+      before = c.loop-block.invariant.before;
+      after = λ d inside.
+          subst (λ n. FnReturnsAt g.F.Fn c.args.passes (get_or (items_of list) n d) false) begins
+          (subst (λ x. FnReturnsAt g.F.Fn c.args.passes x false)
+          (get_or_read (items_of list) start c.at_in.result.now some c.at_in.ensures d) said);
+    }
+
+pub overflow_add-low : goal.overflow_add-low
+overflow_add-low g c =
+    let list = c.args.self.now in
+    let k = c.loop-block.block in
+    let within : k < list.used =
+    omega (arith, c.loop-block.invariant.rises, c.loop-block.invariant.within) in
+    let there : k < length list.starts.items =
+    omega (arith, within, list.begun.within, list.begun.each_has) in
+    let begins = get_or_read list.starts.items k c.index-begin.result.now there
+    c.index-begin.ensures 0 in
+    omega (arith, begins, block_inside list k within, list.counted, list.held, list.bounded)
 
 pub overflow_add-high : goal.overflow_add-high
 overflow_add-high g c =
     let list = c.args.self.now in
     let k = c.loop-block.block in
-    let long : length list.starts.items ≡ vec_len list.blocks =
-    omega (arith, list.begun.each_has, length-parts list.blocks.items, list.blocks.ok.0) in
-    let within : k < length list.starts.items =
+    let within : k < list.used =
     omega (arith, c.loop-block.invariant.rises, c.loop-block.invariant.within) in
-    let begins = get_or_read list.starts.items k c.index-begin.result.now within
+    let there : k < length list.starts.items =
+    omega (arith, within, list.begun.within, list.begun.each_has) in
+    let begins = get_or_read list.starts.items k c.index-begin.result.now there
     c.index-begin.ensures 0 in
     let size = size_read list.blocks.items k c.index.result.now
-    (omega (arith, within, long, list.blocks.ok.0)) c.index.ensures in
-    omega (
-      arith,
-      begins,
-      size,
-      c.len.ensures,
-      block_ends list k (omega (arith, within, long)),
-      list.counted,
-    )
+    (omega (arith, in_blocks list k within, list.blocks.ok.0)) c.index.ensures in
+    omega (arith, begins, size, c.len.ensures, block_ends list k within, list.counted)
 
 pub loop-low-init : goal.loop-low-init
 loop-low-init g c =
@@ -109,22 +108,21 @@ loop-low-init g c =
     let k = c.loop-block.block in
     let start = get_or list.starts.items k 0 in
     let size = size_at (parts_of list.blocks.items) k in
-    let long : length list.starts.items ≡ vec_len list.blocks =
-    omega (arith, list.begun.each_has, length-parts list.blocks.items, list.blocks.ok.0) in
-    let within : k < vec_len list.blocks =
-    omega (arith, c.loop-block.invariant.rises, c.loop-block.invariant.within, long) in
+    let within : k < list.used =
+    omega (arith, c.loop-block.invariant.rises, c.loop-block.invariant.within) in
+    let there : k < length list.starts.items =
+    omega (arith, within, list.begun.within, list.begun.each_has) in
     let begins : c.index-begin.result.now ≡ start =
-    get_or_read list.starts.items k c.index-begin.result.now (omega (arith, within, long))
-    c.index-begin.ensures 0 in
+    get_or_read list.starts.items k c.index-begin.result.now there c.index-begin.ensures 0 in
     let high : start + size ≡ c.index-begin.result.now + c.len.result = omega (
       arith,
       begins,
       size_read list.blocks.items k c.index.result.now
-          (omega (arith, within, list.blocks.ok.0)) c.index.ensures,
+          (omega (arith, in_blocks list k within, list.blocks.ok.0)) c.index.ensures,
       c.len.ensures,
     ) in
     let after = λ (d : g.row.T.Denot) (more : start + size < length items).
-    let next : k + 1 < vec_len list.blocks = elim (cases_lt (k + 1) (vec_len list.blocks)) [
+    let next : k + 1 < list.used = elim (cases_lt (k + 1) list.used) [
       | inl sooner ↦ sooner
       | inr last ↦ absurd (omega (arith, more, last_ends list k within (omega arith)))
     ] in
@@ -133,15 +131,14 @@ loop-low-init g c =
       c.loop-block.invariant.rises,
       c.loop-block-test.false,
     ) in
-    let there : get_or list.starts.items c.loop-block.behind 0 ≡ start + size =
+    let ends : get_or list.starts.items c.loop-block.behind 0 ≡ start + size =
     subst (λ n. get_or list.starts.items n 0 ≡ start + size) (sym behind)
     (sym (next_begins list k within next)) in
-    subst (λ n. FnReturnsAt g.F.Fn c.args.passes (get_or items n d) false) there
-    (c.loop-block.invariant.after d (omega (arith, behind, next, long))
-    (omega (arith, there, more))) in
+    subst (λ n. FnReturnsAt g.F.Fn c.args.passes (get_or items n d) false) ends
+    (c.loop-block.invariant.after d (omega (arith, behind, next))) in
     elim c.if-block-eq0.branch [
       | then-block-eq0 w ↦ record {
-        begins = omega (arith, first_begins list k within (omega arith));
+        begins = omega (arith, first_begins list k (omega arith));
         rises = omega arith;
         ends = omega (arith, high);
         within = block_ends list k within;
@@ -152,7 +149,7 @@ loop-low-init g c =
       }
       | else-block-eq0 w ↦
           let later : 0 < k = omega arith in
-          let some = block_has list k within (c.loop-block.invariant.some later) in
+          let some = list.begun.some k within in
           record {
             begins = omega (arith, begins, w.low-is);
             rises = omega (arith, begins, high, some, w.low-is);

@@ -6,13 +6,11 @@ use Rattle.clr_shelf.proofs.blocks.Blocks.partition_point.Given as goal
 
 -- the first item of `block` passes, if it is not the first block, and that of `behind` fails
 pub record IsNarrowed {X : Type 0} (answers : X → Bool → Type 0) (items : List X) (starts : List ℕ)
-    (block behind : ℕ) : Type 0 where
+    (used block behind : ℕ) : Type 0 where
   pub rises : block < behind
-  pub within : behind ≤ length starts
-  pub some : 0 < block → get_or starts block 0 < length items
+  pub within : behind ≤ used
   pub before : (d : X) → 0 < block → answers (get_or items (get_or starts block 0) d) true
-  pub after : (d : X) → behind < length starts → get_or starts behind 0 < length items
-      → answers (get_or items (get_or starts behind 0) d) false
+  pub after : (d : X) → behind < used → answers (get_or items (get_or starts behind 0) d) false
 
 -- between the start and the end of a block, the item before `low` passes, and the one at `high`
 -- fails
@@ -27,7 +25,7 @@ pub record IsHalved {X : Type 0} (answers : X → Bool → Type 0) (items : List
 
 abbrev pub invariant-loop-block : goal.invariant-loop-block
 invariant-loop-block g l = IsNarrowed (FnReturnsAt g.F.Fn l.fn.passes) (items_of l.fn.self)
-    l.fn.self.starts.items l.block l.behind
+    l.fn.self.starts.items l.fn.self.used l.block l.behind
 
 abbrev pub decreases-loop-block : goal.decreases-loop-block
 decreases-loop-block g l = l.behind - l.block
