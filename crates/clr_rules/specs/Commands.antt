@@ -1,7 +1,9 @@
 -- THE RULES OF THE EIGHTEEN COMMANDS: what each is checked for, in this order, and what it changes
 -- where no check refuses it. The checks are stated one by one in Checks, the parts of a change in
 -- Changes.
-use Rattle.std.specs.Prelude.{ℕ, if◌then◌else◌, ◌+◌, List, [], ◌∷◌, map, Option, None, Some, ◌++◌}
+use Rattle.std.specs.Prelude.{ℕ, Bool, if◌then◌else◌, ◌+◌, List, [], ◌∷◌, map, Option, None}
+use Rattle.std.specs.Prelude.{Some, ◌++◌}
+use Rattle.clr_csv.specs.declared.employee.Role.{Role}
 use Rattle.clr_order.specs.declared.step.StepState.TheVariants.{Instructed, Repeated}
 use Rattle.clr_order.specs.declared.action.Action.TheVariants as actions
 use Rattle.clr_rules.specs.Changes.{cancelled_phase, done_edits, undone_edits, step_moved}
@@ -16,7 +18,8 @@ use Rattle.clr_rules.specs.Checks.{too_many_clearances, unknown_caller, unknown_
 use Rattle.clr_rules.specs.Checks.{unknown_section, unsound_order, wrong_phase, wrong_reporter}
 use Rattle.clr_rules.specs.Checks.{wrong_restoring, wrong_role, wrong_state, wrong_switching}
 use Rattle.clr_rules.specs.Prelude.{Edit, SetHand, PutHold, TakeHold, PutRecord, PutStep, Kind}
-use Rattle.clr_rules.specs.Prelude.{Tested, Ground, Crew, Requested, Ordered, Granted, Released}
+use Rattle.clr_rules.specs.Prelude.{Tested, Ground, Crew, Id, Phase, Requested, Ordered}
+use Rattle.clr_rules.specs.Prelude.{Granted, Released}
 use Rattle.clr_rules.specs.Prelude.{Restoring, Switching, Refusal, StepRow, Register, is_running}
 use Rattle.clr_rules.specs.Prelude.{is_granted}
 use Rattle.clr_rules.specs.Prelude.{is_restoring, is_ordered, is_active, is_waiting, hold_of}
@@ -32,71 +35,79 @@ pub record Known : Type 0 where
   pub greatest : ℕ
   pub fence : List (List ℕ)
 
+-- HOW COMMANDS BEGIN: who asks, of which clearance, when, and in which phase; then come the
+-- command's own checks
+
+abbrev pub by_role : Register → List ℕ → ℕ → Id → (Role → Bool) → (Phase → Bool)
+    → List (Option Refusal) → List (Option Refusal)
+by_role R by at c roles phases own =
+    unknown_caller R by ∷ wrong_role R by roles ∷ unknown_clearance R c ∷ earlier_moment R c at
+    ∷ wrong_phase R c phases ∷ own
+
+-- by a system operator
+abbrev pub by_operator : Register → List ℕ → ℕ → Id → (Phase → Bool) → List (Option Refusal)
+    → List (Option Refusal)
+by_operator R by at c phases own = by_role R by at c is_operator phases own
+
+-- by an employee in the field
+abbrev pub by_field : Register → List ℕ → ℕ → Id → (Phase → Bool) → List (Option Refusal)
+    → List (Option Refusal)
+by_field R by at c phases own = by_role R by at c is_field phases own
+
+-- by the holder of the clearance
+abbrev pub by_holder : Register → List ℕ → ℕ → Id → (Role → Bool) → (Phase → Bool)
+    → List (Option Refusal) → List (Option Refusal)
+by_holder R by at c roles phases own =
+    unknown_caller R by ∷ wrong_role R by roles ∷ unknown_clearance R c ∷ not_holder R c by
+    ∷ earlier_moment R c at ∷ wrong_phase R c phases ∷ own
+
 -- THE CHECKS OF EACH COMMAND, in their order
 abbrev pub checks : Known → Register → List ℕ → ℕ → Kind → List (Option Refusal)
 checks k R by at (kinds.Request section) =
     unknown_caller R by ∷ wrong_role R by is_charge ∷ unknown_section R section
     ∷ too_many_clearances k.greatest ∷ []
 checks k R by at (kinds.Order c points tasks) =
-    unknown_caller R by ∷ wrong_role R by is_operator ∷ unknown_clearance R c
-    ∷ earlier_moment R c at ∷ wrong_phase R c is_requested ∷ unsound_order R k.fence points tasks
-    ∷ []
+    by_operator R by at c is_requested (unsound_order R k.fence points tasks ∷ [])
 checks k R by at (kinds.Instruct c n) =
-    unknown_caller R by ∷ wrong_role R by is_operator ∷ unknown_clearance R c
-    ∷ earlier_moment R c at ∷ wrong_phase R c is_running ∷ no_step R c n ∷ out_of_turn R c n
-    ∷ wrong_state R c n is_waiting ∷ in_hand R c n ∷ hold_hinders R c n ∷ []
+    by_operator R by at c is_running
+    (no_step R c n ∷ out_of_turn R c n ∷ wrong_state R c n is_waiting ∷ in_hand R c n
+    ∷ hold_hinders R c n ∷ [])
 checks k R by at (kinds.Repeat c n text) =
-    unknown_caller R by ∷ wrong_role R by is_field ∷ unknown_clearance R c ∷ earlier_moment R c at
-    ∷ wrong_phase R c is_running ∷ no_step R c n ∷ wrong_state R c n is_active
-    ∷ repeat_differs R c n text ∷ []
+    by_field R by at c is_running
+    (no_step R c n ∷ wrong_state R c n is_active ∷ repeat_differs R c n text ∷ [])
 checks k R by at (kinds.Report c n done) =
-    unknown_caller R by ∷ wrong_role R by is_field ∷ unknown_clearance R c ∷ earlier_moment R c at
-    ∷ wrong_phase R c is_running ∷ no_step R c n ∷ wrong_state R c n is_repeated
-    ∷ wrong_reporter R c n by ∷ []
-checks k R by at (kinds.Grant c) =
-    unknown_caller R by ∷ wrong_role R by is_operator ∷ unknown_clearance R c
-    ∷ earlier_moment R c at ∷ wrong_phase R c is_ordered ∷ steps_left R c ∷ []
+    by_field R by at c is_running
+    (no_step R c n ∷ wrong_state R c n is_repeated ∷ wrong_reporter R c n by ∷ [])
+checks k R by at (kinds.Grant c) = by_operator R by at c is_ordered (steps_left R c ∷ [])
 checks k R by at (kinds.Test c section dead) =
-    unknown_caller R by ∷ wrong_role R by is_charge ∷ unknown_clearance R c ∷ not_holder R c by
-    ∷ earlier_moment R c at ∷ wrong_phase R c is_granted ∷ outside_fence k.fence section ∷ []
+    by_holder R by at c is_charge is_granted (outside_fence k.fence section ∷ [])
 checks k R by at (kinds.Ground c section) =
-    unknown_caller R by ∷ wrong_role R by is_charge ∷ unknown_clearance R c ∷ not_holder R c by
-    ∷ earlier_moment R c at ∷ wrong_phase R c is_granted ∷ outside_fence k.fence section
-    ∷ not_tested R c section ∷ has_ground R c section ∷ []
+    by_holder R by at c is_charge is_granted
+    (outside_fence k.fence section ∷ not_tested R c section ∷ has_ground R c section ∷ [])
 checks k R by at (kinds.Unground c section) =
-    unknown_caller R by ∷ wrong_role R by is_charge ∷ unknown_clearance R c ∷ not_holder R c by
-    ∷ earlier_moment R c at ∷ wrong_phase R c is_granted ∷ outside_fence k.fence section
-    ∷ no_ground R c section ∷ crews_on_work R c section ∷ []
+    by_holder R by at c is_charge is_granted
+    (outside_fence k.fence section ∷ no_ground R c section ∷ crews_on_work R c section ∷ [])
 checks k R by at (kinds.SignOn c crew) =
-    unknown_caller R by ∷ wrong_role R by is_charge ∷ unknown_clearance R c ∷ not_holder R c by
-    ∷ earlier_moment R c at ∷ wrong_phase R c is_granted ∷ at_work R c (not_tested R c)
-    ∷ at_work R c (no_ground R c) ∷ crew_is_on R c crew ∷ []
+    by_holder R by at c is_charge is_granted
+    (at_work R c (not_tested R c) ∷ at_work R c (no_ground R c) ∷ crew_is_on R c crew ∷ [])
 checks k R by at (kinds.SignOff c crew) =
-    unknown_caller R by ∷ wrong_role R by is_charge ∷ unknown_clearance R c ∷ not_holder R c by
-    ∷ earlier_moment R c at ∷ wrong_phase R c is_granted ∷ crew_is_off R c crew ∷ []
+    by_holder R by at c is_charge is_granted (crew_is_off R c crew ∷ [])
 checks k R by at (kinds.Transfer c to emergency) =
     unknown_caller R by ∷ unknown_clearance R c ∷ may_not_transfer R c by emergency
     ∷ earlier_moment R c at ∷ wrong_phase R c is_transferable ∷ bad_transfer R c to ∷ []
 checks k R by at (kinds.Release c notified clear) =
-    unknown_caller R by ∷ wrong_role R by is_charge ∷ unknown_clearance R c ∷ not_holder R c by
-    ∷ earlier_moment R c at ∷ wrong_phase R c is_granted ∷ crews_on R c ∷ any_ground R c
-    ∷ not_attested notified clear ∷ []
+    by_holder R by at c is_charge is_granted
+    (crews_on R c ∷ any_ground R c ∷ not_attested notified clear ∷ [])
 checks k R by at (kinds.Cancel c) =
-    unknown_caller R by ∷ wrong_role R by is_charge_or_operator ∷ unknown_clearance R c
-    ∷ not_holder R c by ∷ earlier_moment R c at ∷ wrong_phase R c is_cancellable
-    ∷ step_given_out R c ∷ []
+    by_holder R by at c is_charge_or_operator is_cancellable (step_given_out R c ∷ [])
 checks k R by at (kinds.Restore c tasks) =
-    unknown_caller R by ∷ wrong_role R by is_operator ∷ unknown_clearance R c
-    ∷ earlier_moment R c at ∷ wrong_phase R c is_released ∷ wrong_restoring R c tasks ∷ []
+    by_operator R by at c is_released (wrong_restoring R c tasks ∷ [])
 checks k R by at (kinds.Amend c n) =
-    unknown_caller R by ∷ wrong_role R by is_operator ∷ unknown_clearance R c
-    ∷ earlier_moment R c at ∷ wrong_phase R c is_restoring ∷ no_step R c n
-    ∷ not_a_waiting_close R c n ∷ []
+    by_operator R by at c is_restoring (no_step R c n ∷ not_a_waiting_close R c n ∷ [])
 checks k R by at (kinds.Switch tasks) =
     unknown_caller R by ∷ wrong_role R by is_operator ∷ too_many_clearances k.greatest
     ∷ wrong_switching R tasks ∷ []
-checks k R by at (kinds.Show c) =
-    unknown_caller R by ∷ unknown_clearance R c ∷ []
+checks k R by at (kinds.Show c) = unknown_caller R by ∷ unknown_clearance R c ∷ []
 
 -- THE EDITS OF EACH COMMAND that no check refuses
 abbrev pub edits_of : ℕ → Register → List ℕ → ℕ → Kind → List Edit

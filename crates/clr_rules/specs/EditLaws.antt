@@ -104,20 +104,34 @@ PutsKeepOtherRows = (R : Register) → ListsAreInOrder R → OtherRowsStay R
 abbrev pub edits_states : Edit → Bool
 edits_states (SetPosition p position) = true
 edits_states (SetHand p hand) = true
-edits_states _ = false
+edits_states (PutHold h) = false
+edits_states (TakeHold h) = false
+edits_states (PutRecord r) = false
+edits_states (PutStep row) = false
 
 abbrev pub edits_records : Edit → Bool
 edits_records (PutRecord r) = true
-edits_records _ = false
+edits_records (SetPosition p position) = false
+edits_records (SetHand p hand) = false
+edits_records (PutHold h) = false
+edits_records (TakeHold h) = false
+edits_records (PutStep row) = false
 
 abbrev pub edits_steps : Edit → Bool
 edits_steps (PutStep row) = true
-edits_steps _ = false
+edits_steps (SetPosition p position) = false
+edits_steps (SetHand p hand) = false
+edits_steps (PutHold h) = false
+edits_steps (TakeHold h) = false
+edits_steps (PutRecord r) = false
 
 abbrev pub edits_holds : Edit → Bool
 edits_holds (PutHold h) = true
 edits_holds (TakeHold h) = true
-edits_holds _ = false
+edits_holds (SetPosition p position) = false
+edits_holds (SetHand p hand) = false
+edits_holds (PutRecord r) = false
+edits_holds (PutStep row) = false
 
 -- AN EDIT LEAVES THE REST: the network, the staff, and each list that it is not of
 pub record LeavesTheRest (edit : Edit) (R : Register) : Type 0 where

@@ -30,7 +30,12 @@ edit_key_cmp (TakeHold g) (PutHold h) = hold_cmp g h
 edit_key_cmp (TakeHold g) (TakeHold h) = hold_cmp g h
 edit_key_cmp (PutRecord r) (PutRecord s) = id_cmp r.id s.id
 edit_key_cmp (PutStep a) (PutStep b) = step_key_cmp (step_key a) (step_key b)
-edit_key_cmp _ _ = Equal
+edit_key_cmp (SetPosition p there) _ = Equal
+edit_key_cmp (SetHand p hand) _ = Equal
+edit_key_cmp (PutHold h) _ = Equal
+edit_key_cmp (TakeHold h) _ = Equal
+edit_key_cmp (PutRecord r) _ = Equal
+edit_key_cmp (PutStep row) _ = Equal
 
 abbrev pub edit_cmp : Edit → Edit → Ordering
 edit_cmp a b = ordering_then (nat_cmp (edit_rank a) (edit_rank b)) (edit_key_cmp a b)

@@ -106,13 +106,18 @@ abbrev pub HeldStayOpen : Id → Register → Type 0
 HeldStayOpen c R =
     (p : List ℕ) → has_hold R.holds c HeldOpen p ≡ true → position_of R.states p ≡ Some Opened
 
+-- what is left alone of a clearance from one register to the next: its record, its steps and its
+-- holds are as they were, no hand of it is cleared, and the points that it holds are open
+pub record LeftAlone (c : Id) (R S : Register) : Type 0 where
+  pub frame : Frame c R S
+  pub held_open : HeldStayOpen c S
+
 -- THE HEADLINE, SECOND HALF: at each place of a run, no command about another clearance closes a
 -- point that a clearance holds, or takes away its tags, grounds, order or record
 abbrev pub NothingIsTakenAway : Type 0
 NothingIsTakenAway = (R : Register) (commands : List Command) (c : Id) (q : Command) → IsReached R
     → is_others c (after_all R commands) q ≡ true
-    → Frame c (after_all R commands) (after (after_all R commands) q)
-    × HeldStayOpen c (after (after_all R commands) q)
+    → LeftAlone c (after_all R commands) (after (after_all R commands) q)
 
 abbrev pub is_own_item : Item → Bool
 is_own_item (Item.own q row) = true

@@ -4,9 +4,8 @@ use Rattle.std.specs.Prelude.{◌≡◌, ℕ, Bool, true, if◌then◌else◌, L
 use Rattle.std.specs.Prelude.{filter, length, take}
 use Rattle.clr_rules.specs.Agreement.{Agree}
 use Rattle.clr_rules.specs.Answer.{Answer}
-use Rattle.clr_rules.specs.Footprint.{Frame}
 use Rattle.clr_rules.specs.Prelude.{Command, Reply, Id, Register}
-use Rattle.clr_rules.specs.Isolation.{HeldStayOpen, ShowTheSame, ShowsOwnAlone, is_others}
+use Rattle.clr_rules.specs.Isolation.{LeftAlone, ShowTheSame, ShowsOwnAlone, is_others}
 use Rattle.clr_rules.specs.Run.{IsReached, after, after_all, replies}
 use Rattle.clr_rules.specs.Shown.{is_own_command, own_answers}
 
@@ -51,8 +50,7 @@ abbrev pub OthersTakeNothing : Register → List Command → Type 0
 OthersTakeNothing R commands =
     (c : Id) (earlier : List Command) (q : Command) (later : List Command) → IsReached R
     → commands ≡ earlier ++ q ∷ later → is_others c (after_all R earlier) q ≡ true
-    → Frame c (after_all R earlier) (after (after_all R earlier) q)
-    × HeldStayOpen c (after (after_all R earlier) q)
+    → LeftAlone c (after_all R earlier) (after (after_all R earlier) q)
 
 -- THE CONSEQUENCE: where no command of others marks the set, a clearance is replied to as if its
 -- own commands stood alone

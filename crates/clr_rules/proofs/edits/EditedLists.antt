@@ -63,10 +63,7 @@ edited-network (SetHand p hand) R h = record {
   same_staff = refl;
   same_points = state_keys-change (λ state. record state { hand = hand }) (λ _. refl) R.states p h.states;
 }
-edited-network (PutHold hold) R h = record { same_net = refl; same_staff = refl; same_points = refl }
-edited-network (TakeHold hold) R h = record { same_net = refl; same_staff = refl; same_points = refl }
-edited-network (PutRecord r) R h = record { same_net = refl; same_staff = refl; same_points = refl }
-edited-network (PutStep row) R h = record { same_net = refl; same_staff = refl; same_points = refl }
+edited-network _ R h = record { same_net = refl; same_staff = refl; same_points = refl }
 
 pub edited_all-network : (R : Register) (edits : List Edit) → ListsAreInOrder R → KeepsNetwork R (after_edits edits R)
 unfolding after_edits

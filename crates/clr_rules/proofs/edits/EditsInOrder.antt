@@ -108,14 +108,7 @@ done_in_order : (action : Action) (switching : Bool) (c : Id) (p : List ℕ) (r 
     → are_in_order (point_edits switching c action p ++ PutRecord r ∷ PutStep row ∷ []) ≡ true
 done_in_order actions.Open true c p r row = refl
 done_in_order actions.Open false c p r row = refl
-done_in_order actions.Block switching c p r row = refl
-done_in_order actions.Control switching c p r row = refl
-done_in_order actions.Tag switching c p r row = refl
-done_in_order actions.Untag switching c p r row = refl
-done_in_order actions.Uncontrol switching c p r row = refl
-done_in_order actions.Unblock switching c p r row = refl
-done_in_order actions.Close switching c p r row = refl
-done_in_order actions.Leave switching c p r row = refl
+done_in_order _ switching c p r row = refl
 
 test_in_order : (dead : Bool) (h : Hold) (r : Record) → are_in_order ((if dead then PutHold h else TakeHold h) ∷ PutRecord r ∷ []) ≡ true
 test_in_order true h r = refl

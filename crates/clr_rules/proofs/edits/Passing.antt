@@ -7,7 +7,7 @@ use Rattle.clr_rules.specs.Checks.{refuse, unknown_clearance, where_some, wrong_
 use Rattle.clr_rules.specs.Command.{named_clearance}
 use Rattle.clr_rules.specs.Good.{has_record}
 use Rattle.clr_rules.specs.Prelude.{Kind, Phase, Record, Refusal, Id, Register, record_of}
-use Rattle.clr_rules.specs.declared.command.Kind.TheVariants.{Request, Order, Instruct, Repeat, Report, Grant, Test, Ground, Unground, SignOn, SignOff, Transfer, Release, Cancel, Restore, Amend, Switch, Show}
+use Rattle.clr_rules.specs.declared.command.Kind.TheVariants.{Request, Transfer, Switch, Show}
 use Rattle.clr_rules.specs.declared.refusal.Refusal.TheVariants.{UnknownClearance, WrongPhase}
 
 -- each of these checks says nothing
@@ -52,25 +52,16 @@ pub named_is_recorded : (k : Known) (R : Register) (by : List ℕ) (at : ℕ) (k
     → first_refusal (checks k R by at kind) ≡ None → IsRecorded R (named_clearance kind)
 named_is_recorded k R by at kind h = recorded kind (all_pass (checks k R by at kind) h)
   where
+    -- most commands begin with their caller's role, and then name the clearance
+    third : (c : Id) {A B Rest : Type 0} → A × (B × ((unknown_clearance R c ≡ None) × Rest)) → has_record R.records c ≡ true
+    third c passed = is_recorded R c passed.1.1.0
+
     recorded : (kind : Kind) → Pass (checks k R by at kind) → IsRecorded R (named_clearance kind)
     recorded (Request section) passed = tt
-    recorded (Order c points tasks) passed = let (_, (_, (clearance_passes, _))) = passed in is_recorded R c clearance_passes
-    recorded (Instruct c n) passed = let (_, (_, (clearance_passes, _))) = passed in is_recorded R c clearance_passes
-    recorded (Repeat c n text) passed = let (_, (_, (clearance_passes, _))) = passed in is_recorded R c clearance_passes
-    recorded (Report c n done) passed = let (_, (_, (clearance_passes, _))) = passed in is_recorded R c clearance_passes
-    recorded (Grant c) passed = let (_, (_, (clearance_passes, _))) = passed in is_recorded R c clearance_passes
-    recorded (Test c section dead) passed = let (_, (_, (clearance_passes, _))) = passed in is_recorded R c clearance_passes
-    recorded (Ground c section) passed = let (_, (_, (clearance_passes, _))) = passed in is_recorded R c clearance_passes
-    recorded (Unground c section) passed = let (_, (_, (clearance_passes, _))) = passed in is_recorded R c clearance_passes
-    recorded (SignOn c crew) passed = let (_, (_, (clearance_passes, _))) = passed in is_recorded R c clearance_passes
-    recorded (SignOff c crew) passed = let (_, (_, (clearance_passes, _))) = passed in is_recorded R c clearance_passes
-    recorded (Transfer c to emergency) passed = let (_, (clearance_passes, _)) = passed in is_recorded R c clearance_passes
-    recorded (Release c notified clear) passed = let (_, (_, (clearance_passes, _))) = passed in is_recorded R c clearance_passes
-    recorded (Cancel c) passed = let (_, (_, (clearance_passes, _))) = passed in is_recorded R c clearance_passes
-    recorded (Restore c tasks) passed = let (_, (_, (clearance_passes, _))) = passed in is_recorded R c clearance_passes
-    recorded (Amend c n) passed = let (_, (_, (clearance_passes, _))) = passed in is_recorded R c clearance_passes
     recorded (Switch tasks) passed = tt
-    recorded (Show c) passed = let (_, (clearance_passes, _)) = passed in is_recorded R c clearance_passes
+    recorded (Transfer c to emergency) passed = is_recorded R c passed.1.0
+    recorded (Show c) passed = is_recorded R c passed.1.0
+    recorded _ passed = third _ passed
 
 -- the clearance that a command names, if it names one, has a record
 pub named_recorded : (k : Known) (R : Register) (by : List ℕ) (at : ℕ) (kind : Kind) (c : Id)
@@ -91,3 +82,20 @@ check_of_found o x check found passed = sym (ap (λ found. where_some found chec
 pub phase_fits : (R : Register) (c : Id) (r : Record) (fits : Phase → Bool) → record_of R.records c ≡ Some r → wrong_phase R c fits ≡ None → fits r.phase ≡ true
 phase_fits R c r fits found passed =
     not_refused_true (fits r.phase) WrongPhase (check_of_found (record_of R.records c) r (λ r. refuse (not (fits r.phase)) WrongPhase) found passed)
+
+-- WHERE A COMMAND HAS BEGUN: its clearance has a record, whose phase fits, and its own checks pass
+abbrev pub HasBegun : Register → Id → (Phase → Bool) → Type 0 → Type 0
+HasBegun R c phases Own = (r : Record) × (record_of R.records c ≡ Some r) × (phases r.phase ≡ true) × Own
+
+begun : (R : Register) (c : Id) (phases : Phase → Bool) {Own : Type 0} → unknown_clearance R c ≡ None → wrong_phase R c phases ≡ None → Own → HasBegun R c phases Own
+begun R c phases known right own = let (r, found) = record_there R c known in (r, found, phase_fits R c r phases found right, own)
+
+-- a command of an operator or of the field
+pub role_begun : (R : Register) (c : Id) (phases : Phase → Bool) {A B D Own : Type 0}
+    → A × (B × ((unknown_clearance R c ≡ None) × (D × ((wrong_phase R c phases ≡ None) × Own)))) → HasBegun R c phases Own
+role_begun R c phases passed = begun R c phases passed.1.1.0 passed.1.1.1.1.0 passed.1.1.1.1.1
+
+-- a command of the holder
+pub holder_begun : (R : Register) (c : Id) (phases : Phase → Bool) {A B D E Own : Type 0}
+    → A × (B × ((unknown_clearance R c ≡ None) × (D × (E × ((wrong_phase R c phases ≡ None) × Own))))) → HasBegun R c phases Own
+holder_begun R c phases passed = begun R c phases passed.1.1.0 passed.1.1.1.1.1.0 passed.1.1.1.1.1.1

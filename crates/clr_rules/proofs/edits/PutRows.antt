@@ -33,10 +33,7 @@ by_step T none R c n edits each = by_record T none R c (λ r. edits_by (step_at 
 abbrev pub PutsSuch : (Record → Type 0) → (StepRow → Type 0) → Edit → Type 0
 PutsSuch P Q (PutRecord r) = P r
 PutsSuch P Q (PutStep row) = Q row
-PutsSuch P Q (SetPosition p position) = Unit {0}
-PutsSuch P Q (SetHand p hand) = Unit {0}
-PutsSuch P Q (PutHold h) = Unit {0}
-PutsSuch P Q (TakeHold h) = Unit {0}
+PutsSuch P Q _ = Unit {0}
 
 abbrev pub AllPutSuch : (Record → Type 0) → (StepRow → Type 0) → List Edit → Type 0
 AllPutSuch P Q edits = AllByRecursion (PutsSuch P Q) edits
@@ -64,13 +61,7 @@ module _ (P : Record → Type 0) (Q : StepRow → Type 0) where
   done_put true d actions.Open p s row h k = (tt, (tt, (h, (k, tt))))
   done_put false d actions.Open p s row h k = (tt, (tt, (tt, (h, (k, tt)))))
   done_put switching d actions.Close p s row h k = (tt, (tt, (tt, (h, (k, tt)))))
-  done_put switching d actions.Block p s row h k = (tt, (tt, (h, (k, tt))))
-  done_put switching d actions.Control p s row h k = (tt, (tt, (h, (k, tt))))
-  done_put switching d actions.Tag p s row h k = (tt, (tt, (h, (k, tt))))
-  done_put switching d actions.Untag p s row h k = (tt, (tt, (h, (k, tt))))
-  done_put switching d actions.Uncontrol p s row h k = (tt, (tt, (h, (k, tt))))
-  done_put switching d actions.Unblock p s row h k = (tt, (tt, (h, (k, tt))))
-  done_put switching d actions.Leave p s row h k = (tt, (tt, (h, (k, tt))))
+  done_put switching d _ p s row h k = (tt, (tt, (h, (k, tt))))
 
   record_read : (edit : Edit) (R : Register) (c : Id) (s : Record) → PutsSuch P Q edit → record_of (Register.records (after_edit edit R)) c ≡ Some s
       → (record_of R.records c ≡ Some s) ⊎ P s
@@ -79,11 +70,7 @@ module _ (P : Record → Type 0) (Q : StepRow → Type 0) where
       at : (b : Bool) → cond b (Some r) (record_of R.records c) ≡ Some s → (record_of R.records c ≡ Some s) ⊎ P s
       at true is = inr (subst P (same_Some r s is) such)
       at false is = inl is
-  record_read (PutStep row) R c s such read = inl read
-  record_read (SetPosition p position) R c s such read = inl read
-  record_read (SetHand p hand) R c s such read = inl read
-  record_read (PutHold h) R c s such read = inl read
-  record_read (TakeHold h) R c s such read = inl read
+  record_read _ R c s such read = inl read
 
   -- a record that is read after edits was read before them, or is such as they put
   pub record_after : (edits : List Edit) (R : Register) (c : Id) (s : Record) → AllPutSuch P Q edits → record_of (Register.records (after_edits edits R)) c ≡ Some s
@@ -107,10 +94,7 @@ module _ (c : Id) (kind : HoldKind) (place : List ℕ) where
   left_by : (edit : Edit) (R : Register) → Leaves c kind place edit → has_hold R.holds c kind place ≡ true → has_hold (Register.holds (after_edit edit R)) c kind place ≡ true
   left_by (TakeHold h) R leaves has = has_hold-taken h R.holds c kind place ∙ rw (leaves, has) refl
   left_by (PutHold h) R leaves has = has_hold-put h R.holds c kind place ∙ ap (λ b. is_hold h c kind place || b) has ∙ or-true (is_hold h c kind place)
-  left_by (PutRecord r) R leaves has = has
-  left_by (PutStep row) R leaves has = has
-  left_by (SetPosition p position) R leaves has = has
-  left_by (SetHand p hand) R leaves has = has
+  left_by _ R leaves has = has
 
   pub left_by_all : (edits : List Edit) (R : Register) → AllLeave c kind place edits → has_hold R.holds c kind place ≡ true
       → has_hold (Register.holds (after_edits edits R)) c kind place ≡ true

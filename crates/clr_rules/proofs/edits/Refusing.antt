@@ -21,11 +21,7 @@ use Rattle.clr_rules.proofs.edits.Passing.{named_recorded}
 
 pub edited-has_record : (edit : Edit) (R : Register) (c : Id) → has_record R.records c ≡ true → has_record (Register.records (after_edit edit R)) c ≡ true
 edited-has_record (PutRecord r) R c h = has_record-put c r R.records h
-edited-has_record (SetPosition p position) R c h = h
-edited-has_record (SetHand p hand) R c h = h
-edited-has_record (PutHold hold) R c h = h
-edited-has_record (TakeHold hold) R c h = h
-edited-has_record (PutStep row) R c h = h
+edited-has_record _ R c h = h
 
 -- no edit takes a record away
 pub edited_all-has_record : (edits : List Edit) (R : Register) (c : Id) → has_record R.records c ≡ true

@@ -104,10 +104,7 @@ edited_bounded (PutRecord r) R such bounded =
     record { numbers = All-with_row id_cmp record_key id_cmp_total IsNumber r R.records such bounded.numbers; rounds = bounded.rounds }
 edited_bounded (PutStep row) R such bounded =
     record { numbers = bounded.numbers; rounds = All-with_row step_key_cmp step_key step_key_cmp_total IsRound row R.steps such bounded.rounds }
-edited_bounded (SetPosition p position) R such bounded = record { numbers = bounded.numbers; rounds = bounded.rounds }
-edited_bounded (SetHand p hand) R such bounded = record { numbers = bounded.numbers; rounds = bounded.rounds }
-edited_bounded (PutHold h) R such bounded = record { numbers = bounded.numbers; rounds = bounded.rounds }
-edited_bounded (TakeHold h) R such bounded = record { numbers = bounded.numbers; rounds = bounded.rounds }
+edited_bounded _ R such bounded = record { numbers = bounded.numbers; rounds = bounded.rounds }
 
 edited_all_bounded : (edits : List Edit) (R : Register) → PutInBounds edits → IsBounded R → IsBounded (after_edits edits R)
 unfolding after_edits

@@ -29,7 +29,7 @@ use Rattle.clr_rules.specs.declared.refusal.Refusal.TheVariants.{NotAttested}
 use Rattle.clr_rules.proofs.good.GoodToPhases.{to_phases}
 use Rattle.clr_rules.proofs.good.IsolatingSteps.{is_isolating, isolating_step}
 use Rattle.clr_rules.proofs.keeps.OneRecord.{in_phase_of}
-use Rattle.clr_rules.proofs.edits.Passing.{Pass, all_pass, not_refused_true, phase_fits}
+use Rattle.clr_rules.proofs.edits.Passing.{Pass, all_pass, holder_begun, not_refused_true, role_begun}
 use Rattle.clr_rules.proofs.good.PhaseFacts.{first_present}
 use Rattle.clr_rules.proofs.good.PlaceFacts.{in_round}
 use Rattle.clr_rules.proofs.edits.PresentSteps.{IsPresent, step_there}
@@ -140,7 +140,7 @@ module _ (R : Register) (k : Known) (by : List ℕ) (at : ℕ) where
   all_came (kinds.Transfer c to emergency) passed = by_record (AllPutSuch (CameSo R (kinds.Transfer c to emergency)) AnyStep) tt R c _ (λ r found.
       (same_phase R (kinds.Transfer c to emergency) r c found to at, tt))
   all_came (kinds.Release c notified clear) passed =
-      let (_, (_, (_, (_, (_, (phase_passes, (_, (_, (attested_passes, _))))))))) = passed in
+      let (was, read, fits, (_, (_, (attested_passes, _)))) = holder_begun R c is_granted passed in
       by_record (AllPutSuch (CameSo R (kinds.Release c notified clear)) AnyStep) tt R c _ (λ r found.
       both_put (CameSo R (kinds.Release c notified clear)) AnyStep (map (λ place. TakeHold (hold_of c Tested place)) (places_of R.holds c Tested)) _
       (takes_put (CameSo R (kinds.Release c notified clear)) AnyStep c (places_of R.holds c Tested)) (
@@ -149,16 +149,16 @@ module _ (R : Register) (k : Known) (by : List ℕ) (at : ℕ) where
               r,
               ap (record_of R.records) own_id ∙ found,
               inr (inl
-                  (granted_is r.phase (phase_fits R c r is_granted found phase_passes), λ i. kinds.Release (sym own_id i) (said.0 i) (said.1 i))),
+                  (granted_is r.phase (subst (λ (x : Record). is_granted x.phase ≡ true) (same_Some was r (sym read ∙ found)) fits), λ i. kinds.Release (sym own_id i) (said.0 i) (said.1 i))),
             ),
         tt,
       ))
   all_came (kinds.Cancel c) passed = by_record (AllPutSuch (CameSo R (kinds.Cancel c)) AnyStep) tt R c _ (λ r found.
       (cancelled R (kinds.Cancel c) r c found at (is_ordered r.phase && has_any_hold R.holds r.id) refl refl, tt))
   all_came (kinds.Restore c tasks) passed =
-      let (_, (_, (_, (_, (phase_passes, _))))) = passed in
+      let (was, read, fits, _) = role_begun R c is_released passed in
       by_record (AllPutSuch (CameSo R (kinds.Restore c tasks)) AnyStep) tt R c _ (λ r found. (
-        (r, here R (kinds.Restore c tasks) r c found, inr (released_is r.phase (phase_fits R c r is_released found phase_passes))),
+        (r, here R (kinds.Restore c tasks) r c found, inr (released_is r.phase (subst (λ (x : Record). is_released x.phase ≡ true) (same_Some was r (sym read ∙ found)) fits))),
         new_only (CameSo R (kinds.Restore c tasks)) c 2 1 tasks,
       ))
   all_came (kinds.Amend c n) passed = by_step (AllPutSuch (CameSo R (kinds.Amend c n)) AnyStep) tt R c n _ (λ r row found step.
@@ -294,10 +294,10 @@ module _ (R : Register) (good : IsGoodByPhase R) (c : Id) (p : List ℕ) (k : Kn
   leaves_or_untags (kinds.Instruct d n) passed = inl (by_step (AllLeave c Tag p) tt R d n _ (λ r row found step. (tt, (tt, (tt, tt)))))
   leaves_or_untags (kinds.Repeat d n text) passed = inl (by_step (AllLeave c Tag p) tt R d n _ (λ r row found step. (tt, (tt, tt))))
   leaves_or_untags (kinds.Report d n done) passed =
-      let (_, (_, (_, (_, (phase_passes, (step_passes, _)))))) = passed in
+      let (was, read, fits, (step_passes, _)) = role_begun R d is_running passed in
       by_step (λ edits. AllLeave c Tag p edits ⊎ IsUntag R c p (asked by at (kinds.Report d n done))) (inl tt) R d n _ (λ r row found step.
       let s = step_there R d n step_passes in
-      report_leaves R c p good by at d n r found (phase_fits R d r is_running found phase_passes) row step
+      report_leaves R c p good by at d n r found (subst (λ (x : Record). is_running x.phase ≡ true) (same_Some was r (sym read ∙ found)) fits) row step
       (subst (IsPresent R d) (same_Some s.row row (sym s.found ∙ step)) s.is_present) done)
   leaves_or_untags (kinds.Grant d) passed = inl (by_record (AllLeave c Tag p) tt R d _ (λ r found. (tt, tt)))
   leaves_or_untags (kinds.Test d section dead) passed = inl (by_record (AllLeave c Tag p) tt R d _ (λ r found. test_leaves R c p d section dead (record r { last = at })))

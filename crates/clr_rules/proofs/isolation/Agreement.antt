@@ -96,20 +96,14 @@ unfolding holds_of
 take_own c h holds = filter-without_row hold_cmp hold_key hold_cmp_total (λ other. same_id c other.id) h holds
 
 pub holds_of-edited : (R : Register) → ListsAreInOrder R → (c : Id) (edit : Edit) → holds_of (Register.holds (after_edit edit R)) c ≡ own_after c edit (holds_of R.holds c)
-holds_of-edited R ordered c (SetPosition point position) = refl
-holds_of-edited R ordered c (SetHand point hand) = refl
 holds_of-edited R ordered c (PutHold h) = put_own c h R.holds ordered.holds (same_id c h.id) refl
 holds_of-edited R ordered c (TakeHold h) = take_own c h R.holds
-holds_of-edited R ordered c (PutRecord r) = refl
-holds_of-edited R ordered c (PutStep row) = refl
+holds_of-edited R ordered c _ = refl
 
 holds_of-other : (R : Register) → ListsAreInOrder R → (c : Id) (edit : Edit) → is_about c edit ≡ false → holds_of (Register.holds (after_edit edit R)) c ≡ holds_of R.holds c
-holds_of-other R ordered c (SetPosition point position) other = refl
-holds_of-other R ordered c (SetHand point hand) other = refl
 holds_of-other R ordered c (PutHold h) other = holds_of-others c h R.holds ordered.holds other
 holds_of-other R ordered c (TakeHold h) other = holds_of-others_taken c h R.holds other
-holds_of-other R ordered c (PutRecord r) other = refl
-holds_of-other R ordered c (PutStep row) other = refl
+holds_of-other R ordered c _ other = refl
 
 -- ---- the greatest number of its requester
 
@@ -119,12 +113,8 @@ greatest_after requester edit n = n
 
 greatest-edited : (R : Register) → ListsAreInOrder R → (requester : List ℕ) (edit : Edit)
     → greatest_number (Register.records (after_edit edit R)) requester ≡ greatest_after requester edit (greatest_number R.records requester)
-greatest-edited R ordered requester (SetPosition point position) = refl
-greatest-edited R ordered requester (SetHand point hand) = refl
-greatest-edited R ordered requester (PutHold h) = refl
-greatest-edited R ordered requester (TakeHold h) = refl
 greatest-edited R ordered requester (PutRecord r) = greatest-put r R.records requester ordered.records
-greatest-edited R ordered requester (PutStep row) = refl
+greatest-edited R ordered requester _ = refl
 
 put_known : (r : Record) (records : List Record) (requester : List ℕ) → in_key_order id_cmp record_key records ≡ true
     → (b known : Bool) → same_name requester r.id.requester ≡ b → has_record records r.id ≡ known → (b && not known) ≡ false
@@ -136,13 +126,9 @@ put_known r records requester ordered false known is there not_new = greatest-pu
 -- an edit that gives a requester no new clearance leaves the greatest number
 greatest-known : (R : Register) → ListsAreInOrder R → (requester : List ℕ) (edit : Edit) → is_new_of R.records requester edit ≡ false
     → greatest_number (Register.records (after_edit edit R)) requester ≡ greatest_number R.records requester
-greatest-known R ordered requester (SetPosition point position) not_new = refl
-greatest-known R ordered requester (SetHand point hand) not_new = refl
-greatest-known R ordered requester (PutHold h) not_new = refl
-greatest-known R ordered requester (TakeHold h) not_new = refl
 greatest-known R ordered requester (PutRecord r) not_new =
     put_known r R.records requester ordered.records (same_name requester r.id.requester) (has_record R.records r.id) refl refl not_new
-greatest-known R ordered requester (PutStep row) not_new = refl
+greatest-known R ordered requester _ not_new = refl
 
 and_not : (b known after : Bool) → (known ≡ true → after ≡ true) → (b && not known) ≡ false → (b && not after) ≡ false
 and_not true true after stays not_new = rw (stays refl) refl
@@ -152,13 +138,9 @@ and_not false known after stays not_new = refl
 -- so what gives no new clearance now gives none after an edit
 not_new-edited : (R : Register) (requester : List ℕ) (edit next : Edit) → is_new_of R.records requester next ≡ false
     → is_new_of (Register.records (after_edit edit R)) requester next ≡ false
-not_new-edited R requester edit (SetPosition point position) not_new = refl
-not_new-edited R requester edit (SetHand point hand) not_new = refl
-not_new-edited R requester edit (PutHold h) not_new = refl
-not_new-edited R requester edit (TakeHold h) not_new = refl
 not_new-edited R requester edit (PutRecord r) not_new = and_not (same_name requester r.id.requester) (has_record R.records r.id)
     (has_record (Register.records (after_edit edit R)) r.id) (edited-has_record edit R r.id) not_new
-not_new-edited R requester edit (PutStep row) not_new = refl
+not_new-edited R requester edit _ not_new = refl
 
 -- ---- lists of edits of others
 

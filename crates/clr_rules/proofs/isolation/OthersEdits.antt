@@ -13,13 +13,13 @@ use Rattle.clr_rules.specs.Changes.{done_edits, edits_by, new_steps, point_edits
 use Rattle.clr_rules.specs.Checks.{other_hand, refuse, where_some}
 use Rattle.clr_rules.specs.Command.{named_clearance}
 use Rattle.clr_rules.specs.Prelude.{Edit, SetPosition, SetHand, TakeHold, PutRecord, PutStep, Command, Kind, HeldOpen, Tested, Record, Refusal, StepRow, Id, same_id, Register, hand_of, has_in_hand, greatest_number, record_of}
-use Rattle.clr_rules.specs.Prelude.{present_steps, step_at, has_hold, hold_of, places_of, after_edits}
+use Rattle.clr_rules.specs.Prelude.{is_running, present_steps, step_at, has_hold, hold_of, places_of, after_edits}
 use Rattle.clr_rules.specs.Footprint.{Frame, all_spare, both_or_neither, spares}
 use Rattle.clr_rules.specs.FrameLaws.{is_report, subject_of}
 use Rattle.clr_rules.specs.Good.{HandMatchesStep, IsGoodAsSaid, ListsAreInOrder}
 use Rattle.clr_rules.specs.GoodByPhase.{outlook_of}
 use Rattle.clr_rules.specs.Id.{same_id_equiv}
-use Rattle.clr_rules.specs.Isolation.{HeldStayOpen, is_about_another, is_others}
+use Rattle.clr_rules.specs.Isolation.{HeldStayOpen, LeftAlone, is_about_another, is_others}
 use Rattle.clr_rules.specs.Records.{is_switch_order}
 use Rattle.clr_rules.specs.Run.{after}
 use Rattle.clr_rules.specs.States.{is_hand}
@@ -28,7 +28,7 @@ use Rattle.clr_rules.specs.declared.refusal.Refusal.TheVariants.{InHand, StepSta
 use Rattle.clr_rules.specs.declared.command.Kind.TheVariants as kinds
 use Rattle.clr_rules.proofs.lists.FoundSteps.{present_step, step_is_active, step_is_closing}
 use Rattle.clr_rules.proofs.lists.NewNumbers.{new_is_another}
-use Rattle.clr_rules.proofs.edits.Passing.{all_pass, not_refused_true}
+use Rattle.clr_rules.proofs.edits.Passing.{all_pass, not_refused_true, role_begun}
 use Rattle.clr_rules.proofs.lists.RoundSteps.{one_id, record_id}
 use Rattle.clr_rules.proofs.isolation.Sparing.{has_hold-same, sparing_edits_keep_outlook, sparing_edits_leave_alone}
 use Rattle.clr_rules.proofs.lists.StepSplits.{repeated_is_active}
@@ -94,15 +94,9 @@ module _ (c : Id) (R : Register) where
       → all_spare c R (point_edits switching r.id action p ++ PutRecord r2 ∷ PutStep row ∷ []) ≡ true
   done_spares actions.Open true p r r2 row hand shut own kept step = and_from _ _ hand (and_from _ _ kept (and_from _ _ step refl))
   done_spares actions.Open false p r r2 row hand shut own kept step = and_from _ _ hand (and_from _ _ own (and_from _ _ kept (and_from _ _ step refl)))
-  done_spares actions.Block switching p r r2 row hand shut own kept step = and_from _ _ hand (and_from _ _ own (and_from _ _ kept (and_from _ _ step refl)))
-  done_spares actions.Control switching p r r2 row hand shut own kept step = and_from _ _ hand (and_from _ _ own (and_from _ _ kept (and_from _ _ step refl)))
-  done_spares actions.Tag switching p r r2 row hand shut own kept step = and_from _ _ hand (and_from _ _ own (and_from _ _ kept (and_from _ _ step refl)))
-  done_spares actions.Untag switching p r r2 row hand shut own kept step = and_from _ _ hand (and_from _ _ own (and_from _ _ kept (and_from _ _ step refl)))
-  done_spares actions.Uncontrol switching p r r2 row hand shut own kept step = and_from _ _ hand (and_from _ _ own (and_from _ _ kept (and_from _ _ step refl)))
-  done_spares actions.Unblock switching p r r2 row hand shut own kept step = and_from _ _ hand (and_from _ _ own (and_from _ _ kept (and_from _ _ step refl)))
   done_spares actions.Close switching p r r2 row hand shut own kept step =
       and_from _ _ (shut refl) (and_from _ _ hand (and_from _ _ own (and_from _ _ kept (and_from _ _ step refl))))
-  done_spares actions.Leave switching p r r2 row hand shut own kept step = and_from _ _ hand (and_from _ _ own (and_from _ _ kept (and_from _ _ step refl)))
+  done_spares _ switching p r r2 row hand shut own kept step = and_from _ _ hand (and_from _ _ own (and_from _ _ kept (and_from _ _ step refl)))
 
 -- ---- reports, where the hands match the steps
 
@@ -140,7 +134,7 @@ module _ (c : Id) (R : Register) (k : Known) (by : List ℕ) (at : ℕ) where
   edits_spare (kinds.Order d points tasks) matches others passed =
       by_record c R d _ others (λ r own. and_from _ _ own (steps_spare c R d 1 1 tasks others))
   edits_spare (kinds.Instruct d n) matches others passed = by_step c R d n _ others (λ r row found own step.
-      let (_, (_, (_, (_, (_, (_, (_, (_, (hand_passes, _))))))))) = all_pass (checks k R by at (kinds.Instruct d n)) passed in
+      let (_, _, _, (_, (_, (_, (hand_passes, _))))) = role_begun R d is_running (all_pass (checks k R by at (kinds.Instruct d n)) passed) in
       let free : other_hand d (hand_of R.states row.step.point) ≡ None =
       check_of_found (step_at (present_steps R.steps d) n) row (λ row. other_hand d (hand_of R.states row.step.point)) found hand_passes in
       and_from _ _ (spares_hand c R row.step.point (Some d) (no_other_hand c d (hand_of R.states row.step.point) (not-true (same_id c d) others) free) (not-true (same_id c d) others))
@@ -148,7 +142,7 @@ module _ (c : Id) (R : Register) (k : Known) (by : List ℕ) (at : ℕ) where
   edits_spare (kinds.Repeat d n text) matches others passed =
       by_step c R d n _ others (λ r row found own step. and_from _ _ own (and_from _ _ step refl))
   edits_spare (kinds.Report d n done) matches others passed = by_step c R d n _ others (λ r row found own step.
-      let (_, (_, (_, (_, (_, (_, (state_passes, _))))))) = all_pass (checks k R by at (kinds.Report d n done)) passed in
+      let (_, _, _, (_, (state_passes, _))) = role_begun R d is_running (all_pass (checks k R by at (kinds.Report d n done)) passed) in
       let check : refuse (not (is_repeated row.step.state)) WrongState ≡ None =
       check_of_found (step_at (present_steps R.steps d) n) row (λ row. refuse (not (is_repeated row.step.state)) WrongState) found
       state_passes in
@@ -226,3 +220,6 @@ others_keep_held_open R c q good others p held =
     let held_before : has_hold R.holds c HeldOpen p ≡ true =
     sym (has_hold-same R.holds (Register.holds (after R q)) c HeldOpen p frame.same_holds) ∙ held in
     frame.closes_nothing p held_before (good.held_points_are_open.open_there c HeldOpen p refl held_before)
+
+pub others_left_alone : (R : Register) (c : Id) (q : Command) → IsGoodAsSaid R → is_others c R q ≡ true → LeftAlone c R (after R q)
+others_left_alone R c q good others = record { frame = others_spare R c q good others; held_open = others_keep_held_open R c q good others }

@@ -3,7 +3,8 @@ use Rattle.std.proofs.Common.{◌≡◌, ℕ, Bool, true, false, List, [], ◌�
 use Rattle.std.proofs.lemmas.Bool.{both_ways}
 use Rattle.clr_order.specs.Step.{Task}
 use Rattle.clr_rules.specs.Answer.{answer, first_refusal, known_of, answer_by_checks}
-use Rattle.clr_rules.specs.Checks.{earlier_moment, is_operator, unknown_caller, unknown_clearance, unsound_order, wrong_phase, wrong_role}
+use Rattle.clr_rules.specs.Checks.{is_operator, unsound_order}
+use Rattle.clr_rules.specs.Commands.{by_operator}
 use Rattle.clr_rules.specs.Fences.{order_fence}
 use Rattle.clr_rules.specs.Prelude.{Command, Kind, Refusal, Id, Register, record_of}
 use Rattle.clr_rules.specs.Isolation.{AreAlike, OwnStep}
@@ -17,9 +18,9 @@ use Rattle.clr_rules.specs.declared.reply.Reply.TheVariants.{Refused}
 use Rattle.clr_rules.proofs.isolation.LookAlike.{look_alike}
 use Rattle.clr_rules.proofs.near.NewAnswers.{same_near_same_answer}
 use Rattle.clr_rules.proofs.isolation.OthersSteps.{same_answers_agree}
-use Rattle.clr_rules.proofs.near.OwnChecks.{caller, clearance, moment, phase, role}
+use Rattle.clr_rules.proofs.near.OwnChecks.{same_by_role}
 use Rattle.clr_rules.proofs.near.OwnParts.{agreeing_have_same}
-use Rattle.clr_rules.proofs.edits.Passing.{all_pass, first_stops, phase_fits, record_there}
+use Rattle.clr_rules.proofs.edits.Passing.{all_pass, first_stops, role_begun}
 use Rattle.clr_rules.proofs.lists.RoundSteps.{one_id}
 
 -- ---- an order of a clearance that is not Requested is refused alike
@@ -30,14 +31,13 @@ module _ (by : List ℕ) (at : ℕ) (c : Id) (points : List (List ℕ)) (tasks :
 
   -- the checks before that of the order itself
   abbrev early : Register → List (Option Refusal)
-  early T = unknown_caller T by ∷ wrong_role T by is_operator ∷ unknown_clearance T c ∷ earlier_moment T c at ∷ wrong_phase T c is_requested ∷ []
+  early T = by_operator T by at c is_requested []
 
   -- one of these applies
   too_late : (R : Register) → found_phase_requested (record_of R.records c) ≡ false → first_refusal (early R) ≡ None → ⊥
   too_late R late h =
-      let (_, (_, (clearance_passes, (_, (phase_passes, _))))) = all_pass (early R) h in
-      let (r, read) = record_there R c clearance_passes in
-      both_ways (found_phase_requested (record_of R.records c)) late (rw read (phase_fits R c r is_requested read phase_passes))
+      let (r, read, fits, _) = role_begun R c is_requested (all_pass (early R) h) in
+      both_ways (found_phase_requested (record_of R.records c)) late (rw read fits)
 
   refused : (T : Register) (refusal : Refusal) → first_refusal (early T) ≡ Some refusal → answer T ordered ≡ record { reply = Refused refusal; edits = [] }
   refused T refusal h = ap (answer_by_checks (known_of T ordered) T ordered)
@@ -47,7 +47,7 @@ module _ (by : List ℕ) (at : ℕ) (c : Id) (points : List (List ℕ)) (tasks :
   late_order R S same late = from (first_refusal (early R)) refl
     where
       same_early : early R ≡ early S
-      same_early = λ i. caller c R S same by i ∷ role c R S same by is_operator i ∷ clearance c R S same i ∷ moment c R S same at i ∷ phase c R S same is_requested i ∷ []
+      same_early = same_by_role c R S same by at is_operator is_requested (λ i. [])
 
       from : (o : Option Refusal) → first_refusal (early R) ≡ o → answer R ordered ≡ answer S ordered
       from None h = absurd (too_late R late h)

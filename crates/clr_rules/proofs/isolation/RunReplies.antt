@@ -9,7 +9,7 @@ use Rattle.clr_rules.specs.RunHeadline.{IsRun, OthersChangeNoReply, OthersTakeNo
 use Rattle.clr_rules.specs.Shown.{is_own_command, own_answers}
 use Rattle.clr_rules.proofs.keeps.EveryKind.{reached_are_good}
 use Rattle.clr_rules.proofs.isolation.Headline.{own_alone, same_shown}
-use Rattle.clr_rules.proofs.isolation.OthersEdits.{others_keep_held_open, others_spare}
+use Rattle.clr_rules.proofs.isolation.OthersEdits.{others_left_alone}
 use Rattle.clr_rules.proofs.edits.Runs.{reached_go_on}
 
 one_more : (own : Bool) (a : Answer) (told : List Reply) (answers : List Answer) → told ≡ map (λ (x : Answer). x.reply) answers
@@ -40,7 +40,7 @@ pub others_take_nothing : (R : Register) (commands : List Command) → OthersTak
 others_take_nothing R commands c earlier q later reached split others =
     let here = after_all R earlier in
     let good = reached_are_good here (reached_go_on R reached earlier) in
-    (others_spare here c q good.said others, others_keep_held_open here c q good.said others)
+    others_left_alone here c q good.said others
 
 pub own_stand_alone : (R : Register) (commands : List Command) (told : List Reply) (S : Register) → IsRun R commands told S
     → OwnStandAlone R commands told

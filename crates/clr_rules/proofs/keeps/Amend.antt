@@ -19,7 +19,7 @@ use Rattle.clr_rules.specs.declared.refusal.Refusal.TheVariants.{StepState as Wr
 use Rattle.clr_rules.proofs.good.Keeping.{KeepsGood, commands_keep, keeps}
 use Rattle.clr_rules.proofs.keeps.OneRecord.{in_phase_of}
 use Rattle.clr_rules.proofs.keeps.Repeat.{turns_split}
-use Rattle.clr_rules.proofs.edits.Passing.{check_of_found, not_refused_true, phase_fits, record_there}
+use Rattle.clr_rules.proofs.edits.Passing.{check_of_found, not_refused_true, role_begun}
 use Rattle.clr_rules.proofs.edits.PresentSteps.{IsPresent, found_step_edits, step_there}
 use Rattle.clr_rules.proofs.edits.PutRecords.{put_changes, quiet}
 use Rattle.clr_rules.proofs.edits.PutSteps.{StepPut, closes_at, closing_by, known_put, others_put, phase_by, place_by, put_step, step_put}
@@ -212,11 +212,10 @@ amend_keeps R at c r row good found is p waits closes =
 
 pub amends_keep : (c : Id) (n : ℕ) → KeepsGood (Amend c n)
 amends_keep c n = commands_keep (Amend c n) (λ R by at good passed.
-    let (_, (_, (clearance_passes, (_, (phase_passes, (step_passes, (close_passes, _))))))) = passed in
-    let (r, found) = record_there R c clearance_passes in
+    let (r, found, fits, (step_passes, (close_passes, _))) = role_begun R c is_restoring passed in
     let s = step_there R c n step_passes in
     let both = and_parts (is_waiting s.row.step.state) (is_close s.row.step.action)
     (not_refused_true (is_waiting s.row.step.state && is_close s.row.step.action) WrongState
     (check_of_found (step_at (present_steps R.steps c) n) s.row (λ (row : StepRow). refuse (not (is_waiting row.step.state && is_close row.step.action)) WrongState) s.found close_passes)) in
     found_step_edits R c n r s.row (λ r row. PutRecord (record r { last = at }) ∷ PutStep (amended row) ∷ []) found s.found
-    (amend_keeps R at c r s.row good found (phase_fits R c r is_restoring found phase_passes) s.is_present both.0 both.1))
+    (amend_keeps R at c r s.row good found fits s.is_present both.0 both.1))

@@ -13,7 +13,7 @@ use Rattle.clr_rules.specs.declared.refusal.Refusal.TheVariants.{StepState as Wr
 use Rattle.clr_rules.proofs.good.Keeping.{KeepsGood, commands_keep}
 use Rattle.clr_rules.proofs.lists.HoldMembers.{hold_there}
 use Rattle.clr_rules.proofs.keeps.OneRecord.{found_edits, in_phase_of, record_alone}
-use Rattle.clr_rules.proofs.edits.Passing.{not_refused, phase_fits, record_there}
+use Rattle.clr_rules.proofs.edits.Passing.{holder_begun, not_refused}
 use Rattle.clr_rules.proofs.lists.RoundSteps.{own_id, record_id}
 
 -- a clearance without any hold has none
@@ -37,9 +37,7 @@ cancelled g _ work v o some fits rests none h = absurd (false≢true fits)
 
 pub cancels_keep : (c : Id) → KeepsGood (Cancel c)
 cancels_keep c = commands_keep (Cancel c) (λ R by at good passed.
-    let (_, (_, (clearance_passes, (_, (_, (phase_passes, (given_out_passes, _))))))) = passed in
-    let (r, found) = record_there R c clearance_passes in
-    let fits = phase_fits R c r is_cancellable found phase_passes in
+    let (r, found, fits, (given_out_passes, _)) = holder_begun R c is_cancellable passed in
     let rests = not_refused (some_active (steps_of R.steps c)) WrongState given_out_passes in
     let none : has_any_hold R.holds r.id ≡ false → (kind : HoldKind) (place : List ℕ) → has_hold R.holds c kind place ≡ false =
     λ free. no_hold_at R.holds c (ap (has_any_hold R.holds) (sym (record_id R.records c r found)) ∙ free) in

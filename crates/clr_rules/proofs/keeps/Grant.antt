@@ -5,17 +5,16 @@ use Rattle.clr_rules.specs.Prelude.{PutRecord, Granted, Id, is_ordered, all_done
 use Rattle.clr_rules.specs.declared.command.Kind.TheVariants.{Grant}
 use Rattle.clr_rules.specs.declared.refusal.Refusal.TheVariants.{StepsLeft}
 use Rattle.clr_rules.proofs.good.Keeping.{KeepsGood, commands_keep}
-use Rattle.clr_rules.proofs.edits.Passing.{not_refused_true, phase_fits, record_there}
+use Rattle.clr_rules.proofs.edits.Passing.{not_refused_true, role_begun}
 use Rattle.clr_rules.proofs.good.PlaceFacts.{to_granted}
 use Rattle.clr_rules.proofs.lists.RoundSteps.{of_round_is}
 use Rattle.clr_rules.proofs.keeps.OneRecord.{found_edits, in_phase_of, record_alone}
 
 pub grants_keep : (c : Id) → KeepsGood (Grant c)
 grants_keep c = commands_keep (Grant c) (λ R by at good passed.
-    let (_, (_, (clearance_passes, (_, (phase_passes, (steps_passes, _)))))) = passed in
-    let (r, found) = record_there R c clearance_passes in
+    let (r, found, fits, (steps_passes, _)) = role_begun R c is_ordered passed in
     let done : all_done (of_round (steps_of R.steps c) 1) ≡ true = rw (of_round_is R.steps c 1) (not_refused_true (all_done (steps_in R.steps c 1)) StepsLeft steps_passes) in
     found_edits R c r (λ r. PutRecord (record r { phase = Granted; last = at }) ∷ []) found
     (record_alone R c r (record r { phase = Granted; last = at }) good found refl refl
     (to_granted R.net r.phase r.work (outlook_of R c) (Some (record r { phase = Granted; last = at }))
-    (phase_fits R c r is_ordered found phase_passes) done (in_phase_of R c r good found))))
+    fits done (in_phase_of R c r good found))))

@@ -16,7 +16,7 @@ use Rattle.clr_rules.proofs.good.Keeping.{KeepsGood, commands_keep}
 use Rattle.clr_rules.proofs.lists.HoldMembers.{hold_there}
 use Rattle.clr_rules.proofs.keeps.Repeat.{state_fits}
 use Rattle.clr_rules.proofs.lists.NamedRows.{Contains-filter}
-use Rattle.clr_rules.proofs.edits.Passing.{check_of_found, not_refused_true, phase_fits, record_there}
+use Rattle.clr_rules.proofs.edits.Passing.{check_of_found, not_refused_true, role_begun}
 use Rattle.clr_rules.proofs.edits.PresentSteps.{found_step_edits, step_there, waiting_midst}
 use Rattle.clr_rules.proofs.lists.RoundSteps.{one_id, own_id}
 use Rattle.clr_rules.proofs.keeps.HandedStep.{IsFree, handed_keeps}
@@ -58,8 +58,7 @@ free_where_passed R c p passed d kind at_point has =
 
 pub instructs_keep : (c : Id) (n : ℕ) → KeepsGood (Instruct c n)
 instructs_keep c n = commands_keep (Instruct c n) (λ R by at good passed.
-    let (_, (_, (clearance_passes, (_, (phase_passes, (step_passes, (turn_passes, (state_passes, (hand_passes, (hold_passes, _)))))))))) = passed in
-    let (r, found) = record_there R c clearance_passes in
+    let (r, found, fits, (step_passes, (turn_passes, (state_passes, (hand_passes, (hold_passes, _)))))) = role_begun R c is_running passed in
     let s = step_there R c n step_passes in
     let turn : is_in_turn (present_steps R.steps c) s.row.ordinal ≡ true = rw s.ordinal (not_refused_true (is_in_turn (present_steps R.steps c) n) OutOfTurn turn_passes) in
     let waits : is_waiting s.row.step.state ≡ true = state_fits R c n s is_waiting state_passes in
@@ -70,7 +69,7 @@ instructs_keep c n = commands_keep (Instruct c n) (λ R by at good passed.
     let new = step_moved Instructed s.row.step.reader s.row in
     found_step_edits R c n r s.row
     (λ r row. SetHand row.step.point (Some c) ∷ PutRecord (record r { last = at }) ∷ PutStep (step_moved Instructed row.step.reader row) ∷ []) found s.found
-    (handed_keeps R good c r found (phase_fits R c r is_running found phase_passes) s.row new s.is_present refl refl
+    (handed_keeps R good c r found fits s.row new s.is_present refl refl
     (waiting_not_done s.row.step.state waits) refl
     (λ q. waiting_midst R good c r found s.row s.is_present q.before q.after q.was waits turn)
     at (Some c)

@@ -29,7 +29,7 @@ use Rattle.clr_rules.proofs.keeps.OneRecord.{found_edits, in_phase_of}
 use Rattle.clr_rules.proofs.lists.NamedRows.{has_name-filter, has_name-row}
 use Rattle.clr_rules.proofs.edits.PassedOrders.{by_name, by_test, no_refusal}
 use Rattle.clr_rules.proofs.edits.NewRounds.{IsReady, new_tasks, new_wait, none_in_round, others_are, round_is, round_moved, round_put, with_round}
-use Rattle.clr_rules.proofs.edits.Passing.{phase_fits, record_there}
+use Rattle.clr_rules.proofs.edits.Passing.{role_begun}
 use Rattle.clr_rules.proofs.good.PhaseFacts.{none_of_round}
 use Rattle.clr_rules.proofs.good.PutHolds.{needed_there, waiting_put_nothing}
 use Rattle.clr_rules.proofs.edits.PutRecords.{put_changes, outlook_with}
@@ -244,10 +244,9 @@ requested_bare g _ work v is h = absurd (false≢true is)
 
 pub orders_keep : (c : Id) (points : List (List ℕ)) (tasks : List Task) → KeepsGood (Order c points tasks)
 orders_keep c points tasks = commands_keep (Order c points tasks) (λ R by at good passed.
-    let (_, (_, (clearance_passes, (_, (phase_passes, (order_passes, _)))))) = passed in
-    let (r, found) = record_there R c clearance_passes in
+    let (r, found, fits, (order_passes, _)) = role_begun R c is_requested passed in
     let id : r.id ≡ c = record_id R.records c r found in
-    let (work, has_work, bare) = requested_bare R.net r.phase r.work (outlook_of R c) (phase_fits R c r is_requested found phase_passes) (in_phase_of R c r good found) in
+    let (work, has_work, bare) = requested_bare R.net r.phase r.work (outlook_of R c) fits (in_phase_of R c r good found) in
     let fence : order_fence R c points ≡ work_fence R.net (Some work) points =
     ap (found_order_fence R.net points) found ∙ ap (λ (o : Option (List ℕ)). work_fence R.net o points) has_work in
     let sound = order_passed R good.network work points tasks (ap (λ fence. unsound_order R fence points tasks) (sym fence) ∙ order_passes) in

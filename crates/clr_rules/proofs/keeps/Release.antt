@@ -17,7 +17,7 @@ use Rattle.clr_rules.proofs.lists.HoldMembers.{hold_there}
 use Rattle.clr_rules.proofs.keeps.OneRecord.{found_edits}
 use Rattle.clr_rules.proofs.keeps.Work.{GrantedWork, granted_work, has_some}
 use Rattle.clr_rules.proofs.lists.NamedRows.{Contains-filter, has_name-row}
-use Rattle.clr_rules.proofs.edits.Passing.{not_refused, phase_fits, record_there}
+use Rattle.clr_rules.proofs.edits.Passing.{holder_begun, not_refused}
 use Rattle.clr_rules.proofs.edits.PutRecords.{put_changes, outlook_with, quiet}
 use Rattle.clr_rules.proofs.lists.RoundSteps.{one_id, own_id, record_id}
 
@@ -142,9 +142,8 @@ module _ (R : Register) (good : IsGoodByPhase R) (c : Id) (r : Record) (found : 
 
 pub releases_keep : (c : Id) (notified clear : Bool) → KeepsGood (Release c notified clear)
 releases_keep c notified clear = commands_keep (Release c notified clear) (λ R by at good passed.
-    let (_, (_, (clearance_passes, (_, (_, (phase_passes, (crews_passes, (grounds_passes, _)))))))) = passed in
-    let (r, found) = record_there R c clearance_passes in
-    let w = granted_work R c r good found (phase_fits R c r is_granted found phase_passes) in
+    let (r, found, fits, (crews_passes, (grounds_passes, _))) = holder_begun R c is_granted passed in
+    let w = granted_work R c r good found fits in
     found_edits R c r (λ r. map (λ place. TakeHold (hold_of c Tested place)) (places_of R.holds c Tested) ++ PutRecord (record r { phase = Released; last = at }) ∷ []) found
     (release_keeps R good c r found w at (not_refused (has_some_hold R.holds c Crew) CrewsOn crews_passes)
     (not_refused (has_some_hold R.holds c Ground) Grounded grounds_passes)))

@@ -11,7 +11,7 @@ use Rattle.clr_rules.specs.declared.command.Kind.TheVariants.{Repeat}
 use Rattle.clr_rules.specs.declared.refusal.Refusal.TheVariants.{StepState as WrongState}
 use Rattle.clr_rules.proofs.good.Keeping.{KeepsGood, commands_keep, keeps}
 use Rattle.clr_rules.proofs.keeps.OneRecord.{in_phase_of}
-use Rattle.clr_rules.proofs.edits.Passing.{check_of_found, not_refused_true, phase_fits, record_there}
+use Rattle.clr_rules.proofs.edits.Passing.{check_of_found, not_refused_true, role_begun}
 use Rattle.clr_rules.proofs.edits.PresentSteps.{FoundStep, IsPresent, active_midst, active_moves, found_step_edits, step_there}
 use Rattle.clr_rules.proofs.edits.PutRecords.{put_changes, quiet}
 use Rattle.clr_rules.proofs.edits.PutSteps.{StepPut, closes_at, closing_by, known_put, others_put, phase_by, place_by, put_step, step_put}
@@ -66,8 +66,7 @@ repeat_keeps R by at c r row good found runs p active =
 
 pub repeats_keep : (c : Id) (n : ℕ) (text : List ℕ) → KeepsGood (Repeat c n text)
 repeats_keep c n text = commands_keep (Repeat c n text) (λ R by at good passed.
-    let (_, (_, (clearance_passes, (_, (phase_passes, (step_passes, (state_passes, _))))))) = passed in
-    let (r, found) = record_there R c clearance_passes in
+    let (r, found, fits, (step_passes, (state_passes, _))) = role_begun R c is_running passed in
     let s = step_there R c n step_passes in
     found_step_edits R c n r s.row (λ r row. PutRecord (record r { last = at }) ∷ PutStep (step_moved Repeated (Some by) row) ∷ []) found s.found
-    (repeat_keeps R by at c r s.row good found (phase_fits R c r is_running found phase_passes) s.is_present (state_fits R c n s is_active state_passes)))
+    (repeat_keeps R by at c r s.row good found fits s.is_present (state_fits R c n s is_active state_passes)))

@@ -28,7 +28,7 @@ use Rattle.clr_rules.proofs.keeps.HandedStep.{handed_keeps}
 use Rattle.clr_rules.proofs.good.IsolatingSteps.{is_isolating, isolating_step, puts_kind}
 use Rattle.clr_rules.proofs.keeps.OneRecord.{in_phase_of}
 use Rattle.clr_rules.proofs.keeps.Repeat.{state_fits, turns_split}
-use Rattle.clr_rules.proofs.edits.Passing.{phase_fits, record_there}
+use Rattle.clr_rules.proofs.edits.Passing.{role_begun}
 use Rattle.clr_rules.proofs.good.PhaseFacts.{first_present, hold_facts}
 use Rattle.clr_rules.proofs.good.PlaceFacts.{in_round}
 use Rattle.clr_rules.proofs.edits.PresentSteps.{IsPresent, active_midst, active_moves, found_step_edits, step_there}
@@ -286,11 +286,9 @@ undone_report R good c r found row p active runs at =
 
 pub reports_keep : (c : Id) (n : ℕ) (done : Bool) → KeepsGood (Report c n done)
 reports_keep c n done = commands_keep (Report c n done) (λ R by at good passed.
-    let (_, (_, (clearance_passes, (_, (phase_passes, (step_passes, (state_passes, _))))))) = passed in
-    let (r, found) = record_there R c clearance_passes in
+    let (r, found, runs, (step_passes, (state_passes, _))) = role_begun R c is_running passed in
     let s = step_there R c n step_passes in
     let active = repeated_is_active s.row.step.state (state_fits R c n s is_repeated state_passes) in
-    let runs = phase_fits R c r is_running found phase_passes in
     found_step_edits R c n r s.row (λ r row. cond done (done_edits R at r row) (undone_edits at r row)) found s.found
     (by_report R good c r found s.row s.is_present active runs at done))
   where

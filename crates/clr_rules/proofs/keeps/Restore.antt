@@ -33,7 +33,7 @@ use Rattle.clr_rules.proofs.keeps.OneRecord.{found_edits, in_phase_of}
 use Rattle.clr_rules.proofs.lists.NamedRows.{has_name-filter, row_named}
 use Rattle.clr_rules.proofs.edits.NewRounds.{IsReady, new_tasks, new_wait, none_in_round, others_are, put_all, round_is, round_moved, round_put, with_round}
 use Rattle.clr_rules.proofs.edits.PassedOrders.{by_name, by_test, no_refusal}
-use Rattle.clr_rules.proofs.edits.Passing.{phase_fits, record_there}
+use Rattle.clr_rules.proofs.edits.Passing.{role_begun}
 use Rattle.clr_rules.proofs.good.PutHolds.{put_at_points, put_beside_open}
 use Rattle.clr_rules.proofs.edits.PutRecords.{put_changes, outlook_with}
 use Rattle.clr_rules.proofs.lists.RoundSteps.{All-from_each, All-in_round, filter-none_passes, of_round_is, record_id, some_step_there}
@@ -173,10 +173,9 @@ module _ (R : Register) (r : Record) (at : ℕ) (tasks : List Task) (good : IsGo
 
 pub restores_keep : (c : Id) (tasks : List Task) → KeepsGood (Restore c tasks)
 restores_keep c tasks = commands_keep (Restore c tasks) (λ R by at good passed.
-    let (_, (_, (clearance_passes, (_, (phase_passes, (order_passes, _)))))) = passed in
-    let (r, found) = record_there R c clearance_passes in
+    let (r, found, fits, (order_passes, _)) = role_begun R c is_released passed in
     let own : r.id ≡ c = record_id R.records c r found in
-    let (work, work_is, h) = released R.net r.phase r.work (outlook_of R c) (phase_fits R c r is_released found phase_passes) (in_phase_of R c r good found) in
+    let (work, work_is, h) = released R.net r.phase r.work (outlook_of R c) fits (in_phase_of R c r good found) in
     found_edits R c r (λ r. PutRecord (record r { phase = Restoring; last = at }) ∷ put_steps (new_steps c 2 1 tasks)) found
     (subst (λ (d : Id). IsGoodByPhase (after_edits (PutRecord (record r { phase = Restoring; last = at }) ∷ put_steps (new_steps d 2 1 tasks)) R)) own
     (restore_keeps R r at tasks good work (subst (λ (d : Id). InReleased R.net work (outlook_of R d)) (sym own) h)

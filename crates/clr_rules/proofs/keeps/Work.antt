@@ -18,7 +18,7 @@ use Rattle.clr_rules.proofs.good.Keeping.{KeepsGood, Changed, commands_keep, kee
 use Rattle.clr_rules.proofs.lists.HoldChanges.{is_there, kind_itself, one_kind, others_hold_put, others_hold_taken, own_put, own_taken, was_or_put, was_there}
 use Rattle.clr_rules.proofs.lists.HoldMembers.{hold_there}
 use Rattle.clr_rules.proofs.keeps.OneRecord.{found_edits, in_phase_of}
-use Rattle.clr_rules.proofs.edits.Passing.{check_of_found, not_refused, not_refused_true, phase_fits, record_there}
+use Rattle.clr_rules.proofs.edits.Passing.{check_of_found, not_refused, holder_begun, not_refused_true}
 use Rattle.clr_rules.proofs.edits.PutRecords.{put_changes, outlook_with, quiet}
 use Rattle.clr_rules.proofs.lists.RoundSteps.{of_round_is, one_id, own_id, record_id}
 
@@ -213,9 +213,8 @@ module _ (R : Register) (good : IsGoodByPhase R) (c : Id) (r : Record) (found : 
 
 pub tests_keep : (c : Id) (section : List ℕ) (dead : Bool) → KeepsGood (Test c section dead)
 tests_keep c section dead = commands_keep (Test c section dead) (λ R by at good passed.
-    let (_, (_, (clearance_passes, (_, (_, (phase_passes, (inside_passes, _))))))) = passed in
-    let (r, found) = record_there R c clearance_passes in
-    let w = granted_work R c r good found (phase_fits R c r is_granted found phase_passes) in
+    let (r, found, fits, (inside_passes, _)) = holder_begun R c is_granted passed in
+    let w = granted_work R c r good found fits in
     let fenced = not_refused_true (has_name (clearance_fence R c) section) OutsideFence inside_passes in
     found_edits R c r (λ r. cond dead (PutHold (hold_of c Tested section)) (TakeHold (hold_of c Tested section)) ∷ PutRecord (record r { last = at }) ∷ []) found
     (by_test R good c r found w at section fenced dead))
@@ -228,9 +227,8 @@ tests_keep c section dead = commands_keep (Test c section dead) (λ R by at good
 
 pub grounds_keep : (c : Id) (section : List ℕ) → KeepsGood (GroundIt c section)
 grounds_keep c section = commands_keep (GroundIt c section) (λ R by at good passed.
-    let (_, (_, (clearance_passes, (_, (_, (phase_passes, (inside_passes, _))))))) = passed in
-    let (r, found) = record_there R c clearance_passes in
-    let w = granted_work R c r good found (phase_fits R c r is_granted found phase_passes) in
+    let (r, found, fits, (inside_passes, _)) = holder_begun R c is_granted passed in
+    let w = granted_work R c r good found fits in
     found_edits R c r (λ r. PutHold (hold_of c Ground section) ∷ PutRecord (record r { last = at }) ∷ []) found
     (ground_keeps R good c r found w at section (not_refused_true (has_name (clearance_fence R c) section) OutsideFence inside_passes)))
 
@@ -240,26 +238,23 @@ work_check R c r w check found passed = check_of_found r.work w.work check w.has
 
 pub ungrounds_keep : (c : Id) (section : List ℕ) → KeepsGood (Unground c section)
 ungrounds_keep c section = commands_keep (Unground c section) (λ R by at good passed.
-    let (_, (_, (clearance_passes, (_, (_, (phase_passes, (_, (_, (crews_passes, _))))))))) = passed in
-    let (r, found) = record_there R c clearance_passes in
-    let w = granted_work R c r good found (phase_fits R c r is_granted found phase_passes) in
+    let (r, found, fits, (_, (_, (crews_passes, _)))) = holder_begun R c is_granted passed in
+    let w = granted_work R c r good found fits in
     found_edits R c r (λ r. TakeHold (hold_of c Ground section) ∷ TakeHold (hold_of c Tested section) ∷ PutRecord (record r { last = at }) ∷ []) found
     (unground_keeps R good c r found w at section (not_refused (same_name w.work section && has_some_hold R.holds c Crew) CrewsOn
     (work_check R c r w (λ work. refuse (same_name work section && has_some_hold R.holds c Crew) CrewsOn) found crews_passes))))
 
 pub sign_ons_keep : (c : Id) (crew : List ℕ) → KeepsGood (SignOn c crew)
 sign_ons_keep c crew = commands_keep (SignOn c crew) (λ R by at good passed.
-    let (_, (_, (clearance_passes, (_, (_, (phase_passes, (_, (ground_passes, _)))))))) = passed in
-    let (r, found) = record_there R c clearance_passes in
-    let w = granted_work R c r good found (phase_fits R c r is_granted found phase_passes) in
+    let (r, found, fits, (_, (ground_passes, _))) = holder_begun R c is_granted passed in
+    let w = granted_work R c r good found fits in
     found_edits R c r (λ r. PutHold (hold_of c Crew crew) ∷ PutRecord (record r { last = at }) ∷ []) found
     (sign_on_keeps R good c r found w at crew (not_refused_true (has_hold R.holds c Ground w.work) NotGrounded
     (work_check R c r w (λ section. refuse (not (has_hold R.holds c Ground section)) NotGrounded) found ground_passes))))
 
 pub sign_offs_keep : (c : Id) (crew : List ℕ) → KeepsGood (SignOff c crew)
 sign_offs_keep c crew = commands_keep (SignOff c crew) (λ R by at good passed.
-    let (_, (_, (clearance_passes, (_, (_, (phase_passes, _)))))) = passed in
-    let (r, found) = record_there R c clearance_passes in
-    let w = granted_work R c r good found (phase_fits R c r is_granted found phase_passes) in
+    let (r, found, fits, _) = holder_begun R c is_granted passed in
+    let w = granted_work R c r good found fits in
     found_edits R c r (λ r. TakeHold (hold_of c Crew crew) ∷ PutRecord (record r { last = at }) ∷ []) found
     (sign_off_keeps R good c r found w at crew))

@@ -13,8 +13,8 @@ use Rattle.clr_shelf.proofs.Groups.{row_of-filter_inside}
 use Rattle.clr_shelf.proofs.Keys.{equal, same_text}
 use Rattle.clr_shelf.proofs.Lists.{filter-filter_wider}
 use Rattle.clr_rules.specs.Answer.{answer, answer_with, fence_for, first_refusal, known_of, answer_by_checks}
-use Rattle.clr_rules.specs.Commands.{checks}
-use Rattle.clr_rules.specs.Checks.{earlier_moment, hold_hinders, held_by, in_hand, is_operator, no_step, other_hand, out_of_turn, unknown_caller, unknown_clearance, where_some, wrong_phase, wrong_role, wrong_state}
+use Rattle.clr_rules.specs.Commands.{by_operator, checks}
+use Rattle.clr_rules.specs.Checks.{earlier_moment, hold_hinders, held_by, in_hand, is_operator, no_step, other_hand, out_of_turn, where_some, wrong_state}
 use Rattle.clr_rules.specs.Command.{named_clearance}
 use Rattle.clr_rules.specs.Fences.{clearance_fence, touching_names}
 use Rattle.clr_rules.specs.Good.{IsGoodAsSaid, OnlySwitchOrdersSwitch, steps_left_of}
@@ -32,11 +32,11 @@ use Rattle.clr_rules.proofs.keeps.Repeat.{state_fits}
 use Rattle.clr_rules.proofs.lists.NamedRows.{Contains-filter, has_name-row}
 use Rattle.clr_rules.proofs.near.NearOrder.{near_in_order}
 use Rattle.clr_rules.proofs.near.OwnAnswers.{settled_alike}
-use Rattle.clr_rules.proofs.near.OwnChecks.{caller, clearance, moment, number, phase, role, state, turn}
+use Rattle.clr_rules.proofs.near.OwnChecks.{number, same_by_role, state, turn}
 use Rattle.clr_rules.proofs.near.OwnHoldsNear.{round_one_touches}
 use Rattle.clr_rules.proofs.near.OwnParts.{near_has_own}
 use Rattle.clr_rules.proofs.near.OwnQuestions.{same_present}
-use Rattle.clr_rules.proofs.edits.Passing.{all_pass, first_after, phase_fits, record_there}
+use Rattle.clr_rules.proofs.edits.Passing.{all_pass, first_after, role_begun}
 use Rattle.clr_rules.proofs.edits.PresentSteps.{FoundStep, step_there}
 use Rattle.clr_rules.proofs.good.PutHolds.{found_there}
 use Rattle.clr_rules.proofs.lists.RoundSteps.{own_id}
@@ -137,8 +137,7 @@ module _ (R : Register) (good : IsGoodAsSaid R) (switch : OnlySwitchOrdersSwitch
 
   -- the checks before those of the point
   abbrev early : Register → List (Option Refusal)
-  early T = unknown_caller T by ∷ wrong_role T by is_operator ∷ unknown_clearance T c ∷ earlier_moment T c at ∷ wrong_phase T c is_running
-      ∷ no_step T c n ∷ out_of_turn T c n ∷ wrong_state T c n is_waiting ∷ []
+  early T = by_operator T by at c is_running (no_step T c n ∷ out_of_turn T c n ∷ wrong_state T c n is_waiting ∷ [])
 
   abbrev at_point : Register → List (Option Refusal)
   at_point T = in_hand T c n ∷ hold_hinders T c n ∷ []
@@ -149,8 +148,7 @@ module _ (R : Register) (good : IsGoodAsSaid R) (switch : OnlySwitchOrdersSwitch
   same_early : early R ≡ early (near_part R given)
   same_early =
       let S = near_part R given in
-      λ i. caller c R S same by i ∷ role c R S same by is_operator i ∷ clearance c R S same i ∷ moment c R S same at i ∷ phase c R S same is_running i
-      ∷ number c R S same n i ∷ turn c R S same n i ∷ state c R S same n is_waiting i ∷ []
+      same_by_role c R S same by at is_operator is_running (λ i. number c R S same n i ∷ turn c R S same n i ∷ state c R S same n is_waiting i ∷ [])
 
   -- the checks of the step's point say the same where its hand and the hold that hinders it are the same
   point_checks : (row : StepRow) → step_at (present_steps R.steps c) n ≡ Some row → is_beside R (known_of R given) (Instruct c n) row.step.point ≡ true
@@ -170,11 +168,10 @@ module _ (R : Register) (good : IsGoodAsSaid R) (switch : OnlySwitchOrdersSwitch
 
   same_point : first_refusal (early R) ≡ None → at_point R ≡ at_point (near_part R given)
   same_point h =
-      let (_, (_, (clearance_passes, (_, (phase_passes, (step_passes, (_, (state_passes, _)))))))) = all_pass (early R) h in
-      let (r, read) = record_there R c clearance_passes in
+      let (r, read, runs, (step_passes, (_, (state_passes, _)))) = role_begun R c is_running (all_pass (early R) h) in
       let s = step_there R c n step_passes in
       point_checks s.row s.found
-      (point_beside R good switch c n r read (phase_fits R c r is_running read phase_passes) s (state_fits R c n s is_waiting state_passes))
+      (point_beside R good switch c n r read runs s (state_fits R c n s is_waiting state_passes))
 
   same_refusal : first_refusal (checks (known_of R given) R by at (Instruct c n)) ≡ first_refusal (checks (known_of R given) (near_part R given) by at (Instruct c n))
   same_refusal = first_after (early R) (at_point R) (at_point (near_part R given)) (λ h. ap first_refusal (same_point h))

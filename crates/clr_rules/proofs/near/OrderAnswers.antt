@@ -11,7 +11,7 @@ use Rattle.clr_order.specs.Step.{Task}
 use Rattle.clr_shelf.proofs.Lists.{filter-filter_wider}
 use Rattle.clr_rules.specs.Answer.{answer, answer_with, first_refusal, known_of, answer_by_checks}
 use Rattle.clr_rules.specs.Commands.{checks}
-use Rattle.clr_rules.specs.Checks.{is_operator, refuse, where_some}
+use Rattle.clr_rules.specs.Checks.{is_operator}
 use Rattle.clr_rules.specs.Fences.{order_fence, rows_of_fence}
 use Rattle.clr_rules.specs.Good.{IsGoodAsSaid, OnlySwitchOrdersSwitch}
 use Rattle.clr_rules.specs.Prelude.{Command, Kind, Hold, HoldKind, Phase, Requested, Granted, Record, Refusal, Id, same_id, Register, record_of, is_standing, is_granted, is_point_kind}
@@ -23,16 +23,14 @@ use Rattle.clr_rules.specs.Records.{is_requested}
 use Rattle.clr_rules.specs.Refusals.{order_refusal}
 use Rattle.clr_rules.specs.Command.{named_clearance}
 use Rattle.clr_rules.specs.declared.command.Kind.TheVariants.{Instruct, Order}
-use Rattle.clr_rules.specs.declared.refusal.Refusal.TheVariants.{WrongPhase}
 use Rattle.clr_rules.proofs.near.GivenOut.{giving_out_is_enough}
 use Rattle.clr_rules.proofs.lists.HoldMembers.{hold_had}
 use Rattle.clr_rules.proofs.lists.Filters.{filter-no_member, kept_there}
 use Rattle.clr_rules.proofs.near.NearOrder.{near_in_order}
-use Rattle.clr_rules.proofs.lists.NewNumbers.{some_record}
 use Rattle.clr_rules.proofs.near.OwnAnswers.{accepted_alike, near_is_enough_but_orders, touching_rows_near}
-use Rattle.clr_rules.proofs.near.OwnChecks.{caller, clearance, moment, phase, role}
+use Rattle.clr_rules.proofs.near.OwnChecks.{same_by_role}
 use Rattle.clr_rules.proofs.near.OwnParts.{steps_of-own}
-use Rattle.clr_rules.proofs.edits.Passing.{all_pass, named_recorded, not_refused_true}
+use Rattle.clr_rules.proofs.edits.Passing.{all_pass, role_begun}
 use Rattle.clr_rules.proofs.lists.RoundSteps.{one_id}
 use Rattle.clr_rules.proofs.isolation.SameFences.{record_of-own}
 
@@ -87,24 +85,18 @@ module _ (R : Register) (good : IsGoodAsSaid R) (by : List ℕ) (at : ℕ) (c : 
   order_checks : checks (known_of R ordered) R by at (Order c points tasks) ≡ checks (known_of R ordered) (near_part R ordered) by at (Order c points tasks)
   order_checks =
       let S = record (near_part R ordered) { holds = R.holds } in
-      λ i. caller c R S same_but_holds by i ∷ role c R S same_but_holds by is_operator i ∷ clearance c R S same_but_holds i
-      ∷ moment c R S same_but_holds at i ∷ phase c R S same_but_holds is_requested i ∷ order_refusal (isolating_fault (rows_near i) points tasks) ∷ []
-
-  requested_here : (o : Option Record) (r : Record) → o ≡ Some r → where_some o (λ r. refuse (not (is_requested r.phase)) WrongPhase) ≡ None → is_requested r.phase ≡ true
-  requested_here o r is passed = not_refused_true (is_requested r.phase) WrongPhase (rw is at passed)
+      same_by_role c R S same_but_holds by at is_operator is_requested (λ i. order_refusal (isolating_fault (rows_near i) points tasks) ∷ [])
 
   order_settled : (found : Option Refusal) → first_refusal (checks (known_of R ordered) R by at (Order c points tasks)) ≡ found
       → answer_by_checks (known_of R ordered) R ordered found ≡ answer_by_checks (known_of R ordered) (near_part R ordered) ordered found
   order_settled (Some refusal) refused = refl
   order_settled None passed =
-      let there = some_record (record_of R.records c) (named_recorded (known_of R ordered) R by at (Order c points tasks) c passed refl) in
-      let (_, (_, (_, (_, (phase_passes, _))))) = all_pass (checks (known_of R ordered) R by at (Order c points tasks)) passed in
-      let requested = requested_here (record_of R.records c) there.0 there.1 phase_passes in
+      let (r, read, requested, _) = role_begun R c is_requested (all_pass (checks (known_of R ordered) R by at (Order c points tasks)) passed) in
       let same : SameOwn c R (near_part R ordered) = record {
         staff = refl;
         own_record = same_but_holds.own_record;
         own_steps = same_but_holds.own_steps;
-        own_holds = sym (holds_nothing R c good there.0 there.1 requested (is_near_hold (has_name (order_fence R c points)) (is_beside R (known_of R ordered) (Order c points tasks)) (Some c)));
+        own_holds = sym (holds_nothing R c good r read requested (is_near_hold (has_name (order_fence R c points)) (is_beside R (known_of R ordered) (Order c points tasks)) (Some c)));
       } in
       accepted_alike c R (near_part R ordered) good.in_order (near_in_order R ordered good.in_order) same (known_of R ordered) ordered refl refl
 

@@ -10,7 +10,7 @@ use Rattle.clr_order.specs.Restoring.{restoring_fault}
 use Rattle.clr_order.specs.Step.{Task, task}
 use Rattle.clr_order.specs.declared.step.StepState.{StepState}
 use Rattle.clr_order.specs.Texts.{step_text}
-use Rattle.clr_rules.specs.Commands.{Known, checks}
+use Rattle.clr_rules.specs.Commands.{Known, by_holder, by_role, checks}
 use Rattle.clr_rules.specs.Checks.{at_step, at_work, bad_transfer, crew_is_off, crew_is_on, crews_on, crews_on_work, earlier_moment, employee, any_ground, has_ground, is_charge, is_charge_or_operator, is_field, is_in_charge, is_operator, is_supervisor, may_not_transfer, no_step, not_attested, no_ground, not_holder, not_tested, out_of_turn, outside_fence, refuse, step_given_out, steps_left, unknown_caller, unknown_clearance, where_some, wrong_phase, wrong_restoring, wrong_role, wrong_state}
 use Rattle.clr_rules.specs.Command.{named_clearance}
 use Rattle.clr_rules.specs.Prelude.{Kind, Tested, Ground, Crew, Phase, Record, Refusal, StepRow, Id, Register, record_of, is_running, is_granted, is_restoring, is_ordered, all_done, is_active, is_waiting, points_of, step_at, steps_in}
@@ -109,6 +109,15 @@ module _ (c : Id) (R S : Register) (same : SameOwn c R S) where
       ap (λ (rows : List StepRow). order_refusal (restoring_fault (held_among R.holds c (points_of rows)) tasks)) (same_round c R S same 1)
       ∙ ap (λ held. order_refusal (restoring_fault held tasks)) (same_held_among c R S same (points_of (steps_in S.steps c 1)))
 
+  -- commands that begin alike
+  pub same_by_role : (by : List ℕ) (at : ℕ) (roles : Role → Bool) (phases : Phase → Bool) {own others : List (Option Refusal)} → own ≡ others
+      → by_role R by at c roles phases own ≡ by_role S by at c roles phases others
+  same_by_role by at roles phases own = λ i. caller by i ∷ role by roles i ∷ clearance i ∷ moment at i ∷ phase phases i ∷ own i
+
+  same_by_holder : (by : List ℕ) (at : ℕ) (roles : Role → Bool) (phases : Phase → Bool) {own others : List (Option Refusal)} → own ≡ others
+      → by_holder R by at c roles phases own ≡ by_holder S by at c roles phases others
+  same_by_holder by at roles phases own = λ i. caller by i ∷ role by roles i ∷ clearance i ∷ holder by i ∷ moment at i ∷ phase phases i ∷ own i
+
 -- the same of the clearance that is named
 abbrev pub SameOfNamed : Register → Register → Option Id → Type 0
 SameOfNamed R S None = ⊥
@@ -123,19 +132,19 @@ module _ (k : Known) (R S : Register) (by : List ℕ) (at : ℕ) where
   same_checks (kinds.Switch tasks) same no_order no_instruct = absurd same
   same_checks (kinds.Order c points tasks) same no_order no_instruct = cc no_order
   same_checks (kinds.Instruct c n) same no_order no_instruct = cc no_instruct
-  same_checks (kinds.Repeat c n text) same no_order no_instruct = λ i. caller c R S same by i ∷ role c R S same by is_field i ∷ clearance c R S same i ∷ moment c R S same at i ∷ phase c R S same is_running i ∷ number c R S same n i ∷ state c R S same n is_active i ∷ at_number c R S same n (λ row. refuse (not (bytes_eq (step_text (task row.step)) text)) refusals.RepeatDiffers) i ∷ []
-  same_checks (kinds.Report c n done) same no_order no_instruct = λ i. caller c R S same by i ∷ role c R S same by is_field i ∷ clearance c R S same i ∷ moment c R S same at i ∷ phase c R S same is_running i ∷ number c R S same n i ∷ state c R S same n is_repeated i ∷ at_number c R S same n (λ row. refuse (not (is_named by row.step.reader)) refusals.WrongReporter) i ∷ []
-  same_checks (kinds.Grant c) same no_order no_instruct = λ i. caller c R S same by i ∷ role c R S same by is_operator i ∷ clearance c R S same i ∷ moment c R S same at i ∷ phase c R S same is_ordered i ∷ all_steps c R S same i ∷ []
-  same_checks (kinds.Test c section dead) same no_order no_instruct = λ i. caller c R S same by i ∷ role c R S same by is_charge i ∷ clearance c R S same i ∷ holder c R S same by i ∷ moment c R S same at i ∷ phase c R S same is_granted i ∷ outside_fence k.fence section ∷ []
-  same_checks (kinds.Ground c section) same no_order no_instruct = λ i. caller c R S same by i ∷ role c R S same by is_charge i ∷ clearance c R S same i ∷ holder c R S same by i ∷ moment c R S same at i ∷ phase c R S same is_granted i ∷ outside_fence k.fence section ∷ tested c R S same section i ∷ other_ground c R S same section i ∷ []
-  same_checks (kinds.Unground c section) same no_order no_instruct = λ i. caller c R S same by i ∷ role c R S same by is_charge i ∷ clearance c R S same i ∷ holder c R S same by i ∷ moment c R S same at i ∷ phase c R S same is_granted i ∷ outside_fence k.fence section ∷ grounded_at c R S same section i ∷ crews_there c R S same section i ∷ []
-  same_checks (kinds.SignOn c crew) same no_order no_instruct = λ i. caller c R S same by i ∷ role c R S same by is_charge i ∷ clearance c R S same i ∷ holder c R S same by i ∷ moment c R S same at i ∷ phase c R S same is_granted i ∷ at_works c R S same (not_tested R c) (not_tested S c) (tested c R S same) i ∷ at_works c R S same (no_ground R c) (no_ground S c) (grounded_at c R S same) i ∷ no_crew c R S same crew i ∷ []
-  same_checks (kinds.SignOff c crew) same no_order no_instruct = λ i. caller c R S same by i ∷ role c R S same by is_charge i ∷ clearance c R S same i ∷ holder c R S same by i ∷ moment c R S same at i ∷ phase c R S same is_granted i ∷ has_crew c R S same crew i ∷ []
+  same_checks (kinds.Repeat c n text) same no_order no_instruct = same_by_role c R S same by at is_field is_running (λ i. number c R S same n i ∷ state c R S same n is_active i ∷ at_number c R S same n (λ row. refuse (not (bytes_eq (step_text (task row.step)) text)) refusals.RepeatDiffers) i ∷ [])
+  same_checks (kinds.Report c n done) same no_order no_instruct = same_by_role c R S same by at is_field is_running (λ i. number c R S same n i ∷ state c R S same n is_repeated i ∷ at_number c R S same n (λ row. refuse (not (is_named by row.step.reader)) refusals.WrongReporter) i ∷ [])
+  same_checks (kinds.Grant c) same no_order no_instruct = same_by_role c R S same by at is_operator is_ordered (λ i. all_steps c R S same i ∷ [])
+  same_checks (kinds.Test c section dead) same no_order no_instruct = same_by_holder c R S same by at is_charge is_granted (λ i. outside_fence k.fence section ∷ [])
+  same_checks (kinds.Ground c section) same no_order no_instruct = same_by_holder c R S same by at is_charge is_granted (λ i. outside_fence k.fence section ∷ tested c R S same section i ∷ other_ground c R S same section i ∷ [])
+  same_checks (kinds.Unground c section) same no_order no_instruct = same_by_holder c R S same by at is_charge is_granted (λ i. outside_fence k.fence section ∷ grounded_at c R S same section i ∷ crews_there c R S same section i ∷ [])
+  same_checks (kinds.SignOn c crew) same no_order no_instruct = same_by_holder c R S same by at is_charge is_granted (λ i. at_works c R S same (not_tested R c) (not_tested S c) (tested c R S same) i ∷ at_works c R S same (no_ground R c) (no_ground S c) (grounded_at c R S same) i ∷ no_crew c R S same crew i ∷ [])
+  same_checks (kinds.SignOff c crew) same no_order no_instruct = same_by_holder c R S same by at is_charge is_granted (λ i. has_crew c R S same crew i ∷ [])
   same_checks (kinds.Transfer c to emergency) same no_order no_instruct = λ i. caller c R S same by i ∷ clearance c R S same i ∷ hands_on c R S same by emergency i ∷ moment c R S same at i ∷ phase c R S same is_transferable i ∷ hands_to c R S same to i ∷ []
-  same_checks (kinds.Release c notified clear) same no_order no_instruct = λ i. caller c R S same by i ∷ role c R S same by is_charge i ∷ clearance c R S same i ∷ holder c R S same by i ∷ moment c R S same at i ∷ phase c R S same is_granted i ∷ no_crews c R S same i ∷ no_grounds c R S same i ∷ not_attested notified clear ∷ []
-  same_checks (kinds.Cancel c) same no_order no_instruct = λ i. caller c R S same by i ∷ role c R S same by is_charge_or_operator i ∷ clearance c R S same i ∷ holder c R S same by i ∷ moment c R S same at i ∷ phase c R S same is_cancellable i ∷ none_given c R S same i ∷ []
-  same_checks (kinds.Restore c tasks) same no_order no_instruct = λ i. caller c R S same by i ∷ role c R S same by is_operator i ∷ clearance c R S same i ∷ moment c R S same at i ∷ phase c R S same is_released i ∷ restoring c R S same tasks i ∷ []
-  same_checks (kinds.Amend c n) same no_order no_instruct = λ i. caller c R S same by i ∷ role c R S same by is_operator i ∷ clearance c R S same i ∷ moment c R S same at i ∷ phase c R S same is_restoring i ∷ number c R S same n i ∷ at_number c R S same n (λ row. refuse (not (is_waiting row.step.state && is_close row.step.action)) refusals.StepState) i ∷ []
+  same_checks (kinds.Release c notified clear) same no_order no_instruct = same_by_holder c R S same by at is_charge is_granted (λ i. no_crews c R S same i ∷ no_grounds c R S same i ∷ not_attested notified clear ∷ [])
+  same_checks (kinds.Cancel c) same no_order no_instruct = same_by_holder c R S same by at is_charge_or_operator is_cancellable (λ i. none_given c R S same i ∷ [])
+  same_checks (kinds.Restore c tasks) same no_order no_instruct = same_by_role c R S same by at is_operator is_released (λ i. restoring c R S same tasks i ∷ [])
+  same_checks (kinds.Amend c n) same no_order no_instruct = same_by_role c R S same by at is_operator is_restoring (λ i. number c R S same n i ∷ at_number c R S same n (λ row. refuse (not (is_waiting row.step.state && is_close row.step.action)) refusals.StepState) i ∷ [])
   same_checks (kinds.Show c) same no_order no_instruct = λ i. caller c R S same by i ∷ clearance c R S same i ∷ []
 
 pub checks_of_own : (c : Id) (R S : Register) → SameOwn c R S → (k : Known) (by : List ℕ) (at : ℕ) (kind : Kind)

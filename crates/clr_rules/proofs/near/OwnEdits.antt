@@ -43,8 +43,6 @@ module _ (c : Id) where
       holds_of-edited R R_order c edit ∙ ap (own_after c edit) same.own_holds ∙ sym (holds_of-edited S S_order c edit)
 
   pub same_own_edited : (R S : Register) → ListsAreInOrder R → ListsAreInOrder S → SameOwn c R S → (edit : Edit) → SameOwn c (after_edit edit R) (after_edit edit S)
-  same_own_edited R S R_order S_order same (SetPosition point position) = record { staff = same.staff; own_record = same.own_record; own_steps = same.own_steps; own_holds = same.own_holds }
-  same_own_edited R S R_order S_order same (SetHand point hand) = record { staff = same.staff; own_record = same.own_record; own_steps = same.own_steps; own_holds = same.own_holds }
   same_own_edited R S R_order S_order same (PutHold h) = record {
     staff = same.staff;
     own_record = same.own_record;
@@ -71,6 +69,7 @@ module _ (c : Id) where
         ∙ sym (steps_of-put c row S.steps S_order.steps);
     own_holds = same.own_holds;
   }
+  same_own_edited R S R_order S_order same _ = record { staff = same.staff; own_record = same.own_record; own_steps = same.own_steps; own_holds = same.own_holds }
 
   -- both have the same of the clearance after the same edits
   pub same_own_edited_all : (R S : Register) → ListsAreInOrder R → ListsAreInOrder S → SameOwn c R S → (edits : List Edit)
@@ -132,24 +131,16 @@ pub same_edits : (R S : Register) → ListsAreInOrder R → ListsAreInOrder S �
     → edits_of greatest R by at kind ≡ edits_of greatest S by at kind
 same_edits R S R_order S_order greatest by at (kinds.Request section) same = absurd same
 same_edits R S R_order S_order greatest by at (kinds.Switch tasks) same = absurd same
-same_edits R S R_order S_order greatest by at (kinds.Order c points tasks) same = only_record c R S R_order S_order same _
 same_edits R S R_order S_order greatest by at (kinds.Instruct c n) same = only_step c R S R_order S_order same n _
 same_edits R S R_order S_order greatest by at (kinds.Repeat c n text) same = only_step c R S R_order S_order same n _
 same_edits R S R_order S_order greatest by at (kinds.Report c n done) same = reported c R S R_order S_order same n at done
-same_edits R S R_order S_order greatest by at (kinds.Grant c) same = only_record c R S R_order S_order same _
-same_edits R S R_order S_order greatest by at (kinds.Test c section dead) same = only_record c R S R_order S_order same _
-same_edits R S R_order S_order greatest by at (kinds.Ground c section) same = only_record c R S R_order S_order same _
-same_edits R S R_order S_order greatest by at (kinds.Unground c section) same = only_record c R S R_order S_order same _
-same_edits R S R_order S_order greatest by at (kinds.SignOn c crew) same = only_record c R S R_order S_order same _
-same_edits R S R_order S_order greatest by at (kinds.SignOff c crew) same = only_record c R S R_order S_order same _
-same_edits R S R_order S_order greatest by at (kinds.Transfer c to emergency) same = only_record c R S R_order S_order same _
 same_edits R S R_order S_order greatest by at (kinds.Release c notified clear) same = by_record c R S R_order S_order same _ _
     (λ r own. ap (λ (places : List (List ℕ)). map (λ place. TakeHold (hold_of c Tested place)) places ++ PutRecord (record r { phase = Released; last = at }) ∷ []) (same_places c R S same Tested))
 same_edits R S R_order S_order greatest by at (kinds.Cancel c) same = by_record c R S R_order S_order same _ _
     (λ r own. ap (λ (phase : Phase). PutRecord (record r { phase = phase; last = at }) ∷ []) (same_cancelled c R S R_order S_order same r own))
-same_edits R S R_order S_order greatest by at (kinds.Restore c tasks) same = only_record c R S R_order S_order same _
 same_edits R S R_order S_order greatest by at (kinds.Amend c n) same = only_step c R S R_order S_order same n _
 same_edits R S R_order S_order greatest by at (kinds.Show c) same = refl
+same_edits R S R_order S_order greatest by at _ same = only_record _ R S R_order S_order same _
 
 pub edits_of_own : (c : Id) (R S : Register) → ListsAreInOrder R → ListsAreInOrder S → SameOwn c R S
     → (greatest : ℕ) (by : List ℕ) (at : ℕ) (kind : Kind) → named_clearance kind ≡ Some c → edits_of greatest R by at kind ≡ edits_of greatest S by at kind
