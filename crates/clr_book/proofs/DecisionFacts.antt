@@ -14,7 +14,7 @@ use Rattle.clr_rules.specs.declared.change.Edit.{Edit}
 use Rattle.clr_rules.specs.declared.change.Edit.TheVariants.{SetPosition, SetHand, PutHold, TakeHold, PutRecord, PutStep}
 use Rattle.clr_rules.specs.declared.command.Command.{Command}
 use Rattle.clr_rules.specs.declared.command.Kind.{Kind}
-use Rattle.clr_rules.specs.declared.command.Kind.TheVariants.{Request, Order, Instruct, Repeat, Report, Grant, Test, Ground, Unground, SignOn, SignOff, Transfer, Release, Cancel, Restore, Amend, Switch, Show}
+use Rattle.clr_rules.specs.declared.command.Kind.TheVariants.{Show}
 use Rattle.clr_rules.specs.declared.record.Record.{Record}
 use Rattle.clr_rules.specs.declared.refusal.Refusal.{Refusal}
 use Rattle.clr_rules.specs.declared.reply.Reply.{Reply}
@@ -32,24 +32,8 @@ settled_by k R q refusal is = ap (answer_by_checks k R q) is
 
 -- a command that does not only ask is told the card
 tells_card : (k : Known) (S : Register) (kind : Kind) (r : Record) → is_question kind ≡ false → reply_of k S kind (Some r) ≡ Accepted (card_of S r)
-tells_card k S (Request section) r changes = refl
-tells_card k S (Order c points tasks) r changes = refl
-tells_card k S (Instruct c n) r changes = refl
-tells_card k S (Repeat c n text) r changes = refl
-tells_card k S (Report c n done) r changes = refl
-tells_card k S (Grant c) r changes = refl
-tells_card k S (Test c section dead) r changes = refl
-tells_card k S (Ground c section) r changes = refl
-tells_card k S (Unground c section) r changes = refl
-tells_card k S (SignOn c crew) r changes = refl
-tells_card k S (SignOff c crew) r changes = refl
-tells_card k S (Transfer c to emergency) r changes = refl
-tells_card k S (Release c notified clear) r changes = refl
-tells_card k S (Cancel c) r changes = refl
-tells_card k S (Restore c tasks) r changes = refl
-tells_card k S (Amend c n) r changes = refl
-tells_card k S (Switch tasks) r changes = refl
 tells_card k S (Show c) r changes = cc changes
+tells_card k S _ r changes = refl
 
 -- where its edits end with the record that the command is about, that is the card that is told
 pub accepted : (k : Known) (R : Register) (q : Command) (lead : List Edit) (r : Record) (rows : List StepRow)

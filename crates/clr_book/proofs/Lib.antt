@@ -9,6 +9,7 @@ pub mod OrderFacts
 pub mod StepCounts
 pub mod CardFacts
 pub mod DecisionFacts
+pub mod FirstChecks
 pub mod Phases
 pub mod NewSteps
 pub mod OnceFacts

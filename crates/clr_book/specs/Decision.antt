@@ -13,7 +13,7 @@ use Rattle.clr_rules.specs.declared.command.Kind.TheVariants.{Show}
 use Rattle.clr_rules.specs.declared.refusal.Refusal.{Refusal}
 use Rattle.clr_rules.specs.declared.record.Record.{Record}
 use Rattle.clr_rules.specs.declared.reply.Reply.{Reply}
-use Rattle.clr_rules.specs.declared.reply.Reply.TheVariants.{Accepted}
+use Rattle.clr_rules.specs.declared.reply.Reply.TheVariants.{Accepted, Shown, Refused}
 use Rattle.clr_rules.specs.declared.step_row.StepRow.{StepRow}
 use Rattle.clr_book.specs.declared.decision.Decision.{Decision}
 
@@ -40,9 +40,11 @@ accepted_with R lead r rows =
       edits = all_edits lead r rows;
     }
 
+-- every reply is asked for, so that a new one that changes the register is not taken for a question
 abbrev pub is_accepted : Reply → Bool
 is_accepted (Accepted card) = true
-is_accepted _ = false
+is_accepted (Shown view) = false
+is_accepted (Refused refusal) = false
 
 -- a command that is refused, or is shown what it asks for, changes nothing
 abbrev pub ChangesIfAccepted : Decision → Type 0

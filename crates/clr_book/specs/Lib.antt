@@ -1,3 +1,4 @@
+pub mod Begins
 pub mod Book
 pub mod Orders
 pub mod Card

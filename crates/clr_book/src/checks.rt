@@ -3,6 +3,7 @@ ghost use Rattle.std.specs.Prelude.{◌≡◌};
 ghost use Rattle.clr_rules.specs.Answer.{first_refusal};
 ghost use Rattle.clr_rules.specs.Checks.{refuse};
 
+pub(crate) mod begins;
 pub(crate) mod callers;
 pub(crate) mod clearances;
 pub(crate) mod orders;

@@ -31,10 +31,11 @@ mod test;
 mod transfer;
 mod unground;
 
+use crate::checks::begins::Ask;
 use crate::decision::{Decision, accept, refused, shown};
 use crate::effect::Effect;
 use crate::near::Near;
-use clr_rules::{Command, Kind, Refusal};
+use clr_rules::{ClearanceId, Command, Kind, Refusal};
 use std::alloc::AllocError;
 
 /// What a command is answered, and what it changes. Of a good register the near part is enough.
@@ -64,7 +65,12 @@ fn decision_of(near: &Near, command: &Command) -> Result<Decision, AllocError>
         return Ok(refused(near.alloc, refusal));
     }
     if let Kind::Show { clearance } = &command.kind {
-        let view = show::view(near, command.caller, command.moment, *clearance)?;
+        let asked = Ask {
+            by: command.caller,
+            at: command.moment,
+            id: *clearance,
+        };
+        let view = show::view(near, asked)?;
         return Ok(shown(near.alloc, view));
     }
     let effect = effect_of(near, command)?;
@@ -78,53 +84,54 @@ fn refusal_of(near: &Near, command: &Command) -> Result<Option<Refusal>, AllocEr
         ≡ near_refusal near.now command.now.caller command.now.moment command.now.kind) }
 {
     let (by, at) = (command.caller, command.moment);
+    let ask = |id: ClearanceId| Ask { by, at, id };
     let refusal = match &command.kind {
         Kind::Request { section } => request::refusal_of(near, by, at, *section),
         Kind::Order {
             clearance,
             points,
             steps,
-        } => { order::refusal_of(near, by, at, *clearance, points.as_slice(), steps)? }
-        Kind::Instruct { clearance, step } => instruct::refusal_of(near, by, at, *clearance, *step),
+        } => { order::refusal_of(near, ask(*clearance), points.as_slice(), steps)? }
+        Kind::Instruct { clearance, step } => instruct::refusal_of(near, ask(*clearance), *step),
         Kind::Repeat {
             clearance,
             step,
             text,
-        } => { repeat::refusal_of(near, by, at, *clearance, *step, text)? }
+        } => { repeat::refusal_of(near, ask(*clearance), *step, text)? }
         Kind::Report {
             clearance,
             step,
             ..
-        } => report::refusal_of(near, by, at, *clearance, *step),
-        Kind::Grant { clearance } => grant::refusal_of(near, by, at, *clearance),
+        } => report::refusal_of(near, ask(*clearance), *step),
+        Kind::Grant { clearance } => grant::refusal_of(near, ask(*clearance)),
         Kind::Test {
             clearance,
             section,
             dead,
-        } => { test::refusal_of(near, by, at, *clearance, *section, *dead) }
-        Kind::Ground { clearance, section } => ground::refusal_of(
-            near, by, at, *clearance, *section,
-        ),
+        } => { test::refusal_of(near, ask(*clearance), *section, *dead) }
+        Kind::Ground { clearance, section } => ground::refusal_of(near, ask(*clearance), *section),
         Kind::Unground { clearance, section } => unground::refusal_of(
-            near, by, at, *clearance, *section,
+            near,
+            ask(*clearance),
+            *section,
         ),
-        Kind::SignOn { clearance, crew } => sign_on::refusal_of(near, by, at, *clearance, *crew),
-        Kind::SignOff { clearance, crew } => sign_off::refusal_of(near, by, at, *clearance, *crew),
+        Kind::SignOn { clearance, crew } => sign_on::refusal_of(near, ask(*clearance), *crew),
+        Kind::SignOff { clearance, crew } => sign_off::refusal_of(near, ask(*clearance), *crew),
         Kind::Transfer {
             clearance,
             to,
             emergency,
-        } => { transfer::refusal_of(near, by, at, *clearance, *to, *emergency) }
+        } => { transfer::refusal_of(near, ask(*clearance), *to, *emergency) }
         Kind::Release {
             clearance,
             notified,
             clear,
-        } => { release::refusal_of(near, by, at, *clearance, *notified, *clear) }
-        Kind::Cancel { clearance } => cancel::refusal_of(near, by, at, *clearance),
-        Kind::Restore { clearance, steps } => restore::refusal_of(near, by, at, *clearance, steps)?,
-        Kind::Amend { clearance, step } => amend::refusal_of(near, by, at, *clearance, *step),
+        } => { release::refusal_of(near, ask(*clearance), *notified, *clear) }
+        Kind::Cancel { clearance } => cancel::refusal_of(near, ask(*clearance)),
+        Kind::Restore { clearance, steps } => restore::refusal_of(near, ask(*clearance), steps)?,
+        Kind::Amend { clearance, step } => amend::refusal_of(near, ask(*clearance), *step),
         Kind::Switch { steps } => switch::refusal_of(near, by, at, steps),
-        Kind::Show { clearance } => show::refusal_of(near, by, at, *clearance),
+        Kind::Show { clearance } => show::refusal_of(near, ask(*clearance)),
     };
     Ok(refusal)
 }
@@ -142,49 +149,48 @@ fn effect_of(near: &Near, command: &Command) -> Result<Effect, AllocError>
         (named_clearance command.now.kind))) }
 {
     let (by, at) = (command.caller, command.moment);
+    let ask = |id: ClearanceId| Ask { by, at, id };
     let effect = match &command.kind {
         Kind::Request { section } => request::effect(near, by, at, *section),
         Kind::Order {
             clearance,
             points,
             steps,
-        } => { order::effect(near, by, at, *clearance, points.as_slice(), steps)? }
-        Kind::Instruct { clearance, step } => instruct::effect(near, by, at, *clearance, *step)?,
+        } => { order::effect(near, ask(*clearance), points.as_slice(), steps)? }
+        Kind::Instruct { clearance, step } => instruct::effect(near, ask(*clearance), *step)?,
         Kind::Repeat {
             clearance,
             step,
             text,
-        } => { repeat::effect(near, by, at, *clearance, *step, text)? }
+        } => { repeat::effect(near, ask(*clearance), *step, text)? }
         Kind::Report {
             clearance,
             step,
             done,
-        } => { report::effect(near, by, at, *clearance, *step, *done)? }
-        Kind::Grant { clearance } => grant::effect(near, by, at, *clearance),
+        } => { report::effect(near, ask(*clearance), *step, *done)? }
+        Kind::Grant { clearance } => grant::effect(near, ask(*clearance)),
         Kind::Test {
             clearance,
             section,
             dead,
-        } => { test::effect(near, by, at, *clearance, *section, *dead)? }
-        Kind::Ground { clearance, section } => ground::effect(near, by, at, *clearance, *section)?,
-        Kind::Unground { clearance, section } => unground::effect(
-            near, by, at, *clearance, *section,
-        )?,
-        Kind::SignOn { clearance, crew } => sign_on::effect(near, by, at, *clearance, *crew)?,
-        Kind::SignOff { clearance, crew } => sign_off::effect(near, by, at, *clearance, *crew)?,
+        } => { test::effect(near, ask(*clearance), *section, *dead)? }
+        Kind::Ground { clearance, section } => ground::effect(near, ask(*clearance), *section)?,
+        Kind::Unground { clearance, section } => unground::effect(near, ask(*clearance), *section)?,
+        Kind::SignOn { clearance, crew } => sign_on::effect(near, ask(*clearance), *crew)?,
+        Kind::SignOff { clearance, crew } => sign_off::effect(near, ask(*clearance), *crew)?,
         Kind::Transfer {
             clearance,
             to,
             emergency,
-        } => { transfer::effect(near, by, at, *clearance, *to, *emergency) }
+        } => { transfer::effect(near, ask(*clearance), *to, *emergency) }
         Kind::Release {
             clearance,
             notified,
             clear,
-        } => { release::effect(near, by, at, *clearance, *notified, *clear)? }
-        Kind::Cancel { clearance } => cancel::effect(near, by, at, *clearance),
-        Kind::Restore { clearance, steps } => restore::effect(near, by, at, *clearance, steps)?,
-        Kind::Amend { clearance, step } => amend::effect(near, by, at, *clearance, *step)?,
+        } => { release::effect(near, ask(*clearance), *notified, *clear)? }
+        Kind::Cancel { clearance } => cancel::effect(near, ask(*clearance)),
+        Kind::Restore { clearance, steps } => restore::effect(near, ask(*clearance), steps)?,
+        Kind::Amend { clearance, step } => amend::effect(near, ask(*clearance), *step)?,
         Kind::Switch { steps } => switch::effect(near, by, at, steps)?,
         Kind::Show { .. } => unreachable!(),
     };

@@ -1,7 +1,7 @@
 //! Checks of the caller.
 ghost use Rattle.std.specs.Prelude.{◌≡◌};
-ghost use Rattle.clr_rules.specs.Checks.{is_charge, is_charge_or_operator, is_field, is_operator};
 ghost use Rattle.clr_rules.specs.Checks.{unknown_caller, wrong_role};
+ghost use Rattle.clr_book.specs.Begins.{role_fits};
 
 use crate::checks::refuse;
 use crate::near::Near;
@@ -19,37 +19,32 @@ pub(crate) fn unknown_caller(near: &Near, by: Name) -> Option<Refusal>
     }
 }
 
-/// Whether the caller is no operator.
-pub(crate) fn not_operator(near: &Near, by: Name) -> Option<Refusal>
-    ensures { result ≡ wrong_role near.now.rows by is_operator }
-{
-    let row = near.staff.find(&by)?;
-    refuse(!matches!(row.role, Role::Operator), Refusal::WrongRole)
+/// Which roles may ask.
+#[derive(Clone, Copy)]
+pub(crate) enum RoleTest {
+    Operator,
+    Field,
+    Charge,
+    ChargeOrOperator,
 }
 
-/// Whether the caller is not of the field.
-pub(crate) fn not_field(near: &Near, by: Name) -> Option<Refusal>
-    ensures { result ≡ wrong_role near.now.rows by is_field }
-{
-    let row = near.staff.find(&by)?;
-    refuse(!matches!(row.role, Role::Field), Refusal::WrongRole)
+impl RoleTest {
+    fn fits(self, role: Role) -> bool
+        ensures { result ≡ role_fits self role }
+    {
+        match self {
+            RoleTest::Operator => matches!(role, Role::Operator),
+            RoleTest::Field => matches!(role, Role::Field),
+            RoleTest::Charge => matches!(role, Role::Charge),
+            RoleTest::ChargeOrOperator => matches!(role, Role::Charge | Role::Operator),
+        }
+    }
 }
 
-/// Whether the caller may not be in charge.
-pub(crate) fn not_charge(near: &Near, by: Name) -> Option<Refusal>
-    ensures { result ≡ wrong_role near.now.rows by is_charge }
+/// Whether the caller has another role.
+pub(crate) fn wrong_role(near: &Near, by: Name, roles: RoleTest) -> Option<Refusal>
+    ensures { result ≡ wrong_role near.now.rows by (role_fits roles) }
 {
     let row = near.staff.find(&by)?;
-    refuse(!matches!(row.role, Role::Charge), Refusal::WrongRole)
-}
-
-/// Whether the caller is neither an operator nor one who may be in charge.
-pub(crate) fn not_charge_or_operator(near: &Near, by: Name) -> Option<Refusal>
-    ensures { result ≡ wrong_role near.now.rows by is_charge_or_operator }
-{
-    let row = near.staff.find(&by)?;
-    refuse(
-        !matches!(row.role, Role::Charge | Role::Operator),
-        Refusal::WrongRole,
-    )
+    refuse(!roles.fits(row.role), Refusal::WrongRole)
 }

@@ -5,16 +5,15 @@ ghost use Rattle.clr_rules.specs.Checks.{is_supervisor, may_not_transfer, not_ho
 ghost use Rattle.clr_rules.specs.Checks.{too_many_clearances, unknown_clearance, unknown_section};
 ghost use Rattle.clr_rules.specs.Checks.{wrong_phase};
 ghost use Rattle.clr_rules.specs.Checks.{employee};
-ghost use Rattle.clr_rules.specs.Records.{is_cancellable, is_granted, is_ordered, is_released};
-ghost use Rattle.clr_rules.specs.Records.{is_requested, is_restoring, is_running, is_transferable};
 ghost use Rattle.clr_rules.specs.Records.{record_of};
+ghost use Rattle.clr_book.specs.Begins.{phase_fits};
 
 use crate::checks::refuse;
 use crate::checks::rows::find_row;
 use crate::near::Near;
 use clr_csv::Role;
 use clr_net::Name;
-use clr_rules::{ClearanceId, MAX_CLEARANCE_NUMBER, Moment, Record, Refusal};
+use clr_rules::{ClearanceId, MAX_CLEARANCE_NUMBER, Moment, Phase, Record, Refusal};
 
 /// The record of a clearance.
 pub(crate) fn record<'a>(near: &Near<'a>, id: ClearanceId) -> Option<&'a Record>
@@ -130,66 +129,40 @@ pub(crate) fn earlier_moment(near: &Near, id: ClearanceId, at: Moment) -> Option
     refuse(at < record.last, Refusal::Earlier)
 }
 
-/// Whether the clearance was ordered already.
-pub(crate) fn not_requested(near: &Near, id: ClearanceId) -> Option<Refusal>
-    ensures { result ≡ wrong_phase near.now.rows id is_requested }
-{
-    let record = record(near, id)?;
-    refuse(!record.phase.is_requested(), Refusal::WrongPhase)
+/// In which phases a command may come.
+#[derive(Clone, Copy)]
+pub(crate) enum PhaseTest {
+    Requested,
+    Ordered,
+    Running,
+    Granted,
+    Released,
+    Restoring,
+    Transferable,
+    Cancellable,
 }
 
-/// Whether the clearance has no order that waits for its grant.
-pub(crate) fn not_ordered(near: &Near, id: ClearanceId) -> Option<Refusal>
-    ensures { result ≡ wrong_phase near.now.rows id is_ordered }
-{
-    let record = record(near, id)?;
-    refuse(!record.phase.is_ordered(), Refusal::WrongPhase)
+impl PhaseTest {
+    fn fits(self, phase: Phase) -> bool
+        ensures { result ≡ phase_fits self phase }
+    {
+        match self {
+            PhaseTest::Requested => phase.is_requested(),
+            PhaseTest::Ordered => phase.is_ordered(),
+            PhaseTest::Running => phase.is_running(),
+            PhaseTest::Granted => phase.is_granted(),
+            PhaseTest::Released => phase.is_released(),
+            PhaseTest::Restoring => phase.is_restoring(),
+            PhaseTest::Transferable => phase.is_transferable(),
+            PhaseTest::Cancellable => phase.is_cancellable(),
+        }
+    }
 }
 
-/// Whether no steps of the clearance are being done.
-pub(crate) fn not_running(near: &Near, id: ClearanceId) -> Option<Refusal>
-    ensures { result ≡ wrong_phase near.now.rows id is_running }
+/// Whether the clearance is in another phase.
+pub(crate) fn wrong_phase(near: &Near, id: ClearanceId, phases: PhaseTest) -> Option<Refusal>
+    ensures { result ≡ wrong_phase near.now.rows id (phase_fits phases) }
 {
     let record = record(near, id)?;
-    refuse(!record.phase.is_running(), Refusal::WrongPhase)
-}
-
-/// Whether the clearance is not granted, or was given back.
-pub(crate) fn not_granted(near: &Near, id: ClearanceId) -> Option<Refusal>
-    ensures { result ≡ wrong_phase near.now.rows id is_granted }
-{
-    let record = record(near, id)?;
-    refuse(!record.phase.is_granted(), Refusal::WrongPhase)
-}
-
-/// Whether the clearance was not given back, or is being restored.
-pub(crate) fn not_released(near: &Near, id: ClearanceId) -> Option<Refusal>
-    ensures { result ≡ wrong_phase near.now.rows id is_released }
-{
-    let record = record(near, id)?;
-    refuse(!record.phase.is_released(), Refusal::WrongPhase)
-}
-
-/// Whether no restoring steps of the clearance are being done.
-pub(crate) fn not_restoring(near: &Near, id: ClearanceId) -> Option<Refusal>
-    ensures { result ≡ wrong_phase near.now.rows id is_restoring }
-{
-    let record = record(near, id)?;
-    refuse(!record.phase.is_restoring(), Refusal::WrongPhase)
-}
-
-/// Whether the clearance is in a phase in which nobody may hand it on.
-pub(crate) fn not_transferable(near: &Near, id: ClearanceId) -> Option<Refusal>
-    ensures { result ≡ wrong_phase near.now.rows id is_transferable }
-{
-    let record = record(near, id)?;
-    refuse(!record.phase.is_transferable(), Refusal::WrongPhase)
-}
-
-/// Whether the clearance is in a phase in which nobody may give it up.
-pub(crate) fn not_cancellable(near: &Near, id: ClearanceId) -> Option<Refusal>
-    ensures { result ≡ wrong_phase near.now.rows id is_cancellable }
-{
-    let record = record(near, id)?;
-    refuse(!record.phase.is_cancellable(), Refusal::WrongPhase)
+    refuse(!phases.fits(record.phase), Refusal::WrongPhase)
 }

@@ -5,9 +5,9 @@ ghost use Rattle.clr_rules.specs.Checks.{step_given_out, out_of_turn, repeat_dif
 ghost use Rattle.clr_rules.specs.Checks.{wrong_reporter, wrong_state};
 ghost use Rattle.clr_rules.specs.Holds.{earlier_hold, hinders, hindering_hold, stands_before};
 ghost use Rattle.clr_rules.specs.States.{hand_of};
-ghost use Rattle.clr_rules.specs.Steps.{all_done, is_active, is_in_turn, is_repeated, is_some_step};
-ghost use Rattle.clr_rules.specs.Steps.{is_waiting, present_steps, some_active, step_at, steps_in};
-ghost use Rattle.clr_rules.specs.Steps.{steps_of};
+ghost use Rattle.clr_rules.specs.Steps.{all_done, is_in_turn, is_some_step, present_steps};
+ghost use Rattle.clr_rules.specs.Steps.{some_active, step_at, steps_in, steps_of};
+ghost use Rattle.clr_book.specs.Begins.{state_fits};
 
 use crate::checks::refuse;
 use crate::checks::rows::find_row;
@@ -115,28 +115,37 @@ pub(crate) fn out_of_turn(near: &Near, id: ClearanceId, number: u16) -> Option<R
     Some(Refusal::OutOfTurn)
 }
 
-/// Whether the step was given out already.
-pub(crate) fn not_waiting(near: &Near, id: ClearanceId, number: u16) -> Option<Refusal>
-    ensures { result ≡ wrong_state near.now.rows id number is_waiting }
-{
-    let row = step(near, id, number)?;
-    refuse(!row.is_waiting(), Refusal::StepState)
+/// In which states of its step a command may come.
+#[derive(Clone, Copy)]
+pub(crate) enum StateTest {
+    Waiting,
+    Active,
+    Repeated,
 }
 
-/// Whether the step is not given out, or was reported.
-pub(crate) fn not_active(near: &Near, id: ClearanceId, number: u16) -> Option<Refusal>
-    ensures { result ≡ wrong_state near.now.rows id number is_active }
-{
-    let row = step(near, id, number)?;
-    refuse(!row.is_active(), Refusal::StepState)
+impl StateTest {
+    fn fits(self, row: &StepRow) -> bool
+        ensures { result ≡ state_fits self row.now.step.state }
+    {
+        match self {
+            StateTest::Waiting => row.is_waiting(),
+            StateTest::Active => row.is_active(),
+            StateTest::Repeated => row.is_repeated(),
+        }
+    }
 }
 
-/// Whether the step was not repeated, or was reported.
-pub(crate) fn not_repeated(near: &Near, id: ClearanceId, number: u16) -> Option<Refusal>
-    ensures { result ≡ wrong_state near.now.rows id number is_repeated }
+/// Whether the step is in another state.
+pub(crate) fn wrong_state(
+    near: &Near,
+    id: ClearanceId,
+    number: u16,
+    states: StateTest,
+) -> Option<Refusal>
+    ensures { result ≡ wrong_state near.now.rows id number (state_fits states) }
 {
     let row = step(near, id, number)?;
-    refuse(!row.is_repeated(), Refusal::StepState)
+    refuse(!states.fits(row), Refusal::StepState)
 }
 
 /// Whether the step is no Close, or was given out already.

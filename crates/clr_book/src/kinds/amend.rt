@@ -1,52 +1,35 @@
 //! An operator turns a waiting Close of a restoring order into a Leave.
 ghost use Rattle.std.specs.Prelude.{◌≡◌, IfOk, None};
 ghost use Rattle.clr_rules.specs.declared.command.Kind.TheVariants as kinds;
-ghost use Rattle.clr_book.specs.Decision.{near_edits, near_refusal};
+ghost use Rattle.clr_book.specs.Begins.{asked_edits, asked_refusal};
 ghost use Rattle.clr_book.specs.Effect.{IsOf, edits_in};
 
-use crate::checks::callers::{not_operator, unknown_caller};
-use crate::checks::clearances::{earlier_moment, not_restoring, record, unknown_clearance};
-use crate::checks::first_of;
+use crate::checks::begins::{Ask, by_operator};
+use crate::checks::clearances::{PhaseTest, record};
 use crate::checks::steps::{no_step, not_a_waiting_close, step};
 use crate::effect::Effect;
 use crate::near::Near;
-use clr_net::Name;
 use clr_order::{Action, Step};
-use clr_rules::{ClearanceId, Moment, Record, Refusal, StepRow};
+use clr_rules::{Record, Refusal, StepRow};
 use std::alloc::AllocError;
 
-pub(crate) fn refusal_of(
-    near: &Near,
-    by: Name,
-    at: Moment,
-    id: ClearanceId,
-    number: u16,
-) -> Option<Refusal>
-    ensures { result ≡ near_refusal near.now by at (kinds.Amend id number) }
+pub(crate) fn refusal_of(near: &Near, asked: Ask, number: u16) -> Option<Refusal>
+    ensures { result ≡ asked_refusal near.now asked (kinds.Amend asked.id number) }
 {
-    first_of(&[
-        unknown_caller(near, by),
-        not_operator(near, by),
-        unknown_clearance(near, id),
-        earlier_moment(near, id, at),
-        not_restoring(near, id),
-        no_step(near, id, number),
-        not_a_waiting_close(near, id, number),
-    ])
+    let own = [
+        no_step(near, asked.id, number),
+        not_a_waiting_close(near, asked.id, number),
+    ];
+    by_operator(near, &asked, PhaseTest::Restoring, &own)
 }
 
-pub(crate) fn effect(
-    near: &Near,
-    by: Name,
-    at: Moment,
-    id: ClearanceId,
-    number: u16,
-) -> Result<Effect, AllocError>
-    requires { near_refusal near.now by at (kinds.Amend id number) ≡ None }
-    ensures edits { IfOk result (λ effect. near_edits near.now by at (kinds.Amend id number)
-        ≡ edits_in effect) }
-    ensures of { IfOk result (IsOf id) }
+pub(crate) fn effect(near: &Near, asked: Ask, number: u16) -> Result<Effect, AllocError>
+    requires { asked_refusal near.now asked (kinds.Amend asked.id number) ≡ None }
+    ensures edits { IfOk result
+        (λ effect. asked_edits near.now asked (kinds.Amend asked.id number) ≡ edits_in effect) }
+    ensures of { IfOk result (IsOf asked.id) }
 {
+    let Ask { at, id, .. } = asked;
     let Some(found) = record(near, id) else {
         unreachable!()
     };

@@ -1,34 +1,30 @@
 //! The holder gives up a request, an order that is not granted, or a switch order.
 ghost use Rattle.std.specs.Prelude.{◌≡◌, None};
 ghost use Rattle.clr_rules.specs.declared.command.Kind.TheVariants as kinds;
-ghost use Rattle.clr_book.specs.Decision.{near_edits, near_refusal};
+ghost use Rattle.clr_book.specs.Begins.{asked_edits, asked_refusal};
 ghost use Rattle.clr_book.specs.Effect.{IsOf, edits_in};
 ghost use Rattle.clr_rules.specs.Changes.{cancelled_phase};
 
-use crate::checks::callers::{not_charge_or_operator, unknown_caller};
-use crate::checks::clearances::{
-    earlier_moment, not_cancellable, not_holder, record, unknown_clearance,
-};
-use crate::checks::first_of;
+use crate::checks::begins::{Ask, by_holder};
+use crate::checks::callers::RoleTest;
+use crate::checks::clearances::{PhaseTest, record};
 use crate::checks::steps::step_given_out;
 use crate::checks::work::has_any_hold;
 use crate::effect::Effect;
 use crate::near::Near;
-use clr_net::Name;
-use clr_rules::{ClearanceId, Moment, Phase, Record, Refusal};
+use clr_rules::{Phase, Record, Refusal};
 
-pub(crate) fn refusal_of(near: &Near, by: Name, at: Moment, id: ClearanceId) -> Option<Refusal>
-    ensures { result ≡ near_refusal near.now by at (kinds.Cancel id) }
+pub(crate) fn refusal_of(near: &Near, asked: Ask) -> Option<Refusal>
+    ensures { result ≡ asked_refusal near.now asked (kinds.Cancel asked.id) }
 {
-    first_of(&[
-        unknown_caller(near, by),
-        not_charge_or_operator(near, by),
-        unknown_clearance(near, id),
-        not_holder(near, id, by),
-        earlier_moment(near, id, at),
-        not_cancellable(near, id),
-        step_given_out(near, id),
-    ])
+    let own = [step_given_out(near, asked.id)];
+    by_holder(
+        near,
+        &asked,
+        RoleTest::ChargeOrOperator,
+        PhaseTest::Cancellable,
+        &own,
+    )
 }
 
 /// An order whose steps have put holds goes to be restored; any other clearance is closed.
@@ -43,11 +39,12 @@ fn cancelled_phase(near: &Near, clearance: &Record) -> Phase
     }
 }
 
-pub(crate) fn effect(near: &Near, by: Name, at: Moment, id: ClearanceId) -> Effect
-    requires { near_refusal near.now by at (kinds.Cancel id) ≡ None }
-    ensures edits { near_edits near.now by at (kinds.Cancel id) ≡ edits_in result }
-    ensures of { IsOf id result }
+pub(crate) fn effect(near: &Near, asked: Ask) -> Effect
+    requires { asked_refusal near.now asked (kinds.Cancel asked.id) ≡ None }
+    ensures edits { asked_edits near.now asked (kinds.Cancel asked.id) ≡ edits_in result }
+    ensures of { IsOf asked.id result }
 {
+    let Ask { at, id, .. } = asked;
     let Some(found) = record(near, id) else {
         unreachable!()
     };

@@ -1,36 +1,29 @@
 //! An operator gives a clearance: 29 CFR 1910.269(m)(3)(vi).
 ghost use Rattle.std.specs.Prelude.{◌≡◌, None};
 ghost use Rattle.clr_rules.specs.declared.command.Kind.TheVariants as kinds;
-ghost use Rattle.clr_book.specs.Decision.{near_edits, near_refusal};
+ghost use Rattle.clr_book.specs.Begins.{asked_edits, asked_refusal};
 ghost use Rattle.clr_book.specs.Effect.{IsOf, edits_in};
 
-use crate::checks::callers::{not_operator, unknown_caller};
-use crate::checks::clearances::{earlier_moment, not_ordered, record, unknown_clearance};
-use crate::checks::first_of;
+use crate::checks::begins::{Ask, by_operator};
+use crate::checks::clearances::{PhaseTest, record};
 use crate::checks::steps::steps_left;
 use crate::effect::Effect;
 use crate::near::Near;
-use clr_net::Name;
-use clr_rules::{ClearanceId, Moment, Phase, Record, Refusal};
+use clr_rules::{Phase, Record, Refusal};
 
-pub(crate) fn refusal_of(near: &Near, by: Name, at: Moment, id: ClearanceId) -> Option<Refusal>
-    ensures { result ≡ near_refusal near.now by at (kinds.Grant id) }
+pub(crate) fn refusal_of(near: &Near, asked: Ask) -> Option<Refusal>
+    ensures { result ≡ asked_refusal near.now asked (kinds.Grant asked.id) }
 {
-    first_of(&[
-        unknown_caller(near, by),
-        not_operator(near, by),
-        unknown_clearance(near, id),
-        earlier_moment(near, id, at),
-        not_ordered(near, id),
-        steps_left(near, id),
-    ])
+    let own = [steps_left(near, asked.id)];
+    by_operator(near, &asked, PhaseTest::Ordered, &own)
 }
 
-pub(crate) fn effect(near: &Near, by: Name, at: Moment, id: ClearanceId) -> Effect
-    requires { near_refusal near.now by at (kinds.Grant id) ≡ None }
-    ensures edits { near_edits near.now by at (kinds.Grant id) ≡ edits_in result }
-    ensures of { IsOf id result }
+pub(crate) fn effect(near: &Near, asked: Ask) -> Effect
+    requires { asked_refusal near.now asked (kinds.Grant asked.id) ≡ None }
+    ensures edits { asked_edits near.now asked (kinds.Grant asked.id) ≡ edits_in result }
+    ensures of { IsOf asked.id result }
 {
+    let Ask { at, id, .. } = asked;
     let Some(found) = record(near, id) else {
         unreachable!()
     };

@@ -1,55 +1,37 @@
 //! The holder grounds a section: 29 CFR 1910.269(m)(3)(vii), (n)(5).
 ghost use Rattle.std.specs.Prelude.{◌≡◌, IfOk, None};
 ghost use Rattle.clr_rules.specs.declared.command.Kind.TheVariants as kinds;
-ghost use Rattle.clr_book.specs.Decision.{near_edits, near_refusal};
+ghost use Rattle.clr_book.specs.Begins.{asked_edits, asked_refusal};
 ghost use Rattle.clr_book.specs.Effect.{IsOf, edits_in};
 
-use crate::checks::callers::{not_charge, unknown_caller};
-use crate::checks::clearances::{
-    earlier_moment, not_granted, not_holder, record, unknown_clearance,
-};
-use crate::checks::first_of;
+use crate::checks::begins::{Ask, by_holder};
+use crate::checks::callers::RoleTest;
+use crate::checks::clearances::{PhaseTest, record};
 use crate::checks::work::{has_ground, not_tested, outside_fence};
 use crate::effect::Effect;
 use crate::near::Near;
 use clr_net::Name;
-use clr_rules::{ClearanceId, Edit, Hold, HoldKind, Moment, Record, Refusal};
+use clr_rules::{Edit, Hold, HoldKind, Record, Refusal};
 use std::alloc::AllocError;
 
-pub(crate) fn refusal_of(
-    near: &Near,
-    by: Name,
-    at: Moment,
-    id: ClearanceId,
-    section: Name,
-) -> Option<Refusal>
-    ensures { result ≡ near_refusal near.now by at (kinds.Ground id section) }
+pub(crate) fn refusal_of(near: &Near, asked: Ask, section: Name) -> Option<Refusal>
+    ensures { result ≡ asked_refusal near.now asked (kinds.Ground asked.id section) }
 {
-    first_of(&[
-        unknown_caller(near, by),
-        not_charge(near, by),
-        unknown_clearance(near, id),
-        not_holder(near, id, by),
-        earlier_moment(near, id, at),
-        not_granted(near, id),
+    let own = [
         outside_fence(near, section),
-        not_tested(near, id, section),
-        has_ground(near, id, section),
-    ])
+        not_tested(near, asked.id, section),
+        has_ground(near, asked.id, section),
+    ];
+    by_holder(near, &asked, RoleTest::Charge, PhaseTest::Granted, &own)
 }
 
-pub(crate) fn effect(
-    near: &Near,
-    by: Name,
-    at: Moment,
-    id: ClearanceId,
-    section: Name,
-) -> Result<Effect, AllocError>
-    requires { near_refusal near.now by at (kinds.Ground id section) ≡ None }
-    ensures edits { IfOk result (λ effect. near_edits near.now by at (kinds.Ground id section)
-        ≡ edits_in effect) }
-    ensures of { IfOk result (IsOf id) }
+pub(crate) fn effect(near: &Near, asked: Ask, section: Name) -> Result<Effect, AllocError>
+    requires { asked_refusal near.now asked (kinds.Ground asked.id section) ≡ None }
+    ensures edits { IfOk result
+        (λ effect. asked_edits near.now asked (kinds.Ground asked.id section) ≡ edits_in effect) }
+    ensures of { IfOk result (IsOf asked.id) }
 {
+    let Ask { at, id, .. } = asked;
     let Some(found) = record(near, id) else {
         unreachable!()
     };

@@ -1,56 +1,41 @@
 //! An operator gives a step out to the field.
 ghost use Rattle.std.specs.Prelude.{◌≡◌, IfOk, None};
 ghost use Rattle.clr_rules.specs.declared.command.Kind.TheVariants as kinds;
-ghost use Rattle.clr_book.specs.Decision.{near_edits, near_refusal};
+ghost use Rattle.clr_book.specs.Begins.{asked_edits, asked_refusal};
 ghost use Rattle.clr_book.specs.Effect.{IsOf, edits_in};
 
-use crate::checks::callers::{not_operator, unknown_caller};
-use crate::checks::clearances::{earlier_moment, not_running, record, unknown_clearance};
-use crate::checks::first_of;
-use crate::checks::steps::{hold_hinders, in_hand, no_step, not_waiting, out_of_turn, step};
+use crate::checks::begins::{Ask, by_operator};
+use crate::checks::clearances::{PhaseTest, record};
+use crate::checks::steps::{
+    StateTest, hold_hinders, in_hand, no_step, out_of_turn, step, wrong_state,
+};
 use crate::effect::Effect;
 use crate::kinds::step_moves::step_moved;
 use crate::near::Near;
-use clr_net::Name;
 use clr_order::StepState;
-use clr_rules::{ClearanceId, Edit, Moment, Record, Refusal};
+use clr_rules::{Edit, Record, Refusal};
 use std::alloc::AllocError;
 
-pub(crate) fn refusal_of(
-    near: &Near,
-    by: Name,
-    at: Moment,
-    id: ClearanceId,
-    number: u16,
-) -> Option<Refusal>
-    ensures { result ≡ near_refusal near.now by at (kinds.Instruct id number) }
+pub(crate) fn refusal_of(near: &Near, asked: Ask, number: u16) -> Option<Refusal>
+    ensures { result ≡ asked_refusal near.now asked (kinds.Instruct asked.id number) }
 {
-    first_of(&[
-        unknown_caller(near, by),
-        not_operator(near, by),
-        unknown_clearance(near, id),
-        earlier_moment(near, id, at),
-        not_running(near, id),
-        no_step(near, id, number),
-        out_of_turn(near, id, number),
-        not_waiting(near, id, number),
-        in_hand(near, id, number),
-        hold_hinders(near, id, number),
-    ])
+    let own = [
+        no_step(near, asked.id, number),
+        out_of_turn(near, asked.id, number),
+        wrong_state(near, asked.id, number, StateTest::Waiting),
+        in_hand(near, asked.id, number),
+        hold_hinders(near, asked.id, number),
+    ];
+    by_operator(near, &asked, PhaseTest::Running, &own)
 }
 
-pub(crate) fn effect(
-    near: &Near,
-    by: Name,
-    at: Moment,
-    id: ClearanceId,
-    number: u16,
-) -> Result<Effect, AllocError>
-    requires { near_refusal near.now by at (kinds.Instruct id number) ≡ None }
-    ensures edits { IfOk result (λ effect. near_edits near.now by at (kinds.Instruct id number)
-        ≡ edits_in effect) }
-    ensures of { IfOk result (IsOf id) }
+pub(crate) fn effect(near: &Near, asked: Ask, number: u16) -> Result<Effect, AllocError>
+    requires { asked_refusal near.now asked (kinds.Instruct asked.id number) ≡ None }
+    ensures edits { IfOk result
+        (λ effect. asked_edits near.now asked (kinds.Instruct asked.id number) ≡ edits_in effect) }
+    ensures of { IfOk result (IsOf asked.id) }
 {
+    let Ask { at, id, .. } = asked;
     let Some(found) = record(near, id) else {
         unreachable!()
     };

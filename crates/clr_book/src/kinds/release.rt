@@ -1,45 +1,31 @@
 //! The holder gives the clearance back: 29 CFR 1910.269(m)(3)(x), (xi).
 ghost use Rattle.std.specs.Prelude.{◌≡◌, IfOk, None, map};
 ghost use Rattle.clr_rules.specs.declared.command.Kind.TheVariants as kinds;
-ghost use Rattle.clr_book.specs.Decision.{near_edits, near_refusal};
+ghost use Rattle.clr_book.specs.Begins.{asked_edits, asked_refusal};
 ghost use Rattle.clr_book.specs.Effect.{IsOf, edits_in};
 ghost use Rattle.clr_rules.specs.Holds.{hold_of};
 ghost use Rattle.clr_rules.specs.declared.change.Edit.TheVariants.{TakeHold};
 ghost use Rattle.clr_rules.specs.declared.hold_kind.HoldKind.TheVariants.{Tested};
 
-use crate::checks::callers::{not_charge, unknown_caller};
-use crate::checks::clearances::{
-    earlier_moment, not_granted, not_holder, record, unknown_clearance,
-};
-use crate::checks::first_of;
+use crate::checks::begins::{Ask, by_holder};
+use crate::checks::callers::RoleTest;
+use crate::checks::clearances::{PhaseTest, record};
 use crate::checks::work::{any_ground, crews_on, not_attested, places_of};
 use crate::effect::Effect;
 use crate::near::Near;
 use clr_net::Name;
-use clr_rules::{ClearanceId, Edit, Hold, HoldKind, Moment, Phase, Record, Refusal};
+use clr_rules::{ClearanceId, Edit, Hold, HoldKind, Phase, Record, Refusal};
 use std::alloc::{AllocError, Global};
 
-pub(crate) fn refusal_of(
-    near: &Near,
-    by: Name,
-    at: Moment,
-    id: ClearanceId,
-    notified: bool,
-    clear: bool,
-) -> Option<Refusal>
-    ensures { result ≡ near_refusal near.now by at (kinds.Release id notified clear) }
+pub(crate) fn refusal_of(near: &Near, asked: Ask, notified: bool, clear: bool) -> Option<Refusal>
+    ensures { result ≡ asked_refusal near.now asked (kinds.Release asked.id notified clear) }
 {
-    first_of(&[
-        unknown_caller(near, by),
-        not_charge(near, by),
-        unknown_clearance(near, id),
-        not_holder(near, id, by),
-        earlier_moment(near, id, at),
-        not_granted(near, id),
-        crews_on(near, id),
-        any_ground(near, id),
+    let own = [
+        crews_on(near, asked.id),
+        any_ground(near, asked.id),
         not_attested(notified, clear),
-    ])
+    ];
+    by_holder(near, &asked, RoleTest::Charge, PhaseTest::Granted, &own)
 }
 
 /// A test is taken.
@@ -66,17 +52,17 @@ fn tests_taken(alloc: Global, id: ClearanceId, sections: &[Name]) -> Result<Vec<
 
 pub(crate) fn effect(
     near: &Near,
-    by: Name,
-    at: Moment,
-    id: ClearanceId,
+    asked: Ask,
     notified: bool,
     clear: bool,
 ) -> Result<Effect, AllocError>
-    requires { near_refusal near.now by at (kinds.Release id notified clear) ≡ None }
+    requires { asked_refusal near.now asked (kinds.Release asked.id notified clear) ≡ None }
     ensures edits { IfOk result
-        (λ effect. near_edits near.now by at (kinds.Release id notified clear) ≡ edits_in effect) }
-    ensures of { IfOk result (IsOf id) }
+        (λ effect. asked_edits near.now asked (kinds.Release asked.id notified clear)
+        ≡ edits_in effect) }
+    ensures of { IfOk result (IsOf asked.id) }
 {
+    let Ask { at, id, .. } = asked;
     let Some(found) = record(near, id) else {
         unreachable!()
     };

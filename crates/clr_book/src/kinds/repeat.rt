@@ -1,59 +1,51 @@
 //! The field repeats the text of a step that was given out.
 ghost use Rattle.std.specs.Prelude.{◌≡◌, IfOk, None};
 ghost use Rattle.clr_rules.specs.declared.command.Kind.TheVariants as kinds;
-ghost use Rattle.clr_book.specs.Decision.{near_edits, near_refusal};
+ghost use Rattle.clr_book.specs.Begins.{asked_edits, asked_refusal};
 ghost use Rattle.clr_book.specs.Effect.{IsOf, edits_in};
 
-use crate::checks::callers::{not_field, unknown_caller};
-use crate::checks::clearances::{earlier_moment, not_running, record, unknown_clearance};
-use crate::checks::first_of;
-use crate::checks::steps::{no_step, not_active, repeat_differs, step};
+use crate::checks::begins::{Ask, by_field};
+use crate::checks::clearances::{PhaseTest, record};
+use crate::checks::steps::{StateTest, no_step, repeat_differs, step, wrong_state};
 use crate::effect::Effect;
 use crate::kinds::step_moves::step_moved;
 use crate::near::Near;
-use clr_net::Name;
 use clr_order::StepState;
-use clr_rules::{ClearanceId, Moment, Record, Refusal, Text};
+use clr_rules::{Record, Refusal, Text};
 use std::alloc::AllocError;
 
 pub(crate) fn refusal_of(
     near: &Near,
-    by: Name,
-    at: Moment,
-    id: ClearanceId,
+    asked: Ask,
     number: u16,
     text: &Text,
 ) -> Result<Option<Refusal>, AllocError>
     ensures { IfOk result (λ refusal. refusal
-        ≡ near_refusal near.now by at (kinds.Repeat id number text.now)) }
+        ≡ asked_refusal near.now asked (kinds.Repeat asked.id number text.now)) }
 {
-    let differs = repeat_differs(near, id, number, text)?;
-    let refusal = first_of(&[
-        unknown_caller(near, by),
-        not_field(near, by),
-        unknown_clearance(near, id),
-        earlier_moment(near, id, at),
-        not_running(near, id),
-        no_step(near, id, number),
-        not_active(near, id, number),
+    let differs = repeat_differs(near, asked.id, number, text)?;
+    let own = [
+        no_step(near, asked.id, number),
+        wrong_state(near, asked.id, number, StateTest::Active),
         differs,
-    ]);
+    ];
+    let refusal = by_field(near, &asked, PhaseTest::Running, &own);
     Ok(refusal)
 }
 
 pub(crate) fn effect(
     near: &Near,
-    by: Name,
-    at: Moment,
-    id: ClearanceId,
+    asked: Ask,
     number: u16,
     text: &Text,
 ) -> Result<Effect, AllocError>
-    requires { near_refusal near.now by at (kinds.Repeat id number text.now) ≡ None }
+    requires { asked_refusal near.now asked (kinds.Repeat asked.id number text.now) ≡ None }
     ensures edits { IfOk result
-        (λ effect. near_edits near.now by at (kinds.Repeat id number text.now) ≡ edits_in effect) }
-    ensures of { IfOk result (IsOf id) }
+        (λ effect. asked_edits near.now asked (kinds.Repeat asked.id number text.now)
+        ≡ edits_in effect) }
+    ensures of { IfOk result (IsOf asked.id) }
 {
+    let Ask { by, at, id } = asked;
     let Some(found) = record(near, id) else {
         unreachable!()
     };

@@ -5,14 +5,13 @@ ghost use Rattle.clr_rules.specs.Changes.{undone_edits};
 ghost use Rattle.clr_rules.specs.Records.{is_switch_order};
 ghost use Rattle.clr_order.specs.declared.step.StepState.TheVariants.{Done};
 ghost use Rattle.clr_rules.specs.declared.command.Kind.TheVariants as kinds;
-ghost use Rattle.clr_book.specs.Decision.{near_edits, near_refusal};
+ghost use Rattle.clr_book.specs.Begins.{asked_edits, asked_refusal};
 ghost use Rattle.clr_book.specs.Effect.{IsOf, edits_in};
 
 use crate::card::progress_with;
-use crate::checks::callers::{not_field, unknown_caller};
-use crate::checks::clearances::{earlier_moment, not_running, record, unknown_clearance};
-use crate::checks::first_of;
-use crate::checks::steps::{no_step, not_repeated, step, wrong_reporter};
+use crate::checks::begins::{Ask, by_field};
+use crate::checks::clearances::{PhaseTest, record};
+use crate::checks::steps::{StateTest, no_step, step, wrong_reporter, wrong_state};
 use crate::effect::Effect;
 use crate::kinds::step_moves::step_moved;
 use crate::near::Near;
@@ -22,25 +21,15 @@ use clr_rules::{ClearanceId, Edit, Hold, HoldKind, Moment, Phase, Record, Refusa
 use std::alloc::{AllocError, Global};
 
 /// The checks of a report are the same, whether it says that the step was done or that it was not.
-pub(crate) fn refusal_of(
-    near: &Near,
-    by: Name,
-    at: Moment,
-    id: ClearanceId,
-    number: u16,
-) -> Option<Refusal>
-    ensures { result ≡ near_refusal near.now by at (kinds.Report id number true) }
+pub(crate) fn refusal_of(near: &Near, asked: Ask, number: u16) -> Option<Refusal>
+    ensures { result ≡ asked_refusal near.now asked (kinds.Report asked.id number true) }
 {
-    first_of(&[
-        unknown_caller(near, by),
-        not_field(near, by),
-        unknown_clearance(near, id),
-        earlier_moment(near, id, at),
-        not_running(near, id),
-        no_step(near, id, number),
-        not_repeated(near, id, number),
-        wrong_reporter(near, id, number, by),
-    ])
+    let own = [
+        no_step(near, asked.id, number),
+        wrong_state(near, asked.id, number, StateTest::Repeated),
+        wrong_reporter(near, asked.id, number, asked.by),
+    ];
+    by_field(near, &asked, PhaseTest::Running, &own)
 }
 
 /// What an action that was done changes at its point. A switch order holds nothing open.
@@ -159,19 +148,14 @@ fn undone_effect(
     })
 }
 
-pub(crate) fn effect(
-    near: &Near,
-    by: Name,
-    at: Moment,
-    id: ClearanceId,
-    number: u16,
-    done: bool,
-) -> Result<Effect, AllocError>
-    requires { near_refusal near.now by at (kinds.Report id number done) ≡ None }
-    ensures edits { IfOk result (λ effect. near_edits near.now by at (kinds.Report id number done)
+pub(crate) fn effect(near: &Near, asked: Ask, number: u16, done: bool) -> Result<Effect, AllocError>
+    requires { asked_refusal near.now asked (kinds.Report asked.id number done) ≡ None }
+    ensures edits { IfOk result
+        (λ effect. asked_edits near.now asked (kinds.Report asked.id number done)
         ≡ edits_in effect) }
-    ensures of { IfOk result (IsOf id) }
+    ensures of { IfOk result (IsOf asked.id) }
 {
+    let Ask { at, id, .. } = asked;
     let Some(found) = record(near, id) else {
         unreachable!()
     };

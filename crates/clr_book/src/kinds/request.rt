@@ -4,7 +4,7 @@ ghost use Rattle.clr_rules.specs.declared.command.Kind.TheVariants as kinds;
 ghost use Rattle.clr_book.specs.Decision.{near_edits, near_refusal};
 ghost use Rattle.clr_book.specs.Effect.{IsOf, edits_in};
 
-use crate::checks::callers::{not_charge, unknown_caller};
+use crate::checks::callers::{RoleTest, unknown_caller, wrong_role};
 use crate::checks::clearances::{too_many_clearances, unknown_section};
 use crate::checks::first_of;
 use crate::effect::Effect;
@@ -18,7 +18,7 @@ pub(crate) fn refusal_of(near: &Near, by: Name, at: Moment, section: Name) -> Op
 {
     first_of(&[
         unknown_caller(near, by),
-        not_charge(near, by),
+        wrong_role(near, by, RoleTest::Charge),
         unknown_section(near, section),
         too_many_clearances(near),
     ])

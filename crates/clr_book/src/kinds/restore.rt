@@ -1,54 +1,40 @@
 //! An operator writes the restoring steps: 29 CFR 1910.269(m)(3)(xii), (xiii).
 ghost use Rattle.std.specs.Prelude.{◌≡◌, IfOk, None};
 ghost use Rattle.clr_rules.specs.declared.command.Kind.TheVariants as kinds;
-ghost use Rattle.clr_book.specs.Decision.{near_edits, near_refusal};
+ghost use Rattle.clr_book.specs.Begins.{asked_edits, asked_refusal};
 ghost use Rattle.clr_book.specs.Effect.{IsOf, edits_in};
 
-use crate::checks::callers::{not_operator, unknown_caller};
-use crate::checks::clearances::{earlier_moment, not_released, record, unknown_clearance};
-use crate::checks::first_of;
+use crate::checks::begins::{Ask, by_operator};
+use crate::checks::clearances::{PhaseTest, record};
 use crate::checks::orders::wrong_restoring;
 use crate::effect::Effect;
 use crate::kinds::new_steps::new_steps;
 use crate::near::Near;
-use clr_net::Name;
-use clr_rules::{ClearanceId, Moment, Phase, Record, Refusal, Tasks};
+use clr_rules::{Phase, Record, Refusal, Tasks};
 use std::alloc::AllocError;
 
 pub(crate) fn refusal_of(
     near: &Near,
-    by: Name,
-    at: Moment,
-    id: ClearanceId,
+    asked: Ask,
     tasks: &Tasks,
 ) -> Result<Option<Refusal>, AllocError>
     ensures { IfOk result (λ refusal. refusal
-        ≡ near_refusal near.now by at (kinds.Restore id tasks.now)) }
+        ≡ asked_refusal near.now asked (kinds.Restore asked.id tasks.now)) }
 {
-    let wrong = wrong_restoring(near, id, tasks.as_slice())?;
-    let refusal = first_of(&[
-        unknown_caller(near, by),
-        not_operator(near, by),
-        unknown_clearance(near, id),
-        earlier_moment(near, id, at),
-        not_released(near, id),
-        wrong,
-    ]);
+    let wrong = wrong_restoring(near, asked.id, tasks.as_slice())?;
+    let own = [wrong];
+    let refusal = by_operator(near, &asked, PhaseTest::Released, &own);
     Ok(refusal)
 }
 
-pub(crate) fn effect(
-    near: &Near,
-    by: Name,
-    at: Moment,
-    id: ClearanceId,
-    tasks: &Tasks,
-) -> Result<Effect, AllocError>
-    requires { near_refusal near.now by at (kinds.Restore id tasks.now) ≡ None }
-    ensures edits { IfOk result (λ effect. near_edits near.now by at (kinds.Restore id tasks.now)
+pub(crate) fn effect(near: &Near, asked: Ask, tasks: &Tasks) -> Result<Effect, AllocError>
+    requires { asked_refusal near.now asked (kinds.Restore asked.id tasks.now) ≡ None }
+    ensures edits { IfOk result
+        (λ effect. asked_edits near.now asked (kinds.Restore asked.id tasks.now)
         ≡ edits_in effect) }
-    ensures of { IfOk result (IsOf id) }
+    ensures of { IfOk result (IsOf asked.id) }
 {
+    let Ask { at, id, .. } = asked;
     let Some(found) = record(near, id) else {
         unreachable!()
     };

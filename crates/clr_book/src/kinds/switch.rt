@@ -4,7 +4,7 @@ ghost use Rattle.clr_rules.specs.declared.command.Kind.TheVariants as kinds;
 ghost use Rattle.clr_book.specs.Decision.{near_edits, near_refusal};
 ghost use Rattle.clr_book.specs.Effect.{IsOf, edits_in};
 
-use crate::checks::callers::{not_operator, unknown_caller};
+use crate::checks::callers::{RoleTest, unknown_caller, wrong_role};
 use crate::checks::clearances::too_many_clearances;
 use crate::checks::first_of;
 use crate::checks::orders::wrong_switching;
@@ -22,7 +22,7 @@ pub(crate) fn refusal_of(near: &Near, by: Name, at: Moment, tasks: &Tasks) -> Op
     let wrong = wrong_switching(near, tasks.as_slice());
     first_of(&[
         unknown_caller(near, by),
-        not_operator(near, by),
+        wrong_role(near, by, RoleTest::Operator),
         too_many_clearances(near),
         wrong,
     ])

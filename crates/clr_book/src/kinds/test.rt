@@ -1,44 +1,28 @@
 //! The holder tells that a section was tested, and is dead or is not: 29 CFR 1910.269(m)(3)(vi).
 ghost use Rattle.std.specs.Prelude.{◌≡◌, IfOk, None};
 ghost use Rattle.clr_rules.specs.declared.command.Kind.TheVariants as kinds;
-ghost use Rattle.clr_book.specs.Decision.{near_edits, near_refusal};
+ghost use Rattle.clr_book.specs.Begins.{asked_edits, asked_refusal};
 ghost use Rattle.clr_book.specs.Effect.{IsOf, edits_in};
 ghost use Rattle.std.specs.Prelude.{if◌then◌else◌};
 ghost use Rattle.clr_rules.specs.Holds.{hold_of};
 ghost use Rattle.clr_rules.specs.declared.change.Edit.TheVariants.{PutHold, TakeHold};
 ghost use Rattle.clr_rules.specs.declared.hold_kind.HoldKind.TheVariants.{Tested};
 
-use crate::checks::callers::{not_charge, unknown_caller};
-use crate::checks::clearances::{
-    earlier_moment, not_granted, not_holder, record, unknown_clearance,
-};
-use crate::checks::first_of;
+use crate::checks::begins::{Ask, by_holder};
+use crate::checks::callers::RoleTest;
+use crate::checks::clearances::{PhaseTest, record};
 use crate::checks::work::outside_fence;
 use crate::effect::Effect;
 use crate::near::Near;
 use clr_net::Name;
-use clr_rules::{ClearanceId, Edit, Hold, HoldKind, Moment, Record, Refusal};
+use clr_rules::{ClearanceId, Edit, Hold, HoldKind, Record, Refusal};
 use std::alloc::AllocError;
 
-pub(crate) fn refusal_of(
-    near: &Near,
-    by: Name,
-    at: Moment,
-    id: ClearanceId,
-    section: Name,
-    dead: bool,
-) -> Option<Refusal>
-    ensures { result ≡ near_refusal near.now by at (kinds.Test id section dead) }
+pub(crate) fn refusal_of(near: &Near, asked: Ask, section: Name, dead: bool) -> Option<Refusal>
+    ensures { result ≡ asked_refusal near.now asked (kinds.Test asked.id section dead) }
 {
-    first_of(&[
-        unknown_caller(near, by),
-        not_charge(near, by),
-        unknown_clearance(near, id),
-        not_holder(near, id, by),
-        earlier_moment(near, id, at),
-        not_granted(near, id),
-        outside_fence(near, section),
-    ])
+    let own = [outside_fence(near, section)];
+    by_holder(near, &asked, RoleTest::Charge, PhaseTest::Granted, &own)
 }
 
 /// A dead section's test is put down, another's is taken.
@@ -61,17 +45,17 @@ fn tested(id: ClearanceId, section: Name, dead: bool) -> Edit
 
 pub(crate) fn effect(
     near: &Near,
-    by: Name,
-    at: Moment,
-    id: ClearanceId,
+    asked: Ask,
     section: Name,
     dead: bool,
 ) -> Result<Effect, AllocError>
-    requires { near_refusal near.now by at (kinds.Test id section dead) ≡ None }
-    ensures edits { IfOk result (λ effect. near_edits near.now by at (kinds.Test id section dead)
+    requires { asked_refusal near.now asked (kinds.Test asked.id section dead) ≡ None }
+    ensures edits { IfOk result
+        (λ effect. asked_edits near.now asked (kinds.Test asked.id section dead)
         ≡ edits_in effect) }
-    ensures of { IfOk result (IsOf id) }
+    ensures of { IfOk result (IsOf asked.id) }
 {
+    let Ask { at, id, .. } = asked;
     let Some(found) = record(near, id) else {
         unreachable!()
     };

@@ -14,6 +14,6 @@ takes_leave c (section ∷ sections) = takes_leave c sections
 pub returns-clause-of : goal.returns-clause-of
 returns-clause-of c = record {
   own = search rules;
-  lead = ap (list_all leaves_rows) c.in_ok-lead.ensures ∙ takes_leave c.args.id c.deref.result.now;
+  lead = ap (list_all leaves_rows) c.in_ok-lead.ensures ∙ takes_leave c.args.asked.id c.deref.result.now;
   rising = search rules;
 }
