@@ -8,6 +8,7 @@ use Rattle.clr_order.specs.Step.{state_text}
 use Rattle.clr_rules.specs.Id.{Id, id_text}
 use Rattle.clr_rules.specs.Phase.{phase_text}
 use Rattle.clr_rules.specs.Records.{is_closed}
+use Rattle.clr_rules.specs.Register.{Register}
 use Rattle.clr_rules.specs.Steps.{is_some_step}
 use Rattle.clr_rules.specs.declared.record.Record.{Record}
 use Rattle.clr_rules.specs.declared.step_row.StepRow.{StepRow}
@@ -86,5 +87,5 @@ abbrev pub board_of : List Record → ℤ → List ℕ
 board_of standing offset = count_line (length standing) ++ flat_map (board_line offset) standing
 
 -- THE BOARD: how many records are not closed, and a line for each
-abbrev pub board_text : List Record → ℤ → List ℕ
-board_text records offset = board_of (filter is_open records) offset
+abbrev pub board_text : Register → ℤ → List ℕ
+board_text R offset = board_of (filter is_open R.records) offset

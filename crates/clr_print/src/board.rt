@@ -24,7 +24,7 @@ pub fn print_board<P: Shelf<PointState>, C: Shelf<Record>, T: Shelf<StepRow>, H:
     requires low { neg_ℤ (pos 720) ≤ℤ offset }
     requires high { offset ≤ℤ pos 840 }
     ensures { IfOk result (λ text. string_bytes text
-        ≡ board_text book.now.register.records offset) }
+        ≡ board_text book.now.register offset) }
 {
     let clock = ClockOffset::new(offset);
     let records = book.records()?;

@@ -16,4 +16,4 @@ returns g c =
     ∙ now-filter is_open c.as_slice.result.now ∙ ap (filter is_open) records in
     IfOk-weaker c.board_of.result _ _ (λ text e. e
     ∙ ap (λ (rows : List Record). board_of rows c.new-clock.result) standing
-    ∙ ap (board_text c.args.book.now.register.records) clock) c.board_of.ensures
+    ∙ ap (board_text c.args.book.now.register) clock) c.board_of.ensures
