@@ -99,6 +99,20 @@ impl<P: Shelf<PointState>, C: Shelf<Record>, T: Shelf<StepRow>, H: Shelf<Hold>> 
         let _shelves = self.alloc;
     }
 
+    /// The four shelves: the states of the points, the records, the steps and the holds.
+    pub fn shelves(&self) -> (&P, &C, &T, &H)
+        ensures { self.now.register ≡ record {
+          net = unplaced_net self.now.network;
+          staff = self.now.register.staff;
+          states = P.rows result.0.now;
+          records = C.rows result.1.now;
+          steps = T.rows result.2.now;
+          holds = H.rows result.3.now;
+        } }
+    {
+        (&self.states, &self.records, &self.steps, &self.holds)
+    }
+
     /// The position of a point, and whose order is at work on it.
     pub fn state(&self, point: &Name) -> Option<&PointState>
         ensures { option_copied result ≡ state_of self.now.register.states point.now }
