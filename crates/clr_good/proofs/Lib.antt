@@ -7,3 +7,4 @@ pub mod HoldsSay
 pub mod ByPhase
 pub mod TestIsExact
 pub mod CodeFacts
+pub mod FaultSays

@@ -2,5 +2,7 @@ pub mod Points
 pub mod Clearances
 pub mod Steps
 pub mod Holds
+pub mod HoldsLeft
 pub mod Whole
+pub mod Fault
 pub mod Laws

@@ -24,7 +24,7 @@ impl<'a, P: Shelf<PointState>, C: Shelf<Record>, T: Shelf<StepRow>, H: Shelf<Hol
 > {
     /// Whether clearances are numbered without gaps, work sections are the network's, and records
     /// without one are those of operators, Switching or Closed.
-    pub fn clearances_fit(&self) -> Result<bool, AllocError>
+    pub(crate) fn clearances_fit(&self) -> Result<bool, AllocError>
         ensures { IfOk result (λ fit. fit ≡ clearances_fit self.now) }
     {
         let records: Vec<&Record> = all_rows(self.alloc, self.records)?;

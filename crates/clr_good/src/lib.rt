@@ -2,9 +2,14 @@
 #![tactic(auto)]
 
 mod clearances;
+mod fault;
+mod holds;
 pub mod laws;
 mod points;
+mod rounds;
 mod rows;
 mod shelves;
+mod steps;
+mod undoing;
 
-pub use shelves::Shelves;
+pub use fault::{ListAtFault, list_at_fault};

@@ -22,7 +22,7 @@ impl<'a, P: Shelf<PointState>, C: Shelf<Record>, T: Shelf<StepRow>, H: Shelf<Hol
 > {
     /// Whether each point of the network has a state, and no other name, and whoever has a point
     /// in hand a step there that is given out.
-    pub fn points_fit(&self) -> Result<bool, AllocError>
+    pub(crate) fn points_fit(&self) -> Result<bool, AllocError>
         ensures { IfOk result (λ fit. fit ≡ points_fit self.now) }
     {
         let states: Vec<&PointState> = all_rows(self.alloc, self.states)?;

@@ -1,8 +1,8 @@
 //! The rows of a register, as they stand on shelves.
 ghost use Rattle.std.specs.Prelude.{◌≡◌};
-ghost use Rattle.clr_rules.specs.Register.{unplaced_net};
 ghost use Rattle.clr_good.specs.Whole.{IsKept};
 
+use clr_book::Book;
 use clr_csv::Staff;
 use clr_net::Network;
 use clr_rules::{Hold, PointState, Record, StepRow};
@@ -12,7 +12,13 @@ use std::marker::Model;
 
 /// A network, a staff, and the rows of a register on four shelves.
 #[derive(Drop)]
-pub struct Shelves<'a, P: Shelf<PointState>, C: Shelf<Record>, T: Shelf<StepRow>, H: Shelf<Hold>> {
+pub(crate) struct Shelves<
+    'a,
+    P: Shelf<PointState>,
+    C: Shelf<Record>,
+    T: Shelf<StepRow>,
+    H: Shelf<Hold>,
+> {
     pub(crate) alloc: Global,
     pub(crate) network: &'a Network,
     pub(crate) staff: &'a Staff,
@@ -45,29 +51,15 @@ impl<'a, P: Shelf<PointState>, C: Shelf<Record>, T: Shelf<StepRow>, H: Shelf<Hol
     T,
     H,
 > {
-    /// The register that these shelves hold.
-    pub fn of(
-        alloc: Global,
-        network: &'a Network,
-        staff: &'a Staff,
-        states: &'a P,
-        records: &'a C,
-        steps: &'a T,
-        holds: &'a H,
-    ) -> Self
-        ensures { result ≡ record {
-          net = unplaced_net network.now;
-          staff = staff.now;
-          states = P.rows states.now;
-          records = C.rows records.now;
-          steps = T.rows steps.now;
-          holds = H.rows holds.now;
-        } }
+    /// The register of a book.
+    pub(crate) fn of(alloc: Global, book: &'a Book<P, C, T, H>) -> Self
+        ensures { result ≡ book.now.register }
     {
+        let (states, records, steps, holds) = book.shelves();
         Shelves {
             alloc,
-            network,
-            staff,
+            network: book.network(),
+            staff: book.staff(),
             states,
             records,
             steps,
@@ -77,7 +69,7 @@ impl<'a, P: Shelf<PointState>, C: Shelf<Record>, T: Shelf<StepRow>, H: Shelf<Hol
 
     /// A register on shelves has a network and a staff, and its lists stand in key order: a law,
     /// with nothing to do.
-    pub fn is_kept(&self)
+    pub(crate) fn is_kept(&self)
         ensures { IsKept self.now }
     {
         self.network.is_network();

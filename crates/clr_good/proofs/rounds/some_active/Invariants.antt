@@ -1,0 +1,6 @@
+use Rattle.std.proofs.Common.{◌≡◌, map, drop}
+use Rattle.clr_rules.specs.Steps.{some_active}
+use Rattle.clr_good.proofs.rounds.some_active.Given as goal
+
+abbrev pub invariant-loop-row : goal.invariant-loop-row
+invariant-loop-row l = some_active (map (λ row. row.now) (drop l.row-index l.fn.steps)) ≡ some_active (map (λ row. row.now) l.fn.steps)
