@@ -1,17 +1,14 @@
 -- Steps and holds that suit a phase are those of a clearance in its place, and the other way round.
-use Rattle.std.proofs.Common.{◌≡◌, ℕ, Bool, true, false, not, ◌&&◌, List, [], Option, Some, None, All, refl, sym, ◌∙◌, ap, subst}
+use Rattle.std.proofs.Common.{◌≡◌, ℕ, Bool, true, false, not, ◌&&◌, List, [], Option, Some, None, refl, sym, ◌∙◌, ap, subst}
 use Rattle.std.specs.List.{list_all}
 use Rattle.std.proofs.lemmas.Bool.{and_from, and_parts, false≢true, false_from_ne_true, not-true, not_from_false}
-use Rattle.clr_net.specs.Grid.{Grid}
 use Rattle.clr_net.specs.Names.{has_name}
 use Rattle.clr_net.specs.declared.point.Position.TheVariants.{Opened}
 use Rattle.clr_order.specs.Action.{is_switching}
-use Rattle.clr_rules.specs.Fences.{work_fence}
-use Rattle.clr_rules.specs.Good.{put_by, works_on}
-use Rattle.clr_rules.specs.GoodByPhase.{HasNoWork, HoldsAsPut, HoldsNothing, InPhase, Isolates, of_round, outlook_of, present_of}
+use Rattle.clr_rules.specs.Good.{put_by}
+use Rattle.clr_rules.specs.GoodByPhase.{HasNoWork, HoldsAsPut, HoldsNothing, InPhase, of_round, outlook_of, present_of}
 use Rattle.clr_rules.specs.Prelude.{Id, Register, position_of}
 use Rattle.clr_rules.specs.Prelude.{is_granted, all_done, is_some_step, points_of, steps_of, is_point_kind, has_hold, hold_of}
-use Rattle.clr_rules.specs.declared.hold.Hold.{Hold}
 use Rattle.clr_rules.specs.declared.hold_kind.HoldKind.{HoldKind}
 use Rattle.clr_rules.specs.declared.phase.Phase.{Phase}
 use Rattle.clr_rules.specs.declared.step_row.StepRow.{StepRow}
@@ -24,7 +21,7 @@ use Rattle.clr_rules.proofs.lists.RoundSteps.{no_step_there}
 use Rattle.clr_good.specs.Clearances.{work_fits}
 use Rattle.clr_good.specs.Holds.{all_put_stands, holds_suit, is_opened, is_undone_at, kind_suits, point_hold_suits, work_hold_suits}
 use Rattle.clr_good.specs.Steps.{active_within, isolates, steps_suit}
-use Rattle.clr_good.proofs.HoldsSay.{held_then_put, opened_is, put_then_held, round_points, undone_each}
+use Rattle.clr_good.proofs.HoldsSay.{held_then_put, put_then_held, round_points, undone_each}
 use Rattle.clr_good.proofs.StepsSay.{active_said, active_say, isolates_said, isolates_say}
 use Rattle.clr_good.proofs.Tests.{All_from_list_all, list_all_from, list_all_from_All, same_tests}
 

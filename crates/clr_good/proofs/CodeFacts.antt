@@ -5,7 +5,7 @@ use Rattle.std.specs.Result.{is_ok}
 use Rattle.std.proofs.lemmas.Bool.{and_parts, ne_eqb, not_from_false}
 use Rattle.std.proofs.lemmas.Map.Views.{any-filter_same}
 use Rattle.clr_net.specs.Fence.{FenceRows, fence_of, in_fence, touches}
-use Rattle.clr_net.specs.Grid.{Grid, point_names, section_names, unplaced}
+use Rattle.clr_net.specs.Grid.{Grid, section_names, unplaced}
 use Rattle.clr_net.specs.Name.{same_name}
 use Rattle.clr_net.specs.Names.{has_name}
 use Rattle.clr_net.specs.declared.point.PointRow.{PointRow}
@@ -17,10 +17,9 @@ use Rattle.clr_order.specs.declared.order_fault.OrderFault.{OrderFault}
 use Rattle.clr_rules.specs.Fences.{work_fence}
 use Rattle.clr_rules.specs.Hold.{is_in_hold_group}
 use Rattle.clr_rules.specs.Holds.{hinders}
-use Rattle.clr_rules.specs.Prelude.{Id, first_of_each, is_point_kind, is_some_step, points_of, same_id, same_kind, tasks_of}
+use Rattle.clr_rules.specs.Prelude.{Id, first_of_each, is_point_kind, is_some_step, points_of, tasks_of}
 use Rattle.clr_rules.specs.declared.hold.Hold.{Hold}
 use Rattle.clr_rules.specs.declared.step_row.StepRow.{StepRow}
-use Rattle.clr_rules.specs.declared.hold_kind.HoldKind.TheVariants.{HeldOpen}
 use Rattle.clr_rules.specs.Register.{unplaced_net}
 use Rattle.clr_rules.specs.declared.hold.HoldGroup.TheVariants.{AtPoint}
 use Rattle.clr_rules.proofs.lists.RoundSteps.{some_step_there}

@@ -1,6 +1,6 @@
 -- What it says that the list of holds fits.
-use Rattle.std.proofs.Common.{◌≡◌, ℕ, Bool, true, false, not, cond, ◌&&◌, ◌||◌, nat_eq, List, [], ◌∷◌, filter, Option, Some, None, Contains, ⊎_elim, refl, sym, ◌∙◌, ap, subst}
-use Rattle.std.specs.List.{list_all, list_any}
+use Rattle.std.proofs.Common.{◌≡◌, ℕ, Bool, true, false, not, cond, ◌&&◌, ◌||◌, nat_eq, List, [], ◌∷◌, filter, Option, Some, None, ⊎_elim, refl, sym, ◌∙◌, ap, subst}
+use Rattle.std.specs.List.{list_all}
 use Rattle.std.proofs.lemmas.Bool.{and_from, and_parts, both_ways, false≢true, false_from_ne_true, or_cases, or_left, or_right, or_parts}
 use Rattle.clr_net.specs.Name.{same_name}
 use Rattle.clr_net.specs.Names.{has_name}
@@ -15,14 +15,13 @@ use Rattle.clr_shelf.proofs.Members.{member-row_of, row_of-member}
 use Rattle.clr_shelf.specs.Rows.{in_key_order}
 use Rattle.clr_rules.specs.Good.{put_by, puts, steps_left_of}
 use Rattle.clr_rules.specs.GoodByPhase.{of_round}
-use Rattle.clr_rules.specs.Prelude.{Id, Register, position_of, id_cmp, id_cmp_total, record_key, record_of}
+use Rattle.clr_rules.specs.Prelude.{Id, Register, id_cmp, id_cmp_total, record_key, record_of}
 use Rattle.clr_rules.specs.Prelude.{hold_cmp, hold_key, is_done, points_of, steps_of, tasks_of, is_point_kind, has_hold, hold_of}
 use Rattle.clr_rules.specs.declared.hold.Hold.{Hold}
 use Rattle.clr_rules.specs.declared.hold_kind.HoldKind.{HoldKind}
 use Rattle.clr_rules.specs.declared.record.Record.{Record}
 use Rattle.clr_rules.specs.declared.step_row.StepRow.{StepRow}
 use Rattle.clr_rules.specs.declared.hold_kind.HoldKind.TheVariants.{HeldOpen, Block, Control, Tag}
-use Rattle.clr_rules.specs.declared.hold_kind.HoldKind.TheVariants.{Tested, Ground, Crew}
 use Rattle.clr_rules.proofs.lists.Filters.{name_says}
 use Rattle.clr_rules.proofs.lists.HoldMembers.{hold_had, hold_there}
 use Rattle.clr_rules.proofs.lists.RoundSteps.{record_id}

@@ -1,5 +1,5 @@
 -- What it says that the list of steps fits.
-use Rattle.std.proofs.Common.{◌≡◌, ℕ, Bool, true, false, not, cond, ◌&&◌, ◌||◌, nat_eq, List, [], ◌∷◌, Option, Some, None, is_some, IsTrue, All, Contains, refl, sym, ◌∙◌, ap, subst}
+use Rattle.std.proofs.Common.{◌≡◌, ℕ, Bool, true, false, not, ◌&&◌, ◌||◌, nat_eq, List, [], ◌∷◌, Option, Some, None, is_some, IsTrue, All, Contains, refl, sym, ◌∙◌, ap, subst}
 use Rattle.std.specs.List.{list_all, list_any}
 use Rattle.std.proofs.lemmas.Bool.{and_from, and_parts, both_ways, eqb-true, eq-eqb, false≢true, false_from_ne_true, not-true, not_from_false}
 use Rattle.std.proofs.lemmas.List.Elements.{All-contains}
@@ -18,8 +18,7 @@ use Rattle.clr_rules.specs.Good.{has_record, is_closing_at}
 use Rattle.clr_rules.specs.GoodByPhase.{ActiveInRound, active_at, all_waiting, go_in_turn, of_round}
 use Rattle.clr_rules.specs.Holds.{hinders}
 use Rattle.clr_rules.specs.Prelude.{Id, Register, has_in_hand, id_cmp, id_cmp_total, record_key, record_of, same_id}
-use Rattle.clr_rules.specs.Prelude.{hold_cmp, hold_key, is_active, is_done, is_waiting, points_of, steps_of, tasks_of, is_point_kind, has_hold, hold_of, first_of_each, same_kind}
-use Rattle.clr_rules.specs.declared.hold.Hold.{Hold}
+use Rattle.clr_rules.specs.Prelude.{hold_cmp, hold_key, is_active, is_done, points_of, steps_of, tasks_of, is_point_kind, has_hold, hold_of, first_of_each, same_kind}
 use Rattle.clr_rules.specs.declared.hold_kind.HoldKind.{HoldKind}
 use Rattle.clr_rules.specs.declared.record.Record.{Record}
 use Rattle.clr_rules.specs.declared.step_row.StepRow.{StepRow}

@@ -1,7 +1,7 @@
 -- Tests over whole lists, and tests that ask for one thing where another holds.
-use Rattle.std.proofs.Common.{◌≡◌, ◌↔◌, Bool, true, false, not, ◌||◌, List, [], ◌∷◌, All, Contains, refl, sym, ◌∙◌, ap}
+use Rattle.std.proofs.Common.{◌≡◌, Bool, true, false, not, ◌||◌, List, [], ◌∷◌, All, Contains, refl, sym}
 use Rattle.std.specs.List.{list_all}
-use Rattle.std.proofs.lemmas.Bool.{and_from, and_parts, both_ways, false≢true, false_from_ne_true}
+use Rattle.std.proofs.lemmas.Bool.{and_from, false≢true}
 use Rattle.std.proofs.lemmas.List.Elements.{All-contains}
 use Rattle.clr_shelf.proofs.Lists.{Contains-here, Contains-later, list_all-contains}
 use Rattle.clr_rules.proofs.lists.RoundSteps.{All-from_each}

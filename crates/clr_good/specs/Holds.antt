@@ -1,7 +1,7 @@
 -- THE LIST OF HOLDS FITS: each hold has a record, whose phase and steps are such that it stands
 -- there, and a hold at a point stands at an open one; and each record has the holds that its phase
 -- and its steps want.
-use Rattle.std.specs.Prelude.{ℕ, Bool, true, false, not, ◌&&◌, ◌||◌, List, ◌++◌, Option, None, Some}
+use Rattle.std.specs.Prelude.{ℕ, Bool, true, false, not, ◌&&◌, ◌||◌, List, Option, None, Some}
 use Rattle.std.specs.List.{list_all}
 use Rattle.clr_net.specs.Grid.{Grid}
 use Rattle.clr_net.specs.Names.{has_name}

@@ -1,5 +1,5 @@
 -- WHETHER A REGISTER IS GOOD, AS A TEST: its four lists fit, each row with the others.
-use Rattle.std.specs.Prelude.{Bool, not, ◌&&◌, if◌then◌else◌, Option, None, Some}
+use Rattle.std.specs.Prelude.{Bool, ◌&&◌}
 use Rattle.clr_net.specs.Grid.{IsNetwork}
 use Rattle.clr_csv.specs.Staff.{IsStaff}
 use Rattle.clr_rules.specs.Good.{ListsAreInOrder, NetworkIsUnplaced}
