@@ -17,6 +17,7 @@ use Rattle.clr_rules.proofs.isolation.RunReplies.{others_change_no_reply, own_st
 use Rattle.clr_rules.proofs.keeps.EveryKind.{reached_are_good}
 use Rattle.clr_load.specs.Contract.{IsSaved}
 use Rattle.clr_load.specs.Stored.{AreTables, HasTables}
+use Rattle.clr_load.proofs.Reopened.{left_of}
 use Rattle.clr_tables.specs.Tables.{tables_of}
 use Rattle.clr_desk.specs.Answering.{has_accepted, replies_of}
 use Rattle.clr_desk.specs.Crash.{AreAfterSome}
@@ -80,7 +81,7 @@ pub stands : (s : State) (X : Register) (trees : Trees) → IsSaved s → HasTab
     → AreTables trees (tables_of X)
 stands s X trees saved has is =
     subst (λ (db : Trees). AreTables db (tables_of X)) (sym (is ∙ ap (λ (d : Database). d.trees) saved.1))
-    (record { listed = has.holds.listed; rows = has.holds.rows; in_order = has.in_order })
+    (left_of s.now (tables_of X) has)
 
 -- what is saved
 pub saved_left : (old mid : State) (R X : Register) (commands : List Command) (told : List Reply) (i : ℕ) → length told ≡ i → i ≤ length commands

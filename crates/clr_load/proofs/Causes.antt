@@ -21,11 +21,12 @@ use Rattle.clr_tables.specs.declared.table_name.TableName.{TableName}
 use Rattle.clr_tables.specs.declared.table_name.TableName.TheVariants.{Meta, Section, Point, Staff, Clearance, Step, Hold}
 use Rattle.clr_load.specs.Cause.{IsAble, SqlHasCause, fault_of}
 use Rattle.clr_load.specs.Fault.{IsOfDatabase}
-use Rattle.clr_load.specs.Schema.{behind_meta, register_schema}
+use Rattle.clr_load.specs.Layout.{Layout, OfOne}
+use Rattle.clr_load.specs.Schema.{behind_meta, schema_in}
 use Rattle.clr_load.specs.Sql.{select_sql}
 use Rattle.clr_load.specs.declared.fault.StoreFault.{StoreFault}
 use Rattle.clr_load.specs.declared.fault.StoreFault.TheVariants.{Sql, WrongVersion, BadRow, NoMemory}
-use Rattle.clr_load.proofs.Texts.{all_of, meta_reads, meta_unlisted, select_reads, select_unlisted, selecting, understood_as}
+use Rattle.clr_load.proofs.Texts.{all_of, meta_known, meta_unlisted, select_known, select_unlisted, selecting}
 
 -- ---- what a fault tells
 pub told_of_database : (e : Error) (fault : StoreFault) → fault ≡ fault_of e → IsOfDatabase fault
@@ -63,23 +64,23 @@ is_statement s schema sql command has reads e (inr h) =
     ]
 
 -- ---- a listing is typed, and sums nothing
-abbrev Refuses : Schema → TableName → Type 0
-Refuses schema name = (db : Database) (e : Error) → db.schema ≡ schema → RefusesToRead None (selecting name) db [] e → ⊥
+abbrev Refuses : Schema → Layout → TableName → Type 0
+Refuses schema l name = (db : Database) (e : Error) → db.schema ≡ schema → RefusesToRead None (selecting l name) db [] e → ⊥
 
-never_refused : (name : TableName) → Refuses register_schema name
+never_refused : (l : Layout) (name : TableName) → Refuses (schema_in l) l name
 unfolding everything
-never_refused Meta db e has (inl h) = let typed = rw has at h.1 in cc
-never_refused Section db e has (inl h) = let typed = rw has at h.1 in cc
-never_refused Point db e has (inl h) = let typed = rw has at h.1 in cc
-never_refused Staff db e has (inl h) = let typed = rw has at h.1 in cc
-never_refused Clearance db e has (inl h) = let typed = rw has at h.1 in cc
-never_refused Step db e has (inl h) = let typed = rw has at h.1 in cc
-never_refused Hold db e has (inl h) = let typed = rw has at h.1 in cc
-never_refused name db e has (inr (inl (_, inl over))) = over
-never_refused name db e has (inr (inl (_, inr over))) = over.4
-never_refused name db e has (inr (inr cut)) = absurd (let o = cut.1 in cc)
+never_refused OfOne Meta db e has (inl h) = let typed = rw has at h.1 in cc
+never_refused OfOne Section db e has (inl h) = let typed = rw has at h.1 in cc
+never_refused OfOne Point db e has (inl h) = let typed = rw has at h.1 in cc
+never_refused OfOne Staff db e has (inl h) = let typed = rw has at h.1 in cc
+never_refused OfOne Clearance db e has (inl h) = let typed = rw has at h.1 in cc
+never_refused OfOne Step db e has (inl h) = let typed = rw has at h.1 in cc
+never_refused OfOne Hold db e has (inl h) = let typed = rw has at h.1 in cc
+never_refused l name db e has (inr (inl (_, inl over))) = over
+never_refused l name db e has (inr (inl (_, inr over))) = over.4
+never_refused l name db e has (inr (inr cut)) = absurd (let o = cut.1 in cc)
 
-meta_never_refused : (others : Schema) → Refuses (behind_meta others) Meta
+meta_never_refused : (others : Schema) → Refuses (behind_meta others) OfOne Meta
 unfolding everything
 meta_never_refused others db e has (inl h) = let typed = rw has at h.1 in cc
 meta_never_refused others db e has (inr (inl (_, inl over))) = over
@@ -87,23 +88,23 @@ meta_never_refused others db e has (inr (inl (_, inr over))) = over.4
 meta_never_refused others db e has (inr (inr cut)) = absurd (let o = cut.1 in cc)
 
 -- ---- a listing fails for the device alone
-module _ (name : TableName) (schema : Schema) (reads : understood schema (select_sql name) ≡ Ok (all_of (select_sql name) 0 (selecting name)))
-    (unlisted : reads_listing schema (select_sql name) ≡ false) (takes : Refuses schema name) where
-  show_refused : (old new : State) (e : Error) (c : Compiled) (now : ℕ) → old.now.schema ≡ schema → IsAble old → c ≡ all_of (select_sql name) 0 (selecting name)
+module _ (l : Layout) (name : TableName) (schema : Schema) (reads : understood schema (select_sql name) ≡ Ok (all_of (select_sql name) 0 (selecting l name)))
+    (unlisted : reads_listing schema (select_sql name) ≡ false) (takes : Refuses schema l name) where
+  show_refused : (old new : State) (e : Error) (c : Compiled) (now : ℕ) → old.now.schema ≡ schema → IsAble old → c ≡ all_of (select_sql name) 0 (selecting l name)
       → FailsToShow old new (select_sql name) c (timed [] c.formats now) e c.returning → ⊥
   show_refused old new e c now has able is h =
-      let it : FailsToShow old new (select_sql name) (all_of (select_sql name) 0 (selecting name)) [] e None = rw is at h in
+      let it : FailsToShow old new (select_sql name) (all_of (select_sql name) 0 (selecting l name)) [] e None = rw is at h in
       let here : it.0 ≡ old.now = subst (λ b. IsSourceOf b old.now it.0) (ap (λ s. reads_listing s (select_sql name)) has ∙ unlisted) it.1 in
       takes it.0 e (ap (λ (db : Database). db.schema) here ∙ has) (rw able.unlimited at it.2)
 
   query_cause : (old new : State) (e : Error) → old.now.schema ≡ schema → IsTrue old.in_transaction → IsAble old
       → FailsToQuery (select_sql name) [] old new e ⊎ IsTooLate (select_sql name) [] old new e → fault_of e ≡ Sql → MoreFaults old.faults new.faults
   unfolding FailsToQuery IsNotRun
-  query_cause old new e has inside able (inl (inl (inl h))) is = absurd (is_statement old schema (select_sql name) (selecting name) has reads e h.0)
+  query_cause old new e has inside able (inl (inl (inl h))) is = absurd (is_statement old schema (select_sql name) (selecting l name) has reads e h.0)
   query_cause old new e has inside able (inl (inl (inr h))) is = store_cause old new h.0 able h.2 (ap fault_of (sym h.1) ∙ is)
   query_cause old new e has inside able (inl (inr h)) is =
       let both = sym h.1.is ∙ ap (λ x. understood x (select_sql name)) has ∙ reads in
-      let same : h.0 ≡ all_of (select_sql name) 0 (selecting name) = cc in
+      let same : h.0 ≡ all_of (select_sql name) 0 (selecting l name) = cc in
       absurd (show_refused old new e h.0 h.1.now has able same h.2)
   query_cause old new e has inside able (inr h) is = absurd (let o = rw h.3 at inside in cc)
 
@@ -111,17 +112,13 @@ module _ (name : TableName) (schema : Schema) (reads : understood schema (select
       → FailsToQuery (select_sql name) [] old new e ⊎ IsTooLate (select_sql name) [] old new e → SqlHasCause old new fault
   listing_cause old new e fault has inside is h = has_cause old new fault (λ sql able. query_cause old new e has inside able h (sym is ∙ sql))
 
-pub list_cause : (name : TableName) (old new : State) (e : Error) (fault : StoreFault) → old.now.schema ≡ register_schema → IsTrue old.in_transaction → fault ≡ fault_of e
+pub list_cause : (l : Layout) (name : TableName) (old new : State) (e : Error) (fault : StoreFault) → old.now.schema ≡ schema_in l → IsTrue old.in_transaction → fault ≡ fault_of e
     → FailsToQuery (select_sql name) [] old new e ⊎ IsTooLate (select_sql name) [] old new e → SqlHasCause old new fault
-list_cause name =
-    listing_cause name register_schema (understood_as register_schema (select_sql name) (all_of (select_sql name) 0 (selecting name)) (select_reads name))
-    (select_unlisted name) (never_refused name)
+list_cause l name = listing_cause l name (schema_in l) (select_known l name) (select_unlisted l name) (never_refused l name)
 
 pub meta_cause : (others : Schema) (old new : State) (e : Error) (fault : StoreFault) → old.now.schema ≡ behind_meta others → IsTrue old.in_transaction → fault ≡ fault_of e
     → FailsToQuery (select_sql Meta) [] old new e ⊎ IsTooLate (select_sql Meta) [] old new e → SqlHasCause old new fault
-meta_cause others =
-    listing_cause Meta (behind_meta others) (understood_as (behind_meta others) (select_sql Meta) (all_of (select_sql Meta) 0 (selecting Meta)) (meta_reads others))
-    (meta_unlisted others) (meta_never_refused others)
+meta_cause others = listing_cause OfOne Meta (behind_meta others) (meta_known others) (meta_unlisted others) (meta_never_refused others)
 
 -- ---- one call after another
 pub able_or_failed : (a b : State) (Commits : Trees → Type 0) → Survives a b Commits → HasCleanDisk b → IsAble a → IsAble b ⊎ MoreFaults a.faults b.faults

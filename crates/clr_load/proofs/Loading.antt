@@ -1,5 +1,5 @@
 -- What the listing of a table shows.
-use Rattle.std.proofs.Common.{◌≡◌, ◌≤◌, ℕ, zero, suc, List, [], ◌∷◌, map, take, drop, length, true, ◌⊎◌, inl, inr, Option, Some, None, Err, IsTrue, refl, sym, ap, subst, ◌∙◌, arith}
+use Rattle.std.proofs.Common.{◌≡◌, ◌≤◌, ◌-◌, ◌^◌, ℕ, zero, suc, List, [], ◌∷◌, map, take, drop, length, Bool, true, false, if◌then◌else◌, nat_le, slice_get, unwrap_or, ◌⊎◌, inl, inr, Option, Some, None, Err, IsTrue, refl, sym, ap, subst, ◌∙◌, arith}
 use Rattle.std.specs.List.{AllByRecursion, flat_map, list_all}
 use Rattle.std.specs.List.Sorted.{IsPermutation}
 use Rattle.std.specs.Ordering.{is_lt}
@@ -30,23 +30,22 @@ use Rattle.clr_tables.specs.declared.table_name.TableName.{TableName}
 use Rattle.clr_tables.specs.declared.table_name.TableName.TheVariants.{Meta, Section, Point, Staff, Clearance, Step, Hold}
 use Rattle.clr_load.specs.Found.{Fails, Finds}
 use Rattle.clr_load.specs.Listed.{both_of}
-use Rattle.clr_load.specs.Schema.{behind_meta, columns_in, keys_in, no_schema, schema_of, tree_of, register_schema}
+use Rattle.clr_load.specs.Layout.{Layout, OfOne, names_in, tree_in}
+use Rattle.clr_load.specs.Schema.{behind_meta, columns_in, keys_in, no_schema, schema_in, schema_of}
 use Rattle.clr_load.specs.Sql.{select_sql}
 use Rattle.clr_load.specs.Stored.{HasMeta, HasRows, HasTables, Holds, IsInOrder, bodies, fits_columns, rows_in}
 use Rattle.clr_load.specs.declared.fault.StoreFault.{StoreFault}
 use Rattle.clr_load.proofs.Causes.{then_cause}
 use Rattle.clr_load.proofs.Columns.{both_true, fits_length, key_order, met_values, values_all, values_from, values_shift, values_take}
-use Rattle.clr_load.proofs.Texts.{columns_width, listing, meta_is, meta_plain, meta_unlisted, order_from, select_is, select_plain, select_unknown, select_unlisted, width_of}
+use Rattle.clr_load.proofs.Texts.{listing, meta_is, meta_unlisted, order_from, select_is, select_unknown, select_unlisted, width_of}
 
--- a table that is no part of a query is read as it is
-pub laid : (name : TableName) (db : Trees) → overlay db [] (tree_of name) ≡ db (tree_of name)
-laid Meta db = refl
-laid Section db = refl
-laid Point db = refl
-laid Staff db = refl
-laid Clearance db = refl
-laid Step db = refl
-laid Hold db = refl
+-- a tree of the database is read as it is, where no table is computed first
+pub laid : (db : Trees) (tree : ℕ) → overlay db [] tree ≡ db tree
+laid db tree = go (nat_le (2 ^ 31) tree)
+  where
+    go : (b : Bool) → unwrap_or (if b then slice_get [] (tree - 2 ^ 31) else None) (db tree) ≡ db tree
+    go true = refl
+    go false = refl
 
 values_none : (n at : ℕ) → values_from (suc at) n [] ≡ values_from at n []
 values_none zero at = refl
@@ -65,8 +64,8 @@ order_values (suc n) at params r = ap (λ l. column r (suc at) ∷ l) (order_val
 abbrev shown_as : TableName → Row → Output
 shown_as name row = (values_from 0 (keys_in name) row, values_from 0 (width_of name) row)
 
-output_is : (name : TableName) (r : Row) → output (listing name) ([] ∷ r ∷ []) ≡ shown_as name (drop 1 r)
-output_is name r i = (
+output_is : (l : Layout) (name : TableName) (r : Row) → output (listing l name) ([] ∷ r ∷ []) ≡ shown_as name (drop 1 r)
+output_is l name r i = (
   (order_values (keys_in name) 0 [] r ∙ body_values (keys_in name) 0 r) i,
   (met_values (width_of name) 1 [] r ∙ body_values (width_of name) 0 r) i,
 )
@@ -75,9 +74,9 @@ each_row : (tree : List Row) → flat_map (λ r. ([] ∷ r ∷ []) ∷ []) tree 
 each_row [] = refl
 each_row (r ∷ tree) = ap (λ l. ([] ∷ r ∷ []) ∷ l) (each_row tree)
 
-outputs : (name : TableName) (tree : List Row) → map (output (listing name)) (map (λ r. [] ∷ r ∷ []) tree) ≡ map (shown_as name) (bodies tree)
-outputs name [] = refl
-outputs name (r ∷ tree) = λ i. output_is name r i ∷ outputs name tree i
+outputs : (l : Layout) (name : TableName) (tree : List Row) → map (output (listing l name)) (map (λ r. [] ∷ r ∷ []) tree) ≡ map (shown_as name) (bodies tree)
+outputs l name [] = refl
+outputs l name (r ∷ tree) = λ i. output_is l name r i ∷ outputs l name tree i
 
 keys_within : (name : TableName) → keys_in name ≤ width_of name
 keys_within Meta = omega arith
@@ -95,7 +94,7 @@ is_less Greater h = absurd cc
 
 long_enough : (name : TableName) (row : Row) → fits_columns (columns_in name) row ≡ true → keys_in name ≤ length row
 long_enough name row fits =
-    let long : length row ≡ width_of name = fits_length (columns_in name) row fits ∙ columns_width name in
+    let long : length row ≡ width_of name = fits_length (columns_in name) row fits in
     let within = keys_within name in omega arith
 
 -- the key of a row, as it is sorted
@@ -107,58 +106,59 @@ key_values name row fits =
     let taken : length (take n row) ≡ n = length-take-le n row long in
     ap (values_from 0 n) (values_take n row long) ∙ values_all n (take n row) taken
 
-sorted_as : (name : TableName) (a b : Row) → fits_columns (columns_in name) a ≡ true → fits_columns (columns_in name) b ≡ true
-    → output_cmp (listing name) (shown_as name a) (shown_as name b) ≡ row_cmp (take (keys_in name) a) (take (keys_in name) b)
-sorted_as name a b fits_a fits_b =
+sorted_as : (l : Layout) (name : TableName) (a b : Row) → fits_columns (columns_in name) a ≡ true → fits_columns (columns_in name) b ≡ true
+    → output_cmp (listing l name) (shown_as name a) (shown_as name b) ≡ row_cmp (take (keys_in name) a) (take (keys_in name) b)
+sorted_as l name a b fits_a fits_b =
     key_order (keys_in name) 0 (values_from 0 (keys_in name) a) (values_from 0 (keys_in name) b)
     ∙ (λ i. row_cmp (key_values name a fits_a i) (key_values name b fits_b i))
 
 -- rows in the order of their keys are sorted as the listing sorts them
-rises : (name : TableName) (rows : List Row) → list_all (fits_columns (columns_in name)) rows ≡ true → in_key_order row_cmp (take (keys_in name)) rows ≡ true
-    → IsAscending (λ a b. output_cmp (listing name) (shown_as name a) (shown_as name b) ≡ Less) rows
-rises name [] fits ordered = tt
-rises name (row ∷ rows) fits ordered =
+rises : (l : Layout) (name : TableName) (rows : List Row) → list_all (fits_columns (columns_in name)) rows ≡ true → in_key_order row_cmp (take (keys_in name)) rows ≡ true
+    → IsAscending (λ a b. output_cmp (listing l name) (shown_as name a) (shown_as name b) ≡ Less) rows
+rises l name [] fits ordered = tt
+rises l name (row ∷ rows) fits ordered =
     let fit = both_true (fits_columns (columns_in name) row) (list_all (fits_columns (columns_in name)) rows) fits in
     let parts = both_true (list_all (λ next. is_lt (row_cmp (take (keys_in name) row) (take (keys_in name) next))) rows) (in_key_order row_cmp (take (keys_in name)) rows) ordered in
-    (above rows fit.1 parts.0 fit.0, rises name rows fit.1 parts.1)
+    (above rows fit.1 parts.0 fit.0, rises l name rows fit.1 parts.1)
   where
     above : (rest : List Row) → list_all (fits_columns (columns_in name)) rest ≡ true → list_all (λ next. is_lt (row_cmp (take (keys_in name) row) (take (keys_in name) next))) rest ≡ true
-        → fits_columns (columns_in name) row ≡ true → AllByRecursion (λ b. output_cmp (listing name) (shown_as name row) (shown_as name b) ≡ Less) rest
+        → fits_columns (columns_in name) row ≡ true → AllByRecursion (λ b. output_cmp (listing l name) (shown_as name row) (shown_as name b) ≡ Less) rest
     above [] fits low here = tt
     above (next ∷ rest) fits low here =
         let fit = both_true (fits_columns (columns_in name) next) (list_all (fits_columns (columns_in name)) rest) fits in
         let parts = both_true (is_lt (row_cmp (take (keys_in name) row) (take (keys_in name) next))) (list_all (λ next. is_lt (row_cmp (take (keys_in name) row) (take (keys_in name) next))) rest) low in
-        (sorted_as name row next here fit.0 ∙ is_less _ parts.0, above rest fit.1 parts.1 here)
+        (sorted_as l name row next here fit.0 ∙ is_less _ parts.0, above rest fit.1 parts.1 here)
 
 whole_rows : (name : TableName) (rows : List Row) → list_all (fits_columns (columns_in name)) rows ≡ true → map (values_from 0 (width_of name)) rows ≡ rows
 whole_rows name [] fits = refl
 whole_rows name (row ∷ rows) fits =
     let fit = both_true (fits_columns (columns_in name) row) (list_all (fits_columns (columns_in name)) rows) fits in
-    λ i. values_all (width_of name) row (fits_length (columns_in name) row fit.0 ∙ columns_width name) i ∷ whole_rows name rows fit.1 i
+    λ i. values_all (width_of name) row (fits_length (columns_in name) row fit.0) i ∷ whole_rows name rows fit.1 i
 
-answer_is : (name : TableName) (db : Trees) (rows shown : List Row) → HasRows (columns_in name) (db (tree_of name)) rows → in_key_order row_cmp (take (keys_in name)) rows ≡ true
-    → IsAnswer (listing name) (overlay db []) [] shown → shown ≡ rows
-answer_is name db rows shown has ordered a =
-    let tree = db (tree_of name) in
+answer_is : (l : Layout) (name : TableName) (db : Trees) (rows shown : List Row) → HasRows (columns_in name) (db (tree_in l name)) rows → in_key_order row_cmp (take (keys_in name)) rows ≡ true
+    → IsAnswer (listing l name) (overlay db []) [] shown → shown ≡ rows
+answer_is l name db rows shown has ordered a =
+    let tree = db (tree_in l name) in
     let kept : a.kept ≡ map (shown_as name) (bodies tree) =
-    a.distinct ∙ ap (map (output (listing name))) (a.grouped ∙ ap (flat_map (λ r. ([] ∷ r ∷ []) ∷ [])) (laid name db) ∙ each_row tree) ∙ outputs name tree in
+    a.distinct ∙ ap (map (output (listing l name))) (a.grouped ∙ ap (flat_map (λ r. ([] ∷ r ∷ []) ∷ [])) (laid db (tree_in l name)) ∙ each_row tree) ∙ outputs l name tree in
     let all = IsPermutation-map (shown_as name) rows (bodies tree) has.same in
-    let rise = ascending-map (λ x y. output_cmp (listing name) x y ≡ Less) (shown_as name) rows (rises name rows has.fit ordered) in
+    let rise = ascending-map (λ x y. output_cmp (listing l name) x y ≡ Less) (shown_as name) rows (rises l name rows has.fit ordered) in
     let mixed = IsPermutation-trans _ _ _ all (subst (λ k. IsPermutation k a.ordered) kept a.same) in
-    let sorted = sorted_unique (output_cmp (listing name)) (output_cmp_total (listing name)) (map (shown_as name) rows) a.ordered rise mixed a.sorted in
+    let sorted = sorted_unique (output_cmp (listing l name)) (output_cmp_total (listing l name)) (map (shown_as name) rows) a.ordered rise mixed a.sorted in
     a.shown ∙ ap (map (λ (o : Output). o.1)) sorted ∙ map-map (λ (o : Output). o.1) (shown_as name) rows ∙ whole_rows name rows has.fit
 
-pub lists : (old new : State) (name : TableName) (t : Tables) (shown : List Row) → Holds old.now t → IsInOrder t → Shown (select_sql name) [] old new shown → shown ≡ rows_in name t
-lists old new name t shown has ordered ran =
-    let read = reads_as (select_sql name) [] old new register_schema has.schema _ (select_is name) (select_plain name) (select_unlisted name) shown ran in
-    answer_is name old.now.trees (rows_in name t) shown (has.rows name) (ordered name) (read.answer Null)
+pub lists : (l : Layout) (old new : State) (name : TableName) (t : Tables) (shown : List Row) → Holds l old.now t → IsInOrder t → Shown (select_sql name) [] old new shown → shown ≡ rows_in name t
+lists l old new name t shown has ordered ran =
+    let text = select_is l name in
+    let read = reads_as (select_sql name) [] old new (schema_in l) has.schema _ text.is text.plain (select_unlisted l name) shown ran in
+    answer_is l name old.now.trees (rows_in name t) shown (has.rows name) (ordered name) (read.answer Null)
 
 -- the rows that tell the version are listed whatever the other tables are
 pub lists_meta : (old new : State) (meta shown : List Row) → HasMeta old.now meta → Shown (select_sql Meta) [] old new shown → shown ≡ meta
 lists_meta old new meta shown has ran =
-    let schema = behind_meta has.others in
-    let read = reads_as (select_sql Meta) [] old new schema has.schema _ (meta_is has.others) (meta_plain has.others) (meta_unlisted has.others) shown ran in
-    answer_is Meta old.now.trees meta shown has.rows has.in_order (read.answer Null)
+    let text = meta_is has.others in
+    let read = reads_as (select_sql Meta) [] old new (behind_meta has.others) has.schema _ text.is text.plain (meta_unlisted has.others) shown ran in
+    answer_is OfOne Meta old.now.trees meta shown has.rows has.in_order (read.answer Null)
 
 -- nothing is listed in a database without tables
 pub never_shown : (old new : State) (name : TableName) (rows : List Row) → old.now.schema ≡ no_schema → Shown (select_sql name) [] old new rows → ⊥
@@ -167,7 +167,15 @@ never_shown old new name rows bare h = let unknown = sym (select_unknown name) �
 
 -- the tables of a register begin with the one that tells the version
 pub has_meta : (db : Database) (t : Tables) → HasTables db t → HasMeta db t.meta
-has_meta db t has = record { others = schema_of (Section ∷ Point ∷ Staff ∷ Clearance ∷ Step ∷ Hold ∷ []); schema = has.holds.schema; rows = has.holds.rows Meta; in_order = has.in_order Meta }
+has_meta db t has = record {
+  others = schema_of has.layout (drop 1 (names_in has.layout));
+  schema = has.holds.schema ∙ first has.layout;
+  rows = has.holds.rows Meta;
+  in_order = has.in_order Meta;
+}
+  where
+    first : (l : Layout) → schema_in l ≡ behind_meta (schema_of l (drop 1 (names_in l)))
+    first OfOne = refl
 
 -- ---- what a query inside a transaction leaves of the last commit
 unchanged_keeps : (old new : State) → IsUnchanged old new → KeepsCommit old new
@@ -214,10 +222,10 @@ query_keeps sql params old new e (inl (inl (inr h))) = undone_keeps old new h.3
 query_keeps sql params old new e (inl (inr h)) = show_keeps old new sql h.0 (timed params h.0.formats h.1.now) e h.0.returning h.2
 query_keeps sql params old new e (inr h) = unchanged_keeps old new h.5
 
-stays : (old new : State) (name : TableName) (rows : List Row) → old.now.schema ≡ register_schema → Shown (select_sql name) [] old new rows → new.now ≡ old.now
+stays : (l : Layout) (old new : State) (name : TableName) (rows : List Row) → old.now.schema ≡ schema_in l → Shown (select_sql name) [] old new rows → new.now ≡ old.now
 unfolding Shown
-stays old new name rows has h =
-    let plain = subst (λ schema. IsPlain (understood schema (select_sql name))) (sym has) (select_plain name) in
+stays l old new name rows has h =
+    let plain = subst (λ schema. IsPlain (understood schema (select_sql name))) (sym has) (select_is l name).plain in
     let none = (subst IsPlain h.1.is plain).0 in
     let it = subst (ShowsRows old new (select_sql name) h.0 (timed [] h.0.formats h.1.now) rows) none h.2 in
     it.3.0.now_is
@@ -230,9 +238,9 @@ listed old new name rows inside shown =
       was_open = keeps.was_open;
       inside = keeps.inside;
       kept = keeps.kept;
-      found_is = λ t has ordered.
-          let same = stays old new name rows has.schema shown in
-          (lists old new name t rows has ordered shown, subst (λ (db : Database). Holds db t) (sym same) has);
+      found_is = λ l t has ordered.
+          let same = stays l old new name rows has.schema shown in
+          (lists l old new name t rows has ordered shown, subst (λ (db : Database). Holds l db t) (sym same) has);
     }
 
 -- ---- one thing found after another
@@ -245,9 +253,9 @@ then_finds a b c f g x y p q = record {
   was_open = p.was_open;
   inside = q.inside;
   kept = then_kept a b c p.kept q.kept;
-  found_is = λ t has ordered.
-      let first = p.found_is t has ordered in
-      let second = q.found_is t first.1 ordered in
+  found_is = λ l t has ordered.
+      let first = p.found_is l t has ordered in
+      let second = q.found_is l t first.1 ordered in
       (λ i. (first.0 i, second.0 i), second.1);
 }
 
@@ -256,7 +264,7 @@ pub then_fails : {A : Type 0} (a b c : State) (f : Tables → A) (x : A) (fault 
     → Finds a b f x → Survives a b Commits → HasCleanDisk b → b.faults ≤ c.faults → Fails b c fault → Fails a c fault
 then_fails a b c f x fault Commits found first clean later failed = record {
   kept = then_kept a b c found.kept failed.kept;
-  cause = λ t has ordered. then_cause a b c Commits fault first clean later (failed.cause t (found.found_is t has ordered).1 ordered);
+  cause = λ l t has ordered. then_cause a b c Commits fault first clean later (failed.cause l t (found.found_is l t has ordered).1 ordered);
 }
 
 -- the rows of all tables, found one after the other, are the tables
@@ -276,11 +284,11 @@ all_found old a b c new meta sections points staff clearances steps holds p q r 
   was_open = p.was_open;
   inside = s.inside;
   kept = then_kept old c new (then_kept old b c (then_kept old a b p.kept q.kept) r.kept) s.kept;
-  found_is = λ t has ordered.
-      let one = p.found_is t has ordered in
-      let two = q.found_is t one.1 ordered in
-      let three = r.found_is t two.1 ordered in
-      let four = s.found_is t three.1 ordered in (
+  found_is = λ l t has ordered.
+      let one = p.found_is l t has ordered in
+      let two = q.found_is l t one.1 ordered in
+      let three = r.found_is l t two.1 ordered in
+      let four = s.found_is l t three.1 ordered in (
         λ i. record {
           meta = one.0 i;
           sections = (two.0 i).0;

@@ -8,18 +8,20 @@ use Rattle.sqlite_catalog.proofs.ReadLemmas.{lists_once}
 use Rattle.sqlite_trees.specs.Objects.{catalog_tree}
 use Rattle.clr_tables.specs.Tables.{Tables}
 use Rattle.clr_load.specs.Contract.{IsSaved}
-use Rattle.clr_load.specs.Schema.{register_schema}
+use Rattle.clr_load.specs.Schema.{schema_in}
 use Rattle.clr_load.specs.Stored.{AreTables, HasAllRows, HasTables, TablesOpenAgain}
 
 -- the trees list one schema alone
 pub opened_with : TablesOpenAgain
 opened_with trees t db are sound is =
     let there : Lists (trees catalog_tree) db.schema = subst (λ (all : Trees). Lists (all catalog_tree) db.schema) is sound.lists in
+    let schema = schema_in are.layout in
     record {
+      layout = are.layout;
       holds = record {
-        schema = lists_once (trees catalog_tree) db.schema register_schema there are.listed.lists;
-        listed = subst (IsSound register_schema) (sym is) are.listed;
-        rows = subst (λ (all : Trees). HasAllRows all t) (sym is) are.rows;
+        schema = lists_once (trees catalog_tree) db.schema schema there are.listed.lists;
+        listed = subst (IsSound schema) (sym is) are.listed;
+        rows = subst (λ (all : Trees). HasAllRows are.layout all t) (sym is) are.rows;
       };
       in_order = are.in_order;
     }
@@ -31,4 +33,4 @@ opened_again trees t s are opens live is =
 
 -- the trees of a database that has the tables
 pub left_of : (db : Database) (t : Tables) → HasTables db t → AreTables db.trees t
-left_of db t has = record { listed = has.holds.listed; rows = has.holds.rows; in_order = has.in_order }
+left_of db t has = record { layout = has.layout; listed = has.holds.listed; rows = has.holds.rows; in_order = has.in_order }

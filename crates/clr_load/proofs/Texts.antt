@@ -1,7 +1,8 @@
 -- What the texts of the statements mean.
-use Rattle.std.proofs.Common.{◌≡◌, ◌∙◌, ℕ, zero, suc, List, [], ◌∷◌, ◌++◌, length, map, take}
-use Rattle.std.proofs.Common.{false, Ok, Err, ap, refl, subst, sym, pos, negsuc, None}
-use Rattle.std.specs.Prelude.{codes, slice_range}
+use Rattle.std.proofs.Common.{◌≡◌, ◌∙◌, ◌-◌, ℕ, zero, suc, List, [], ◌∷◌, ◌++◌, length, map, take}
+use Rattle.std.proofs.Common.{false, Ok, Err, ap, refl, subst, sym, pos, negsuc, None, arith}
+use Rattle.std.specs.Prelude.{codes}
+use Rattle.std.proofs.lemmas.List.{take_all}
 use Rattle.sqlite.specs.declared.types.Value.TheVariants.{Null, Int}
 use Rattle.sqlite.specs.Term.{Term, lit, col, op2}
 use Rattle.sqlite.specs.Query.{Query, inner, end}
@@ -25,27 +26,12 @@ use Rattle.sqlite_sql.specs.declared.ops.BinaryOp.TheVariants.{Compare}
 use Rattle.sqlite_sql.specs.declared.ops.CompareOp.TheVariants.{Eq}
 use Rattle.clr_tables.specs.declared.table_name.TableName.{TableName}
 use Rattle.clr_tables.specs.declared.table_name.TableName.TheVariants.{Meta, Section, Point, Staff, Clearance, Step, Hold}
-use Rattle.clr_load.specs.Schema.{behind_meta, no_schema}
-use Rattle.clr_load.specs.Schema.{names_before, place_of, tree_of, keys_in, columns_in, table_of, schema_of, register_schema}
+use Rattle.clr_load.specs.Layout.{Layout, OfOne, names_before, place_in, tree_in}
+use Rattle.clr_load.specs.Schema.{behind_meta, no_schema, keys_in, columns_in, table_at, schema_of, schema_in}
 use Rattle.clr_load.specs.Sql.{create_sql, insert_sql, delete_sql, select_sql, set_position_sql, set_hand_sql}
 
 abbrev pub width_of : TableName → ℕ
-width_of Meta = 2
-width_of Section = 2
-width_of Point = 8
-width_of Staff = 3
-width_of Clearance = 6
-width_of Step = 8
-width_of Hold = 4
-
-pub columns_width : (name : TableName) → length (columns_in name) ≡ width_of name
-columns_width Meta = refl
-columns_width Section = refl
-columns_width Point = refl
-columns_width Staff = refl
-columns_width Clearance = refl
-columns_width Step = refl
-columns_width Hold = refl
+width_of name = length (columns_in name)
 
 -- the values in so many slots of a row, from one on
 abbrev pub terms_from : ℕ → ℕ → ℕ → List Term
@@ -77,13 +63,18 @@ query_of tree tests shown order = record {
   offset = lit (Int (pos 0));
 }
 
+-- the tests of the key
+abbrev pub key_tests : TableName → List Term
+key_tests name = tests_from 0 (keys_in name)
+
 -- the rows of a key, each as its number
-abbrev pub matching : TableName → Query
-matching name = query_of (tree_of name) (tests_from 0 (keys_in name)) (col 1 0 ∷ []) []
+abbrev pub matching : Layout → TableName → Query
+matching l name = query_of (tree_in l name) (key_tests name) (col 1 0 ∷ []) []
 
 -- all rows, in the order of the key
-abbrev pub listing : TableName → Query
-listing name = query_of (tree_of name) [] (terms_from 1 1 (width_of name)) (order_from 0 (keys_in name))
+abbrev pub listing : Layout → TableName → Query
+listing l name =
+    query_of (tree_in l name) [] (terms_from 1 1 (width_of name)) (order_from 0 (keys_in name))
 
 abbrev pub insert_terms : TableName → List Term
 insert_terms name = lit Null ∷ terms_from 0 0 (width_of name)
@@ -105,52 +96,55 @@ all_of sql given command = record {
   tail = length sql;
 }
 
-abbrev inserting : TableName → Command
-inserting name = Insert (place_of name) (Values (insert_terms name) (suc (width_of name)))
+abbrev pub inserting : Layout → TableName → Command
+inserting l name = Insert (place_in l name) (Values (insert_terms name) (suc (width_of name)))
 
-abbrev deleting : TableName → Command
-deleting name = Delete (place_of name) (record { lets = []; body = matching name })
+abbrev pub deleting : Layout → TableName → Command
+deleting l name = Delete (place_in l name) (record { lets = []; body = matching l name })
 
-abbrev pub selecting : TableName → Command
-selecting name =
-    Select (record { lets = []; body = listing name }) (names_of_columns (columns_in name))
+abbrev pub selecting : Layout → TableName → Command
+selecting l name =
+    Select (record { lets = []; body = listing l name }) (names_of_columns (columns_in name))
 
-insert_reads : (name : TableName) → compiled register_schema (insert_sql name)
-    ≡ Ok (all_of (insert_sql name) (width_of name) (inserting name))
+abbrev Compiles : Schema → List ℕ → ℕ → Command → Type 0
+Compiles schema sql given command = compiled schema sql ≡ Ok (all_of sql given command)
+
+insert_reads : (l : Layout) (name : TableName)
+    → Compiles (schema_in l) (insert_sql name) (width_of name) (inserting l name)
 unfolding everything
-insert_reads Meta = refl
-insert_reads Section = refl
-insert_reads Point = refl
-insert_reads Staff = refl
-insert_reads Clearance = refl
-insert_reads Step = refl
-insert_reads Hold = refl
+insert_reads OfOne Meta = refl
+insert_reads OfOne Section = refl
+insert_reads OfOne Point = refl
+insert_reads OfOne Staff = refl
+insert_reads OfOne Clearance = refl
+insert_reads OfOne Step = refl
+insert_reads OfOne Hold = refl
 
-delete_reads : (name : TableName) → compiled register_schema (delete_sql name)
-    ≡ Ok (all_of (delete_sql name) (keys_in name) (deleting name))
+delete_reads : (l : Layout) (name : TableName)
+    → Compiles (schema_in l) (delete_sql name) (keys_in name) (deleting l name)
 unfolding everything
-delete_reads Meta = refl
-delete_reads Section = refl
-delete_reads Point = refl
-delete_reads Staff = refl
-delete_reads Clearance = refl
-delete_reads Step = refl
-delete_reads Hold = refl
+delete_reads OfOne Meta = refl
+delete_reads OfOne Section = refl
+delete_reads OfOne Point = refl
+delete_reads OfOne Staff = refl
+delete_reads OfOne Clearance = refl
+delete_reads OfOne Step = refl
+delete_reads OfOne Hold = refl
 
-pub select_reads : (name : TableName) → compiled register_schema (select_sql name)
-    ≡ Ok (all_of (select_sql name) 0 (selecting name))
+select_reads : (l : Layout) (name : TableName)
+    → Compiles (schema_in l) (select_sql name) 0 (selecting l name)
 unfolding everything
-select_reads Meta = refl
-select_reads Section = refl
-select_reads Point = refl
-select_reads Staff = refl
-select_reads Clearance = refl
-select_reads Step = refl
-select_reads Hold = refl
+select_reads OfOne Meta = refl
+select_reads OfOne Section = refl
+select_reads OfOne Point = refl
+select_reads OfOne Staff = refl
+select_reads OfOne Clearance = refl
+select_reads OfOne Step = refl
+select_reads OfOne Hold = refl
 
 -- the version is read whatever tables there are behind the one that tells it
-pub meta_reads : (others : Schema) → compiled (behind_meta others) (select_sql Meta)
-    ≡ Ok (all_of (select_sql Meta) 0 (selecting Meta))
+meta_reads : (others : Schema)
+    → Compiles (behind_meta others) (select_sql Meta) 0 (selecting OfOne Meta)
 unfolding everything
 meta_reads others = refl
 
@@ -165,18 +159,18 @@ select_unknown Clearance = refl
 select_unknown Step = refl
 select_unknown Hold = refl
 
-create_reads : (name : TableName) → compiled (schema_of (names_before name)) (create_sql name)
-    ≡ Ok (all_of (create_sql name) 0 CreateTable)
+create_reads : (l : Layout) (name : TableName)
+    → Compiles (schema_of l (names_before l name)) (create_sql name) 0 CreateTable
 unfolding everything
-create_reads Meta = refl
-create_reads Section = refl
-create_reads Point = refl
-create_reads Staff = refl
-create_reads Clearance = refl
-create_reads Step = refl
-create_reads Hold = refl
+create_reads OfOne Meta = refl
+create_reads OfOne Section = refl
+create_reads OfOne Point = refl
+create_reads OfOne Staff = refl
+create_reads OfOne Clearance = refl
+create_reads OfOne Step = refl
+create_reads OfOne Hold = refl
 
-pub defines : (name : TableName) → table_defined_by (create_sql name) ≡ Ok (record (table_of name) { tree = 0 })
+pub defines : (name : TableName) → table_defined_by (create_sql name) ≡ Ok (table_at 0 name)
 unfolding everything
 defines Meta = refl
 defines Section = refl
@@ -186,19 +180,21 @@ defines Clearance = refl
 defines Step = refl
 defines Hold = refl
 
-pub created_is : (name : TableName) → created (schema_of (names_before name)) (record (table_of name) { tree = 0 }) ≡ schema_of (names_before name ++ name ∷ [])
+pub created_is : (l : Layout) (name : TableName)
+    → created (schema_of l (names_before l name)) (table_at 0 name)
+    ≡ schema_of l (names_before l name ++ name ∷ [])
 unfolding everything
-created_is Meta = refl
-created_is Section = refl
-created_is Point = refl
-created_is Staff = refl
-created_is Clearance = refl
-created_is Step = refl
-created_is Hold = refl
+created_is OfOne Meta = refl
+created_is OfOne Section = refl
+created_is OfOne Point = refl
+created_is OfOne Staff = refl
+created_is OfOne Clearance = refl
+created_is OfOne Step = refl
+created_is OfOne Hold = refl
 
 -- the row of a point, with its number, as it is to be
-abbrev pub changing : List Term → Query
-changing terms = query_of 4 (tests_from 0 1) (col 1 0 ∷ col 1 0 ∷ terms) []
+abbrev pub changing : Layout → List Term → Query
+changing l terms = query_of (tree_in l Point) (key_tests Point) (col 1 0 ∷ col 1 0 ∷ terms) []
 
 abbrev pub position_terms : List Term
 position_terms = terms_from 1 1 5 ++ col 0 1 ∷ terms_from 1 7 2
@@ -206,117 +202,81 @@ position_terms = terms_from 1 1 5 ++ col 0 1 ∷ terms_from 1 7 2
 abbrev pub hand_terms : List Term
 hand_terms = terms_from 1 1 6 ++ col 0 1 ∷ col 0 2 ∷ []
 
-abbrev placing : Command
-placing = Update 2 (record { lets = []; body = changing position_terms })
+abbrev pub updating : Layout → List Term → Command
+updating l terms = Update (place_in l Point) (record { lets = []; body = changing l terms })
 
-abbrev handing : Command
-handing = Update 2 (record { lets = []; body = changing hand_terms })
-
-set_position_reads : compiled register_schema set_position_sql
-    ≡ Ok (all_of set_position_sql 2 placing)
+set_position_reads : (l : Layout)
+    → Compiles (schema_in l) set_position_sql 2 (updating l position_terms)
 unfolding everything
-set_position_reads = refl
+set_position_reads OfOne = refl
 
-set_hand_reads : compiled register_schema set_hand_sql ≡ Ok (all_of set_hand_sql 3 handing)
+set_hand_reads : (l : Layout) → Compiles (schema_in l) set_hand_sql 3 (updating l hand_terms)
 unfolding everything
-set_hand_reads = refl
+set_hand_reads OfOne = refl
 
 -- ---- what follows of a text that is compiled
-pub understood_as : (schema : Schema) (sql : List ℕ) (c : Compiled) → compiled schema sql ≡ Ok c
+-- the text is this command, without RETURNING or time
+pub record IsRead (schema : Schema) (sql : List ℕ) (command : Command) : Type 0 where
+  pub is : command_of (understood schema sql) ≡ command
+  pub plain : IsPlain (understood schema sql)
+
+understood_as : (schema : Schema) (sql : List ℕ) (c : Compiled) → compiled schema sql ≡ Ok c
     → understood schema sql ≡ Ok c
 unfolding understood
 understood_as schema sql c is = rw is refl
 
-command_is : (schema : Schema) (sql : List ℕ) (given : ℕ) (command : Command)
-    → compiled schema sql ≡ Ok (all_of sql given command)
-    → command_of (understood schema sql) ≡ command
-command_is schema sql given command is =
-    ap command_of (understood_as schema sql (all_of sql given command) is)
+read_as : (schema : Schema) (sql : List ℕ) (given : ℕ) (command : Command)
+    → Compiles schema sql given command → IsRead schema sql command
+read_as schema sql given command is =
+    let known = understood_as schema sql (all_of sql given command) is in
+    record { is = ap command_of known; plain = subst IsPlain (sym known) (refl, refl) }
 
-plain_is : (schema : Schema) (sql : List ℕ) (given : ℕ) (command : Command)
-    → compiled schema sql ≡ Ok (all_of sql given command) → IsPlain (understood schema sql)
-plain_is schema sql given command is =
-    subst IsPlain (sym (understood_as schema sql (all_of sql given command) is)) (refl, refl)
+pub insert_is : (l : Layout) (name : TableName)
+    → IsRead (schema_in l) (insert_sql name) (inserting l name)
+insert_is l name = read_as _ _ (width_of name) _ (insert_reads l name)
 
-pub insert_is : (name : TableName) → command_of (understood register_schema (insert_sql name))
-    ≡ inserting name
-insert_is name =
-    command_is register_schema (insert_sql name) (width_of name) (inserting name)
-    (insert_reads name)
+pub delete_is : (l : Layout) (name : TableName)
+    → IsRead (schema_in l) (delete_sql name) (deleting l name)
+delete_is l name = read_as _ _ (keys_in name) _ (delete_reads l name)
 
-pub insert_plain : (name : TableName) → IsPlain (understood register_schema (insert_sql name))
-insert_plain name =
-    plain_is register_schema (insert_sql name) (width_of name) (inserting name) (insert_reads name)
-
-pub delete_is : (name : TableName) → command_of (understood register_schema (delete_sql name))
-    ≡ deleting name
-delete_is name =
-    command_is register_schema (delete_sql name) (keys_in name) (deleting name) (delete_reads name)
-
-pub delete_plain : (name : TableName) → IsPlain (understood register_schema (delete_sql name))
-delete_plain name =
-    plain_is register_schema (delete_sql name) (keys_in name) (deleting name) (delete_reads name)
-
-pub select_is : (name : TableName) → command_of (understood register_schema (select_sql name))
-    ≡ selecting name
-select_is name = command_is register_schema (select_sql name) 0 (selecting name) (select_reads name)
-
-pub select_plain : (name : TableName) → IsPlain (understood register_schema (select_sql name))
-select_plain name =
-    plain_is register_schema (select_sql name) 0 (selecting name) (select_reads name)
-
-pub create_is : (name : TableName)
-    → command_of (understood (schema_of (names_before name)) (create_sql name)) ≡ CreateTable
-create_is name =
-    command_is (schema_of (names_before name)) (create_sql name) 0 CreateTable (create_reads name)
-
-pub create_plain : (name : TableName)
-    → IsPlain (understood (schema_of (names_before name)) (create_sql name))
-create_plain name =
-    plain_is (schema_of (names_before name)) (create_sql name) 0 CreateTable (create_reads name)
-
-pub select_unlisted : (name : TableName) → reads_listing register_schema (select_sql name) ≡ false
-select_unlisted name = ap misses_table (select_reads name)
+pub select_is : (l : Layout) (name : TableName)
+    → IsRead (schema_in l) (select_sql name) (selecting l name)
+select_is l name = read_as _ _ 0 _ (select_reads l name)
 
 pub meta_is : (others : Schema)
-    → command_of (understood (behind_meta others) (select_sql Meta)) ≡ selecting Meta
-meta_is others =
-    command_is (behind_meta others) (select_sql Meta) 0 (selecting Meta) (meta_reads others)
+    → IsRead (behind_meta others) (select_sql Meta) (selecting OfOne Meta)
+meta_is others = read_as _ _ 0 _ (meta_reads others)
 
-pub meta_plain : (others : Schema) → IsPlain (understood (behind_meta others) (select_sql Meta))
-meta_plain others =
-    plain_is (behind_meta others) (select_sql Meta) 0 (selecting Meta) (meta_reads others)
+pub create_is : (l : Layout) (name : TableName)
+    → IsRead (schema_of l (names_before l name)) (create_sql name) CreateTable
+create_is l name = read_as _ _ 0 _ (create_reads l name)
+
+pub set_position_is : (l : Layout)
+    → IsRead (schema_in l) set_position_sql (updating l position_terms)
+set_position_is l = read_as _ _ 2 _ (set_position_reads l)
+
+pub set_hand_is : (l : Layout) → IsRead (schema_in l) set_hand_sql (updating l hand_terms)
+set_hand_is l = read_as _ _ 3 _ (set_hand_reads l)
+
+-- the rows that are listed are those of the database itself
+pub select_known : (l : Layout) (name : TableName)
+    → understood (schema_in l) (select_sql name) ≡ Ok (all_of (select_sql name) 0 (selecting l name))
+select_known l name = understood_as _ _ _ (select_reads l name)
+
+pub meta_known : (others : Schema) → understood (behind_meta others) (select_sql Meta)
+    ≡ Ok (all_of (select_sql Meta) 0 (selecting OfOne Meta))
+meta_known others = understood_as _ _ _ (meta_reads others)
+
+pub select_unlisted : (l : Layout) (name : TableName)
+    → reads_listing (schema_in l) (select_sql name) ≡ false
+select_unlisted l name = ap misses_table (select_reads l name)
 
 pub meta_unlisted : (others : Schema) → reads_listing (behind_meta others) (select_sql Meta) ≡ false
 meta_unlisted others = ap misses_table (meta_reads others)
 
-whole_text : (name : TableName) → slice_range (create_sql name) 0 (length (create_sql name))
-    ≡ create_sql name
-whole_text Meta = refl
-whole_text Section = refl
-whole_text Point = refl
-whole_text Staff = refl
-whole_text Clearance = refl
-whole_text Step = refl
-whole_text Hold = refl
-
-pub create_text : (name : TableName)
-    → statement_of (create_sql name) (understood (schema_of (names_before name)) (create_sql name))
-    ≡ create_sql name
-create_text name =
-    ap (statement_of (create_sql name))
-    (understood_as (schema_of (names_before name)) (create_sql name)
-    (all_of (create_sql name) 0 CreateTable) (create_reads name))
-    ∙ whole_text name
-
-pub set_position_is : command_of (understood register_schema set_position_sql) ≡ placing
-set_position_is = command_is register_schema set_position_sql 2 placing set_position_reads
-
-pub set_hand_is : command_of (understood register_schema set_hand_sql) ≡ handing
-set_hand_is = command_is register_schema set_hand_sql 3 handing set_hand_reads
-
-pub set_position_plain : IsPlain (understood register_schema set_position_sql)
-set_position_plain = plain_is register_schema set_position_sql 2 placing set_position_reads
-
-pub set_hand_plain : IsPlain (understood register_schema set_hand_sql)
-set_hand_plain = plain_is register_schema set_hand_sql 3 handing set_hand_reads
+pub create_text : (l : Layout) (name : TableName)
+    → statement_of (create_sql name)
+        (understood (schema_of l (names_before l name)) (create_sql name)) ≡ create_sql name
+create_text l name =
+    ap (statement_of (create_sql name)) (understood_as _ _ _ (create_reads l name))
+    ∙ take_all (length (create_sql name) - 0) (create_sql name) (omega arith)

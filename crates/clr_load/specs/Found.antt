@@ -3,6 +3,7 @@ use Rattle.std.specs.Prelude.{◌≡◌, IsTrue, Result, MatchResult}
 use Rattle.sqlite.specs.State.{State, HasCleanDisk, KeepsCommit}
 use Rattle.clr_tables.specs.Tables.{Tables}
 use Rattle.clr_load.specs.Cause.{SqlHasCause}
+use Rattle.clr_load.specs.Layout.{Layout}
 use Rattle.clr_load.specs.Stored.{Holds, IsInOrder}
 use Rattle.clr_load.specs.declared.fault.StoreFault.{StoreFault}
 
@@ -11,12 +12,14 @@ pub record Finds {A : Type 0} (old new : State) (tells : Tables → A) (found : 
   pub was_open : IsTrue old.is_open
   pub inside : IsTrue new.in_transaction
   pub kept : KeepsCommit old new
-  pub found_is : (t : Tables) → Holds old.now t → IsInOrder t → (found ≡ tells t) × Holds new.now t
+  pub found_is : (l : Layout) (t : Tables) → Holds l old.now t → IsInOrder t
+      → (found ≡ tells t) × Holds l new.now t
 
 -- nothing is found or committed. Where the tables are there, `Sql` has a cause
 pub record Fails (old new : State) (fault : StoreFault) : Type 0 where
   pub kept : KeepsCommit old new
-  pub cause : (t : Tables) → Holds old.now t → IsInOrder t → SqlHasCause old new fault
+  pub cause : (l : Layout) (t : Tables) → Holds l old.now t → IsInOrder t
+      → SqlHasCause old new fault
 
 -- a call inside a transaction finds it, or fails; it commits nothing
 abbrev pub Lists : {A X : Type 0} → State → State → (Tables → A) → (X → A) → Result X StoreFault

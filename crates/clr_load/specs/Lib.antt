@@ -1,3 +1,4 @@
+pub mod Layout
 pub mod Schema
 pub mod Sql
 pub mod Stored

@@ -9,11 +9,13 @@ use Rattle.sqlite.specs.Schema.{Schema}
 use Rattle.sqlite.specs.Table.{Table}
 use Rattle.sqlite.specs.declared.types.Value.TheVariants.{Null}
 use Rattle.sqlite_schema.specs.declared.schema.Column.{Column}
+use Rattle.sqlite_schema.specs.declared.schema.Index.{Index}
 use Rattle.sqlite_value.specs.Keys.{plain}
 use Rattle.clr_tables.specs.TableText.{table_text}
 use Rattle.clr_tables.specs.declared.table_name.TableName.{TableName}
 use Rattle.clr_tables.specs.declared.table_name.TableName.TheVariants.{Meta, Section, Point, Staff}
 use Rattle.clr_tables.specs.declared.table_name.TableName.TheVariants.{Clearance, Step, Hold}
+use Rattle.clr_load.specs.Layout.{Layout, names_in, tree_in}
 
 -- a column of a STRICT table that has to have a value, and one that may be NULL
 abbrev pub column_of : Bool → List ℕ → Kind → Column
@@ -33,26 +35,6 @@ needed = column_of true
 
 abbrev pub or_null : List ℕ → Kind → Column
 or_null = column_of false
-
--- the place of a table in the schema
-abbrev pub place_of : TableName → ℕ
-place_of Meta = 0
-place_of Section = 1
-place_of Point = 2
-place_of Staff = 3
-place_of Clearance = 4
-place_of Step = 5
-place_of Hold = 6
-
--- the tree that has its rows. The tree after it is that of the index of its key
-abbrev pub tree_of : TableName → ℕ
-tree_of Meta = 0
-tree_of Section = 2
-tree_of Point = 4
-tree_of Staff = 6
-tree_of Clearance = 8
-tree_of Step = 10
-tree_of Hold = 12
 
 -- how many of its columns, the first, are its key
 abbrev pub keys_in : TableName → ℕ
@@ -93,10 +75,11 @@ abbrev pub first_columns : ℕ → ℕ → List ℕ
 first_columns from zero = []
 first_columns from (suc n) = from ∷ first_columns (suc from) n
 
-abbrev pub table_of : TableName → Table
-table_of name = record {
+-- a table whose rows lie in a tree
+abbrev pub table_at : ℕ → TableName → Table
+table_at tree name = record {
   name = table_text name;
-  tree = tree_of name;
+  tree = tree;
   columns = columns_in name;
   key = None;
   primary = first_columns 1 (keys_in name);
@@ -109,41 +92,34 @@ table_of name = record {
   is_counted = false;
 }
 
-abbrev pub all_names : List TableName
-all_names = Meta ∷ Section ∷ Point ∷ Staff ∷ Clearance ∷ Step ∷ Hold ∷ []
+-- the index of its key, in the tree after it
+abbrev pub indexes_at : ℕ → TableName → List Index
+indexes_at tree name =
+    automatics (table_at tree name) 0 (tree + 1) (first_columns 1 (keys_in name) ∷ [])
 
--- the tables that are made before a table
-abbrev pub names_before : TableName → List TableName
-names_before Meta = []
-names_before Section = Meta ∷ []
-names_before Point = Meta ∷ Section ∷ []
-names_before Staff = Meta ∷ Section ∷ Point ∷ []
-names_before Clearance = Meta ∷ Section ∷ Point ∷ Staff ∷ []
-names_before Step = Meta ∷ Section ∷ Point ∷ Staff ∷ Clearance ∷ []
-names_before Hold = Meta ∷ Section ∷ Point ∷ Staff ∷ Clearance ∷ Step ∷ []
+abbrev pub table_in : Layout → TableName → Table
+table_in l name = table_at (tree_in l name) name
 
 -- a schema of these tables alone, with the indexes of their keys
-abbrev pub schema_of : List TableName → Schema
-schema_of names = record {
-  tables = map table_of names;
-  indexes = flat_map (λ name.
-      automatics (table_of name) 0 (tree_of name + 1) (first_columns 1 (keys_in name) ∷ [])) names;
+abbrev pub schema_of : Layout → List TableName → Schema
+schema_of l names = record {
+  tables = map (table_in l) names;
+  indexes = flat_map (λ name. indexes_at (tree_in l name) name) names;
   views = [];
 }
 
 -- a schema without a table
 abbrev pub no_schema : Schema
-no_schema = schema_of []
+no_schema = record { tables = []; indexes = []; views = [] }
 
 -- the schema of a register
-abbrev pub register_schema : Schema
-register_schema = schema_of all_names
+abbrev pub schema_in : Layout → Schema
+schema_in l = schema_of l (names_in l)
 
 -- a schema whose first table is the one that tells the version, whatever else is in it
 abbrev pub behind_meta : Schema → Schema
 behind_meta others = record {
-  tables = table_of Meta ∷ others.tables;
-  indexes = automatics (table_of Meta) 0 (tree_of Meta + 1) (first_columns 1 (keys_in Meta) ∷ [])
-      ++ others.indexes;
+  tables = table_at 0 Meta ∷ others.tables;
+  indexes = indexes_at 0 Meta ++ others.indexes;
   views = others.views;
 }

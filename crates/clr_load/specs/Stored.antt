@@ -20,7 +20,8 @@ use Rattle.clr_tables.specs.Tables.{Tables}
 use Rattle.clr_tables.specs.declared.table_name.TableName.{TableName}
 use Rattle.clr_tables.specs.declared.table_name.TableName.TheVariants.{Meta, Section, Point, Staff}
 use Rattle.clr_tables.specs.declared.table_name.TableName.TheVariants.{Clearance, Step, Hold}
-use Rattle.clr_load.specs.Schema.{behind_meta, columns_in, keys_in, register_schema, tree_of}
+use Rattle.clr_load.specs.Layout.{Layout, tree_in}
+use Rattle.clr_load.specs.Schema.{behind_meta, columns_in, keys_in, schema_in}
 
 -- the rows of a table
 abbrev pub rows_in : TableName → Tables → List Row
@@ -71,33 +72,35 @@ IsInOrder t = (name : TableName) → in_key_order row_cmp (take (keys_in name)) 
     ≡ true
 
 -- the trees have these rows
-abbrev pub HasAllRows : Trees → Tables → Type 0
-HasAllRows trees t = (name : TableName)
-    → HasRows (columns_in name) (trees (tree_of name)) (rows_in name t)
+abbrev pub HasAllRows : Layout → Trees → Tables → Type 0
+HasAllRows l trees t = (name : TableName)
+    → HasRows (columns_in name) (trees (tree_in l name)) (rows_in name t)
 
 -- the database has the tables of the register alone, with these rows
-pub record Holds (db : Database) (t : Tables) : Type 0 where
-  pub schema : db.schema ≡ register_schema
-  pub listed : IsSound register_schema db.trees
-  pub rows : HasAllRows db.trees t
+pub record Holds (l : Layout) (db : Database) (t : Tables) : Type 0 where
+  pub schema : db.schema ≡ schema_in l
+  pub listed : IsSound (schema_in l) db.trees
+  pub rows : HasAllRows l db.trees t
 
 -- THE DATABASE HAS A TABLE OF THE VERSION, the first of its tables, with these rows. Its other
 -- tables are any, also those of another version
 pub record HasMeta (db : Database) (meta : List Row) : Type 0 where
   pub others : Schema
   pub schema : db.schema ≡ behind_meta others
-  pub rows : HasRows (columns_in Meta) (db.trees (tree_of Meta)) meta
+  pub rows : HasRows (columns_in Meta) (db.trees 0) meta
   pub in_order : in_key_order row_cmp (take (keys_in Meta)) meta ≡ true
 
 -- THE TREES HAVE THESE TABLES, and their catalogue lists the tables of the register alone
 pub record AreTables (trees : Trees) (t : Tables) : Type 0 where
-  pub listed : IsSound register_schema trees
-  pub rows : HasAllRows trees t
+  pub layout : Layout
+  pub listed : IsSound (schema_in layout) trees
+  pub rows : HasAllRows layout trees t
   pub in_order : IsInOrder t
 
 -- THE DATABASE HAS THESE TABLES, and no others
 pub record HasTables (db : Database) (t : Tables) : Type 0 where
-  pub holds : Holds db t
+  pub layout : Layout
+  pub holds : Holds layout db t
   pub in_order : IsInOrder t
 
 -- TREES THAT HAVE TABLES OPEN WITH THEM: a sound database of these trees has the tables

@@ -7,7 +7,7 @@ use Rattle.std.specs.Ordering.{is_lt, ordering_then}
 use Rattle.std.specs.declared.cmp.Ordering.{Ordering}
 use Rattle.std.specs.declared.cmp.Ordering.TheVariants.{Less, Equal, Greater}
 use Rattle.std.proofs.lemmas.List.Sorted.{IsPermutation-refl, IsPermutation-trans, IsPermutation-middle, IsPermutation-sym}
-use Rattle.std.proofs.lemmas.List.{get_or-map, length-map}
+use Rattle.std.proofs.lemmas.List.{get_or-map, length-map, take_all}
 use Rattle.std.proofs.lemmas.List.Sums.{fold_more}
 use Rattle.sqlite.specs.Change.{created, next_tree, KeepsRows}
 use Rattle.sqlite.specs.Command.TheVariants.{CreateTable}
@@ -19,6 +19,7 @@ use Rattle.sqlite.specs.Tree.{Trees}
 use Rattle.sqlite.specs.declared.types.Value.TheVariants.{Text}
 use Rattle.sqlite.proofs.Callers.{runs_as}
 use Rattle.sqlite_catalog.specs.Listing.{IsSound}
+use Rattle.sqlite_schema.specs.declared.schema.Column.{Column}
 use Rattle.sqlite_trees.proofs.ListLemmas.{all-append}
 use Rattle.sqlite_trees.specs.View.{doubt}
 use Rattle.sqlite_value.proofs.OrderLemmas.{value_cmp-Text}
@@ -37,8 +38,9 @@ use Rattle.std.proofs.lemmas.Cmp.{nat_list_cmp_total}
 use Rattle.clr_tables.specs.Tables.{Tables, point_row, section_row, staff_row, state_at, tables_of}
 use Rattle.clr_tables.specs.declared.table_name.TableName.{TableName}
 use Rattle.clr_tables.specs.declared.table_name.TableName.TheVariants.{Meta, Section, Point, Staff, Clearance, Step, Hold}
-use Rattle.clr_store.specs.Change.{Changes, HasEmpty, Makes, added, change_at, filled, opening_points, with_rows}
-use Rattle.clr_load.specs.Schema.{all_names, columns_in, names_before, no_schema, schema_of, table_of, tree_of}
+use Rattle.clr_store.specs.Change.{Changes, HasEmpty, Makes, added, filled, opening_points, tables_with, with_rows}
+use Rattle.clr_load.specs.Layout.{Layout, OfOne, names_before, names_in, place_in, tree_in}
+use Rattle.clr_load.specs.Schema.{columns_in, no_schema, schema_of, table_at, table_in}
 use Rattle.clr_load.specs.Sql.{create_sql}
 use Rattle.clr_load.specs.Stored.{HasAllRows, HasRows, HasTables, Holds, IsInOrder, rows_in}
 use Rattle.clr_load.specs.declared.fault.StoreFault.{StoreFault}
@@ -46,35 +48,36 @@ use Rattle.clr_store.proofs.Effects.{went}
 use Rattle.clr_load.proofs.AllRead.{same_value}
 use Rattle.clr_load.proofs.Loading.{then_kept}
 use Rattle.clr_store.proofs.Inside.{in_any_order}
-use Rattle.clr_load.proofs.Texts.{create_is, create_plain, create_text, created_is, defines}
+use Rattle.clr_load.proofs.Texts.{create_is, create_text, created_is, defines}
+use Rattle.clr_store.proofs.Layouts.{all_at, named_at, nothing, rows_with, twice}
 
 -- ---- CREATE TABLE
-still_empty : (names : List TableName) (old new : Trees) → KeepsRows (map table_of names) old new → AllByRecursion (λ name. old (tree_of name) ≡ []) names
-    → AllByRecursion (λ name. new (tree_of name) ≡ []) names
-still_empty [] old new kept empty = tt
-still_empty (name ∷ names) old new kept empty = (kept.0 ∙ empty.0, still_empty names old new kept.1 empty.1)
+still_empty : (l : Layout) (names : List TableName) (old new : Trees) → KeepsRows (map (table_in l) names) old new → AllByRecursion (λ name. old (tree_in l name) ≡ []) names
+    → AllByRecursion (λ name. new (tree_in l name) ≡ []) names
+still_empty l [] old new kept empty = tt
+still_empty l (name ∷ names) old new kept empty = (kept.0 ∙ empty.0, still_empty l names old new kept.1 empty.1)
 
-lacks : (name : TableName) → lacks_sequence (schema_of (names_before name ++ name ∷ [])) ≡ false
-lacks Meta = refl
-lacks Section = refl
-lacks Point = refl
-lacks Staff = refl
-lacks Clearance = refl
-lacks Step = refl
-lacks Hold = refl
+lacks : (l : Layout) (name : TableName) → lacks_sequence (schema_of l (names_before l name ++ name ∷ [])) ≡ false
+lacks OfOne Meta = refl
+lacks OfOne Section = refl
+lacks OfOne Point = refl
+lacks OfOne Staff = refl
+lacks OfOne Clearance = refl
+lacks OfOne Step = refl
+lacks OfOne Hold = refl
 
-next_is : (name : TableName) → next_tree (schema_of (names_before name)) ≡ tree_of name
-next_is Meta = refl
-next_is Section = refl
-next_is Point = refl
-next_is Staff = refl
-next_is Clearance = refl
-next_is Step = refl
-next_is Hold = refl
+next_is : (l : Layout) (name : TableName) → next_tree (schema_of l (names_before l name)) ≡ tree_in l name
+next_is OfOne Meta = refl
+next_is OfOne Section = refl
+next_is OfOne Point = refl
+next_is OfOne Staff = refl
+next_is OfOne Clearance = refl
+next_is OfOne Step = refl
+next_is OfOne Hold = refl
 
-pub makes_table : (old new : State) (name : TableName) (count : ℕ) → ExecutesInside 0 (create_sql name) [] old new (Ok count)
-    → Makes old new (HasEmpty (names_before name)) (HasEmpty (names_before name ++ name ∷ []))
-makes_table old new name count ran = record {
+pub makes_table : (l : Layout) (old new : State) (name : TableName) (count : ℕ) → ExecutesInside 0 (create_sql name) [] old new (Ok count)
+    → Makes old new (HasEmpty l (names_before l name)) (HasEmpty l (names_before l name ++ name ∷ []))
+makes_table l old new name count ran = record {
   inside = ran.1.mode;
   kept = record { was_open = λ _. ran.1.was_open; committed = λ _. ran.1.committed_is };
   sound = λ before. (writes before).sound;
@@ -84,29 +87,29 @@ makes_table old new name count ran = record {
       let all = went w.changed in
       let first = went all.1 in
       let made = first.1 in
-      let both : Ok made.table ≡ Ok (record (table_of name) { tree = 0 }) = sym made.defined ∙ defines name in
-      let same : made.table ≡ record (table_of name) { tree = 0 } = same_value both in
-      let schema : first.0.schema ≡ schema_of (names_before name ++ name ∷ []) =
-      made.is ∙ ap (λ s. created s made.table) has ∙ ap (created (schema_of (names_before name))) same ∙ created_is name in
-      let plain : lacks_sequence first.0.schema ≡ false = ap lacks_sequence schema ∙ lacks name in
+      let both : Ok made.table ≡ Ok (table_at 0 name) = sym made.defined ∙ defines name in
+      let same : made.table ≡ table_at 0 name = same_value both in
+      let schema : first.0.schema ≡ schema_of l (names_before l name ++ name ∷ []) =
+      made.is ∙ ap (λ s. created s made.table) has ∙ ap (created (schema_of l (names_before l name))) same ∙ created_is l name in
+      let plain : lacks_sequence first.0.schema ≡ false = ap lacks_sequence schema ∙ lacks l name in
       let now : new.now ≡ first.0 = ap (λ (p : Tally × Database). p.1) (same_value all.2) ∙ same_value (rw plain at first.2) in
       let others = subst (λ s. KeepsRows s.tables old.now.trees first.0.trees) has made.others in
-      let empty : first.0.trees (tree_of name) ≡ [] = subst (λ tree. first.0.trees tree ≡ []) (ap next_tree has ∙ next_is name) made.empty in
+      let empty : first.0.trees (tree_in l name) ≡ [] = subst (λ tree. first.0.trees tree ≡ []) (ap next_tree has ∙ next_is l name) made.empty in
       let trees = λ (n : ℕ). ap (λ (d : Database). d.trees n) now in
       record {
         schema = ap (λ (d : Database). d.schema) now ∙ schema;
-        empty = all-append (λ other. new.now.trees (tree_of other) ≡ []) (names_before name) (name ∷ [])
-            (moved (names_before name) new.now.trees first.0.trees (ap (λ (d : Database). d.trees) now) (still_empty (names_before name) old.now.trees first.0.trees others before.empty))
-            (trees (tree_of name) ∙ empty, tt);
+        empty = all-append (λ other. new.now.trees (tree_in l other) ≡ []) (names_before l name) (name ∷ [])
+            (moved (names_before l name) new.now.trees first.0.trees (ap (λ (d : Database). d.trees) now) (still_empty l (names_before l name) old.now.trees first.0.trees others before.empty))
+            (trees (tree_in l name) ∙ empty, tt);
       };
 }
   where
-    writes : HasEmpty (names_before name) old.now → Writes old new None CreateTable (create_sql name) [] count
-    writes before = subst (λ t. Writes old new None CreateTable t [] count) (create_text name)
-        (runs_as (create_sql name) [] old new (schema_of (names_before name)) before.schema CreateTable (create_is name) (create_plain name) count ran.0)
+    writes : HasEmpty l (names_before l name) old.now → Writes old new None CreateTable (create_sql name) [] count
+    writes before = subst (λ t. Writes old new None CreateTable t [] count) (create_text l name)
+        (runs_as (create_sql name) [] old new (schema_of l (names_before l name)) before.schema CreateTable (create_is l name).is (create_is l name).plain count ran.0)
 
-    moved : (names : List TableName) (a b : Trees) → a ≡ b → AllByRecursion (λ name. b (tree_of name) ≡ []) names → AllByRecursion (λ name. a (tree_of name) ≡ []) names
-    moved names a b same empty = subst (λ (t : Trees). AllByRecursion (λ name. t (tree_of name) ≡ []) names) (sym same) empty
+    moved : (names : List TableName) (a b : Trees) → a ≡ b → AllByRecursion (λ name. b (tree_in l name) ≡ []) names → AllByRecursion (λ name. a (tree_in l name) ≡ []) names
+    moved names a b same empty = subst (λ (t : Trees). AllByRecursion (λ name. t (tree_in l name) ≡ []) names) (sym same) empty
 
 pub then_makes : (a b c : State) (F G H : Database → Type 0) → Makes a b F G → Makes b c G H → Makes a c F H
 then_makes a b c F G H p q = record { inside = q.inside; kept = then_kept a b c p.kept q.kept; makes = λ has. q.makes (p.makes has); sound = λ has. q.sound (p.makes has) }
@@ -124,33 +127,14 @@ added_same : (news rows : List Row) → IsPermutation (news ++ rows) (added news
 added_same [] rows = IsPermutation-refl _
 added_same (row ∷ news) rows = IsPermutation-trans _ _ _ (IsPermutation-sym _ _ (IsPermutation-middle news row rows)) (added_same news (row ∷ rows))
 
-twice_at : (name other : TableName) (f g : List Row → List Row) (rows : List Row) → change_at name other f (change_at name other g rows) ≡ change_at name other (λ l. f (g l)) rows
-twice_at name other f g rows = go (tree_of name == tree_of other)
-  where
-    go : (b : Bool) → (if b then f (if b then g rows else rows) else (if b then g rows else rows)) ≡ (if b then f (g rows) else rows)
-    go true = refl
-    go false = refl
-
--- two changes of one table
-pub twice : (name : TableName) (f g : List Row → List Row) (t : Tables) → with_rows name f (with_rows name g t) ≡ with_rows name (λ l. f (g l)) t
-twice name f g t i = record {
-  meta = twice_at name Meta f g t.meta i;
-  sections = twice_at name Section f g t.sections i;
-  points = twice_at name Point f g t.points i;
-  staff = twice_at name Staff f g t.staff i;
-  clearances = twice_at name Clearance f g t.clearances i;
-  steps = twice_at name Step f g t.steps i;
-  holds = twice_at name Hold f g t.holds i;
-}
-
 pub one_more_row : (old new : State) (name : TableName) (news : List Row) (k : ℕ) (row : Row) → k < length news → row ≡ get_or news k row
     → Changes old new (λ t. with_rows name (λ rows. row ∷ rows) (with_rows name (added (take k news)) t)) → Changes old new (with_rows name (added (take (k + 1) news)))
 one_more_row old new name news k row within is both = record {
   inside = both.inside;
   kept = both.kept;
-  tables = λ t has. subst (Holds new.now)
+  tables = λ l t has. subst (Holds l new.now)
       (twice name (λ rows. row ∷ rows) (added (take k news)) t ∙ ap (λ (f : List Row → List Row). with_rows name f t) (λ i rows. sym (added_more news rows k row within is) i))
-      (both.tables t has);
+      (both.tables l t has);
 }
 
 -- one more of the items, each as its row
@@ -163,57 +147,29 @@ one_more_of old new name row items k item within is both =
 pub all_taken : {A : Type 0} (old new : State) (name : TableName) (row : A → Row) (items : List A) (k : ℕ) → length items ≤ k
     → Changes old new (with_rows name (added (take k (map row items)))) → Changes old new (with_rows name (added (map row items)))
 all_taken old new name row items k whole changes =
-    subst (λ l. Changes old new (with_rows name (added l))) (take-all (map row items) k (omega (arith, length-map items row))) changes
-  where
-    take-all : (l : List Row) (k : ℕ) → length l ≤ k → take k l ≡ l
-    take-all [] zero h = refl
-    take-all [] (suc k) h = refl
-    take-all (x ∷ l) zero h = absurd (omega arith)
-    take-all (x ∷ l) (suc k) h = ap (λ m. x ∷ m) (take-all l k (omega arith))
+    subst (λ l. Changes old new (with_rows name (added l))) (take_all k (map row items) (omega (arith, length-map items row))) changes
 
 pub no_rows : (s : State) (name : TableName) → IsTrue s.in_transaction → Changes s s (with_rows name (added []))
 no_rows s name inside = record {
   inside = inside;
   kept = record { was_open = λ is_open. is_open; committed = λ _. refl };
-  tables = λ t has. subst (Holds s.now) (sym (nothing t)) has;
+  tables = λ l t has. subst (Holds l s.now) (sym (nothing name t)) has;
 }
-  where
-    at_all : (other : TableName) (rows : List Row) → change_at name other (added []) rows ≡ rows
-    at_all other rows = go (tree_of name == tree_of other)
-      where
-        go : (b : Bool) → (if b then rows else rows) ≡ rows
-        go true = refl
-        go false = refl
-
-    nothing : (t : Tables) → with_rows name (added []) t ≡ t
-    nothing t i = record {
-      meta = at_all Meta t.meta i;
-      sections = at_all Section t.sections i;
-      points = at_all Point t.points i;
-      staff = at_all Staff t.staff i;
-      clearances = at_all Clearance t.clearances i;
-      steps = at_all Step t.steps i;
-      holds = at_all Hold t.holds i;
-    }
 
 -- ---- the opening register
 abbrev pub no_tables : Tables
-no_tables = record { meta = []; sections = []; points = []; staff = []; clearances = []; steps = []; holds = [] }
+no_tables = tables_with (λ _. [])
 
-empty_rows : (name : TableName) (trees : Trees) → trees (tree_of name) ≡ [] → HasRows (columns_in name) (trees (tree_of name)) []
-empty_rows name trees empty = rw empty (record { same = IsPermutation-refl _; numbered = (tt, tt); fit = refl })
+empty_rows : (columns : List Column) (tree : List Row) → tree ≡ [] → HasRows columns tree []
+empty_rows columns tree empty = rw empty (record { same = IsPermutation-refl _; numbered = (tt, tt); fit = refl })
 
-pub has_none : (db : Database) → HasEmpty all_names db → IsDatabase db → Holds db no_tables
-has_none db has sound = record { schema = has.schema; listed = subst (λ s. IsSound s db.trees) has.schema sound; rows = at }
-  where
-    at : HasAllRows db.trees no_tables
-    at Meta = empty_rows Meta db.trees has.empty.0
-    at Section = empty_rows Section db.trees has.empty.1.0
-    at Point = empty_rows Point db.trees has.empty.1.1.0
-    at Staff = empty_rows Staff db.trees has.empty.1.1.1.0
-    at Clearance = empty_rows Clearance db.trees has.empty.1.1.1.1.0
-    at Step = empty_rows Step db.trees has.empty.1.1.1.1.1.0
-    at Hold = empty_rows Hold db.trees has.empty.1.1.1.1.1.1.0
+pub has_none : (l : Layout) (db : Database) → HasEmpty l (names_in l) db → IsDatabase db → Holds l db no_tables
+has_none l db has sound = record {
+  schema = has.schema;
+  listed = subst (λ s. IsSound s db.trees) has.schema sound;
+  rows = λ name. subst (HasRows (columns_in name) (db.trees (tree_in l name))) (sym (rows_with (λ _. []) name))
+      (empty_rows (columns_in name) (db.trees (tree_in l name)) (all_at _ (names_in l) (place_in l name) name (named_at l name) has.empty));
+}
 
 text_order : (a b : List ℕ) → row_cmp (Text a ∷ []) (Text b ∷ []) ≡ name_cmp a b
 text_order a b = then_equal (value_cmp (Text a) (Text b)) ∙ value_cmp-Text a b
@@ -255,17 +211,17 @@ points_first g net (p ∷ rest) within =
     λ i. point_row (unplaced p) (unwrap_or (found i) (first_state (unplaced p))) ∷ points_first g net rest (λ q there. within q (Contains-later p q rest there)) i
 
 -- the rows that are inserted are those of the opening register
-pub fills : (db : Database) (g : Grid) (staff : List StaffRow) → IsNetwork g → IsStaff staff → Holds db (filled g.sections g.points staff no_tables) → HasTables db (tables_of (opening g staff))
-fills db g staff net is_staff has = record { holds = record { schema = has.schema; listed = has.listed; rows = at }; in_order = ordered }
+pub fills : (db : Database) (g : Grid) (staff : List StaffRow) → IsNetwork g → IsStaff staff → Holds OfOne db (filled g.sections g.points staff no_tables) → HasTables db (tables_of (opening g staff))
+fills db g staff net is_staff has = record { layout = OfOne; holds = record { schema = has.schema; listed = has.listed; rows = at }; in_order = ordered }
   where
-    front : (name : TableName) (news : List Row) → HasRows (columns_in name) (db.trees (tree_of name)) (added news []) → HasRows (columns_in name) (db.trees (tree_of name)) news
-    front name news there = in_any_order (columns_in name) (db.trees (tree_of name)) (added news []) news
+    front : (name : TableName) (news : List Row) → HasRows (columns_in name) (db.trees (tree_in OfOne name)) (added news []) → HasRows (columns_in name) (db.trees (tree_in OfOne name)) news
+    front name news there = in_any_order (columns_in name) (db.trees (tree_in OfOne name)) (added news []) news
         (IsPermutation-sym _ _ (subst (λ l. IsPermutation l (added news [])) (append-nil news) (added_same news []))) there
 
     points : opening_points g.points ≡ rows_in Point (tables_of (opening g staff))
     points = sym (points_first g net g.points (λ p there. there))
 
-    at : HasAllRows db.trees (tables_of (opening g staff))
+    at : HasAllRows OfOne db.trees (tables_of (opening g staff))
     at Meta = has.rows Meta
     at Section = front Section (map section_row g.sections) (has.rows Section)
     at Point = subst (HasRows (columns_in Point) (db.trees 4)) points (front Point (opening_points g.points) (has.rows Point))
@@ -285,11 +241,11 @@ fills db g staff net is_staff has = record { holds = record { schema = has.schem
     ordered Step = refl
     ordered Hold = refl
 
-pub whole : (a b c : State) (g : Grid) (staff : List StaffRow) → IsNetwork g → IsStaff staff → a.now.schema ≡ no_schema → Makes a b (HasEmpty []) (HasEmpty all_names)
+pub whole : (a b c : State) (g : Grid) (staff : List StaffRow) → IsNetwork g → IsStaff staff → a.now.schema ≡ no_schema → Makes a b (HasEmpty OfOne []) (HasEmpty OfOne (names_in OfOne))
     → Changes b c (filled g.sections g.points staff) → HasTables c.now (tables_of (opening g staff))
 whole a b c g staff net is_staff bare made changes =
-    let none : HasEmpty [] a.now = record { schema = bare; empty = tt } in
-    fills c.now g staff net is_staff (changes.tables no_tables (has_none b.now (made.makes none) (made.sound none)))
+    let none : HasEmpty OfOne [] a.now = record { schema = bare; empty = tt } in
+    fills c.now g staff net is_staff (changes.tables OfOne no_tables (has_none OfOne b.now (made.makes none) (made.sound none)))
 
 -- a disk that is clean at the end was clean before
 pub still_clean : (mid end : State) → doubt mid.is_clean ≤ doubt end.is_clean → HasCleanDisk end → HasCleanDisk mid

@@ -1,11 +1,10 @@
 -- What INSERT and DELETE make of the trees, whatever the table.
-use Rattle.std.proofs.Common.{◌≡◌, ◌≢◌, ◌⊎◌, inl, inr, ℕ, suc, ◌/◌, List, [], ◌∷◌, ◌++◌, map, length, Bool, true, false, cond, not, ◌&&◌, Some, None, Ok, Err, slice_get, refl, sym, ap, subst, ◌∙◌, append-nil}
+use Rattle.std.proofs.Common.{◌≡◌, ◌≢◌, ◌⊎◌, inl, inr, ℕ, suc, ◌/◌, List, [], ◌∷◌, ◌++◌, map, length, Bool, true, false, cond, not, ◌&&◌, Option, Some, None, Ok, Err, slice_get, refl, sym, ap, subst, ◌∙◌, append-nil}
 use Rattle.std.specs.Prelude.{filter}
-use Rattle.std.specs.List.{AllByRecursion, list_all, flat_map}
+use Rattle.std.specs.List.{filter_map, flat_map, list_all}
 use Rattle.std.specs.List.Sorted.{IsPermutation}
 use Rattle.std.proofs.lemmas.List.Sorted.{IsPermutation-map}
 use Rattle.sqlite.specs.Cast.{cast_row}
-use Rattle.sqlite.specs.Command.TheVariants.{Insert, Delete}
 use Rattle.sqlite.specs.Does.{Tally, Does, AtPlace, OnRows}
 use Rattle.sqlite.specs.Edit.{edit_of, put_all, are_fresh, is_taken, next_rowid, numbered}
 use Rattle.sqlite.specs.Effect.{Database, value_rows}
@@ -15,7 +14,6 @@ use Rattle.sqlite.specs.Program.{overlay}
 use Rattle.sqlite.specs.Query.{Query, IsAnswer, Output, output}
 use Rattle.sqlite.specs.Rowids.TheVariants.{Chosen, Given}
 use Rattle.sqlite.specs.Rows.{Written, Task}
-use Rattle.sqlite.specs.Source.TheVariants.{Values}
 use Rattle.sqlite.specs.State.{State, mode_of, Executes}
 use Rattle.sqlite.specs.Term.{Env, Term, eval_all, holds}
 use Rattle.sqlite.specs.Tree.{Trees, put_row, rowid}
@@ -23,45 +21,41 @@ use Rattle.sqlite.specs.declared.types.Value.TheVariants.{Null, Int}
 use Rattle.sqlite.proofs.Callers.{statement_of, runs_as, one_step}
 use Rattle.sqlite_catalog.specs.Listing.{IsSound}
 use Rattle.sqlite_rules.specs.Calls.{ids_of}
-use Rattle.sqlite_rules.specs.Edit.{id_in}
+use Rattle.sqlite_rules.specs.Action.{Writes, work_for}
+use Rattle.sqlite_rules.specs.Edit.{Applies, Edit, id_in, taken_by}
+use Rattle.sqlite_schema.specs.declared.schema.Keys.{Keys}
+use Rattle.sqlite_schema.specs.declared.schema.Reference.{Reference}
+use Rattle.sqlite_schema.specs.declared.schema.Table.{Table}
 use Rattle.sqlite_trees.proofs.ListLemmas.{map-map}
 use Rattle.sqlite_trees.specs.View.{IsShaped}
 use Rattle.sqlite_trees.specs.declared.store.Shape.TheVariants as Shape
 use Rattle.clr_tables.specs.declared.table_name.TableName.{TableName}
 use Rattle.clr_tables.specs.declared.table_name.TableName.TheVariants.{Meta, Section, Point, Staff, Clearance, Step, Hold}
-use Rattle.clr_load.specs.Schema.{place_of, tree_of, columns_in, table_of, register_schema}
+use Rattle.clr_load.specs.Layout.{Layout, names_in, tree_in}
+use Rattle.clr_load.specs.Schema.{columns_in, schema_in, table_in}
 use Rattle.clr_load.specs.Sql.{insert_sql, delete_sql}
 use Rattle.clr_load.specs.Stored.{fits_columns}
 use Rattle.clr_load.proofs.Columns.{cast_fits, cast_number, fits_length, values_all, values_from}
 use Rattle.clr_store.proofs.RowLemmas.{removed}
 use Rattle.clr_load.proofs.AllRead.{same_value}
 use Rattle.clr_load.proofs.Loading.{laid}
-use Rattle.clr_load.proofs.Texts.{columns_width, insert_is, insert_plain, insert_terms, delete_is, delete_plain, matching, query_of, width_of}
+use Rattle.clr_load.proofs.Texts.{delete_is, deleting, insert_is, insert_terms, inserting, key_tests, matching, query_of, width_of}
+use Rattle.clr_store.proofs.Layouts.{at_place, others_stay}
 
 -- a part that gave a value did not stop on the way
 pub went : {B E R : Type 0} {b : B} {Stops : E → Type 0} → ((stop : E) × Stops stop × (Ok b ≡ Err stop)) ⊎ R → R
 went (inl stopped) = absurd (let e = stopped.2 in cc)
 went (inr on) = on
 
-pub at_place : (name : TableName) → slice_get register_schema.tables (place_of name) ≡ Some (table_of name)
-at_place Meta = refl
-at_place Section = refl
-at_place Point = refl
-at_place Staff = refl
-at_place Clearance = refl
-at_place Step = refl
-at_place Hold = refl
+-- no table refers to another, so a write is its one step
+no_works : {W : Type 0} (l : Layout) (work : Table → Reference → Option W) (names : List TableName)
+    → flat_map (λ child. filter_map (work child) child.references) (map (table_in l) names) ≡ []
+no_works l work [] = refl
+no_works l work (name ∷ names) = no_works l work names
 
--- what an edit of one tree leaves of the tables in other trees
-pub others_stay : (next db : Trees) (tree : ℕ) → AllByRecursion (λ t. t.tree ≢ tree → next t.tree ≡ db t.tree) register_schema.tables
-    → (other : TableName) → tree_of other ≢ tree → next (tree_of other) ≡ db (tree_of other)
-others_stay next db tree all Meta apart = all.0 apart
-others_stay next db tree all Section apart = all.1.0 apart
-others_stay next db tree all Point apart = all.1.1.0 apart
-others_stay next db tree all Staff apart = all.1.1.1.0 apart
-others_stay next db tree all Clearance apart = all.1.1.1.1.0 apart
-others_stay next db tree all Step apart = all.1.1.1.1.1.0 apart
-others_stay next db tree all Hold apart = all.1.1.1.1.1.1.0 apart
+pub one_write : (l : Layout) (keys : Keys) (db next : Trees) (edit : Edit) → Writes (schema_in l) keys db edit (Ok next) → Applies (schema_in l) keys db edit next
+one_write l keys db next edit =
+    one_step (schema_in l) keys db next edit (no_works l (work_for (schema_in l) keys 0 edit.table.tree (taken_by db edit) edit.news) (names_in l))
 
 not_taken : (rows : List Row) (r : Row) → are_fresh rows (r ∷ []) ≡ true → is_taken rows r ≡ false
 not_taken rows r h = by_cases (is_taken rows r) h
@@ -71,15 +65,15 @@ not_taken rows r h = by_cases (is_taken rows r) h
     by_cases false e = refl
 
 -- a row under the next number of its tree
-abbrev pub next_row : TableName → Trees → Row → Row
-next_row name db row = Int (next_rowid (db (tree_of name))) ∷ row
+abbrev pub next_row : List Row → Row → Row
+next_row tree row = Int (next_rowid tree) ∷ row
 
-pub record Inserted (old new : State) (name : TableName) (row : Row) : Type 0 where
-  pub schema : new.now.schema ≡ register_schema
-  pub listed : IsSound register_schema new.now.trees
-  pub rows : new.now.trees (tree_of name) ≡ put_row (next_row name old.now.trees row) (old.now.trees (tree_of name))
-  pub fresh : is_taken (old.now.trees (tree_of name)) (next_row name old.now.trees row) ≡ false
-  pub others : (other : TableName) → tree_of other ≢ tree_of name → new.now.trees (tree_of other) ≡ old.now.trees (tree_of other)
+pub record Inserted (l : Layout) (old new : State) (name : TableName) (row : Row) : Type 0 where
+  pub schema : new.now.schema ≡ schema_in l
+  pub listed : IsSound (schema_in l) new.now.trees
+  pub rows : new.now.trees (tree_in l name) ≡ put_row (next_row (old.now.trees (tree_in l name)) row) (old.now.trees (tree_in l name))
+  pub fresh : is_taken (old.now.trees (tree_in l name)) (next_row (old.now.trees (tree_in l name)) row) ≡ false
+  pub others : (other : TableName) → tree_in l other ≢ tree_in l name → new.now.trees (tree_in l other) ≡ old.now.trees (tree_in l other)
 
 value_row : (name : TableName) (row : Row) → value_rows row (suc (width_of name)) (length (insert_terms name) / suc (width_of name)) (insert_terms name) ≡ (Null ∷ values_from 0 (width_of name) row) ∷ []
 value_row Meta row = refl
@@ -95,40 +89,42 @@ given_row : (name : TableName) (row : Row) → fits_columns (columns_in name) ro
 given_row name row fits =
     ap (λ r. value_rows r (suc (width_of name)) (length (insert_terms name) / suc (width_of name)) (insert_terms name)) (append-nil row)
     ∙ value_row name row
-    ∙ ap (λ r. (Null ∷ r) ∷ []) (values_all (width_of name) row (fits_length (columns_in name) row fits ∙ columns_width name))
+    ∙ ap (λ r. (Null ∷ r) ∷ []) (values_all (width_of name) row (fits_length (columns_in name) row fits))
 
-stored_as : (name : TableName) (row : Row) → fits_columns (columns_in name) row ≡ true → cast_row (table_of name) (Null ∷ row) ≡ Null ∷ row
-stored_as name row fits i = cast_number i ∷ cast_fits (columns_in name) row fits i
+stored_as : (l : Layout) (name : TableName) (row : Row) → fits_columns (columns_in name) row ≡ true → cast_row (table_in l name) (Null ∷ row) ≡ Null ∷ row
+stored_as l name row fits i = cast_number i ∷ cast_fits (columns_in name) row fits i
 
-abbrev pub task_on : TableName → State → Row → Task
-task_on name old params = record { limit = old.step_limit; keys = (mode_of old).keys; schema = register_schema; table = table_of name; params = params }
+abbrev pub task_on : Layout → TableName → State → Row → Task
+task_on l name old params = record { limit = old.step_limit; keys = (mode_of old).keys; schema = schema_in l; table = table_in l name; params = params }
 
-pub inserts : (old new : State) (name : TableName) (row : Row) (count : ℕ) → old.now.schema ≡ register_schema → fits_columns (columns_in name) row ≡ true
-    → Executes (insert_sql name) row old new (Ok count) → Inserted old new name row
-inserts old new name row count has fits ran =
+pub inserts : (l : Layout) (old new : State) (name : TableName) (row : Row) (count : ℕ) → old.now.schema ≡ schema_in l → fits_columns (columns_in name) row ≡ true
+    → Executes (insert_sql name) row old new (Ok count) → Inserted l old new name row
+inserts l old new name row count has fits ran =
     let db = old.now.trees in
-    let command = Insert (place_of name) (Values (insert_terms name) (suc (width_of name))) in
-    let w = runs_as (insert_sql name) row old new register_schema has command (insert_is name) (insert_plain name) count ran in
-    let text = statement_of (insert_sql name) (understood register_schema (insert_sql name)) in
+    let tree = db (tree_in l name) in
+    let command = inserting l name in
+    let read = insert_is l name in
+    let w = runs_as (insert_sql name) row old new (schema_in l) has command read.is read.plain count ran in
+    let text = statement_of (insert_sql name) (understood (schema_in l) (insert_sql name)) in
     let placed = subst (λ s. Does old.step_limit (mode_of old) row (record old.now { schema = s }) text None command (Ok (w.tally, new.now))) has w.changed in
-    let done = went (subst (λ found. AtPlace (λ table. OnRows (record (task_on name old row) { table = table }) (mode_of old) None command db) found (Ok (w.tally, new.now))) (at_place name) placed) in
+    let done = went (subst (λ found. AtPlace (λ table. OnRows (record (task_on l name old row) { table = table }) (mode_of old) None command db) found (Ok (w.tally, new.now))) (at_place l name) placed) in
     let now = ap (λ (p : Tally × Database). p.1) (same_value (went (went done.2).2).2) in
     let given = went done.1 in
     let written = went (went given.2).2 in
     let counted = went written.2 in
     let trees : done.0.trees ≡ written.0 = ap (λ (it : Written). it.trees) (same_value counted.2) ∙ same_value counted.1 in
-    let it = edit_of db (table_of name) [] Chosen 0 given.0 in
-    let step = one_step register_schema _ db written.0 it refl written.1 in
+    let it = edit_of db (table_in l name) [] Chosen 0 given.0 in
+    let step = one_write l _ db written.0 it written.1 in
     let source : given.0 ≡ (Null ∷ row) ∷ [] = given.1.1 ∙ given_row name row fits in
-    let news : it.news ≡ next_row name db row ∷ [] =
-    ap (λ all. (edit_of db (table_of name) [] Chosen 0 all).news) source ∙ ap (λ r. numbered Chosen (db (tree_of name)) (r ∷ [])) (stored_as name row fits) in
+    let news : it.news ≡ next_row tree row ∷ [] =
+    ap (λ all. (edit_of db (table_in l name) [] Chosen 0 all).news) source ∙ ap (λ r. numbered Chosen tree (r ∷ [])) (stored_as l name row fits) in
     let all : new.now.trees ≡ written.0 = ap (λ (d : Database). d.trees) now ∙ trees in
     record {
       schema = ap (λ (d : Database). d.schema) now;
       listed = subst (λ s. IsSound s new.now.trees) (ap (λ (d : Database). d.schema) now) w.sound;
-      rows = ap (λ (t : Trees). t (tree_of name)) all ∙ step.rows ∙ ap (put_all (db (tree_of name))) news;
-      fresh = not_taken (db (tree_of name)) (next_row name db row) (subst (λ n. are_fresh (db (tree_of name)) n ≡ true) news step.fresh);
-      others = λ other apart. ap (λ (t : Trees). t (tree_of other)) all ∙ others_stay written.0 db (tree_of name) step.tables other apart;
+      rows = ap (λ (t : Trees). t (tree_in l name)) all ∙ step.rows ∙ ap (put_all tree) news;
+      fresh = not_taken tree (next_row tree row) (subst (λ n. are_fresh tree n ≡ true) news step.fresh);
+      others = λ other apart. ap (λ (t : Trees). t (tree_in l other)) all ∙ others_stay l written.0 db (tree_in l name) step.tables other apart;
     }
 
 picked : {X Y : Type 0} (p : X → Bool) (g : X → Y) (xs : List X) → flat_map (λ x. cond (p x) (g x ∷ []) []) xs ≡ map g (filter p xs)
@@ -151,15 +147,15 @@ abbrev pub is_met : List Term → Row → Row → Bool
 is_met tests params r = list_all (holds (params ∷ r ∷ [])) tests
 
 -- what a query without an order shows of the rows of one tree that it meets
-pub shown_rows : (tree : ℕ) (tests shown : List Term) (db : Trees) (params : Row) (rows : List Row) → overlay db [] tree ≡ db tree
+pub shown_rows : (tree : ℕ) (tests shown : List Term) (db : Trees) (params : Row) (rows : List Row)
     → IsAnswer (query_of tree tests shown []) (overlay db []) params rows
     → IsPermutation (map (λ r. eval_all shown (params ∷ r ∷ [])) (filter (is_met tests params) (db tree))) rows
-shown_rows tree tests shown db params rows plain a =
+shown_rows tree tests shown db params rows a =
     let q = query_of tree tests shown [] in
     let pair = λ (r : Row). params ∷ r ∷ [] in
     let met = is_met tests params in
     let staged : a.staged ≡ map pair (filter met (db tree)) =
-    a.grouped ∙ ap (flat_map (λ r. cond (met r) (pair r ∷ []) [])) plain ∙ picked met pair (db tree) in
+    a.grouped ∙ ap (flat_map (λ r. cond (met r) (pair r ∷ []) [])) (laid db tree) ∙ picked met pair (db tree) in
     let some = shown_of q (map pair (filter met (db tree))) a.kept a.ordered rows (a.distinct ∙ ap (map (output q)) staged) a.same a.shown in
     subst (λ l. IsPermutation l rows) (map-map (λ e. eval_all shown e) pair (filter met (db tree))) some
 
@@ -168,37 +164,40 @@ pub ids_listed : (shown : List Row) (rows ids : List Row) → IsPermutation show
 ids_listed shown rows ids same is = subst (λ l. IsPermutation l (ids_of rows)) is (IsPermutation-map (λ r. id_in (rowid r)) shown rows same)
 
 abbrev pub is_met_in : TableName → Row → Row → Bool
-is_met_in name key r = is_met (Query.filter (matching name)) key r
+is_met_in name key r = is_met (key_tests name) key r
 
-pub record Deleted (old new : State) (name : TableName) (key : Row) : Type 0 where
-  pub schema : new.now.schema ≡ register_schema
-  pub listed : IsSound register_schema new.now.trees
-  pub rows : new.now.trees (tree_of name) ≡ filter (λ r. not (is_met_in name key r)) (old.now.trees (tree_of name))
-  pub others : (other : TableName) → tree_of other ≢ tree_of name → new.now.trees (tree_of other) ≡ old.now.trees (tree_of other)
+pub record Deleted (l : Layout) (old new : State) (name : TableName) (key : Row) : Type 0 where
+  pub schema : new.now.schema ≡ schema_in l
+  pub listed : IsSound (schema_in l) new.now.trees
+  pub rows : new.now.trees (tree_in l name) ≡ filter (λ r. not (is_met_in name key r)) (old.now.trees (tree_in l name))
+  pub others : (other : TableName) → tree_in l other ≢ tree_in l name → new.now.trees (tree_in l other) ≡ old.now.trees (tree_in l other)
 
-pub deletes : (old new : State) (name : TableName) (key : Row) (count : ℕ) → old.now.schema ≡ register_schema → IsShaped Shape.Table (old.now.trees (tree_of name))
-    → Executes (delete_sql name) key old new (Ok count) → Deleted old new name key
-deletes old new name key count has shaped ran =
+pub deletes : (l : Layout) (old new : State) (name : TableName) (key : Row) (count : ℕ) → old.now.schema ≡ schema_in l → IsShaped Shape.Table (old.now.trees (tree_in l name))
+    → Executes (delete_sql name) key old new (Ok count) → Deleted l old new name key
+deletes l old new name key count has shaped ran =
     let db = old.now.trees in
-    let command = Delete (place_of name) (record { lets = []; body = matching name }) in
-    let w = runs_as (delete_sql name) key old new register_schema has command (delete_is name) (delete_plain name) count ran in
-    let text = statement_of (delete_sql name) (understood register_schema (delete_sql name)) in
+    let tree = db (tree_in l name) in
+    let command = deleting l name in
+    let read = delete_is l name in
+    let w = runs_as (delete_sql name) key old new (schema_in l) has command read.is read.plain count ran in
+    let text = statement_of (delete_sql name) (understood (schema_in l) (delete_sql name)) in
     let placed = subst (λ s. Does old.step_limit (mode_of old) key (record old.now { schema = s }) text None command (Ok (w.tally, new.now))) has w.changed in
-    let done = went (subst (λ found. AtPlace (λ table. OnRows (record (task_on name old key) { table = table }) (mode_of old) None command db) found (Ok (w.tally, new.now))) (at_place name) placed) in
+    let done = went (subst (λ found. AtPlace (λ table. OnRows (record (task_on l name old key) { table = table }) (mode_of old) None command db) found (Ok (w.tally, new.now))) (at_place l name) placed) in
     let now = ap (λ (p : Tally × Database). p.1) (same_value (went (went done.2).2).2) in
     let given = went done.1 in
     let written = went given.2 in
     let trees : done.0.trees ≡ written.0 = ap (λ (it : Written). it.trees) (same_value written.2) in
-    let it = edit_of db (table_of name) (ids_of given.0) Given 0 [] in
-    let step = one_step register_schema _ db written.0 it refl written.1 in
-    let a : IsAnswer (matching name) (overlay db []) key given.0 = given.1.answer Null in
-    let met = filter (is_met_in name key) (db (tree_of name)) in
-    let shown = shown_rows (tree_of name) (Query.filter (matching name)) (Query.project (matching name)) db key given.0 (laid name db) a in
-    let ids = ids_listed _ given.0 met shown (map-map (λ r. id_in (rowid r)) (λ r. eval_all (Query.project (matching name)) (key ∷ r ∷ [])) met) in
+    let it = edit_of db (table_in l name) (ids_of given.0) Given 0 [] in
+    let step = one_write l _ db written.0 it written.1 in
+    let q = matching l name in
+    let a : IsAnswer q (overlay db []) key given.0 = given.1.answer Null in
+    let met = filter (is_met_in name key) tree in
+    let shown = shown_rows (tree_in l name) (key_tests name) (Query.project q) db key given.0 a in
+    let ids = ids_listed _ given.0 met shown (map-map (λ r. id_in (rowid r)) (λ r. eval_all (Query.project q) (key ∷ r ∷ [])) met) in
     let all : new.now.trees ≡ written.0 = ap (λ (d : Database). d.trees) now ∙ trees in
     record {
       schema = ap (λ (d : Database). d.schema) now;
       listed = subst (λ s. IsSound s new.now.trees) (ap (λ (d : Database). d.schema) now) w.sound;
-      rows = ap (λ (t : Trees). t (tree_of name)) all ∙ step.rows ∙ removed (db (tree_of name)) shaped (is_met_in name key) (ids_of given.0) ids;
-      others = λ other apart. ap (λ (t : Trees). t (tree_of other)) all ∙ others_stay written.0 db (tree_of name) step.tables other apart;
+      rows = ap (λ (t : Trees). t (tree_in l name)) all ∙ step.rows ∙ removed tree shaped (is_met_in name key) (ids_of given.0) ids;
+      others = λ other apart. ap (λ (t : Trees). t (tree_in l other)) all ∙ others_stay l written.0 db (tree_in l name) step.tables other apart;
     }

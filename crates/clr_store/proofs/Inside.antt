@@ -1,12 +1,11 @@
 -- What INSERT and DELETE make of the tables, inside a transaction.
-use Rattle.std.proofs.Common.{◌≡◌, ◌≢◌, ◌==◌, ℕ, suc, List, [], ◌∷◌, map, drop, take, length, Bool, true, false, cond, not, if◌then◌else◌, Ok, Err, Result, refl, sym, ap, subst, ◌∙◌, ◌++◌, ◌+◌, ◌<◌, ◌&&◌, IsTrue, inl, get_or, arith}
+use Rattle.std.proofs.Common.{◌≡◌, ◌≢◌, ℕ, zero, suc, List, [], ◌∷◌, map, drop, take, length, Bool, true, false, cond, not, if◌then◌else◌, Ok, Err, Result, refl, sym, ap, subst, ◌∙◌, ◌++◌, ◌+◌, ◌<◌, ◌&&◌, IsTrue, inl, get_or, arith}
 use Rattle.std.specs.Prelude.{filter, slice_set, MatchResult}
 use Rattle.std.specs.List.{list_all}
 use Rattle.std.specs.List.Sorted.{IsPermutation}
 use Rattle.std.specs.Ordering.{is_eq, is_lt, is_gt}
 use Rattle.std.specs.declared.cmp.Ordering.{Ordering}
 use Rattle.std.specs.declared.cmp.Ordering.TheVariants.{Less, Equal, Greater}
-use Rattle.std.proofs.lemmas.Bool.Decides.{nat_tests}
 use Rattle.std.proofs.lemmas.List.{take_more}
 use Rattle.std.proofs.lemmas.List.Elements.{filter_agree}
 use Rattle.std.proofs.lemmas.List.Sorted.{IsPermutation-refl, IsPermutation-trans, IsPermutation-cons, IsPermutation-middle, IsPermutation-map, IsPermutation-sym, IsPermutation-append_right, All-permutation}
@@ -19,6 +18,10 @@ use Rattle.sqlite.specs.Held.{Held, state}
 use Rattle.sqlite.specs.Store.{Ghosts}
 use Rattle.sqlite.proofs.Callers.{survives_begin}
 use Rattle.sqlite.proofs.StateLemmas.{survives_then}
+use Rattle.sqlite.specs.Term.{col, holds, op2}
+use Rattle.sqlite.specs.Collation.TheVariants.{Binary}
+use Rattle.sqlite_sql.specs.declared.ops.BinaryOp.TheVariants.{Compare}
+use Rattle.sqlite_sql.specs.declared.ops.CompareOp.TheVariants.{Eq}
 use Rattle.sqlite.specs.Tree.{Trees, put_row}
 use Rattle.sqlite.specs.declared.types.Value.{Value}
 use Rattle.sqlite.specs.declared.types.Value.TheVariants.{Null, Int, Text}
@@ -36,61 +39,27 @@ use Rattle.clr_tables.specs.Tables.{Tables, clearance_row, hand_values, hold_row
 use Rattle.clr_tables.specs.declared.table_name.TableName.{TableName}
 use Rattle.clr_tables.specs.declared.table_name.TableName.TheVariants.{Meta, Section, Point, Staff, Clearance, Step, Hold}
 use Rattle.clr_store.specs.Contract.{AreEdited}
-use Rattle.clr_store.specs.Change.{Changes, change_at, with_rows}
-use Rattle.clr_load.specs.Schema.{columns_in, keys_in, tree_of}
+use Rattle.clr_store.specs.Change.{Changes, with_rows}
+use Rattle.clr_load.specs.Layout.{Layout, tree_in}
+use Rattle.clr_load.specs.Schema.{columns_in, keys_in}
 use Rattle.clr_load.specs.Sql.{insert_sql, delete_sql}
 use Rattle.clr_load.specs.declared.fault.StoreFault.{StoreFault}
 use Rattle.clr_load.specs.Stored.{AreTables, HasAllRows, HasRows, HasTables, Holds, IsInOrder, bodies, fits_columns, rows_in}
 use Rattle.clr_load.proofs.Columns.{sets_from, tests_are}
+use Rattle.clr_load.proofs.Texts.{tests_from}
 use Rattle.clr_load.proofs.Loading.{then_kept}
 use Rattle.clr_load.proofs.Reopened.{left_of}
 use Rattle.clr_store.proofs.RowLemmas.{put_fresh, shaped-filter}
 use Rattle.clr_store.proofs.Effects.{deletes, inserts, is_met_in}
-
--- ---- one table of the seven
-name_at : ℕ → TableName
-name_at tree =
-    if tree == 0 then Meta else if tree == 2 then Section else if tree == 4 then Point else if tree == 6 then Staff
-    else if tree == 8 then Clearance else if tree == 10 then Step else Hold
-
-named_back : (name : TableName) → name_at (tree_of name) ≡ name
-unfolding name_at
-named_back Meta = refl
-named_back Section = refl
-named_back Point = refl
-named_back Staff = refl
-named_back Clearance = refl
-named_back Step = refl
-named_back Hold = refl
-
-same_number : (m n : ℕ) → (m == n) ≡ true → m ≡ n
-same_number m n h = grind (arith, nat_tests)
-
-apart_numbers : (m n : ℕ) → (m == n) ≡ false → n ≢ m
-apart_numbers m n h e = grind (arith, nat_tests)
-
-changed_in : (other name : TableName) (change : List Row → List Row) (t : Tables) → rows_in other (with_rows name change t) ≡ change_at name other change (rows_in other t)
-changed_in Meta name change t = refl
-changed_in Section name change t = refl
-changed_in Point name change t = refl
-changed_in Staff name change t = refl
-changed_in Clearance name change t = refl
-changed_in Step name change t = refl
-changed_in Hold name change t = refl
+use Rattle.clr_store.proofs.Layouts.{apart, each_changed, same_rows, twice}
 
 -- the rows of one table are changed, and those of the others stay
-pub all_changed : (old new : Trees) (name : TableName) (change : List Row → List Row) (t : Tables) → HasAllRows old t
-    → HasRows (columns_in name) (new (tree_of name)) (change (rows_in name t))
-    → ((other : TableName) → tree_of other ≢ tree_of name → new (tree_of other) ≡ old (tree_of other)) → HasAllRows new (with_rows name change t)
-all_changed old new name change t has changed others other =
-    subst (HasRows (columns_in other) (new (tree_of other))) (sym (changed_in other name change t)) (go (tree_of name == tree_of other) refl)
-  where
-    go : (same : Bool) → (tree_of name == tree_of other) ≡ same → HasRows (columns_in other) (new (tree_of other)) (if same then change (rows_in other t) else rows_in other t)
-    go true is =
-        let one : name ≡ other = sym (named_back name) ∙ ap name_at (same_number (tree_of name) (tree_of other) is) ∙ named_back other in
-        subst (λ (it : TableName). HasRows (columns_in it) (new (tree_of it)) (change (rows_in it t))) one changed
-    go false is =
-        subst (λ (tree : List Row). HasRows (columns_in other) tree (rows_in other t)) (sym (others other (apart_numbers (tree_of name) (tree_of other) is))) (has other)
+pub all_changed : (l : Layout) (old new : Trees) (name : TableName) (change : List Row → List Row) (t : Tables) → HasAllRows l old t
+    → HasRows (columns_in name) (new (tree_in l name)) (change (rows_in name t))
+    → ((other : TableName) → tree_in l other ≢ tree_in l name → new (tree_in l other) ≡ old (tree_in l other)) → HasAllRows l new (with_rows name change t)
+all_changed l old new name change t has changed others =
+    each_changed (λ other rows. HasRows (columns_in other) (new (tree_in l other)) rows) name change t changed
+    (λ other differ. subst (λ tree. HasRows (columns_in other) tree (rows_in other t)) (sym (others other (apart l name other differ))) (has other))
 
 -- ---- rows of a tree
 pub list_all-permutation : (p : Row → Bool) (xs ys : List Row) → IsPermutation xs ys → list_all p xs ≡ true → list_all p ys ≡ true
@@ -114,19 +83,14 @@ put_in columns row tree rows fits free has =
       fit = rw (fits, has.fit) refl;
     }
 
-met_empty : (name : TableName) (key : Row) → is_met_in name key [] ≡ is_met_in name key (Null ∷ [])
-met_empty Meta key = refl
-met_empty Section key = refl
-met_empty Point key = refl
-met_empty Staff key = refl
-met_empty Clearance key = refl
-met_empty Step key = refl
-met_empty Hold key = refl
+tests_empty : (n at : ℕ) (key : Row) → list_all (holds (key ∷ [] ∷ [])) (tests_from at n) ≡ list_all (holds (key ∷ (Null ∷ []) ∷ [])) (tests_from at n)
+tests_empty zero at key = refl
+tests_empty (suc n) at key = ap (λ b. holds (key ∷ [] ∷ []) (op2 (Compare Eq Binary) (col 1 (suc at)) (col 0 at)) && b) (tests_empty n (suc at) key)
 
 -- the rows that a statement meets are those of the key
 pub met_is : (name : TableName) (key r : Row) → length key ≡ keys_in name → sets_from 0 (keys_in name) key ≡ true
     → is_met_in name key r ≡ is_eq (row_cmp (take (keys_in name) (drop 1 r)) key)
-met_is name key [] is set = met_empty name key ∙ tests_are (keys_in name) key [] Null is set
+met_is name key [] is set = tests_empty (keys_in name) 0 key ∙ tests_are (keys_in name) key [] Null is set
 met_is name key (id ∷ row) is set = tests_are (keys_in name) key row id is set
 
 pub taken_away : (name : TableName) (key : Row) (tree rows : List Row) → length key ≡ keys_in name → sets_from 0 (keys_in name) key ≡ true
@@ -168,13 +132,13 @@ pub adds : (old new : State) (name : TableName) (row : Row) (count : ℕ) → fi
 adds old new name row count fits ran = record {
   inside = ran.1.mode;
   kept = record { was_open = λ _. ran.1.was_open; committed = λ _. ran.1.committed_is };
-  tables = λ t has.
-      let did = inserts old new name row count has.schema fits ran.0 in
-      let put = put_in (columns_in name) row (old.now.trees (tree_of name)) (rows_in name t) fits did.fresh (has.rows name) in
+  tables = λ l t has.
+      let did = inserts l old new name row count has.schema fits ran.0 in
+      let put = put_in (columns_in name) row (old.now.trees (tree_in l name)) (rows_in name t) fits did.fresh (has.rows name) in
       record {
         schema = did.schema;
         listed = did.listed;
-        rows = all_changed old.now.trees new.now.trees name (λ rows. row ∷ rows) t has.rows (subst (λ tree. HasRows (columns_in name) tree (row ∷ rows_in name t)) (sym did.rows) put) did.others;
+        rows = all_changed l old.now.trees new.now.trees name (λ rows. row ∷ rows) t has.rows (subst (λ tree. HasRows (columns_in name) tree (row ∷ rows_in name t)) (sym did.rows) put) did.others;
       };
 }
 
@@ -183,20 +147,20 @@ pub removes : (old new : State) (name : TableName) (key : Row) (count : ℕ) →
 removes old new name key count is set ran = record {
   inside = ran.1.mode;
   kept = record { was_open = λ _. ran.1.was_open; committed = λ _. ran.1.committed_is };
-  tables = λ t has.
-      let did = deletes old new name key count has.schema (has.rows name).numbered ran.0 in
-      let left = taken_away name key (old.now.trees (tree_of name)) (rows_in name t) is set (has.rows name) in
+  tables = λ l t has.
+      let did = deletes l old new name key count has.schema (has.rows name).numbered ran.0 in
+      let left = taken_away name key (old.now.trees (tree_in l name)) (rows_in name t) is set (has.rows name) in
       record {
         schema = did.schema;
         listed = did.listed;
-        rows = all_changed old.now.trees new.now.trees name (without_table_row (keys_in name) key) t has.rows
+        rows = all_changed l old.now.trees new.now.trees name (without_table_row (keys_in name) key) t has.rows
             (subst (λ tree. HasRows (columns_in name) tree (without_table_row (keys_in name) key (rows_in name t))) (sym did.rows) left) did.others;
       };
 }
 
 -- ---- statements in turn
 pub then_changes : (a b c : State) (f g : Tables → Tables) → Changes a b f → Changes b c g → Changes a c (λ t. g (f t))
-then_changes a b c f g p q = record { inside = q.inside; kept = then_kept a b c p.kept q.kept; tables = λ t has. q.tables (f t) (p.tables t has) }
+then_changes a b c f g p q = record { inside = q.inside; kept = then_kept a b c p.kept q.kept; tables = λ l t has. q.tables l (f t) (p.tables l t has) }
 
 pub then_step : {X : Type 0} (a b c : State) (f g : Tables → Tables) (r : Result X StoreFault) → Changes a b f → MatchResult r (λ _. Changes b c g) (λ _. KeepsCommit b c)
     → MatchResult r (λ _. Changes a c (λ t. g (f t))) (λ _. KeepsCommit a c)
@@ -204,26 +168,13 @@ then_step a b c f g (Ok x) p q = then_changes a b c f g p q
 then_step a b c f g (Err e) p q = then_kept a b c p.kept q
 
 -- the row of a key deleted and a row of that key inserted are the row put
-puts_rows : (trees : Trees) (name : TableName) (row : Row) (t : Tables)
-    → HasAllRows trees (with_rows name (λ rows. row ∷ rows) (with_rows name (without_table_row (keys_in name) (take (keys_in name) row)) t))
-    → HasAllRows trees (with_rows name (with_table_row (keys_in name) row) t)
-puts_rows trees name row t has other =
-    let rows = rows_in other t in
-    let before : rows_in other (with_rows name (λ rows. row ∷ rows) (with_rows name (without_table_row (keys_in name) (take (keys_in name) row)) t))
-    ≡ change_at name other (λ rows. row ∷ rows) (change_at name other (without_table_row (keys_in name) (take (keys_in name) row)) rows) =
-    changed_in other name (λ rows. row ∷ rows) (with_rows name (without_table_row (keys_in name) (take (keys_in name) row)) t)
-    ∙ ap (change_at name other (λ rows. row ∷ rows)) (changed_in other name (without_table_row (keys_in name) (take (keys_in name) row)) t) in
-    let moved = same_rows (tree_of name == tree_of other) rows in
-    in_any_order (columns_in other) (trees (tree_of other)) _ _
-    (subst (IsPermutation (rows_in other (with_rows name (λ rows. row ∷ rows) (with_rows name (without_table_row (keys_in name) (take (keys_in name) row)) t))))
-    (sym (changed_in other name (with_table_row (keys_in name) row) t))
-    (subst (λ l. IsPermutation l (change_at name other (with_table_row (keys_in name) row) rows)) (sym before) moved)) (has other)
-  where
-    same_rows : (same : Bool) (rows : List Row)
-        → IsPermutation (if same then row ∷ (if same then without_table_row (keys_in name) (take (keys_in name) row) rows else rows) else (if same then without_table_row (keys_in name) (take (keys_in name) row) rows else rows))
-        (if same then with_table_row (keys_in name) row rows else rows)
-    same_rows true rows = put_again (keys_in name) row rows
-    same_rows false rows = IsPermutation-refl _
+puts_rows : (l : Layout) (trees : Trees) (name : TableName) (row : Row) (t : Tables)
+    → HasAllRows l trees (with_rows name (λ rows. row ∷ rows) (with_rows name (without_table_row (keys_in name) (take (keys_in name) row)) t))
+    → HasAllRows l trees (with_rows name (with_table_row (keys_in name) row) t)
+puts_rows l trees name row t has other =
+    let news = λ (rows : List Row). row ∷ without_table_row (keys_in name) (take (keys_in name) row) rows in
+    let both = subst (HasAllRows l trees) (twice name (λ rows. row ∷ rows) (without_table_row (keys_in name) (take (keys_in name) row)) t) has in
+    in_any_order (columns_in other) (trees (tree_in l other)) _ _ (same_rows name news (with_table_row (keys_in name) row) t (put_again (keys_in name) row) other) (both other)
 
 pub puts : {X : Type 0} (a b c : State) (name : TableName) (row : Row) (r : Result X StoreFault) → Changes a b (with_rows name (without_table_row (keys_in name) (take (keys_in name) row)))
     → MatchResult r (λ _. Changes b c (with_rows name (λ rows. row ∷ rows))) (λ _. KeepsCommit b c)
@@ -231,9 +182,9 @@ pub puts : {X : Type 0} (a b c : State) (name : TableName) (row : Row) (r : Resu
 puts a b c name row (Ok x) p q = record {
   inside = q.inside;
   kept = then_kept a b c p.kept q.kept;
-  tables = λ t has.
-      let both = q.tables (with_rows name (without_table_row (keys_in name) (take (keys_in name) row)) t) (p.tables t has) in
-      record { schema = both.schema; listed = both.listed; rows = puts_rows c.now.trees name row t both.rows };
+  tables = λ l t has.
+      let both = q.tables l (with_rows name (without_table_row (keys_in name) (take (keys_in name) row)) t) (p.tables l t has) in
+      record { schema = both.schema; listed = both.listed; rows = puts_rows l c.now.trees name row t both.rows };
 }
 puts a b c name row (Err e) p q = then_kept a b c p.kept q
 
@@ -247,15 +198,15 @@ pub one_more : (old new : State) (es : List Edit) (k : ℕ) (e : Edit) → k < l
 one_more old new es k e within is both = record {
   inside = both.inside;
   kept = both.kept;
-  tables = λ t has.
+  tables = λ l t has.
       let more : tables_edited (take (k + 1) es) t ≡ table_edited e (tables_edited (take k es) t) =
       ap (λ l. tables_edited l t) (take_more es k e within ∙ ap (λ x. take k es ++ x ∷ []) (sym is)) ∙ tables_more (take k es) e t in
-      subst (Holds new.now) (sym more) (both.tables t has);
+      subst (Holds l new.now) (sym more) (both.tables l t has);
 }
 
 pub no_edits : (s : State) → IsTrue s.in_transaction → Changes s s (tables_edited [])
 unfolding tables_edited
-no_edits s inside = record { inside = inside; kept = record { was_open = λ open_now. open_now; committed = λ _. refl }; tables = λ t has. has }
+no_edits s inside = record { inside = inside; kept = record { was_open = λ open_now. open_now; committed = λ _. refl }; tables = λ l t has. has }
 
 pub survives_still : (s : State) → Survives s s (λ _. ⊥)
 survives_still s = record { clean = omega arith; shield = λ shielded. shielded; counts = omega arith; limit = refl; closes = λ _ is_open. inl is_open; crash = λ _ db left. inl left }
@@ -263,14 +214,8 @@ survives_still s = record { clean = omega arith; shield = λ shielded. shielded;
 -- ---- the order of keys
 order_changed : (name : TableName) (change : List Row → List Row) (t : Tables) → IsInOrder t → in_key_order row_cmp (take (keys_in name)) (change (rows_in name t)) ≡ true
     → IsInOrder (with_rows name change t)
-order_changed name change t ordered here other =
-    ap (in_key_order row_cmp (take (keys_in other))) (changed_in other name change t) ∙ go (tree_of name == tree_of other) refl
-  where
-    go : (same : Bool) → (tree_of name == tree_of other) ≡ same → in_key_order row_cmp (take (keys_in other)) (if same then change (rows_in other t) else rows_in other t) ≡ true
-    go true is =
-        let one : name ≡ other = sym (named_back name) ∙ ap name_at (same_number (tree_of name) (tree_of other) is) ∙ named_back other in
-        subst (λ (it : TableName). in_key_order row_cmp (take (keys_in it)) (change (rows_in it t)) ≡ true) one here
-    go false is = ordered other
+order_changed name change t ordered here =
+    each_changed (λ other rows. in_key_order row_cmp (take (keys_in other)) rows ≡ true) name change t here (λ other _. ordered other)
 
 order_mapped : (change : Row → Row) → ((row : Row) → take 1 (change row) ≡ take 1 row) → (rows : List Row)
     → in_key_order row_cmp (take 1) (map change rows) ≡ in_key_order row_cmp (take 1) rows
@@ -310,8 +255,8 @@ edits_in_order [] t ordered = ordered
 edits_in_order (edit ∷ edits) t ordered = edits_in_order edits (table_edited edit t) (edit_in_order edit t ordered)
 
 -- ---- a transaction
-pub edited_tables : (db : Database) (edits : List Edit) (t : Tables) → IsInOrder t → Holds db (tables_edited edits t) → HasTables db (tables_edited edits t)
-edited_tables db edits t ordered has = record { holds = has; in_order = edits_in_order edits t ordered }
+pub edited_tables : (l : Layout) (db : Database) (edits : List Edit) (t : Tables) → IsInOrder t → Holds l db (tables_edited edits t) → HasTables db (tables_edited edits t)
+edited_tables l db edits t ordered has = record { layout = l; holds = has; in_order = edits_in_order edits t ordered }
 
 pub commit_crash : {S : Type 0} (g : Ghosts S) (old mid end : Held S) (edits : List Edit) → Survives (state g (record old { in_transaction = true })) (state g mid) (λ _. ⊥)
     → Survives (state g mid) (state g end) (λ db. db ≡ (state g mid).now.trees)
@@ -320,6 +265,6 @@ pub commit_crash : {S : Type 0} (g : Ghosts S) (old mid end : Held S) (edits : L
 commit_crash g old mid end edits inside ended changes =
     survives_then (state g old) (state g mid) (state g end) _ _ _ (λ _ db none. absurd none)
     (λ clean db is t has.
-    let done = edited_tables (state g mid).now edits t has.in_order ((changes (omega (arith, ended.clean))).tables t has.holds) in
+    let done = edited_tables has.layout (state g mid).now edits t has.in_order ((changes (omega (arith, ended.clean))).tables has.layout t has.holds) in
     subst (λ (trees : Trees). AreTables trees (tables_edited edits t)) (sym is) (left_of (state g mid).now (tables_edited edits t) done))
     (survives_begin g old (state g mid) _ inside) ended

@@ -1,4 +1,5 @@
 pub mod RowLemmas
+pub mod Layouts
 pub mod Effects
 pub mod Inside
 pub mod Updates

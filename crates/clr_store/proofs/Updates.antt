@@ -7,8 +7,7 @@ use Rattle.std.specs.Ordering.{is_eq}
 use Rattle.std.proofs.lemmas.List.{map-append}
 use Rattle.std.proofs.lemmas.List.Sorted.{IsPermutation-refl, IsPermutation-trans, IsPermutation-cons, IsPermutation-middle, IsPermutation-map, IsPermutation-sym, IsPermutation-append_left, IsPermutation-append_right}
 use Rattle.sqlite.specs.Cast.{cast_row, cast_all}
-use Rattle.sqlite.specs.Command.TheVariants.{Update}
-use Rattle.sqlite.specs.Does.{Tally, Does}
+use Rattle.sqlite.specs.Does.{AtPlace, Does, OnRows, Tally}
 use Rattle.sqlite.specs.Edit.{edit_of, put_all, are_fresh, is_taken, numbered, have_rowids, without_all}
 use Rattle.sqlite.specs.Effect.{Database}
 use Rattle.sqlite.specs.Kind.TheVariants as Kind
@@ -23,7 +22,7 @@ use Rattle.sqlite.specs.Term.{Term, eval_all}
 use Rattle.sqlite.specs.Tree.{Trees, put_row, rowid}
 use Rattle.sqlite.specs.declared.types.Value.{Value}
 use Rattle.sqlite.specs.declared.types.Value.TheVariants.{Null, Int, Text}
-use Rattle.sqlite.proofs.Callers.{IsPlain, command_of, statement_of, runs_as, one_step}
+use Rattle.sqlite.proofs.Callers.{statement_of, runs_as}
 use Rattle.sqlite_catalog.specs.Listing.{IsSound}
 use Rattle.sqlite_rules.specs.Calls.{ids_of}
 use Rattle.sqlite_rules.specs.Edit.{id_in}
@@ -40,16 +39,17 @@ use Rattle.clr_tables.specs.TableEdits.{changed_point, handed_row, placed_row, t
 use Rattle.clr_tables.specs.Tables.{position_value}
 use Rattle.clr_tables.specs.declared.table_name.TableName.TheVariants.{Point}
 use Rattle.clr_store.specs.Change.{Changes, with_rows}
-use Rattle.clr_load.specs.Schema.{columns_in, table_of, tree_of, register_schema}
+use Rattle.clr_load.specs.Layout.{Layout, tree_in}
+use Rattle.clr_load.specs.Schema.{columns_in, schema_in, table_in}
 use Rattle.clr_load.specs.Stored.{HasRows, bodies, fits_columns, is_of_kind, rows_in}
 use Rattle.clr_load.proofs.Columns.{both_true, cast_fits, values_all, values_from, fits_length}
 use Rattle.clr_store.proofs.Inside.{all_changed, list_all-permutation, met_is}
 use Rattle.clr_store.proofs.RowLemmas.{put_fresh, removed, shaped-filter}
-use Rattle.clr_store.proofs.Effects.{ids_listed, is_met, others_stay, shown_rows, went}
+use Rattle.clr_store.proofs.Effects.{ids_listed, is_met, one_write, shown_rows, task_on, went}
 use Rattle.clr_load.proofs.AllRead.{same_value}
-use Rattle.clr_load.proofs.Loading.{laid}
 use Rattle.clr_load.specs.Sql.{set_hand_sql, set_position_sql}
-use Rattle.clr_load.proofs.Texts.{changing, hand_terms, position_terms, set_hand_is, set_hand_plain, set_position_is, set_position_plain, tests_from}
+use Rattle.clr_load.proofs.Texts.{IsRead, changing, hand_terms, key_tests, position_terms, set_hand_is, set_position_is, updating}
+use Rattle.clr_store.proofs.Layouts.{at_place, others_stay}
 
 -- ---- rows put under numbers that they have
 given_numbers : (rows news : List Row) → numbered Given rows news ≡ news
@@ -110,7 +110,7 @@ module _ (point : List ℕ) (more : Row) (terms : List Term) (change : Row → R
   params = Text point ∷ more
 
   met : Row → Bool
-  met = is_met (tests_from 0 1) params
+  met = is_met (key_tests Point) params
 
   met_point : (r : Row) → met r ≡ is_point point (drop 1 r)
   unfolding met params
@@ -125,14 +125,14 @@ module _ (point : List ℕ) (more : Row) (terms : List Term) (change : Row → R
   made_is r h = ap (cast_all point_columns) (reads r h) ∙ cast_fits point_columns (change (drop 1 r)) (fits (drop 1 r) h)
 
   -- a tree without the rows that are met, and with what the statement makes of them
-  rebuilt : (tree rows shown : List Row) → HasRows point_columns tree rows
-      → IsPermutation (map (λ r. eval_all (Query.project (changing terms)) (params ∷ r ∷ [])) (filter met tree)) shown
-      → are_fresh (filter (λ r. not (met r)) tree) (map (λ s. cast_row (table_of Point) (drop 1 s)) shown) ≡ true
-      → have_rowids (map (λ s. cast_row (table_of Point) (drop 1 s)) shown) ≡ true
-      → HasRows point_columns (put_all (filter (λ r. not (met r)) tree) (map (λ s. cast_row (table_of Point) (drop 1 s)) shown)) (changed_point point change rows)
+  rebuilt : (l : Layout) (tree rows shown : List Row) → HasRows point_columns tree rows
+      → IsPermutation (map (λ r. eval_all (Query.project (changing l terms)) (params ∷ r ∷ [])) (filter met tree)) shown
+      → are_fresh (filter (λ r. not (met r)) tree) (map (λ s. cast_row (table_in l Point) (drop 1 s)) shown) ≡ true
+      → have_rowids (map (λ s. cast_row (table_in l Point) (drop 1 s)) shown) ≡ true
+      → HasRows point_columns (put_all (filter (λ r. not (met r)) tree) (map (λ s. cast_row (table_in l Point) (drop 1 s)) shown)) (changed_point point change rows)
   unfolding made
-  rebuilt tree rows shown has same fresh keyed =
-      let stored = λ (s : Row). cast_row (table_of Point) (drop 1 s) in
+  rebuilt l tree rows shown has same fresh keyed =
+      let stored = λ (s : Row). cast_row (table_in l Point) (drop 1 s) in
       let left = filter (λ r. not (met r)) tree in
       let changed = λ (row : Row). if is_point point row then change row else row in
       let tree_fits : list_all (λ r. fits_columns point_columns (drop 1 r)) tree ≡ true =
@@ -144,15 +144,15 @@ module _ (point : List ℕ) (more : Row) (terms : List Term) (change : Row → R
       subst (IsPermutation (map changed rows)) (map-map changed (drop 1) tree) (IsPermutation-map changed rows (bodies tree) has.same) in
       let three : IsPermutation (map (λ r. if met r then made r else drop 1 r) tree) (map made (filter met tree) ++ bodies left) = parted met made (drop 1) tree in
       let four : IsPermutation (map made (filter met tree)) (bodies (map stored shown)) =
-      subst (λ l. IsPermutation l (bodies (map stored shown)))
-      (map-map (λ s. drop 1 (stored s)) (λ r. eval_all (Query.project (changing terms)) (params ∷ r ∷ [])) (filter met tree))
-      (subst (IsPermutation (map (λ s. drop 1 (stored s)) (map (λ r. eval_all (Query.project (changing terms)) (params ∷ r ∷ [])) (filter met tree)))) (sym (map-map (drop 1) stored shown))
+      subst (λ x. IsPermutation x (bodies (map stored shown)))
+      (map-map (λ s. drop 1 (stored s)) (λ r. eval_all (Query.project (changing l terms)) (params ∷ r ∷ [])) (filter met tree))
+      (subst (IsPermutation (map (λ s. drop 1 (stored s)) (map (λ r. eval_all (Query.project (changing l terms)) (params ∷ r ∷ [])) (filter met tree)))) (sym (map-map (drop 1) stored shown))
       (IsPermutation-map (λ s. drop 1 (stored s)) _ _ same)) in
       let five : IsPermutation (bodies (map stored shown) ++ bodies left) (bodies (put_all left (map stored shown))) =
-      subst (λ l. IsPermutation l (bodies (put_all left (map stored shown)))) (map-append (drop 1) (map stored shown) left)
+      subst (λ x. IsPermutation x (bodies (put_all left (map stored shown)))) (map-append (drop 1) (map stored shown) left)
       (IsPermutation-map (drop 1) _ _ (put_all_fresh (map stored shown) left fresh)) in
       record {
-        same = IsPermutation-trans _ _ _ two (subst (λ l. IsPermutation l (bodies (put_all left (map stored shown)))) (sym one)
+        same = IsPermutation-trans _ _ _ two (subst (λ x. IsPermutation x (bodies (put_all left (map stored shown)))) (sym one)
             (IsPermutation-trans _ _ _ three (IsPermutation-trans _ _ _ (IsPermutation-append_left (bodies left) _ _ four) five)));
         numbered = shaped_put_all (map stored shown) left keyed (shaped-filter _ tree has.numbered);
         fit = list_all_map (fits_columns point_columns) changed rows ∙ still_fit rows has.fit;
@@ -168,42 +168,44 @@ module _ (point : List ℕ) (more : Row) (terms : List Term) (change : Row → R
           let parts = both_true (fits_columns point_columns row) (list_all (fits_columns point_columns) rows) h in
           rw (one_fits row (is_point point row) parts.0, still_fit rows parts.1) refl
 
-  pub updates : (sql : List ℕ) → command_of (understood register_schema sql) ≡ Update 2 (record { lets = []; body = changing terms }) → IsPlain (understood register_schema sql)
+  pub updates : (sql : List ℕ) → ((l : Layout) → IsRead (schema_in l) sql (updating l terms))
       → (old new : State) (count : ℕ) → ExecutesInside 0 sql (Text point ∷ more) old new (Ok count) → Changes old new (with_rows Point (changed_point point change))
   unfolding met params
-  updates sql is plain old new count ran = record {
+  updates sql reads old new count ran = record {
     inside = ran.1.mode;
     kept = record { was_open = λ _. ran.1.was_open; committed = λ _. ran.1.committed_is };
-    tables = λ t has.
+    tables = λ l t has.
         let db = old.now.trees in
-        let tree = db 4 in
-        let command = Update 2 (record { lets = []; body = changing terms }) in
-        let w = runs_as sql params old new register_schema has.schema command is plain count ran.0 in
-        let text = statement_of sql (understood register_schema sql) in
-        let done = went (subst (λ s. Does old.step_limit (mode_of old) params (record old.now { schema = s }) text None command (Ok (w.tally, new.now))) has.schema w.changed) in
+        let table = table_in l Point in
+        let tree = db (tree_in l Point) in
+        let command = updating l terms in
+        let w = runs_as sql params old new (schema_in l) has.schema command (reads l).is (reads l).plain count ran.0 in
+        let text = statement_of sql (understood (schema_in l) sql) in
+        let placed = subst (λ s. Does old.step_limit (mode_of old) params (record old.now { schema = s }) text None command (Ok (w.tally, new.now))) has.schema w.changed in
+        let done = went (subst (λ found. AtPlace (λ table. OnRows (record (task_on l Point old params) { table = table }) (mode_of old) None command db) found (Ok (w.tally, new.now))) (at_place l Point) placed) in
         let now = ap (λ (p : Tally × Database). p.1) (same_value (went (went done.2).2).2) in
         let given = went done.1 in
         let written = went given.2 in
         let trees : done.0.trees ≡ written.0 = ap (λ (it : Written). it.trees) (same_value written.2) in
-        let it = edit_of db (table_of Point) (ids_of given.0) Given 1 given.0 in
-        let step = one_step register_schema _ db written.0 it refl written.1 in
-        let a : IsAnswer (changing terms) (overlay db []) params given.0 = given.1.answer Null in
-        let shown = shown_rows 4 (tests_from 0 1) (Query.project (changing terms)) db params given.0 (laid Point db) a in
-        let ids = ids_listed _ given.0 (filter met tree) shown (map-map (λ r. id_in (rowid r)) (λ r. eval_all (Query.project (changing terms)) (params ∷ r ∷ [])) (filter met tree)) in
+        let it = edit_of db table (ids_of given.0) Given 1 given.0 in
+        let step = one_write l _ db written.0 it written.1 in
+        let a : IsAnswer (changing l terms) (overlay db []) params given.0 = given.1.answer Null in
+        let shown = shown_rows (tree_in l Point) (key_tests Point) (Query.project (changing l terms)) db params given.0 a in
+        let ids = ids_listed _ given.0 (filter met tree) shown (map-map (λ r. id_in (rowid r)) (λ r. eval_all (Query.project (changing l terms)) (params ∷ r ∷ [])) (filter met tree)) in
         let left : without_all tree (ids_of given.0) ≡ filter (λ r. not (met r)) tree = removed tree (has.rows Point).numbered met (ids_of given.0) ids in
-        let news : it.news ≡ map (λ s. cast_row (table_of Point) (drop 1 s)) given.0 = given_numbers (without_all tree (ids_of given.0)) (map (λ s. cast_row (table_of Point) (drop 1 s)) given.0) in
+        let news : it.news ≡ map (λ s. cast_row table (drop 1 s)) given.0 = given_numbers (without_all tree (ids_of given.0)) (map (λ s. cast_row table (drop 1 s)) given.0) in
         let all : new.now.trees ≡ written.0 = ap (λ (d : Database). d.trees) now ∙ trees in
-        let built = rebuilt tree (rows_in Point t) given.0 (has.rows Point) shown
-        (subst (λ n. are_fresh (filter (λ r. not (met r)) tree) n ≡ true) news (subst (λ l. are_fresh l it.news ≡ true) left step.fresh))
+        let built = rebuilt l tree (rows_in Point t) given.0 (has.rows Point) shown
+        (subst (λ n. are_fresh (filter (λ r. not (met r)) tree) n ≡ true) news (subst (λ x. are_fresh x it.news ≡ true) left step.fresh))
         (subst (λ n. have_rowids n ≡ true) news step.keyed) in
-        let there : new.now.trees 4 ≡ put_all (filter (λ r. not (met r)) tree) (map (λ s. cast_row (table_of Point) (drop 1 s)) given.0) =
-        ap (λ (t : Trees). t 4) all ∙ step.rows ∙ ap (λ l. put_all l it.news) left ∙ ap (put_all (filter (λ r. not (met r)) tree)) news in
+        let there : new.now.trees (tree_in l Point) ≡ put_all (filter (λ r. not (met r)) tree) (map (λ s. cast_row table (drop 1 s)) given.0) =
+        ap (λ (t : Trees). t (tree_in l Point)) all ∙ step.rows ∙ ap (λ x. put_all x it.news) left ∙ ap (put_all (filter (λ r. not (met r)) tree)) news in
         record {
           schema = ap (λ (d : Database). d.schema) now;
           listed = subst (λ s. IsSound s new.now.trees) (ap (λ (d : Database). d.schema) now) w.sound;
-          rows = all_changed old.now.trees new.now.trees Point (changed_point point change) t has.rows
-              (subst (λ l. HasRows point_columns l (changed_point point change (rows_in Point t))) (sym there) built)
-              (λ other apart. ap (λ (t : Trees). t (tree_of other)) all ∙ others_stay written.0 db 4 step.tables other apart);
+          rows = all_changed l old.now.trees new.now.trees Point (changed_point point change) t has.rows
+              (subst (λ x. HasRows point_columns x (changed_point point change (rows_in Point t))) (sym there) built)
+              (λ other apart. ap (λ (t : Trees). t (tree_in l other)) all ∙ others_stay l written.0 db (tree_in l Point) step.tables other apart);
         };
   }
 
@@ -241,17 +243,17 @@ pub sets_position : (old new : State) (point : List ℕ) (position : Position) (
     → ExecutesInside 0 set_position_sql (Text point ∷ position_value position ∷ []) old new (Ok count) → Changes old new (table_edited (SetPosition point position))
 sets_position old new point position count =
     updates point (position_value position ∷ []) position_terms (placed_row position) (position_reads point (position_value position))
-    (λ row fits. fits_set point_columns row 5 (position_value position) fits (position_fits position)) set_position_sql set_position_is set_position_plain old new count
+    (λ row fits. fits_set point_columns row 5 (position_value position) fits (position_fits position)) set_position_sql set_position_is old new count
 
 pub clears_hand : (old new : State) (point : List ℕ) (count : ℕ)
     → ExecutesInside 0 set_hand_sql (Text point ∷ Null ∷ Null ∷ []) old new (Ok count) → Changes old new (table_edited (SetHand point None))
 clears_hand old new point count =
     updates point (Null ∷ Null ∷ []) hand_terms (handed_row None) (hand_reads point Null Null)
-    (λ row fits. fits_set point_columns (slice_set row 6 Null) 7 Null (fits_set point_columns row 6 Null fits refl) refl) set_hand_sql set_hand_is set_hand_plain old new count
+    (λ row fits. fits_set point_columns (slice_set row 6 Null) 7 Null (fits_set point_columns row 6 Null fits refl) refl) set_hand_sql set_hand_is old new count
 
 pub gives_hand : (old new : State) (point : List ℕ) (c : Id) (count : ℕ)
     → ExecutesInside 0 set_hand_sql (Text point ∷ Text c.requester ∷ Int (pos c.number) ∷ []) old new (Ok count) → Changes old new (table_edited (SetHand point (Some c)))
 gives_hand old new point c count =
     updates point (Text c.requester ∷ Int (pos c.number) ∷ []) hand_terms (handed_row (Some c)) (hand_reads point (Text c.requester) (Int (pos c.number)))
     (λ row fits. fits_set point_columns (slice_set row 6 (Text c.requester)) 7 (Int (pos c.number)) (fits_set point_columns row 6 (Text c.requester) fits refl) refl)
-    set_hand_sql set_hand_is set_hand_plain old new count
+    set_hand_sql set_hand_is old new count

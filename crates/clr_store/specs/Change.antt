@@ -1,5 +1,6 @@
 -- What statements make of the tables, inside a transaction.
-use Rattle.std.specs.Prelude.{◌≡◌, IsTrue, Result, MatchResult, if◌then◌else◌, ◌==◌, List, [], ◌∷◌}
+use Rattle.std.specs.Prelude.{◌≡◌, IsTrue, Bool, Result, MatchResult, if◌then◌else◌, ◌==◌, List, []}
+use Rattle.std.specs.Prelude.{◌∷◌}
 use Rattle.std.specs.Prelude.{fold, map}
 use Rattle.std.specs.List.{AllByRecursion}
 use Rattle.sqlite.specs.Effect.{Database, IsDatabase}
@@ -13,31 +14,39 @@ use Rattle.clr_tables.specs.Tables.{Tables, point_row, section_row, staff_row, v
 use Rattle.clr_tables.specs.declared.table_name.TableName.{TableName}
 use Rattle.clr_tables.specs.declared.table_name.TableName.TheVariants.{Meta, Section, Point, Staff}
 use Rattle.clr_tables.specs.declared.table_name.TableName.TheVariants.{Clearance, Step, Hold}
-use Rattle.clr_load.specs.Schema.{schema_of, tree_of}
-use Rattle.clr_load.specs.Stored.{Holds}
+use Rattle.clr_load.specs.Layout.{Layout, OfOne, place_in, tree_in}
+use Rattle.clr_load.specs.Schema.{schema_of}
+use Rattle.clr_load.specs.Stored.{Holds, rows_in}
 use Rattle.clr_load.specs.declared.fault.StoreFault.{StoreFault}
+
+-- the tables with these rows
+abbrev pub tables_with : (TableName → List Row) → Tables
+tables_with rows = record {
+  meta = rows Meta;
+  sections = rows Section;
+  points = rows Point;
+  staff = rows Staff;
+  clearances = rows Clearance;
+  steps = rows Step;
+  holds = rows Hold;
+}
+
+abbrev pub is_same : TableName → TableName → Bool
+is_same name other = place_in OfOne name == place_in OfOne other
 
 -- a change of the rows of one table, as it is for another
 abbrev pub change_at : TableName → TableName → (List Row → List Row) → List Row → List Row
-change_at name other change rows = if tree_of name == tree_of other then change rows else rows
+change_at name other change rows = if is_same name other then change rows else rows
 
 -- the tables with the rows of one of them changed
 abbrev pub with_rows : TableName → (List Row → List Row) → Tables → Tables
-with_rows name change t = record {
-  meta = change_at name Meta change t.meta;
-  sections = change_at name Section change t.sections;
-  points = change_at name Point change t.points;
-  staff = change_at name Staff change t.staff;
-  clearances = change_at name Clearance change t.clearances;
-  steps = change_at name Step change t.steps;
-  holds = change_at name Hold change t.holds;
-}
+with_rows name change t = tables_with (λ other. change_at name other change (rows_in other t))
 
 -- the tables are changed inside the transaction, and nothing is committed
 pub record Changes (old new : State) (change : Tables → Tables) : Type 0 where
   pub inside : IsTrue new.in_transaction
   pub kept : KeepsCommit old new
-  pub tables : (t : Tables) → Holds old.now t → Holds new.now (change t)
+  pub tables : (l : Layout) (t : Tables) → Holds l old.now t → Holds l new.now (change t)
 
 -- a call inside a transaction makes the change, or fails; it commits nothing
 abbrev pub Steps : {X : Type 0} → State → State → (Tables → Tables) → Result X StoreFault → Type 0
@@ -57,10 +66,10 @@ abbrev pub StepsTo : {X : Type 0} → State → State → (Database → Type 0) 
 StepsTo old new From To result = HasCleanDisk new → IsTrue old.in_transaction
     → MatchResult result (λ _. Makes old new From To) (λ _. KeepsCommit old new)
 
--- the database has these tables alone, and they are empty
-pub record HasEmpty (names : List TableName) (db : Database) : Type 0 where
-  pub schema : db.schema ≡ schema_of names
-  pub empty : AllByRecursion (λ name. db.trees (tree_of name) ≡ []) names
+-- the database has these tables of a layout alone, and they are empty
+pub record HasEmpty (l : Layout) (names : List TableName) (db : Database) : Type 0 where
+  pub schema : db.schema ≡ schema_of l names
+  pub empty : AllByRecursion (λ name. db.trees (tree_in l name) ≡ []) names
 
 -- rows put in front of others, one after the other
 abbrev pub added : List Row → List Row → List Row

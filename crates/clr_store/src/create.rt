@@ -9,7 +9,8 @@ ghost use Rattle.clr_store.specs.Change.{HasEmpty, Steps, StepsTo, added, openin
 ghost use Rattle.clr_store.specs.Change.{with_rows};
 ghost use Rattle.clr_load.specs.Fault.{IsOfDatabase};
 ghost use Rattle.clr_load.specs.Contract.{IsSaved};
-ghost use Rattle.clr_load.specs.Schema.{all_names, names_before, no_schema};
+ghost use Rattle.clr_load.specs.Layout.{OfOne, names_before, names_in};
+ghost use Rattle.clr_load.specs.Schema.{no_schema};
 ghost use Rattle.clr_load.specs.Stored.{AreTables, HasTables};
 
 use crate::sql::create_sql;
@@ -28,7 +29,8 @@ use sqlite_schema::schema::Schema;
 fn make_table<S: Alter>(tx: &mut Transaction<'_, S>, table: TableName) -> Result<(), StoreFault>
     ensures same_reference { tx.new.conn.ghost_name ≡ tx.old.conn.ghost_name }
     ensures step { StepsTo (state S.Store tx.old.conn.now) (state S.Store tx.new.conn.now)
-        (HasEmpty (names_before table)) (HasEmpty (names_before table ++ table ∷ [])) result }
+        (HasEmpty OfOne (names_before OfOne table))
+        (HasEmpty OfOne (names_before OfOne table ++ table ∷ [])) result }
     ensures fault { IfErr result IsOfDatabase }
     ensures survives { Survives (state S.Store tx.old.conn.now) (state S.Store tx.new.conn.now)
         (λ _. ⊥) }
@@ -40,7 +42,7 @@ fn make_table<S: Alter>(tx: &mut Transaction<'_, S>, table: TableName) -> Result
 fn make_first_tables<S: Alter>(tx: &mut Transaction<'_, S>) -> Result<(), StoreFault>
     ensures same_reference { tx.new.conn.ghost_name ≡ tx.old.conn.ghost_name }
     ensures step { StepsTo (state S.Store tx.old.conn.now) (state S.Store tx.new.conn.now)
-        (HasEmpty []) (HasEmpty (names_before TableName.Staff)) result }
+        (HasEmpty OfOne []) (HasEmpty OfOne (names_before OfOne TableName.Staff)) result }
     ensures fault { IfErr result IsOfDatabase }
     ensures survives { Survives (state S.Store tx.old.conn.now) (state S.Store tx.new.conn.now)
         (λ _. ⊥) }
@@ -53,7 +55,8 @@ fn make_first_tables<S: Alter>(tx: &mut Transaction<'_, S>) -> Result<(), StoreF
 fn make_next_tables<S: Alter>(tx: &mut Transaction<'_, S>) -> Result<(), StoreFault>
     ensures same_reference { tx.new.conn.ghost_name ≡ tx.old.conn.ghost_name }
     ensures step { StepsTo (state S.Store tx.old.conn.now) (state S.Store tx.new.conn.now)
-        (HasEmpty (names_before TableName.Staff)) (HasEmpty (names_before TableName.Hold)) result }
+        (HasEmpty OfOne (names_before OfOne TableName.Staff))
+        (HasEmpty OfOne (names_before OfOne TableName.Hold)) result }
     ensures fault { IfErr result IsOfDatabase }
     ensures survives { Survives (state S.Store tx.old.conn.now) (state S.Store tx.new.conn.now)
         (λ _. ⊥) }
@@ -67,7 +70,7 @@ fn make_next_tables<S: Alter>(tx: &mut Transaction<'_, S>) -> Result<(), StoreFa
 fn make_tables<S: Alter>(tx: &mut Transaction<'_, S>) -> Result<(), StoreFault>
     ensures same_reference { tx.new.conn.ghost_name ≡ tx.old.conn.ghost_name }
     ensures step { StepsTo (state S.Store tx.old.conn.now) (state S.Store tx.new.conn.now)
-        (HasEmpty []) (HasEmpty all_names) result }
+        (HasEmpty OfOne []) (HasEmpty OfOne (names_in OfOne)) result }
     ensures fault { IfErr result IsOfDatabase }
     ensures survives { Survives (state S.Store tx.old.conn.now) (state S.Store tx.new.conn.now)
         (λ _. ⊥) }

@@ -16,7 +16,7 @@ returns-in_err-rows-clause-step g c clean inside =
     let kept : KeepsCommit old new = query_keeps _ _ old new _ failed in
     let fails : (fault : StoreFault) → fault ≡ fault_of c.in_err-rows.field-0.0 → Fails old new fault = λ fault is. record {
       kept = kept;
-      cause = λ t has ordered. list_cause c.args.table old new _ fault has.schema inside is failed;
+      cause = λ l t has ordered. list_cause l c.args.table old new _ fault has.schema inside is failed;
     } in
     search rules
 
