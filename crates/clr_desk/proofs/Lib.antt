@@ -3,6 +3,7 @@ pub mod TypedRegisters
 pub mod RowsOpened
 pub mod OneCommand
 pub mod Opened
+pub mod AtFault
 pub mod RunSteps
 pub mod Reopenings
 pub mod Keeping

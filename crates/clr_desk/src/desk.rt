@@ -1,6 +1,6 @@
 //! The desk: a book and its store.
-ghost use Rattle.std.specs.Prelude.{◌≡◌, ◌⊎◌, ◌<◌, false, [], ◌∷◌, length, IfErr, IfOk, IfNone, IfSome};
-ghost use Rattle.std.specs.Prelude.{IsErr, IsTrue, MatchResult, Ok, Err, true};
+ghost use Rattle.std.specs.Prelude.{◌≡◌, ◌⊎◌, ◌↔◌, ◌<◌, false, [], ◌∷◌, length, IfErr, IfOk, IfNone};
+ghost use Rattle.std.specs.Prelude.{IfSome, IsErr, IsTrue, MatchResult, None, Ok, Err, true};
 ghost use Rattle.std.specs.List.{list_all, list_any};
 ghost use Rattle.clr_rules.specs.RunHeadline.{IsRun, OthersChangeNoReply, OthersTakeNothing};
 ghost use Rattle.clr_rules.specs.RunHeadline.{OwnStandAlone, with_reply};
@@ -20,6 +20,7 @@ ghost use Rattle.clr_load.specs.declared.fault.StoreFault.{StoreFault};
 ghost use Rattle.clr_tables.specs.RowsRead.{rows_read};
 ghost use Rattle.clr_tables.specs.Tables.{Tables, tables_of};
 ghost use Rattle.clr_tables.specs.TypedRows.{IsTyped, is_typed_command};
+ghost use Rattle.clr_desk.specs.AtFault.{table_at_fault};
 ghost use Rattle.clr_desk.specs.Opening.{OpensAs};
 ghost use Rattle.clr_desk.specs.Answering.{fault_of, replies_of};
 ghost use Rattle.clr_desk.specs.Carrying.{CarriesOut};
@@ -28,6 +29,7 @@ ghost use Rattle.clr_desk.specs.Kept.{Keeps};
 ghost use Rattle.clr_desk.specs.NearRun.{IsNearRun};
 
 use crate::asking::prepare;
+use crate::at_fault::table_in;
 use crate::book::{DeskBook, apply, network_of, opening_book, staff_of};
 use crate::desk_fault::DeskFault;
 use crate::opening::book_in;
@@ -38,8 +40,9 @@ use clr_csv::Staff;
 use clr_net::Network;
 use clr_rules::{Command, Reply};
 use clr_store::{Back, Store};
+use clr_tables::TableName;
 use sqlite::{Alter, Connection};
-use std::alloc::Global;
+use std::alloc::{AllocError, Global};
 
 /// A book in memory and the store of its tables.
 #[derive(Drop)]
@@ -165,6 +168,15 @@ impl<S: Alter + Drop> Desk<S> {
         ensures { result.now ≡ self.now.book }
     {
         &self.book
+    }
+
+    /// The first table whose rows do not fit the others, in the order of points, clearances, steps
+    /// and holds; none exactly where the register is good.
+    pub fn table_at_fault(&self, alloc: Global) -> Result<Option<TableName>, AllocError>
+        ensures good { IfOk result (λ table. (table ≡ None) ↔ IsGood self.now.book.register) }
+        ensures first { IfOk result (λ table. table ≡ table_at_fault self.now.book.register) }
+    {
+        table_in(alloc, &self.book)
     }
 
     /// How many faults the desk has answered since it was opened. At the greatest number the count

@@ -2,6 +2,7 @@
 #![tactic(auto)]
 
 mod asking;
+mod at_fault;
 mod book;
 mod desk;
 mod desk_fault;
