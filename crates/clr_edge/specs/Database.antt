@@ -28,6 +28,10 @@ use Rattle.clr_edge.specs.declared.fault.Fault.TheVariants.{Memory, Store}
 abbrev pub IsOfLine : Fault → Type 0
 IsOfLine fault = (fault ≡ Memory) ⊎ (fault ≡ Store Sql)
 
+-- a database was not opened: memory ran out, or the file refused or failed, and `IsShut` says so
+abbrev pub IsUnopened : Type 0 → Fault → Type 0
+IsUnopened IsShut fault = (fault ≡ Memory) ⊎ ((fault ≡ Store Sql) × IsShut)
+
 -- memory ran out, or the database is at fault, or what it has
 abbrev pub IsOfStore : Fault → Type 0
 IsOfStore fault = (fault ≡ Memory) ⊎ ((cause : StoreFault) × (fault ≡ Store cause))

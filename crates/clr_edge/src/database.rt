@@ -8,7 +8,7 @@ ghost use Rattle.sqlite.specs.State.{Survives};
 ghost use Rattle.clr_rules.specs.Good.{IsGood};
 ghost use Rattle.clr_rules.specs.Register.{Register, opening};
 ghost use Rattle.clr_edge.specs.Database.{HasRegister, IsMade, IsMadeAt, IsOfLine, IsOnlyRead};
-ghost use Rattle.clr_edge.specs.Database.{IsRefused, IsUnmade};
+ghost use Rattle.clr_edge.specs.Database.{IsRefused, IsUnmade, IsUnopened};
 
 use crate::fault::Fault;
 use crate::machine::Machine;
@@ -33,13 +33,16 @@ pub trait Databases {
     /// That the database in a file was opened, and showed this. Only `database` says so.
     ghost is_at: { Self → List ℕ → Database → Type 0 };
 
+    /// That the database in a file could not be opened. Only `database` and `stored` say so.
+    ghost is_shut: { Self → List ℕ → Type 0 };
+
     /// Opens the database in a file. A file that is not there is made, and its database is empty.
     fn database(&self, path: &str) -> Result<Connection<FileStore<Self::Medium>>, Fault>
         ensures at { IfOk result (λ connection.
             is_at self.now path.now (state over_files connection).now) }
         ensures known { IfSome (register_at self.now path.now) (λ R. IfOk result (λ connection.
             HasRegister over_files R connection)) }
-        ensures fault { IfErr result IsOfLine };
+        ensures fault { IfErr result (IsUnopened (is_shut self.now path.now)) };
 
     /// The same of a file that has a database already. One that is not there, or is empty, is
     /// refused, and no file is made or changed.
@@ -48,7 +51,7 @@ pub trait Databases {
             is_at self.now path.now (state over_files connection).now) }
         ensures known { IfSome (register_at self.now path.now) (λ R. IfOk result (λ connection.
             HasRegister over_files R connection)) }
-        ensures fault { IfErr result IsOfLine };
+        ensures fault { IfErr result (IsUnopened (is_shut self.now path.now)) };
 }
 
 impl<'a, S: Start + Copy> Databases for Machine<'a, S> {
@@ -60,9 +63,11 @@ impl<'a, S: Start + Copy> Databases for Machine<'a, S> {
 
     ghost is_at = { λ _ _ _. ⊤ };
 
+    ghost is_shut = { λ _ _. ⊤ };
+
     fn database(&self, path: &str) -> Result<Connection<FileStore<FileFrom<S>>>, Fault>
         ensures at { IfOk result (λ _. ⊤) }
-        ensures fault { IfErr result IsOfLine }
+        ensures fault { IfErr result (IsUnopened ⊤) }
     {
         match Connection::open_from(self.rt, path, false, self.files) {
             Ok(connection) => Ok(connection),
@@ -72,7 +77,7 @@ impl<'a, S: Start + Copy> Databases for Machine<'a, S> {
 
     fn stored(&self, path: &str) -> Result<Connection<FileStore<FileFrom<S>>>, Fault>
         ensures at { IfOk result (λ _. ⊤) }
-        ensures fault { IfErr result IsOfLine }
+        ensures fault { IfErr result (IsUnopened ⊤) }
     {
         expect_bytes(self.rt, path)?;
         self.database(path)

@@ -1,7 +1,10 @@
 //! What takes connections on the machine itself.
-ghost use Rattle.std.specs.Prelude.{◌≡◌, ◌⊎◌, ◌∷◌, ℕ, [], IfErr, ⊤};
+ghost use Rattle.std.specs.Prelude.{◌≡◌, ◌⊎◌, ◌∷◌, ℕ, [], IfErr, IfOk, ⊤};
+ghost use Rattle.std.specs.IoError.{error_kind};
 ghost use Rattle.std.specs.Net.Addr.{IsV4And, ipv4_octets};
 ghost use Rattle.std.specs.Net.Socket.{socket_ip, socket_port};
+ghost use Rattle.std.specs.declared.io.ErrorKind.{ErrorKind};
+ghost use Rattle.clr_edge.specs.declared.loopback.Connection.{Connection as AnyConnection};
 
 use crate::fault::Fault;
 use crate::machine::Machine;
@@ -21,14 +24,27 @@ pub trait Loopback {
     /// That a port could not be had. Only `listen` says so.
     ghost refuses: { Self → ℕ → Type 0 };
 
+    /// That a listener stands on a port. Only `listen` says so.
+    ghost stands: { Self → Self.Listener → ℕ → Type 0 };
+
+    /// That a connection came to a listener. Only `accept` says so.
+    ghost comes: { Self → Self.Listener → AnyConnection Self.Stream → Type 0 };
+
+    /// That a connection could not be taken, for this reason. Only `accept` says so.
+    ghost misses: { Self → Self.Listener → ErrorKind → Type 0 };
+
     /// Listens on a port. `Listen` where another does, or where the system allows none; `Memory`
     /// where memory ran out.
     fn listen(&self, port: u16) -> Result<Self::Listener, Fault>
+        ensures stands { IfOk result (λ listener. stands self.now listener port) }
         ensures fault { IfErr result (λ fault. (fault ≡ Fault.Memory)
             ⊎ ((fault ≡ Fault.Listen) × refuses self.now port)) };
 
     /// Waits for the next connection on a port.
-    fn accept(&self, listener: &Self::Listener) -> io::Result<Connection<Self::Stream>>;
+    fn accept(&self, listener: &Self::Listener) -> io::Result<Connection<Self::Stream>>
+        ensures comes { IfOk result (comes self.now listener.now) }
+        ensures misses { IfErr result (λ error.
+            misses self.now listener.now (error_kind error)) };
 }
 
 /// A connection, which is closed once both handles are let go.
@@ -47,7 +63,14 @@ impl<'a, S: Start> Loopback for Machine<'a, S> {
 
     ghost refuses = { λ _ _. ⊤ };
 
+    ghost stands = { λ _ _ _. ⊤ };
+
+    ghost comes = { λ _ _ _. ⊤ };
+
+    ghost misses = { λ _ _ _. ⊤ };
+
     fn listen(&self, port: u16) -> Result<TcpListener, Fault>
+        ensures stands { IfOk result (λ _. ⊤) }
         ensures fault { IfErr result (λ fault. (fault ≡ Fault.Memory)
             ⊎ ((fault ≡ Fault.Listen) × ⊤)) }
     {
@@ -60,7 +83,10 @@ impl<'a, S: Start> Loopback for Machine<'a, S> {
         }
     }
 
-    fn accept(&self, listener: &TcpListener) -> io::Result<Connection<TcpStream>> {
+    fn accept(&self, listener: &TcpListener) -> io::Result<Connection<TcpStream>>
+        ensures comes { IfOk result (λ _. ⊤) }
+        ensures misses { IfErr result (λ _. ⊤) }
+    {
         let (reader, _) = listener.accept()?;
         let writer = reader.try_clone()?;
         Ok(Connection { reader, writer })

@@ -1,5 +1,5 @@
 //! The machine that the program runs on: its memory, its files, its databases and its ports.
-ghost use Rattle.std.specs.Prelude.{[], true};
+ghost use Rattle.std.specs.Prelude.{◌≡◌, [], true};
 
 use crate::paths::{AtPath, Opens, Paths};
 use sqlite::Start;
@@ -16,7 +16,10 @@ pub struct Machine<'a, S: Start> {
 
 impl<'a, S: Start> Machine<'a, S> {
     /// The machine of a runtime.
-    pub fn new(rt: &'a HostRuntime, files: S) -> Machine<'a, S> {
+    pub fn new(rt: &'a HostRuntime, files: S) -> Machine<'a, S>
+        ensures runtime { result.rt ≡ rt.entry }
+        ensures files { result.files ≡ files }
+    {
         Machine { rt, files }
     }
 }

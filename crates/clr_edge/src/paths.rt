@@ -27,7 +27,9 @@ pub struct Paths<'a, R> {
 
 impl<'a, R> Paths<'a, R> {
     /// Paths that `rt` opens.
-    pub fn new(rt: &'a R) -> Paths<'a, R> {
+    pub fn new(rt: &'a R) -> Paths<'a, R>
+        ensures { result.rt ≡ rt.entry }
+    {
         Paths { rt }
     }
 }
