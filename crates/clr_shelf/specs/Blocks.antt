@@ -51,7 +51,8 @@ pub record IsJoin (at : ℕ) (apart together : ℕ → ℕ) : Type 0 where
   pub after : (k : ℕ) → at < k → together k ≡ apart (k + 1)
 
 -- the first `used` parts have items, and for each of them it is known how many stand before it
-pub record HasStarts {T : Type 0} (used : ℕ) (starts : List ℕ) (parts : List (List T)) : Type 0 where
+pub record HasStarts {T : Type 0} (used : ℕ) (starts : List ℕ) (parts : List (List T))
+    : Type 0 where
   pub each_has : length starts ≡ length parts
   pub within : used ≤ length parts
   pub first : slice_index_or starts 0 0 ≡ 0

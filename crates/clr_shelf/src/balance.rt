@@ -70,6 +70,9 @@ fn join<T: Drop>(blocks: &mut Vec<Block<T>>, k: usize)
 }
 
 /// Spreads the items of a block that may have one too many.
+///
+/// The next block is asked first: behind the last one that has items it is empty, so items that are
+/// put in their order move no others.
 pub(crate) fn settle<T: Drop>(blocks: &mut Vec<Block<T>>, k: usize)
     requires in_range { k + 1 < vec_len blocks.old }
     requires spare { size_at (parts_of blocks.old.items) (vec_len blocks.old - 1) ≡ 0 }

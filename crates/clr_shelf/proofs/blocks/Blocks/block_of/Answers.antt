@@ -1,5 +1,4 @@
-use Rattle.std.proofs.Common.{◌≡◌, ◌+◌, ◌-◌, ◌<◌, length, arith}
-use Rattle.std.proofs.lemmas.List.{get_or_read}
+use Rattle.std.proofs.Common.{◌-◌, arith}
 use Rattle.clr_shelf.proofs.Listed.{some_used, last_ends}
 use Rattle.clr_shelf.proofs.blocks.Blocks.block_of.Goals as goal
 
@@ -15,5 +14,9 @@ pub returns-then-index-place-clause-to : goal.returns-then-index-place-clause-to
 returns-then-index-place-clause-to g c =
     let list = c.args.self.now in
     let some = some_used list (omega (arith, c.requires)) in
-    omega (arith, c.requires, last_ends list (list.used - 1) (omega (arith, some))
-    (omega (arith, some)))
+    omega (
+      arith,
+      c.requires,
+      last_ends list (list.used - 1) (omega (arith, some))
+          (omega (arith, some)),
+    )

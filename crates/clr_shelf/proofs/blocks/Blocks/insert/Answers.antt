@@ -18,7 +18,8 @@ settle-requires-clause-spare g c =
 pub settle-requires-clause-crowded : goal.settle-requires-clause-crowded
 settle-requires-clause-crowded g c = put_crowds c.args.self.now c.block_for-k.result c.args.place
     c.index.result.now c.index_mut.result.now
-    (omega (arith, c.block_for-k.ensures.spare_after)) c.block_for-k.ensures.used c.index_mut.ensures.value c.index.ensures
+    (omega (arith, c.block_for-k.ensures.spare_after)) c.block_for-k.ensures.used
+    c.index_mut.ensures.value c.index.ensures
     c.block_for-k.ensures.from c.put.new.self c.args.item
     c.block_for-k.ensures.to c.put.ensures
 
@@ -27,7 +28,8 @@ count_starts-self-requires-clause-fits g c =
     let list = c.args.self.now in
     let put = c.settle.ensures.items ∙ put_items list c.block_for-k.result c.args.place
     c.index.result.now c.index_mut.result.now
-    (omega (arith, c.block_for-k.ensures.spare_after)) c.block_for-k.ensures.used c.index_mut.ensures.value c.index.ensures
+    (omega (arith, c.block_for-k.ensures.spare_after)) c.block_for-k.ensures.used
+    c.index_mut.ensures.value c.index.ensures
     c.block_for-k.ensures.from c.put.new.self c.args.item
     c.block_for-k.ensures.to c.put.ensures in
     let more = ap length put ∙ length-insert (items_of list) c.args.place c.args.item
@@ -39,7 +41,8 @@ invariant_of-self g c =
     let list = c.args.self.now in
     let put = c.settle.ensures.items ∙ put_items list c.block_for-k.result c.args.place
     c.index.result.now c.index_mut.result.now
-    (omega (arith, c.block_for-k.ensures.spare_after)) c.block_for-k.ensures.used c.index_mut.ensures.value c.index.ensures
+    (omega (arith, c.block_for-k.ensures.spare_after)) c.block_for-k.ensures.used
+    c.index_mut.ensures.value c.index.ensures
     c.block_for-k.ensures.from c.put.new.self c.args.item
     c.block_for-k.ensures.to c.put.ensures in
     let more = ap length put ∙ length-insert (items_of list) c.args.place c.args.item
@@ -57,7 +60,8 @@ pub returns-clause-items : goal.returns-clause-items
 returns-clause-items g c = c.settle.ensures.items
     ∙ put_items c.args.self.now c.block_for-k.result c.args.place c.index.result.now
     c.index_mut.result.now
-    (omega (arith, c.block_for-k.ensures.spare_after)) c.block_for-k.ensures.used c.index_mut.ensures.value c.index.ensures
+    (omega (arith, c.block_for-k.ensures.spare_after)) c.block_for-k.ensures.used
+    c.index_mut.ensures.value c.index.ensures
     c.block_for-k.ensures.from c.put.new.self c.args.item
     c.block_for-k.ensures.to c.put.ensures
 

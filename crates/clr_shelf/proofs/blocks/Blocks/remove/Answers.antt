@@ -7,7 +7,8 @@ use Rattle.clr_shelf.proofs.blocks.Blocks.remove.Goals as goal
 pub merge-requires-clause-thinned : goal.merge-requires-clause-thinned
 merge-requires-clause-thinned g c = take_thins c.args.self.now c.block_of-k.result c.args.place
     c.index.result.now c.index_mut.result.now
-    c.block_of-k.ensures.in_range (λ later. c.block_of-k.ensures.used) c.index_mut.ensures.value c.index.ensures
+    c.block_of-k.ensures.in_range (λ later. c.block_of-k.ensures.used)
+    c.index_mut.ensures.value c.index.ensures
     c.block_of-k.ensures.from c.take-item.new.self
     c.block_of-k.ensures.to c.take-item.ensures.items
 
@@ -16,7 +17,8 @@ count_starts-self-requires-clause-fits g c =
     let list = c.args.self.now in
     let taken = c.merge.ensures.items ∙ take_items list c.block_of-k.result c.args.place
     c.index.result.now c.index_mut.result.now
-    c.block_of-k.ensures.in_range (λ later. c.block_of-k.ensures.used) c.index_mut.ensures.value c.index.ensures
+    c.block_of-k.ensures.in_range (λ later. c.block_of-k.ensures.used)
+    c.index_mut.ensures.value c.index.ensures
     c.block_of-k.ensures.from c.take-item.new.self
     c.block_of-k.ensures.to c.take-item.ensures.items in
     let less = ap (λ xs. length xs + 1) taken ∙ length-remove (items_of list) c.args.place
@@ -28,7 +30,8 @@ invariant_of-self g c =
     let list = c.args.self.now in
     let taken = c.merge.ensures.items ∙ take_items list c.block_of-k.result c.args.place
     c.index.result.now c.index_mut.result.now
-    c.block_of-k.ensures.in_range (λ later. c.block_of-k.ensures.used) c.index_mut.ensures.value c.index.ensures
+    c.block_of-k.ensures.in_range (λ later. c.block_of-k.ensures.used)
+    c.index_mut.ensures.value c.index.ensures
     c.block_of-k.ensures.from c.take-item.new.self
     c.block_of-k.ensures.to c.take-item.ensures.items in
     let less = ap (λ xs. length xs + 1) taken ∙ length-remove (items_of list) c.args.place
@@ -45,7 +48,8 @@ invariant_of-self g c =
 pub returns-clause-item : goal.returns-clause-item
 returns-clause-item g c = item_read c.args.self.now c.block_of-k.result c.args.place
     c.index.result.now c.index_mut.result.now
-    c.block_of-k.ensures.in_range (λ later. c.block_of-k.ensures.used) c.index_mut.ensures.value c.index.ensures
+    c.block_of-k.ensures.in_range (λ later. c.block_of-k.ensures.used)
+    c.index_mut.ensures.value c.index.ensures
     c.block_of-k.ensures.from c.take-item.result
     c.block_of-k.ensures.to c.take-item.ensures.item
 
@@ -53,7 +57,8 @@ pub returns-clause-items : goal.returns-clause-items
 returns-clause-items g c = c.merge.ensures.items
     ∙ take_items c.args.self.now c.block_of-k.result c.args.place c.index.result.now
     c.index_mut.result.now
-    c.block_of-k.ensures.in_range (λ later. c.block_of-k.ensures.used) c.index_mut.ensures.value c.index.ensures
+    c.block_of-k.ensures.in_range (λ later. c.block_of-k.ensures.used)
+    c.index_mut.ensures.value c.index.ensures
     c.block_of-k.ensures.from c.take-item.new.self
     c.block_of-k.ensures.to c.take-item.ensures.items
 

@@ -9,23 +9,27 @@ invariant_of-self g c =
     let list = c.args.self.now in
     let written = write_items list c.block_of-k.result c.args.place c.index.result.now
     c.index_mut.result.now
-    c.block_of-k.ensures.in_range (λ later. c.block_of-k.ensures.used) c.index_mut.ensures.value c.index.ensures
+    c.block_of-k.ensures.in_range (λ later. c.block_of-k.ensures.used)
+    c.index_mut.ensures.value c.index.ensures
     c.block_of-k.ensures.from c.replace.new.self c.args.item
     c.block_of-k.ensures.to c.replace.ensures.items in
     record {
       spread = write_spreads list c.block_of-k.result c.args.place c.index.result.now
           c.index_mut.result.now
-          c.block_of-k.ensures.in_range (λ later. c.block_of-k.ensures.used) c.index_mut.ensures.value c.index.ensures
+          c.block_of-k.ensures.in_range (λ later. c.block_of-k.ensures.used)
+          c.index_mut.ensures.value c.index.ensures
           c.block_of-k.ensures.from c.replace.new.self c.args.item
           c.block_of-k.ensures.to c.replace.ensures.items;
       begun = write_begins list c.block_of-k.result c.args.place c.index.result.now
           c.index_mut.result.now
-          c.block_of-k.ensures.in_range (λ later. c.block_of-k.ensures.used) c.index_mut.ensures.value c.index.ensures
+          c.block_of-k.ensures.in_range (λ later. c.block_of-k.ensures.used)
+          c.index_mut.ensures.value c.index.ensures
           c.block_of-k.ensures.from c.replace.new.self c.args.item
           c.block_of-k.ensures.to c.replace.ensures.items;
       ended = write_ends list c.block_of-k.result c.args.place c.index.result.now
           c.index_mut.result.now
-          c.block_of-k.ensures.in_range (λ later. c.block_of-k.ensures.used) c.index_mut.ensures.value
+          c.block_of-k.ensures.in_range (λ later. c.block_of-k.ensures.used)
+          c.index_mut.ensures.value
           c.index.ensures
           c.block_of-k.ensures.from c.replace.new.self c.args.item
           c.block_of-k.ensures.to c.replace.ensures.items;
@@ -38,13 +42,15 @@ invariant_of-self g c =
 pub returns-clause-old : goal.returns-clause-old
 returns-clause-old g c = item_read c.args.self.now c.block_of-k.result c.args.place
     c.index.result.now c.index_mut.result.now
-    c.block_of-k.ensures.in_range (λ later. c.block_of-k.ensures.used) c.index_mut.ensures.value c.index.ensures
+    c.block_of-k.ensures.in_range (λ later. c.block_of-k.ensures.used)
+    c.index_mut.ensures.value c.index.ensures
     c.block_of-k.ensures.from c.replace.result
     c.block_of-k.ensures.to c.replace.ensures.old
 
 pub returns-clause-items : goal.returns-clause-items
 returns-clause-items g c = write_items c.args.self.now c.block_of-k.result c.args.place
     c.index.result.now c.index_mut.result.now
-    c.block_of-k.ensures.in_range (λ later. c.block_of-k.ensures.used) c.index_mut.ensures.value c.index.ensures
+    c.block_of-k.ensures.in_range (λ later. c.block_of-k.ensures.used)
+    c.index_mut.ensures.value c.index.ensures
     c.block_of-k.ensures.from c.replace.new.self c.args.item
     c.block_of-k.ensures.to c.replace.ensures.items
