@@ -1,6 +1,6 @@
 //! Rows that go by a name: their order, the place of a name, and a name that stands twice.
-ghost use Rattle.std.specs.Prelude.{◌≡◌, ◌<◌, ℕ, List, find, length, map, position, IfOk, IfSome};
-ghost use Rattle.std.specs.Prelude.{IfNone, IsTrue};
+ghost use Rattle.std.specs.Prelude.{◌≡◌, ◌<◌, ◌≤◌, ℕ, List, find, length, map, position, IfOk, IfSome};
+ghost use Rattle.std.specs.Prelude.{IfNone, IsTrue, vec_capacity};
 ghost use Rattle.std.specs.List.{IsDistinct};
 ghost use Rattle.std.specs.Option.{option_copied};
 ghost use Rattle.std.specs.List.Sorted.{IsPermutation, IsStrictlySortedBy, IsSortedByKey};
@@ -25,17 +25,24 @@ pub fn sort_by_name<R: Named>(rows: &mut Vec<R>)
     ensures sorted { IsSortedByKey R.name_of name_cmp rows.new.items }
     ensures rising { IsDistinct same_name (map R.name_of rows.old.items)
         → IsStrictlySortedBy name_cmp (map R.name_of rows.new.items) }
+    ensures capacity { vec_capacity rows.new ≡ vec_capacity rows.old }
 {
     rows.sort_unstable_by_key(|row| row.name());
 }
 
-/// The same rows, in the order of their names.
-pub(crate) fn in_order<R: Named + Copy>(alloc: Global, rows: &[R]) -> Result<Vec<R>, AllocError>
+/// The same rows, in the order of their names, in a list with room for this many.
+pub(crate) fn in_order<R: Named + Copy>(
+    alloc: Global,
+    rows: &[R],
+    room: usize,
+) -> Result<Vec<R>, AllocError>
     ensures permutation { IfOk result (λ ordered. IsPermutation rows.now ordered.items) }
     ensures rising { IfOk result (λ ordered. IsDistinct same_name (map R.name_of rows.now)
         → IsStrictlySortedBy name_cmp (map R.name_of ordered.items)) }
+    ensures room { IfOk result (λ ordered. room ≤ vec_capacity ordered) }
 {
-    let mut ordered = Vec::from_slice(alloc, rows)?;
+    let mut ordered = Vec::with_capacity(alloc, room)?;
+    ordered.extend_from_slice(rows)?;
     sort_by_name(&mut ordered);
     Ok(ordered)
 }

@@ -29,6 +29,8 @@ pub const MAX_SECTIONS: usize = 5000;
 pub const MAX_POINTS: usize = 10000;
 
 /// An electric network: an undirected graph of sections, joined by switching points.
+///
+/// Whatever its size it has the memory of the greatest one.
 #[derive(Debug, Drop)]
 pub struct Network {
     sections: Vec<SectionRow>,
@@ -37,8 +39,9 @@ pub struct Network {
 }
 
 impl Model for Network {
+    ghost use Rattle.std.specs.Prelude.{◌≤◌, vec_capacity};
     ghost use Rattle.clr_net.specs.Grid.{Grid, IsNetwork};
-    ghost use Rattle.clr_net.specs.Ways.{IsIndexOf};
+    ghost use Rattle.clr_net.specs.Ways.{HasRoom, IsIndexOf};
 
     ghost Value = { Grid };
 
@@ -46,7 +49,10 @@ impl Model for Network {
 
     ghost invariant = { λ n.
         IsNetwork (record { sections = n.sections.items; points = n.points.items })
-        × IsIndexOf (record { sections = n.sections.items; points = n.points.items }) n.ways };
+        × IsIndexOf (record { sections = n.sections.items; points = n.points.items }) n.ways
+        × HasRoom n.ways
+        × (5000 ≤ vec_capacity n.sections)
+        × (10000 ≤ vec_capacity n.points) };
 }
 
 impl Network {
@@ -59,8 +65,8 @@ impl Network {
         ensures { Builds sections.items points.items result }
     {
         check_size(&sections, &points)?;
-        let ordered = in_order(alloc, &sections)?;
-        let ordered_points = in_order(alloc, &points)?;
+        let ordered = in_order(alloc, &sections, MAX_SECTIONS)?;
+        let ordered_points = in_order(alloc, &points, MAX_POINTS)?;
         check_names(alloc, &sections, &ordered, &points, &ordered_points)?;
         let mut ways = Ways::empty(alloc)?;
         let all_known = ways.fill(&ordered, &ordered_points)?;

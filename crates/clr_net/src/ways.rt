@@ -1,11 +1,12 @@
 //! The index of a network: the places of each point's ends, and the ways out of all sections in one
 //! list, so that it is filled anew within the memory that it has.
-ghost use Rattle.std.specs.Prelude.{◌≡◌, ◌<◌, ℕ, length, map, IfOk, IfSome, IsTrue, OnOk, is_some};
+ghost use Rattle.std.specs.Prelude.{◌≡◌, ◌<◌, ◌≤◌, ◌+◌, ℕ, length, map, IfOk, IfSome, IsOk};
+ghost use Rattle.std.specs.Prelude.{IsTrue, OnOk, is_some, vec_capacity};
 ghost use Rattle.std.specs.List.{list_all};
 ghost use Rattle.std.specs.List.Sorted.{IsNonDecreasingBy, IsStrictlySortedBy};
 ghost use Rattle.clr_net.specs.Name.{name_cmp};
 ghost use Rattle.clr_net.specs.Grid.{section_names, has_ends};
-ghost use Rattle.clr_net.specs.Ways.{HasStarts, IsIndexOf};
+ghost use Rattle.clr_net.specs.Ways.{HasRoom, HasStarts, IsIndexOf};
 ghost use Rattle.clr_net.specs.Index.{ends_in, ways_in, out_at, AreStarts, IsAround};
 
 use crate::named::place_of;
@@ -64,7 +65,9 @@ pub struct Ways {
 
 impl Ways {
     /// An index of nothing, with room for that of any network.
-    pub fn empty(alloc: Global) -> Result<Ways, AllocError> {
+    pub fn empty(alloc: Global) -> Result<Ways, AllocError>
+        ensures { IfOk result HasRoom }
+    {
         Ok(Ways {
             ends: Vec::with_capacity(alloc, MAX_POINTS)?,
             out: Vec::with_capacity(alloc, 2 * MAX_POINTS)?,
@@ -73,13 +76,17 @@ impl Ways {
     }
 
     /// Fills the index anew, where all ends of these points are among these sections, and tells
-    /// whether they are. Sections and points stand in the order of their names.
+    /// whether they are. Sections and points stand in the order of their names. Within the limits
+    /// of a network this needs no memory.
     pub fn fill(&mut self, sections: &[SectionRow], points: &[PointRow]) -> Result<bool, AllocError>
         requires { IsStrictlySortedBy name_cmp (section_names sections.now) }
         ensures known { IfOk result (λ known. known
             ≡ list_all (has_ends (section_names sections.now)) points.now) }
         ensures index { IfOk result (λ known. IsTrue known
             → IsIndexOf (record { sections = sections.now; points = points.now }) self.new) }
+        ensures room { HasRoom self.old → HasRoom self.new }
+        ensures succeeds { HasRoom self.old → length sections.now ≤ 5000
+            → length points.now ≤ 10000 → IsOk result }
     {
         if !fill_ends(&mut self.ends, sections, points)? {
             return Ok(false);
@@ -111,6 +118,8 @@ fn fill_ends(
         ≡ list_all (has_ends (section_names sections.now)) points.now) }
     ensures ends { IfOk result (λ known. IsTrue known
         → ends.new.items ≡ map (ends_in (section_names sections.now)) points.now) }
+    ensures room { vec_capacity ends.old ≤ vec_capacity ends.new }
+    ensures succeeds { length points.now ≤ vec_capacity ends.old → IsOk result }
 {
     ends.clear();
     for point in points {
@@ -127,6 +136,8 @@ fn fill_out(out: &mut Vec<Out>, ends: &[Ends]) -> Result<(), AllocError>
     ensures around { OnOk result
         (IsAround ends.now (length ends.now) (ways_in out.new.items)) }
     ensures rising { OnOk result (IsNonDecreasingBy (λ o. o.from) out.new.items) }
+    ensures room { vec_capacity out.old ≤ vec_capacity out.new }
+    ensures succeeds { length ends.now + length ends.now ≤ vec_capacity out.old → IsOk result }
 {
     out.clear();
     for (point, end) in ends.iter().enumerate() {
@@ -150,7 +161,9 @@ fn way_out(point: usize, from: usize, to: usize) -> Out
 /// Where the ways out of each of `count` sections begin, and the end of the last ones.
 fn fill_starts(starts: &mut Vec<usize>, out: &[Out], count: usize) -> Result<(), AllocError>
     requires { IsNonDecreasingBy (λ o. o.from) out.now }
-    ensures { OnOk result (AreStarts count out.now starts.new.items) }
+    ensures starts { OnOk result (AreStarts count out.now starts.new.items) }
+    ensures room { vec_capacity starts.old ≤ vec_capacity starts.new }
+    ensures succeeds { count < vec_capacity starts.old → IsOk result }
 {
     starts.clear();
     for place in 0..=count {

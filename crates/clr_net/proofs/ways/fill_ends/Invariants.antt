@@ -1,4 +1,5 @@
-use Rattle.std.proofs.Common.{◌≡◌, map, take, true}
+use Rattle.std.proofs.Common.{◌≡◌, ◌≤◌, map, take, true, vec_len}
+use Rattle.std.specs.Prelude.{vec_capacity}
 use Rattle.std.specs.List.{list_all}
 use Rattle.clr_net.specs.Grid.{has_ends, section_names}
 use Rattle.clr_net.specs.Index.{ends_in}
@@ -8,4 +9,6 @@ abbrev pub invariant-loop-point : goal.invariant-loop-point
 invariant-loop-point l = record {
   ends : l.ends.items ≡ map (ends_in (section_names l.sections)) (take l.point-index l.points);
   known : list_all (has_ends (section_names l.sections)) (take l.point-index l.points) ≡ true;
+  len : vec_len l.ends ≡ l.point-index;
+  room : vec_capacity l.initial.ends ≤ vec_capacity l.ends;
 }

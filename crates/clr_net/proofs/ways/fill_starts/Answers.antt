@@ -14,10 +14,11 @@ loop-place-preserved c =
       len = omega (arith, c.in_ok-push.ensures.len, c.loop-place.invariant.len);
       each = rw c.in_ok-push.ensures.items (starts_more c.args.out.now c.loop-place.starts.items place c.partition_point-start.result
           (omega (arith, c.loop-place.starts.ok, c.loop-place.invariant.len)) c.loop-place.invariant.each (c.partition_point-start.ensures.bound, point));
+      room = omega (arith, c.in_ok-push.ensures.capacity, c.loop-place.invariant.room);
     }
 
-pub returns-in_ok-push : goal.returns-in_ok-push
-returns-in_ok-push c =
+pub returns-in_ok-push-clause-starts : goal.returns-in_ok-push-clause-starts
+returns-in_ok-push-clause-starts c =
     let place = c.loop-place.place-counter in
     let parted = IsPartitionedBy-ltb (λ (o : Out). o.from) c.args.out.now place c.requires in
     let point = IsPartitionPoint-from_clause (λ (o : Out). nat_lt o.from place) c.args.out.now _ c.partition_point-start.ensures.partitioned parted (λ a r q k. search rules) in

@@ -50,8 +50,13 @@ network_is c = network_from c.args.sections.items c.in_ok-ordered.ordered.items 
     (rw c.deref-12.ensures.value at c.in_ok-check_ends.ensures.differ)
 
 pub invariant_of-result : goal.invariant_of-result
-invariant_of-result c = let d = (goal.at.invariant_of-result c).In_ok-check_ends in
-    (network_is d, rw (c.deref-9.ensures.value, c.deref-10.ensures.value) at (c.in_ok-all_known.ensures.index (all_known d)))
+invariant_of-result c = let d = (goal.at.invariant_of-result c).In_ok-check_ends in (
+  network_is d,
+  rw (c.deref-9.ensures.value, c.deref-10.ensures.value) at (c.in_ok-all_known.ensures.index (all_known d)),
+  c.in_ok-all_known.ensures.room c.in_ok-ways.ensures,
+  c.in_ok-ordered.ensures.room,
+  c.in_ok-ordered_points.ensures.room,
+)
 
 pub returns : goal.returns
 returns c =

@@ -18,7 +18,8 @@ picked : (c : goal.In_ok-touching) → record {
 } ≡ fence_of (record { sections = c.self.inside.sections.items; points = c.self.inside.points.items }) c.args.work.now c.args.cut.now
 picked c =
     let g : Grid = record { sections = c.self.inside.sections.items; points = c.self.inside.points.items } in
-    let (net, index) = c.self.invariant in
+    let net = c.self.invariant.0 in
+    let index = c.self.invariant.1 in
     picked_fence g net c.self.inside.ways index c.args.work.now c.args.cut.now c.in_ok-inside.inside.items c.in_ok-beside.beside.items
     c.in_ok-inside.ensures.rising (rw (c.deref.ensures.value, c.deref-2.ensures.value) at c.in_ok-inside.ensures.fence) (rw c.deref.ensures.value at c.in_ok-inside.ensures.inside)
     c.in_ok-beside.ensures.rising (rw c.deref-3.ensures.value at c.in_ok-beside.ensures.same)
@@ -43,7 +44,8 @@ of_rows-requires-clause-points_rise c =
 pub returns-clause-rows : goal.returns-clause-rows
 returns-clause-rows c =
     let g : Grid = record { sections = c.self.inside.sections.items; points = c.self.inside.points.items } in
-    let (net, index) = c.self.invariant in
+    let net = c.self.invariant.0 in
+    let index = c.self.invariant.1 in
     let rows = picked_fence g net c.self.inside.ways index c.args.work.now c.args.cut.now c.in_ok-inside.inside.items c.in_ok-beside.beside.items
     c.in_ok-inside.ensures.rising (rw (c.deref.ensures.value, c.deref-2.ensures.value) at c.in_ok-inside.ensures.fence) (rw c.deref.ensures.value at c.in_ok-inside.ensures.inside)
     c.in_ok-beside.ensures.rising (rw c.deref-3.ensures.value at c.in_ok-beside.ensures.same) in
