@@ -2,8 +2,7 @@
 -- byte.
 use Rattle.std.specs.Prelude.{◌≡◌, ℕ, Bool, true, List, map, filter, Err}
 use Rattle.clr_rules.specs.Agreement.{Agree}
-use Rattle.clr_rules.specs.Footprint.{Frame}
-use Rattle.clr_rules.specs.Isolation.{HeldStayOpen, ShowTheSame, ShowsOwnAlone}
+use Rattle.clr_rules.specs.Isolation.{LeftAlone, ShowTheSame, ShowsOwnAlone}
 use Rattle.clr_rules.specs.Id.{Id}
 use Rattle.clr_rules.specs.Register.{Register}
 use Rattle.clr_rules.specs.declared.reply.Reply.{Reply}
@@ -52,8 +51,7 @@ SameShownSameBytes = (c : Id) (inside : List ℕ → Bool) (R T : Register)
 abbrev pub OthersLinesTakeNothing : Type 0
 OthersLinesTakeNothing = (R : Register) (earlier : List (List ℕ)) (c : Id) (line : List ℕ)
     → IsReached R → is_others_line c (after_lines R earlier) line ≡ true
-    → Frame c (after_lines R earlier) (after_line (after_lines R earlier) line)
-    × HeldStayOpen c (after_line (after_lines R earlier) line)
+    → LeftAlone c (after_lines R earlier) (after_line (after_lines R earlier) line)
 
 -- THE CONSEQUENCE: where no line of others marks the set, a clearance's own lines are answered
 -- with the bytes that they give alone
