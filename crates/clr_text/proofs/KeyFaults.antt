@@ -3,9 +3,8 @@ use Rattle.std.proofs.Common.{◌≡◌, ℕ, Bool, true, false, not, List, [], 
 use Rattle.serde_json.specs.Data.{Data, Members}
 use Rattle.serde_json.specs.Find.{as_object}
 use Rattle.clr_text.specs.Answers.{◌>>=◌}
-use Rattle.clr_text.specs.CommandKeys.{keys_of, word_named}
 use Rattle.clr_text.specs.KeyLaws.{LeastBadValueIsNamed, LeastMissingIsNamed, fits, lacks}
-use Rattle.clr_text.specs.Kinds.{kind_in}
+use Rattle.clr_text.specs.Kinds.{keys_of, kind_in, word_named}
 use Rattle.clr_text.specs.Reading.{all_keys, command_in, is_key_of, none_missing, no_others, read_command, text_at_do, value_of, values_in, word_in}
 use Rattle.clr_text.specs.Values.{value_at}
 use Rattle.clr_text.specs.declared.fault.TextFault.{TextFault}

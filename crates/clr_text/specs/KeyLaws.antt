@@ -6,7 +6,7 @@ use Rattle.std.specs.Cmp.Lexicographic.{slice_cmp}
 use Rattle.std.specs.Ordering.{is_le, nat_cmp}
 use Rattle.serde_json.specs.Data.{Data}
 use Rattle.clr_shelf.specs.Rows.{in_key_order}
-use Rattle.clr_text.specs.CommandKeys.{keys_of}
+use Rattle.clr_text.specs.Kinds.{keys_of}
 use Rattle.clr_text.specs.Keys.{key_text}
 use Rattle.clr_text.specs.Reading.{read_command, text_at_do, value_of, word_in}
 use Rattle.clr_text.specs.Values.{clearance_at, flag_at, moment_at, name_at, points_at, step_at}

@@ -1,5 +1,4 @@
 pub mod Keys
-pub mod CommandKeys
 pub mod Answers
 pub mod Values
 pub mod Kinds

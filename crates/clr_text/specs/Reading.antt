@@ -9,9 +9,8 @@ use Rattle.serde_json.specs.Find.{as_object, as_str}
 use Rattle.serde_json.specs.Read.{read}
 use Rattle.clr_rules.specs.declared.command.Command.{Command}
 use Rattle.clr_text.specs.Answers.{◌>>=◌}
-use Rattle.clr_text.specs.CommandKeys.{keys_of, word_named}
 use Rattle.clr_text.specs.Keys.{key_text}
-use Rattle.clr_text.specs.Kinds.{kind_in}
+use Rattle.clr_text.specs.Kinds.{keys_of, kind_in, word_named}
 use Rattle.clr_text.specs.Values.{moment_at, name_at, value_at}
 use Rattle.clr_text.specs.declared.fault.TextFault.{TextFault}
 use Rattle.clr_text.specs.declared.fault.TextFault.TheVariants.{BadValue, MissingKey, NotJson}

@@ -1,6 +1,6 @@
 //! The words that name the commands.
 ghost use Rattle.std.specs.Prelude.{◌≡◌};
-ghost use Rattle.clr_text.specs.CommandKeys.{keys_of, word_named, word_text};
+ghost use Rattle.clr_text.specs.Kinds.{keys_of, word_named, word_text};
 
 use crate::key::Key;
 
