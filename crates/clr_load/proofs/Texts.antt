@@ -276,7 +276,7 @@ meta_unlisted others = ap misses_table (meta_reads others)
 
 pub create_text : (l : Layout) (name : TableName)
     → statement_of (create_sql name)
-        (understood (schema_of l (names_before l name)) (create_sql name)) ≡ create_sql name
+    (understood (schema_of l (names_before l name)) (create_sql name)) ≡ create_sql name
 create_text l name =
     ap (statement_of (create_sql name)) (understood_as _ _ _ (create_reads l name))
     ∙ take_all (length (create_sql name) - 0) (create_sql name) (omega arith)

@@ -14,12 +14,10 @@ use Rattle.clr_net.specs.NameText.{read_name}
 use Rattle.clr_net.proofs.Names.{name_is_text}
 use Rattle.clr_csv.specs.Rows.{◌>>=◌}
 use Rattle.clr_tables.proofs.ColumnsRead.{name_is_not_read}
-use Rattle.clr_csv.specs.declared.employee.Role.{Role}
 use Rattle.clr_rules.specs.HoldKind.{all_hold_kinds, hold_kind_named, hold_kind_text}
-use Rattle.clr_rules.specs.Id.{Id}
 use Rattle.clr_rules.specs.Phase.{all_phases, phase_named, phase_text}
 use Rattle.clr_order.specs.Action.{all_actions}
-use Rattle.clr_tables.specs.RowsRead.{id_at, id_unless_null, name_at, name_if_read, name_unless_null, text_at, text_of, word_at}
+use Rattle.clr_tables.specs.RowsRead.{id_at, id_unless_null, name_at, name_if_read, name_unless_null, text_of, word_at}
 use Rattle.clr_tables.specs.Words.{action_name, action_named, all_roles, all_states, role_word, role_worded, state_name, state_named}
 use Rattle.clr_tables.specs.declared.table_name.TableName.{TableName}
 use Rattle.clr_tables.specs.declared.table_name.TableName.TheVariants.{Point}

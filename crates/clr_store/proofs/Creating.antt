@@ -246,7 +246,3 @@ pub whole : (a b c : State) (g : Grid) (staff : List StaffRow) → IsNetwork g �
 whole a b c g staff net is_staff bare made changes =
     let none : HasEmpty OfOne [] a.now = record { schema = bare; empty = tt } in
     fills c.now g staff net is_staff (changes.tables OfOne no_tables (has_none OfOne b.now (made.makes none) (made.sound none)))
-
--- a disk that is clean at the end was clean before
-pub still_clean : (mid end : State) → doubt mid.is_clean ≤ doubt end.is_clean → HasCleanDisk end → HasCleanDisk mid
-still_clean mid end less clean = omega (arith, less, clean)

@@ -1,7 +1,7 @@
 -- What INSERT and DELETE make of the trees, whatever the table.
 use Rattle.std.proofs.Common.{◌≡◌, ◌≢◌, ◌⊎◌, inl, inr, ℕ, suc, ◌/◌, List, [], ◌∷◌, ◌++◌, map, length, Bool, true, false, cond, not, ◌&&◌, Option, Some, None, Ok, Err, slice_get, refl, sym, ap, subst, ◌∙◌, append-nil}
 use Rattle.std.specs.Prelude.{filter}
-use Rattle.std.specs.List.{filter_map, flat_map, list_all}
+use Rattle.std.specs.List.{AllByRecursion, filter_map, flat_map, list_all}
 use Rattle.std.specs.List.Sorted.{IsPermutation}
 use Rattle.std.proofs.lemmas.List.Sorted.{IsPermutation-map}
 use Rattle.sqlite.specs.Cast.{cast_row}
@@ -68,12 +68,22 @@ not_taken rows r h = by_cases (is_taken rows r) h
 abbrev pub next_row : List Row → Row → Row
 next_row tree row = Int (next_rowid tree) ∷ row
 
-pub record Inserted (l : Layout) (old new : State) (name : TableName) (row : Row) : Type 0 where
+-- a statement wrote one table: its tree has these rows, and all other trees stay
+pub record Wrote (l : Layout) (old new : State) (name : TableName) (rows : List Row) : Type 0 where
   pub schema : new.now.schema ≡ schema_in l
   pub listed : IsSound (schema_in l) new.now.trees
-  pub rows : new.now.trees (tree_in l name) ≡ put_row (next_row (old.now.trees (tree_in l name)) row) (old.now.trees (tree_in l name))
-  pub fresh : is_taken (old.now.trees (tree_in l name)) (next_row (old.now.trees (tree_in l name)) row) ≡ false
+  pub tree : new.now.trees (tree_in l name) ≡ rows
   pub others : (other : TableName) → tree_in l other ≢ tree_in l name → new.now.trees (tree_in l other) ≡ old.now.trees (tree_in l other)
+
+pub wrote : (l : Layout) (old new : State) (name : TableName) (rows : List Row) (next : Trees) → new.now.schema ≡ schema_in l → IsSound new.now.schema new.now.trees
+    → new.now.trees ≡ next → next (tree_in l name) ≡ rows → AllByRecursion (λ t. t.tree ≢ tree_in l name → next t.tree ≡ old.now.trees t.tree) (schema_in l).tables
+    → Wrote l old new name rows
+wrote l old new name rows next schema sound all tree stay = record {
+  schema = schema;
+  listed = subst (λ s. IsSound s new.now.trees) schema sound;
+  tree = ap (λ (t : Trees). t (tree_in l name)) all ∙ tree;
+  others = λ other apart. ap (λ (t : Trees). t (tree_in l other)) all ∙ others_stay l next old.now.trees (tree_in l name) stay other apart;
+}
 
 value_row : (name : TableName) (row : Row) → value_rows row (suc (width_of name)) (length (insert_terms name) / suc (width_of name)) (insert_terms name) ≡ (Null ∷ values_from 0 (width_of name) row) ∷ []
 value_row Meta row = refl
@@ -98,7 +108,9 @@ abbrev pub task_on : Layout → TableName → State → Row → Task
 task_on l name old params = record { limit = old.step_limit; keys = (mode_of old).keys; schema = schema_in l; table = table_in l name; params = params }
 
 pub inserts : (l : Layout) (old new : State) (name : TableName) (row : Row) (count : ℕ) → old.now.schema ≡ schema_in l → fits_columns (columns_in name) row ≡ true
-    → Executes (insert_sql name) row old new (Ok count) → Inserted l old new name row
+    → Executes (insert_sql name) row old new (Ok count)
+    → Wrote l old new name (put_row (next_row (old.now.trees (tree_in l name)) row) (old.now.trees (tree_in l name)))
+    × (is_taken (old.now.trees (tree_in l name)) (next_row (old.now.trees (tree_in l name)) row) ≡ false)
 inserts l old new name row count has fits ran =
     let db = old.now.trees in
     let tree = db (tree_in l name) in
@@ -118,14 +130,10 @@ inserts l old new name row count has fits ran =
     let source : given.0 ≡ (Null ∷ row) ∷ [] = given.1.1 ∙ given_row name row fits in
     let news : it.news ≡ next_row tree row ∷ [] =
     ap (λ all. (edit_of db (table_in l name) [] Chosen 0 all).news) source ∙ ap (λ r. numbered Chosen tree (r ∷ [])) (stored_as l name row fits) in
-    let all : new.now.trees ≡ written.0 = ap (λ (d : Database). d.trees) now ∙ trees in
-    record {
-      schema = ap (λ (d : Database). d.schema) now;
-      listed = subst (λ s. IsSound s new.now.trees) (ap (λ (d : Database). d.schema) now) w.sound;
-      rows = ap (λ (t : Trees). t (tree_in l name)) all ∙ step.rows ∙ ap (put_all tree) news;
-      fresh = not_taken tree (next_row tree row) (subst (λ n. are_fresh tree n ≡ true) news step.fresh);
-      others = λ other apart. ap (λ (t : Trees). t (tree_in l other)) all ∙ others_stay l written.0 db (tree_in l name) step.tables other apart;
-    }
+    (
+      wrote l old new name _ written.0 (ap (λ (d : Database). d.schema) now) w.sound (ap (λ (d : Database). d.trees) now ∙ trees) (step.rows ∙ ap (put_all tree) news) step.tables,
+      not_taken tree (next_row tree row) (subst (λ n. are_fresh tree n ≡ true) news step.fresh),
+    )
 
 picked : {X Y : Type 0} (p : X → Bool) (g : X → Y) (xs : List X) → flat_map (λ x. cond (p x) (g x ∷ []) []) xs ≡ map g (filter p xs)
 picked p g [] = refl
@@ -166,14 +174,8 @@ ids_listed shown rows ids same is = subst (λ l. IsPermutation l (ids_of rows)) 
 abbrev pub is_met_in : TableName → Row → Row → Bool
 is_met_in name key r = is_met (key_tests name) key r
 
-pub record Deleted (l : Layout) (old new : State) (name : TableName) (key : Row) : Type 0 where
-  pub schema : new.now.schema ≡ schema_in l
-  pub listed : IsSound (schema_in l) new.now.trees
-  pub rows : new.now.trees (tree_in l name) ≡ filter (λ r. not (is_met_in name key r)) (old.now.trees (tree_in l name))
-  pub others : (other : TableName) → tree_in l other ≢ tree_in l name → new.now.trees (tree_in l other) ≡ old.now.trees (tree_in l other)
-
 pub deletes : (l : Layout) (old new : State) (name : TableName) (key : Row) (count : ℕ) → old.now.schema ≡ schema_in l → IsShaped Shape.Table (old.now.trees (tree_in l name))
-    → Executes (delete_sql name) key old new (Ok count) → Deleted l old new name key
+    → Executes (delete_sql name) key old new (Ok count) → Wrote l old new name (filter (λ r. not (is_met_in name key r)) (old.now.trees (tree_in l name)))
 deletes l old new name key count has shaped ran =
     let db = old.now.trees in
     let tree = db (tree_in l name) in
@@ -194,10 +196,5 @@ deletes l old new name key count has shaped ran =
     let met = filter (is_met_in name key) tree in
     let shown = shown_rows (tree_in l name) (key_tests name) (Query.project q) db key given.0 a in
     let ids = ids_listed _ given.0 met shown (map-map (λ r. id_in (rowid r)) (λ r. eval_all (Query.project q) (key ∷ r ∷ [])) met) in
-    let all : new.now.trees ≡ written.0 = ap (λ (d : Database). d.trees) now ∙ trees in
-    record {
-      schema = ap (λ (d : Database). d.schema) now;
-      listed = subst (λ s. IsSound s new.now.trees) (ap (λ (d : Database). d.schema) now) w.sound;
-      rows = ap (λ (t : Trees). t (tree_in l name)) all ∙ step.rows ∙ removed tree shaped (is_met_in name key) (ids_of given.0) ids;
-      others = λ other apart. ap (λ (t : Trees). t (tree_in l other)) all ∙ others_stay l written.0 db (tree_in l name) step.tables other apart;
-    }
+    wrote l old new name _ written.0 (ap (λ (d : Database). d.schema) now) w.sound (ap (λ (d : Database). d.trees) now ∙ trees)
+    (step.rows ∙ removed tree shaped (is_met_in name key) (ids_of given.0) ids) step.tables

@@ -50,16 +50,25 @@ use Rattle.clr_load.proofs.Texts.{tests_from}
 use Rattle.clr_load.proofs.Loading.{then_kept}
 use Rattle.clr_load.proofs.Reopened.{left_of}
 use Rattle.clr_store.proofs.RowLemmas.{put_fresh, shaped-filter}
-use Rattle.clr_store.proofs.Effects.{deletes, inserts, is_met_in}
+use Rattle.clr_store.proofs.Effects.{Wrote, deletes, inserts, is_met_in}
 use Rattle.clr_store.proofs.Layouts.{apart, each_changed, same_rows, twice}
 
 -- the rows of one table are changed, and those of the others stay
-pub all_changed : (l : Layout) (old new : Trees) (name : TableName) (change : List Row → List Row) (t : Tables) → HasAllRows l old t
-    → HasRows (columns_in name) (new (tree_in l name)) (change (rows_in name t))
-    → ((other : TableName) → tree_in l other ≢ tree_in l name → new (tree_in l other) ≡ old (tree_in l other)) → HasAllRows l new (with_rows name change t)
-all_changed l old new name change t has changed others =
-    each_changed (λ other rows. HasRows (columns_in other) (new (tree_in l other)) rows) name change t changed
-    (λ other differ. subst (λ tree. HasRows (columns_in other) tree (rows_in other t)) (sym (others other (apart l name other differ))) (has other))
+pub changed_to : (l : Layout) (old new : State) (name : TableName) (tree : List Row) (change : List Row → List Row) (t : Tables) → Wrote l old new name tree → Holds l old.now t
+    → HasRows (columns_in name) tree (change (rows_in name t)) → Holds l new.now (with_rows name change t)
+changed_to l old new name tree change t did has changed = record {
+  schema = did.schema;
+  listed = did.listed;
+  rows = each_changed (λ other rows. HasRows (columns_in other) (new.now.trees (tree_in l other)) rows) name change t
+      (subst (λ it. HasRows (columns_in name) it (change (rows_in name t))) (sym did.tree) changed)
+      (λ other differ. subst (λ it. HasRows (columns_in other) it (rows_in other t)) (sym (did.others other (apart l name other differ))) (has.rows other));
+}
+
+-- a statement inside a transaction changes the tables, and commits nothing
+pub runs_inside : (sql : List ℕ) (params : Row) (old new : State) (count : ℕ) (change : Tables → Tables) → ExecutesInside 0 sql params old new (Ok count)
+    → ((l : Layout) (t : Tables) → Holds l old.now t → Holds l new.now (change t)) → Changes old new change
+runs_inside sql params old new count change ran tables =
+    record { inside = ran.1.mode; kept = record { was_open = λ _. ran.1.was_open; committed = λ _. ran.1.committed_is }; tables = tables }
 
 -- ---- rows of a tree
 pub list_all-permutation : (p : Row → Bool) (xs ys : List Row) → IsPermutation xs ys → list_all p xs ≡ true → list_all p ys ≡ true
@@ -129,34 +138,17 @@ put_again keys row (other ∷ rows) =
 -- ---- statements
 pub adds : (old new : State) (name : TableName) (row : Row) (count : ℕ) → fits_columns (columns_in name) row ≡ true → ExecutesInside 0 (insert_sql name) row old new (Ok count)
     → Changes old new (with_rows name (λ rows. row ∷ rows))
-adds old new name row count fits ran = record {
-  inside = ran.1.mode;
-  kept = record { was_open = λ _. ran.1.was_open; committed = λ _. ran.1.committed_is };
-  tables = λ l t has.
-      let did = inserts l old new name row count has.schema fits ran.0 in
-      let put = put_in (columns_in name) row (old.now.trees (tree_in l name)) (rows_in name t) fits did.fresh (has.rows name) in
-      record {
-        schema = did.schema;
-        listed = did.listed;
-        rows = all_changed l old.now.trees new.now.trees name (λ rows. row ∷ rows) t has.rows (subst (λ tree. HasRows (columns_in name) tree (row ∷ rows_in name t)) (sym did.rows) put) did.others;
-      };
-}
+adds old new name row count fits ran = runs_inside (insert_sql name) row old new count _ ran (λ l t has.
+    let did = inserts l old new name row count has.schema fits ran.0 in
+    let put = put_in (columns_in name) row (old.now.trees (tree_in l name)) (rows_in name t) fits did.1 (has.rows name) in
+    changed_to l old new name _ (λ rows. row ∷ rows) t did.0 has put)
 
 pub removes : (old new : State) (name : TableName) (key : Row) (count : ℕ) → length key ≡ keys_in name → sets_from 0 (keys_in name) key ≡ true
     → ExecutesInside 0 (delete_sql name) key old new (Ok count) → Changes old new (with_rows name (without_table_row (keys_in name) key))
-removes old new name key count is set ran = record {
-  inside = ran.1.mode;
-  kept = record { was_open = λ _. ran.1.was_open; committed = λ _. ran.1.committed_is };
-  tables = λ l t has.
-      let did = deletes l old new name key count has.schema (has.rows name).numbered ran.0 in
-      let left = taken_away name key (old.now.trees (tree_in l name)) (rows_in name t) is set (has.rows name) in
-      record {
-        schema = did.schema;
-        listed = did.listed;
-        rows = all_changed l old.now.trees new.now.trees name (without_table_row (keys_in name) key) t has.rows
-            (subst (λ tree. HasRows (columns_in name) tree (without_table_row (keys_in name) key (rows_in name t))) (sym did.rows) left) did.others;
-      };
-}
+removes old new name key count is set ran = runs_inside (delete_sql name) key old new count _ ran (λ l t has.
+    let did = deletes l old new name key count has.schema (has.rows name).numbered ran.0 in
+    let left = taken_away name key (old.now.trees (tree_in l name)) (rows_in name t) is set (has.rows name) in
+    changed_to l old new name _ (without_table_row (keys_in name) key) t did has left)
 
 -- ---- statements in turn
 pub then_changes : (a b c : State) (f g : Tables → Tables) → Changes a b f → Changes b c g → Changes a c (λ t. g (f t))
@@ -258,13 +250,16 @@ edits_in_order (edit ∷ edits) t ordered = edits_in_order edits (table_edited e
 pub edited_tables : (l : Layout) (db : Database) (edits : List Edit) (t : Tables) → IsInOrder t → Holds l db (tables_edited edits t) → HasTables db (tables_edited edits t)
 edited_tables l db edits t ordered has = record { layout = l; holds = has; in_order = edits_in_order edits t ordered }
 
+-- what a transaction leaves that is committed as it stands in `mid`, wherever it is cut
+pub crash_leaves : {S : Type 0} (g : Ghosts S) (old mid end : Held S) (P : Trees → Type 0) → Survives (state g (record old { in_transaction = true })) (state g mid) (λ _. ⊥)
+    → Survives (state g mid) (state g end) (λ db. db ≡ (state g mid).now.trees) → (HasCleanDisk (state g mid) → P (state g mid).now.trees) → Survives (state g old) (state g end) P
+crash_leaves g old mid end P inside ended has =
+    survives_then (state g old) (state g mid) (state g end) _ _ P (λ _ db none. absurd none) (λ clean db is. subst P (sym is) (has (omega (arith, ended.clean))))
+    (survives_begin g old (state g mid) _ inside) ended
+
 pub commit_crash : {S : Type 0} (g : Ghosts S) (old mid end : Held S) (edits : List Edit) → Survives (state g (record old { in_transaction = true })) (state g mid) (λ _. ⊥)
     → Survives (state g mid) (state g end) (λ db. db ≡ (state g mid).now.trees)
     → (HasCleanDisk (state g mid) → Changes (state g (record old { in_transaction = true })) (state g mid) (tables_edited edits))
     → Survives (state g old) (state g end) (AreEdited (state g old).now edits)
-commit_crash g old mid end edits inside ended changes =
-    survives_then (state g old) (state g mid) (state g end) _ _ _ (λ _ db none. absurd none)
-    (λ clean db is t has.
-    let done = edited_tables has.layout (state g mid).now edits t has.in_order ((changes (omega (arith, ended.clean))).tables has.layout t has.holds) in
-    subst (λ (trees : Trees). AreTables trees (tables_edited edits t)) (sym is) (left_of (state g mid).now (tables_edited edits t) done))
-    (survives_begin g old (state g mid) _ inside) ended
+commit_crash g old mid end edits inside ended changes = crash_leaves g old mid end _ inside ended (λ clean t has.
+    left_of (state g mid).now (tables_edited edits t) (edited_tables has.layout (state g mid).now edits t has.in_order ((changes clean).tables has.layout t has.holds)))

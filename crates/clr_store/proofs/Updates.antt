@@ -43,13 +43,13 @@ use Rattle.clr_load.specs.Layout.{Layout, tree_in}
 use Rattle.clr_load.specs.Schema.{columns_in, schema_in, table_in}
 use Rattle.clr_load.specs.Stored.{HasRows, bodies, fits_columns, is_of_kind, rows_in}
 use Rattle.clr_load.proofs.Columns.{both_true, cast_fits, values_all, values_from, fits_length}
-use Rattle.clr_store.proofs.Inside.{all_changed, list_all-permutation, met_is}
+use Rattle.clr_store.proofs.Inside.{changed_to, list_all-permutation, met_is, runs_inside}
 use Rattle.clr_store.proofs.RowLemmas.{put_fresh, removed, shaped-filter}
-use Rattle.clr_store.proofs.Effects.{ids_listed, is_met, one_write, shown_rows, task_on, went}
+use Rattle.clr_store.proofs.Effects.{ids_listed, is_met, one_write, shown_rows, task_on, went, wrote}
 use Rattle.clr_load.proofs.AllRead.{same_value}
 use Rattle.clr_load.specs.Sql.{set_hand_sql, set_position_sql}
 use Rattle.clr_load.proofs.Texts.{IsRead, changing, hand_terms, key_tests, position_terms, set_hand_is, set_position_is, updating}
-use Rattle.clr_store.proofs.Layouts.{at_place, others_stay}
+use Rattle.clr_store.proofs.Layouts.{at_place}
 
 -- ---- rows put under numbers that they have
 given_numbers : (rows news : List Row) → numbered Given rows news ≡ news
@@ -171,43 +171,32 @@ module _ (point : List ℕ) (more : Row) (terms : List Term) (change : Row → R
   pub updates : (sql : List ℕ) → ((l : Layout) → IsRead (schema_in l) sql (updating l terms))
       → (old new : State) (count : ℕ) → ExecutesInside 0 sql (Text point ∷ more) old new (Ok count) → Changes old new (with_rows Point (changed_point point change))
   unfolding met params
-  updates sql reads old new count ran = record {
-    inside = ran.1.mode;
-    kept = record { was_open = λ _. ran.1.was_open; committed = λ _. ran.1.committed_is };
-    tables = λ l t has.
-        let db = old.now.trees in
-        let table = table_in l Point in
-        let tree = db (tree_in l Point) in
-        let command = updating l terms in
-        let w = runs_as sql params old new (schema_in l) has.schema command (reads l).is (reads l).plain count ran.0 in
-        let text = statement_of sql (understood (schema_in l) sql) in
-        let placed = subst (λ s. Does old.step_limit (mode_of old) params (record old.now { schema = s }) text None command (Ok (w.tally, new.now))) has.schema w.changed in
-        let done = went (subst (λ found. AtPlace (λ table. OnRows (record (task_on l Point old params) { table = table }) (mode_of old) None command db) found (Ok (w.tally, new.now))) (at_place l Point) placed) in
-        let now = ap (λ (p : Tally × Database). p.1) (same_value (went (went done.2).2).2) in
-        let given = went done.1 in
-        let written = went given.2 in
-        let trees : done.0.trees ≡ written.0 = ap (λ (it : Written). it.trees) (same_value written.2) in
-        let it = edit_of db table (ids_of given.0) Given 1 given.0 in
-        let step = one_write l _ db written.0 it written.1 in
-        let a : IsAnswer (changing l terms) (overlay db []) params given.0 = given.1.answer Null in
-        let shown = shown_rows (tree_in l Point) (key_tests Point) (Query.project (changing l terms)) db params given.0 a in
-        let ids = ids_listed _ given.0 (filter met tree) shown (map-map (λ r. id_in (rowid r)) (λ r. eval_all (Query.project (changing l terms)) (params ∷ r ∷ [])) (filter met tree)) in
-        let left : without_all tree (ids_of given.0) ≡ filter (λ r. not (met r)) tree = removed tree (has.rows Point).numbered met (ids_of given.0) ids in
-        let news : it.news ≡ map (λ s. cast_row table (drop 1 s)) given.0 = given_numbers (without_all tree (ids_of given.0)) (map (λ s. cast_row table (drop 1 s)) given.0) in
-        let all : new.now.trees ≡ written.0 = ap (λ (d : Database). d.trees) now ∙ trees in
-        let built = rebuilt l tree (rows_in Point t) given.0 (has.rows Point) shown
-        (subst (λ n. are_fresh (filter (λ r. not (met r)) tree) n ≡ true) news (subst (λ x. are_fresh x it.news ≡ true) left step.fresh))
-        (subst (λ n. have_rowids n ≡ true) news step.keyed) in
-        let there : new.now.trees (tree_in l Point) ≡ put_all (filter (λ r. not (met r)) tree) (map (λ s. cast_row table (drop 1 s)) given.0) =
-        ap (λ (t : Trees). t (tree_in l Point)) all ∙ step.rows ∙ ap (λ x. put_all x it.news) left ∙ ap (put_all (filter (λ r. not (met r)) tree)) news in
-        record {
-          schema = ap (λ (d : Database). d.schema) now;
-          listed = subst (λ s. IsSound s new.now.trees) (ap (λ (d : Database). d.schema) now) w.sound;
-          rows = all_changed l old.now.trees new.now.trees Point (changed_point point change) t has.rows
-              (subst (λ x. HasRows point_columns x (changed_point point change (rows_in Point t))) (sym there) built)
-              (λ other apart. ap (λ (t : Trees). t (tree_in l other)) all ∙ others_stay l written.0 db (tree_in l Point) step.tables other apart);
-        };
-  }
+  updates sql reads old new count ran = runs_inside sql params old new count _ ran (λ l t has.
+      let db = old.now.trees in
+      let table = table_in l Point in
+      let tree = db (tree_in l Point) in
+      let command = updating l terms in
+      let w = runs_as sql params old new (schema_in l) has.schema command (reads l).is (reads l).plain count ran.0 in
+      let text = statement_of sql (understood (schema_in l) sql) in
+      let placed = subst (λ s. Does old.step_limit (mode_of old) params (record old.now { schema = s }) text None command (Ok (w.tally, new.now))) has.schema w.changed in
+      let done = went (subst (λ found. AtPlace (λ table. OnRows (record (task_on l Point old params) { table = table }) (mode_of old) None command db) found (Ok (w.tally, new.now))) (at_place l Point) placed) in
+      let now = ap (λ (p : Tally × Database). p.1) (same_value (went (went done.2).2).2) in
+      let given = went done.1 in
+      let written = went given.2 in
+      let trees : done.0.trees ≡ written.0 = ap (λ (it : Written). it.trees) (same_value written.2) in
+      let it = edit_of db table (ids_of given.0) Given 1 given.0 in
+      let step = one_write l _ db written.0 it written.1 in
+      let a : IsAnswer (changing l terms) (overlay db []) params given.0 = given.1.answer Null in
+      let shown = shown_rows (tree_in l Point) (key_tests Point) (Query.project (changing l terms)) db params given.0 a in
+      let ids = ids_listed _ given.0 (filter met tree) shown (map-map (λ r. id_in (rowid r)) (λ r. eval_all (Query.project (changing l terms)) (params ∷ r ∷ [])) (filter met tree)) in
+      let left : without_all tree (ids_of given.0) ≡ filter (λ r. not (met r)) tree = removed tree (has.rows Point).numbered met (ids_of given.0) ids in
+      let news : it.news ≡ map (λ s. cast_row table (drop 1 s)) given.0 = given_numbers (without_all tree (ids_of given.0)) (map (λ s. cast_row table (drop 1 s)) given.0) in
+      let built = rebuilt l tree (rows_in Point t) given.0 (has.rows Point) shown
+      (subst (λ n. are_fresh (filter (λ r. not (met r)) tree) n ≡ true) news (subst (λ x. are_fresh x it.news ≡ true) left step.fresh))
+      (subst (λ n. have_rowids n ≡ true) news step.keyed) in
+      let did = wrote l old new Point _ written.0 (ap (λ (d : Database). d.schema) now) w.sound (ap (λ (d : Database). d.trees) now ∙ trees)
+      (step.rows ∙ ap (λ x. put_all x it.news) left ∙ ap (put_all (filter (λ r. not (met r)) tree)) news) step.tables in
+      changed_to l old new Point _ (changed_point point change) t did has built)
 
 -- ---- the two updates
 fits_set : (columns : List Column) (row : Row) (at : ℕ) (v : Value) → fits_columns columns row ≡ true → is_of_kind (slice_index_or (map (λ (c : Column). c.kind) columns) at Kind.Any) v ≡ true

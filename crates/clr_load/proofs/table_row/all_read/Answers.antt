@@ -1,5 +1,4 @@
-use Rattle.std.proofs.Common.{◌∙◌, arith, refl, rules, sym}
-use Rattle.clr_tables.specs.RowsRead.{all_read}
+use Rattle.std.proofs.Common.{◌∙◌, arith, rules, sym}
 use Rattle.clr_load.proofs.AllRead.{read_fails, read_more, read_none, read_whole}
 use Rattle.clr_load.proofs.table_row.all_read.Goals as goal
 

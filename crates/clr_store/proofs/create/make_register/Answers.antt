@@ -3,14 +3,14 @@ use Rattle.sqlite.specs.Effect.{Database}
 use Rattle.sqlite.specs.Held.{state}
 use Rattle.sqlite.specs.State.{HasCleanDisk, Survives}
 use Rattle.sqlite.specs.Tree.{Trees}
-use Rattle.sqlite.proofs.Callers.{survives_begin}
 use Rattle.sqlite.proofs.StateLemmas.{survives_then}
 use Rattle.clr_rules.specs.Register.{opening}
 use Rattle.clr_tables.specs.Tables.{tables_of}
 use Rattle.clr_load.specs.Schema.{no_schema}
 use Rattle.clr_load.specs.Stored.{AreTables, HasTables}
 use Rattle.clr_load.proofs.Reopened.{left_of}
-use Rattle.clr_store.proofs.Creating.{still_clean, whole}
+use Rattle.clr_store.proofs.Creating.{whole}
+use Rattle.clr_store.proofs.Inside.{crash_leaves}
 use Rattle.clr_load.proofs.Causes.{told_of_database}
 use Rattle.clr_store.proofs.create.make_register.Goals as goal
 
@@ -53,12 +53,8 @@ returns-clause-crash g c =
     let inside = survives_then (state g.S.Store (record old { in_transaction = true })) (state g.S.Store first) (state g.S.Store mid) (λ _. ⊥) (λ _. ⊥) (λ _. ⊥) (λ _ _ none. none) (λ _ _ none. none)
     (rw begun at c.make_tables.ensures.survives) c.fill.ensures.survives in
     let P = λ (trees : Trees). AreTables trees opens in
-    let all = survives_then (state g.S.Store old) (state g.S.Store mid) (state g.S.Store end) _ _ P (λ _ db none. absurd none)
-    (λ clean db is.
-    let late = still_clean (state g.S.Store mid) (state g.S.Store end) c.commit.ensures.survives.clean clean in
-    subst P (sym is) (left_of (state g.S.Store mid).now opens (ran late)))
-    (survives_begin g.S.Store old (state g.S.Store mid) _ inside) c.commit.ensures.survives in
-    subst (λ h. Survives (state g.S.Store old) (state g.S.Store h) P) same all
+    subst (λ h. Survives (state g.S.Store old) (state g.S.Store h) P) same
+    (crash_leaves g.S.Store old mid end P inside c.commit.ensures.survives (λ clean. left_of (state g.S.Store mid).now opens (ran clean)))
 
 pub returns-in_err-commit-clause-crash : goal.returns-in_err-commit-clause-crash
 returns-in_err-commit-clause-crash g c =
@@ -79,12 +75,8 @@ returns-in_err-commit-clause-crash g c =
     let inside = survives_then (state g.S.Store (record old { in_transaction = true })) (state g.S.Store first) (state g.S.Store mid) (λ _. ⊥) (λ _. ⊥) (λ _. ⊥) (λ _ _ none. none) (λ _ _ none. none)
     (rw begun at c.make_tables.ensures.survives) c.fill.ensures.survives in
     let P = λ (trees : Trees). AreTables trees opens in
-    let all = survives_then (state g.S.Store old) (state g.S.Store mid) (state g.S.Store end) _ _ P (λ _ db none. absurd none)
-    (λ clean db is.
-    let late = still_clean (state g.S.Store mid) (state g.S.Store end) c.commit.ensures.survives.clean clean in
-    subst P (sym is) (left_of (state g.S.Store mid).now opens (ran late)))
-    (survives_begin g.S.Store old (state g.S.Store mid) _ inside) c.commit.ensures.survives in
-    subst (λ h. Survives (state g.S.Store old) (state g.S.Store h) P) same all
+    subst (λ h. Survives (state g.S.Store old) (state g.S.Store h) P) same
+    (crash_leaves g.S.Store old mid end P inside c.commit.ensures.survives (λ clean. left_of (state g.S.Store mid).now opens (ran clean)))
 
 pub returns-in_err-commit-clause-fault : goal.returns-in_err-commit-clause-fault
 returns-in_err-commit-clause-fault g c =
