@@ -1,5 +1,5 @@
 -- What INSERT and DELETE make of the tables, inside a transaction.
-use Rattle.std.proofs.Common.{◌≡◌, ◌≢◌, ℕ, zero, suc, List, [], ◌∷◌, map, drop, take, length, Bool, true, false, cond, not, if◌then◌else◌, Ok, Err, Result, refl, sym, ap, subst, ◌∙◌, ◌++◌, ◌+◌, ◌<◌, ◌&&◌, IsTrue, inl, get_or, arith}
+use Rattle.std.proofs.Common.{◌≡◌, ℕ, zero, suc, List, [], ◌∷◌, map, drop, take, length, Bool, true, false, cond, not, if◌then◌else◌, Ok, Err, Result, refl, sym, ap, subst, ◌∙◌, ◌++◌, ◌+◌, ◌<◌, ◌&&◌, IsTrue, inl, get_or, arith}
 use Rattle.std.specs.Prelude.{filter, slice_set, MatchResult}
 use Rattle.std.specs.List.{list_all}
 use Rattle.std.specs.List.Sorted.{IsPermutation}
@@ -37,14 +37,14 @@ use Rattle.clr_rules.specs.declared.change.Edit.TheVariants.{SetPosition, SetHan
 use Rattle.clr_tables.specs.TableEdits.{changed_point, handed_row, placed_row, table_edited, tables_edited, with_table_row, without_table_row}
 use Rattle.clr_tables.specs.Tables.{Tables, clearance_row, hand_values, hold_row, position_value, step_row}
 use Rattle.clr_tables.specs.declared.table_name.TableName.{TableName}
-use Rattle.clr_tables.specs.declared.table_name.TableName.TheVariants.{Meta, Section, Point, Staff, Clearance, Step, Hold}
+use Rattle.clr_tables.specs.declared.table_name.TableName.TheVariants.{Point, Clearance, Step, Hold}
 use Rattle.clr_store.specs.Contract.{AreEdited}
 use Rattle.clr_store.specs.Change.{Changes, with_rows}
 use Rattle.clr_load.specs.Layout.{Layout, tree_in}
 use Rattle.clr_load.specs.Schema.{columns_in, keys_in}
 use Rattle.clr_load.specs.Sql.{insert_sql, delete_sql}
 use Rattle.clr_load.specs.declared.fault.StoreFault.{StoreFault}
-use Rattle.clr_load.specs.Stored.{AreTables, HasAllRows, HasRows, HasTables, Holds, IsInOrder, bodies, fits_columns, rows_in}
+use Rattle.clr_load.specs.Stored.{HasAllRows, HasRows, HasTables, Holds, IsInOrder, bodies, fits_columns, rows_in}
 use Rattle.clr_load.proofs.Columns.{sets_from, tests_are}
 use Rattle.clr_load.proofs.Texts.{tests_from}
 use Rattle.clr_load.proofs.Loading.{then_kept}

@@ -1,5 +1,5 @@
 -- The tables of a layout, each at its place.
-use Rattle.std.proofs.Common.{◌≡◌, ◌≢◌, ◌∙◌, ◌*◌, ◌==◌, ℕ, zero, suc, List, [], ◌∷◌, Bool, true, false, if◌then◌else◌, Some, slice_get, refl, sym, ap, subst, arith}
+use Rattle.std.proofs.Common.{◌≡◌, ◌≢◌, ◌∙◌, ℕ, zero, suc, List, [], ◌∷◌, Bool, true, false, if◌then◌else◌, Some, slice_get, refl, sym, ap, subst, arith}
 use Rattle.std.specs.Prelude.{option_map}
 use Rattle.std.specs.List.{AllByRecursion}
 use Rattle.std.specs.List.Sorted.{IsPermutation}
@@ -13,7 +13,7 @@ use Rattle.clr_tables.specs.declared.table_name.TableName.{TableName}
 use Rattle.clr_tables.specs.declared.table_name.TableName.TheVariants.{Meta, Section, Point, Staff, Clearance, Step, Hold}
 use Rattle.clr_load.specs.Layout.{Layout, OfOne, names_in, place_in, tree_in}
 use Rattle.clr_load.specs.Schema.{schema_in, table_in}
-use Rattle.clr_load.specs.Stored.{HasAllRows, rows_in}
+use Rattle.clr_load.specs.Stored.{rows_in}
 use Rattle.clr_store.specs.Change.{change_at, is_same, tables_with, with_rows}
 
 pub named_at : (l : Layout) (name : TableName) → slice_get (names_in l) (place_in l name) ≡ Some name
