@@ -129,8 +129,7 @@ inserts l old new name row count has fits ran =
     let step = one_write l _ db written.0 it written.1 in
     let source : given.0 ≡ (Null ∷ row) ∷ [] = given.1.1 ∙ given_row name row fits in
     let news : it.news ≡ next_row tree row ∷ [] =
-    ap (λ all. (edit_of db (table_in l name) [] Chosen 0 all).news) source ∙ ap (λ r. numbered Chosen tree (r ∷ [])) (stored_as l name row fits) in
-    (
+    ap (λ all. (edit_of db (table_in l name) [] Chosen 0 all).news) source ∙ ap (λ r. numbered Chosen tree (r ∷ [])) (stored_as l name row fits) in (
       wrote l old new name _ written.0 (ap (λ (d : Database). d.schema) now) w.sound (ap (λ (d : Database). d.trees) now ∙ trees) (step.rows ∙ ap (put_all tree) news) step.tables,
       not_taken tree (next_row tree row) (subst (λ n. are_fresh tree n ≡ true) news step.fresh),
     )
