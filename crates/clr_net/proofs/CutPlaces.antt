@@ -1,5 +1,5 @@
 -- The places of the points that are cut, one cut after the other.
-use Rattle.std.proofs.Common.{◌≡◌, ◌∙◌, ℕ, ◌+◌, ◌<◌, inl, inr, ◌||◌, ◌∷◌, ◌++◌, ◌==◌, Bool, true, false, Some, None, List, [], length, get_or, take, position, refl, sym, ap, arith}
+use Rattle.std.proofs.Common.{◌≡◌, ◌∙◌, ℕ, ◌+◌, ◌<◌, inl, inr, ◌||◌, ◌∷◌, ◌++◌, ◌==◌, true, false, Some, None, List, [], length, get_or, take, position, sym, ap, arith}
 use Rattle.std.proofs.lemmas.Bool.Decides.{nat_tests}
 use Rattle.std.specs.Prelude.{is_some}
 use Rattle.std.specs.List.Sorted.{IsStrictlySortedBy}
@@ -12,7 +12,7 @@ use Rattle.std.proofs.lemmas.List.Quantifiers.{position-Some}
 use Rattle.std.proofs.lemmas.Option.{same_Some}
 use Rattle.clr_net.specs.Name.{name_cmp, same_name}
 use Rattle.clr_net.specs.Names.{has_name}
-use Rattle.clr_net.specs.Index.{has_place, place_in}
+use Rattle.clr_net.specs.Index.{place_in}
 use Rattle.clr_net.specs.Search.{ListsCut}
 use Rattle.clr_net.proofs.FencePlaces.{place_at}
 use Rattle.clr_net.proofs.PlaceLists.{has_place-push}

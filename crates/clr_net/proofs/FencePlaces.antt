@@ -1,10 +1,10 @@
 -- The search over places finds the fence of the names.
-use Rattle.std.proofs.Common.{◌≡◌, ◌∙◌, ℕ, zero, suc, ◌<◌, inl, inr, ◌&&◌, ◌||◌, Bool, true, false, not, Some, List, [], ◌∷◌, length, get_or, map, filter, position, refl, sym, ap, arith}
+use Rattle.std.proofs.Common.{◌≡◌, ◌∙◌, ℕ, zero, suc, ◌<◌, inl, inr, ◌&&◌, ◌||◌, true, false, Some, List, [], ◌∷◌, length, get_or, filter, position, refl, sym, ap, arith}
 use Rattle.std.specs.Prelude.{All, Contains, IsTrue, is_some, slice_get}
 use Rattle.std.specs.List.{filter_map}
 use Rattle.std.specs.List.Sorted.{IsStrictlyIncreasing, IsStrictlySortedBy}
 use Rattle.std.specs.declared.cmp.Ordering.TheVariants.{Less}
-use Rattle.std.proofs.lemmas.Bool.{and_from, and_left, and_parts, not-true, not_from_false, or_cases, or_left, or_right}
+use Rattle.std.proofs.lemmas.Bool.{and_from, and_left, and_parts, or_cases, or_left, or_right}
 use Rattle.std.proofs.lemmas.List.{get_or-map, length-map}
 use Rattle.std.proofs.lemmas.List.Elements.{All-contains}
 use Rattle.std.proofs.lemmas.List.Quantifiers.{position-Some}
@@ -24,7 +24,6 @@ use Rattle.clr_net.specs.Index.PlaceWalk.{begins, follows}
 use Rattle.clr_net.specs.Search.{Finds, ListsCut, ListsFence, points_around}
 use Rattle.clr_net.specs.Ways.{IsIndexOf, around_of}
 use Rattle.clr_net.specs.declared.ways.Ends.{Ends}
-use Rattle.clr_net.specs.declared.ways.Way.{Way}
 use Rattle.clr_net.specs.declared.ways.Ways.{Ways}
 use Rattle.clr_net.specs.declared.point.PointRow.{PointRow}
 use Rattle.clr_net.specs.declared.section.SectionRow.{SectionRow}

@@ -8,7 +8,7 @@ use Rattle.std.proofs.lemmas.Bool.Decides.{nat_tests}
 use Rattle.std.proofs.lemmas.List.{get_or-map, get_or_append_left, get_or_at, length-map}
 use Rattle.std.proofs.lemmas.List.Elements.{All-map, All-weaker, Contains-append_left, Contains-push, Contains-push_cases}
 use Rattle.std.proofs.lemmas.List.Sorted.{Contains-permutation, IsPermutation-sym}
-use Rattle.clr_net.specs.Index.{AreBelow, AreStarts, IsAround, IsStart, ends_at, ends_in, out_at, way, ways_in}
+use Rattle.clr_net.specs.Index.{AreBelow, IsAround, IsStart, ends_at, ends_in, out_at, way, ways_in}
 use Rattle.clr_net.specs.declared.ways.Way.{Way}
 use Rattle.clr_net.specs.declared.ways.Out.{Out}
 use Rattle.clr_net.specs.declared.ways.Ends.{Ends}

@@ -4,7 +4,7 @@ use Rattle.std.specs.Prelude.{count_by, Contains, All}
 use Rattle.std.proofs.lemmas.Bool.{false≢true, cases_eq}
 use Rattle.std.proofs.lemmas.List.{append-nil, append_assoc, drop_all, get_or_append_left, get_or-set_same, get_or-set_other, length-append}
 use Rattle.std.proofs.lemmas.List.Sums.{sum_by-set}
-use Rattle.std.proofs.lemmas.List.Elements.{Contains-append_left, Contains-get_or, Contains-push, Contains-push_cases}
+use Rattle.std.proofs.lemmas.List.Elements.{Contains-append_left, Contains-push, Contains-push_cases}
 use Rattle.std.proofs.Math.Seq.{take-length}
 use Rattle.clr_net.specs.Index.{PlaceWalk, has_place}
 use Rattle.clr_net.specs.Index.PlaceWalk.{begins, follows}

@@ -1,4 +1,4 @@
-use Rattle.std.proofs.Common.{◌≡◌, ◌∙◌, ◌<◌, ap, length, sym}
+use Rattle.std.proofs.Common.{◌∙◌, ◌<◌, ap, length, sym}
 use Rattle.std.specs.Prelude.{is_some}
 use Rattle.clr_net.specs.Grid.{Grid, section_names}
 use Rattle.clr_net.specs.Name.{same_name}

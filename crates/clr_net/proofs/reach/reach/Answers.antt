@@ -1,7 +1,7 @@
 use Rattle.std.proofs.Common.{◌≡◌, ◌<◌, sym, true, false, arith, rules, length, replicate, set, get_or}
 use Rattle.std.proofs.lemmas.List.{get_or_read, length-set}
 use Rattle.clr_net.proofs.IndexSteps.{outs_fit}
-use Rattle.clr_net.proofs.SearchSteps.{none_marked, put_back, queue_inside, search_less, search_over, search_start, search_step}
+use Rattle.clr_net.proofs.SearchSteps.{none_marked, put_back, queue_inside, search_over, search_start, search_step}
 use Rattle.clr_net.proofs.reach.reach.Goals as goal
 
 pub loop-head-init : goal.loop-head-init

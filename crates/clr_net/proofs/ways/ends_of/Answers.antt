@@ -1,4 +1,4 @@
-use Rattle.std.proofs.Common.{◌≡◌, ◌∙◌, Bool, true, false, Option, Some, None, ◌&&◌, sym, ap, refl}
+use Rattle.std.proofs.Common.{◌≡◌, ◌∙◌, Bool, true, false, ◌&&◌, sym, ap, refl}
 use Rattle.std.specs.Prelude.{is_some}
 use Rattle.clr_net.specs.Grid.{section_names}
 use Rattle.clr_net.specs.Name.{same_name}

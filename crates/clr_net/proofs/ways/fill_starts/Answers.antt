@@ -1,4 +1,4 @@
-use Rattle.std.proofs.Common.{◌≡◌, ◌<◌, ◌+◌, ℕ, get_or, rules, arith, nat_lt}
+use Rattle.std.proofs.Common.{◌<◌, ◌+◌, ℕ, get_or, rules, arith, nat_lt}
 use Rattle.std.proofs.lemmas.List.Sorted.{IsPartitionPoint-from_clause, IsPartitionedBy-ltb}
 use Rattle.clr_net.specs.Index.{IsStart}
 use Rattle.clr_net.specs.declared.ways.Out.{Out}

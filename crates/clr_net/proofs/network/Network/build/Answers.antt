@@ -1,7 +1,6 @@
 use Rattle.std.proofs.Common.{◌≡◌, ◌∙◌, None, sym, inl, inr, true}
 use Rattle.std.proofs.lemmas.List.Sums.{list_all-from_AllPass}
 use Rattle.std.proofs.lemmas.Result.{err_from_is_err_and}
-use Rattle.std.specs.List.Sorted.{IsPermutation}
 use Rattle.clr_net.specs.Grid.{IsNetwork, has_ends, section_names}
 use Rattle.clr_net.proofs.BuildFacts.{end_fault-IsPermutation, first_fault_is, names_permuted, network_from}
 use Rattle.clr_net.proofs.Places.{list_all-permuted}

@@ -1,4 +1,4 @@
-use Rattle.std.proofs.Common.{◌≡◌, ◌+◌, ◌≤◌, length, refl, sym, arith, get_or}
+use Rattle.std.proofs.Common.{◌+◌, sym, arith}
 use Rattle.std.proofs.lemmas.List.{get_or_read}
 use Rattle.clr_net.specs.Index.{IsStart}
 use Rattle.clr_net.proofs.IndexSteps.{run_is, start_le_end}
