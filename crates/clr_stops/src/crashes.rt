@@ -1,7 +1,7 @@
 //! What a crash may leave of a file: writes since its last sync that are lost, torn or reordered.
 ghost use Rattle.std.specs.Prelude.{◌<◌};
 
-use clr_worked::{Held, Left, Part};
+use clr_worked::{Behind, Held, Left, Part};
 use std::alloc::Global;
 use std::test::Fail;
 
@@ -183,13 +183,13 @@ impl Crashes {
     }
 
     /// Adds what a stop left. Of the other file no moments are known but its sync and the last.
-    pub fn note(&mut self, alloc: Global, part: Part, log: &Left, db: &Left) -> Result<(), Fail> {
+    pub fn note(&mut self, alloc: Global, part: Part, behind: &Behind) -> Result<(), Fail> {
         match part {
             Part::Log => self.db.contents.clear(),
             Part::Db => self.log.contents.clear(),
         }
-        self.log.note(alloc, log)?;
-        self.db.note(alloc, db)
+        self.log.note(alloc, &behind.log)?;
+        self.db.note(alloc, &behind.db)
     }
 
     /// What so many crashes leave. None where all that was written is synced.

@@ -1,8 +1,7 @@
 //! A stop while the tables of a register are made.
-use crate::trial::{Trial, stops};
+use crate::trial::{Stop, Trial, stops};
 use clr_store::Rows;
-use clr_worked::{Fused, Held, Part, are_same, make_in, new_register, rows_in, whole_files};
-use sqlite_disk::Files;
+use clr_worked::{Held, Part, are_same, make_over, new_register, rows_over};
 use std::alloc::Global;
 use std::process::Abort;
 use std::test::Fail;
@@ -15,8 +14,8 @@ struct Making {
 
 impl Making {
     /// Whether files hold the opening register.
-    fn is_in(&self, alloc: Global, files: Files<Fused>) -> Result<bool, Fail> {
-        match rows_in(alloc, files)? {
+    fn is_in(&self, alloc: Global, held: &Held) -> Result<bool, Fail> {
+        match rows_over(alloc, held)? {
             Some(rows) => Ok(are_same(&rows, &self.opening)),
             None => Ok(false),
         }
@@ -24,14 +23,14 @@ impl Making {
 
     /// Whether no table is there: only then can the tables be made.
     fn is_to_come(&self, alloc: Global, held: &Held) -> Result<bool, Fail> {
-        if rows_in(alloc, whole_files(alloc, held)?)?.is_some() {
+        if rows_over(alloc, held)?.is_some() {
             return Ok(false);
         }
-        let (is_made, files) = make_in(alloc, whole_files(alloc, held)?)?;
-        if !is_made {
-            return Err("no new tables, or out of memory".into());
+        let (fault, behind) = make_over(alloc, held, Part::Log, u64::MAX)?;
+        match fault {
+            None => self.is_in(alloc, &behind.seen()),
+            Some(fault) => Err(fault.into()),
         }
-        self.is_in(alloc, files)
     }
 }
 
@@ -40,13 +39,14 @@ impl Trial for Making {
         1
     }
 
-    fn act(&self, alloc: Global, files: Files<Fused>) -> Result<(usize, Files<Fused>), Fail> {
-        let (is_made, files) = make_in(alloc, files)?;
-        Ok((usize::from(is_made), files))
+    fn act(&self, alloc: Global, before: &Held, part: Part, calls: u64) -> Result<Stop, Fail> {
+        let (fault, behind) = make_over(alloc, before, part, calls)?;
+        let answered = usize::from(fault.is_none());
+        Ok(Stop { answered, behind })
     }
 
     fn is_sound(&self, alloc: Global, held: &Held, answered: usize) -> Result<bool, Fail> {
-        if self.is_in(alloc, whole_files(alloc, held)?)? {
+        if self.is_in(alloc, held)? {
             return Ok(true);
         }
         Ok(answered == 0 && self.is_to_come(alloc, held)?)
@@ -55,10 +55,8 @@ impl Trial for Making {
 
 /// Stops a file while the tables are made.
 fn stops_of_making<R: Abort>(rt: &R, alloc: Global, part: Part) -> Result<u64, Fail> {
-    let register = new_register(alloc)?;
-    let opening = rows_in(alloc, whole_files(alloc, &register)?)?.ok_or("tables")?;
-    let nothing = Held::nothing(alloc);
-    stops(rt, alloc, &Making { opening }, &nothing, part)
+    let opening = rows_over(alloc, &new_register(alloc)?)?.ok_or("tables")?;
+    stops(rt, alloc, &Making { opening }, &Held::nothing(alloc), part)
 }
 
 #[test]

@@ -1,12 +1,10 @@
 //! A stop while commands are carried out.
-use crate::trial::{Trial, stops};
+use crate::trial::{Stop, Trial, stops};
 use clr_rules::Reply;
 use clr_store::Rows;
 use clr_worked::{
-    FIRST_STEP, Fused, Held, Part, are_same, new_register, rows_in, run_in, some_commands,
-    whole_files,
+    FIRST_STEP, Held, Part, are_same, new_register, rows_over, run_over, some_commands,
 };
-use sqlite_disk::Files;
 use std::alloc::Global;
 use std::process::Abort;
 use std::test::Fail;
@@ -21,16 +19,16 @@ struct Outcome {
 /// Carries out so many of the commands, behind the first few, over what files hold.
 fn carried_out(alloc: Global, held: &Held, first: usize, count: usize) -> Result<Outcome, Fail> {
     let commands = some_commands(alloc, first, count)?;
-    let (run, files) = run_in(alloc, whole_files(alloc, held)?, commands);
-    let rows = rows_in(alloc, files)?.ok_or("tables")?;
-    let run = run.ok_or("a desk")?;
-    match run.fault {
-        Some(fault) => Err(fault.into()),
-        None => Ok(Outcome {
-            replies: run.replies,
-            rows,
-        }),
+    let (run, behind) = run_over(alloc, held, Part::Log, u64::MAX, commands)?;
+    let run = run?;
+    if let Some(fault) = run.fault {
+        return Err(fault.into());
     }
+    let rows = rows_over(alloc, &behind.seen())?.ok_or("tables")?;
+    Ok(Outcome {
+        replies: run.replies,
+        rows,
+    })
 }
 
 /// Commands are carried out over an opening register, each a step.
@@ -72,14 +70,18 @@ impl Trial for Running {
         FIRST_STEP.len()
     }
 
-    fn act(&self, alloc: Global, files: Files<Fused>) -> Result<(usize, Files<Fused>), Fail> {
+    fn act(&self, alloc: Global, before: &Held, part: Part, calls: u64) -> Result<Stop, Fail> {
         let commands = some_commands(alloc, 0, FIRST_STEP.len())?;
-        let (run, files) = run_in(alloc, files, commands);
-        Ok((run.map_or(0, |run| run.replies.len()), files))
+        let (run, behind) = run_over(alloc, before, part, calls, commands)?;
+        let answered = match run {
+            Ok(run) => run.replies.len(),
+            Err(_fault) => 0,
+        };
+        Ok(Stop { answered, behind })
     }
 
     fn is_sound(&self, alloc: Global, held: &Held, answered: usize) -> Result<bool, Fail> {
-        let rows = rows_in(alloc, whole_files(alloc, held)?)?.ok_or("tables")?;
+        let rows = rows_over(alloc, held)?.ok_or("tables")?;
         match self.steps_to(&rows) {
             Some(steps) if steps == answered || steps.checked_sub(1) == Some(answered) => {
                 self.goes_on(alloc, held, steps)

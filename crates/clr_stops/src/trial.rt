@@ -1,7 +1,6 @@
 //! Work over two files, of which one stops at each of its calls in turn.
 use crate::crashes::Crashes;
-use clr_worked::{Fused, Held, Left, Part, files_of, left_by, pass_one};
-use sqlite_disk::Files;
+use clr_worked::{Behind, Held, Part};
 use std::alloc::Global;
 use std::process::Abort;
 use std::test::Fail;
@@ -12,13 +11,13 @@ const CRASHES: u64 = 100;
 /// More calls than any work here makes of a file.
 const MOST_CALLS: u64 = 10_000;
 
-/// Work over two files that goes step by step.
+/// Work over two files that goes step by step, of which one may stop.
 pub trait Trial {
     /// How many steps the work has.
     fn steps(&self) -> usize;
 
-    /// Does the work, and tells how many of its steps were answered.
-    fn act(&self, alloc: Global, files: Files<Fused>) -> Result<(usize, Files<Fused>), Fail>;
+    /// Does the work over files, of which one stops after so many calls.
+    fn act(&self, alloc: Global, before: &Held, part: Part, calls: u64) -> Result<Stop, Fail>;
 
     /// Whether files hold what stands after so many steps, or after one more, and what is left to do
     /// is done from there as if nothing had stopped.
@@ -27,10 +26,9 @@ pub trait Trial {
 
 /// What work came to that was stopped: how many steps were answered, and what the files hold.
 #[derive(PartialEq, Drop)]
-struct Stop {
-    answered: usize,
-    log: Left,
-    db: Left,
+pub struct Stop {
+    pub answered: usize,
+    pub behind: Behind,
 }
 
 /// Files that hold these bytes.
@@ -42,10 +40,11 @@ fn held(alloc: Global, log: &[u8], db: &[u8]) -> Result<Held, Fail> {
 }
 
 /// What a stop leaves: what crashes make of it, what was synced, and what was frozen.
-fn all_left(alloc: Global, stop: &Stop, crashes: &Crashes) -> Result<Vec<Held>, Fail> {
+fn all_left(alloc: Global, behind: &Behind, crashes: &Crashes) -> Result<Vec<Held>, Fail> {
+    let Behind { log, db, .. } = behind;
     let mut left = crashes.some(alloc, CRASHES)?;
-    left.push(held(alloc, &stop.log.synced, &stop.db.synced)?)?;
-    left.push(held(alloc, &stop.log.seen, &stop.db.seen)?)?;
+    left.push(held(alloc, &log.synced, &db.synced)?)?;
+    left.push(held(alloc, &log.seen, &db.seen)?)?;
     Ok(left)
 }
 
@@ -53,11 +52,12 @@ fn all_left(alloc: Global, stop: &Stop, crashes: &Crashes) -> Result<Vec<Held>, 
 fn unsound_place<T: Trial>(
     alloc: Global,
     trial: &T,
-    answered: usize,
-    left: &[Held],
+    stop: &Stop,
+    crashes: &Crashes,
 ) -> Result<Option<usize>, Fail> {
+    let left = all_left(alloc, &stop.behind, crashes)?;
     for (place, held) in left.iter().enumerate() {
-        if !trial.is_sound(alloc, held, answered)? {
+        if !trial.is_sound(alloc, held, stop.answered)? {
             return Ok(Some(place));
         }
     }
@@ -76,20 +76,14 @@ pub fn stops<R: Abort, T: Trial>(
     let mut crashes = Crashes::new(alloc);
     let mut last = None;
     for calls in 0..MOST_CALLS {
-        let files = files_of(alloc, before, part, calls)?;
-        let (answered, mut files) = trial.act(alloc, files)?;
-        let is_whole = pass_one(&mut files);
-        let log = left_by(alloc, files.log)?;
-        let db = left_by(alloc, files.db)?;
-        let stop = Stop { answered, log, db };
+        let stop = trial.act(alloc, before, part, calls)?;
         if last.as_ref() != Some(&stop) {
-            crashes.note(alloc, part, &stop.log, &stop.db)?;
-            let left = all_left(alloc, &stop, &crashes)?;
-            let unsound = unsound_place(alloc, trial, answered, left.as_slice())?;
+            crashes.note(alloc, part, &stop.behind)?;
+            let unsound = unsound_place(alloc, trial, &stop, &crashes)?;
             assert_eq!(rt; unsound, None, "{part:?} at {calls}");
         }
-        if is_whole {
-            return whole_count(trial, answered, calls);
+        if stop.behind.is_whole {
+            return whole_count(trial, stop.answered, calls);
         }
         last = Some(stop);
     }
@@ -102,6 +96,6 @@ fn whole_count<T: Trial>(trial: &T, answered: usize, calls: u64) -> Result<u64, 
     if answered == trial.steps() {
         Ok(calls.saturating_sub(1))
     } else {
-        Err("out of memory".into())
+        Err(Fail::new("out of memory"))
     }
 }

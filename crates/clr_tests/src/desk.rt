@@ -1,41 +1,69 @@
 //! Runs of a desk over tables in memory. Commands and replies are lines, as in `gridclear run`.
+use crate::at_desk::{AtDesk, at_new_desk};
 use crate::worked::chain;
-use clr_desk::Run;
-use clr_net::Network;
-use clr_rules::Command;
+use clr_desk::{Desk, DeskFault};
+use clr_rules::{Command, Reply};
 use clr_text::{command_of, reply_text};
-use clr_worked::{network, new_desk};
+use clr_worked::network;
+use sqlite::Alter;
 use std::alloc::Global;
 use std::fmt::Write;
+use std::process::Abort;
 use std::test::Fail;
 
-fn commands_in(alloc: Global, lines: &str) -> Result<Vec<Command>, Fail> {
+/// Commands that are carried out at a desk, and their replies.
+struct Run<'a> {
+    commands: &'a str,
+    replies: &'a str,
+}
+
+impl<'a> AtDesk for Run<'a> {
+    fn go<R: Abort, S: Alter + Drop>(
+        &self,
+        rt: &R,
+        alloc: Global,
+        mut desk: Desk<S>,
+    ) -> Result<(), Fail> {
+        let mut replies = String::new(alloc);
+        let mut fault = carry_on(alloc, &mut desk, self.commands, &mut replies)?;
+        if fault == Some(DeskFault::NoMemory) {
+            // The fault is counted, the replies before it stand, and the run goes on behind them.
+            assert_eq!(rt; desk.faults(), 1);
+            fault = carry_on(alloc, &mut desk, self.commands, &mut replies)?;
+        }
+        assert_eq!(rt; fault, None);
+        assert_eq!(rt; replies.as_str(), self.replies);
+        Ok(())
+    }
+}
+
+/// Carries out the commands behind those that have a reply, and adds the replies.
+fn carry_on<S: Alter + Drop>(
+    alloc: Global,
+    desk: &mut Desk<S>,
+    commands: &str,
+    replies: &mut String,
+) -> Result<Option<DeskFault>, Fail> {
+    let answered = replies.as_str().lines().count();
+    let run = desk.run(commands_behind(alloc, commands, answered)?);
+    add_lines(alloc, &run.replies, replies)?;
+    Ok(run.fault)
+}
+
+fn commands_behind(alloc: Global, lines: &str, answered: usize) -> Result<Vec<Command>, Fail> {
     let mut commands = Vec::new(alloc);
-    for line in lines.lines() {
+    for line in lines.lines().skip(answered) {
         commands.push(command_of(alloc, line.as_bytes())?)?;
     }
     Ok(commands)
 }
 
-/// The lines of the replies. A fault of the desk ends the test.
-fn lines_of(alloc: Global, run: &Run) -> Result<String, Fail> {
-    if let Some(fault) = run.fault {
-        return Err(fault.into());
-    }
-    let mut lines = String::new(alloc);
-    for reply in &run.replies {
+fn add_lines(alloc: Global, replies: &[Reply], lines: &mut String) -> Result<(), Fail> {
+    for reply in replies {
         let text = reply_text(alloc, reply)?;
         writeln!(lines, "{text}")?;
     }
-    Ok(lines)
-}
-
-/// The replies of a new desk to commands.
-fn replies(alloc: Global, network: Network, commands: &str) -> Result<String, Fail> {
-    let commands = commands_in(alloc, commands)?;
-    let mut desk = new_desk(alloc, network)?;
-    let run = desk.run(commands);
-    lines_of(alloc, &run)
+    Ok(())
 }
 
 /// The order of JONES/1, its first five steps and a grant; then the sixth, and a grant.
@@ -90,10 +118,11 @@ const GRANTED: &str =
 
 #[test]
 fn grant_with_a_step_left(rt: HostRuntime) -> Result<(), Fail> {
-    let network = network(rt.alloc())?;
-    let replies = replies(rt.alloc(), network, GRANTS)?;
-    assert_eq!(rt; replies.as_str(), GRANTED);
-    Ok(())
+    let run = Run {
+        commands: GRANTS,
+        replies: GRANTED,
+    };
+    at_new_desk(&rt, rt.alloc(), network(rt.alloc())?, &run)
 }
 
 /// The order of JONES/1 in the middle of a chain.
@@ -109,10 +138,11 @@ const SOURCE_INSIDE: &str =
 /// The fence of C2500 that is cut at P2500 alone goes back to the source.
 #[test]
 fn source_at_the_end_of_a_long_chain(rt: HostRuntime) -> Result<(), Fail> {
-    let network = chain(rt.alloc(), 5000, 4999)??;
-    let replies = replies(rt.alloc(), network, IN_CHAIN)?;
-    assert_eq!(rt; replies.as_str(), SOURCE_INSIDE);
-    Ok(())
+    let run = Run {
+        commands: IN_CHAIN,
+        replies: SOURCE_INSIDE,
+    };
+    at_new_desk(&rt, rt.alloc(), chain(rt.alloc(), 5000, 4999)??, &run)
 }
 
 const FOR_JONES: &str = r#"{"at":100,"by":"JONES","do":"request","section":"L2"}
@@ -151,10 +181,11 @@ fn all_given(alloc: Global) -> Result<String, Fail> {
 
 #[test]
 fn all_numbers_of_a_requester(rt: HostRuntime) -> Result<(), Fail> {
-    let network = network(rt.alloc())?;
     let commands = asked_for_all(rt.alloc())?;
-    let replies = replies(rt.alloc(), network, commands.as_str())?;
-    let expected = all_given(rt.alloc())?;
-    assert_eq!(rt; replies.as_str(), expected.as_str());
-    Ok(())
+    let replies = all_given(rt.alloc())?;
+    let run = Run {
+        commands: commands.as_str(),
+        replies: replies.as_str(),
+    };
+    at_new_desk(&rt, rt.alloc(), network(rt.alloc())?, &run)
 }

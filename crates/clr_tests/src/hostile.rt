@@ -1,6 +1,7 @@
 //! One connection whose client is hostile or whose device fails: requests that are cut short, the
 //! longest heads, readers and writers that fail at each call in turn, and a keeper that answers no
 //! command.
+use crate::at_desk::{AtDesk, at_new_desk};
 use crate::fakes::{FailsAt, Narrow};
 use crate::worked::{REQUEST, RESPONSE};
 use clr_csv::{Counted, CountedRead, CountedWrite};
@@ -8,8 +9,8 @@ use clr_desk::Desk;
 use clr_http::{HttpFault, Registrar, Served, serve_one};
 use clr_rules::{ClearanceId, Command, Reply};
 use clr_store::Rows;
-use clr_worked::{are_same, network, new_desk};
-use sqlite::{Alter, MemStore};
+use clr_worked::{are_same, network};
+use sqlite::Alter;
 use std::alloc::{AllocError, Global};
 use std::io;
 use std::process::Abort;
@@ -66,16 +67,30 @@ fn writer(
     }))
 }
 
-/// What a connection came to. Out of memory ends the test.
+/// What a connection to a desk came to. Out of memory ends the test.
 fn serve<D: Registrar, R: CountedRead, W: CountedWrite>(
     alloc: Global,
     desk: &mut D,
     reader: &mut R,
     writer: &mut W,
 ) -> Result<Result<Served, HttpFault>, Fail> {
-    match serve_one(alloc, desk, reader, writer) {
-        Err(HttpFault::NoMemory) => Err(HttpFault::NoMemory.into()),
-        served => Ok(served),
+    let faults = desk.faults();
+    let served = serve_one(alloc, desk, reader, writer);
+    if served == Err(HttpFault::NoMemory) || desk.faults() != faults {
+        expect_again(alloc, desk)?;
+        return Err(Fail::new("out of memory"));
+    }
+    Ok(served)
+}
+
+/// A desk that was out of memory answers the request when it comes again: a 503, and a fault with
+/// no response, have left it whole.
+fn expect_again<D: Registrar>(alloc: Global, desk: &mut D) -> Result<(), Fail> {
+    let response = response(alloc, desk, REQUEST.as_bytes())?;
+    if response.starts_with(b"HTTP/1.1 200 OK\r\n") {
+        Ok(())
+    } else {
+        Err("no answer to the same request".into())
     }
 }
 
@@ -91,8 +106,7 @@ pub fn response<D: Registrar>(
     Ok(writer.into_inner().taken)
 }
 
-/// To these bytes this response goes out. A 503, which is sent when out of memory, ends
-/// the test.
+/// To these bytes this response goes out. Out of memory ends the test.
 fn expect_response<A: Abort, D: Registrar>(
     rt: &A,
     alloc: Global,
@@ -100,10 +114,10 @@ fn expect_response<A: Abort, D: Registrar>(
     request: &[u8],
     expected: &str,
 ) -> Result<(), Fail> {
-    let response = response(alloc, desk, request)?;
-    if response.starts_with(b"HTTP/1.1 503 ") {
-        return Err(Fail::new("out of memory"));
-    }
+    let mut reader = Counted::new(request);
+    let mut writer = writer(alloc, usize::MAX, usize::MAX, None)?;
+    serve(alloc, desk, &mut reader, &mut writer)??;
+    let response = writer.into_inner().taken;
     assert_eq!(rt; response.as_slice(), expected.as_bytes());
     Ok(())
 }
@@ -134,28 +148,32 @@ fn expect_no_change<A: Abort, S: Alter + Drop>(
 }
 
 /// Each front of a request is refused and changes no row; then the whole is answered.
-fn expect_fronts<A: Abort, S: Alter + Drop>(
-    rt: &A,
-    alloc: Global,
-    desk: Desk<S>,
-) -> Result<(), Fail> {
-    let (rows, mut desk) = rows_of(desk)?;
-    for count in 0..REQUEST.len() {
-        let expected = match count {
-            0 => "",
-            1..HEAD_BYTES => HEAD_CUT,
-            _ => BODY_CUT,
-        };
-        let front = &REQUEST.as_bytes()[..count];
-        desk = expect_no_change(rt, alloc, desk, &rows, front, expected)?;
+struct Fronts;
+
+impl AtDesk for Fronts {
+    fn go<R: Abort, S: Alter + Drop>(
+        &self,
+        rt: &R,
+        alloc: Global,
+        desk: Desk<S>,
+    ) -> Result<(), Fail> {
+        let (rows, mut desk) = rows_of(desk)?;
+        for count in 0..REQUEST.len() {
+            let expected = match count {
+                0 => "",
+                1..HEAD_BYTES => HEAD_CUT,
+                _ => BODY_CUT,
+            };
+            let front = &REQUEST.as_bytes()[..count];
+            desk = expect_no_change(rt, alloc, desk, &rows, front, expected)?;
+        }
+        expect_response(rt, alloc, &mut desk, REQUEST.as_bytes(), RESPONSE)
     }
-    expect_response(rt, alloc, &mut desk, REQUEST.as_bytes(), RESPONSE)
 }
 
 #[test]
 fn requests_that_are_cut_short(rt: HostRuntime) -> Result<(), Fail> {
-    let desk = new_desk(rt.alloc(), network(rt.alloc())?)?;
-    expect_fronts(&rt, rt.alloc(), desk)
+    at_new_desk(&rt, rt.alloc(), network(rt.alloc())?, &Fronts)
 }
 
 /// A head that asks for the board, with so many fields, the last of which fills it to so many
@@ -173,45 +191,71 @@ fn board_head(alloc: Global, fields: usize, bytes: usize) -> Result<String, Allo
     Ok(head)
 }
 
+/// The longest heads, and of each one longer.
+struct Heads;
+
+impl AtDesk for Heads {
+    fn go<R: Abort, S: Alter + Drop>(
+        &self,
+        rt: &R,
+        alloc: Global,
+        mut desk: Desk<S>,
+    ) -> Result<(), Fail> {
+        let heads = [
+            (1, MAX_HEAD_BYTES, BOARD),
+            (1, MAX_HEAD_BYTES + 1, HEAD_TOO_LARGE),
+            (MAX_FIELDS, 0, BOARD),
+            (MAX_FIELDS + 1, 0, HEAD_TOO_LARGE),
+        ];
+        for (fields, bytes, expected) in heads {
+            let head = board_head(alloc, fields, bytes)?;
+            assert!(rt; bytes == 0 || head.len() == bytes);
+            expect_response(rt, alloc, &mut desk, head.as_bytes(), expected)?;
+        }
+        Ok(())
+    }
+}
+
 #[test]
 fn longest_heads(rt: HostRuntime) -> Result<(), Fail> {
-    let mut desk = new_desk(rt.alloc(), network(rt.alloc())?)?;
-    let heads = [
-        (1, MAX_HEAD_BYTES, BOARD),
-        (1, MAX_HEAD_BYTES + 1, HEAD_TOO_LARGE),
-        (MAX_FIELDS, 0, BOARD),
-        (MAX_FIELDS + 1, 0, HEAD_TOO_LARGE),
-    ];
-    for (fields, bytes, expected) in heads {
-        let head = board_head(rt.alloc(), fields, bytes)?;
-        assert!(rt; bytes == 0 || head.len() == bytes);
-        expect_response(&rt, rt.alloc(), &mut desk, head.as_bytes(), expected)?;
+    at_new_desk(&rt, rt.alloc(), network(rt.alloc())?, &Heads)
+}
+
+/// A reader of one byte a call that fails at each call: nothing goes out, and the board stays empty.
+struct FailingReader;
+
+impl AtDesk for FailingReader {
+    fn go<R: Abort, S: Alter + Drop>(
+        &self,
+        rt: &R,
+        alloc: Global,
+        mut desk: Desk<S>,
+    ) -> Result<(), Fail> {
+        for calls_before in 0..REQUEST.len() as u64 {
+            let mut reader = Counted::new(FailsAt {
+                bytes: REQUEST.as_bytes(),
+                bytes_per_call: 1,
+                calls_before,
+            });
+            let mut writer = writer(alloc, usize::MAX, usize::MAX, None)?;
+            let served = serve(alloc, &mut desk, &mut reader, &mut writer)?;
+            assert_eq!(rt;
+                served,
+                Err(HttpFault::ReadFailed),
+                "after {calls_before} calls"
+            );
+            assert_eq!(rt; reader.failures(), 1);
+            assert!(rt; writer.into_inner().taken.is_empty());
+        }
+        let board = desk.board(alloc)?;
+        assert_eq!(rt; board.as_str(), EMPTY_BOARD);
+        expect_response(rt, alloc, &mut desk, REQUEST.as_bytes(), RESPONSE)
     }
-    Ok(())
 }
 
 #[test]
 fn reader_fails_at_each_call(rt: HostRuntime) -> Result<(), Fail> {
-    let mut desk = new_desk(rt.alloc(), network(rt.alloc())?)?;
-    for calls_before in 0..REQUEST.len() as u64 {
-        let mut reader = Counted::new(FailsAt {
-            bytes: REQUEST.as_bytes(),
-            bytes_per_call: 1,
-            calls_before,
-        });
-        let mut writer = writer(rt.alloc(), usize::MAX, usize::MAX, None)?;
-        let served = serve(rt.alloc(), &mut desk, &mut reader, &mut writer)?;
-        assert_eq!(rt;
-            served,
-            Err(HttpFault::ReadFailed),
-            "after {calls_before} calls"
-        );
-        assert_eq!(rt; reader.failures(), 1);
-        assert!(rt; writer.into_inner().taken.is_empty());
-    }
-    let board = desk.board(rt.alloc())?;
-    assert_eq!(rt; board.as_str(), EMPTY_BOARD);
-    expect_response(&rt, rt.alloc(), &mut desk, REQUEST.as_bytes(), RESPONSE)
+    at_new_desk(&rt, rt.alloc(), network(rt.alloc())?, &FailingReader)
 }
 
 /// What goes out to the request at its n-th time, counted from 1.
@@ -227,63 +271,103 @@ pub fn nth_response(alloc: Global, n: usize) -> Result<String, AllocError> {
     )
 }
 
-/// After each failure the clearance stands: the next response has the next number.
+/// A writer that fails behind each byte of the response. After each failure the clearance stands:
+/// the next response has the next number.
+struct FailingWriter;
+
+impl AtDesk for FailingWriter {
+    fn go<R: Abort, S: Alter + Drop>(
+        &self,
+        rt: &R,
+        alloc: Global,
+        mut desk: Desk<S>,
+    ) -> Result<(), Fail> {
+        let broken = Some(io::ErrorKind::BrokenPipe);
+        for room in 0..RESPONSE.len() {
+            let mut writer = writer(alloc, usize::MAX, room, broken)?;
+            let mut reader = Counted::new(REQUEST.as_bytes());
+            let served = serve(alloc, &mut desk, &mut reader, &mut writer)?;
+            assert_eq!(rt; served, Err(HttpFault::WriteFailed(room)));
+            assert_eq!(rt; writer.failures(), 1);
+            let taken = writer.into_inner().taken;
+            expect_front(rt, alloc, taken.as_slice(), room)?;
+        }
+        let expected = nth_response(alloc, RESPONSE.len() + 1)?;
+        expect_response(
+            rt,
+            alloc,
+            &mut desk,
+            REQUEST.as_bytes(),
+            expected.as_str(),
+        )
+    }
+}
+
+/// So many bytes of the response have gone out that tells one clearance more than there are bytes.
+fn expect_front<R: Abort>(rt: &R, alloc: Global, taken: &[u8], room: usize) -> Result<(), Fail> {
+    let expected = nth_response(alloc, room.saturating_add(1))?;
+    assert_eq!(rt; Some(taken), expected.as_bytes().get(..room));
+    Ok(())
+}
+
 #[test]
 fn writer_fails_after_each_byte(rt: HostRuntime) -> Result<(), Fail> {
-    let mut desk = new_desk(rt.alloc(), network(rt.alloc())?)?;
-    for room in 0..RESPONSE.len() {
+    at_new_desk(&rt, rt.alloc(), network(rt.alloc())?, &FailingWriter)
+}
+
+/// A writer that takes up to so many bytes a call while there is room for so many, and then none.
+struct NarrowWriter {
+    bytes_per_call: usize,
+    room: usize,
+    fault: Option<HttpFault>,
+}
+
+impl AtDesk for NarrowWriter {
+    fn go<R: Abort, S: Alter + Drop>(
+        &self,
+        rt: &R,
+        alloc: Global,
+        mut desk: Desk<S>,
+    ) -> Result<(), Fail> {
         let mut reader = Counted::new(REQUEST.as_bytes());
-        let mut writer = writer(
-            rt.alloc(),
-            usize::MAX,
-            room,
-            Some(io::ErrorKind::BrokenPipe),
-        )?;
-        let served = serve(rt.alloc(), &mut desk, &mut reader, &mut writer)?;
-        assert_eq!(rt; served, Err(HttpFault::WriteFailed(room)));
-        assert_eq!(rt; writer.failures(), 1);
-        let expected = nth_response(rt.alloc(), room + 1)?;
+        let mut writer = writer(alloc, self.bytes_per_call, self.room, None)?;
+        let served = serve(alloc, &mut desk, &mut reader, &mut writer)?;
+        assert_eq!(rt; served.err(), self.fault);
+        assert_eq!(rt; writer.failures(), 0);
         let taken = writer.into_inner().taken;
-        assert_eq!(rt; Some(taken.as_slice()), expected.as_bytes().get(..room));
+        let count = self.room.min(RESPONSE.len());
+        assert_eq!(rt; Some(taken.as_slice()), RESPONSE.as_bytes().get(..count));
+        Ok(())
     }
-    let expected = nth_response(rt.alloc(), RESPONSE.len() + 1)?;
-    expect_response(
-        &rt,
-        rt.alloc(),
-        &mut desk,
-        REQUEST.as_bytes(),
-        expected.as_str(),
-    )
 }
 
 #[test]
 fn slow_and_full_writers(rt: HostRuntime) -> Result<(), Fail> {
-    let ends = [
-        (1, usize::MAX, None, RESPONSE.len()),
-        (3, 10, Some(HttpFault::WriteFailed(10)), 10),
-    ];
-    for (bytes_per_call, room, fault, count) in ends {
-        let mut desk = new_desk(rt.alloc(), network(rt.alloc())?)?;
-        let mut reader = Counted::new(REQUEST.as_bytes());
-        let mut writer = writer(rt.alloc(), bytes_per_call, room, None)?;
-        let served = serve(rt.alloc(), &mut desk, &mut reader, &mut writer)?;
-        assert_eq!(rt; served.err(), fault);
-        assert_eq!(rt; writer.failures(), 0);
-        let taken = writer.into_inner().taken;
-        assert_eq!(rt; Some(taken.as_slice()), RESPONSE.as_bytes().get(..count));
+    let slow = NarrowWriter {
+        bytes_per_call: 1,
+        room: usize::MAX,
+        fault: None,
+    };
+    let full = NarrowWriter {
+        bytes_per_call: 3,
+        room: 10,
+        fault: Some(HttpFault::WriteFailed(10)),
+    };
+    for writer in [slow, full] {
+        at_new_desk(&rt, rt.alloc(), network(rt.alloc())?, &writer)?;
     }
     Ok(())
 }
 
-/// Keeps a register, and answers no command.
+/// Keeps the register of another, and answers no command.
 #[derive(Drop)]
-struct Unanswering {
-    desk: Desk<MemStore>,
+struct Unanswering<D: Registrar + Drop> {
+    desk: D,
     faults: u64,
 }
 
-impl Registrar for Unanswering {
-    ghost keeper = { λ k. record { register = k.desk.book.register; faults = k.faults } };
+impl<D: Registrar + Drop> Registrar for Unanswering<D> {
+    ghost keeper = { λ k. record { register = (D.keeper k.desk).register; faults = k.faults } };
 
     ghost leads_to = { λ _ _. Unit {0} };
 
@@ -314,16 +398,29 @@ impl Registrar for Unanswering {
     }
 }
 
+/// Two requests to a keeper that answers no command: the board stays empty.
+struct NoAnswer;
+
+impl AtDesk for NoAnswer {
+    fn go<R: Abort, S: Alter + Drop>(
+        &self,
+        rt: &R,
+        alloc: Global,
+        desk: Desk<S>,
+    ) -> Result<(), Fail> {
+        let mut keeper = Unanswering { desk, faults: 0 };
+        for faults in 1..3 {
+            let response = response(alloc, &mut keeper, REQUEST.as_bytes())?;
+            assert_eq!(rt; response.as_slice(), UNAVAILABLE.as_bytes());
+            assert_eq!(rt; keeper.faults(), faults);
+        }
+        let board = keeper.board(alloc)?;
+        assert_eq!(rt; board.as_str(), EMPTY_BOARD);
+        Ok(())
+    }
+}
+
 #[test]
 fn keeper_that_answers_no_command(rt: HostRuntime) -> Result<(), Fail> {
-    let desk = new_desk(rt.alloc(), network(rt.alloc())?)?;
-    let mut keeper = Unanswering { desk, faults: 0 };
-    for faults in 1..3 {
-        let response = response(rt.alloc(), &mut keeper, REQUEST.as_bytes())?;
-        assert_eq!(rt; response.as_slice(), UNAVAILABLE.as_bytes());
-        assert_eq!(rt; keeper.faults(), faults);
-    }
-    let board = keeper.board(rt.alloc())?;
-    assert_eq!(rt; board.as_str(), EMPTY_BOARD);
-    Ok(())
+    at_new_desk(&rt, rt.alloc(), network(rt.alloc())?, &NoAnswer)
 }

@@ -1,7 +1,10 @@
 //! Requests over HTTP to a desk over tables in memory, and what goes out to each, byte for byte.
+use crate::at_desk::{AtDesk, at_new_desk};
 use crate::worked::{REQUEST, RESPONSE};
-use clr_http::serve_all;
-use clr_worked::{network, new_desk};
+use clr_desk::Desk;
+use clr_http::{Registrar, serve_all};
+use clr_worked::network;
+use sqlite::Alter;
 use std::alloc::Global;
 use std::process::Abort;
 use std::test::Fail;
@@ -186,39 +189,69 @@ END
     ),
 ];
 
-/// What goes out to requests to a new desk, each a connection of its own, one after the other.
-fn responses(alloc: Global, exchanges: &[(&str, &str)]) -> Result<Vec<Vec<u8>>, Fail> {
+/// Requests to a desk, each a connection of its own, one after the other, and what goes out to each.
+struct Exchanges<'a> {
+    all: &'a [(&'a str, &'a str)],
+}
+
+impl<'a> AtDesk for Exchanges<'a> {
+    fn go<R: Abort, S: Alter + Drop>(
+        &self,
+        rt: &R,
+        alloc: Global,
+        mut desk: Desk<S>,
+    ) -> Result<(), Fail> {
+        let answered = expect_responses(rt, alloc, &mut desk, self.all)?;
+        if answered < self.all.len() {
+            // A 503 is counted. Nothing behind it was accepted, so all is answered from there on.
+            assert!(rt; desk.faults() > 0);
+            let rest = &self.all[answered..];
+            assert_eq!(rt; expect_responses(rt, alloc, &mut desk, rest)?, rest.len());
+        }
+        Ok(())
+    }
+}
+
+/// To each request its response goes out, up to the first 503, which is sent when out of memory.
+/// Tells how many there are.
+fn expect_responses<R: Abort, D: Registrar>(
+    rt: &R,
+    alloc: Global,
+    desk: &mut D,
+    exchanges: &[(&str, &str)],
+) -> Result<usize, Fail> {
+    let responses = responses(alloc, desk, exchanges)?;
+    assert_eq!(rt; responses.len(), exchanges.len());
+    for (place, ((request, expected), response)) in exchanges.iter().zip(&responses).enumerate() {
+        if response.starts_with(b"HTTP/1.1 503 ") {
+            return Ok(place);
+        }
+        assert_eq!(rt; response.as_slice(), expected.as_bytes(), "{request}");
+    }
+    Ok(exchanges.len())
+}
+
+/// What goes out to these requests.
+fn responses<D: Registrar>(
+    alloc: Global,
+    desk: &mut D,
+    exchanges: &[(&str, &str)],
+) -> Result<Vec<Vec<u8>>, Fail> {
     let mut requests = Vec::new(alloc);
     for (request, _) in exchanges {
         requests.push(Vec::from_slice(alloc, request.as_bytes())?)?;
     }
-    let mut desk = new_desk(alloc, network(alloc)?)?;
-    Ok(serve_all(alloc, &mut desk, requests.as_slice())?)
-}
-
-/// To each request its response goes out. A 503, which is sent when out of memory, ends the test.
-fn expect_responses<R: Abort>(
-    rt: &R,
-    alloc: Global,
-    exchanges: &[(&str, &str)],
-) -> Result<(), Fail> {
-    let responses = responses(alloc, exchanges)?;
-    assert_eq!(rt; responses.len(), exchanges.len());
-    for ((request, expected), response) in exchanges.iter().zip(&responses) {
-        if response.starts_with(b"HTTP/1.1 503 ") {
-            return Err(Fail::new("out of memory"));
-        }
-        assert_eq!(rt; response.as_slice(), expected.as_bytes(), "{request}");
-    }
-    Ok(())
+    Ok(serve_all(alloc, desk, requests.as_slice())?)
 }
 
 #[test]
 fn refused_requests(rt: HostRuntime) -> Result<(), Fail> {
-    expect_responses(&rt, rt.alloc(), &REFUSED)
+    let exchanges = Exchanges { all: &REFUSED };
+    at_new_desk(&rt, rt.alloc(), network(rt.alloc())?, &exchanges)
 }
 
 #[test]
 fn order_and_board_after_a_step(rt: HostRuntime) -> Result<(), Fail> {
-    expect_responses(&rt, rt.alloc(), &FIRST_STEP)
+    let exchanges = Exchanges { all: &FIRST_STEP };
+    at_new_desk(&rt, rt.alloc(), network(rt.alloc())?, &exchanges)
 }

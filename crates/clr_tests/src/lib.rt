@@ -2,6 +2,8 @@
 #![tactic(auto)]
 
 #[cfg(test)]
+mod at_desk;
+#[cfg(test)]
 mod connections;
 #[cfg(test)]
 mod csv;

@@ -1,24 +1,48 @@
 //! Tables that stand in a database and are not opened.
+use crate::at_desk::{AtDesk, at_new_desk};
 use clr_desk::{Desk, DeskFault};
 use clr_store::{Store, StoreFault};
 use clr_tables::TableName;
-use clr_worked::{network, new_desk};
+use clr_worked::network;
+use sqlite::{Alter, Connection};
 use std::alloc::Global;
 use std::process::Abort;
 use std::test::Fail;
 
-/// Why no desk is opened over the worked register, once a statement has changed its tables. Out of
-/// memory ends the test.
-fn fault_after(alloc: Global, statement: &str) -> Result<DeskFault, Fail> {
-    let mut connection = new_desk(alloc, network(alloc)?)?.end().end();
-    connection.execute(statement, &[])?;
-    let fault = match Store::open(connection) {
-        Ok(store) => Desk::open(store).err().map(|(fault, _store)| fault),
-        Err(back) => Some(DeskFault::from(back.fault)),
-    };
-    match fault {
-        Some(DeskFault::NoMemory) => Err(DeskFault::NoMemory.into()),
-        fault => Ok(fault.ok_or("a fault")?),
+/// A statement that changes the tables of a desk, and why they are not opened then.
+struct Change<'a> {
+    statement: &'a str,
+    fault: StoreFault,
+}
+
+impl<'a> AtDesk for Change<'a> {
+    fn go<R: Abort, S: Alter + Drop>(
+        &self,
+        rt: &R,
+        _alloc: Global,
+        desk: Desk<S>,
+    ) -> Result<(), Fail> {
+        let mut connection = desk.end().end();
+        connection.execute(self.statement, &[])?;
+        let (mut fault, connection) = not_opened(connection)?;
+        if fault == DeskFault::NoMemory {
+            fault = not_opened(connection)?.0;
+        }
+        assert_eq!(rt; fault, DeskFault::Store(self.fault), "{}", self.statement);
+        Ok(())
+    }
+}
+
+/// Why no desk is opened, and the connection that is handed back.
+fn not_opened<S: Alter + Drop>(
+    connection: Connection<S>,
+) -> Result<(DeskFault, Connection<S>), Fail> {
+    match Store::open(connection) {
+        Ok(store) => match Desk::open(store) {
+            Ok(_desk) => Err("no fault".into()),
+            Err((fault, store)) => Ok((fault, store.end())),
+        },
+        Err(back) => Ok((DeskFault::from(back.fault), back.connection)),
     }
 }
 
@@ -29,8 +53,11 @@ fn expect_faults<R: Abort>(
     cases: &[(&str, StoreFault)],
 ) -> Result<(), Fail> {
     for (statement, fault) in cases {
-        let told = fault_after(alloc, statement)?;
-        assert_eq!(rt; told, DeskFault::Store(*fault), "{statement}");
+        let change = Change {
+            statement,
+            fault: *fault,
+        };
+        at_new_desk(rt, alloc, network(alloc)?, &change)?;
     }
     Ok(())
 }

@@ -10,6 +10,6 @@ mod stopping;
 
 pub use commands::{FIRST_STEP, some_commands};
 pub use files::{POINTS, SECTIONS, network, staff};
-pub use register::{make_in, new_desk, new_register, opened, rows_in, run_in};
+pub use register::{make_over, new_desk, new_register, opened, rows_over, run_over};
 pub use rows::are_same;
-pub use stopping::{Fused, Held, Left, Part, close, files_of, left_by, pass_one, whole_files};
+pub use stopping::{Behind, Held, Left, Part, Work, over_files};

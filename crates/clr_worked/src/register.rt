@@ -1,12 +1,12 @@
 //! The worked register: its tables made in memory or in two files, and a desk over them.
 use crate::files::{network, staff};
-use crate::stopping::{Held, close, connect, left_by, whole_files};
-use clr_desk::{Desk, Run};
+use crate::stopping::{Behind, Held, Part, Work, over_files};
+use clr_csv::Staff;
+use clr_desk::{Desk, DeskFault, Run};
 use clr_net::Network;
 use clr_rules::Command;
-use clr_store::{Back, Rows, Store, StoreFault};
-use sqlite::{Alter, Connection, FileStore, Files, MemStore};
-use sqlite_disk::Disk;
+use clr_store::{Rows, Store, StoreFault};
+use sqlite::{Alter, Connection, MemStore};
 use std::alloc::Global;
 use std::test::Fail;
 
@@ -14,88 +14,140 @@ use std::test::Fail;
 pub fn new_desk(alloc: Global, network: Network) -> Result<Desk<MemStore>, Fail> {
     let staff = staff(alloc)?;
     let connection = Connection::open_in_memory(alloc)?;
-    let desk = Desk::create(alloc, connection, network, staff).ok();
-    Ok(desk.ok_or("new tables")?)
+    match Desk::create(alloc, connection, network, staff) {
+        Ok(desk) => Ok(desk),
+        Err((fault, _connection)) => Err(fault.into()),
+    }
 }
 
-/// Makes the tables of the worked register, or hands the connection back with the fault.
-fn made<S: Alter + Drop>(
-    alloc: Global,
+/// The desk over a database, or the connection and why there is none.
+pub fn opened<S: Alter + Drop>(
     connection: Connection<S>,
-) -> Result<Result<Store<S>, Back<S>>, Fail> {
-    let network = network(alloc)?;
-    let staff = staff(alloc)?;
-    Ok(Store::create(connection, &network, &staff))
-}
-
-/// The desk over the database of two files, or the files.
-pub fn opened<D: Disk + Drop>(
-    alloc: Global,
-    files: Files<D>,
-) -> Result<Desk<FileStore<D>>, Files<D>> {
-    let connection = connect(alloc, files)?;
+) -> Result<Desk<S>, (DeskFault, Connection<S>)> {
     match Store::open(connection) {
         Ok(store) => match Desk::open(store) {
             Ok(desk) => Ok(desk),
-            Err((_fault, store)) => Err(close(store.end())),
+            Err((fault, store)) => Err((fault, store.end())),
         },
-        Err(back) => Err(close(back.connection)),
+        Err(back) => Err((back.fault.into(), back.connection)),
     }
 }
 
-/// Makes the tables of the worked register in two files, and tells whether they were made.
-pub fn make_in<D: Disk + Drop>(alloc: Global, files: Files<D>) -> Result<(bool, Files<D>), Fail> {
-    let connection = match connect(alloc, files) {
-        Ok(connection) => connection,
-        Err(files) => return Ok((false, files)),
-    };
-    match made(alloc, connection)? {
-        Ok(store) => Ok((true, close(store.end()))),
-        Err(back) => Ok((false, close(back.connection))),
-    }
+/// The tables of a network and its staff are made.
+#[derive(Drop)]
+struct Making {
+    network: Network,
+    staff: Staff,
 }
 
-/// Carries out commands over the database of two files, where a desk can be opened.
-pub fn run_in<D: Disk + Drop>(
-    alloc: Global,
-    files: Files<D>,
-    commands: Vec<Command>,
-) -> (Option<Run>, Files<D>) {
-    match opened(alloc, files) {
-        Ok(mut desk) => {
-            let run = desk.run(commands);
-            (Some(run), close(desk.end().end()))
+impl Work for Making {
+    type Told = Option<StoreFault>;
+
+    fn go<S: Alter + Drop>(self, connection: Connection<S>) -> (Option<StoreFault>, Connection<S>) {
+        match Store::create(connection, &self.network, &self.staff) {
+            Ok(store) => (None, store.end()),
+            Err(back) => (Some(back.fault), back.connection),
         }
-        Err(files) => (None, files),
     }
 }
 
-/// The rows of a store.
-fn rows_of<S: Alter + Drop>(mut store: Store<S>) -> Result<Rows, StoreFault> {
-    store.load()
+/// Commands are carried out.
+#[derive(Drop)]
+struct Running {
+    commands: Vec<Command>,
 }
 
-/// The rows of the database that files hold, or none where it is refused as `Sql`, as one without
-/// tables is. No call to these files fails.
-pub fn rows_in<D: Disk + Drop>(alloc: Global, files: Files<D>) -> Result<Option<Rows>, Fail> {
-    let Ok(connection) = connect(alloc, files) else {
-        return Err("a database".into());
+impl Work for Running {
+    type Told = Result<Run, DeskFault>;
+
+    fn go<S: Alter + Drop>(
+        self,
+        connection: Connection<S>,
+    ) -> (Result<Run, DeskFault>, Connection<S>) {
+        match opened(connection) {
+            Ok(mut desk) => {
+                let run = desk.run(self.commands);
+                (Ok(run), desk.end().end())
+            }
+            Err((fault, connection)) => (Err(fault), connection),
+        }
+    }
+}
+
+/// The rows of the tables are read.
+#[derive(Drop)]
+struct Reading;
+
+impl Work for Reading {
+    type Told = Result<Rows, StoreFault>;
+
+    fn go<S: Alter + Drop>(
+        self,
+        connection: Connection<S>,
+    ) -> (Result<Rows, StoreFault>, Connection<S>) {
+        match Store::open(connection) {
+            Ok(mut store) => {
+                let rows = store.load();
+                (rows, store.end())
+            }
+            Err(back) => (Err(back.fault), back.connection),
+        }
+    }
+}
+
+/// Makes the tables of the worked register in two files, of which one stops after so many calls,
+/// or tells why they were not made.
+pub fn make_over(
+    alloc: Global,
+    held: &Held,
+    part: Part,
+    calls: u64,
+) -> Result<(Option<StoreFault>, Behind), Fail> {
+    let network = network(alloc)?;
+    let making = Making {
+        network,
+        staff: staff(alloc)?,
     };
-    match Store::open(connection) {
-        Ok(store) => Ok(Some(rows_of(store)?)),
-        Err(back) if back.fault == StoreFault::Sql => Ok(None),
-        Err(back) => Err(back.fault.into()),
+    let (told, behind) = over_files(alloc, held, part, calls, making)?;
+    match told {
+        Ok(fault) => Ok((fault, behind)),
+        Err(fault) => Ok((Some(fault), behind)),
+    }
+}
+
+/// Carries out commands over two files, of which one stops after so many calls, where a desk can be
+/// opened.
+pub fn run_over(
+    alloc: Global,
+    held: &Held,
+    part: Part,
+    calls: u64,
+    commands: Vec<Command>,
+) -> Result<(Result<Run, DeskFault>, Behind), Fail> {
+    let (told, behind) = over_files(alloc, held, part, calls, Running { commands })?;
+    match told {
+        Ok(run) => Ok((run, behind)),
+        Err(fault) => Ok((Err(fault.into()), behind)),
+    }
+}
+
+/// The rows of the database that two files hold, or none where it is refused as `Sql`, as one
+/// without tables is.
+pub fn rows_over(alloc: Global, held: &Held) -> Result<Option<Rows>, Fail> {
+    let (told, _behind) = over_files(alloc, held, Part::Log, u64::MAX, Reading)?;
+    match told? {
+        Ok(rows) => Ok(Some(rows)),
+        Err(StoreFault::Sql) => Ok(None),
+        Err(fault) => Err(fault.into()),
     }
 }
 
 /// The two files of the worked register before its first command.
 pub fn new_register(alloc: Global) -> Result<Held, Fail> {
-    let (is_made, files) = make_in(alloc, whole_files(alloc, &Held::nothing(alloc))?)?;
-    if !is_made {
-        return Err("new tables".into());
+    let nothing = Held::nothing(alloc);
+    let (fault, behind) = make_over(alloc, &nothing, Part::Log, u64::MAX)?;
+    match fault {
+        None => Ok(behind.synced()),
+        Some(fault) => Err(fault.into()),
     }
-    let Files { log, db } = files;
-    let log = left_by(alloc, log)?.synced;
-    let db = left_by(alloc, db)?.synced;
-    Ok(Held { log, db })
 }

@@ -1,11 +1,12 @@
 //! A log and a database file in memory, of which one stops after so many calls.
-use sqlite::{Connection, FileStore, Files, Options};
+use clr_store::StoreFault;
+use sqlite::{Alter, Connection, FileStore, Files, Options};
 use sqlite_disk::{Crash, Disk, Fuse, Memory};
 use std::alloc::Global;
 use std::test::Fail;
 
 /// A file in memory that passes so many calls on, and then fails each.
-pub type Fused = Fuse<Memory>;
+type Fused = Fuse<Memory>;
 
 /// The bytes of a log and of its database file.
 #[derive(Drop)]
@@ -48,8 +49,74 @@ fn fused(alloc: Global, bytes: &[u8], calls: u64) -> Result<Fused, Fail> {
     Ok(Fuse::new(memory, calls))
 }
 
+/// What both files hold behind some work on them.
+#[derive(PartialEq, Drop)]
+pub struct Behind {
+    pub log: Left,
+    pub db: Left,
+    /// Whether each file passes one call more.
+    pub is_whole: bool,
+}
+
+impl Behind {
+    /// What a read of the files would give.
+    pub fn seen(self) -> Held {
+        let Behind { log, db, .. } = self;
+        Held {
+            log: log.seen,
+            db: db.seen,
+        }
+    }
+
+    /// What was synced of them.
+    pub fn synced(self) -> Held {
+        let Behind { log, db, .. } = self;
+        Held {
+            log: log.synced,
+            db: db.synced,
+        }
+    }
+}
+
+/// Work over a connection. It is stated for any store: what a check makes of a database of two
+/// files is made once, in `over_files`.
+pub trait Work {
+    type Told: Drop;
+
+    fn go<S: Alter + Drop>(self, connection: Connection<S>) -> (Self::Told, Connection<S>);
+}
+
+/// Does some work over the database of two files, of which one stops after so many calls, where a
+/// connection can be opened.
+pub fn over_files<W: Work + Drop>(
+    alloc: Global,
+    held: &Held,
+    part: Part,
+    calls: u64,
+    work: W,
+) -> Result<(Result<W::Told, StoreFault>, Behind), Fail> {
+    let files = files_of(alloc, held, part, calls)?;
+    let (told, files) = in_files(alloc, files, work);
+    Ok((told, left_behind(alloc, files)?))
+}
+
+/// Does some work over the database of two files, where a connection can be opened.
+fn in_files<D: Disk + Drop, W: Work + Drop>(
+    alloc: Global,
+    files: Files<D>,
+    work: W,
+) -> (Result<W::Told, StoreFault>, Files<D>) {
+    match connect(alloc, files) {
+        Ok(connection) => {
+            let (told, connection) = work.go(connection);
+            (Ok(told), close(connection))
+        }
+        Err((fault, files)) => (Err(fault), files),
+    }
+}
+
 /// Both files, of which one stops after so many calls.
-pub fn files_of(alloc: Global, held: &Held, part: Part, calls: u64) -> Result<Files<Fused>, Fail> {
+fn files_of(alloc: Global, held: &Held, part: Part, calls: u64) -> Result<Files<Fused>, Fail> {
     let (log_calls, db_calls) = match part {
         Part::Log => (calls, u64::MAX),
         Part::Db => (u64::MAX, calls),
@@ -59,18 +126,13 @@ pub fn files_of(alloc: Global, held: &Held, part: Part, calls: u64) -> Result<Fi
     Ok(Files { log, db })
 }
 
-/// Both files, which stop at no call.
-pub fn whole_files(alloc: Global, held: &Held) -> Result<Files<Fused>, Fail> {
-    files_of(alloc, held, Part::Log, u64::MAX)
-}
-
-/// Opens the database of two files, or hands the files back.
-pub fn connect<D: Disk + Drop>(
+/// Opens the database of two files, or hands the files back with the fault.
+fn connect<D: Disk + Drop>(
     alloc: Global,
     files: Files<D>,
-) -> Result<Connection<FileStore<D>>, Files<D>> {
+) -> Result<Connection<FileStore<D>>, (StoreFault, Files<D>)> {
     if !files.may_be_used() {
-        return Err(files);
+        return Err((StoreFault::Sql, files));
     }
     // The page cache is made anew at each opening, and these files have few pages.
     let options = Options {
@@ -79,12 +141,12 @@ pub fn connect<D: Disk + Drop>(
     };
     match Connection::open_files(alloc, files, options) {
         Ok(connection) => Ok(connection),
-        Err((_error, left)) => Err(left.into_files()),
+        Err((error, left)) => Err((error.into(), left.into_files())),
     }
 }
 
 /// Folds the log into the database file, where neither has stopped, and hands both back.
-pub fn close<D: Disk + Drop>(connection: Connection<FileStore<D>>) -> Files<D> {
+fn close<D: Disk + Drop>(connection: Connection<FileStore<D>>) -> Files<D> {
     match connection.close_files() {
         Ok(files) => files,
         Err((_error, store)) => store.close(),
@@ -96,13 +158,16 @@ fn passes_one(file: &mut Fused) -> bool {
     file.may_be_used() && file.len().is_ok()
 }
 
-/// Whether each of the files passes one call more than it was asked for.
-pub fn pass_one(files: &mut Files<Fused>) -> bool {
-    passes_one(&mut files.log) && passes_one(&mut files.db)
+/// What both files hold, and whether each passes one call more than it was asked for.
+fn left_behind(alloc: Global, mut files: Files<Fused>) -> Result<Behind, Fail> {
+    let is_whole = passes_one(&mut files.log) && passes_one(&mut files.db);
+    let log = left_by(alloc, files.log)?;
+    let db = left_by(alloc, files.db)?;
+    Ok(Behind { log, db, is_whole })
 }
 
 /// What a file holds.
-pub fn left_by(alloc: Global, mut file: Fused) -> Result<Left, Fail> {
+fn left_by(alloc: Global, mut file: Fused) -> Result<Left, Fail> {
     let seen = file.inner().bytes().to_vec(alloc)?;
     file.crash();
     let synced = file.inner().bytes().to_vec(alloc)?;
