@@ -132,21 +132,16 @@ edits_in_order k R by at (kinds.Repeat c n text) ordered =
     by_found (record_of R.records c) _ (λ r. by_found (step_at (present_steps R.steps c) n) _ (λ row. refl))
 edits_in_order k R by at (kinds.Report c n done) ordered =
     by_found (record_of R.records c) _ (λ r. by_found (step_at (present_steps R.steps c) n) _ (λ row. report_in_order R at done r row))
-edits_in_order k R by at (kinds.Grant c) ordered = by_found (record_of R.records c) _ (λ r. refl)
 edits_in_order k R by at (kinds.Test c section dead) ordered = by_found (record_of R.records c) _ (λ r. test_in_order dead (hold_of c Tested section) _)
-edits_in_order k R by at (kinds.Ground c section) ordered = by_found (record_of R.records c) _ (λ r. refl)
-edits_in_order k R by at (kinds.Unground c section) ordered = by_found (record_of R.records c) _ (λ r. refl)
-edits_in_order k R by at (kinds.SignOn c crew) ordered = by_found (record_of R.records c) _ (λ r. refl)
-edits_in_order k R by at (kinds.SignOff c crew) ordered = by_found (record_of R.records c) _ (λ r. refl)
-edits_in_order k R by at (kinds.Transfer c to emergency) ordered = by_found (record_of R.records c) _ (λ r. refl)
 edits_in_order k R by at (kinds.Release c notified clear) ordered = by_found (record_of R.records c) _ (λ r. release_in_order c R.holds _ ordered.holds)
-edits_in_order k R by at (kinds.Cancel c) ordered = by_found (record_of R.records c) _ (λ r. refl)
 edits_in_order k R by at (kinds.Restore c tasks) ordered = by_found (record_of R.records c) _ (λ r. round_in_order (record r { phase = Restoring; last = at }) c 2 tasks)
 edits_in_order k R by at (kinds.Amend c n) ordered =
     by_found (record_of R.records c) _ (λ r. by_found (step_at (present_steps R.steps c) n) _ (λ row. refl))
 edits_in_order k R by at (kinds.Switch tasks) ordered =
     round_in_order (new_record k by at None Switching) (record { requester = by; number = k + 1 }) 1 tasks
 edits_in_order k R by at (kinds.Show c) ordered = refl
+-- a hold of the clearance, if one, and then its record
+edits_in_order k R by at _ ordered = by_found {X = Record} (record_of R.records _) _ (λ r. refl)
 
 settled_in_order : (k : Known) (R : Register) (q : Command) (found : Option Refusal) → ListsAreInOrder R → are_in_order (Answer.edits (answer_by_checks k R q found)) ≡ true
 settled_in_order k R q None ordered = edits_in_order k.greatest R q.caller q.moment q.kind ordered

@@ -29,56 +29,49 @@ by_step T none R c n edits each = by_record T none R c (λ r. edits_by (step_at 
 
 -- ---- what is put
 
--- a record that is put is such, and so is a step that is put
-abbrev pub PutsSuch : (Record → Type 0) → (StepRow → Type 0) → Edit → Type 0
-PutsSuch P Q (PutRecord r) = P r
-PutsSuch P Q (PutStep row) = Q row
-PutsSuch P Q _ = Unit {0}
-
+-- each record that is put is such, and so is each step; of other edits nothing is said
 abbrev pub AllPutSuch : (Record → Type 0) → (StepRow → Type 0) → List Edit → Type 0
-AllPutSuch P Q edits = AllByRecursion (PutsSuch P Q) edits
+AllPutSuch P Q [] = Unit {0}
+AllPutSuch P Q (PutRecord r ∷ edits) = P r × AllPutSuch P Q edits
+AllPutSuch P Q (PutStep row ∷ edits) = Q row × AllPutSuch P Q edits
+AllPutSuch P Q (_ ∷ edits) = AllPutSuch P Q edits
 
 -- any row is such
 abbrev pub AnyStep : StepRow → Type 0
 AnyStep row = Unit {0}
 
 module _ (P : Record → Type 0) (Q : StepRow → Type 0) where
-  pub both_put : (before after : List Edit) → AllPutSuch P Q before → AllPutSuch P Q after → AllPutSuch P Q (before ++ after)
-  both_put [] after h k = k
-  both_put (edit ∷ before) after h k = (h.0, both_put before after h.1 k)
-
   pub steps_put : (rows : List StepRow) → AllByRecursion Q rows → AllPutSuch P Q (put_steps rows)
   steps_put [] h = tt
   steps_put (row ∷ rows) h = (h.0, steps_put rows h.1)
 
-  pub takes_put : (d : Id) (places : List (List ℕ)) → AllPutSuch P Q (map (λ place. TakeHold (hold_of d Tested place)) places)
-  takes_put d [] = tt
-  takes_put d (place ∷ places) = (tt, takes_put d places)
+  pub takes_put : (d : Id) (places : List (List ℕ)) (rest : List Edit) → AllPutSuch P Q rest
+      → AllPutSuch P Q (map (λ place. TakeHold (hold_of d Tested place)) places ++ rest)
+  takes_put d [] rest h = h
+  takes_put d (place ∷ places) rest h = takes_put d places rest h
 
   -- the edits of a step that is reported done put one record and one step
   pub done_put : (switching : Bool) (d : Id) (a : Action) (p : List ℕ) (s : Record) (row : StepRow) → P s → Q row
       → AllPutSuch P Q (point_edits switching d a p ++ PutRecord s ∷ PutStep row ∷ [])
-  done_put true d actions.Open p s row h k = (tt, (tt, (h, (k, tt))))
-  done_put false d actions.Open p s row h k = (tt, (tt, (tt, (h, (k, tt)))))
-  done_put switching d actions.Close p s row h k = (tt, (tt, (tt, (h, (k, tt)))))
-  done_put switching d _ p s row h k = (tt, (tt, (h, (k, tt))))
-
-  record_read : (edit : Edit) (R : Register) (c : Id) (s : Record) → PutsSuch P Q edit → record_of (Register.records (after_edit edit R)) c ≡ Some s
-      → (record_of R.records c ≡ Some s) ⊎ P s
-  record_read (PutRecord r) R c s such read = at (same_id r.id c) (sym (record_of-put r c R.records) ∙ read)
-    where
-      at : (b : Bool) → cond b (Some r) (record_of R.records c) ≡ Some s → (record_of R.records c ≡ Some s) ⊎ P s
-      at true is = inr (subst P (same_Some r s is) such)
-      at false is = inl is
-  record_read _ R c s such read = inl read
+  done_put true d actions.Open p s row h k = (h, (k, tt))
+  done_put false d actions.Open p s row h k = (h, (k, tt))
+  done_put switching d _ p s row h k = (h, (k, tt))
 
   -- a record that is read after edits was read before them, or is such as they put
   pub record_after : (edits : List Edit) (R : Register) (c : Id) (s : Record) → AllPutSuch P Q edits → record_of (Register.records (after_edits edits R)) c ≡ Some s
       → (record_of R.records c ≡ Some s) ⊎ P s
   unfolding after_edits
   record_after [] R c s such read = inl read
-  record_after (edit ∷ edits) R c s such read =
-      ⊎_elim (λ before. record_read edit R c s such.0 before) (λ h. inr h) (record_after edits (after_edit edit R) c s such.1 read)
+  record_after (PutRecord r ∷ edits) R c s such read = ⊎_elim at (λ h. inr h) (record_after edits (after_edit (PutRecord r) R) c s such.1 read)
+    where
+      at : record_of (Register.records (after_edit (PutRecord r) R)) c ≡ Some s → (record_of R.records c ≡ Some s) ⊎ P s
+      at read = by_id (same_id r.id c) (sym (record_of-put r c R.records) ∙ read)
+        where
+          by_id : (b : Bool) → cond b (Some r) (record_of R.records c) ≡ Some s → (record_of R.records c ≡ Some s) ⊎ P s
+          by_id true is = inr (subst P (same_Some r s is) such.0)
+          by_id false is = inl is
+  record_after (PutStep row ∷ edits) R c s such read = record_after edits (after_edit (PutStep row) R) c s such.1 read
+  record_after (edit ∷ edits) R c s such read = record_after edits (after_edit edit R) c s such read
 
 -- ---- holds that stay
 

@@ -1,5 +1,5 @@
 -- No command makes a number over 9,999, or a step of a third round.
-use Rattle.std.proofs.Common.{◌≡◌, ℕ, ◌+◌, ◌≤◌, Bool, true, false, cond, nat_eq, List, [], ◌∷◌, map, Option, Some, None, refl, sym, subst, arith, ◌⊎◌, inl, inr, ⊎_elim}
+use Rattle.std.proofs.Common.{◌≡◌, ℕ, ◌+◌, ◌≤◌, Bool, true, false, nat_eq, List, [], ◌∷◌, map, Option, Some, None, refl, sym, subst, arith, ◌⊎◌, inl, inr, ⊎_elim}
 use Rattle.std.specs.Prelude.{◌==◌}
 use Rattle.std.specs.List.{AllByRecursion}
 use Rattle.std.proofs.lemmas.Bool.{eqb-false}
@@ -12,11 +12,11 @@ use Rattle.clr_shelf.proofs.Members.{member-row_of}
 use Rattle.clr_rules.specs.Answer.{Answer, known_of, answer_by_checks}
 use Rattle.clr_rules.specs.Commands.{checks, edits_of}
 use Rattle.clr_rules.specs.BoundLaws.{IsBounded}
-use Rattle.clr_rules.specs.Changes.{done_edits, new_steps, put_steps, undone_edits}
+use Rattle.clr_rules.specs.Changes.{new_steps, put_steps}
 use Rattle.clr_rules.specs.Checks.{too_many_clearances}
 use Rattle.clr_rules.specs.EditLaws.{refusal_of}
-use Rattle.clr_rules.specs.Prelude.{Edit, SetPosition, SetHand, PutHold, TakeHold, PutRecord, PutStep, Command, Kind, Tested, Record, Refusal, StepRow, Id, id_cmp, id_cmp_total, Register, greatest_number, record_key, record_of, step_key}
-use Rattle.clr_rules.specs.Prelude.{step_key_cmp, step_key_cmp_total, present_steps, step_at, hold_of, places_of, after_edit, after_edits}
+use Rattle.clr_rules.specs.Prelude.{Edit, PutRecord, PutStep, Command, Kind, Tested, Record, Refusal, StepRow, Id, id_cmp, id_cmp_total, Register, greatest_number, record_key, record_of, step_key}
+use Rattle.clr_rules.specs.Prelude.{step_key_cmp, step_key_cmp_total, present_steps, step_at, places_of, after_edit, after_edits}
 use Rattle.clr_rules.proofs.good.Keeping.{asked}
 use Rattle.clr_rules.specs.Records.{is_switch_order}
 use Rattle.clr_rules.specs.Register.{opening}
@@ -26,7 +26,7 @@ use Rattle.clr_rules.specs.declared.refusal.Refusal.TheVariants.{TooManyClearanc
 use Rattle.clr_rules.proofs.lists.FoundSteps.{present_step}
 use Rattle.clr_rules.proofs.lists.Greatest.{greatest_is_greatest}
 use Rattle.clr_rules.proofs.edits.Passing.{Pass, all_pass, not_refused}
-use Rattle.clr_rules.proofs.edits.PutRows.{AllPutSuch, PutsSuch, both_put, by_record, by_step, done_put, steps_put, takes_put}
+use Rattle.clr_rules.proofs.edits.PutRows.{AllPutSuch, by_record, by_step, done_put, steps_put, takes_put}
 use Rattle.clr_rules.proofs.edits.Runs.{reached_have}
 
 abbrev IsNumber : Record → Type 0
@@ -69,47 +69,34 @@ module _ (R : Register) (bounded : IsBounded R) (by : List ℕ) (at : ℕ) where
       let (_, (_, (_, (number_passes, _)))) = passed in
       (next_number number_passes, tt)
   all_in_bounds (kinds.Order c points tasks) passed = by_record PutInBounds tt R c _ (λ r found. (of_record c r found, new_put c 1 tasks (inl refl)))
-  all_in_bounds (kinds.Instruct c n) passed = by_step PutInBounds tt R c n _ (λ r row found step. (tt, (of_record c r found, (of_step c n row step, tt))))
+  all_in_bounds (kinds.Instruct c n) passed = by_step PutInBounds tt R c n _ (λ r row found step. (of_record c r found, (of_step c n row step, tt)))
   all_in_bounds (kinds.Repeat c n text) passed = by_step PutInBounds tt R c n _ (λ r row found step. (of_record c r found, (of_step c n row step, tt)))
-  all_in_bounds (kinds.Report c n done) passed = by_step PutInBounds tt R c n _ (λ r row found step. by_done done r row (of_record c r found) (of_step c n row step))
-    where
-      by_done : (done : Bool) (r : Record) (row : StepRow) → IsNumber r → IsRound row → PutInBounds (cond done (done_edits R at r row) (undone_edits at r row))
-      by_done true r row number round = done_put IsNumber IsRound (is_switch_order r) r.id row.step.action row.step.point _ _ number round
-      by_done false r row number round = (tt, (number, (round, tt)))
-  all_in_bounds (kinds.Grant c) passed = by_record PutInBounds tt R c _ (λ r found. (of_record c r found, tt))
-  all_in_bounds (kinds.Test c section dead) passed = by_record PutInBounds tt R c _ (λ r found. by_dead dead (record r { last = at }) (of_record c r found))
-    where
-      by_dead : (dead : Bool) (s : Record) → IsNumber s → PutInBounds (cond dead (PutHold (hold_of c Tested section)) (TakeHold (hold_of c Tested section)) ∷ PutRecord s ∷ [])
-      by_dead true s number = (tt, (number, tt))
-      by_dead false s number = (tt, (number, tt))
-  all_in_bounds (kinds.Ground c section) passed = by_record PutInBounds tt R c _ (λ r found. (tt, (of_record c r found, tt)))
-  all_in_bounds (kinds.Unground c section) passed = by_record PutInBounds tt R c _ (λ r found. (tt, (tt, (of_record c r found, tt))))
-  all_in_bounds (kinds.SignOn c crew) passed = by_record PutInBounds tt R c _ (λ r found. (tt, (of_record c r found, tt)))
-  all_in_bounds (kinds.SignOff c crew) passed = by_record PutInBounds tt R c _ (λ r found. (tt, (of_record c r found, tt)))
-  all_in_bounds (kinds.Transfer c to emergency) passed = by_record PutInBounds tt R c _ (λ r found. (of_record c r found, tt))
+  all_in_bounds (kinds.Report c n true) passed = by_step PutInBounds tt R c n _ (λ r row found step.
+      done_put IsNumber IsRound (is_switch_order r) r.id row.step.action row.step.point _ _ (of_record c r found) (of_step c n row step))
+  all_in_bounds (kinds.Report c n false) passed = by_step PutInBounds tt R c n _ (λ r row found step. (of_record c r found, (of_step c n row step, tt)))
+  all_in_bounds (kinds.Test c section true) passed = by_record PutInBounds tt R c _ (λ r found. (of_record c r found, tt))
+  all_in_bounds (kinds.Test c section false) passed = by_record PutInBounds tt R c _ (λ r found. (of_record c r found, tt))
   all_in_bounds (kinds.Release c notified clear) passed = by_record PutInBounds tt R c _ (λ r found.
-      both_put IsNumber IsRound (map (λ place. TakeHold (hold_of c Tested place)) (places_of R.holds c Tested)) _
-      (takes_put IsNumber IsRound c (places_of R.holds c Tested)) (of_record c r found, tt))
-  all_in_bounds (kinds.Cancel c) passed = by_record PutInBounds tt R c _ (λ r found. (of_record c r found, tt))
+      takes_put IsNumber IsRound c (places_of R.holds c Tested) _ (of_record c r found, tt))
   all_in_bounds (kinds.Restore c tasks) passed = by_record PutInBounds tt R c _ (λ r found. (of_record c r found, new_put c 2 tasks (inr refl)))
   all_in_bounds (kinds.Amend c n) passed = by_step PutInBounds tt R c n _ (λ r row found step. (of_record c r found, (of_step c n row step, tt)))
   all_in_bounds (kinds.Switch tasks) passed =
       let (_, (_, (number_passes, _))) = passed in
       (next_number number_passes, new_put _ 1 tasks (inl refl))
   all_in_bounds (kinds.Show c) passed = tt
+  -- one record is put
+  all_in_bounds _ passed = by_record PutInBounds tt R _ _ (λ r found. (of_record _ r found, tt))
 
 -- edits that put in bounds
-edited_bounded : (edit : Edit) (R : Register) → PutsSuch IsNumber IsRound edit → IsBounded R → IsBounded (after_edit edit R)
-edited_bounded (PutRecord r) R such bounded =
-    record { numbers = All-with_row id_cmp record_key id_cmp_total IsNumber r R.records such bounded.numbers; rounds = bounded.rounds }
-edited_bounded (PutStep row) R such bounded =
-    record { numbers = bounded.numbers; rounds = All-with_row step_key_cmp step_key step_key_cmp_total IsRound row R.steps such bounded.rounds }
-edited_bounded _ R such bounded = record { numbers = bounded.numbers; rounds = bounded.rounds }
-
 edited_all_bounded : (edits : List Edit) (R : Register) → PutInBounds edits → IsBounded R → IsBounded (after_edits edits R)
 unfolding after_edits
 edited_all_bounded [] R such bounded = bounded
-edited_all_bounded (edit ∷ edits) R such bounded = edited_all_bounded edits (after_edit edit R) such.1 (edited_bounded edit R such.0 bounded)
+edited_all_bounded (PutRecord r ∷ edits) R such bounded = edited_all_bounded edits (after_edit (PutRecord r) R) such.1
+    (record { numbers = All-with_row id_cmp record_key id_cmp_total IsNumber r R.records such.0 bounded.numbers; rounds = bounded.rounds })
+edited_all_bounded (PutStep row ∷ edits) R such bounded = edited_all_bounded edits (after_edit (PutStep row) R) such.1
+    (record { numbers = bounded.numbers; rounds = All-with_row step_key_cmp step_key step_key_cmp_total IsRound row R.steps such.0 bounded.rounds })
+edited_all_bounded (edit ∷ edits) R such bounded =
+    edited_all_bounded edits (after_edit edit R) such (record { numbers = bounded.numbers; rounds = bounded.rounds })
 
 commands_bounded : (R : Register) (q : Command) → IsBounded R → IsBounded (after R q)
 commands_bounded R q bounded = at (refusal_of R q) refl

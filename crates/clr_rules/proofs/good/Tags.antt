@@ -33,7 +33,7 @@ use Rattle.clr_rules.proofs.edits.Passing.{Pass, all_pass, holder_begun, not_ref
 use Rattle.clr_rules.proofs.good.PhaseFacts.{first_present}
 use Rattle.clr_rules.proofs.good.PlaceFacts.{in_round}
 use Rattle.clr_rules.proofs.edits.PresentSteps.{IsPresent, step_there}
-use Rattle.clr_rules.proofs.edits.PutRows.{AllLeave, AllPutSuch, AnyStep, both_put, by_record, by_step, done_put, left_by_all, record_after, steps_leave, steps_put, takes_put}
+use Rattle.clr_rules.proofs.edits.PutRows.{AllLeave, AllPutSuch, AnyStep, by_record, by_step, done_put, left_by_all, record_after, steps_leave, steps_put, takes_put}
 use Rattle.clr_rules.proofs.lists.RoundSteps.{among_own, record_id}
 
 -- ---- how a clearance comes into a phase
@@ -109,41 +109,25 @@ module _ (R : Register) (k : Known) (by : List ℕ) (at : ℕ) where
   all_came (kinds.Order c points tasks) passed = by_record (AllPutSuch (CameSo R (kinds.Order c points tasks)) AnyStep) tt R c _ (λ r found.
       (tt, new_only (CameSo R (kinds.Order c points tasks)) c 1 1 tasks))
   all_came (kinds.Instruct c n) passed = by_step (AllPutSuch (CameSo R (kinds.Instruct c n)) AnyStep) tt R c n _ (λ r row found step.
-      (tt, (same_phase R (kinds.Instruct c n) r c found r.holder at, (tt, tt))))
+      (same_phase R (kinds.Instruct c n) r c found r.holder at, (tt, tt)))
   all_came (kinds.Repeat c n text) passed = by_step (AllPutSuch (CameSo R (kinds.Repeat c n text)) AnyStep) tt R c n _ (λ r row found step.
       (same_phase R (kinds.Repeat c n text) r c found r.holder at, (tt, tt)))
-  all_came (kinds.Report c n done) passed = by_step (AllPutSuch (CameSo R (kinds.Report c n done)) AnyStep) tt R c n _ (λ r row found step. by_done done r row found)
-    where
-      by_done : (done : Bool) (r : Record) (row : StepRow) → record_of R.records c ≡ Some r
-          → AllPutSuch (CameSo R (kinds.Report c n done)) AnyStep (cond done (done_edits R at r row) (undone_edits at r row))
-      by_done true r row found =
-          let now = step_moved Done row.step.reader row in
-          done_put (CameSo R (kinds.Report c n true)) AnyStep (is_switch_order r) r.id row.step.action row.step.point
-          (record r { phase = phase_after R.steps r now; last = at }) now
-          (ended R (kinds.Report c n true) r c found at (ends_with_steps r.phase && all_done (present_steps (with_row step_key_cmp step_key now R.steps) r.id))) tt
-      by_done false r row found = (tt, (same_phase R (kinds.Report c n false) r c found r.holder at, (tt, tt)))
+  all_came (kinds.Report c n true) passed = by_step (AllPutSuch (CameSo R (kinds.Report c n true)) AnyStep) tt R c n _ (λ r row found step.
+      let now = step_moved Done row.step.reader row in
+      done_put (CameSo R (kinds.Report c n true)) AnyStep (is_switch_order r) r.id row.step.action row.step.point
+      (record r { phase = phase_after R.steps r now; last = at }) now
+      (ended R (kinds.Report c n true) r c found at (ends_with_steps r.phase && all_done (present_steps (with_row step_key_cmp step_key now R.steps) r.id))) tt)
+  all_came (kinds.Report c n false) passed = by_step (AllPutSuch (CameSo R (kinds.Report c n false)) AnyStep) tt R c n _ (λ r row found step.
+      (same_phase R (kinds.Report c n false) r c found r.holder at, (tt, tt)))
   all_came (kinds.Grant c) passed = by_record (AllPutSuch (CameSo R (kinds.Grant c)) AnyStep) tt R c _ (λ r found. (tt, tt))
-  all_came (kinds.Test c section dead) passed = by_record (AllPutSuch (CameSo R (kinds.Test c section dead)) AnyStep) tt R c _ (λ r found. by_dead dead r found)
-    where
-      by_dead : (dead : Bool) (r : Record) → record_of R.records c ≡ Some r → AllPutSuch (CameSo R (kinds.Test c section dead)) AnyStep
-          (cond dead (PutHold (hold_of c Tested section)) (TakeHold (hold_of c Tested section)) ∷ PutRecord (record r { last = at }) ∷ [])
-      by_dead true r found = (tt, (same_phase R (kinds.Test c section true) r c found r.holder at, tt))
-      by_dead false r found = (tt, (same_phase R (kinds.Test c section false) r c found r.holder at, tt))
-  all_came (kinds.Ground c section) passed = by_record (AllPutSuch (CameSo R (kinds.Ground c section)) AnyStep) tt R c _ (λ r found.
-      (tt, (same_phase R (kinds.Ground c section) r c found r.holder at, tt)))
-  all_came (kinds.Unground c section) passed = by_record (AllPutSuch (CameSo R (kinds.Unground c section)) AnyStep) tt R c _ (λ r found.
-      (tt, (tt, (same_phase R (kinds.Unground c section) r c found r.holder at, tt))))
-  all_came (kinds.SignOn c crew) passed = by_record (AllPutSuch (CameSo R (kinds.SignOn c crew)) AnyStep) tt R c _ (λ r found.
-      (tt, (same_phase R (kinds.SignOn c crew) r c found r.holder at, tt)))
-  all_came (kinds.SignOff c crew) passed = by_record (AllPutSuch (CameSo R (kinds.SignOff c crew)) AnyStep) tt R c _ (λ r found.
-      (tt, (same_phase R (kinds.SignOff c crew) r c found r.holder at, tt)))
-  all_came (kinds.Transfer c to emergency) passed = by_record (AllPutSuch (CameSo R (kinds.Transfer c to emergency)) AnyStep) tt R c _ (λ r found.
-      (same_phase R (kinds.Transfer c to emergency) r c found to at, tt))
+  all_came (kinds.Test c section true) passed = by_record (AllPutSuch (CameSo R (kinds.Test c section true)) AnyStep) tt R c _ (λ r found.
+      (same_phase R (kinds.Test c section true) r c found r.holder at, tt))
+  all_came (kinds.Test c section false) passed = by_record (AllPutSuch (CameSo R (kinds.Test c section false)) AnyStep) tt R c _ (λ r found.
+      (same_phase R (kinds.Test c section false) r c found r.holder at, tt))
   all_came (kinds.Release c notified clear) passed =
       let (was, read, fits, (_, (_, (attested_passes, _)))) = holder_begun R c is_granted passed in
       by_record (AllPutSuch (CameSo R (kinds.Release c notified clear)) AnyStep) tt R c _ (λ r found.
-      both_put (CameSo R (kinds.Release c notified clear)) AnyStep (map (λ place. TakeHold (hold_of c Tested place)) (places_of R.holds c Tested)) _
-      (takes_put (CameSo R (kinds.Release c notified clear)) AnyStep c (places_of R.holds c Tested)) (
+      takes_put (CameSo R (kinds.Release c notified clear)) AnyStep c (places_of R.holds c Tested) _ (
         let said = attested notified clear attested_passes in
             let own_id = record_id R.records c r found in (
               r,
@@ -164,7 +148,11 @@ module _ (R : Register) (k : Known) (by : List ℕ) (at : ℕ) where
   all_came (kinds.Amend c n) passed = by_step (AllPutSuch (CameSo R (kinds.Amend c n)) AnyStep) tt R c n _ (λ r row found step.
       (same_phase R (kinds.Amend c n) r c found r.holder at, (tt, tt)))
   all_came (kinds.Switch tasks) passed = (tt, new_only (CameSo R (kinds.Switch tasks)) _ 1 1 tasks)
+  all_came (kinds.Transfer c to emergency) passed = by_record (AllPutSuch (CameSo R (kinds.Transfer c to emergency)) AnyStep) tt R c _ (λ r found.
+      (same_phase R (kinds.Transfer c to emergency) r c found to at, tt))
   all_came (kinds.Show c) passed = tt
+  -- the phase and the holder stay
+  all_came kind passed = by_record (AllPutSuch (CameSo R kind) AnyStep) tt R _ _ (λ r found. (same_phase R kind r _ found r.holder at, tt))
 
 -- a record that is read after a command was read before it, or came so into its phase
 came : (R : Register) (q : Command) (c : Id) (s : Record) → record_of (Register.records (after R q)) c ≡ Some s → (record_of R.records c ≡ Some s) ⊎ CameSo R q.kind s

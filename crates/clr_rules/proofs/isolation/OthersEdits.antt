@@ -147,19 +147,11 @@ module _ (c : Id) (R : Register) (k : Known) (by : List ℕ) (at : ℕ) where
       check_of_found (step_at (present_steps R.steps d) n) row (λ row. refuse (not (is_repeated row.step.state)) WrongState) found
       state_passes in
       report_spares c R d row n (matches refl) others found (not_refused_true (is_repeated row.step.state) WrongState check) at done r own step)
-  edits_spare (kinds.Grant d) matches others passed = by_record c R d _ others (λ r own. and_from _ _ own refl)
   edits_spare (kinds.Test d section true) matches others passed = by_record c R d _ others (λ r own. and_from _ _ others (and_from _ _ own refl))
   edits_spare (kinds.Test d section false) matches others passed = by_record c R d _ others (λ r own. and_from _ _ others (and_from _ _ own refl))
-  edits_spare (kinds.Ground d section) matches others passed = by_record c R d _ others (λ r own. and_from _ _ others (and_from _ _ own refl))
-  edits_spare (kinds.Unground d section) matches others passed =
-      by_record c R d _ others (λ r own. and_from _ _ others (and_from _ _ others (and_from _ _ own refl)))
-  edits_spare (kinds.SignOn d crew) matches others passed = by_record c R d _ others (λ r own. and_from _ _ others (and_from _ _ own refl))
-  edits_spare (kinds.SignOff d crew) matches others passed = by_record c R d _ others (λ r own. and_from _ _ others (and_from _ _ own refl))
-  edits_spare (kinds.Transfer d to emergency) matches others passed = by_record c R d _ others (λ r own. and_from _ _ own refl)
   edits_spare (kinds.Release d notified clear) matches others passed = by_record c R d _ others (λ r own.
       list_all-append (spares c R) (map (λ place. TakeHold (hold_of d Tested place)) (places_of R.holds d Tested)) _
       ∙ and_from _ _ (takes_spare c R d (places_of R.holds d Tested) others) (and_from _ _ own refl))
-  edits_spare (kinds.Cancel d) matches others passed = by_record c R d _ others (λ r own. and_from _ _ own refl)
   edits_spare (kinds.Restore d tasks) matches others passed =
       by_record c R d _ others (λ r own. and_from _ _ own (steps_spare c R d 2 1 tasks others))
   edits_spare (kinds.Amend d n) matches others passed =
@@ -167,6 +159,8 @@ module _ (c : Id) (R : Register) (k : Known) (by : List ℕ) (at : ℕ) where
   edits_spare (kinds.Switch tasks) matches others passed =
       and_from _ _ others (steps_spare c R (reply_clearance k.greatest by None) 1 1 tasks others)
   edits_spare (kinds.Show d) matches others passed = refl
+  -- holds of the clearance, and its record
+  edits_spare _ matches others passed = by_record c R _ _ others (λ r own. simp (others, own))
 
 -- a command about another is about another
 concerned_is_another : (c : Id) (R : Register) (by : List ℕ) (greatest : ℕ) (named : Option Id) → greatest ≡ greatest_number R.records (requester_for by named)
