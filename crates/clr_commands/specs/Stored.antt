@@ -35,7 +35,7 @@ abbrev pub BoardAt : {T : Type 0} → (T → List ℕ) → (List ℕ → Option 
     → Result T Fault → Type 0
 BoardAt view register_at rows result =
     IfSome (register_at (word_in rows (codes "DB"))) (λ R. TellsStored view
-    (Ok (board_text R.records (offset_in (first_of (codes "offset") rows)))) result)
+    (Ok (board_text R (offset_in (first_of (codes "offset") rows)))) result)
 
 -- why a register has no such order: memory ran out, or it is not there
 abbrev pub IsOfOrder : Fault → Type 0

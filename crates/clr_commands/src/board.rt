@@ -49,7 +49,7 @@ fn board_over<S: Alter + Drop>(
     requires low { neg_ℤ (pos 720) ≤ℤ offset }
     requires high { offset ≤ℤ pos 840 }
     ensures told { (R : Register) → HasRegister S.Store R connection → TellsStored
-        (λ text. string_bytes text) (Ok (board_text R.records offset)) result.0 }
+        (λ text. string_bytes text) (Ok (board_text R offset)) result.0 }
     ensures read { OnOk result.0 (IsOnlyRead S.Store connection result.1) }
     ensures survives { Survives (state S.Store connection) (state S.Store result.1) (λ _. ⊥) }
     ensures refused { IfErr result.0 (λ fault. (fault ≡ Fault.Memory)
@@ -79,7 +79,7 @@ where
     requires low { neg_ℤ (pos 720) ≤ℤ offset }
     requires high { offset ≤ℤ pos 840 }
     ensures text { IfOk result (λ text. string_bytes text
-        ≡ board_text book.now.register.records offset) }
+        ≡ board_text book.now.register offset) }
     ensures fault { IfErr result (λ fault. fault ≡ Fault.Memory) }
 {
     let text = print_board(alloc, book, offset)?;

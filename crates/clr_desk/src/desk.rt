@@ -321,5 +321,8 @@ impl<S: Alter + Drop> Desk<S> {
 fn is_accepted(reply: &Reply) -> bool
     ensures { result ≡ is_accepted reply.now }
 {
-    matches!(reply, Reply::Accepted(_))
+    match reply {
+        Reply::Accepted(_) => true,
+        Reply::Shown(_) | Reply::Refused(_) => false,
+    }
 }

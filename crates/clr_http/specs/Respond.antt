@@ -82,7 +82,7 @@ abbrev pub target_outcome : Register → Target → List ℕ → Outcome
 target_outcome R asked.Command body = body_outcome R (read_command body)
 target_outcome R (asked.Clearance viewing) body = view_outcome R viewing
 target_outcome R (asked.Order printing) body = order_outcome R printing
-target_outcome R asked.Board body = unchanged R (printed (board_text R.records (pos 0)))
+target_outcome R asked.Board body = unchanged R (printed (board_text R (pos 0)))
 
 abbrev pub reading_outcome : Register → Reading → Outcome
 reading_outcome R (refused c) = unchanged R c

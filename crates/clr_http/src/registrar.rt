@@ -52,7 +52,7 @@ pub trait Registrar {
     /// The board as it is printed, by a clock at offset 0.
     fn board(&self, alloc: Global) -> Result<String, AllocError>
         ensures { IfOk result (λ text. string_bytes text
-            ≡ board_text (keeper self.now).register.records (pos 0)) };
+            ≡ board_text (keeper self.now).register (pos 0)) };
 
     ghost stays: { (one : Self) → leads_to one one };
 

@@ -23,13 +23,13 @@ returns-clause-told g c =
     let rows = rows_of (found_of c.args.matches.now) in
     let tells : (R : Register) → HasRegister over_files R c.in_ok-connection.connection
     → TellsStored (λ text. string_bytes text)
-    (Ok (board_text R.records (offset_in (first_of (codes "offset") rows)))) c.board_over-told.result.0 =
+    (Ok (board_text R (offset_in (first_of (codes "offset") rows)))) c.board_over-told.result.0 =
     λ R has.
     let fits : FitsSigned w16 c.offset_of-offset.result = search rules in
     let offset : to_z w16 (of_z w16 c.offset_of-offset.result) ≡ offset_in (first_of (codes "offset") rows) =
     to_z-of_z fits ∙ c.offset_of-offset.ensures.named in
     (subst (λ expected. TellsStored (λ text. string_bytes text) expected told)
-    (λ i. Ok (board_text R.records (offset i))) (c.board_over-told.ensures.told R has)) in
+    (λ i. Ok (board_text R (offset i))) (c.board_over-told.ensures.told R has)) in
     IfSome-from _ _ _ tells known
 
 -- the database is the one at the path

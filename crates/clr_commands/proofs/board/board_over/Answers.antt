@@ -19,7 +19,7 @@ returns-in-Ok-clause-told g c R known =
     ap (λ (b : Shelved). b.register) c.book.ensures ∙ is.0 in
     let fits : FitsSigned w16 c.args.offset = search rules in
     let offset : to_z w16 (of_z w16 c.args.offset) ≡ c.args.offset = to_z-of_z fits in
-    TellsStored-board _ _ c.board_of-told.result (λ i. board_text (register i).records (offset i))
+    TellsStored-board _ _ c.board_of-told.result (λ i. board_text (register i) (offset i))
     c.board_of-told.ensures.text c.board_of-told.ensures.fault
 
 pub returns-in-Err-clause-told : goal.returns-in-Err-clause-told
