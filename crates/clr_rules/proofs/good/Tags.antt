@@ -287,20 +287,19 @@ module _ (R : Register) (good : IsGoodByPhase R) (c : Id) (p : List ℕ) (k : Kn
       let s = step_there R d n step_passes in
       report_leaves R c p good by at d n r found (subst (λ (x : Record). is_running x.phase ≡ true) (same_Some was r (sym read ∙ found)) fits) row step
       (subst (IsPresent R d) (same_Some s.row row (sym s.found ∙ step)) s.is_present) done)
-  leaves_or_untags (kinds.Grant d) passed = inl (by_record (AllLeave c Tag p) tt R d _ (λ r found. (tt, tt)))
   leaves_or_untags (kinds.Test d section dead) passed = inl (by_record (AllLeave c Tag p) tt R d _ (λ r found. test_leaves R c p d section dead (record r { last = at })))
   leaves_or_untags (kinds.Ground d section) passed = inl (by_record (AllLeave c Tag p) tt R d _ (λ r found. (tt, (tt, tt))))
   leaves_or_untags (kinds.Unground d section) passed = inl (by_record (AllLeave c Tag p) tt R d _ (λ r found. (refl, (refl, (tt, tt)))))
   leaves_or_untags (kinds.SignOn d crew) passed = inl (by_record (AllLeave c Tag p) tt R d _ (λ r found. (tt, (tt, tt))))
   leaves_or_untags (kinds.SignOff d crew) passed = inl (by_record (AllLeave c Tag p) tt R d _ (λ r found. (refl, (tt, tt))))
-  leaves_or_untags (kinds.Transfer d to emergency) passed = inl (by_record (AllLeave c Tag p) tt R d _ (λ r found. (tt, tt)))
   leaves_or_untags (kinds.Release d notified clear) passed = inl (by_record (AllLeave c Tag p) tt R d _ (λ r found.
       both_leave R c p (map (λ place. TakeHold (hold_of d Tested place)) (places_of R.holds d Tested)) _ (tests_leave R c p d (places_of R.holds d Tested)) (tt, tt)))
-  leaves_or_untags (kinds.Cancel d) passed = inl (by_record (AllLeave c Tag p) tt R d _ (λ r found. (tt, tt)))
   leaves_or_untags (kinds.Restore d tasks) passed = inl (by_record (AllLeave c Tag p) tt R d _ (λ r found. (tt, steps_leave c Tag p (new_steps d 2 1 tasks))))
   leaves_or_untags (kinds.Amend d n) passed = inl (by_step (AllLeave c Tag p) tt R d n _ (λ r row found step. (tt, (tt, tt))))
   leaves_or_untags (kinds.Switch tasks) passed = inl (tt, steps_leave c Tag p (new_steps _ 1 1 tasks))
   leaves_or_untags (kinds.Show d) passed = inl tt
+  -- the record alone
+  leaves_or_untags _ passed = inl (by_record (AllLeave c Tag p) tt R _ _ (λ r found. (tt, tt)))
 
 pub tags_are_untagged : TagsAreUntagged
 tags_are_untagged R q c p good has gone = at (refusal_of R q) refl gone
