@@ -1,7 +1,7 @@
 -- Commands whose values are of their types keep those of the register so.
 use Rattle.std.proofs.Common.{◌≡◌, ℕ, ◌+◌, ◌≤◌, Bool, true, false, cond, ◌&&◌, nat_eq, nat_le, nat_lt, List, [], ◌∷◌, ◌++◌, length, map, Option, Some, None, refl, sym, ◌∙◌, ap, subst, arith, ⊎_elim}
 use Rattle.std.specs.Cmp.{IsTotalOrder}
-use Rattle.std.specs.List.{AllByRecursion, list_all}
+use Rattle.std.specs.List.{list_all}
 use Rattle.std.specs.Prelude.{◌==◌}
 use Rattle.std.specs.declared.cmp.Ordering.{Ordering}
 use Rattle.std.proofs.lemmas.Bool.{and_parts, eqb-false, le-leb, leb-true, ltb-false}
@@ -20,7 +20,7 @@ use Rattle.clr_shelf.proofs.Members.{member-row_of}
 use Rattle.clr_shelf.specs.Rows.{with_row, without_row}
 use Rattle.clr_rules.specs.Answer.{Answer, known_of, answer_by_checks}
 use Rattle.clr_rules.specs.Commands.{checks, edits_of}
-use Rattle.clr_rules.specs.Changes.{cancelled_phase, done_edits, step_moved, new_steps, phase_after, point_edits, put_steps, undone_edits}
+use Rattle.clr_rules.specs.Changes.{done_edits, step_moved, new_steps, phase_after, point_edits, put_steps, undone_edits}
 use Rattle.clr_rules.specs.Checks.{too_many_clearances, unsound_order}
 use Rattle.clr_rules.specs.EditLaws.{refusal_of}
 use Rattle.clr_rules.specs.Edits.{after_edit, after_edits}
@@ -40,7 +40,7 @@ use Rattle.clr_rules.specs.declared.command.Kind.{Kind}
 use Rattle.clr_rules.specs.declared.command.Kind.TheVariants as kinds
 use Rattle.clr_rules.specs.declared.hold_kind.HoldKind.TheVariants.{Tested}
 use Rattle.clr_rules.specs.declared.phase.Phase.{Phase}
-use Rattle.clr_rules.specs.declared.phase.Phase.TheVariants.{Ordered, Granted, Released, Restoring}
+use Rattle.clr_rules.specs.declared.phase.Phase.TheVariants.{Ordered, Released, Restoring}
 use Rattle.clr_rules.specs.declared.point_state.PointState.{PointState}
 use Rattle.clr_rules.specs.declared.record.Record.{Record}
 use Rattle.clr_rules.specs.declared.refusal.Refusal.{Refusal}
@@ -69,7 +69,10 @@ IsTypedEdit (PutRecord r) = is_typed_record r ≡ true
 IsTypedEdit (PutStep row) = is_typed_step row ≡ true
 
 abbrev AllTyped : List Edit → Type 0
-AllTyped edits = AllByRecursion IsTypedEdit edits
+AllTyped [] = Unit {0}
+AllTyped (SetPosition p position ∷ edits) = AllTyped edits
+AllTyped (TakeHold h ∷ edits) = AllTyped edits
+AllTyped (edit ∷ edits) = IsTypedEdit edit × AllTyped edits
 
 put_typed : {Key Row : Type 0} (compare : Key → Key → Ordering) (key_of : Row → Key) → IsTotalOrder compare → (typed : Row → Bool) (row : Row) (rows : List Row)
     → typed row ≡ true → list_all typed rows ≡ true → list_all typed (with_row compare key_of row rows) ≡ true
@@ -149,6 +152,9 @@ edited_typed (PutStep row) R is typed = record {
 edited_all_typed : (edits : List Edit) (R : Register) → AllTyped edits → IsTyped R → IsTyped (after_edits edits R)
 unfolding after_edits
 edited_all_typed [] R all typed = typed
+edited_all_typed (SetPosition p position ∷ edits) R all typed =
+    edited_all_typed edits (after_edit (SetPosition p position) R) all (edited_typed (SetPosition p position) R tt typed)
+edited_all_typed (TakeHold h ∷ edits) R all typed = edited_all_typed edits (after_edit (TakeHold h) R) all (edited_typed (TakeHold h) R tt typed)
 edited_all_typed (edit ∷ edits) R all typed = edited_all_typed edits (after_edit edit R) all.1 (edited_typed edit R all.0 typed)
 
 -- ---- the steps of an order
@@ -230,20 +236,20 @@ module _ (R : Register) (typed : IsTyped R) (by : List ℕ) (at : ℕ) (caller :
   done_typed : (switching : Bool) (d : Id) (a : Action) (p : List ℕ) (s : Record) (row : StepRow) → is_id d ≡ true → is_name p ≡ true
       → is_typed_record s ≡ true → is_typed_step row ≡ true
       → AllTyped (point_edits switching d a p ++ PutRecord s ∷ PutStep row ∷ [])
-  done_typed true d actions.Open p s row id named h k = (tt, (refl, (h, (k, tt))))
-  done_typed false d actions.Open p s row id named h k = (tt, (refl, (rw (named, id) refl, (h, (k, tt)))))
-  done_typed switching d actions.Close p s row id named h k = (tt, (refl, (tt, (h, (k, tt)))))
+  done_typed true d actions.Open p s row id named h k = (refl, (h, (k, tt)))
+  done_typed false d actions.Open p s row id named h k = (refl, (rw (named, id) refl, (h, (k, tt))))
   done_typed switching d actions.Block p s row id named h k = (refl, (rw (named, id) refl, (h, (k, tt))))
   done_typed switching d actions.Control p s row id named h k = (refl, (rw (named, id) refl, (h, (k, tt))))
   done_typed switching d actions.Tag p s row id named h k = (refl, (rw (named, id) refl, (h, (k, tt))))
-  done_typed switching d actions.Untag p s row id named h k = (refl, (tt, (h, (k, tt))))
-  done_typed switching d actions.Uncontrol p s row id named h k = (refl, (tt, (h, (k, tt))))
-  done_typed switching d actions.Unblock p s row id named h k = (refl, (tt, (h, (k, tt))))
-  done_typed switching d actions.Leave p s row id named h k = (refl, (tt, (h, (k, tt))))
+  done_typed switching d _ p s row id named h k = (refl, (h, (k, tt)))
 
   takes_typed : (d : Id) (places : List (List ℕ)) (rest : List Edit) → AllTyped rest → AllTyped (map (λ place. TakeHold (hold_of d Tested place)) places ++ rest)
   takes_typed d [] rest all = all
-  takes_typed d (place ∷ places) rest all = (tt, takes_typed d places rest all)
+  takes_typed d (place ∷ places) rest all = takes_typed d places rest all
+
+  -- a hold of the clearance, at a place that the command names
+  hold_named : (c : Id) (place : List ℕ) → (is_id c && is_name place) ≡ true → (is_name place && is_id c) ≡ true
+  hold_named c place is = let (id, named) = and_parts (is_id c) (is_name place) is in rw (named, id) refl
 
   -- a new clearance of the caller's
   next_id : too_many_clearances (greatest_number R.records by) ≡ None → is_id (record { requester = by; number = greatest_number R.records by + 1 }) ≡ true
@@ -290,25 +296,14 @@ module _ (R : Register) (typed : IsTyped R) (by : List ℕ) (at : ℕ) (caller :
           (record_parts r (record_typed c r found)).id row_is.point (put_back c r (phase_after R.steps r now) found)
           (step_later row.step.action Done row.step.reader row row_is.reader row_is)
       by_done false r row found row_is = (refl, (put_back c r r.phase found, (step_later row.step.action Waiting None row refl row_is, tt)))
-  all_typed (kinds.Grant c) is passed = by_record AllTyped tt R c _ (λ r found. (put_back c r Granted found, tt))
-  all_typed (kinds.Test c section dead) is passed = by_record AllTyped tt R c _ (λ r found.
-      by_dead dead (record r { last = at }) (put_back c r r.phase found) (named_typed c r found) (and_parts (is_id c) (is_name section) is).1)
-    where
-      by_dead : (dead : Bool) (s : Record) → is_typed_record s ≡ true → is_id c ≡ true → is_name section ≡ true
-          → AllTyped (cond dead (PutHold (hold_of c Tested section)) (TakeHold (hold_of c Tested section)) ∷ PutRecord s ∷ [])
-      by_dead true s s_is id named = (rw (named, id) refl, (s_is, tt))
-      by_dead false s s_is id named = (tt, (s_is, tt))
-  all_typed (kinds.Ground c section) is passed = by_record AllTyped tt R c _ (λ r found.
-      let id = named_typed c r found in let named = (and_parts (is_id c) (is_name section) is).1 in (rw (named, id) refl, (put_back c r r.phase found, tt)))
-  all_typed (kinds.Unground c section) is passed = by_record AllTyped tt R c _ (λ r found. (tt, (tt, (put_back c r r.phase found, tt))))
-  all_typed (kinds.SignOn c crew) is passed = by_record AllTyped tt R c _ (λ r found.
-      let id = named_typed c r found in let named = (and_parts (is_id c) (is_name crew) is).1 in (rw (named, id) refl, (put_back c r r.phase found, tt)))
-  all_typed (kinds.SignOff c crew) is passed = by_record AllTyped tt R c _ (λ r found. (tt, (put_back c r r.phase found, tt)))
+  all_typed (kinds.Test c section true) is passed = by_record AllTyped tt R c _ (λ r found. (hold_named c section is, (put_back c r r.phase found, tt)))
+  all_typed (kinds.Test c section false) is passed = by_record AllTyped tt R c _ (λ r found. (put_back c r r.phase found, tt))
+  all_typed (kinds.Ground c section) is passed = by_record AllTyped tt R c _ (λ r found. (hold_named c section is, (put_back c r r.phase found, tt)))
+  all_typed (kinds.SignOn c crew) is passed = by_record AllTyped tt R c _ (λ r found. (hold_named c crew is, (put_back c r r.phase found, tt)))
   all_typed (kinds.Transfer c to emergency) is passed = by_record AllTyped tt R c _ (λ r found.
       (later to r.phase c r found (and_parts (is_id c) (is_name to) is).1, tt))
   all_typed (kinds.Release c notified clear) is passed = by_record AllTyped tt R c _ (λ r found.
       takes_typed c (places_of R.holds c Tested) _ (put_back c r Released found, tt))
-  all_typed (kinds.Cancel c) is passed = by_record AllTyped tt R c _ (λ r found. (put_back c r (cancelled_phase R r) found, tt))
   all_typed (kinds.Restore c tasks) is passed =
       let (_, (_, (_, (_, (_, (order_passes, _)))))) = passed in
       by_record AllTyped tt R c _ (λ r found.
@@ -323,6 +318,8 @@ module _ (R : Register) (typed : IsTyped R) (by : List ℕ) (at : ℕ) (caller :
       let few = (switching_passed R tasks order_passes).steps_fit in
       (rw (id, caller, time) refl, new_typed _ 1 1 tasks id refl (omega arith) is)
   all_typed (kinds.Show c) is passed = tt
+  -- the record, behind holds that are taken
+  all_typed _ is passed = by_record AllTyped tt R _ _ (λ r found. (put_back _ r r.phase found, tt))
 
 pub commands_keep_typed : CommandsKeepTyped
 commands_keep_typed R q typed is = at (refusal_of R q) refl
