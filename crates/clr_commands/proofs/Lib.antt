@@ -11,3 +11,4 @@ pub mod RunAnswers
 pub mod RunOfInput
 pub mod Serving
 pub mod Unanswered
+pub mod Unserved

@@ -1,6 +1,6 @@
 -- Why nothing came of a database.
 use Rattle.std.proofs.Common.{◌≡◌, ◌⊎◌, inl, inr, subst, sym, ℕ, Result, Ok, Err}
-use Rattle.std.specs.Prelude.{IfErr, IsErrAnd, OnErr, OnOk}
+use Rattle.std.specs.Prelude.{IfErr, OnErr, OnOk}
 use Rattle.sqlite.specs.Effect.{Database}
 use Rattle.sqlite.specs.Files.{over_files}
 use Rattle.sqlite.specs.Held.{Held, state}
@@ -8,39 +8,33 @@ use Rattle.sqlite.specs.State.{Survives}
 use Rattle.sqlite_disk.specs.declared.Disk as disk
 use Rattle.sqlite_store.specs.declared.store.FileStore.{FileStore}
 use Rattle.clr_csv.specs.Streams.{Stream}
-use Rattle.clr_edge.specs.Database.{IsOfLine, IsRefused}
+use Rattle.clr_edge.specs.Database.{IsRefused}
 use Rattle.clr_edge.specs.declared.fault.Fault.{Fault}
 use Rattle.clr_commands.specs.Serve.{IsOfServer, ServesNot}
 use Rattle.clr_commands.specs.Stored.{UnansweredAt}
 
 -- the database was opened, and refused or asked in vain
-pub unanswered_at : {T D : Type 0} (g : disk.Ghosts D) (IsAt : Database → Type 0) (IsOwn : Fault → Type 0) (result : Result T Fault)
+pub unanswered_at : {T D : Type 0} (g : disk.Ghosts D) (IsAt : Database → Type 0) (IsShut : Type 0) (IsOwn : Fault → Type 0) (result : Result T Fault)
     (before after : Held (FileStore D g)) → IsAt (state over_files before).now
     → IfErr result (λ fault. IsOwn fault ⊎ IsRefused over_files before fault after)
-    → Survives (state over_files before) (state over_files after) (λ _. ⊥) → IfErr result (UnansweredAt g IsAt IsOwn)
-unanswered_at g IsAt IsOwn (Ok value) before after at cause survives = tt
-unanswered_at g IsAt IsOwn (Err fault) before after at cause survives =
+    → Survives (state over_files before) (state over_files after) (λ _. ⊥) → IfErr result (UnansweredAt g IsAt IsShut IsOwn)
+unanswered_at g IsAt IsShut IsOwn (Ok value) before after at cause survives = tt
+unanswered_at g IsAt IsShut IsOwn (Err fault) before after at cause survives =
     inr (before, after, at, record { cause = cause; survives = survives })
 
 -- the same where that is said of a fault alone
-pub unanswered_behind : {T D : Type 0} (g : disk.Ghosts D) (IsAt : Database → Type 0) (IsOwn : Fault → Type 0) (result : Result T Fault)
+pub unanswered_behind : {T D : Type 0} (g : disk.Ghosts D) (IsAt : Database → Type 0) (IsShut : Type 0) (IsOwn : Fault → Type 0) (result : Result T Fault)
     (before after : Held (FileStore D g)) → IsAt (state over_files before).now
     → IfErr result (λ fault. IsOwn fault ⊎ IsRefused over_files before fault after)
-    → OnErr result (Survives (state over_files before) (state over_files after) (λ _. ⊥)) → IfErr result (UnansweredAt g IsAt IsOwn)
-unanswered_behind g IsAt IsOwn (Ok value) before after at cause survives = tt
-unanswered_behind g IsAt IsOwn (Err fault) before after at cause survives =
+    → OnErr result (Survives (state over_files before) (state over_files after) (λ _. ⊥)) → IfErr result (UnansweredAt g IsAt IsShut IsOwn)
+unanswered_behind g IsAt IsShut IsOwn (Ok value) before after at cause survives = tt
+unanswered_behind g IsAt IsShut IsOwn (Err fault) before after at cause survives =
     inr (before, after, at, record { cause = cause; survives = survives })
 
 -- a fault of one kind is of one of two
 pub own_fault : {T : Type 0} (result : Result T Fault) (P Q : Fault → Type 0) → IfErr result P → IfErr result (λ fault. P fault ⊎ Q fault)
 own_fault (Ok value) P Q is = tt
 own_fault (Err fault) P Q is = inl is
-
--- it was not opened
-pub unopened_at : {T D : Type 0} (g : disk.Ghosts D) (IsAt : Database → Type 0) (IsOwn : Fault → Type 0) (result : Result T Fault) (found : Fault)
-    → IsErrAnd result (λ cause. cause ≡ found) → IsOfLine found → IfErr result (UnansweredAt g IsAt IsOwn)
-unopened_at g IsAt IsOwn (Ok value) found is line = tt
-unopened_at g IsAt IsOwn (Err cause) found is line = inl (subst (λ (f : Fault). IsOfLine f) (sym is) line)
 
 -- a fault that is told behind the closing is the one that was before
 pub told_behind : {T : Type 0} (before result : Result T Fault) (P : Fault → Type 0) → OnOk before (IfErr result (λ _. ⊥))

@@ -4,6 +4,7 @@ use Rattle.std.specs.Prelude.{IsTrue, Result, Ok, Err, string_bytes}
 use Rattle.sqlite.specs.Effect.{Database}
 use Rattle.sqlite.specs.Files.{over_files}
 use Rattle.sqlite.specs.Held.{Held, state}
+use Rattle.sqlite.specs.State.{Survives}
 use Rattle.sqlite_disk.specs.declared.Disk as disk
 use Rattle.sqlite_store.specs.declared.store.FileStore.{FileStore}
 use Rattle.sqlite_trees.specs.declared.store.Store.{Ghosts}
@@ -21,7 +22,7 @@ use Rattle.clr_http.specs.declared.serve.HttpFault.{HttpFault}
 use Rattle.clr_http.specs.declared.serve.HttpFault.TheVariants.{NoMemory, ReadFailed, WriteFailed}
 use Rattle.clr_http.specs.declared.serve.Served.{Served}
 use Rattle.clr_csv.specs.Streams.{IsCut, Sends, Stream, WentOut}
-use Rattle.clr_edge.specs.Database.{HasRegister, IsOfLine, IsOfStore}
+use Rattle.clr_edge.specs.Database.{HasRegister, IsOfLine, IsOfStore, IsRefused, IsUnopened}
 use Rattle.clr_edge.specs.declared.fault.Fault.{Fault}
 use Rattle.clr_edge.specs.declared.fault.Fault.TheVariants.{Listen, Memory, Output}
 
@@ -68,6 +69,28 @@ unfoldable pub TellsFirst : ℕ → Stream → Stream → Type 0
 TellsFirst zero errors errors' = errors' ≡ errors
 TellsFirst (suc n) errors errors' = (middle : Stream) × TellsFirst n errors middle
     × TellsNext (n + 1) middle errors'
+
+-- What the errors are told of the next connection: it came, as `comes` says, and was served; or
+-- none could be taken, for a reason that `misses` has, and that is told.
+abbrev pub TakesNext : {C : Type 0} → (C → Type 0) → (ErrorKind → Type 0) → ℕ → Stream → Stream
+    → Type 0
+TakesNext {C} comes misses number errors errors' =
+    ((connection : C) × comes connection × TellsNext number errors errors')
+    ⊎ ((kind : ErrorKind) × misses kind
+    × TellsConnection number (Err (accept_fault kind)) errors errors')
+
+-- the same of the first connections, one after the other
+unfoldable pub TakesFirst : {C : Type 0} → (C → Type 0) → (ErrorKind → Type 0) → ℕ → Stream → Stream
+    → Type 0
+TakesFirst comes misses zero errors errors' = errors' ≡ errors
+TakesFirst comes misses (suc n) errors errors' = (middle : Stream)
+    × TakesFirst comes misses n errors middle × TakesNext comes misses (n + 1) middle errors'
+
+-- THE CONNECTIONS OF A PORT: it was listened on, and so many were taken from the listener
+abbrev pub TakesAt : {L C : Type 0} → (L → ℕ → Type 0) → (L → C → Type 0) → (L → ErrorKind → Type 0)
+    → ℕ → ℕ → Stream → Stream → Type 0
+TakesAt {L} {C} stands comes misses port count errors errors' = (listener : L)
+    × stands listener port × TakesFirst (comes listener) (misses listener) count errors errors'
 
 -- a server began, and so many connections were served; connections that fail do not end it
 abbrev pub Serves : ℕ → ℕ → Stream → Stream → Stream → Stream → Type 0
@@ -124,3 +147,17 @@ ServesRegister g before after = (R : Register) → HasRegister g R before
 abbrev pub ServesAt : {D : Type 0} → disk.Ghosts D → (Database → Type 0) → Type 0
 ServesAt {D} g IsAt = (before : Held (FileStore D g)) × (after : Held (FileStore D g))
     × IsAt (state over_files before).now × ServesRegister over_files before after
+
+-- WHY A SERVER ENDED over a database that was opened: its tables were refused, or the server did
+-- not begin, and the database was not changed; or it was served, and could not be closed
+abbrev pub EndsServing : {S : Type 0} → Ghosts S → Held S → Held S → Fault → Type 0
+EndsServing g before after fault =
+    ((IsOfServer fault ⊎ IsRefused g before fault after)
+    × Survives (state g before) (state g after) (λ _. ⊥))
+    ⊎ (IsOfLine fault × ServesRegister g before after)
+
+-- the same of a database at a path, unless it was not opened, as `IsShut` says, or memory ran out
+abbrev pub UnservedAt : {D : Type 0} → disk.Ghosts D → (Database → Type 0) → Type 0 → Fault → Type 0
+UnservedAt {D} g IsAt IsShut fault = IsUnopened IsShut fault
+    ⊎ ((before : Held (FileStore D g)) × (after : Held (FileStore D g))
+    × IsAt (state over_files before).now × EndsServing over_files before after fault)

@@ -12,7 +12,7 @@ use Rattle.clr_rules.specs.Register.{Register}
 use Rattle.clr_print.specs.Printed.{board_text}
 use Rattle.clr_args.specs.Asked.{offset_in, word_in}
 use Rattle.clr_commands.specs.Order.{order_told}
-use Rattle.clr_edge.specs.Database.{IsOfLine, IsRefused}
+use Rattle.clr_edge.specs.Database.{IsOfLine, IsRefused, IsUnopened}
 use Rattle.clr_edge.specs.declared.fault.Fault.{Fault}
 use Rattle.clr_edge.specs.declared.fault.Fault.TheVariants.{Memory, NoSuch}
 
@@ -48,10 +48,10 @@ pub record IsUnanswered {S : Type 0} (g : Ghosts S) (before after : Held S)
   pub cause : IsOwn fault ⊎ IsRefused g before fault after
   pub survives : Survives (state g before) (state g after) (λ _. ⊥)
 
--- the same of a database at a path, unless it was not opened, or memory ran out
-abbrev pub UnansweredAt : {D : Type 0} → disk.Ghosts D → (Database → Type 0) → (Fault → Type 0)
-    → Fault → Type 0
-UnansweredAt {D} g IsAt IsOwn fault = IsOfLine fault
+-- the same of a database at a path, unless it was not opened, as `IsShut` says, or memory ran out
+abbrev pub UnansweredAt : {D : Type 0} → disk.Ghosts D → (Database → Type 0) → Type 0
+    → (Fault → Type 0) → Fault → Type 0
+UnansweredAt {D} g IsAt IsShut IsOwn fault = IsUnopened IsShut fault
     ⊎ ((before : Held (FileStore D g)) × (after : Held (FileStore D g))
     × IsAt (state over_files before).now × IsUnanswered over_files before after IsOwn fault)
 

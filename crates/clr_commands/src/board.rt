@@ -30,6 +30,7 @@ pub fn board<R: Databases + AllocGlobal>(rt: &R, matches: &ArgMatches<'_>) -> Re
         (R.is_at rt.now (word_in (rows_of (found_of matches.now)) (codes "DB")))) }
     ensures refused { IfErr result (UnansweredAt R.Medium.Disk
         (R.is_at rt.now (word_in (rows_of (found_of matches.now)) (codes "DB")))
+        (R.is_shut rt.now (word_in (rows_of (found_of matches.now)) (codes "DB")))
         (λ fault. fault ≡ Fault.Memory)) }
     ensures faults { IfErr result IsOfSubcommand }
 {

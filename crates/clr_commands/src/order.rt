@@ -30,7 +30,8 @@ pub fn order<R: Databases + AllocGlobal>(rt: &R, matches: &ArgMatches<'_>) -> Re
     ensures read { OnOk result (ReadsAt R.Medium.Disk
         (R.is_at rt.now (word_in (rows_of (found_of matches.now)) (codes "DB")))) }
     ensures refused { IfErr result (UnansweredAt R.Medium.Disk
-        (R.is_at rt.now (word_in (rows_of (found_of matches.now)) (codes "DB"))) IsOfOrder) }
+        (R.is_at rt.now (word_in (rows_of (found_of matches.now)) (codes "DB")))
+        (R.is_shut rt.now (word_in (rows_of (found_of matches.now)) (codes "DB"))) IsOfOrder) }
     ensures faults { IfErr result IsOfSubcommand }
 {
     let clearance = word_of(matches, "CLEARANCE");

@@ -49,7 +49,7 @@ pub fn run<'a, R: Databases + AllocGlobal, O: Opens<'a>, I: CountedRead>(
     ensures left { RunsNamed (λ path. RunsAtPath R.Medium.Disk (R.is_at rt.now path)
         (I.remaining input.old)) (rows_of (found_of matches.now)) result }
     ensures refused { UnansweredNamed (λ path. UnansweredAt R.Medium.Disk (R.is_at rt.now path)
-        IsOfInput) (rows_of (found_of matches.now)) result }
+        (R.is_shut rt.now path) IsOfInput) (rows_of (found_of matches.now)) result }
     ensures cause { IsErrOf result (Fault.Input InputFault.ReadFailed)
         → Rose (I.failure_count input.old) (I.failure_count input.new) }
     ensures waits { InputWaitsAsked result input.old input.new }
@@ -106,7 +106,7 @@ pub fn run_of_database<D: Databases, I: CountedRead>(
     ensures left { IfOk result (RunsAtPath D.Medium.Disk (D.is_at databases.now path.now)
         (I.remaining input.old)) }
     ensures refused { IfErr result (UnansweredAt D.Medium.Disk
-        (D.is_at databases.now path.now) IsOfInput) }
+        (D.is_at databases.now path.now) (D.is_shut databases.now path.now) IsOfInput) }
     ensures cause { IsErrOf result (Fault.Input InputFault.ReadFailed)
         → Rose (I.failure_count input.old) (I.failure_count input.new) }
     ensures waits { InputWaits result input.old input.new }

@@ -1,6 +1,9 @@
 //! The subcommand `serve`: the register of a database, answered over HTTP.
-ghost use Rattle.std.specs.Prelude.{◌≡◌, ◌⊎◌, ℕ, List, Err, IfErr, IfOk, IfSome, OnOk, Result, Some};
+ghost use Rattle.std.specs.Prelude.{◌≡◌, ◌⊎◌, ℕ, List, Err, IfErr, IfOk, IfSome, OnErr, OnOk};
+ghost use Rattle.std.specs.Prelude.{Result, Some};
 ghost use Rattle.std.specs.Prelude.{string_bytes};
+ghost use Rattle.sqlite.specs.Held.{state};
+ghost use Rattle.sqlite.specs.State.{Survives};
 ghost use Rattle.std.specs.IoError.{error_kind};
 ghost use Rattle.clap.specs.Words.{found_of, rows_of};
 ghost use Rattle.httparse.specs.Grammar.{RequestHead};
@@ -16,8 +19,10 @@ ghost use Rattle.clr_csv.specs.Streams.{Sends};
 ghost use Rattle.clr_edge.specs.Database.{HasRegister, IsRefused};
 ghost use Rattle.clr_commands.specs.Faults.{HasFailedWriter};
 ghost use Rattle.clr_commands.specs.Serve.{IsOfServing, IsServing, Serves, ServesAsked, ServesAt};
-ghost use Rattle.clr_commands.specs.Serve.{IsOfServer, ServesNot, ServesRegister, TellsConnection, TellsFirst};
-ghost use Rattle.clr_commands.specs.Serve.{TellsNext, accept_fault, connection_line};
+ghost use Rattle.clr_commands.specs.Serve.{IsOfServer, ServesNot, ServesRegister, TakesAt};
+ghost use Rattle.clr_commands.specs.Serve.{TakesFirst, TellsConnection, TellsFirst, TellsNext};
+ghost use Rattle.clr_commands.specs.Serve.{UnservedAt};
+ghost use Rattle.clr_commands.specs.Serve.{accept_fault, connection_line};
 
 use crate::serve_line::{connection_line, serving_line};
 use clap::ArgMatches;
@@ -71,8 +76,13 @@ pub fn serve<R: Databases + Loopback + AllocGlobal, W: CountedFlush, E: CountedF
         (W.stream output.old) (W.stream output.new) (E.stream errors.old) (E.stream errors.new) }
     ensures known { IfSome (R.register_at rt.now (string_bytes args.now.path))
         (λ _. IfErr result IsOfServing) }
+    ensures taken { OnOk result (TakesAt (R.stands rt.now) (R.comes rt.now) (R.misses rt.now)
+        args.now.port args.now.count (E.stream errors.old) (E.stream errors.new)) }
     ensures served { OnOk result
         (ServesAt R.Medium.Disk (R.is_at rt.now (string_bytes args.now.path))) }
+    ensures refused { IfErr result (UnservedAt R.Medium.Disk
+        (R.is_at rt.now (string_bytes args.now.path))
+        (R.is_shut rt.now (string_bytes args.now.path))) }
     ensures faults { IfErr result (λ fault.
         HasFailedWriter fault (W.stream output.old) (W.stream output.new)) }
 {
@@ -98,7 +108,11 @@ fn serve_over<S: Alter + Drop, L: Loopback, W: CountedFlush, E: CountedFlush>(
         (W.stream output.old) (W.stream output.new) (E.stream errors.old) (E.stream errors.new) }
     ensures known { (R : Register) → HasRegister S.Store R connection
         → IfErr result.0 IsOfServing }
+    ensures taken { OnOk result.0 (TakesAt (L.stands net.now) (L.comes net.now) (L.misses net.now)
+        port count (E.stream errors.old) (E.stream errors.new)) }
     ensures served { OnOk result.0 (ServesRegister S.Store connection result.1) }
+    ensures unserved { OnErr result.0
+        (Survives (state S.Store connection) (state S.Store result.1) (λ _. ⊥)) }
     ensures refused { IfErr result.0 (λ fault. IsOfServer fault
         ⊎ IsRefused S.Store connection fault result.1) }
 {
@@ -125,8 +139,9 @@ pub fn serve_desk<D: Registrar, L: Loopback, W: CountedFlush, E: CountedFlush>(
         (W.stream output.old) (W.stream output.new) (E.stream errors.old) (E.stream errors.new)) }
     ensures fault { IfErr result (λ fault. ServesNot (L.refuses net.now) port fault
         (W.stream output.old) (W.stream output.new) (E.stream errors.old) (E.stream errors.new)) }
-    ensures unserved { IfErr result (λ _.
-        (D.keeper desk.new).register ≡ (D.keeper desk.old).register) }
+    ensures taken { OnOk result (TakesAt (L.stands net.now) (L.comes net.now) (L.misses net.now)
+        port count (E.stream errors.old) (E.stream errors.new)) }
+    ensures unserved { OnErr result (desk.new ≡ desk.old) }
     ensures good { IsGood (D.keeper desk.old).register → IsGood (D.keeper desk.new).register }
     ensures reached { IsReached (D.keeper desk.old).register
         → IsReached (D.keeper desk.new).register }
@@ -149,6 +164,8 @@ pub fn serve_connections<D: Registrar, L: Loopback, E: CountedFlush>(
     errors: &mut E,
 )
     ensures told { TellsFirst count (E.stream errors.old) (E.stream errors.new) }
+    ensures taken { TakesFirst (L.comes net.now listener.now) (L.misses net.now listener.now) count
+        (E.stream errors.old) (E.stream errors.new) }
     ensures good { IsGood (D.keeper desk.old).register → IsGood (D.keeper desk.new).register }
     ensures reached { IsReached (D.keeper desk.old).register
         → IsReached (D.keeper desk.new).register }

@@ -50,7 +50,7 @@ BOSS,charge,
 /// The database at `jones.db` has that register, and every other is empty. No database keeps what is
 /// written to it.
 impl<'f> Databases for Known<'f> {
-    ghost use Rattle.std.specs.Prelude.{IfSome};
+    ghost use Rattle.std.specs.Prelude.{IfSome, ⊤};
     ghost use Rattle.clr_load.specs.Stored.{HasTables};
     ghost use Rattle.clr_tables.specs.Tables.{tables_of};
     ghost use Rattle.clr_known.specs.Known.{known_register};
@@ -60,6 +60,8 @@ impl<'f> Databases for Known<'f> {
     ghost register_at = { λ _ path. known_register path };
 
     ghost is_at = { λ _ path db. IfSome (known_register path) (λ R. HasTables db (tables_of R)) };
+
+    ghost is_shut = { λ _ _. ⊤ };
 
     fn database(&self, path: &str) -> Result<Connection<FileStore<Memory>>, Fault> {
         if is_jones(path) {

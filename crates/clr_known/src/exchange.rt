@@ -1,5 +1,5 @@
 //! One connection, over which a known request comes, and a known response is to go back.
-ghost use Rattle.std.specs.Prelude.{◌≡◌, ◌⊎◌, IfErr};
+ghost use Rattle.std.specs.Prelude.{◌≡◌, ◌≢◌, ◌⊎◌, IfErr, IfOk};
 
 use crate::Known;
 use clr_edge::fault::Fault;
@@ -41,7 +41,7 @@ impl<'f> Write for Exchange<'f> {
 
 /// Port 1 is another program's.
 impl<'f> Loopback for Known<'f> {
-    ghost use Rattle.std.specs.Prelude.{◌≡◌};
+    ghost use Rattle.std.specs.Prelude.{◌≡◌, ◌≢◌};
 
     type Listener = ();
 
@@ -49,7 +49,15 @@ impl<'f> Loopback for Known<'f> {
 
     ghost refuses = { λ _ port. port ≡ 1 };
 
+    ghost stands = { λ _ _ port. port ≢ 1 };
+
+    ghost comes = { λ machine _ connection. (connection.reader ≡ machine.exchange)
+        × (connection.writer ≡ machine.exchange) };
+
+    ghost misses = { λ _ _ _. ⊥ };
+
     fn listen(&self, port: u16) -> Result<(), Fault>
+        ensures stands { IfOk result (λ _. port ≢ 1) }
         ensures fault { IfErr result (λ fault. (fault ≡ Fault.Memory)
             ⊎ ((fault ≡ Fault.Listen) × (port ≡ 1))) }
     {

@@ -1,6 +1,6 @@
 //! Connections that are served: one over loopback in one process, where the client connects, writes
 //! and ends its writing before it is served; and some on which nothing comes through.
-ghost use Rattle.std.specs.Prelude.{◌≡◌, ◌⊎◌, IfErr, ⊤};
+ghost use Rattle.std.specs.Prelude.{◌≡◌, ◌⊎◌, IfErr, IfOk, ⊤};
 
 use crate::at_desk::{AtDesk, at_new_desk};
 use crate::worked::{REQUEST, RESPONSE};
@@ -122,14 +122,24 @@ impl Loopback for Torn {
 
     ghost refuses = { λ _ _. ⊤ };
 
+    ghost stands = { λ _ _ _. ⊤ };
+
+    ghost comes = { λ _ _ _. ⊤ };
+
+    ghost misses = { λ _ _ _. ⊤ };
+
     fn listen(&self, _port: u16) -> Result<(), Fault>
+        ensures stands { IfOk result (λ _. ⊤) }
         ensures fault { IfErr result (λ fault. (fault ≡ Fault.Memory)
             ⊎ ((fault ≡ Fault.Listen) × ⊤)) }
     {
         Ok(())
     }
 
-    fn accept(&self, _listener: &()) -> io::Result<Connection<TornStream>> {
+    fn accept(&self, _listener: &()) -> io::Result<Connection<TornStream>>
+        ensures comes { IfOk result (λ _. ⊤) }
+        ensures misses { IfErr result (λ _. ⊤) }
+    {
         let before = self.accepted.get();
         self.accepted.set(before.wrapping_add(1));
         let input: &'static [u8] = match before {

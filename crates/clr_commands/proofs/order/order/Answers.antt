@@ -48,5 +48,6 @@ pub returns-clause-refused : goal.returns-clause-refused
 returns-clause-refused g c =
     let at = subst (λ (path : List ℕ). g.R.Databases.is_at c.args.rt.now path (state over_files c.in_ok-connection.connection).now)
     c.word_of.ensures c.in_ok-connection.ensures.at in
-    unanswered_at g.R.Medium.Disk (g.R.Databases.is_at c.args.rt.now (word_in (rows_of (found_of c.args.matches.now)) (codes "DB"))) (λ fault. IsOfOrder fault)
+    unanswered_at g.R.Medium.Disk (g.R.Databases.is_at c.args.rt.now (word_in (rows_of (found_of c.args.matches.now)) (codes "DB")))
+    (g.R.Databases.is_shut c.args.rt.now (word_in (rows_of (found_of c.args.matches.now)) (codes "DB"))) (λ fault. IsOfOrder fault)
     c.order_over-told.result.0 c.in_ok-connection.connection c.order_over-told.result.1 at c.order_over-told.ensures.refused c.order_over-told.ensures.survives

@@ -31,9 +31,10 @@ returns-clause-waits g c =
 pub returns-clause-refused : goal.returns-clause-refused
 returns-clause-refused g c =
     let IsAt = g.D.Databases.is_at c.args.databases.now c.args.path.now in
-    let IsIt : Fault → Type 0 = UnansweredAt g.D.Medium.Disk IsAt (λ fault. IsOfInput fault) in
+    let IsShut = g.D.Databases.is_shut c.args.databases.now c.args.path.now in
+    let IsIt : Fault → Type 0 = UnansweredAt g.D.Medium.Disk IsAt IsShut (λ fault. IsOfInput fault) in
     told_behind c.run_connected-printed.result.0 c.printed_behind.result IsIt c.printed_behind.ensures.whole c.printed_behind.ensures.fault
-    (unanswered_behind g.D.Medium.Disk IsAt (λ fault. IsOfInput fault) c.run_connected-printed.result.0 c.in_ok-connection.connection
+    (unanswered_behind g.D.Medium.Disk IsAt IsShut (λ fault. IsOfInput fault) c.run_connected-printed.result.0 c.in_ok-connection.connection
     c.run_connected-printed.result.1 c.in_ok-connection.ensures.at c.run_connected-printed.ensures.refused c.run_connected-printed.ensures.unrun)
 
 pub returns-clause-faults : goal.returns-clause-faults

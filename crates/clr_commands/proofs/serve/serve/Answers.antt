@@ -2,11 +2,12 @@ use Rattle.std.proofs.Common.{List, ℕ, subst}
 use Rattle.std.specs.Prelude.{IfSome, string_bytes}
 use Rattle.sqlite.specs.Files.{over_files}
 use Rattle.sqlite.specs.Held.{state}
-use Rattle.clr_edge.specs.Database.{HasRegister}
+use Rattle.clr_edge.specs.Database.{HasRegister, IsUnopened}
 use Rattle.clr_edge.proofs.Databases.{OnOk-any, OnOk-was}
 use Rattle.clr_commands.proofs.Databases.{IfSome-from}
 use Rattle.clr_commands.proofs.Serving.{IfSome-all, IsOfServing-failed, IsOfServing-line, IsServing-closed}
 use Rattle.clr_commands.proofs.Faults.{served_failed, served_output}
+use Rattle.clr_commands.proofs.Unserved.{unserved_closed, unserved_failed, unserved_unopened}
 use Rattle.clr_commands.proofs.serve.serve.Goals as goal
 
 -- the register that the database has is served
@@ -50,3 +51,36 @@ returns-in_err-served-clause-faults g c =
     served_failed (g.R.Loopback.refuses c.args.rt.now) c.args.args.now.port c.args.args.now.count c.serve_over-served.result.0
     c.from_residual-in_err-served.result c.in_err-served.field-0.0 _ _ _ _ c.in_err-served.was c.from_residual-in_err-served.ensures.1
     c.serve_over-served.ensures.told
+
+-- the connections are those of the port
+pub returns-clause-taken : goal.returns-clause-taken
+returns-clause-taken g c =
+    OnOk-any c.close-closed.result _
+    (OnOk-was c.serve_over-served.result.0 c.in_ok-served.field-0 _ c.in_ok-served.was c.serve_over-served.ensures.taken)
+
+-- the database was not opened; it was, and no server began; or it was served, and not closed
+pub returns-in_err-connection-clause-refused : goal.returns-in_err-connection-clause-refused
+returns-in_err-connection-clause-refused g c =
+    let shut = subst (λ (path : List ℕ). IsUnopened (g.R.Databases.is_shut c.args.rt.now path) c.in_err-connection.field-0.0)
+    c.as_str.ensures.value c.in_err-connection.ensures.fault in
+    unserved_unopened g.R.Medium.Disk (g.R.Databases.is_at c.args.rt.now (string_bytes c.args.args.now.path))
+    (g.R.Databases.is_shut c.args.rt.now (string_bytes c.args.args.now.path)) c.from_residual.result c.in_err-connection.field-0.0
+    c.from_residual.ensures.1 shut
+
+pub returns-in_err-served-clause-refused : goal.returns-in_err-served-clause-refused
+returns-in_err-served-clause-refused g c =
+    let at = subst (λ (path : List ℕ). g.R.Databases.is_at c.args.rt.now path (state over_files c.in_ok-connection.connection).now)
+    c.as_str.ensures.value c.in_ok-connection.ensures.at in
+    unserved_failed g.R.Medium.Disk (g.R.Databases.is_at c.args.rt.now (string_bytes c.args.args.now.path))
+    (g.R.Databases.is_shut c.args.rt.now (string_bytes c.args.args.now.path)) c.serve_over-served.result.0 c.from_residual-in_err-served.result
+    c.in_err-served.field-0.0 c.in_ok-connection.connection c.serve_over-served.result.1 c.in_err-served.was c.from_residual-in_err-served.ensures.1 at
+    c.serve_over-served.ensures.refused c.serve_over-served.ensures.unserved
+
+pub returns-clause-refused : goal.returns-clause-refused
+returns-clause-refused g c =
+    let at = subst (λ (path : List ℕ). g.R.Databases.is_at c.args.rt.now path (state over_files c.in_ok-connection.connection).now)
+    c.as_str.ensures.value c.in_ok-connection.ensures.at in
+    unserved_closed g.R.Medium.Disk (g.R.Databases.is_at c.args.rt.now (string_bytes c.args.args.now.path))
+    (g.R.Databases.is_shut c.args.rt.now (string_bytes c.args.args.now.path)) c.close-closed.result c.in_ok-connection.connection
+    c.serve_over-served.result.1 at c.close-closed.ensures
+    (OnOk-was c.serve_over-served.result.0 c.in_ok-served.field-0 _ c.in_ok-served.was c.serve_over-served.ensures.served)

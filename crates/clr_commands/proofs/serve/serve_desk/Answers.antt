@@ -11,3 +11,7 @@ returns-in_err-listener-clause-led g c = g.met.D.Registrar.stays c.args.desk.now
 
 pub returns-in_err-write_out-clause-led : goal.returns-in_err-write_out-clause-led
 returns-in_err-write_out-clause-led g c = g.met.D.Registrar.stays c.args.desk.now
+
+-- the port was listened on, and its connections were taken
+pub returns-clause-taken : goal.returns-clause-taken
+returns-clause-taken g c = (c.in_ok-listener.listener, c.in_ok-listener.ensures.stands, c.serve_connections.ensures.taken)

@@ -1,6 +1,8 @@
 use Rattle.std.proofs.Common.{◌≡◌, inl, refl}
 use Rattle.clr_edge.proofs.Databases.{OnOk-any}
 use Rattle.clr_commands.proofs.Serving.{IsOfServing-desk, IsOfStore-told, IsServing-desk, ServesRegister-led}
+use Rattle.clr_commands.proofs.Unserved.{unserved_survives}
+use Rattle.clr_desk.specs.declared.desk.Desk.{Desk}
 use Rattle.clr_commands.proofs.serve.serve_over.Goals as goal
 
 pub returns-in-Ok-clause-told : goal.returns-in-Ok-clause-told
@@ -27,3 +29,10 @@ returns-in-Err-clause-told g c =
 
 pub returns-in-Err-clause-known : goal.returns-in-Err-clause-known
 returns-in-Err-clause-known g c R known = inl (c.in-Err.ensures.fault R known)
+
+-- a server that did not begin left the desk as it was opened
+pub returns-in-Ok-clause-unserved : goal.returns-in-Ok-clause-unserved
+returns-in-Ok-clause-unserved g c =
+    let same : c.end-in-Ok.result ≡ c.serve_desk-served.new.desk.store = cc in
+    unserved_survives g.S.Store c.args.connection c.end-in-Ok.result c.serve_desk-served.result (λ (d : Desk g.row.S.Denot). d.store) c.in-Ok.desk
+    c.serve_desk-served.new.desk c.serve_desk-served.ensures.unserved c.in-Ok.ensures.read same
