@@ -7,6 +7,7 @@ use Rattle.clr_csv.specs.Points.{points_of}
 use Rattle.clr_csv.specs.Sections.{sections_of}
 use Rattle.clr_csv.specs.StaffRows.{staff_of}
 use Rattle.clr_csv.specs.declared.employee.StaffRow.{StaffRow}
+use Rattle.clr_rules.specs.Good.{IsGood}
 use Rattle.clr_rules.specs.Register.{Register}
 use Rattle.clr_edge.specs.Files.{told_of}
 use Rattle.clr_rules.specs.declared.reply.Reply.{Reply}
@@ -161,19 +162,20 @@ closed_waits (Err fault) result before after whole same waits =
 
 -- what a run over a desk leaves in the database that the desk was opened over
 pub run_left : {T : Type 0} (g : Ghosts T) (before opened last after : Held T) (R S : Register) (input : Option (List ℕ))
-    (result : Result Printed Fault) → IsOnlyRead g before opened → ((K : Register) → HasRegister g K before → R ≡ K)
+    (result : Result Printed Fault) → IsOnlyRead g before opened → IsGood R → ((K : Register) → HasRegister g K before → R ≡ K)
     → after ≡ last
     → IfOk result (λ printed. (bytes : List ℕ) × IfSome input (λ known. bytes ≡ known)
     × AnswersOver (state g opened) (state g last) R S bytes printed)
     → IfOk result (λ printed. RunsIn g before after input printed)
-run_left {T} g before opened last after R S input (Ok printed) read is_register same (bytes, is_input, answers) = record {
+run_left {T} g before opened last after R S input (Ok printed) read good is_register same (bytes, is_input, answers) = record {
   opened = opened;
   read = read;
   register = R;
+  good = good;
   is_register = is_register;
   left = S;
   bytes = bytes;
   is_input = is_input;
   answers = subst (λ (h : Held T). AnswersOver (state g opened) (state g h) R S bytes printed) (sym same) answers;
 }
-run_left g before opened last after R S input (Err fault) read is_register same answered = tt
+run_left g before opened last after R S input (Err fault) read good is_register same answered = tt

@@ -12,6 +12,7 @@ use Rattle.clr_csv.specs.Sections.{sections_of}
 use Rattle.clr_csv.specs.Staff as staff
 use Rattle.clr_csv.specs.StaffRows.{staff_of}
 use Rattle.clr_csv.specs.declared.employee.StaffRow.{StaffRow}
+use Rattle.clr_rules.specs.Good.{IsGood}
 use Rattle.clr_rules.specs.Register.{Register, opening}
 use Rattle.clr_edge.specs.Answers.{After, unless}
 use Rattle.clr_args.specs.Asked.{words_in}
@@ -123,13 +124,14 @@ abbrev pub RunsStoredAt : (List ℕ → Option Register) → List ℕ → Option
 RunsStoredAt register_at path input result =
     IfSome (register_at path) (λ R. IfSome input (λ bytes. RunsStored R bytes result))
 
--- WHAT A RUN LEAVES IN A DATABASE: this was opened and read, which changes nothing; then the input
--- was answered over the register that it had
+-- WHAT A RUN LEAVES IN A DATABASE: this was opened and read, which changes nothing; the register
+-- that it had is a good one, and the input was answered over it
 pub record RunsIn {T : Type 0} (g : Ghosts T) (before after : Held T) (input : Option (List ℕ))
     (printed : Printed) : Type 0 where
   pub opened : Held T
   pub read : IsOnlyRead g before opened
   pub register : Register
+  pub good : IsGood register
   pub is_register : (R : Register) → HasRegister g R before → register ≡ R
   pub left : Register
   pub bytes : List ℕ

@@ -57,7 +57,7 @@ fn board_over<S: Alter + Drop>(
         ⊎ IsRefused S.Store connection fault result.1) }
     ensures faults { IfErr result.0 IsOfSubcommand }
 {
-    match desk_over(connection) {
+    match desk_over(alloc, connection) {
         Ok(desk) => {
             let told = board_of(alloc, desk.book(), offset);
             (told, desk.end().end())

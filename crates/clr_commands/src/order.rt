@@ -61,7 +61,7 @@ fn order_over<S: Alter + Drop>(
         ⊎ IsRefused S.Store connection fault result.1) }
     ensures faults { IfErr result.0 IsOfSubcommand }
 {
-    match desk_over(connection) {
+    match desk_over(alloc, connection) {
         Ok(desk) => {
             let told = order_of(alloc, desk.book(), clearance, round, offset);
             (told, desk.end().end())

@@ -159,7 +159,7 @@ fn run_connected<S: Alter + Drop, I: CountedRead>(
     ensures faults { IfErr result.0 IsOfSubcommand }
     ensures stops { IfOk result.0 StopsAsSubcommand }
 {
-    match desk_over(connection) {
+    match desk_over(alloc, connection) {
         Ok(mut desk) => {
             let printed = run_over(alloc, &mut desk, input);
             (printed, desk.end().end())

@@ -116,7 +116,7 @@ fn serve_over<S: Alter + Drop, L: Loopback, W: CountedFlush, E: CountedFlush>(
     ensures refused { IfErr result.0 (λ fault. IsOfServer fault
         ⊎ IsRefused S.Store connection fault result.1) }
 {
-    match desk_over(connection) {
+    match desk_over(alloc, connection) {
         Ok(mut desk) => {
             let served = serve_desk(alloc, net, &mut desk, port, count, output, errors);
             (served, desk.end().end())

@@ -1,13 +1,18 @@
 -- Faults of databases that are known to have a register.
-use Rattle.std.proofs.Common.{◌≡◌, ◌∙◌, ◌⊎◌, IsTrue, ⊎_elim, arith, inl, inr, refl, subst, ℤ, Result, Ok, Err}
+use Rattle.std.proofs.Common.{◌≡◌, ◌↔◌, ◌∙◌, ◌⊎◌, IsTrue, None, Option, Some, ⊎_elim, arith, inl, inr, refl, subst, sym, ℤ, Result, Ok, Err}
+use Rattle.std.proofs.lemmas.Option.{none-some}
 use Rattle.std.specs.Prelude.{OnOk, pos}
 use Rattle.sqlite.specs.State.{HasCleanDisk, State, Survives}
 use Rattle.sqlite_disk.specs.Disk.{MoreFaults}
 use Rattle.sqlite_trees.specs.Tree.{Trees}
 use Rattle.clr_tables.specs.declared.table_name.TableName.{TableName}
+use Rattle.clr_book.specs.Book.{Shelved}
+use Rattle.clr_desk.specs.AtFault.{table_at_fault}
+use Rattle.clr_desk.specs.Opening.{OpensAs}
 use Rattle.clr_desk.specs.Faults.{IsOfCommand, of_store as desk_of_store}
 use Rattle.clr_desk.specs.declared.desk_fault.DeskFault.{DeskFault}
 use Rattle.clr_desk.specs.declared.desk_fault.DeskFault.TheVariants as desk
+use Rattle.clr_rules.specs.Good.{IsGood}
 use Rattle.clr_rules.specs.Register.{Register}
 use Rattle.sqlite.specs.declared.error.Error.{Error}
 use Rattle.sqlite.specs.declared.error.Error.TheVariants.{SqliteFailure}
@@ -17,11 +22,11 @@ use Rattle.clr_load.proofs.Causes.{able_or_failed, has_cause}
 use Rattle.clr_store.specs.Contract.{RefusesVersion}
 use Rattle.clr_load.specs.declared.fault.StoreFault.{StoreFault}
 use Rattle.clr_load.specs.declared.fault.StoreFault.TheVariants as store
-use Rattle.clr_tables.specs.RowsRead.{read_version}
-use Rattle.clr_tables.specs.Tables.{tables_of}
+use Rattle.clr_tables.specs.RowsRead.{read_version, rows_read}
+use Rattle.clr_tables.specs.Tables.{Tables, tables_of}
 use Rattle.clr_edge.specs.Fault.{of_desk, of_store}
 use Rattle.clr_edge.specs.declared.fault.Fault.{Fault}
-use Rattle.clr_edge.specs.Database.{IsOfLine}
+use Rattle.clr_edge.specs.Database.{IsOfLine, IsOfUnfit, RefusesTables}
 
 -- a fault of the desk's commands is told as one of a line
 pub IsOfLine-of_command : (fault : DeskFault) → IsOfCommand fault → IsOfLine (of_desk fault)
@@ -108,3 +113,29 @@ OnOk-any (Err fault) P holds = tt
 
 pub OnOk-was : {T : Type 0} (result : Result T Fault) (value : T) (P : Type 0) → result ≡ Ok value → OnOk result P → P
 OnOk-was {T} result value P was holds = let Q : Result T Fault → Type 0 = λ r. OnOk r P in subst Q was holds
+
+-- a good register is not refused, unless memory ran out
+pub IsOfLine-unfit : (R : Register) (cause : StoreFault) → IsGood R → (cause ≡ store.NoMemory) ⊎ IsOfUnfit R cause → IsOfLine (of_store cause)
+IsOfLine-unfit R cause good (inl memory) = rw memory (inl refl)
+IsOfLine-unfit R cause good (inr unfit) = absurd (unfit.bad good)
+
+-- what a register that is not good is refused with has no cause in the database
+pub SqlHasCause-unfit : (R : Register) (cause : StoreFault) (old new : State) → (cause ≡ store.NoMemory) ⊎ IsOfUnfit R cause → SqlHasCause old new cause
+SqlHasCause-unfit R cause old new (inl memory) = rw memory tt
+SqlHasCause-unfit R cause old new (inr unfit) = rw unfit.named tt
+
+-- tables of a register that is not good are refused
+pub RefusesTables-unfit : (t : Tables) (book : Shelved) (cause : StoreFault) → OpensAs (λ (b : Shelved). b.register) (rows_read t) (Ok book)
+    → (cause ≡ store.NoMemory) ⊎ IsOfUnfit book.register cause → RefusesTables t cause
+RefusesTables-unfit t book cause opens (inl memory) = inl (rw memory tt)
+RefusesTables-unfit t book cause opens (inr unfit) = inr (inr (book, opens, unfit))
+
+-- a table at fault is that of a register that is not good
+pub unfit_told : (R : Register) (found : Option TableName) (table : TableName) → found ≡ Some table → found ≡ table_at_fault R
+    → (found ≡ None) ↔ IsGood R → IsOfUnfit R (store.BadRow table)
+unfit_told R found table is told exact = record {
+  bad = λ good. none-some table (sym (exact.1 good) ∙ is);
+  table = table;
+  first = sym told ∙ is;
+  named = refl;
+}

@@ -1,5 +1,5 @@
 -- Registers that databases have, and faults of the databases themselves.
-use Rattle.std.specs.Prelude.{◌≡◌, ◌⊎◌, false, IsTrue, Err}
+use Rattle.std.specs.Prelude.{◌≡◌, ◌⊎◌, false, IsTrue, Some, Ok, Err}
 use Rattle.sqlite.specs.Effect.{Database}
 use Rattle.sqlite.specs.Files.{over_files}
 use Rattle.sqlite.specs.Held.{Held, state}
@@ -13,12 +13,14 @@ use Rattle.clr_load.specs.Cause.{SqlHasCause}
 use Rattle.clr_load.specs.Contract.{IsSaved}
 use Rattle.clr_load.specs.Stored.{AreTables, HasTables}
 use Rattle.clr_load.specs.declared.fault.StoreFault.{StoreFault}
-use Rattle.clr_load.specs.declared.fault.StoreFault.TheVariants.{Sql}
+use Rattle.clr_load.specs.declared.fault.StoreFault.TheVariants.{BadRow, Sql}
 use Rattle.clr_store.specs.Contract.{RefusesVersion}
 use Rattle.clr_tables.specs.RowsRead.{read_version, rows_read}
 use Rattle.clr_tables.specs.Tables.{Tables, tables_of}
 use Rattle.clr_tables.specs.TypedRows.{IsTyped}
+use Rattle.clr_tables.specs.declared.table_name.TableName.{TableName}
 use Rattle.clr_book.specs.Book.{Shelved}
+use Rattle.clr_desk.specs.AtFault.{table_at_fault}
 use Rattle.clr_desk.specs.Opening.{OpensAs}
 use Rattle.clr_edge.specs.Fault.{of_store}
 use Rattle.clr_edge.specs.declared.fault.Fault.{Fault}
@@ -79,11 +81,24 @@ abbrev pub IsMadeAt : {D : Type 0} → disk.Ghosts D → (Database → Type 0) �
 IsMadeAt {D} g IsAt R = (before : Held (FileStore D g)) × (after : Held (FileStore D g))
     × IsAt (state over_files before).now × IsMade over_files before R after
 
--- why tables are not opened: the database refuses them, their version does not read or is not 1, or
--- their rows give no register
+-- the fault of a register that is not good: it names the table of the first list that does not fit
+pub record IsOfUnfit (R : Register) (cause : StoreFault) : Type 0 where
+  pub bad : IsGood R → ⊥
+  pub table : TableName
+  pub first : table_at_fault R ≡ Some table
+  pub named : cause ≡ BadRow table
+
+-- the rows of tables give a register, but not a good one
+abbrev pub RefusesUnfit : Tables → StoreFault → Type 0
+RefusesUnfit t cause = (book : Shelved)
+    × OpensAs (λ (b : Shelved). b.register) (rows_read t) (Ok book) × IsOfUnfit book.register cause
+
+-- why tables are not opened: the database refuses them, their version does not read or is not 1,
+-- their rows give no register, or one that is not good
 abbrev pub RefusesTables : Tables → StoreFault → Type 0
 RefusesTables t cause = RefusesVersion (read_version t.meta) cause
     ⊎ OpensAs (λ (book : Shelved). book.register) (rows_read t) (Err cause)
+    ⊎ RefusesUnfit t cause
 
 -- the fault that is told of a database that is not opened. Of tables that are there it is theirs,
 -- and `Sql` has a cause

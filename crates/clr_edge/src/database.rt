@@ -7,8 +7,8 @@ ghost use Rattle.sqlite.specs.Held.{state};
 ghost use Rattle.sqlite.specs.State.{Survives};
 ghost use Rattle.clr_rules.specs.Good.{IsGood};
 ghost use Rattle.clr_rules.specs.Register.{Register, opening};
-ghost use Rattle.clr_edge.specs.Database.{HasRegister, IsMade, IsMadeAt, IsOfLine, IsOnlyRead};
-ghost use Rattle.clr_edge.specs.Database.{IsRefused, IsUnmade, IsUnopened};
+ghost use Rattle.clr_edge.specs.Database.{HasRegister, IsMade, IsMadeAt, IsOfLine, IsOfUnfit};
+ghost use Rattle.clr_edge.specs.Database.{IsOnlyRead, IsRefused, IsUnmade, IsUnopened};
 
 use crate::fault::Fault;
 use crate::machine::Machine;
@@ -158,9 +158,14 @@ fn register_made<S: Alter + Drop>(
 
 /// Opens a desk over the register that a database has, which is only read. A fault gives the
 /// database back.
+///
+/// `Store(BadRow)` also where the rows give a register that is not good: it names the first table
+/// whose rows do not fit the others.
 pub fn desk_over<S: Alter + Drop>(
+    alloc: Global,
     connection: Connection<S>,
 ) -> Result<Desk<S>, (Fault, Connection<S>)>
+    ensures good { IfOk result (λ desk. IsGood desk.book.register) }
     ensures register { (R : Register) → HasRegister S.Store R connection → IfOk result (λ desk.
         (desk.book.register ≡ R) × IsGood R) }
     ensures read { IfOk result (λ desk. IsOnlyRead S.Store connection desk.store) }
@@ -174,8 +179,25 @@ pub fn desk_over<S: Alter + Drop>(
         Ok(store) => store,
         Err(Back { fault, connection }) => return Err((Fault::from(fault), connection)),
     };
-    match Desk::open(store) {
-        Ok(desk) => Ok(desk),
-        Err((fault, store)) => Err((Fault::from(fault), store.end())),
+    let desk = match Desk::open(store) {
+        Ok(desk) => desk,
+        Err((fault, store)) => return Err((Fault::from(fault), store.end())),
+    };
+    match expect_good(alloc, &desk) {
+        Ok(()) => Ok(desk),
+        Err(cause) => Err((Fault::from(cause), desk.end().end())),
+    }
+}
+
+/// Refuses a register that is not good.
+fn expect_good<S: Alter + Drop>(alloc: Global, desk: &Desk<S>) -> Result<(), StoreFault>
+    ensures good { OnOk result (IsGood desk.now.book.register) }
+    ensures fault { IfErr result (λ cause. (cause ≡ StoreFault.NoMemory)
+        ⊎ IsOfUnfit desk.now.book.register cause) }
+{
+    let found = desk.table_at_fault(alloc)?;
+    match found {
+        Some(table) => Err(StoreFault::BadRow(table)),
+        None => Ok(()),
     }
 }

@@ -19,7 +19,7 @@ returns-in-Ok-clause-left g c =
     let same : c.end-in-Ok.result ≡ c.run_over-printed.new.desk.store = cc in
     run_left g.S.Store c.args.connection c.in-Ok.desk.store c.run_over-printed.new.desk.store c.end-in-Ok.result
     c.in-Ok.desk.book.register c.run_over-printed.new.desk.book.register _ c.run_over-printed.result c.in-Ok.ensures.read
-    (λ R known. (c.in-Ok.ensures.register R known).0) same c.run_over-printed.ensures.answer
+    c.in-Ok.ensures.good (λ R known. (c.in-Ok.ensures.register R known).0) same c.run_over-printed.ensures.answer
 
 pub returns-in-Ok-clause-waits : goal.returns-in-Ok-clause-waits
 returns-in-Ok-clause-waits g c = waits_of_input c.run_over-printed.result _ _ c.run_over-printed.ensures.others

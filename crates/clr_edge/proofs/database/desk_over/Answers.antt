@@ -1,14 +1,17 @@
-use Rattle.std.proofs.Common.{◌∙◌, ⊎_elim, ap, inl, inr, subst, sym}
-use Rattle.sqlite.specs.Held.{state}
-use Rattle.sqlite.specs.State.{HasCleanDisk}
+use Rattle.std.proofs.Common.{◌≡◌, ◌∙◌, ⊎_elim, ap, inl, inr, subst, sym}
+use Rattle.sqlite.specs.Held.{Held, state}
+use Rattle.sqlite.specs.State.{HasCleanDisk, Survives}
+use Rattle.clr_rules.specs.Good.{IsGood}
+use Rattle.clr_rules.specs.Register.{Register}
 use Rattle.clr_load.specs.Cause.{SqlHasCause}
 use Rattle.clr_load.specs.Stored.{HasTables}
 use Rattle.clr_load.proofs.Loading.{has_meta}
 use Rattle.clr_tables.specs.Tables.{tables_of}
-use Rattle.clr_edge.specs.Database.{IsOfLine}
+use Rattle.clr_edge.specs.Database.{IsOfLine, IsRefused}
 use Rattle.clr_edge.specs.Fault.{of_desk}
-use Rattle.clr_edge.proofs.Databases.{IsOfCommand-shut, IsOfLine-of_command, IsOfLine-of_version}
-use Rattle.clr_edge.proofs.Databases.{RefusesVersion-of_command, of_desk-of_store, opened_cause, survives_on, was_clean}
+use Rattle.clr_edge.proofs.Databases.{IsOfCommand-shut, IsOfLine-of_command, IsOfLine-of_version, IsOfLine-unfit}
+use Rattle.clr_edge.proofs.Databases.{RefusesTables-unfit, RefusesVersion-of_command, SqlHasCause-unfit}
+use Rattle.clr_edge.proofs.Databases.{of_desk-of_store, opened_cause, survives_on, was_clean}
 use Rattle.clr_desk.specs.Faults.{IsOfCommand}
 use Rattle.clr_edge.proofs.database.desk_over.Goals as goal
 
@@ -20,8 +23,8 @@ returns-in-Err-clause-fault g c R known =
     (known.clean c.in-Err.field-0.connection) (tables_of R) known.tables))
 
 -- the rows are those of a good register
-pub returns-in-Ok-open-clause-register : goal.returns-in-Ok-open-clause-register
-returns-in-Ok-open-clause-register g c R known =
+pub returns-in-Ok-expect_good-clause-register : goal.returns-in-Ok-expect_good-clause-register
+returns-in-Ok-expect_good-clause-register g c R known =
     let was_open = c.in-Ok-open.ensures.was_open (known.clean c.in-Ok-open.desk.store) in
     let same = c.in-Ok.ensures.opened (known.clean c.in-Ok.store) was_open in (
       c.in-Ok-open.ensures.again (known.clean c.in-Ok-open.desk.store) R known.good
@@ -58,8 +61,8 @@ returns-in-Err-open-clause-told g c =
       refuses = λ clean_back t has.
           let clean = subst (λ h. HasCleanDisk (state g.S.Store h)) c.end.ensures.connection clean_back in
           ⊎_elim
-          (λ was_open. inr (refused clean t (subst (λ db. HasTables db t)
-          (sym (c.in-Ok.ensures.opened (was_clean _ _ _ c.in-Err-open.ensures.survives_too clean) was_open)) has)).0)
+          (λ was_open. inr (inl (refused clean t (subst (λ db. HasTables db t)
+          (sym (c.in-Ok.ensures.opened (was_clean _ _ _ c.in-Err-open.ensures.survives_too clean) was_open)) has)).0))
           (λ shut. inl (RefusesVersion-of_command _ fault (subst (λ told. IsOfCommand told) is shut)))
           (c.in-Err-open.ensures.shut clean);
       cause = λ clean_back out t has.
@@ -71,10 +74,44 @@ returns-in-Err-open-clause-told g c =
     }
 
 -- the tables are only read
-pub returns-in-Ok-open-clause-read : goal.returns-in-Ok-open-clause-read
-returns-in-Ok-open-clause-read g c = record {
+pub returns-in-Ok-expect_good-clause-read : goal.returns-in-Ok-expect_good-clause-read
+returns-in-Ok-expect_good-clause-read g c = record {
   same = λ clean shown.
       c.in-Ok-open.ensures.same clean shown
       ∙ c.in-Ok.ensures.opened (was_clean _ _ _ c.in-Ok-open.ensures.survives clean) (c.in-Ok-open.ensures.was_open clean);
   survives = survives_on _ _ _ c.in-Ok.ensures.crash_opened c.in-Ok-open.ensures.survives;
 }
+
+-- a register that is known is good
+pub returns-in-Err-expect_good-clause-fault : goal.returns-in-Err-expect_good-clause-fault
+returns-in-Err-expect_good-clause-fault g c R known =
+    let was_open = c.in-Ok-open.ensures.was_open (known.clean c.in-Ok-open.desk.store) in
+    let same = c.in-Ok.ensures.opened (known.clean c.in-Ok.store) was_open in
+    let is : c.in-Ok-open.desk.book.register ≡ R =
+    c.in-Ok-open.ensures.again (known.clean c.in-Ok-open.desk.store) R known.good
+    (subst (λ db. HasTables db (tables_of R)) (sym same) known.tables) in
+    subst (λ fault. IsOfLine fault) (sym c.from-in-Err-expect_good.ensures)
+    (IsOfLine-unfit c.in-Ok-open.desk.book.register c.in-Err-expect_good.cause
+    (subst (λ (r : Register). IsGood r) (sym is) known.good) c.in-Err-expect_good.ensures.fault)
+
+-- the tables are those of a register that is not good
+pub returns-in-Err-expect_good-clause-told : goal.returns-in-Err-expect_good-clause-told
+returns-in-Err-expect_good-clause-told g c =
+    let back : c.end-in-Err-expect_good-2.result ≡ c.in-Ok-open.desk.store = cc in
+    subst (λ (h : Held g.row.S.Denot). IsRefused g.S.Store c.args.connection c.from-in-Err-expect_good.result h) (sym back)
+    (record {
+      fault = c.in-Err-expect_good.cause;
+      told_is = c.from-in-Err-expect_good.ensures;
+      refuses = λ clean t has.
+          RefusesTables-unfit t c.in-Ok-open.desk.book c.in-Err-expect_good.cause
+          (c.in-Ok-open.ensures.opened clean t (subst (λ db. HasTables db t)
+          (sym (c.in-Ok.ensures.opened (was_clean _ _ _ c.in-Ok-open.ensures.survives clean) (c.in-Ok-open.ensures.was_open clean))) has))
+          c.in-Err-expect_good.ensures.fault;
+      cause = λ clean out t has. SqlHasCause-unfit c.in-Ok-open.desk.book.register c.in-Err-expect_good.cause (state g.S.Store c.args.connection) (state g.S.Store c.in-Ok-open.desk.store) c.in-Err-expect_good.ensures.fault;
+    })
+
+pub returns-in-Err-expect_good-clause-unread : goal.returns-in-Err-expect_good-clause-unread
+returns-in-Err-expect_good-clause-unread g c =
+    let back : c.end-in-Err-expect_good-2.result ≡ c.in-Ok-open.desk.store = cc in
+    subst (λ (h : Held g.row.S.Denot). Survives (state g.S.Store c.args.connection) (state g.S.Store h) (λ _. ⊥)) (sym back)
+    (survives_on _ _ _ c.in-Ok.ensures.crash_opened c.in-Ok-open.ensures.survives)
