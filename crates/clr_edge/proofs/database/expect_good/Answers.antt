@@ -1,4 +1,4 @@
-use Rattle.std.proofs.Common.{inl, inr}
+use Rattle.std.proofs.Common.{inr}
 use Rattle.clr_edge.proofs.Databases.{unfit_told}
 use Rattle.clr_edge.proofs.database.expect_good.Goals as goal
 
