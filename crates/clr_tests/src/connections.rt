@@ -10,6 +10,7 @@ use clr_desk::Desk;
 use clr_edge::fault::Fault;
 use clr_edge::loopback::{Connection, Loopback, local_address};
 use clr_edge::machine::{AnyFiles, Machine};
+use clr_http::Registrar;
 use clr_worked::network;
 use sqlite::Alter;
 use std::alloc::Global;
@@ -20,8 +21,8 @@ use std::net::{Shutdown, TcpStream};
 use std::process::Abort;
 use std::test::Fail;
 
-/// Connections that a desk serves, and the lines that tell which failed. Out of memory ends the
-/// test.
+/// Connections that a desk serves, and the lines that tell which failed.
+#[derive(Drop)]
 struct Connections<'a, L: Loopback> {
     net: &'a L,
     listener: &'a L::Listener,
@@ -36,15 +37,28 @@ impl<'a, L: Loopback> AtDesk for Connections<'a, L> {
         alloc: Global,
         mut desk: Desk<S>,
     ) -> Result<(), Fail> {
-        let mut errors = Counted::new(Vec::with_capacity(alloc, 256)?);
-        serve_connections(alloc, self.net, self.listener, &mut desk, self.count, &mut errors);
-        let lines = String::from_utf8(errors.into_inner())?;
-        if lines.as_str().contains("NoMemory") {
-            return Err(Fail::new("out of memory"));
-        }
+        let lines = lines_of(alloc, self.net, self.listener, self.count, &mut desk)?;
         assert_eq!(rt; lines.as_str(), self.failures);
         Ok(())
     }
+}
+
+/// Serves so many connections, and gives the lines that tell which failed. Out of memory ends the
+/// test.
+fn lines_of<L: Loopback, D: Registrar>(
+    alloc: Global,
+    net: &L,
+    listener: &L::Listener,
+    count: usize,
+    desk: &mut D,
+) -> Result<String, Fail> {
+    let mut errors = Counted::new(Vec::with_capacity(alloc, 256)?);
+    serve_connections(alloc, net, listener, desk, count, &mut errors);
+    let lines = String::from_utf8(errors.into_inner())?;
+    if lines.as_str().contains("NoMemory") {
+        return Err(Fail::new("out of memory"));
+    }
+    Ok(lines)
 }
 
 /// A client that wrote the request to a port of the machine itself, and then ended its writing.

@@ -12,6 +12,7 @@ use std::process::Abort;
 use std::test::Fail;
 
 /// Commands that are carried out at a desk, and their replies.
+#[derive(Drop)]
 struct Run<'a> {
     commands: &'a str,
     replies: &'a str,
@@ -24,16 +25,40 @@ impl<'a> AtDesk for Run<'a> {
         alloc: Global,
         mut desk: Desk<S>,
     ) -> Result<(), Fail> {
-        let mut replies = String::new(alloc);
-        let mut fault = carry_on(alloc, &mut desk, self.commands, &mut replies)?;
-        if fault == Some(DeskFault::NoMemory) {
-            // The fault is counted, the replies before it stand, and the run goes on behind them.
-            assert_eq!(rt; desk.faults(), 1);
-            fault = carry_on(alloc, &mut desk, self.commands, &mut replies)?;
-        }
-        assert_eq!(rt; fault, None);
-        assert_eq!(rt; replies.as_str(), self.replies);
-        Ok(())
+        expect_replies(rt, alloc, &mut desk, self)
+    }
+}
+
+/// A desk gives these replies.
+fn expect_replies<R: Abort, S: Alter + Drop>(
+    rt: &R,
+    alloc: Global,
+    desk: &mut Desk<S>,
+    expected: &Run<'_>,
+) -> Result<(), Fail> {
+    let mut replies = String::new(alloc);
+    carry_all(rt, alloc, desk, expected.commands, &mut replies)?;
+    assert_eq!(rt; replies.as_str(), expected.replies);
+    Ok(())
+}
+
+/// Carries out all commands, and adds the replies. Where that is out of memory once, the fault is
+/// counted, the replies before it stand, and the run goes on behind them.
+fn carry_all<R: Abort, S: Alter + Drop>(
+    rt: &R,
+    alloc: Global,
+    desk: &mut Desk<S>,
+    commands: &str,
+    replies: &mut String,
+) -> Result<(), Fail> {
+    let mut fault = carry_on(alloc, desk, commands, replies)?;
+    if fault == Some(DeskFault::NoMemory) {
+        assert_eq!(rt; desk.faults(), 1);
+        fault = carry_on(alloc, desk, commands, replies)?;
+    }
+    match fault {
+        Some(fault) => Err(fault.into()),
+        None => Ok(()),
     }
 }
 

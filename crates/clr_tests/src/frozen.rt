@@ -2,9 +2,10 @@
 use crate::hostile::{UNAVAILABLE, nth_response, response};
 use crate::worked::{REQUEST, RESPONSE};
 use clr_desk::DeskFault;
-use clr_worked::{Behind, Held, Part, close, files_of, left_behind, new_register, opened};
-use sqlite::Files;
-use sqlite_disk::Disk;
+use clr_http::{HttpFault, Registrar};
+use clr_store::StoreFault;
+use clr_worked::{Behind, Held, Part, Work, new_register, opened, over_files};
+use sqlite::{Alter, Connection};
 use std::alloc::Global;
 use std::process::Abort;
 use std::test::Fail;
@@ -15,62 +16,96 @@ const MOST_CALLS: u64 = 1000;
 /// What a client is told.
 #[derive(Clone, Copy, PartialEq, Eq, Debug)]
 enum Told {
-    /// Nothing, since no desk was opened.
-    NoDesk,
-    /// 503.
-    Unavailable,
     /// That it has the first clearance, or the second.
     First,
     Second,
+    /// 503.
+    Unavailable,
+    /// Nothing, since no desk was opened, or since memory ran out.
+    NoDesk,
+    NoMemory,
+    Other,
+}
+
+/// A client asks a desk over a database for the first clearance, or for the second where that is
+/// given.
+#[derive(Drop)]
+struct Request<'a> {
+    alloc: Global,
+    second: &'a str,
+}
+
+impl<'a> Work for Request<'a> {
+    type Told = Told;
+
+    fn go<S: Alter + Drop>(self, connection: Connection<S>) -> (Told, Connection<S>) {
+        match opened(connection) {
+            Ok(mut desk) => {
+                let told = told_at(self.alloc, &mut desk, self.second);
+                (told, desk.end().end())
+            }
+            Err((DeskFault::NoMemory, connection)) => (Told::NoMemory, connection),
+            Err((_fault, connection)) => (Told::NoDesk, connection),
+        }
+    }
+}
+
+/// What a client is told at a desk.
+fn told_at<D: Registrar>(alloc: Global, desk: &mut D, second: &str) -> Told {
+    match response(alloc, desk, REQUEST.as_bytes()) {
+        Ok(response) => told_by(response.as_slice(), second),
+        Err(HttpFault::NoMemory) => Told::NoMemory,
+        Err(_fault) => Told::Other,
+    }
 }
 
 /// What a response tells.
-fn told_by(alloc: Global, response: &[u8]) -> Result<Told, Fail> {
-    if response == UNAVAILABLE.as_bytes() {
-        return Ok(Told::Unavailable);
-    }
+fn told_by(response: &[u8], second: &str) -> Told {
     if response == RESPONSE.as_bytes() {
-        return Ok(Told::First);
-    }
-    if response == nth_response(alloc, 2)?.as_bytes() {
-        return Ok(Told::Second);
-    }
-    Err("another response".into())
-}
-
-/// What a client is told by a desk over two files.
-fn told_over<D: Disk + Drop>(alloc: Global, files: Files<D>) -> Result<(Told, Files<D>), Fail> {
-    match opened(alloc, files) {
-        Ok(mut desk) => {
-            let response = response(alloc, &mut desk, REQUEST.as_bytes());
-            let files = close(desk.end().end());
-            Ok((told_by(alloc, response?.as_slice())?, files))
-        }
-        Err((DeskFault::NoMemory, _files)) => Err(Fail::new("out of memory")),
-        Err((_fault, files)) => Ok((Told::NoDesk, files)),
+        Told::First
+    } else if response == second.as_bytes() {
+        Told::Second
+    } else if response == UNAVAILABLE.as_bytes() {
+        Told::Unavailable
+    } else {
+        Told::Other
     }
 }
 
 /// What a client is told over files of which one stops after so many calls, and what they hold then.
-fn told_by_stopping(
+fn told_over(
     alloc: Global,
+    second: &str,
     held: &Held,
     part: Part,
     calls: u64,
 ) -> Result<(Told, Behind), Fail> {
-    let (told, files) = told_over(alloc, files_of(alloc, held, part, calls)?)?;
-    Ok((told, left_behind(alloc, files)?))
+    let (told, behind) = over_files(alloc, held, part, calls, Request { alloc, second })?;
+    match told {
+        Ok(told) => Ok((told, behind)),
+        Err(StoreFault::NoMemory) => Ok((Told::NoMemory, behind)),
+        Err(_fault) => Ok((Told::NoDesk, behind)),
+    }
 }
 
 /// What a client is told while a file stops after so many calls, and the next one, once the file
-/// works again.
-fn two_told(alloc: Global, held: &Held, part: Part, calls: u64) -> Result<(Told, Told), Fail> {
-    let (first, behind) = told_by_stopping(alloc, held, part, calls)?;
-    let (next, _behind) = told_by_stopping(alloc, &behind.seen(), part, u64::MAX)?;
+/// works again. Out of memory ends the test.
+fn two_told(
+    alloc: Global,
+    second: &str,
+    register: &Held,
+    part: Part,
+    calls: u64,
+) -> Result<(Told, Told), Fail> {
+    let (first, behind) = told_over(alloc, second, register, part, calls)?;
+    let (next, _behind) = told_over(alloc, second, &behind.seen(), part, u64::MAX)?;
+    if first == Told::NoMemory || next == Told::NoMemory {
+        return Err(Fail::new("out of memory"));
+    }
     Ok((first, next))
 }
 
-/// Whether each clearance is given once. It is, also when out of memory.
+/// Whether each clearance is given once, as it is when out of memory too.
 fn is_given_once(told: (Told, Told)) -> bool {
     !matches!(told, (Told::First, Told::First) | (Told::NoDesk, Told::Second))
 }
@@ -83,12 +118,13 @@ fn unavailable_count<R: Abort>(
     register: &Held,
     part: Part,
 ) -> Result<u64, Fail> {
+    let second = nth_response(alloc, 2)?;
     let mut unavailable: u64 = 0;
     for calls in 0..MOST_CALLS {
-        let told = two_told(alloc, register, part, calls)?;
-        assert!(rt; is_given_once(told), "{part:?} at {calls}");
+        let told = two_told(alloc, second.as_str(), register, part, calls)?;
+        assert!(rt; is_given_once(told), "{told:?}, {part:?} at {calls}");
         // A 503 is sent when out of memory too, and not when all is done once more.
-        if two_told(alloc, register, part, calls)? != told {
+        if two_told(alloc, second.as_str(), register, part, calls)? != told {
             return Err(Fail::new("out of memory"));
         }
         match told {

@@ -99,7 +99,7 @@ pub fn response<D: Registrar>(
     alloc: Global,
     desk: &mut D,
     request: &[u8],
-) -> Result<Vec<u8>, Fail> {
+) -> Result<Vec<u8>, HttpFault> {
     let mut reader = Counted::new(request);
     let mut writer = writer(alloc, usize::MAX, usize::MAX, None)?;
     serve_one(alloc, desk, &mut reader, &mut writer)?;
@@ -201,19 +201,26 @@ impl AtDesk for Heads {
         alloc: Global,
         mut desk: Desk<S>,
     ) -> Result<(), Fail> {
-        let heads = [
-            (1, MAX_HEAD_BYTES, BOARD),
-            (1, MAX_HEAD_BYTES + 1, HEAD_TOO_LARGE),
-            (MAX_FIELDS, 0, BOARD),
-            (MAX_FIELDS + 1, 0, HEAD_TOO_LARGE),
-        ];
-        for (fields, bytes, expected) in heads {
-            let head = board_head(alloc, fields, bytes)?;
-            assert!(rt; bytes == 0 || head.len() == bytes);
-            expect_response(rt, alloc, &mut desk, head.as_bytes(), expected)?;
-        }
-        Ok(())
+        expect_head(rt, alloc, &mut desk, 1, MAX_HEAD_BYTES, BOARD)?;
+        expect_head(rt, alloc, &mut desk, 1, MAX_HEAD_BYTES + 1, HEAD_TOO_LARGE)?;
+        expect_head(rt, alloc, &mut desk, MAX_FIELDS, 0, BOARD)?;
+        expect_head(rt, alloc, &mut desk, MAX_FIELDS + 1, 0, HEAD_TOO_LARGE)
     }
+}
+
+/// To a head of so many fields, and so many bytes where they are more than 0, this response goes
+/// out.
+fn expect_head<R: Abort, D: Registrar>(
+    rt: &R,
+    alloc: Global,
+    desk: &mut D,
+    fields: usize,
+    bytes: usize,
+    expected: &str,
+) -> Result<(), Fail> {
+    let head = board_head(alloc, fields, bytes)?;
+    assert!(rt; bytes == 0 || head.len() == bytes);
+    expect_response(rt, alloc, desk, head.as_bytes(), expected)
 }
 
 #[test]
@@ -232,25 +239,46 @@ impl AtDesk for FailingReader {
         mut desk: Desk<S>,
     ) -> Result<(), Fail> {
         for calls_before in 0..REQUEST.len() as u64 {
-            let mut reader = Counted::new(FailsAt {
-                bytes: REQUEST.as_bytes(),
-                bytes_per_call: 1,
-                calls_before,
-            });
-            let mut writer = writer(alloc, usize::MAX, usize::MAX, None)?;
-            let served = serve(alloc, &mut desk, &mut reader, &mut writer)?;
-            assert_eq!(rt;
-                served,
-                Err(HttpFault::ReadFailed),
-                "after {calls_before} calls"
-            );
-            assert_eq!(rt; reader.failures(), 1);
-            assert!(rt; writer.into_inner().taken.is_empty());
+            expect_unread(rt, alloc, &mut desk, calls_before)?;
         }
-        let board = desk.board(alloc)?;
-        assert_eq!(rt; board.as_str(), EMPTY_BOARD);
+        expect_empty_board(rt, alloc, &desk)?;
         expect_response(rt, alloc, &mut desk, REQUEST.as_bytes(), RESPONSE)
     }
+}
+
+/// Nothing goes out to a reader that fails behind so many calls.
+fn expect_unread<R: Abort, D: Registrar>(
+    rt: &R,
+    alloc: Global,
+    desk: &mut D,
+    calls_before: u64,
+) -> Result<(), Fail> {
+    let mut reader = Counted::new(FailsAt {
+        bytes: REQUEST.as_bytes(),
+        bytes_per_call: 1,
+        calls_before,
+    });
+    let mut writer = writer(alloc, usize::MAX, usize::MAX, None)?;
+    let served = serve(alloc, desk, &mut reader, &mut writer)?;
+    assert_eq!(rt;
+        served,
+        Err(HttpFault::ReadFailed),
+        "after {calls_before} calls"
+    );
+    assert_eq!(rt; reader.failures(), 1);
+    assert!(rt; writer.into_inner().taken.is_empty());
+    Ok(())
+}
+
+/// No clearance stands on the board.
+fn expect_empty_board<R: Abort, D: Registrar>(
+    rt: &R,
+    alloc: Global,
+    desk: &D,
+) -> Result<(), Fail> {
+    let board = desk.board(alloc)?;
+    assert_eq!(rt; board.as_str(), EMPTY_BOARD);
+    Ok(())
 }
 
 #[test]
@@ -282,25 +310,38 @@ impl AtDesk for FailingWriter {
         alloc: Global,
         mut desk: Desk<S>,
     ) -> Result<(), Fail> {
-        let broken = Some(io::ErrorKind::BrokenPipe);
         for room in 0..RESPONSE.len() {
-            let mut writer = writer(alloc, usize::MAX, room, broken)?;
-            let mut reader = Counted::new(REQUEST.as_bytes());
-            let served = serve(alloc, &mut desk, &mut reader, &mut writer)?;
-            assert_eq!(rt; served, Err(HttpFault::WriteFailed(room)));
-            assert_eq!(rt; writer.failures(), 1);
-            let taken = writer.into_inner().taken;
+            let fault = HttpFault::WriteFailed(room);
+            let broken = Some(io::ErrorKind::BrokenPipe);
+            let writer = writer(alloc, usize::MAX, room, broken)?;
+            let taken = expect_taken(rt, alloc, &mut desk, writer, Some(fault), 1)?;
             expect_front(rt, alloc, taken.as_slice(), room)?;
         }
-        let expected = nth_response(alloc, RESPONSE.len() + 1)?;
-        expect_response(
-            rt,
-            alloc,
-            &mut desk,
-            REQUEST.as_bytes(),
-            expected.as_str(),
-        )
+        expect_last(rt, alloc, &mut desk)
     }
+}
+
+/// The request behind the last of these failures is answered too.
+fn expect_last<R: Abort, D: Registrar>(rt: &R, alloc: Global, desk: &mut D) -> Result<(), Fail> {
+    let expected = nth_response(alloc, RESPONSE.len() + 1)?;
+    expect_response(rt, alloc, desk, REQUEST.as_bytes(), expected.as_str())
+}
+
+/// The request ends with this fault, or with none, and so often the writer has failed. Returns the
+/// bytes that it has taken.
+fn expect_taken<R: Abort, D: Registrar>(
+    rt: &R,
+    alloc: Global,
+    desk: &mut D,
+    mut writer: Counted<Narrow>,
+    fault: Option<HttpFault>,
+    failures: u64,
+) -> Result<Vec<u8>, Fail> {
+    let mut reader = Counted::new(REQUEST.as_bytes());
+    let served = serve(alloc, desk, &mut reader, &mut writer)?;
+    assert_eq!(rt; served.err(), fault);
+    assert_eq!(rt; writer.failures(), failures);
+    Ok(writer.into_inner().taken)
 }
 
 /// So many bytes of the response have gone out that tells one clearance more than there are bytes.
@@ -316,6 +357,7 @@ fn writer_fails_after_each_byte(rt: HostRuntime) -> Result<(), Fail> {
 }
 
 /// A writer that takes up to so many bytes a call while there is room for so many, and then none.
+#[derive(Drop)]
 struct NarrowWriter {
     bytes_per_call: usize,
     room: usize,
@@ -329,12 +371,8 @@ impl AtDesk for NarrowWriter {
         alloc: Global,
         mut desk: Desk<S>,
     ) -> Result<(), Fail> {
-        let mut reader = Counted::new(REQUEST.as_bytes());
-        let mut writer = writer(alloc, self.bytes_per_call, self.room, None)?;
-        let served = serve(alloc, &mut desk, &mut reader, &mut writer)?;
-        assert_eq!(rt; served.err(), self.fault);
-        assert_eq!(rt; writer.failures(), 0);
-        let taken = writer.into_inner().taken;
+        let writer = writer(alloc, self.bytes_per_call, self.room, None)?;
+        let taken = expect_taken(rt, alloc, &mut desk, writer, self.fault, 0)?;
         let count = self.room.min(RESPONSE.len());
         assert_eq!(rt; Some(taken.as_slice()), RESPONSE.as_bytes().get(..count));
         Ok(())
@@ -409,15 +447,23 @@ impl AtDesk for NoAnswer {
         desk: Desk<S>,
     ) -> Result<(), Fail> {
         let mut keeper = Unanswering { desk, faults: 0 };
-        for faults in 1..3 {
-            let response = response(alloc, &mut keeper, REQUEST.as_bytes())?;
-            assert_eq!(rt; response.as_slice(), UNAVAILABLE.as_bytes());
-            assert_eq!(rt; keeper.faults(), faults);
-        }
-        let board = keeper.board(alloc)?;
-        assert_eq!(rt; board.as_str(), EMPTY_BOARD);
-        Ok(())
+        expect_unavailable(rt, alloc, &mut keeper, 1)?;
+        expect_unavailable(rt, alloc, &mut keeper, 2)?;
+        expect_empty_board(rt, alloc, &keeper)
     }
+}
+
+/// The request is answered by a 503, and so many were not answered then.
+fn expect_unavailable<R: Abort, D: Registrar>(
+    rt: &R,
+    alloc: Global,
+    keeper: &mut D,
+    faults: u64,
+) -> Result<(), Fail> {
+    let response = response(alloc, keeper, REQUEST.as_bytes())?;
+    assert_eq!(rt; response.as_slice(), UNAVAILABLE.as_bytes());
+    assert_eq!(rt; keeper.faults(), faults);
+    Ok(())
 }
 
 #[test]

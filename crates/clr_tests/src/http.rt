@@ -190,6 +190,7 @@ END
 ];
 
 /// Requests to a desk, each a connection of its own, one after the other, and what goes out to each.
+#[derive(Drop)]
 struct Exchanges<'a> {
     all: &'a [(&'a str, &'a str)],
 }
@@ -201,15 +202,25 @@ impl<'a> AtDesk for Exchanges<'a> {
         alloc: Global,
         mut desk: Desk<S>,
     ) -> Result<(), Fail> {
-        let answered = expect_responses(rt, alloc, &mut desk, self.all)?;
-        if answered < self.all.len() {
-            // A 503 is counted. Nothing behind it was accepted, so all is answered from there on.
-            assert!(rt; desk.faults() > 0);
-            let rest = &self.all[answered..];
-            assert_eq!(rt; expect_responses(rt, alloc, &mut desk, rest)?, rest.len());
-        }
-        Ok(())
+        expect_all(rt, alloc, &mut desk, self.all)
     }
+}
+
+/// To each request its response goes out. A 503 is counted, and nothing behind it is accepted, so
+/// that all is answered from there on when it comes again.
+fn expect_all<R: Abort, D: Registrar>(
+    rt: &R,
+    alloc: Global,
+    desk: &mut D,
+    exchanges: &[(&str, &str)],
+) -> Result<(), Fail> {
+    let answered = expect_responses(rt, alloc, desk, exchanges)?;
+    if answered < exchanges.len() {
+        assert!(rt; desk.faults() > 0);
+        let rest = &exchanges[answered..];
+        assert_eq!(rt; expect_responses(rt, alloc, desk, rest)?, rest.len());
+    }
+    Ok(())
 }
 
 /// To each request its response goes out, up to the first 503, which is sent when out of memory.

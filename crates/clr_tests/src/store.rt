@@ -10,6 +10,7 @@ use std::process::Abort;
 use std::test::Fail;
 
 /// A statement that changes the tables of a desk, and why they are not opened then.
+#[derive(Drop)]
 struct Change<'a> {
     statement: &'a str,
     fault: StoreFault,
