@@ -72,7 +72,8 @@ fn told_by(response: &[u8], second: &str) -> Told {
     }
 }
 
-/// What a client is told over files of which one stops after so many calls, and what they hold then.
+/// What a client is told over files of which one stops after so many calls, and what they hold
+/// then.
 fn told_over(
     alloc: Global,
     second: &str,
@@ -107,7 +108,10 @@ fn two_told(
 
 /// Whether each clearance is given once, as it is when out of memory too.
 fn is_given_once(told: (Told, Told)) -> bool {
-    !matches!(told, (Told::First, Told::First) | (Told::NoDesk, Told::Second))
+    !matches!(
+        told,
+        (Told::First, Told::First) | (Told::NoDesk, Told::Second)
+    )
 }
 
 /// Stops a file at each call until the request is answered, and tells how often it was answered by

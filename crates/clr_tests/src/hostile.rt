@@ -228,7 +228,8 @@ fn longest_heads(rt: HostRuntime) -> Result<(), Fail> {
     at_new_desk(&rt, rt.alloc(), network(rt.alloc())?, &Heads)
 }
 
-/// A reader of one byte a call that fails at each call: nothing goes out, and the board stays empty.
+/// A reader of one byte a call that fails at each call: nothing goes out, and the board stays
+/// empty.
 struct FailingReader;
 
 impl AtDesk for FailingReader {
@@ -271,11 +272,7 @@ fn expect_unread<R: Abort, D: Registrar>(
 }
 
 /// No clearance stands on the board.
-fn expect_empty_board<R: Abort, D: Registrar>(
-    rt: &R,
-    alloc: Global,
-    desk: &D,
-) -> Result<(), Fail> {
+fn expect_empty_board<R: Abort, D: Registrar>(rt: &R, alloc: Global, desk: &D) -> Result<(), Fail> {
     let board = desk.board(alloc)?;
     assert_eq!(rt; board.as_str(), EMPTY_BOARD);
     Ok(())

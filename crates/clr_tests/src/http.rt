@@ -189,7 +189,8 @@ END
     ),
 ];
 
-/// Requests to a desk, each a connection of its own, one after the other, and what goes out to each.
+/// Requests to a desk, each a connection of its own, one after the other, and what goes out to
+/// each.
 #[derive(Drop)]
 struct Exchanges<'a> {
     all: &'a [(&'a str, &'a str)],
