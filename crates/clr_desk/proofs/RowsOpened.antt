@@ -14,7 +14,7 @@ use Rattle.clr_tables.specs.Tables.{tables_of}
 use Rattle.clr_tables.specs.TypedRows.{IsTyped}
 use Rattle.clr_tables.specs.declared.table_name.TableName.{TableName}
 use Rattle.clr_tables.proofs.TablesRead.{tables_are_read, tables_read_as_no_others}
-use Rattle.clr_desk.specs.Opening.{FailsToOpen, IsRegisterOf, OpensAs}
+use Rattle.clr_desk.specs.Opening.{FailsToOpen, IsRegisterOf, OpensAs, bad_table}
 use Rattle.clr_desk.proofs.Filled.{opens_again}
 
 abbrev bad_or : TableName → Result Rows TableName → TableName
@@ -30,6 +30,12 @@ not_loaded (Err bad) Sql gives = tt
 not_loaded (Ok rows) NoMemory gives = tt
 not_loaded (Err bad) NoMemory gives = tt
 not_loaded told (WrongVersion n) gives = absurd gives
+
+-- rows that were loaded, and gave a book
+pub loaded : (told : Result Rows TableName) (rows : Rows) (book : Shelved) → told ≡ Ok rows → IsRegisterOf rows book.register
+    → bad_table rows ≡ None → OpensAs (λ (b : Shelved). b.register) told (Ok book)
+loaded told rows book is register none =
+    subst (λ (read : Result Rows TableName). OpensAs (λ (b : Shelved). b.register) read (Ok book)) (sym is) (register, none)
 
 -- rows that are loaded are not refused as `Sql`
 pub opened_cause : (rows : Rows) (fault : StoreFault) (old new : State) → FailsToOpen rows fault → SqlHasCause old new fault
