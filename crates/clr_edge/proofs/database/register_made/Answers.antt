@@ -1,7 +1,19 @@
-use Rattle.std.proofs.Common.{subst, sym}
-use Rattle.clr_edge.specs.Database.{IsOfLine}
+use Rattle.std.proofs.Common.{◌∙◌, subst, sym}
+use Rattle.clr_rules.specs.Register.{Register, opening}
+use Rattle.clr_edge.specs.Database.{IsMade, IsOfLine}
 use Rattle.clr_edge.proofs.Databases.{IsOfLine-of_command}
 use Rattle.clr_edge.proofs.database.register_made.Goals as goal
+
+-- the desk that was made, whose connection is given back
+pub returns-in-Ok-clause-made : goal.returns-in-Ok-clause-made
+returns-in-Ok-clause-made g c =
+    let R : Register = opening c.args.network c.args.staff in
+    let made : IsMade g.S.Store c.args.connection R c.in-Ok.desk.store = record {
+        saved = λ clean. (c.in-Ok.ensures.made clean).0;
+        tables = λ clean. (c.in-Ok.ensures.made clean).1;
+        survives = c.in-Ok.ensures.crash_made;
+    } in
+    subst (λ after. IsMade g.S.Store c.args.connection R after) (sym (c.end-in-Ok.ensures.connection ∙ c.end.ensures)) made
 
 pub returns-in-Err-clause-fault : goal.returns-in-Err-clause-fault
 returns-in-Err-clause-fault g c =
