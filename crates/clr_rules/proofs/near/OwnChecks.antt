@@ -67,8 +67,15 @@ module _ (k : Known) (R S : Register) (by : List ℕ) (at : ℕ) where
   same_checks (kinds.Instruct c n) same no_order no_instruct = cc no_instruct
   same_checks (kinds.SignOn c crew) same no_order no_instruct = same_by_holder c R S same by at is_charge is_granted (λ i. at_works c R S same (not_tested R c) (not_tested S c) (tested c R S same) i ∷ at_works c R S same (no_ground R c) (no_ground S c) (grounded_at c R S same) i ∷ no_crew c R S same crew i ∷ [])
   -- a check that looks at no more than the record, the steps, the holds and the staff
-  same_checks _ same no_order no_instruct = simp (same.staff, same.own_record, same.own_steps, same_round _ R S same, same_has_hold _ R S same,
-      same_some_hold _ R S same, same_held_among _ R S same)
+  same_checks _ same no_order no_instruct = simp (
+    same.staff,
+    same.own_record,
+    same.own_steps,
+    same_round _ R S same,
+    same_has_hold _ R S same,
+    same_some_hold _ R S same,
+    same_held_among _ R S same,
+  )
 
 pub checks_of_own : (c : Id) (R S : Register) → SameOwn c R S → (k : Known) (by : List ℕ) (at : ℕ) (kind : Kind)
     → named_clearance kind ≡ Some c → is_order kind ≡ false → is_instruct kind ≡ false → checks k R by at kind ≡ checks k S by at kind

@@ -9,9 +9,9 @@ pub returns-in-Ok-clause-made : goal.returns-in-Ok-clause-made
 returns-in-Ok-clause-made g c =
     let R : Register = opening c.args.network c.args.staff in
     let made : IsMade g.S.Store c.args.connection R c.in-Ok.desk.store = record {
-        saved = λ clean. (c.in-Ok.ensures.made clean).0;
-        tables = λ clean. (c.in-Ok.ensures.made clean).1;
-        survives = c.in-Ok.ensures.crash_made;
+      saved = λ clean. (c.in-Ok.ensures.made clean).0;
+      tables = λ clean. (c.in-Ok.ensures.made clean).1;
+      survives = c.in-Ok.ensures.crash_made;
     } in
     subst (λ after. IsMade g.S.Store c.args.connection R after) (sym (c.end-in-Ok.ensures.connection ∙ c.end.ensures)) made
 
