@@ -2,58 +2,31 @@
 //! and ends its writing before it is served; and some on which nothing comes through.
 ghost use Rattle.std.specs.Prelude.{◌≡◌, ◌⊎◌, IfErr, IfOk, ⊤};
 
-use crate::at_desk::{AtDesk, at_new_desk};
 use crate::worked::{REQUEST, RESPONSE};
 use clr_commands::serve::serve_connections;
 use clr_csv::Counted;
-use clr_desk::Desk;
 use clr_edge::fault::Fault;
 use clr_edge::loopback::{Connection, Loopback, local_address};
 use clr_edge::machine::{AnyFiles, Machine};
-use clr_http::Registrar;
-use clr_worked::network;
-use sqlite::Alter;
+use clr_worked::{network, new_desk};
 use std::alloc::Global;
 use std::cell::Cell;
 use std::io;
 use std::io::{Read, Write};
 use std::net::{Shutdown, TcpStream};
-use std::process::Abort;
 use std::test::Fail;
 
-/// Connections that a desk serves, and the lines that tell which failed.
-#[derive(Drop)]
-struct Connections<'a, L: Loopback> {
-    net: &'a L,
-    listener: &'a L::Listener,
-    count: usize,
-    failures: &'a str,
-}
-
-impl<'a, L: Loopback> AtDesk for Connections<'a, L> {
-    fn go<R: Abort, S: Alter + Drop>(
-        &self,
-        rt: &R,
-        alloc: Global,
-        mut desk: Desk<S>,
-    ) -> Result<(), Fail> {
-        let lines = lines_of(alloc, self.net, self.listener, self.count, &mut desk)?;
-        assert_eq!(rt; lines.as_str(), self.failures);
-        Ok(())
-    }
-}
-
-/// Serves so many connections, and gives the lines that tell which failed. Out of memory ends the
-/// test.
-fn lines_of<L: Loopback, D: Registrar>(
+/// Serves so many connections from a new desk, and gives the lines that tell which failed. Out of
+/// memory ends the test.
+fn failures<L: Loopback>(
     alloc: Global,
     net: &L,
     listener: &L::Listener,
     count: usize,
-    desk: &mut D,
 ) -> Result<String, Fail> {
     let mut errors = Counted::new(Vec::with_capacity(alloc, 256)?);
-    serve_connections(alloc, net, listener, desk, count, &mut errors);
+    let mut desk = new_desk(alloc, network(alloc)?)?;
+    serve_connections(alloc, net, listener, &mut desk, count, &mut errors);
     let lines = String::from_utf8(errors.into_inner())?;
     if lines.as_str().contains("NoMemory") {
         return Err(Fail::new("out of memory"));
@@ -85,13 +58,8 @@ fn a_request_and_its_response_byte_for_byte(rt: HostRuntime) -> Result<(), Fail>
     let machine = Machine::new(&rt, AnyFiles);
     let listener = machine.listen(0)?;
     let client = client(&rt, listener.local_addr()?.port())?;
-    let one = Connections {
-        net: &machine,
-        listener: &listener,
-        count: 1,
-        failures: "",
-    };
-    at_new_desk(&rt, rt.alloc(), network(rt.alloc())?, &one)?;
+    let failures = failures(rt.alloc(), &machine, &listener, 1)?;
+    assert_eq!(rt; failures.as_str(), "");
     let response = response(rt.alloc(), client)?;
     assert_eq!(rt; response.as_str(), RESPONSE);
     Ok(())
@@ -173,11 +141,10 @@ fn connections_that_fail_are_told(rt: HostRuntime) -> Result<(), Fail> {
     let torn = Torn {
         accepted: Cell::new(0),
     };
-    let three = Connections {
-        net: &torn,
-        listener: &(),
-        count: 3,
-        failures: "connection 1 ReadFailed\nconnection 2 ReadFailed\nconnection 3 WriteFailed\n",
-    };
-    at_new_desk(&rt, rt.alloc(), network(rt.alloc())?, &three)
+    let failures = failures(rt.alloc(), &torn, &(), 3)?;
+    assert_eq!(rt;
+        failures.as_str(),
+        "connection 1 ReadFailed\nconnection 2 ReadFailed\nconnection 3 WriteFailed\n"
+    );
+    Ok(())
 }
