@@ -1,5 +1,5 @@
 -- The file of the switching points.
-use Rattle.std.specs.Prelude.{ℕ, List, [], ◌∷◌, codes, Result, Ok}
+use Rattle.std.specs.Prelude.{ℕ, false, List, [], ◌∷◌, codes, Result, Ok}
 use Rattle.clr_net.specs.declared.point.PointRow.{PointRow}
 use Rattle.clr_csv.specs.declared.columns.ColumnFault.{ColumnFault}
 use Rattle.clr_csv.specs.declared.fault.CsvFault.{CsvFault}
@@ -24,9 +24,9 @@ point_in fields = do
     from_end = from_end;
     to_end = to_end;
     lockable = lockable;
-    remote =
-        remote;
+    remote = remote;
     position = position;
+    jumper = false;
   })
 
 -- the points of a file, or its first fault

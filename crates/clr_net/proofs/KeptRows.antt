@@ -8,7 +8,7 @@ use Rattle.clr_net.specs.Names.{has_name}
 use Rattle.clr_net.proofs.Walks.{one_name}
 
 module _ {X : Type 0} where
-  first_or_later : (x y : X) (xs : List X) → Contains (x ∷ xs) y → (x ≡ y) ⊎ Contains xs y
+  pub first_or_later : (x y : X) (xs : List X) → Contains (x ∷ xs) y → (x ≡ y) ⊎ Contains xs y
   first_or_later x y xs (zero, within, here) = inl here
   first_or_later x y xs (suc k, within, here) = inr (k, omega arith, here)
 

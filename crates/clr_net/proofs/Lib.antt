@@ -1,4 +1,5 @@
 pub mod Names
+pub mod NameOrder
 pub mod Places
 pub mod SearchSteps
 pub mod IndexSteps
@@ -11,3 +12,5 @@ pub mod CutPlaces
 pub mod KeptRows
 pub mod Locality
 pub mod ByWalks
+pub mod ByName
+pub mod Grown

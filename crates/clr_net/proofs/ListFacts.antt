@@ -1,5 +1,5 @@
 -- Facts of lists that std does not have.
-use Rattle.std.proofs.Common.{◌≡◌, Bool, true, false, ◌||◌, List, [], ◌∷◌, filter, map, refl, ap}
+use Rattle.std.proofs.Common.{◌≡◌, Bool, true, false, ◌||◌, List, [], ◌∷◌, filter, map, refl, ap, arith}
 use Rattle.std.specs.List.{AllByRecursion, dedup, dedup_from, list_any}
 use Rattle.std.specs.List.Sorted.{IsStrictlySortedBy}
 use Rattle.std.specs.declared.cmp.Ordering.{Ordering}
@@ -9,6 +9,11 @@ use Rattle.std.specs.declared.cmp.Ordering.TheVariants.{Less}
 pub map-map : {X Y Z : Type 0} (f : Y → Z) (g : X → Y) (xs : List X) → map f (map g xs) ≡ map (λ x. f (g x)) xs
 map-map f g [] = refl
 map-map f g (x ∷ xs) = ap (λ zs. f (g x) ∷ zs) (map-map f g xs)
+
+-- two filters in either order
+pub filter-filter_comm : {X : Type 0} (p q : X → Bool) (xs : List X) → filter p (filter q xs) ≡ filter q (filter p xs)
+filter-filter_comm p q [] = refl
+filter-filter_comm p q (x ∷ xs) = grind (arith, filter-filter_comm p q xs)
 
 or_again : (b c : Bool) → (b || c) ≡ (b || (b || c))
 or_again true c = refl

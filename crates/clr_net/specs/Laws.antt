@@ -1,8 +1,11 @@
 -- What the definitions of the network and the fence mean, as laws.
-use Rattle.std.specs.Prelude.{◌≡◌, ◌↔◌, ℕ, Bool, IsTrue, List, None, filter, map}
+use Rattle.std.specs.Prelude.{◌≡◌, ◌↔◌, ℕ, Bool, if◌then◌else◌, IsTrue, List, ◌∷◌, None, filter}
+use Rattle.std.specs.Prelude.{map}
 use Rattle.clr_net.specs.Names.{has_name}
 use Rattle.clr_net.specs.Grid.{Grid, IsNetwork, section_names, unplaced}
 use Rattle.clr_net.specs.Network.{IsGridOf, first_fault}
+use Rattle.clr_net.specs.Additions.{fits_section, fits_point, with_named, with_section}
+use Rattle.clr_net.specs.Additions.{with_point}
 use Rattle.clr_net.specs.Walk.{IsClosed, Walk}
 use Rattle.clr_net.specs.Fence.{FenceRows, fence_of, in_fence, touches}
 use Rattle.clr_net.specs.declared.section.SectionRow.{SectionRow}
@@ -54,3 +57,37 @@ FencesAreLocal =
 abbrev pub NetworksHaveNoFault : Type 0
 NetworksHaveNoFault = (sections : List SectionRow) (points : List PointRow) (g : Grid)
     → IsGridOf sections points g → first_fault sections points ≡ None
+
+-- a network with a section more is the network of its rows and this one
+abbrev pub SectionsAreAdded : Type 0
+SectionsAreAdded = (g : Grid) → IsNetwork g → (row : SectionRow) → IsTrue (fits_section g row)
+    → IsGridOf (row ∷ g.sections) g.points (with_section row g)
+
+-- a network with a point more is the network of its rows and this one
+abbrev pub PointsAreAdded : Type 0
+PointsAreAdded = (g : Grid) → IsNetwork g → (p : PointRow) → IsTrue (fits_point g p)
+    → IsGridOf g.sections (p ∷ g.points) (with_point p g)
+
+-- the points that touch a fence and a point more, where it touches it too
+abbrev pub touching_with : (List ℕ → Bool) → PointRow → List PointRow → List PointRow
+touching_with inside p points =
+    if touches inside p then with_named (λ other. other.name) p points else points
+
+-- the fence of a work section, cut at these points, has the same sections in two networks, with the
+-- same rows; in the second one these points touch it
+pub record KeepsFence (g h : Grid) (work : List ℕ) (cut : List (List ℕ))
+    (touching : List PointRow) : Type 0 where
+  pub inside : (s : List ℕ) → in_fence g work cut s ≡ in_fence h work cut s
+  pub fence : fence_of h work cut ≡ record (fence_of g work cut) { touching = touching }
+
+-- ADDITIONS KEEP FENCES: a section more leaves the fence of each known section as it was, and so
+-- does a point more both of whose ends are inside, or none: inside, it touches the fence
+pub record AdditionsKeepFences : Type 0 where
+  pub section : (g : Grid) → IsNetwork g → (row : SectionRow) → IsTrue (fits_section g row)
+      → (work : List ℕ) (cut : List (List ℕ)) → IsTrue (has_name (section_names g.sections) work)
+      → KeepsFence g (with_section row g) work cut (fence_of g work cut).touching
+  pub point : (g : Grid) → IsNetwork g → (p : PointRow) → IsTrue (fits_point g p)
+      → (work : List ℕ) (cut : List (List ℕ)) → IsTrue (has_name (section_names g.sections) work)
+      → in_fence g work cut p.from_end ≡ in_fence g work cut p.to_end
+      → KeepsFence g (with_point p g) work cut
+      (touching_with (in_fence g work cut) p (fence_of g work cut).touching)

@@ -1,8 +1,10 @@
 pub mod Name
 pub mod NameText
+pub mod NameWords
 pub mod Names
 pub mod Grid
 pub mod Network
+pub mod Additions
 pub mod Walk
 pub mod Fence
 pub mod Index

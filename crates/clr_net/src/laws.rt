@@ -1,6 +1,7 @@
 //! Laws of the definitions: the contract of each function is the law, and its body is empty.
 ghost use Rattle.clr_net.specs.Laws.{FenceIsClosed, FenceIsLeast, FenceIsWalks};
 ghost use Rattle.clr_net.specs.Laws.{FencesAreLocal, NetworksHaveNoFault};
+ghost use Rattle.clr_net.specs.Laws.{AdditionsKeepFences, PointsAreAdded, SectionsAreAdded};
 
 /// A section is in the fence exactly where a walk from the work section leads to it over points
 /// that are not cut.
@@ -28,4 +29,20 @@ pub fn fences_are_local()
 /// Rows of which there is a network have no fault, so that a build of them answers it.
 pub fn networks_have_no_fault()
     ensures { NetworksHaveNoFault }
+{}
+
+/// A network to which a section is added is one again: that of the rows and the new one.
+pub fn sections_are_added()
+    ensures { SectionsAreAdded }
+{}
+
+/// A network to which a point is added is one again: that of the rows and the new one.
+pub fn points_are_added()
+    ensures { PointsAreAdded }
+{}
+
+/// A new section, and a new point that does not cross a fence, leave the fence as it was: no end of
+/// the point lies inside, or both do. With both inside it is one more point that touches the fence.
+pub fn additions_keep_fences()
+    ensures { AdditionsKeepFences }
 {}

@@ -1,6 +1,7 @@
 //! Names, the network of sections and switching points, and the fence of a section.
 #![tactic(auto)]
 
+mod addition;
 mod fence;
 pub mod laws;
 mod name;
@@ -12,6 +13,7 @@ mod reach;
 mod section;
 mod ways;
 
+pub use addition::Addition;
 pub use fence::Fence;
 pub use name::{MAX_NAME_LEN, Name, NameFault, has_name};
 pub use named::{Named, place_of, repeat_place, row_of, sort_by_name};

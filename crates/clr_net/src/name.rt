@@ -1,5 +1,5 @@
 //! The name of a section, a switching point, an employee or a crew.
-ghost use Rattle.std.specs.Prelude.{◌≡◌, ◌↔◌, ◌==◌, IsOk, ℕ, List, IsTrue, length, Some, take};
+ghost use Rattle.std.specs.Prelude.{◌≡◌, ◌↔◌, ◌≤◌, ◌==◌, IsOk, ℕ, List, IsTrue, length, Some, take};
 ghost use Rattle.std.specs.Prelude.{drop, refl};
 ghost use Rattle.std.specs.Cmp.{partial_equiv_from_equiv};
 ghost use Rattle.std.proofs.lemmas.Cmp.{nat_list_eq_equiv, nat_list_cmp_total};
@@ -9,6 +9,7 @@ ghost use Rattle.std.specs.Ordering.{as_partial_cmp};
 ghost use Rattle.clr_net.specs.Name.{is_name, is_name_byte, same_name, name_cmp};
 ghost use Rattle.clr_net.specs.Names.{has_name};
 ghost use Rattle.clr_net.specs.NameText.{bad_byte, read_name};
+ghost use Rattle.clr_net.specs.NameWords.{word_from, words_of};
 
 use std::cmp::Ordering;
 use std::fmt;
@@ -125,6 +126,35 @@ impl Name {
     {
         &self.bytes[..usize::from(self.len)]
     }
+
+    /// The cells as three numbers, which stand in the order of the names.
+    fn words(&self) -> (u64, u64, u64)
+        ensures words { result ≡ words_of self.now }
+        ensures name { IsTrue (is_name self.now) }
+    {
+        (
+            word(&self.bytes, 0),
+            word(&self.bytes, 8),
+            word(&self.bytes, 16),
+        )
+    }
+}
+
+/// The number that eight cells spell, from a place on, the first cell its highest digit.
+fn word(cells: &[u8; MAX_NAME_LEN], place: usize) -> u64
+    requires { place ≤ 16 }
+    ensures { result ≡ word_from place cells.now }
+{
+    u64::from_be_bytes([
+        cells[place],
+        cells[place + 1],
+        cells[place + 2],
+        cells[place + 3],
+        cells[place + 4],
+        cells[place + 5],
+        cells[place + 6],
+        cells[place + 7],
+    ])
 }
 
 /// Whether a name is among these, which may stand in any order.
@@ -140,7 +170,7 @@ impl PartialEq for Name {
     ghost laws = { partial_equiv_from_equiv nat_list_eq_equiv };
 
     fn eq(&self, other: &Name) -> bool {
-        self.as_bytes() == other.as_bytes()
+        self.words() == other.words()
     }
 }
 
@@ -168,7 +198,7 @@ impl Ord for Name {
     ghost matches_eq = { texts_ties };
 
     fn cmp(&self, other: &Name) -> Ordering {
-        self.as_bytes().cmp(other.as_bytes())
+        self.words().cmp(&other.words())
     }
 }
 

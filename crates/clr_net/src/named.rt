@@ -1,11 +1,12 @@
 //! Rows that go by a name: their order, the place of a name, and a name that stands twice.
 ghost use Rattle.std.specs.Prelude.{◌≡◌, ◌<◌, ◌≤◌, ℕ, List, find, length, map, position, IfOk, IfSome};
-ghost use Rattle.std.specs.Prelude.{IfNone, IsTrue, vec_capacity};
+ghost use Rattle.std.specs.Prelude.{IfNone, IsTrue, false, vec_capacity};
 ghost use Rattle.std.specs.List.{IsDistinct};
 ghost use Rattle.std.specs.Option.{option_copied};
 ghost use Rattle.std.specs.List.Sorted.{IsPermutation, IsStrictlySortedBy, IsSortedByKey};
 ghost use Rattle.clr_net.specs.Name.{same_name, name_cmp};
 ghost use Rattle.clr_net.specs.Names.{has_name, repeat_place};
+ghost use Rattle.clr_net.specs.Additions.{with_named};
 
 use crate::name::Name;
 use std::alloc::{AllocError, Global};
@@ -45,6 +46,21 @@ pub(crate) fn in_order<R: Named + Copy>(
     ordered.extend_from_slice(rows)?;
     sort_by_name(&mut ordered);
     Ok(ordered)
+}
+
+/// Puts a row of a new name among rows in the order of their names, for which there is room.
+pub(crate) fn insert_by_name<R: Named + Copy>(rows: &mut Vec<R>, row: R)
+    requires rising { IsStrictlySortedBy name_cmp (map R.name_of rows.old.items) }
+    requires new { has_name (map R.name_of rows.old.items) (R.name_of row) ≡ false }
+    requires room { length rows.old.items < vec_capacity rows.old }
+    ensures rows { rows.new.items ≡ with_named R.name_of row rows.old.items }
+    ensures room { vec_capacity rows.old ≤ vec_capacity rows.new }
+{
+    let name = row.name();
+    let place = rows.partition_point(|other| other.name().cmp(&name).is_lt());
+    let Ok(()) = rows.insert(place, row) else {
+        unreachable!()
+    };
 }
 
 /// Whether the name of each row comes before that of the next.

@@ -1,19 +1,22 @@
 //! The network: its sections and switching points, checked and in the order of their names.
 ghost use Rattle.std.specs.Prelude.{◌≡◌, ◌<◌, ◌≤◌, ℕ, List, false, find, length, not, position};
-ghost use Rattle.std.specs.Prelude.{IfOk, OnOk, IsTrue, All};
+ghost use Rattle.std.specs.Prelude.{IfOk, IsOk, OnOk, IsTrue, All};
 ghost use Rattle.std.specs.Option.{option_copied};
 ghost use Rattle.std.specs.List.{IsDistinct, list_all};
 ghost use Rattle.std.specs.List.Sorted.{IsPermutation, IsStrictlySortedBy};
 ghost use Rattle.clr_net.specs.Name.{name_cmp, same_name};
 ghost use Rattle.clr_net.specs.Grid.{Grid, IsNetwork, section_names, has_ends, has_one_section};
 ghost use Rattle.clr_net.specs.Grid.{point_names};
+ghost use Rattle.clr_net.specs.Additions.{fits_addition, fits_point, fits_section};
+ghost use Rattle.clr_net.specs.Additions.{with_addition, with_point, with_section};
 ghost use Rattle.clr_net.specs.Network.{Builds, Passes, size_fault, twice_fault, end_fault};
 ghost use Rattle.clr_net.specs.Names.{has_name};
 ghost use Rattle.clr_net.specs.Fence.{IsFenceByWalks, fence_of};
 
+use crate::addition::Addition;
 use crate::fence::{Fence, rows_at};
 use crate::name::Name;
-use crate::named::{in_order, place_of, repeat_place_beside, row_of};
+use crate::named::{in_order, insert_by_name, place_of, repeat_place_beside, row_of};
 use crate::net_fault::NetFault;
 use crate::point::PointRow;
 use crate::reach::{fence_places, places_beside};
@@ -133,6 +136,46 @@ impl Network {
         let sections = rows_at(alloc, &self.sections, &inside)?;
         let touching = rows_at(alloc, &self.points, &beside)?;
         Ok(Fence::of_rows(sections, touching))
+    }
+
+    /// Makes sure that `add` can take this. A network has the memory of the greatest one since it
+    /// was built, so there is nothing to do.
+    pub fn reserve(&mut self, _addition: &Addition) -> Result<(), AllocError>
+        ensures same { self.new ≡ self.old }
+        ensures succeeds { IsOk result }
+    {
+        Ok(())
+    }
+
+    /// Adds a point, and before it a section, where there is one. It needs no memory.
+    pub fn add(&mut self, addition: Addition)
+        requires fits { IsTrue (fits_addition self.old addition) }
+        ensures { self.new ≡ with_addition addition self.old }
+    {
+        let Addition { section, point } = addition;
+        if let Some(section) = section {
+            self.add_section(section);
+        }
+        self.add_point(point);
+    }
+
+    /// Adds a section of a new name; no point has an end there yet. It needs no memory.
+    pub fn add_section(&mut self, section: SectionRow)
+        requires fits { IsTrue (fits_section self.old section) }
+        ensures { self.new ≡ with_section section self.old }
+    {
+        insert_by_name(&mut self.sections, section);
+        self.ways.refill(&self.sections, &self.points);
+    }
+
+    /// Adds a point of a new name between two different sections of the network. It needs no
+    /// memory. A fence that has both its ends, or none, stays (law `additions_keep_fences`).
+    pub fn add_point(&mut self, point: PointRow)
+        requires fits { IsTrue (fits_point self.old point) }
+        ensures { self.new ≡ with_point point self.old }
+    {
+        insert_by_name(&mut self.points, point);
+        self.ways.refill(&self.sections, &self.points);
     }
 }
 

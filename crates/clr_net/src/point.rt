@@ -26,6 +26,8 @@ pub struct PointRow {
     pub remote: bool,
     /// The position when this row was made. What is reported later is not kept here.
     pub position: Position,
+    /// Whether it was put in by hand while the register was kept, and is in no file.
+    pub jumper: bool,
 }
 
 impl Named for PointRow {

@@ -5,7 +5,7 @@ ghost use Rattle.std.specs.Prelude.{IsTrue, OnOk, is_some, vec_capacity};
 ghost use Rattle.std.specs.List.{list_all};
 ghost use Rattle.std.specs.List.Sorted.{IsNonDecreasingBy, IsStrictlySortedBy};
 ghost use Rattle.clr_net.specs.Name.{name_cmp};
-ghost use Rattle.clr_net.specs.Grid.{section_names, has_ends};
+ghost use Rattle.clr_net.specs.Grid.{IsNetwork, section_names, has_ends};
 ghost use Rattle.clr_net.specs.Ways.{HasRoom, HasStarts, IsIndexOf};
 ghost use Rattle.clr_net.specs.Index.{ends_in, ways_in, out_at, AreStarts, IsAround};
 
@@ -94,6 +94,19 @@ impl Ways {
         fill_out(&mut self.out, &self.ends)?;
         fill_starts(&mut self.starts, &self.out, sections.len())?;
         Ok(true)
+    }
+
+    /// Fills the index anew with that of a network, which needs no memory.
+    pub fn refill(&mut self, sections: &[SectionRow], points: &[PointRow])
+        requires network { IsNetwork (record { sections = sections.now; points = points.now }) }
+        requires room { HasRoom self.old }
+        ensures index { IsIndexOf
+            (record { sections = sections.now; points = points.now }) self.new }
+        ensures room { HasRoom self.new }
+    {
+        let Ok(_all_known) = self.fill(sections, points) else {
+            unreachable!()
+        };
     }
 
     /// The ways out of the section at a place.
