@@ -1,3 +1,5 @@
+pub mod AddedEdits
+pub mod Additions
 pub mod EditReading
 pub mod EditedLists
 pub mod EditsInOrder
@@ -12,3 +14,5 @@ pub mod Refusing
 pub mod Runs
 pub mod StepMoves
 pub mod PutRows
+pub mod PlainEdits
+pub mod Growing

@@ -1,5 +1,8 @@
 pub mod DeadWork
 pub mod GoodToPhases
+pub mod GrownOrders
+pub mod GrownPlaces
+pub mod GrownRegisters
 pub mod IsolatingSteps
 pub mod Keeping
 pub mod Opening

@@ -8,3 +8,4 @@ pub mod PartEdits
 pub mod SameFences
 pub mod Sparing
 pub mod RunReplies
+pub mod Additions

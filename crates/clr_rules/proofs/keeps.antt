@@ -6,6 +6,7 @@ pub mod EveryKind
 pub mod Grant
 pub mod HandedStep
 pub mod Instruct
+pub mod Jumper
 pub mod OneRecord
 pub mod Order
 pub mod Release

@@ -3,6 +3,7 @@ pub mod FoundSteps
 pub mod Greatest
 pub mod HoldChanges
 pub mod HoldMembers
+pub mod LeastCrossed
 pub mod LeastHold
 pub mod NamedRows
 pub mod NewNumbers

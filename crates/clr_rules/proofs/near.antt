@@ -1,4 +1,6 @@
 pub mod GivenOut
+pub mod NearNamed
+pub mod NetworkNear
 pub mod NearOrder
 pub mod NearParts
 pub mod NearTests

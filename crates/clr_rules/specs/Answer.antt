@@ -9,12 +9,13 @@ use Rattle.clr_rules.specs.Command.{named_clearance}
 use Rattle.clr_rules.specs.Prelude.{Edit, Command, Kind, Crew, Record, Refusal, Reply, Id, Register}
 use Rattle.clr_rules.specs.Prelude.{greatest_number, record_of, is_done, present_steps}
 use Rattle.clr_rules.specs.Prelude.{present_round, places_of, after_edits}
-use Rattle.clr_rules.specs.Fences.{clearance_fence, order_fence, touching_names}
+use Rattle.clr_rules.specs.Fences.{clearance_fence, crossed_by, order_fence, touching_names}
 use Rattle.clr_rules.specs.Holds.{is_near_hold, in_kind_order}
-use Rattle.clr_rules.specs.declared.command.Kind.TheVariants.{Order, Show}
+use Rattle.clr_rules.specs.declared.command.Kind.TheVariants.{Order, Show, Jumper}
 use Rattle.clr_rules.specs.declared.refusal.Refusal.TheVariants.{UnknownCaller}
 use Rattle.clr_rules.specs.declared.reply.Card.{Card}
 use Rattle.clr_rules.specs.declared.reply.Reply.TheVariants.{Accepted, Shown, Refused}
+use Rattle.clr_rules.specs.declared.reply.Reply.TheVariants.{Added}
 use Rattle.clr_rules.specs.declared.reply.View.{View}
 
 -- whose numbers count: those of the requester of the clearance that is named; a new clearance is
@@ -32,11 +33,17 @@ abbrev pub fence_for : Register → Kind → List (List ℕ)
 fence_for R (Order c points tasks) = order_fence R c points
 fence_for R kind = named_fence R (named_clearance kind)
 
+-- the clearance whose fence a jumper would cross
+abbrev pub crossed_for : Register → Kind → Option Id
+crossed_for R (Jumper point from to lockable remote) = crossed_by R from to
+crossed_for R kind = None
+
 abbrev pub known_of : Register → Command → Known
 known_of R q =
     record {
       greatest = greatest_number R.records (requester_for q.caller (named_clearance q.kind));
       fence = fence_for R q.kind;
+      crossed = crossed_for R q.kind;
     }
 
 -- the first check that applies
@@ -70,9 +77,9 @@ view_of k R r =
       work = r.work;
     }
 
--- the reply of a command that was not refused, by the record after its edits. There is one: a
--- clearance that is named has a record, and a new one was put. So no command has the first of these
--- replies, which none of its checks after the first gives
+-- the reply of a command that was not refused and is about a clearance, by the record after its
+-- edits. There is one: a clearance that is named has a record, and a new one was put. So no command
+-- has the first of these replies, which none of its checks after the first gives
 abbrev pub reply_of : Known → Register → Kind → Option Record → Reply
 reply_of k R kind None = Refused UnknownCaller
 reply_of k R (Show c) (Some r) = Shown (view_of k R r)
@@ -83,7 +90,9 @@ abbrev pub reply_clearance : ℕ → List ℕ → Option Id → Id
 reply_clearance greatest by None = record { requester = by; number = greatest + 1 }
 reply_clearance greatest by (Some c) = c
 
+-- the reply of a command that was not refused: a jumper's names its point
 abbrev pub reply_after : Known → Register → List ℕ → Kind → Reply
+reply_after k R by (Jumper point from to lockable remote) = Added point
 reply_after k R by kind =
     reply_of k R kind (record_of R.records (reply_clearance k.greatest by (named_clearance kind)))
 

@@ -1,8 +1,12 @@
 -- WHAT AN ACCEPTED COMMAND CHANGES: its edits, in the order of their kinds, those of a kind in the
 -- order of their keys. An edit stands also where it changes nothing.
-use Rattle.std.specs.Prelude.{ℕ, if◌then◌else◌, ◌+◌, Bool, ◌&&◌, List, [], ◌∷◌, ◌++◌, map, Option}
-use Rattle.std.specs.Prelude.{None, Some}
+use Rattle.std.specs.Prelude.{ℕ, if◌then◌else◌, ◌+◌, Bool, true, false, ◌&&◌, List, [], ◌∷◌, ◌++◌}
+use Rattle.std.specs.Prelude.{map, Option, None, Some}
+use Rattle.clr_net.specs.Grid.{Grid, section_names}
+use Rattle.clr_net.specs.Names.{has_name}
+use Rattle.clr_net.specs.declared.point.PointRow.{PointRow}
 use Rattle.clr_net.specs.declared.point.Position.TheVariants.{Opened, Closed as Shut}
+use Rattle.clr_net.specs.declared.section.SectionRow.{SectionRow}
 use Rattle.clr_order.specs.Step.{Task}
 use Rattle.clr_order.specs.declared.action.Action.{Action}
 use Rattle.clr_order.specs.declared.step.StepState.{StepState}
@@ -10,9 +14,9 @@ use Rattle.clr_order.specs.declared.step.StepState.TheVariants.{Waiting, Done}
 use Rattle.clr_order.specs.declared.action.Action.TheVariants as actions
 use Rattle.clr_shelf.specs.Rows.{with_row}
 use Rattle.clr_rules.specs.Prelude.{Edit, SetPosition, SetHand, PutHold, TakeHold, PutRecord}
-use Rattle.clr_rules.specs.Prelude.{PutStep, HeldOpen, Block, Control, Tag, Phase, Released, Closed}
-use Rattle.clr_rules.specs.Prelude.{Record, StepRow, Id, Register, record_of, is_ordered, step_key}
-use Rattle.clr_rules.specs.Prelude.{step_key_cmp}
+use Rattle.clr_rules.specs.Prelude.{PutStep, AddSection, AddPoint, HeldOpen, Block, Control, Tag}
+use Rattle.clr_rules.specs.Prelude.{Phase, Released, Closed, Record, StepRow, Id, Register}
+use Rattle.clr_rules.specs.Prelude.{record_of, is_ordered, step_key, step_key_cmp}
 use Rattle.clr_rules.specs.Prelude.{all_done, present_steps, step_at, has_any_hold, hold_of}
 use Rattle.clr_rules.specs.Records.{ends_with_steps, is_switch_order}
 
@@ -99,3 +103,25 @@ with_record R c edits = edits_by (record_of R.records c) edits
 abbrev pub with_step : Register → Id → ℕ → (Record → StepRow → List Edit) → List Edit
 with_step R c n edits =
     with_record R c (λ r. edits_by (step_at (present_steps R.steps c) n) (edits r))
+
+-- a section that no source feeds
+abbrev pub new_section : List ℕ → SectionRow
+new_section name = record { name = name; source = false }
+
+-- a point that is in no file, and open
+abbrev pub jumper_row : List ℕ → List ℕ → List ℕ → Bool → Bool → PointRow
+jumper_row point from to lockable remote = record {
+  name = point;
+  from_end = from;
+  to_end = to;
+  lockable = lockable;
+  remote = remote;
+  position = Opened;
+  jumper = true;
+}
+
+-- a point is added, after the section that it leads to where the network does not have it
+abbrev pub added_edits : Register → PointRow → List Edit
+added_edits R p =
+    if has_name (section_names (Grid.sections R.net)) p.to_end then AddPoint p ∷ []
+    else AddSection (new_section p.to_end) ∷ AddPoint p ∷ []

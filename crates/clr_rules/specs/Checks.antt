@@ -3,7 +3,7 @@
 -- or a step says nothing where there is none: an earlier check of the same command has refused
 -- that.
 use Rattle.std.specs.Prelude.{ℕ, Bool, true, false, not, ◌&&◌, ◌||◌, ◌==◌, nat_lt, if◌then◌else◌}
-use Rattle.std.specs.Prelude.{List, find, Option, None, Some}
+use Rattle.std.specs.Prelude.{List, length, find, Option, None, Some}
 use Rattle.std.specs.Option.{is_some}
 use Rattle.std.specs.Str.{bytes_eq}
 use Rattle.clr_net.specs.Grid.{Grid, point_names, section_names}
@@ -37,6 +37,8 @@ use Rattle.clr_rules.specs.declared.refusal.Refusal.TheVariants.{WrongReporter, 
 use Rattle.clr_rules.specs.declared.refusal.Refusal.TheVariants.{OutsideFence, NotTested, Grounded}
 use Rattle.clr_rules.specs.declared.refusal.Refusal.TheVariants.{NotGrounded, CrewsOn, CrewState}
 use Rattle.clr_rules.specs.declared.refusal.Refusal.TheVariants.{BadTransfer, NotAttested}
+use Rattle.clr_rules.specs.declared.refusal.Refusal.TheVariants.{PointExists, CrossesFence}
+use Rattle.clr_rules.specs.declared.refusal.Refusal.TheVariants.{NetworkFull, SameEnds}
 
 -- a refusal where a test says so
 abbrev pub refuse : Bool → Refusal → Option Refusal
@@ -246,3 +248,24 @@ bad_transfer R c to = where_some (record_of R.records c)
 -- all employees are told, and are clear. 1910.269(m)(3)(x), (xi)
 abbrev pub not_attested : Bool → Bool → Option Refusal
 not_attested notified clear = refuse (not (notified && clear)) NotAttested
+
+-- THE NETWORK
+
+abbrev pub point_exists : Register → List ℕ → Option Refusal
+point_exists R point = refuse (has_name (point_names (Grid.points R.net)) point) PointExists
+
+-- no means of supply comes into a fence behind the back of its clearance. 1910.269(m)(3)(ii)
+abbrev pub crosses_fence : Option Id → Option Refusal
+crosses_fence None = None
+crosses_fence (Some by) = Some (CrossesFence by)
+
+-- whether there is room for a point, and for a section where the network does not have it
+abbrev pub has_room : Grid → List ℕ → Bool
+has_room g to = nat_lt (length g.points) 10000
+    && (has_name (section_names g.sections) to || nat_lt (length g.sections) 5000)
+
+abbrev pub network_full : Register → List ℕ → Option Refusal
+network_full R to = refuse (not (has_room R.net to)) NetworkFull
+
+abbrev pub same_ends : List ℕ → List ℕ → Option Refusal
+same_ends from to = refuse (same_name from to) SameEnds

@@ -1,12 +1,14 @@
 -- Commands. A variant of Kind takes its fields in the order in which they are declared.
-use Rattle.std.specs.Prelude.{Option, Some, None}
+use Rattle.std.specs.Prelude.{Bool, true, false, Option, Some, None}
 use Rattle.clr_rules.specs.Prelude.{Kind, Id}
 use Rattle.clr_rules.specs.declared.command.Kind.TheVariants.{Request, Order, Instruct, Repeat}
 use Rattle.clr_rules.specs.declared.command.Kind.TheVariants.{Report, Grant, Test, Ground, Unground}
 use Rattle.clr_rules.specs.declared.command.Kind.TheVariants.{SignOn, SignOff, Transfer, Release}
 use Rattle.clr_rules.specs.declared.command.Kind.TheVariants.{Cancel, Restore, Amend, Switch, Show}
+use Rattle.clr_rules.specs.declared.command.Kind.TheVariants.{Jumper}
 
--- the clearance that a command names: a request and a switch order make a new one, and name none
+-- the clearance that a command names: a request and a switch order make a new one, and name none; a
+-- jumper is about none
 abbrev pub named_clearance : Kind → Option Id
 named_clearance (Request section) = None
 named_clearance (Order clearance points steps) = Some clearance
@@ -26,3 +28,9 @@ named_clearance (Restore clearance steps) = Some clearance
 named_clearance (Amend clearance step) = Some clearance
 named_clearance (Switch steps) = None
 named_clearance (Show clearance) = Some clearance
+named_clearance (Jumper point from to lockable remote) = None
+
+-- whether a command adds to the network
+abbrev pub is_jumper : Kind → Bool
+is_jumper (Jumper point from to lockable remote) = true
+is_jumper kind = false

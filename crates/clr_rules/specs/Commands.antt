@@ -1,4 +1,4 @@
--- THE RULES OF THE EIGHTEEN COMMANDS: what each is checked for, in this order, and what it changes
+-- THE RULES OF THE NINETEEN COMMANDS: what each is checked for, in this order, and what it changes
 -- where no check refuses it. The checks are stated one by one in Checks, the parts of a change in
 -- Changes.
 use Rattle.std.specs.Prelude.{ℕ, Bool, if◌then◌else◌, ◌+◌, List, [], ◌∷◌, map, Option, None}
@@ -6,8 +6,9 @@ use Rattle.std.specs.Prelude.{Some, ◌++◌}
 use Rattle.clr_csv.specs.declared.employee.Role.{Role}
 use Rattle.clr_order.specs.declared.step.StepState.TheVariants.{Instructed, Repeated}
 use Rattle.clr_order.specs.declared.action.Action.TheVariants as actions
-use Rattle.clr_rules.specs.Changes.{cancelled_phase, done_edits, undone_edits, step_moved}
-use Rattle.clr_rules.specs.Changes.{new_record, new_steps, put_steps, with_record, with_step}
+use Rattle.clr_rules.specs.Changes.{added_edits, cancelled_phase, done_edits, jumper_row}
+use Rattle.clr_rules.specs.Changes.{new_record, new_steps, put_steps, step_moved, undone_edits}
+use Rattle.clr_rules.specs.Changes.{with_record, with_step}
 use Rattle.clr_rules.specs.Checks.{bad_transfer, crew_is_off, crew_is_on, crews_on, crews_on_work}
 use Rattle.clr_rules.specs.Checks.{earlier_moment, any_ground, has_ground, hold_hinders, in_hand}
 use Rattle.clr_rules.specs.Checks.{is_charge, is_charge_or_operator, is_field, is_operator}
@@ -17,6 +18,7 @@ use Rattle.clr_rules.specs.Checks.{outside_fence, repeat_differs, step_given_out
 use Rattle.clr_rules.specs.Checks.{too_many_clearances, unknown_caller, unknown_clearance}
 use Rattle.clr_rules.specs.Checks.{unknown_section, unsound_order, wrong_phase, wrong_reporter}
 use Rattle.clr_rules.specs.Checks.{wrong_restoring, wrong_role, wrong_state, wrong_switching}
+use Rattle.clr_rules.specs.Checks.{crosses_fence, network_full, point_exists, same_ends}
 use Rattle.clr_rules.specs.Prelude.{Edit, SetHand, PutHold, TakeHold, PutRecord, PutStep, Kind}
 use Rattle.clr_rules.specs.Prelude.{Tested, Ground, Crew, Id, Phase, Requested, Ordered}
 use Rattle.clr_rules.specs.Prelude.{Granted, Released}
@@ -29,11 +31,12 @@ use Rattle.clr_rules.specs.Steps.{is_repeated}
 use Rattle.clr_rules.specs.declared.command.Kind.TheVariants as kinds
 
 -- what is known of the register beside its rows: the greatest number of the clearance's requester,
--- or of the caller, and the sections of the clearance's fence, or of the fence that the order would
--- make
+-- or of the caller, the sections of the clearance's fence, or of the fence that the order would
+-- make, and the least clearance whose fence a jumper would cross
 pub record Known : Type 0 where
   pub greatest : ℕ
   pub fence : List (List ℕ)
+  pub crossed : Option Id
 
 -- HOW COMMANDS BEGIN: who asks, of which clearance, when, and in which phase; then come the
 -- command's own checks
@@ -108,6 +111,9 @@ checks k R by at (kinds.Switch tasks) =
     unknown_caller R by ∷ wrong_role R by is_operator ∷ too_many_clearances k.greatest
     ∷ wrong_switching R tasks ∷ []
 checks k R by at (kinds.Show c) = unknown_caller R by ∷ unknown_clearance R c ∷ []
+checks k R by at (kinds.Jumper point from to lockable remote) =
+    unknown_caller R by ∷ wrong_role R by is_operator ∷ unknown_section R from
+    ∷ point_exists R point ∷ crosses_fence k.crossed ∷ network_full R to ∷ same_ends from to ∷ []
 
 -- THE EDITS OF EACH COMMAND that no check refuses
 abbrev pub edits_of : ℕ → Register → List ℕ → ℕ → Kind → List Edit
@@ -155,3 +161,5 @@ edits_of greatest R by at (kinds.Switch tasks) =
     PutRecord (new_record greatest by at None Switching)
     ∷ put_steps (new_steps (record { requester = by; number = greatest + 1 }) 1 1 tasks)
 edits_of greatest R by at (kinds.Show c) = []
+edits_of greatest R by at (kinds.Jumper point from to lockable remote) =
+    added_edits R (jumper_row point from to lockable remote)

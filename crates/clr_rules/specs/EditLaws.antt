@@ -2,6 +2,7 @@
 use Rattle.std.specs.Prelude.{◌≡◌, ◌↔◌, ℕ, Bool, true, false, not, ◌&&◌, ◌||◌, if◌then◌else◌, List}
 use Rattle.std.specs.Prelude.{[], map, Contains, Option, None, Some}
 use Rattle.std.specs.Option.{option_map}
+use Rattle.std.specs.List.{list_all}
 use Rattle.std.specs.Ordering.{is_eq}
 use Rattle.std.specs.declared.cmp.Ordering.{Ordering}
 use Rattle.std.proofs.Common.{◌⊎◌}
@@ -11,7 +12,8 @@ use Rattle.clr_shelf.specs.Rows.{row_of}
 use Rattle.clr_rules.specs.Answer.{Answer, answer, first_refusal, known_of}
 use Rattle.clr_rules.specs.Commands.{checks}
 use Rattle.clr_rules.specs.Prelude.{Edit, SetPosition, SetHand, PutHold, TakeHold, PutRecord}
-use Rattle.clr_rules.specs.Prelude.{PutStep, Command, Hold, HoldKind, PointState, Record, Refusal}
+use Rattle.clr_rules.specs.Prelude.{PutStep, AddSection, AddPoint}
+use Rattle.clr_rules.specs.Prelude.{Command, Hold, HoldKind, PointState, Record, Refusal}
 use Rattle.clr_rules.specs.Prelude.{StepRow, Id, id_cmp, same_id, Register, state_key, state_of}
 use Rattle.clr_rules.specs.Prelude.{record_key}
 use Rattle.clr_rules.specs.Prelude.{record_of, step_key, step_key_cmp, hold_cmp, has_hold, hold_key}
@@ -20,6 +22,7 @@ use Rattle.clr_rules.specs.Good.{ListsAreInOrder}
 use Rattle.clr_rules.specs.Run.{after}
 use Rattle.clr_rules.specs.declared.reply.Card.{Card}
 use Rattle.clr_rules.specs.declared.reply.Reply.TheVariants.{Accepted, Shown, Refused}
+use Rattle.clr_rules.specs.declared.reply.Reply.TheVariants.{Added}
 use Rattle.clr_rules.specs.declared.reply.View.{View}
 use Rattle.clr_rules.specs.declared.step_row.StepKey.{StepKey}
 
@@ -104,6 +107,8 @@ PutsKeepOtherRows = (R : Register) → ListsAreInOrder R → OtherRowsStay R
 abbrev pub edits_states : Edit → Bool
 edits_states (SetPosition p position) = true
 edits_states (SetHand p hand) = true
+edits_states (AddPoint p) = true
+edits_states (AddSection row) = false
 edits_states (PutHold h) = false
 edits_states (TakeHold h) = false
 edits_states (PutRecord r) = false
@@ -116,6 +121,8 @@ edits_records (SetHand p hand) = false
 edits_records (PutHold h) = false
 edits_records (TakeHold h) = false
 edits_records (PutStep row) = false
+edits_records (AddSection row) = false
+edits_records (AddPoint p) = false
 
 abbrev pub edits_steps : Edit → Bool
 edits_steps (PutStep row) = true
@@ -124,6 +131,8 @@ edits_steps (SetHand p hand) = false
 edits_steps (PutHold h) = false
 edits_steps (TakeHold h) = false
 edits_steps (PutRecord r) = false
+edits_steps (AddSection row) = false
+edits_steps (AddPoint p) = false
 
 abbrev pub edits_holds : Edit → Bool
 edits_holds (PutHold h) = true
@@ -132,10 +141,27 @@ edits_holds (SetPosition p position) = false
 edits_holds (SetHand p hand) = false
 edits_holds (PutRecord r) = false
 edits_holds (PutStep row) = false
+edits_holds (AddSection row) = false
+edits_holds (AddPoint p) = false
 
--- AN EDIT LEAVES THE REST: the network, the staff, and each list that it is not of
+-- whether an edit adds a section or a point
+abbrev pub adds : Edit → Bool
+adds (AddSection row) = true
+adds (AddPoint p) = true
+adds (SetPosition p position) = false
+adds (SetHand p hand) = false
+adds (PutHold h) = false
+adds (TakeHold h) = false
+adds (PutRecord r) = false
+adds (PutStep row) = false
+
+abbrev pub adds_nothing : List Edit → Bool
+adds_nothing edits = list_all (λ edit. not (adds edit)) edits
+
+-- AN EDIT LEAVES THE REST: the network, where it adds nothing to it, the staff, and each list that
+-- it is not of
 pub record LeavesTheRest (edit : Edit) (R : Register) : Type 0 where
-  pub same_net : Register.net (after_edit edit R) ≡ R.net
+  pub same_net : adds edit ≡ false → Register.net (after_edit edit R) ≡ R.net
   pub same_staff : Register.staff (after_edit edit R) ≡ R.staff
   pub same_states : edits_states edit ≡ false → Register.states (after_edit edit R) ≡ R.states
   pub same_records : edits_records edit ≡ false → Register.records (after_edit edit R) ≡ R.records
@@ -150,7 +176,7 @@ abbrev pub EditsKeepOrder : Type 0
 EditsKeepOrder =
     (R : Register) (edits : List Edit) → ListsAreInOrder R → ListsAreInOrder (after_edits edits R)
 
--- EDITS KEEP THE NETWORK, the staff, and the points that have states
+-- EDITS KEEP THE NETWORK, the staff, and the points that have states, where they add nothing
 pub record KeepsNetwork (R S : Register) : Type 0 where
   pub same_net : S.net ≡ R.net
   pub same_staff : S.staff ≡ R.staff
@@ -158,7 +184,8 @@ pub record KeepsNetwork (R S : Register) : Type 0 where
 
 abbrev pub EditsKeepNetwork : Type 0
 EditsKeepNetwork =
-    (R : Register) (edits : List Edit) → ListsAreInOrder R → KeepsNetwork R (after_edits edits R)
+    (R : Register) (edits : List Edit) → adds_nothing edits ≡ true → ListsAreInOrder R
+    → KeepsNetwork R (after_edits edits R)
 
 -- the refusal of a command: that of the first check that applies
 abbrev pub refusal_of : Register → Command → Option Refusal
@@ -184,4 +211,10 @@ ShownChangesNothing =
 abbrev pub AcceptedPassesChecks : Type 0
 AcceptedPassesChecks =
     (R : Register) (q : Command) (card : Card) → Answer.reply (answer R q) ≡ Accepted card
+    → refusal_of R q ≡ None
+
+-- and so is one that adds a point
+abbrev pub AddedPassesChecks : Type 0
+AddedPassesChecks =
+    (R : Register) (q : Command) (point : List ℕ) → Answer.reply (answer R q) ≡ Added point
     → refusal_of R q ≡ None

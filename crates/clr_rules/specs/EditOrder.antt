@@ -8,8 +8,8 @@ use Rattle.clr_shelf.specs.Rows.{in_key_order}
 use Rattle.clr_rules.specs.Answer.{Answer, answer}
 use Rattle.clr_rules.specs.Good.{ListsAreInOrder}
 use Rattle.clr_rules.specs.Prelude.{Edit, SetPosition, SetHand, PutHold, TakeHold, PutRecord}
-use Rattle.clr_rules.specs.Prelude.{PutStep, Command, id_cmp, Register, step_key, step_key_cmp}
-use Rattle.clr_rules.specs.Prelude.{hold_cmp}
+use Rattle.clr_rules.specs.Prelude.{PutStep, AddSection, AddPoint}
+use Rattle.clr_rules.specs.Prelude.{Command, id_cmp, Register, step_key, step_key_cmp, hold_cmp}
 
 -- the place of an edit's kind; putting and taking a hold are one kind
 abbrev pub edit_rank : Edit → ℕ
@@ -19,6 +19,8 @@ edit_rank (PutHold h) = 2
 edit_rank (TakeHold h) = 2
 edit_rank (PutRecord r) = 3
 edit_rank (PutStep row) = 4
+edit_rank (AddSection row) = 5
+edit_rank (AddPoint p) = 6
 
 -- how the keys of two edits of one kind stand; edits of two kinds have no keys to compare
 abbrev pub edit_key_cmp : Edit → Edit → Ordering
@@ -30,12 +32,16 @@ edit_key_cmp (TakeHold g) (PutHold h) = hold_cmp g h
 edit_key_cmp (TakeHold g) (TakeHold h) = hold_cmp g h
 edit_key_cmp (PutRecord r) (PutRecord s) = id_cmp r.id s.id
 edit_key_cmp (PutStep a) (PutStep b) = step_key_cmp (step_key a) (step_key b)
+edit_key_cmp (AddSection a) (AddSection b) = name_cmp a.name b.name
+edit_key_cmp (AddPoint p) (AddPoint q) = name_cmp p.name q.name
 edit_key_cmp (SetPosition p there) _ = Equal
 edit_key_cmp (SetHand p hand) _ = Equal
 edit_key_cmp (PutHold h) _ = Equal
 edit_key_cmp (TakeHold h) _ = Equal
 edit_key_cmp (PutRecord r) _ = Equal
 edit_key_cmp (PutStep row) _ = Equal
+edit_key_cmp (AddSection row) _ = Equal
+edit_key_cmp (AddPoint p) _ = Equal
 
 abbrev pub edit_cmp : Edit → Edit → Ordering
 edit_cmp a b = ordering_then (nat_cmp (edit_rank a) (edit_rank b)) (edit_key_cmp a b)

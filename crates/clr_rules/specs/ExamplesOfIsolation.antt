@@ -45,6 +45,7 @@ two_net s3_is_lockable s2_stands = record {
         lockable = true;
         remote = false;
         position = s2_stands;
+        jumper = false;
       }
       ∷ record {
         name = S3;
@@ -53,6 +54,7 @@ two_net s3_is_lockable s2_stands = record {
         lockable = s3_is_lockable;
         remote = false;
         position = Shut;
+        jumper = false;
       }
       ∷ [];
 }
@@ -141,6 +143,7 @@ near_in_the_end = record {
       lockable = true;
       remote = false;
       position = Opened;
+      jumper = false;
     }
         ∷ record {
           name = S3;
@@ -149,6 +152,7 @@ near_in_the_end = record {
           lockable = true;
           remote = false;
           position = Opened;
+          jumper = false;
         } ∷ [];
   };
   staff = worked_staff;

@@ -26,7 +26,7 @@ both_at_work =
 -- record and steps, KIM's holds at S4, T1 and L3 and KIM's crew are not
 abbrev pub NearJones : Type 0
 NearJones = near_of (register_after both_at_work) (said_at 200 (says OPS (Show jones_1))) ≡ record {
-  known = record { greatest = 1; fence = L2 ∷ [] };
+  known = record { greatest = 1; fence = L2 ∷ []; crossed = None };
   rows = record {
     net = record {
       sections = record { name = L2; source = false } ∷ [];
@@ -37,6 +37,7 @@ NearJones = near_of (register_after both_at_work) (said_at 200 (says OPS (Show j
         lockable = true;
         remote = false;
         position = Opened;
+        jumper = false;
       }
           ∷ record {
             name = S3;
@@ -45,6 +46,7 @@ NearJones = near_of (register_after both_at_work) (said_at 200 (says OPS (Show j
             lockable = true;
             remote = false;
             position = Opened;
+            jumper = false;
           } ∷ [];
     };
     staff = worked_staff;
@@ -69,7 +71,7 @@ NearJones = near_of (register_after both_at_work) (said_at 200 (says OPS (Show j
 abbrev pub NearARequest : Type 0
 NearARequest =
     near_of (register_after both_at_work) (said_at 200 (says KIM (Request L3))) ≡ record {
-      known = record { greatest = 1; fence = [] };
+      known = record { greatest = 1; fence = []; crossed = None };
       rows = record {
         net = record { sections = record { name = L3; source = false } ∷ []; points = [] };
         staff = worked_staff;
@@ -85,7 +87,7 @@ abbrev pub NearAnOrder : Type 0
 NearAnOrder =
     near_of (register_after (l2_granted ++ kim_asks))
     (said_at 200 (says OPS (Order kim_1 (S3 ∷ S4 ∷ T1 ∷ []) isolating_l3))) ≡ record {
-      known = record { greatest = 1; fence = L3 ∷ [] };
+      known = record { greatest = 1; fence = L3 ∷ []; crossed = None };
       rows = record {
         net = record {
           sections = record { name = L3; source = false } ∷ [];
@@ -96,6 +98,7 @@ NearAnOrder =
             lockable = true;
             remote = false;
             position = Opened;
+            jumper = false;
           }
               ∷ record {
                 name = S4;
@@ -104,6 +107,7 @@ NearAnOrder =
                 lockable = true;
                 remote = true;
                 position = Opened;
+                jumper = false;
               }
               ∷ record {
                 name = T1;
@@ -112,6 +116,7 @@ NearAnOrder =
                 lockable = false;
                 remote = false;
                 position = Opened;
+                jumper = false;
               } ∷ [];
         };
         staff = worked_staff;
@@ -130,7 +135,7 @@ abbrev pub NearASwitchOrder : Type 0
 NearASwitchOrder =
     near_of (register_after l2_granted)
     (said_at 200 (says OPS (Switch (does actions.Close S3 ∷ does actions.Open S4 ∷ [])))) ≡ record {
-      known = record { greatest = 0; fence = [] };
+      known = record { greatest = 0; fence = []; crossed = None };
       rows = record {
         net = record {
           sections = [];
@@ -141,6 +146,7 @@ NearASwitchOrder =
             lockable = true;
             remote = false;
             position = Opened;
+            jumper = false;
           }
               ∷ record {
                 name = S4;
@@ -149,6 +155,7 @@ NearASwitchOrder =
                 lockable = true;
                 remote = true;
                 position = Opened;
+                jumper = false;
               } ∷ [];
         };
         staff = worked_staff;

@@ -166,6 +166,7 @@ one_name_opening = opening (record {
     lockable = false;
     remote = false;
     position = Shut;
+    jumper = false;
   }
       ∷ record {
         name = P;
@@ -174,6 +175,7 @@ one_name_opening = opening (record {
         lockable = false;
         remote = false;
         position = Shut;
+        jumper = false;
       } ∷ [];
 }) worked_staff
 

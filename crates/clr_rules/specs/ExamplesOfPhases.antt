@@ -17,12 +17,14 @@ use Rattle.clr_rules.specs.declared.refusal.Refusal.TheVariants.{WrongRole, NotH
 use Rattle.clr_rules.specs.declared.refusal.Refusal.TheVariants.{StepState, StepsLeft, NotTested}
 use Rattle.clr_rules.specs.declared.refusal.Refusal.TheVariants.{NotGrounded, CrewState}
 use Rattle.clr_rules.specs.declared.reply.Reply.TheVariants.{Accepted, Shown, Refused}
+use Rattle.clr_rules.specs.declared.reply.Reply.TheVariants.{Added}
 
 -- what a reply refuses for, if it does
 abbrev pub refusal_in : Reply → Option Refusal
 refusal_in (Refused refusal) = Some refusal
 refusal_in (Accepted card) = None
 refusal_in (Shown view) = None
+refusal_in (Added point) = None
 
 abbrev pub refused_after : List Saying → Saying → Option Refusal
 refused_after said next = refusal_in (Answer.reply (answer_after said next))

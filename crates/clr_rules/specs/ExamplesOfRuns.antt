@@ -265,6 +265,7 @@ TheRegisterOfAGrant = register_after l2_granted ≡ record {
       lockable = true;
       remote = false;
       position = Opened;
+      jumper = false;
     }
         ∷ record {
           name = S2;
@@ -273,6 +274,7 @@ TheRegisterOfAGrant = register_after l2_granted ≡ record {
           lockable = true;
           remote = false;
           position = Opened;
+          jumper = false;
         }
         ∷ record {
           name = S3;
@@ -281,6 +283,7 @@ TheRegisterOfAGrant = register_after l2_granted ≡ record {
           lockable = true;
           remote = false;
           position = Opened;
+          jumper = false;
         }
         ∷ record {
           name = S4;
@@ -289,6 +292,7 @@ TheRegisterOfAGrant = register_after l2_granted ≡ record {
           lockable = true;
           remote = true;
           position = Opened;
+          jumper = false;
         }
         ∷ record {
           name = T1;
@@ -297,6 +301,7 @@ TheRegisterOfAGrant = register_after l2_granted ≡ record {
           lockable = false;
           remote = false;
           position = Opened;
+          jumper = false;
         } ∷ [];
   };
   staff = worked_staff;

@@ -108,6 +108,7 @@ AgreementLooksAtTheNearPart = part_near (register_after both_at_work) jones_1 in
       lockable = true;
       remote = false;
       position = Opened;
+      jumper = false;
     }
         ∷ record {
           name = S3;
@@ -116,6 +117,7 @@ AgreementLooksAtTheNearPart = part_near (register_after both_at_work) jones_1 in
           lockable = true;
           remote = false;
           position = Opened;
+          jumper = false;
         } ∷ [];
   };
   staff = worked_staff;
@@ -146,7 +148,7 @@ abbrev pub NearAClosedClearance : Type 0
 NearAClosedClearance =
     near_of (register_after (l2_ordered ++ says JONES (Cancel jones_1) ∷ []))
     (said_at 200 (says OPS (Show jones_1))) ≡ record {
-      known = record { greatest = 1; fence = [] };
+      known = record { greatest = 1; fence = []; crossed = None };
       rows = record {
         net = record { sections = []; points = [] };
         staff = worked_staff;

@@ -1,5 +1,7 @@
 -- The fences of clearances, and what lies in a fence or touches it.
-use Rattle.std.specs.Prelude.{ℕ, Bool, if◌then◌else◌, List, [], filter, Option, None, Some}
+use Rattle.std.specs.Prelude.{◌≡◌, ℕ, Bool, not, if◌then◌else◌, List, [], filter, find, Option}
+use Rattle.std.specs.Prelude.{None, Some}
+use Rattle.std.specs.Option.{option_map}
 use Rattle.clr_net.specs.Fence.{FenceRows, fence_of, touches}
 use Rattle.clr_net.specs.Grid.{Grid, point_names, section_names}
 use Rattle.clr_net.specs.Names.{has_name}
@@ -33,6 +35,27 @@ found_order_fence g points (Some r) = work_fence g r.work points
 -- the fence that an order would make, which cuts at these points
 abbrev pub order_fence : Register → Id → List (List ℕ) → List (List ℕ)
 order_fence R c points = found_order_fence R.net points (record_of R.records c)
+
+-- WHETHER A POINT BETWEEN TWO SECTIONS WOULD CROSS A FENCE: exactly one of them is inside. A
+-- section that the network does not have is in none
+abbrev pub crosses : List (List ℕ) → List ℕ → List ℕ → Bool
+crosses fence from to = if has_name fence from then not (has_name fence to) else has_name fence to
+
+-- the first of the records whose fence it would cross: they stand in the order of clearances
+unfoldable pub crossed_record : Grid → List StepRow → List Record → List ℕ → List ℕ
+    → Option Record
+crossed_record g steps records from to =
+    find (λ r. crosses (record_fence g steps r) from to) records
+
+-- the least clearance whose fence it would cross
+abbrev pub crossed_by : Register → List ℕ → List ℕ → Option Id
+crossed_by R from to =
+    option_map (λ r. r.id) (crossed_record R.net R.steps R.records from to)
+
+-- it would cross none: of each clearance's fence both ends are inside, or neither
+abbrev pub CrossesNoFence : Register → List ℕ → List ℕ → Type 0
+CrossesNoFence R from to =
+    (c : Id) → has_name (clearance_fence R c) from ≡ has_name (clearance_fence R c) to
 
 -- the points with an end among these sections
 unfoldable pub touching_names : Grid → (List ℕ → Bool) → List (List ℕ)

@@ -4,9 +4,9 @@ use Rattle.std.specs.List.{list_all}
 use Rattle.clr_net.specs.declared.point.Position.{Position}
 use Rattle.clr_net.specs.declared.point.Position.TheVariants.{Opened, Closed as Shut}
 use Rattle.clr_rules.specs.Prelude.{Edit, SetPosition, SetHand, PutHold, TakeHold, PutRecord}
-use Rattle.clr_rules.specs.Prelude.{PutStep, HeldOpen, Id, same_id, Register, has_in_hand}
-use Rattle.clr_rules.specs.Prelude.{position_of, record_of, steps_of, has_hold, holds_of}
-use Rattle.clr_rules.specs.Prelude.{after_edits}
+use Rattle.clr_rules.specs.Prelude.{PutStep, AddSection, AddPoint, HeldOpen, Id, same_id}
+use Rattle.clr_rules.specs.Prelude.{Register, has_in_hand, position_of, record_of, steps_of}
+use Rattle.clr_rules.specs.Prelude.{has_hold, holds_of, after_edits}
 use Rattle.clr_rules.specs.Good.{ListsAreInOrder}
 use Rattle.clr_rules.specs.States.{is_hand}
 
@@ -30,8 +30,8 @@ both_or_neither true b = b
 both_or_neither false b = not b
 
 -- WHETHER AN EDIT SPARES A CLEARANCE in a register: it is of another's record, step or hold, takes
--- no point out of the clearance's hand and puts none into it, and closes no point that it holds
--- open
+-- no point out of the clearance's hand and puts none into it, which an added point would be, and
+-- closes no point that it holds open
 abbrev pub spares : Id → Register → Edit → Bool
 spares c R (SetPosition p position) = not (is_shut position && has_hold R.holds c HeldOpen p)
 spares c R (SetHand p hand) = both_or_neither (has_in_hand R.states c p) (is_hand c hand)
@@ -39,6 +39,8 @@ spares c R (PutHold h) = not (same_id c h.id)
 spares c R (TakeHold h) = not (same_id c h.id)
 spares c R (PutRecord r) = not (same_id c r.id)
 spares c R (PutStep row) = not (same_id c row.id)
+spares c R (AddSection row) = true
+spares c R (AddPoint p) = not (has_in_hand R.states c p.name)
 
 abbrev pub all_spare : Id → Register → List Edit → Bool
 all_spare c R edits = list_all (spares c R) edits

@@ -2,10 +2,10 @@
 use Rattle.std.specs.Prelude.{◌≡◌, Bool, true, false, List}
 use Rattle.clr_rules.specs.Answer.{Answer, answer, reply_clearance, known_of}
 use Rattle.clr_rules.specs.Commands.{Known}
-use Rattle.clr_rules.specs.Command.{named_clearance}
+use Rattle.clr_rules.specs.Command.{is_jumper, named_clearance}
 use Rattle.clr_rules.specs.Prelude.{Edit, Command, Kind, Id, same_id, Register, after_edits}
 use Rattle.clr_rules.specs.Footprint.{all_spare}
-use Rattle.clr_rules.specs.Good.{HandMatchesStep, IsGoodAsSaid, ListsAreInOrder}
+use Rattle.clr_rules.specs.Good.{HandMatchesStep, IsGoodAsSaid, ListsAreInOrder, PointsAreKnown}
 use Rattle.clr_rules.specs.GoodByPhase.{outlook_of}
 use Rattle.clr_rules.specs.Isolation.{HeldStayOpen, is_others}
 use Rattle.clr_rules.specs.Run.{after}
@@ -15,17 +15,19 @@ abbrev pub is_report : Kind → Bool
 is_report (Report c n done) = true
 is_report _ = false
 
--- THE EDITS OF A COMMAND ABOUT ANOTHER CLEARANCE spare a clearance: those of a report where the
--- hands match the steps,
+-- THE EDITS OF A COMMAND OF OTHERS spare a clearance: those of a report where the hands match the
+-- steps, those of a jumper where only points of the network have states,
 abbrev pub OthersEditsSpare : Type 0
 OthersEditsSpare =
-    (R : Register) (c : Id) (q : Command) → HandMatchesStep R → is_others c R q ≡ true
+    (R : Register) (c : Id) (q : Command) → HandMatchesStep R → PointsAreKnown R
+    → is_others c R q ≡ true
     → all_spare c R (Answer.edits (answer R q)) ≡ true
 
 -- and those of any other command in every register
 abbrev pub OthersEditsSpareAnywhere : Type 0
 OthersEditsSpareAnywhere =
-    (R : Register) (c : Id) (q : Command) → is_report q.kind ≡ false → is_others c R q ≡ true
+    (R : Register) (c : Id) (q : Command) → is_report q.kind ≡ false → is_jumper q.kind ≡ false
+    → is_others c R q ≡ true
     → all_spare c R (Answer.edits (answer R q)) ≡ true
 
 -- WHAT THE REGISTER HAS OF A CLEARANCE, its record, its steps, its holds and what it has in hand,
@@ -43,18 +45,19 @@ subject_of R q = reply_clearance (Known.greatest (known_of R q)) q.caller (named
 abbrev pub OneOutlookChanges : Type 0
 OneOutlookChanges =
     (R : Register) (c : Id) (q : Command) → ListsAreInOrder R → HandMatchesStep R
-    → same_id c (subject_of R q) ≡ false
+    → PointsAreKnown R → same_id c (subject_of R q) ≡ false
     → outlook_of (after R q) c ≡ outlook_of R c
 
 -- in a word, after a command about another,
 abbrev pub OthersKeepOutlook : Type 0
 OthersKeepOutlook =
     (R : Register) (c : Id) (q : Command) → ListsAreInOrder R → HandMatchesStep R
-    → is_others c R q ≡ true
+    → PointsAreKnown R → is_others c R q ≡ true
     → outlook_of (after R q) c ≡ outlook_of R c
 
 -- and the points that it holds are open then
 abbrev pub OthersKeepHeldOpen : Type 0
 OthersKeepHeldOpen =
-    (R : Register) (c : Id) (q : Command) → IsGoodAsSaid R → is_others c R q ≡ true
+    (R : Register) (c : Id) (q : Command) → IsGoodAsSaid R → PointsAreKnown R
+    → is_others c R q ≡ true
     → HeldStayOpen c (after R q)

@@ -3,18 +3,20 @@ use Rattle.std.specs.Prelude.{◌≡◌, ℕ, Bool, true, false, not, ◌||◌, 
 use Rattle.std.specs.Prelude.{Option, None}
 use Rattle.std.specs.List.{list_all}
 use Rattle.clr_net.specs.Name.{same_name}
+use Rattle.clr_net.specs.Names.{has_name}
 use Rattle.clr_net.specs.declared.point.Position.TheVariants.{Opened}
 use Rattle.clr_rules.specs.Agreement.{Agree}
 use Rattle.clr_rules.specs.Answer.{Answer, answer}
-use Rattle.clr_rules.specs.Command.{named_clearance}
+use Rattle.clr_rules.specs.Command.{is_jumper, named_clearance}
+use Rattle.clr_rules.specs.Fences.{clearance_fence}
 use Rattle.clr_rules.specs.Footprint.{Frame}
-use Rattle.clr_rules.specs.Good.{IsGoodAsSaid, OnlySwitchOrdersSwitch}
-use Rattle.clr_rules.specs.Good.{SwitchOrdersAreOperators, has_record, is_operators}
+use Rattle.clr_rules.specs.Good.{IsGood, IsGoodAsSaid, OnlySwitchOrdersSwitch}
+use Rattle.clr_rules.specs.Good.{PointsAreKnown, SwitchOrdersAreOperators, has_record, is_operators}
 use Rattle.clr_rules.specs.Prelude.{Command, HeldOpen, Id, same_id, Register, position_of, has_hold}
 use Rattle.clr_rules.specs.Near.{near_of}
 use Rattle.clr_rules.specs.Run.{IsReached, after, after_all}
-use Rattle.clr_rules.specs.Shown.{Item, asked_row, covers, is_own_command, marks_of, own_answers}
-use Rattle.clr_rules.specs.Shown.{items_shown}
+use Rattle.clr_rules.specs.Shown.{Item, added_sections, asked_row, asked_sections, covers}
+use Rattle.clr_rules.specs.Shown.{is_own_command, marks_of, own_answers, items_shown}
 
 -- INDEPENDENCE: registers that are good as said, in which only switch orders switch, and that have
 -- the same near part for a command, give the same answer to it, the reply and the edits
@@ -30,14 +32,16 @@ abbrev pub is_about_another : Id → Register → List ℕ → Option Id → Boo
 is_about_another c R caller (Some d) = not (same_id c d)
 is_about_another c R caller None = not (same_name c.requester caller) || has_record R.records c
 
+-- whether a command is another's: it is about another clearance, or about none, as a jumper is
 abbrev pub is_others : Id → Register → Command → Bool
-is_others c R q = is_about_another c R q.caller (named_clearance q.kind)
+is_others c R q = is_jumper q.kind || is_about_another c R q.caller (named_clearance q.kind)
 
 -- FRAME: a command about another clearance leaves the record, the steps and the holds of a
 -- clearance as they are, clears no hand of it, and closes no point that it holds open
 abbrev pub OthersSpare : Type 0
 OthersSpare =
-    (R : Register) (c : Id) (q : Command) → IsGoodAsSaid R → is_others c R q ≡ true
+    (R : Register) (c : Id) (q : Command) → IsGoodAsSaid R → PointsAreKnown R
+    → is_others c R q ≡ true
     → Frame c R (after R q)
 
 -- two registers that are good as said, in which switch orders are operators', and that agree near a
@@ -61,11 +65,12 @@ OwnStep =
     → is_own_command c q ≡ true → asked_row R q.kind ≡ asked_row S q.kind
     → (answer R q ≡ answer S q) × Agree c inside (after R q) (after S q)
 
--- STEP, other commands: they agree again after one on each side with the same marks
+-- STEP, other commands: where only points of the networks have states and steps, they agree again
+-- after one on each side with the same marks
 abbrev pub OthersStep : Type 0
 OthersStep =
     (c : Id) (inside : List ℕ → Bool) (R S : Register) (q p : Command)
-    → AreAlike c inside R S (q ∷ [])
+    → AreAlike c inside R S (q ∷ []) → PointsAreKnown R → PointsAreKnown S
     → is_own_command c q ≡ false → is_own_command c p ≡ false
     → marks_of R.net inside (Answer.edits (answer R q))
     ≡ marks_of S.net inside (Answer.edits (answer S p))
@@ -75,25 +80,25 @@ OthersStep =
 abbrev pub LoneStep : Type 0
 LoneStep = (c : Id) (inside : List ℕ → Bool) (R S : Register) (q : Command)
     → is_own_command c q ≡ false
-    → (AreAlike c inside R S (q ∷ []) → marks_of R.net inside (Answer.edits (answer R q)) ≡ []
+    → (AreAlike c inside R S (q ∷ []) → PointsAreKnown R → marks_of R.net inside (Answer.edits (answer R q)) ≡ []
     → Agree c inside (after R q) S)
-    × (AreAlike c inside R S [] → marks_of S.net inside (Answer.edits (answer S q)) ≡ []
+    × (AreAlike c inside R S [] → PointsAreKnown S → marks_of S.net inside (Answer.edits (answer S q)) ≡ []
     → Agree c inside R (after S q))
 
--- what the headline asks for: two reached registers agree near a clearance whose requester is no
+-- what the headline asks for: two good registers agree near a clearance whose requester is no
 -- operator, on a set that covers the run of the first, and two lists of commands show it the same
 -- own commands and marks
 pub record ShowTheSame (c : Id) (inside : List ℕ → Bool) (R : Register) (commands : List Command)
     (S : Register) (others : List Command) : Type 0 where
-  pub first_reached : IsReached R
-  pub second_reached : IsReached S
+  pub first_good : IsGood R
+  pub second_good : IsGood S
   pub no_operator : is_operators R c.requester ≡ false
   pub agree : Agree c inside R S
   pub covered : covers c inside R commands ≡ true
   pub same_shown : items_shown c inside R commands ≡ items_shown c inside S others
 
--- THE HEADLINE, FIRST HALF: where two registers and two lists of commands show a clearance the same,
--- every reply about it and every change in its fence are equal, and the registers agree again
+-- THE HEADLINE, FIRST HALF: where two registers and two lists of commands show a clearance the
+-- same, every reply about it and every change in its fence are equal, and the registers agree again
 abbrev pub SameShownSameAnswers : Type 0
 SameShownSameAnswers =
     (c : Id) (inside : List ℕ → Bool) (R S : Register) (commands others : List Command)
@@ -107,15 +112,17 @@ HeldStayOpen c R =
     (p : List ℕ) → has_hold R.holds c HeldOpen p ≡ true → position_of R.states p ≡ Some Opened
 
 -- what is left alone of a clearance from one register to the next: its record, its steps and its
--- holds are as they were, no hand of it is cleared, and the points that it holds are open
+-- holds are as they were, no hand of it is cleared, the points that it holds are open, and its
+-- fence has the sections that it had
 pub record LeftAlone (c : Id) (R S : Register) : Type 0 where
   pub frame : Frame c R S
   pub held_open : HeldStayOpen c S
+  pub same_fence : clearance_fence S c ≡ clearance_fence R c
 
 -- THE HEADLINE, SECOND HALF: at each place of a run, no command about another clearance closes a
 -- point that a clearance holds, or takes away its tags, grounds, order or record
 abbrev pub NothingIsTakenAway : Type 0
-NothingIsTakenAway = (R : Register) (commands : List Command) (c : Id) (q : Command) → IsReached R
+NothingIsTakenAway = (R : Register) (commands : List Command) (c : Id) (q : Command) → IsGood R
     → is_others c (after_all R commands) q ≡ true
     → LeftAlone c (after_all R commands) (after (after_all R commands) q)
 
@@ -124,17 +131,31 @@ is_own_item (Item.own q row) = true
 is_own_item (Item.marks edit edits) = false
 
 -- what the consequence asks for: the requester of a clearance is no operator, a set covers the run
--- of a reached register, and no command of others marks the set
+-- of a good register, no command of others marks the set, and none adds a section that an own
+-- request asks for
 pub record ShowsOwnAlone (c : Id) (inside : List ℕ → Bool) (R : Register)
     (commands : List Command) : Type 0 where
-  pub reached : IsReached R
+  pub good : IsGood R
   pub no_operator : is_operators R c.requester ≡ false
   pub covered : covers c inside R commands ≡ true
   pub own_alone : list_all is_own_item (items_shown c inside R commands) ≡ true
+  pub none_added : list_all (λ section. not (has_name (asked_sections c commands) section))
+      (added_sections R commands)
+      ≡ true
 
--- THE CONSEQUENCE: where no command of others marks the set, a clearance is answered as if its own
--- commands stood alone
+-- THE CONSEQUENCE: where no command of others marks the set, or adds a section that it asks for, a
+-- clearance is answered as if its own commands stood alone
 abbrev pub OwnCommandsAlone : Type 0
 OwnCommandsAlone = (c : Id) (inside : List ℕ → Bool) (R : Register) (commands : List Command)
     → ShowsOwnAlone c inside R commands
     → own_answers c R commands ≡ own_answers c R (filter (is_own_command c) commands)
+
+-- OF REACHED REGISTERS: two that agree near a clearance whose requester is no operator, and two
+-- lists that show it the same, are what the headline asks for, since a reached register is good
+abbrev pub ReachedShowTheSame : Type 0
+ReachedShowTheSame =
+    (c : Id) (inside : List ℕ → Bool) (R S : Register) (commands others : List Command)
+    → IsReached R → IsReached S → is_operators R c.requester ≡ false → Agree c inside R S
+    → covers c inside R commands ≡ true
+    → items_shown c inside R commands ≡ items_shown c inside S others
+    → ShowTheSame c inside R commands S others

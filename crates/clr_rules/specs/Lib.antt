@@ -36,6 +36,7 @@ pub mod ExamplesOfSight
 pub mod ExamplesOfNeighbours
 pub mod ExamplesOfRuns
 pub mod ExamplesOfLive
+pub mod ExamplesOfJumpers
 pub mod Live
 pub mod Near
 pub mod Agreement
@@ -47,6 +48,7 @@ pub mod GoodByPhase
 pub mod LiveLaws
 pub mod HoldLaws
 pub mod EditLaws
+pub mod AdditionLaws
 pub mod GoodLaws
 pub mod KeepLaws
 pub mod OpeningLaws

@@ -3,7 +3,8 @@ use Rattle.std.specs.Prelude.{◌≡◌, ◌↔◌, ◌⊎◌, ℕ, Bool, IsTrue
 use Rattle.clr_net.specs.Grid.{Grid}
 use Rattle.clr_net.specs.declared.point.PointRow.{PointRow}
 use Rattle.clr_rules.specs.Prelude.{Edit, SetPosition, SetHand, PutHold, TakeHold, PutRecord}
-use Rattle.clr_rules.specs.Prelude.{PutStep, Hold, is_point_kind, is_section_kind}
+use Rattle.clr_rules.specs.Prelude.{PutStep, AddSection, AddPoint}
+use Rattle.clr_rules.specs.Prelude.{Hold, is_point_kind, is_section_kind}
 use Rattle.clr_rules.specs.Shown.{is_mark}
 
 -- a point of this name has an end among these sections
@@ -27,6 +28,8 @@ IsEditAmong AtPoint AtSection (PutHold h) = StandsAmong AtPoint AtSection h
 IsEditAmong AtPoint AtSection (TakeHold h) = StandsAmong AtPoint AtSection h
 IsEditAmong AtPoint AtSection (PutRecord r) = ⊥
 IsEditAmong AtPoint AtSection (PutStep row) = ⊥
+IsEditAmong AtPoint AtSection (AddSection row) = AtSection row.name
+IsEditAmong AtPoint AtSection (AddPoint p) = AtSection p.from_end ⊎ AtSection p.to_end
 
 -- a mark is an edit that concerns a section inside, or a point with an end inside. A record and a
 -- step are none, and neither is a crew, which stands at no section and at no point

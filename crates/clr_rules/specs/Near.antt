@@ -1,13 +1,13 @@
 -- THE NEAR PART: what a command looks at. It is a small register, made of rows of the whole one.
-use Rattle.std.specs.Prelude.{ℕ, Bool, false, ◌||◌, if◌then◌else◌, List, [], filter, Option, None}
-use Rattle.std.specs.Prelude.{Some}
+use Rattle.std.specs.Prelude.{ℕ, Bool, false, ◌||◌, ◌==◌, if◌then◌else◌, List, [], filter}
+use Rattle.std.specs.Prelude.{Option, None, Some}
 use Rattle.clr_net.specs.Grid.{Grid}
 use Rattle.clr_net.specs.Name.{same_name}
 use Rattle.clr_net.specs.Names.{has_name}
 use Rattle.clr_order.specs.Step.{task_points}
 use Rattle.clr_rules.specs.Commands.{Known}
 use Rattle.clr_rules.specs.Answer.{known_of}
-use Rattle.clr_rules.specs.Command.{named_clearance}
+use Rattle.clr_rules.specs.Command.{is_jumper, named_clearance}
 use Rattle.clr_rules.specs.Fences.{touching_names}
 use Rattle.clr_rules.specs.Holds.{is_near_hold, is_own}
 use Rattle.clr_rules.specs.Prelude.{Command, Kind, Record, Id, Register, record_of, points_of}
@@ -78,9 +78,24 @@ extent_of R k kind = record {
   clearance = named_clearance kind;
 }
 
+-- what is near a command but a jumper
+abbrev pub part_beside : Register → Command → Register
+part_beside R q = part R (extent_of R (known_of R q) q.kind)
+
+-- what a jumper looks at: the network, the staff, all records, and the steps of all first rounds
+abbrev pub network_part : Register → Register
+network_part R = record {
+  net = R.net;
+  staff = R.staff;
+  states = [];
+  records = R.records;
+  steps = filter (λ row. row.round == 1) R.steps;
+  holds = [];
+}
+
 -- the near part, read as a register
 abbrev pub near_part : Register → Command → Register
-near_part R q = part R (extent_of R (known_of R q) q.kind)
+near_part R q = if is_jumper q.kind then network_part R else part_beside R q
 
 -- THE NEAR PART OF A REGISTER FOR A COMMAND: what is known beside the rows, and the rows
 pub record Near : Type 0 where

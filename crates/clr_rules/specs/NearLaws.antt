@@ -13,11 +13,11 @@ use Rattle.clr_rules.specs.Good.{IsGoodAsSaid, ListsAreInOrder}
 use Rattle.clr_rules.specs.Prelude.{Command, Kind, Hold, Crew, PointState, Record, StepRow, Id}
 use Rattle.clr_rules.specs.Prelude.{Register, greatest_number, record_of, is_standing, points_of}
 use Rattle.clr_rules.specs.Prelude.{steps_in, is_point_kind, holds_of}
-use Rattle.clr_rules.specs.Fences.{clearance_fence, touching_names}
+use Rattle.clr_rules.specs.Fences.{clearance_fence, crossed_by, touching_names}
 use Rattle.clr_rules.specs.MarkLaws.{HasEndIn, StandsAmong}
 use Rattle.clr_rules.specs.Near.{Near, near_of, near_part}
 use Rattle.clr_rules.specs.Records.{is_fenced}
-use Rattle.clr_rules.specs.declared.command.Kind.TheVariants.{Request, Order, Switch}
+use Rattle.clr_rules.specs.declared.command.Kind.TheVariants.{Request, Order, Switch, Jumper}
 
 -- ---- the words
 
@@ -94,6 +94,7 @@ pub record HasNearRows (R : Register) (c : Id) (Inside AtPoint : List ℕ
       → Contains (Register.holds near.rows) h ↔ (Contains R.holds h × IsNearHold AtPoint Inside c h)
   pub fence : (s : List ℕ) → Contains near.known.fence s ↔ Inside s
   pub greatest : near.known.greatest ≡ greatest_number R.records c.requester
+  pub none_crossed : near.known.crossed ≡ None
 
 -- a command that names a clearance looks at its fence
 abbrev pub NamedLooksAtItsFence : Type 0
@@ -132,6 +133,7 @@ pub record HasAskedRow (R : Register) (by : List ℕ) (section : List ℕ) (near
   pub no_hold : Register.holds near.rows ≡ []
   pub no_fence : near.known.fence ≡ []
   pub greatest : near.known.greatest ≡ greatest_number R.records by
+  pub none_crossed : near.known.crossed ≡ None
 
 abbrev pub RequestLooksAtItsSection : Type 0
 RequestLooksAtItsSection = (R : Register) (by : List ℕ) (at : ℕ) (section : List ℕ)
@@ -156,11 +158,37 @@ pub record HasSwitchRows (R : Register) (by : List ℕ) (points : List (List ℕ
       ↔ (Contains R.holds h × (IsTrue (is_point_kind h.kind) × Contains points h.place))
   pub no_fence : near.known.fence ≡ []
   pub greatest : near.known.greatest ≡ greatest_number R.records by
+  pub none_crossed : near.known.crossed ≡ None
 
 abbrev pub SwitchLooksAtItsPoints : Type 0
 SwitchLooksAtItsPoints = (R : Register) (by : List ℕ) (at : ℕ) (tasks : List Task)
     → HasSwitchRows R by (task_points tasks)
     (near_of R (record { caller = by; moment = at; kind = Switch tasks }))
+
+-- a jumper looks at the network, at all records and at the steps of all first rounds, and at no
+-- other row; the least clearance whose fence it would cross is that of these rows
+pub record HasNetworkRows (R : Register) (by : List ℕ) (from to : List ℕ)
+    (near : Near) : Type 0 where
+  pub staff : Register.staff near.rows ≡ R.staff
+  pub net : Register.net near.rows ≡ R.net
+  pub no_state : Register.states near.rows ≡ []
+  pub records : Register.records near.rows ≡ R.records
+  pub steps : (row : StepRow)
+      → Contains (Register.steps near.rows) row ↔ (Contains R.steps row × (row.round ≡ 1))
+  pub no_hold : Register.holds near.rows ≡ []
+  pub no_fence : near.known.fence ≡ []
+  pub greatest : near.known.greatest ≡ greatest_number R.records by
+  pub crossed : near.known.crossed ≡ crossed_by near.rows from to
+
+abbrev pub JumperLooksAtTheNetwork : Type 0
+JumperLooksAtTheNetwork =
+    (R : Register) (by : List ℕ) (at : ℕ) (point from to : List ℕ) (lockable remote : Bool)
+    → HasNetworkRows R by from to
+    (near_of R (record {
+      caller = by;
+      moment = at;
+      kind = Jumper point from to lockable remote;
+    }))
 
 -- ---- what the words rest on
 

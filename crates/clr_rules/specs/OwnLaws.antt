@@ -56,8 +56,8 @@ SameEditsKeepTheOwn =
     (c : Id) (R S : Register) → ListsAreInOrder R → ListsAreInOrder S → SameOwn c R S
     → (edits : List Edit) → SameOwn c (after_edits edits R) (after_edits edits S)
 
--- WHAT IS NEAR IS ENOUGH: in a register that is good as said, and where only switch orders switch, a
--- command is answered from its near part as from the whole register
+-- WHAT IS NEAR IS ENOUGH: in a register that is good as said, and where only switch orders switch,
+-- a command is answered from its near part as from the whole register
 abbrev pub NearIsEnough : Type 0
 NearIsEnough =
     (R : Register) (q : Command) → IsGoodAsSaid R → OnlySwitchOrdersSwitch R

@@ -2,6 +2,7 @@
 pub use Rattle.clr_rules.specs.declared.change.Edit.{Edit}
 pub use Rattle.clr_rules.specs.declared.change.Edit.TheVariants.{SetPosition, SetHand, PutHold}
 pub use Rattle.clr_rules.specs.declared.change.Edit.TheVariants.{TakeHold, PutRecord, PutStep}
+pub use Rattle.clr_rules.specs.declared.change.Edit.TheVariants.{AddSection, AddPoint}
 pub use Rattle.clr_rules.specs.declared.command.Command.{Command}
 pub use Rattle.clr_rules.specs.declared.command.Kind.{Kind}
 pub use Rattle.clr_rules.specs.declared.hold.Hold.{Hold}

@@ -13,7 +13,9 @@ use Rattle.clr_rules.specs.declared.refusal.Refusal.TheVariants.{RepeatDiffers, 
 use Rattle.clr_rules.specs.declared.refusal.Refusal.TheVariants.{StepsLeft, OutsideFence, NotTested}
 use Rattle.clr_rules.specs.declared.refusal.Refusal.TheVariants.{Grounded, NotGrounded, CrewsOn}
 use Rattle.clr_rules.specs.declared.refusal.Refusal.TheVariants.{CrewState, BadTransfer}
-use Rattle.clr_rules.specs.declared.refusal.Refusal.TheVariants.{NotAttested}
+use Rattle.clr_rules.specs.declared.refusal.Refusal.TheVariants.{NotAttested, PointExists}
+use Rattle.clr_rules.specs.declared.refusal.Refusal.TheVariants.{CrossesFence, NetworkFull}
+use Rattle.clr_rules.specs.declared.refusal.Refusal.TheVariants.{SameEnds}
 
 abbrev pub number_of : Refusal → ℕ
 number_of UnknownCaller = 1
@@ -47,3 +49,7 @@ number_of CrewsOn = 28
 number_of CrewState = 29
 number_of BadTransfer = 30
 number_of NotAttested = 31
+number_of PointExists = 32
+number_of (CrossesFence by) = 33
+number_of NetworkFull = 34
+number_of SameEnds = 35

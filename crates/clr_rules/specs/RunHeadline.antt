@@ -4,9 +4,10 @@ use Rattle.std.specs.Prelude.{◌≡◌, ℕ, Bool, true, if◌then◌else◌, L
 use Rattle.std.specs.Prelude.{filter, length, take}
 use Rattle.clr_rules.specs.Agreement.{Agree}
 use Rattle.clr_rules.specs.Answer.{Answer}
+use Rattle.clr_rules.specs.Good.{IsGood}
 use Rattle.clr_rules.specs.Prelude.{Command, Reply, Id, Register}
 use Rattle.clr_rules.specs.Isolation.{LeftAlone, ShowTheSame, ShowsOwnAlone, is_others}
-use Rattle.clr_rules.specs.Run.{IsReached, after, after_all, replies}
+use Rattle.clr_rules.specs.Run.{after, after_all, replies}
 use Rattle.clr_rules.specs.Shown.{is_own_command, own_answers}
 
 -- the commands that have a reply: a run that stops leaves the later ones without
@@ -37,7 +38,7 @@ pub record TellsTheSame (c : Id) (inside : List ℕ
   pub agree : Agree c inside S (after_all T others)
 
 -- FIRST HALF: for each clearance whose requester is no operator, each set that covers this run, and
--- each reached register and list of commands that show the clearance the same, it is told the same
+-- each good register and list of commands that show the clearance the same, it is told the same
 abbrev pub OthersChangeNoReply : Register → List Command → List Reply → Register → Type 0
 OthersChangeNoReply R commands told S =
     (c : Id) (inside : List ℕ → Bool) (T : Register) (others : List Command)
@@ -48,7 +49,7 @@ OthersChangeNoReply R commands told S =
 -- holds open is open
 abbrev pub OthersTakeNothing : Register → List Command → Type 0
 OthersTakeNothing R commands =
-    (c : Id) (earlier : List Command) (q : Command) (later : List Command) → IsReached R
+    (c : Id) (earlier : List Command) (q : Command) (later : List Command) → IsGood R
     → commands ≡ earlier ++ q ∷ later → is_others c (after_all R earlier) q ≡ true
     → LeftAlone c (after_all R earlier) (after (after_all R earlier) q)
 

@@ -1,9 +1,12 @@
--- Runs as laws: what no command changes, one reply a command, and a run that goes on where another
+-- Runs as laws: what commands may add, one reply a command, and a run that goes on where another
 -- ended.
-use Rattle.std.specs.Prelude.{◌≡◌, List, ◌++◌, length, map}
+use Rattle.std.specs.Prelude.{◌≡◌, true, false, List, ◌++◌, length, map, Contains}
+use Rattle.std.proofs.Common.{◌⊎◌}
 use Rattle.clr_csv.specs.Staff.{IsStaff}
 use Rattle.clr_csv.specs.declared.employee.StaffRow.{StaffRow}
 use Rattle.clr_net.specs.Grid.{Grid, IsNetwork, point_names}
+use Rattle.clr_net.specs.declared.point.PointRow.{PointRow}
+use Rattle.clr_net.specs.declared.section.SectionRow.{SectionRow}
 use Rattle.clr_rules.specs.Good.{ListsAreInOrder}
 use Rattle.clr_rules.specs.Prelude.{Command, Register, state_key}
 use Rattle.clr_rules.specs.Register.{opening, unplaced_net}
@@ -13,17 +16,28 @@ use Rattle.clr_rules.specs.Run.{IsReached, after_all, replies}
 abbrev pub ReachedListsAreInOrder : Type 0
 ReachedListsAreInOrder = (R : Register) → IsReached R → ListsAreInOrder R
 
--- a register has the network and the staff of the opening one, and a state for each point, and for
--- no other name
-pub record KeepsOpening (g : Grid) (staff : List StaffRow) (R : Register) : Type 0 where
-  pub same_net : R.net ≡ unplaced_net g
-  pub same_staff : R.staff ≡ staff
-  pub same_points : map state_key R.states ≡ point_names g.points
+-- a network has the rows of another as they were; each other section of it has no source, and each
+-- other point is a jumper
+pub record HasGrown (g h : Grid) : Type 0 where
+  pub sections_stay : (row : SectionRow) → Contains g.sections row → Contains h.sections row
+  pub points_stay : (p : PointRow) → Contains g.points p → Contains h.points p
+  pub new_sections : (row : SectionRow) → Contains h.sections row
+      → Contains g.sections row ⊎ (row.source ≡ false)
+  pub new_points : (p : PointRow) → Contains h.points p
+      → Contains g.points p ⊎ (p.jumper ≡ true)
 
--- no command changes the network, the staff, or which points there are
-abbrev pub RunsKeepOpening : Type 0
-RunsKeepOpening = (g : Grid) (staff : List StaffRow) → IsNetwork g → (commands : List Command)
-    → KeepsOpening g staff (after_all (opening g staff) commands)
+-- a register has the staff of the opening one, the network of the opening one and what was added to
+-- it, and a state for each point, and for no other name
+pub record OnlyAdds (g : Grid) (staff : List StaffRow) (R : Register) : Type 0 where
+  pub same_staff : R.staff ≡ staff
+  pub network : IsNetwork R.net
+  pub has_grown : HasGrown (unplaced_net g) R.net
+  pub same_points : map state_key R.states ≡ point_names (Grid.points R.net)
+
+-- no command changes the staff, or a row of the network
+abbrev pub RunsOnlyAdd : Type 0
+RunsOnlyAdd = (g : Grid) (staff : List StaffRow) → IsNetwork g → (commands : List Command)
+    → OnlyAdds g staff (after_all (opening g staff) commands)
 
 -- each command has one reply
 abbrev pub CommandsAreReplied : Type 0

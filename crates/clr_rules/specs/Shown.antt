@@ -1,7 +1,9 @@
 -- WHAT A RUN SHOWS A CLEARANCE: its own commands, and the marks that others leave in its fence.
-use Rattle.std.specs.Prelude.{ℕ, Bool, false, ◌&&◌, if◌then◌else◌, List, [], ◌∷◌, filter, find}
+use Rattle.std.specs.Prelude.{ℕ, Bool, false, ◌&&◌, if◌then◌else◌, List, [], ◌∷◌, ◌++◌, filter}
+use Rattle.std.specs.Prelude.{find}
 use Rattle.std.specs.Prelude.{Option, None, Some}
 use Rattle.std.specs.List.{list_all}
+use Rattle.clr_net.specs.Fence.{touches}
 use Rattle.clr_net.specs.Grid.{Grid}
 use Rattle.clr_net.specs.Name.{same_name}
 use Rattle.clr_net.specs.Names.{has_name}
@@ -11,8 +13,8 @@ use Rattle.clr_rules.specs.Command.{named_clearance}
 use Rattle.clr_rules.specs.Fences.{clearance_fence, order_fence, touching_names}
 use Rattle.clr_rules.specs.Holds.{is_near_hold}
 use Rattle.clr_rules.specs.Prelude.{Edit, SetPosition, SetHand, PutHold, TakeHold, PutRecord}
-use Rattle.clr_rules.specs.Prelude.{PutStep, Command, Kind, Record, Id, same_id, Register}
-use Rattle.clr_rules.specs.Prelude.{record_of}
+use Rattle.clr_rules.specs.Prelude.{PutStep, AddSection, AddPoint, Command, Kind, Record, Id}
+use Rattle.clr_rules.specs.Prelude.{same_id, Register, record_of}
 use Rattle.clr_rules.specs.Records.{is_requested}
 use Rattle.clr_rules.specs.Run.{after}
 use Rattle.clr_rules.specs.declared.command.Kind.TheVariants.{Request, Order}
@@ -30,8 +32,8 @@ is_own_kind c caller kind None = is_request_of c.requester caller kind
 abbrev pub is_own_command : Id → Command → Bool
 is_own_command c q = is_own_kind c q.caller q.kind (named_clearance q.kind)
 
--- an edit is a mark where it concerns a section inside, or a point with an end inside. A record, a
--- step and a crew are none
+-- an edit is a mark where it concerns a section inside, or a point with an end inside, which an
+-- added point has by its own row. A record, a step and a crew are none
 abbrev pub is_mark : Grid → (List ℕ → Bool) → Edit → Bool
 is_mark g inside (SetPosition point position) = has_name (touching_names g inside) point
 is_mark g inside (SetHand point hand) = has_name (touching_names g inside) point
@@ -39,6 +41,8 @@ is_mark g inside (PutHold h) = is_near_hold inside (has_name (touching_names g i
 is_mark g inside (TakeHold h) = is_near_hold inside (has_name (touching_names g inside)) None h
 is_mark g inside (PutRecord r) = false
 is_mark g inside (PutStep row) = false
+is_mark g inside (AddSection row) = inside row.name
+is_mark g inside (AddPoint p) = touches inside p
 
 abbrev pub marks_of : Grid → (List ℕ → Bool) → List Edit → List Edit
 marks_of g inside edits = filter (is_mark g inside) edits
@@ -47,6 +51,31 @@ marks_of g inside edits = filter (is_mark g inside) edits
 abbrev pub asked_row : Register → Kind → Option SectionRow
 asked_row R (Request section) = find (λ row. same_name section row.name) (Grid.sections R.net)
 asked_row R kind = None
+
+-- the sections that a clearance's own requests ask for
+abbrev pub asked_of : Kind → List (List ℕ)
+asked_of (Request section) = section ∷ []
+asked_of kind = []
+
+unfoldable pub asked_sections : Id → List Command → List (List ℕ)
+asked_sections c [] = []
+asked_sections c (q ∷ commands) =
+    if is_own_command c q then asked_of q.kind ++ asked_sections c commands
+    else asked_sections c commands
+
+-- the sections that edits add, and those that a run adds
+abbrev pub section_of : Edit → List (List ℕ)
+section_of (AddSection row) = row.name ∷ []
+section_of edit = []
+
+unfoldable pub sections_of : List Edit → List (List ℕ)
+sections_of [] = []
+sections_of (edit ∷ edits) = section_of edit ++ sections_of edits
+
+unfoldable pub added_sections : Register → List Command → List (List ℕ)
+added_sections R [] = []
+added_sections R (q ∷ commands) =
+    sections_of (Answer.edits (answer R q)) ++ added_sections (after R q) commands
 
 -- what is shown: an own command, with the row that it asks for; or the marks of another command, at
 -- least one

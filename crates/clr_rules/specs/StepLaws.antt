@@ -3,7 +3,8 @@ use Rattle.std.specs.Prelude.{◌≡◌, ℕ, Bool, true, false, List, [], ◌�
 use Rattle.clr_rules.specs.Agreement.{Agree}
 use Rattle.clr_rules.specs.AgreementLaws.{is_about, is_new_of}
 use Rattle.clr_rules.specs.Answer.{Answer, answer}
-use Rattle.clr_rules.specs.Good.{HandMatchesStep, ListsAreInOrder, is_operators}
+use Rattle.clr_rules.specs.Command.{is_jumper}
+use Rattle.clr_rules.specs.Good.{HandMatchesStep, ListsAreInOrder, PointsAreKnown, is_operators}
 use Rattle.clr_rules.specs.Prelude.{Command, Id, Register, record_of}
 use Rattle.clr_rules.specs.Isolation.{AreAlike}
 use Rattle.clr_rules.specs.Near.{near_of}
@@ -20,14 +21,16 @@ pub record AreOfOthers (c : Id) (R : Register) (q : Command) : Type 0 where
 
 abbrev pub OthersEditsAreOfOthers : Type 0
 OthersEditsAreOfOthers =
-    (R : Register) (c : Id) (q : Command) → HandMatchesStep R → is_operators R c.requester ≡ false
+    (R : Register) (c : Id) (q : Command) → HandMatchesStep R → PointsAreKnown R
+    → is_operators R c.requester ≡ false
     → is_own_command c q ≡ false → AreOfOthers c R q
 
--- registers that agree and answer a command alike agree again after it, whatever it is about
+-- registers that agree and answer a command alike agree again after it, whatever it is about, where
+-- it adds nothing
 abbrev pub SameAnswersKeepAgreement : Type 0
 SameAnswersKeepAgreement =
-    (R S : Register) (c : Id) (inside : List ℕ → Bool) (q : Command) → ListsAreInOrder R
-    → ListsAreInOrder S
+    (R S : Register) (c : Id) (inside : List ℕ → Bool) (q : Command) → is_jumper q.kind ≡ false
+    → ListsAreInOrder R → ListsAreInOrder S
     → answer R q ≡ answer S q → Agree c inside R S → Agree c inside (after R q) (after S q)
 
 -- registers that agree near a clearance on a set that covers its fence are one to its own commands:

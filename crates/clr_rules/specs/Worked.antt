@@ -98,6 +98,7 @@ worked_net = record {
         lockable = true;
         remote = false;
         position = Closed;
+        jumper = false;
       }
       ∷ record {
         name = S2;
@@ -106,6 +107,7 @@ worked_net = record {
         lockable = true;
         remote = false;
         position = Closed;
+        jumper = false;
       }
       ∷ record {
         name = S3;
@@ -114,6 +116,7 @@ worked_net = record {
         lockable = true;
         remote = false;
         position = Closed;
+        jumper = false;
       }
       ∷ record {
         name = S4;
@@ -122,6 +125,7 @@ worked_net = record {
         lockable = true;
         remote = true;
         position = Closed;
+        jumper = false;
       }
       ∷ record {
         name = T1;
@@ -130,6 +134,7 @@ worked_net = record {
         lockable = false;
         remote = false;
         position = Opened;
+        jumper = false;
       }
       ∷ [];
 }

@@ -3,10 +3,10 @@ use crate::clearance_id::ClearanceId;
 use crate::hold::Hold;
 use crate::record::Record;
 use crate::step_row::StepRow;
-use clr_net::{Name, Position};
+use clr_net::{Name, PointRow, Position, SectionRow};
 
 /// One edit of the register's rows. To put a row is to replace the row of its key; all other rows
-/// stay.
+/// stay. To add one is to put it where there is none of its name.
 ///
 /// The kinds of edits stand in this order in a change, and those of a kind in the order of their
 /// keys; putting and taking a hold are one kind.
@@ -26,6 +26,11 @@ pub enum Edit {
     TakeHold(Hold),
     PutRecord(Record),
     PutStep(StepRow),
+    /// Adds a section of a new name.
+    AddSection(SectionRow),
+    /// Adds a point of a new name. It is open and in nobody's hand, wherever its row says that it
+    /// stands.
+    AddPoint(PointRow),
 }
 
 /// What an accepted command changes. That of a refused command or of `show` has no edit.

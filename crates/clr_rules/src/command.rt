@@ -13,12 +13,12 @@ use clr_net::Name;
 #[derive(Debug, Drop)]
 pub struct Command {
     pub caller: Name,
-    /// When it is given. `show` does not look at it.
+    /// When it is given. `show` and `jumper` do not look at it.
     pub moment: Moment,
     pub kind: Kind,
 }
 
-/// What a command asks for: the eighteen kinds.
+/// What a command asks for: the nineteen kinds.
 ///
 /// A step is named by its number in the clearance's present round, counted from 1.
 #[derive(Debug, Drop)]
@@ -118,16 +118,27 @@ pub enum Kind {
     Show {
         clearance: ClearanceId,
     },
+    /// An operator joins two sections by a switching point that is in no file: the project's own.
+    Jumper {
+        point: Name,
+        from: Name,
+        /// The other section, which is new where the network does not have it.
+        to: Name,
+        /// Whether its design permits that it is made inoperable.
+        lockable: bool,
+        /// Whether it is controlled automatically or from afar.
+        remote: bool,
+    },
 }
 
 impl Kind {
     /// The clearance that the command names. A request and a switch order make a new one and name
-    /// none.
+    /// none, and a jumper is about none.
     pub fn clearance(&self) -> Option<ClearanceId>
         ensures { result ≡ named_clearance self.now }
     {
         match self {
-            Kind::Request { .. } | Kind::Switch { .. } => None,
+            Kind::Request { .. } | Kind::Switch { .. } | Kind::Jumper { .. } => None,
             Kind::Order { clearance, .. }
             | Kind::Instruct { clearance, .. }
             | Kind::Repeat { clearance, .. }

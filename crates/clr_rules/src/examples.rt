@@ -3,6 +3,7 @@
 pub mod changes;
 pub mod first_checks;
 pub mod isolation;
+pub mod jumpers;
 pub mod live;
 pub mod near_parts;
 pub mod neighbours;

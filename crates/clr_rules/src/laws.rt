@@ -1,4 +1,5 @@
 //! Laws of the definitions: the contract of each function is the law, and its body is empty.
+pub mod additions;
 pub mod agreement;
 pub mod edits;
 pub mod footprint;

@@ -82,10 +82,20 @@ pub enum Refusal {
     BadTransfer,
     /// It is not attested that all employees are notified and clear: (m)(3)(x), (xi).
     NotAttested,
+    /// The network has a point of this name.
+    PointExists,
+    /// Exactly one end of the point would lie in the fence of this clearance, the least:
+    /// (m)(3)(ii). A new section lies in no fence.
+    CrossesFence(ClearanceId),
+    /// With the point there would be more than 10,000 points, or with the section more than 5,000
+    /// sections.
+    NetworkFull,
+    /// Both ends of the point are one section.
+    SameEnds,
 }
 
 impl Refusal {
-    /// The refusal's number, from 1 to 31.
+    /// The refusal's number, from 1 to 35.
     pub fn number(self) -> u8
         ensures { result ≡ number_of self }
     {
@@ -121,6 +131,10 @@ impl Refusal {
             Refusal::CrewState => 29,
             Refusal::BadTransfer => 30,
             Refusal::NotAttested => 31,
+            Refusal::PointExists => 32,
+            Refusal::CrossesFence(_) => 33,
+            Refusal::NetworkFull => 34,
+            Refusal::SameEnds => 35,
         }
     }
 }

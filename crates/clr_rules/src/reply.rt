@@ -14,6 +14,8 @@ pub enum Reply {
     Shown(View),
     /// The first check that applied. Nothing was changed.
     Refused(Refusal),
+    /// The network has this point now, open and in nobody's hand.
+    Added(Name),
 }
 
 /// How a clearance stands, in short.

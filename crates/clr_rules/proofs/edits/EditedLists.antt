@@ -1,8 +1,14 @@
 -- What a list of edits keeps: the order of the lists, the network, the staff, and the points that have states.
-use Rattle.std.proofs.Common.{List, [], ◌∷◌, refl, ◌∙◌}
+use Rattle.std.proofs.Common.{◌≡◌, Bool, true, false, not, List, [], ◌∷◌, refl, ◌∙◌}
+use Rattle.std.proofs.lemmas.Bool.{and_parts}
+use Rattle.std.proofs.lemmas.Cmp.{nat_list_cmp_total}
+use Rattle.clr_net.specs.Grid.{unplaced}
+use Rattle.clr_net.specs.Name.{name_cmp}
 use Rattle.clr_shelf.proofs.KeyOrder.{in_key_order-with_row, in_key_order-without_row}
-use Rattle.clr_rules.specs.EditLaws.{KeepsNetwork}
-use Rattle.clr_rules.specs.Prelude.{Edit, SetPosition, SetHand, PutHold, TakeHold, PutRecord, PutStep, id_cmp, id_cmp_total, Register, record_key, step_key, step_key_cmp, step_key_cmp_total, hold_cmp, hold_cmp_total, hold_key, after_edit}
+use Rattle.clr_rules.specs.EditLaws.{KeepsNetwork, adds, adds_nothing}
+use Rattle.clr_rules.specs.Register.{first_state}
+use Rattle.clr_rules.specs.States.{state_key}
+use Rattle.clr_rules.specs.Prelude.{Edit, SetPosition, SetHand, PutHold, TakeHold, PutRecord, PutStep, AddSection, AddPoint, id_cmp, id_cmp_total, Register, record_key, step_key, step_key_cmp, step_key_cmp_total, hold_cmp, hold_cmp_total, hold_key, after_edit}
 use Rattle.clr_rules.specs.Prelude.{after_edits}
 use Rattle.clr_rules.specs.Good.{ListsAreInOrder}
 use Rattle.clr_rules.proofs.lists.StateFacts.{in_key_order-change, state_keys-change}
@@ -45,6 +51,13 @@ edited-in_order (PutStep row) R h = record {
   holds = h.holds;
   steps = in_key_order-with_row step_key_cmp step_key step_key_cmp_total row R.steps h.steps;
 }
+edited-in_order (AddSection row) R h = record { states = h.states; records = h.records; steps = h.steps; holds = h.holds }
+edited-in_order (AddPoint p) R h = record {
+  states = in_key_order-with_row name_cmp state_key nat_list_cmp_total (first_state (unplaced p)) R.states h.states;
+  records = h.records;
+  steps = h.steps;
+  holds = h.holds;
+}
 
 pub edited_all-in_order : (R : Register) (edits : List Edit) → ListsAreInOrder R → ListsAreInOrder (after_edits edits R)
 unfolding after_edits
@@ -52,25 +65,38 @@ edited_all-in_order R [] h = h
 edited_all-in_order R (edit ∷ edits) h = edited_all-in_order (after_edit edit R) edits (edited-in_order edit R h)
 
 -- an edit keeps the network, the staff and the points
-edited-network : (edit : Edit) (R : Register) → ListsAreInOrder R → KeepsNetwork R (after_edit edit R)
-edited-network (SetPosition p position) R h = record {
+pub edited-network : (edit : Edit) (R : Register) → adds edit ≡ false → ListsAreInOrder R → KeepsNetwork R (after_edit edit R)
+edited-network (SetPosition p position) R plain h = record {
   same_net = refl;
   same_staff = refl;
   same_points = state_keys-change (λ state. record state { position = position }) (λ _. refl) R.states p h.states;
 }
-edited-network (SetHand p hand) R h = record {
+edited-network (SetHand p hand) R plain h = record {
   same_net = refl;
   same_staff = refl;
   same_points = state_keys-change (λ state. record state { hand = hand }) (λ _. refl) R.states p h.states;
 }
-edited-network _ R h = record { same_net = refl; same_staff = refl; same_points = refl }
+edited-network (AddSection row) R plain h = absurd cc
+edited-network (AddPoint p) R plain h = absurd cc
+edited-network _ R plain h = record { same_net = refl; same_staff = refl; same_points = refl }
 
-pub edited_all-network : (R : Register) (edits : List Edit) → ListsAreInOrder R → KeepsNetwork R (after_edits edits R)
+-- the staff stay, whatever is added
+pub edited_all-staff : (R : Register) (edits : List Edit) → Register.staff (after_edits edits R) ≡ R.staff
 unfolding after_edits
-edited_all-network R [] h = record { same_net = refl; same_staff = refl; same_points = refl }
-edited_all-network R (edit ∷ edits) h =
-    let first = edited-network edit R h in
-    let rest = edited_all-network (after_edit edit R) edits (edited-in_order edit R h) in
+edited_all-staff R [] = refl
+edited_all-staff R (edit ∷ edits) = edited_all-staff (after_edit edit R) edits
+
+pub not_false : (b : Bool) → not b ≡ true → b ≡ false
+not_false true h = absurd cc
+not_false false h = refl
+
+pub edited_all-network : (R : Register) (edits : List Edit) → adds_nothing edits ≡ true → ListsAreInOrder R → KeepsNetwork R (after_edits edits R)
+unfolding after_edits
+edited_all-network R [] plain h = record { same_net = refl; same_staff = refl; same_points = refl }
+edited_all-network R (edit ∷ edits) plain h =
+    let (one, others) = and_parts (not (adds edit)) (adds_nothing edits) plain in
+    let first = edited-network edit R (not_false (adds edit) one) h in
+    let rest = edited_all-network (after_edit edit R) edits others (edited-in_order edit R h) in
     record {
       same_net = rest.same_net ∙ first.same_net;
       same_staff = rest.same_staff ∙ first.same_staff;

@@ -7,7 +7,7 @@ use Rattle.clr_rules.specs.Checks.{refuse, unknown_clearance, where_some, wrong_
 use Rattle.clr_rules.specs.Command.{named_clearance}
 use Rattle.clr_rules.specs.Good.{has_record}
 use Rattle.clr_rules.specs.Prelude.{Kind, Phase, Record, Refusal, Id, Register, record_of}
-use Rattle.clr_rules.specs.declared.command.Kind.TheVariants.{Request, Transfer, Switch, Show}
+use Rattle.clr_rules.specs.declared.command.Kind.TheVariants.{Request, Transfer, Switch, Show, Jumper}
 use Rattle.clr_rules.specs.declared.refusal.Refusal.TheVariants.{UnknownClearance, WrongPhase}
 
 -- each of these checks says nothing
@@ -59,6 +59,7 @@ named_is_recorded k R by at kind h = recorded kind (all_pass (checks k R by at k
     recorded : (kind : Kind) → Pass (checks k R by at kind) → IsRecorded R (named_clearance kind)
     recorded (Request section) passed = tt
     recorded (Switch tasks) passed = tt
+    recorded (Jumper point from to lockable remote) passed = tt
     recorded (Transfer c to emergency) passed = is_recorded R c passed.1.0
     recorded (Show c) passed = is_recorded R c passed.1.0
     recorded _ passed = third _ passed

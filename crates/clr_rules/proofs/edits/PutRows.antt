@@ -3,11 +3,14 @@ use Rattle.std.proofs.Common.{◌≡◌, ℕ, Bool, true, false, cond, ◌||◌,
 use Rattle.std.specs.List.{AllByRecursion}
 use Rattle.std.proofs.Math.Bool.{or-true}
 use Rattle.std.proofs.lemmas.Option.{same_Some}
+use Rattle.clr_net.specs.Grid.{Grid, section_names}
+use Rattle.clr_net.specs.Names.{has_name}
+use Rattle.clr_net.specs.declared.point.PointRow.{PointRow}
 use Rattle.clr_order.specs.declared.action.Action.{Action}
 use Rattle.clr_order.specs.declared.action.Action.TheVariants as actions
-use Rattle.clr_rules.specs.Changes.{edits_by, point_edits, put_steps, with_record, with_step}
+use Rattle.clr_rules.specs.Changes.{added_edits, edits_by, new_section, point_edits, put_steps, with_record, with_step}
 use Rattle.clr_rules.specs.EditLaws.{is_hold}
-use Rattle.clr_rules.specs.Prelude.{Edit, SetPosition, SetHand, PutHold, TakeHold, PutRecord, PutStep, HoldKind, Tested, Record, StepRow, Id, same_id, Register, record_of, present_steps, step_at, has_hold, hold_of, after_edit, after_edits}
+use Rattle.clr_rules.specs.Prelude.{Edit, PutHold, TakeHold, PutRecord, PutStep, AddSection, AddPoint, HoldKind, Tested, Record, StepRow, Id, same_id, Register, record_of, present_steps, step_at, has_hold, hold_of, after_edit, after_edits}
 use Rattle.clr_rules.proofs.edits.EditReading.{has_hold-put, has_hold-taken, record_of-put}
 
 -- edits of a record that is found, and of its step
@@ -26,6 +29,14 @@ by_step T none R c n edits each = by_record T none R c (λ r. edits_by (step_at 
     at : (r : Record) → record_of R.records c ≡ Some r → (step : Option StepRow) → step_at (present_steps R.steps c) n ≡ step → T (edits_by step (edits r))
     at r found None is = none
     at r found (Some row) is = each r row found is
+
+-- edits that add a point, and the section before it where that is new
+pub by_added : (T : List Edit → Type 0) → (R : Register) (p : PointRow) → T (AddPoint p ∷ []) → T (AddSection (new_section p.to_end) ∷ AddPoint p ∷ []) → T (added_edits R p)
+by_added T R p known new = at (has_name (section_names (Grid.sections R.net)) p.to_end)
+  where
+    at : (b : Bool) → T (cond b (AddPoint p ∷ []) (AddSection (new_section p.to_end) ∷ AddPoint p ∷ []))
+    at true = known
+    at false = new
 
 -- ---- what is put
 

@@ -5,13 +5,13 @@ use Rattle.clr_shelf.proofs.Reading.{row_of-with_row}
 use Rattle.clr_rules.specs.Answer.{Answer, answer, reply_clearance, first_refusal, known_of, answer_by_checks, reply_of, reply_after}
 use Rattle.clr_rules.specs.Commands.{Known, checks, edits_of}
 use Rattle.clr_rules.specs.Changes.{new_steps, put_steps}
-use Rattle.clr_rules.specs.Command.{named_clearance}
+use Rattle.clr_rules.specs.Command.{is_jumper, named_clearance}
 use Rattle.clr_rules.specs.EditLaws.{refusal_of}
-use Rattle.clr_rules.specs.Prelude.{Edit, SetPosition, SetHand, PutHold, TakeHold, PutRecord, PutStep, Command, Kind, Record, Refusal, Reply, Id, id_cmp, id_cmp_total, Register, record_key, record_of, after_edit, after_edits}
+use Rattle.clr_rules.specs.Prelude.{Edit, PutRecord, Command, Kind, Record, Refusal, Reply, Id, id_cmp, id_cmp_total, Register, record_key, record_of, after_edit, after_edits}
 use Rattle.clr_rules.specs.Good.{has_record}
 use Rattle.clr_rules.specs.Run.{after}
 use Rattle.clr_rules.specs.declared.reply.Card.{Card}
-use Rattle.clr_rules.specs.declared.reply.Reply.TheVariants.{Accepted, Shown, Refused}
+use Rattle.clr_rules.specs.declared.reply.Reply.TheVariants.{Accepted, Shown, Refused, Added}
 use Rattle.clr_rules.specs.declared.reply.View.{View}
 use Rattle.clr_rules.specs.declared.command.Kind.TheVariants as kinds
 use Rattle.clr_rules.proofs.lists.Greatest.{has_record-put}
@@ -37,17 +37,18 @@ put_first r edits R =
 
 -- ---- the reply is about a clearance that has a record
 
-new_recorded : (k : Known) (R : Register) (by : List ℕ) (at : ℕ) (kind : Kind) → named_clearance kind ≡ None
+new_recorded : (k : Known) (R : Register) (by : List ℕ) (at : ℕ) (kind : Kind) → named_clearance kind ≡ None → is_jumper kind ≡ false
     → has_record (Register.records (after_edits (edits_of k.greatest R by at kind) R)) (reply_clearance k.greatest by None) ≡ true
-new_recorded k R by at (kinds.Request section) none = put_first _ [] R
-new_recorded k R by at (kinds.Switch tasks) none = put_first _ (put_steps (new_steps (reply_clearance k.greatest by None) 1 1 tasks)) R
-new_recorded k R by at _ none = cc
+new_recorded k R by at (kinds.Request section) none no_jumper = put_first _ [] R
+new_recorded k R by at (kinds.Switch tasks) none no_jumper = put_first _ (put_steps (new_steps (reply_clearance k.greatest by None) 1 1 tasks)) R
+new_recorded k R by at (kinds.Jumper point from to lockable remote) none no_jumper = cc no_jumper
+new_recorded k R by at _ none no_jumper = cc none
 
-concerned_is_recorded : (k : Known) (R : Register) (by : List ℕ) (at : ℕ) (kind : Kind) (named : Option Id) → named_clearance kind ≡ named
+concerned_is_recorded : (k : Known) (R : Register) (by : List ℕ) (at : ℕ) (kind : Kind) (named : Option Id) → named_clearance kind ≡ named → is_jumper kind ≡ false
     → first_refusal (checks k R by at kind) ≡ None
     → has_record (Register.records (after_edits (edits_of k.greatest R by at kind) R)) (reply_clearance k.greatest by named) ≡ true
-concerned_is_recorded k R by at kind None names passed = new_recorded k R by at kind names
-concerned_is_recorded k R by at kind (Some c) names passed =
+concerned_is_recorded k R by at kind None names no_jumper passed = new_recorded k R by at kind names no_jumper
+concerned_is_recorded k R by at kind (Some c) names no_jumper passed =
     edited_all-has_record (edits_of k.greatest R by at kind) R c (named_recorded k R by at kind c passed names)
 
 abbrev pub is_refused : Reply → Bool
@@ -62,10 +63,11 @@ told_of_record k R _ (Some r) h = refl
 -- where no check applies the reply is no refusal
 pub passed_is_told : (k : Known) (R : Register) (by : List ℕ) (at : ℕ) (kind : Kind) → first_refusal (checks k R by at kind) ≡ None
     → is_refused (reply_after k (after_edits (edits_of k.greatest R by at kind) R) by kind) ≡ false
+passed_is_told k R by at (kinds.Jumper point from to lockable remote) passed = refl
 passed_is_told k R by at kind passed =
     let next = after_edits (edits_of k.greatest R by at kind) R in
     told_of_record k next kind (record_of (Register.records next) (reply_clearance k.greatest by (named_clearance kind)))
-    (concerned_is_recorded k R by at kind (named_clearance kind) refl passed)
+    (concerned_is_recorded k R by at kind (named_clearance kind) refl refl passed)
 
 -- ---- refused commands
 
@@ -98,14 +100,14 @@ shown_has_none k R S by at kind None view h = cc
 shown_has_none k R S by at (kinds.Show c) (Some r) view h = refl
 shown_has_none k R S by at _ (Some r) view h = cc
 
+told_shown : (k : Known) (R S : Register) (by : List ℕ) (at : ℕ) (kind : Kind) (view : View) → reply_after k S by kind ≡ Shown view → edits_of k.greatest R by at kind ≡ []
+told_shown k R S by at (kinds.Jumper point from to lockable remote) view h = cc h
+told_shown k R S by at kind view h = shown_has_none k R S by at kind (record_of S.records (reply_clearance k.greatest by (named_clearance kind))) view h
+
 settled_shown : (k : Known) (R : Register) (q : Command) (found : Option Refusal) (view : View) → Answer.reply (answer_by_checks k R q found) ≡ Shown view
     → (found ≡ None) × (Answer.edits (answer_by_checks k R q found) ≡ [])
 settled_shown k R q None view h =
-    let next = after_edits (edits_of k.greatest R q.caller q.moment q.kind) R in (
-      refl,
-      shown_has_none k R next q.caller q.moment q.kind
-          (record_of (Register.records next) (reply_clearance k.greatest q.caller (named_clearance q.kind))) view h,
-    )
+    (refl, told_shown k R (after_edits (edits_of k.greatest R q.caller q.moment q.kind) R) q.caller q.moment q.kind view h)
 settled_shown k R q (Some refusal) view h = cc
 
 pub shown_changes_nothing : (R : Register) (q : Command) (view : View) → Answer.reply (answer R q) ≡ Shown view
@@ -121,3 +123,11 @@ settled_accepted k R q (Some refusal) card h = cc
 
 pub accepted_passes_checks : (R : Register) (q : Command) (card : Card) → Answer.reply (answer R q) ≡ Accepted card → refusal_of R q ≡ None
 accepted_passes_checks R q card h = settled_accepted (known_of R q) R q (refusal_of R q) card h
+
+settled_added : (k : Known) (R : Register) (q : Command) (found : Option Refusal) (point : List ℕ) → Answer.reply (answer_by_checks k R q found) ≡ Added point
+    → found ≡ None
+settled_added k R q None point h = refl
+settled_added k R q (Some refusal) point h = cc
+
+pub added_passes_checks : (R : Register) (q : Command) (point : List ℕ) → Answer.reply (answer R q) ≡ Added point → refusal_of R q ≡ None
+added_passes_checks R q point h = settled_added (known_of R q) R q (refusal_of R q) point h

@@ -7,10 +7,10 @@ use Rattle.clr_rules.specs.Answer.{Answer, answer}
 use Rattle.clr_rules.specs.Good.{ListsAreInOrder}
 use Rattle.clr_rules.specs.Register.{Register, opening}
 use Rattle.clr_rules.specs.Run.{IsReached, after, after_all, replies}
-use Rattle.clr_rules.specs.RunLaws.{GoesOn, KeepsOpening}
+use Rattle.clr_rules.specs.RunLaws.{GoesOn}
 use Rattle.clr_rules.specs.declared.command.Command.{Command}
-use Rattle.clr_rules.proofs.edits.EditedLists.{edited_all-in_order, edited_all-network}
-use Rattle.clr_rules.proofs.good.Opening.{opening_is_in_order, opening_keeps}
+use Rattle.clr_rules.proofs.edits.EditedLists.{edited_all-in_order}
+use Rattle.clr_rules.proofs.good.Opening.{opening_is_in_order}
 
 -- what each command keeps, a run keeps
 pub kept_by_run : (P : Register → Type 0) → ((R : Register) (q : Command) → P R → P (after R q)) → (R : Register) (commands : List Command) → P R → P (after_all R commands)
@@ -27,29 +27,6 @@ reached_have P first step R reached =
 pub reached_lists_are_in_order : (R : Register) → IsReached R → ListsAreInOrder R
 reached_lists_are_in_order = reached_have ListsAreInOrder (λ g staff net _. opening_is_in_order g staff net)
     (λ R q h. edited_all-in_order R (Answer.edits (answer R q)) h)
-
--- the order of the lists, and what no command changes
-record Keeps (g : Grid) (staff : List StaffRow) (R : Register) : Type 0 where
-  in_order : ListsAreInOrder R
-  opened : KeepsOpening g staff R
-
-keeps_more : (g : Grid) (staff : List StaffRow) (R : Register) (q : Command) → Keeps g staff R → Keeps g staff (after R q)
-keeps_more g staff R q h =
-    let edits = Answer.edits (answer R q) in
-    let kept = edited_all-network R edits h.in_order in
-    record {
-      in_order = edited_all-in_order R edits h.in_order;
-      opened = record {
-        same_net = kept.same_net ∙ h.opened.same_net;
-        same_staff = kept.same_staff ∙ h.opened.same_staff;
-        same_points = kept.same_points ∙ h.opened.same_points;
-      };
-    }
-
-pub runs_keep_opening : (g : Grid) (staff : List StaffRow) → IsNetwork g → (commands : List Command) → KeepsOpening g staff (after_all (opening g staff) commands)
-runs_keep_opening g staff net commands =
-    let kept = kept_by_run (Keeps g staff) (keeps_more g staff) (opening g staff) commands (record { in_order = opening_is_in_order g staff net; opened = opening_keeps g staff }) in
-    kept.opened
 
 pub commands_are_replied : (R : Register) (commands : List Command) → length (replies R commands) ≡ length commands
 unfolding replies

@@ -1,5 +1,5 @@
 -- No command makes a number over 9,999, or a step of a third round.
-use Rattle.std.proofs.Common.{◌≡◌, ℕ, ◌+◌, ◌≤◌, Bool, true, false, nat_eq, List, [], ◌∷◌, map, Option, Some, None, refl, sym, subst, arith, ◌⊎◌, inl, inr, ⊎_elim}
+use Rattle.std.proofs.Common.{◌≡◌, ℕ, ◌+◌, ◌≤◌, true, false, nat_eq, List, [], ◌∷◌, Option, Some, None, refl, sym, subst, arith, ◌⊎◌, inl, inr, ⊎_elim}
 use Rattle.std.specs.Prelude.{◌==◌}
 use Rattle.std.specs.List.{AllByRecursion}
 use Rattle.std.proofs.lemmas.Bool.{eqb-false}
@@ -12,7 +12,7 @@ use Rattle.clr_shelf.proofs.Members.{member-row_of}
 use Rattle.clr_rules.specs.Answer.{Answer, known_of, answer_by_checks}
 use Rattle.clr_rules.specs.Commands.{checks, edits_of}
 use Rattle.clr_rules.specs.BoundLaws.{IsBounded}
-use Rattle.clr_rules.specs.Changes.{new_steps, put_steps}
+use Rattle.clr_rules.specs.Changes.{jumper_row, new_steps, put_steps}
 use Rattle.clr_rules.specs.Checks.{too_many_clearances}
 use Rattle.clr_rules.specs.EditLaws.{refusal_of}
 use Rattle.clr_rules.specs.Prelude.{Edit, PutRecord, PutStep, Command, Kind, Tested, Record, Refusal, StepRow, Id, id_cmp, id_cmp_total, Register, greatest_number, record_key, record_of, step_key}
@@ -26,7 +26,7 @@ use Rattle.clr_rules.specs.declared.refusal.Refusal.TheVariants.{TooManyClearanc
 use Rattle.clr_rules.proofs.lists.FoundSteps.{present_step}
 use Rattle.clr_rules.proofs.lists.Greatest.{greatest_is_greatest}
 use Rattle.clr_rules.proofs.edits.Passing.{Pass, all_pass, not_refused}
-use Rattle.clr_rules.proofs.edits.PutRows.{AllPutSuch, by_record, by_step, done_put, steps_put, takes_put}
+use Rattle.clr_rules.proofs.edits.PutRows.{AllPutSuch, by_added, by_record, by_step, done_put, steps_put, takes_put}
 use Rattle.clr_rules.proofs.edits.Runs.{reached_have}
 
 abbrev IsNumber : Record → Type 0
@@ -84,6 +84,7 @@ module _ (R : Register) (bounded : IsBounded R) (by : List ℕ) (at : ℕ) where
       let (_, (_, (number_passes, _))) = passed in
       (next_number number_passes, new_put _ 1 tasks (inl refl))
   all_in_bounds (kinds.Show c) passed = tt
+  all_in_bounds (kinds.Jumper point from to lockable remote) passed = by_added PutInBounds R (jumper_row point from to lockable remote) tt tt
   -- one record is put
   all_in_bounds _ passed = by_record PutInBounds tt R _ _ (λ r found. (of_record _ r found, tt))
 

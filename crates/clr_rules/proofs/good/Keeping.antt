@@ -8,7 +8,7 @@ use Rattle.clr_csv.specs.declared.employee.StaffRow.{StaffRow}
 use Rattle.clr_rules.specs.Answer.{Answer, known_of, answer_by_checks}
 use Rattle.clr_rules.specs.Commands.{checks, edits_of}
 use Rattle.clr_rules.specs.Checks.{employee, has_role, is_operator}
-use Rattle.clr_rules.specs.EditLaws.{KeepsNetwork, refusal_of}
+use Rattle.clr_rules.specs.EditLaws.{adds_nothing, KeepsNetwork, refusal_of}
 use Rattle.clr_rules.specs.Prelude.{Edit, Command, Kind, HoldKind, HeldOpen, Record, Refusal, Id, same_id, Register, has_in_hand, position_of, record_of, steps_of, is_point_kind, has_hold, after_edits}
 use Rattle.clr_rules.specs.Good.{is_closing_at, is_known_work, is_operators, IsGood}
 use Rattle.clr_rules.specs.GoodByPhase.{IsGoodByPhase, IsInPlace, outlook_of}
@@ -42,8 +42,8 @@ pub same_outlook : (R S : Register) (d : Id) → record_of S.records d ≡ recor
 same_outlook R S d records steps holds hands i = record { clearance = records i; steps = steps i; has = λ kind place. holds kind place i; hand = λ p. hands p i }
 
 -- EDITS KEEP A REGISTER GOOD where they change one clearance so
-pub keeps : (R : Register) (edits : List Edit) (c : Id) → IsGoodByPhase R → Changed R (after_edits edits R) c → IsGoodByPhase (after_edits edits R)
-keeps R edits c good changed = record {
+pub keeps : (R : Register) (edits : List Edit) (c : Id) → adds_nothing edits ≡ true → IsGoodByPhase R → Changed R (after_edits edits R) c → IsGoodByPhase (after_edits edits R)
+keeps R edits c adds_none good changed = record {
   network = rw same.same_net good.network;
   staff = rw same.same_staff good.staff;
   in_place = λ d. rw same.same_net (placed d (same_id d c) refl);
@@ -61,7 +61,7 @@ keeps R edits c good changed = record {
 }
   where
     same : KeepsNetwork R (after_edits edits R)
-    same = edited_all-network R edits good.in_order
+    same = edited_all-network R edits adds_none good.in_order
 
     placed : (d : Id) (b : Bool) → same_id d c ≡ b → IsInPlace R.net (outlook_of (after_edits edits R) d)
     placed d true is = rw (one_id d c is) changed.own

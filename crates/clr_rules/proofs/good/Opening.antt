@@ -18,7 +18,6 @@ use Rattle.clr_net.proofs.ListFacts.{map-map}
 use Rattle.clr_csv.specs.Staff.{IsStaff}
 use Rattle.clr_csv.specs.declared.employee.StaffRow.{StaffRow}
 use Rattle.clr_shelf.specs.Rows.{in_key_order, row_of}
-use Rattle.clr_rules.specs.RunLaws.{KeepsOpening}
 use Rattle.clr_rules.specs.Good.{IsGood, ListsAreInOrder, has_record, is_active_at, is_closing_at, is_known_work}
 use Rattle.clr_rules.specs.Prelude.{Hold, HoldKind, Record, StepRow, Id, has_in_hand, state_key, state_of, record_of, is_waiting, steps_in, steps_of, has_hold}
 use Rattle.clr_rules.specs.Register.{first_state, opening, unplaced_net}
@@ -42,7 +41,7 @@ pub unplaced_names : (points : List PointRow) → point_names (map unplaced poin
 unplaced_names [] = refl
 unplaced_names (p ∷ points) = ap (λ names. p.name ∷ names) (unplaced_names points)
 
-first_keys : (points : List PointRow) → map state_key (map first_state points) ≡ point_names points
+pub first_keys : (points : List PointRow) → map state_key (map first_state points) ≡ point_names points
 first_keys [] = refl
 first_keys (p ∷ points) = ap (λ names. p.name ∷ names) (first_keys points)
 
@@ -101,9 +100,6 @@ opening_is_in_order g staff net = record {
   steps = refl;
   holds = refl;
 }
-
-pub opening_keeps : (g : Grid) (staff : List StaffRow) → KeepsOpening g staff (opening g staff)
-opening_keeps g staff = record { same_net = refl; same_staff = refl; same_points = first_keys g.points }
 
 pub opening_is_good : (g : Grid) (staff : List StaffRow) → IsNetwork g → IsStaff staff → IsGood (opening g staff)
 opening_is_good g staff net is_staff = record {

@@ -13,10 +13,10 @@ use Rattle.clr_shelf.proofs.Keys.{equal}
 use Rattle.clr_shelf.specs.Rows.{with_row}
 use Rattle.clr_rules.specs.Answer.{Answer, known_of, answer_by_checks}
 use Rattle.clr_rules.specs.Commands.{Known, checks, edits_of}
-use Rattle.clr_rules.specs.Changes.{done_edits, step_moved, new_steps, phase_after, point_edits, put_steps, undone_edits}
+use Rattle.clr_rules.specs.Changes.{done_edits, jumper_row, step_moved, new_steps, phase_after, point_edits, put_steps, undone_edits}
 use Rattle.clr_rules.specs.Checks.{not_attested}
 use Rattle.clr_rules.specs.EditLaws.{is_hold, refusal_of}
-use Rattle.clr_rules.specs.Prelude.{Edit, SetHand, PutHold, TakeHold, PutRecord, PutStep, Command, Kind, Hold, Tag, Tested, Phase, Requested, Ordered, Granted, Released, Restoring, Switching, Closed, Record, Refusal, StepRow, Id}
+use Rattle.clr_rules.specs.Prelude.{Edit, PutHold, TakeHold, PutRecord, PutStep, Command, Kind, Hold, Tag, Tested, Phase, Requested, Ordered, Granted, Released, Restoring, Switching, Closed, Record, Refusal, StepRow, Id}
 use Rattle.clr_rules.specs.Prelude.{Register, record_of, is_running, is_granted, is_ordered, step_key, step_key_cmp, all_done, present_steps, step_at, steps_of, hold_cmp, has_any_hold, has_hold, hold_of, places_of, after_edits}
 use Rattle.clr_rules.specs.GoodByPhase.{InPhase, IsGoodByPhase, of_round, outlook_of}
 use Rattle.clr_rules.specs.Hold.{same_hold}
@@ -33,7 +33,7 @@ use Rattle.clr_rules.proofs.edits.Passing.{Pass, all_pass, holder_begun, not_ref
 use Rattle.clr_rules.proofs.good.PhaseFacts.{first_present}
 use Rattle.clr_rules.proofs.good.PlaceFacts.{in_round}
 use Rattle.clr_rules.proofs.edits.PresentSteps.{IsPresent, step_there}
-use Rattle.clr_rules.proofs.edits.PutRows.{AllLeave, AllPutSuch, AnyStep, by_record, by_step, done_put, left_by_all, record_after, steps_leave, steps_put, takes_put}
+use Rattle.clr_rules.proofs.edits.PutRows.{AllLeave, AllPutSuch, AnyStep, by_added, by_record, by_step, done_put, left_by_all, record_after, steps_leave, steps_put, takes_put}
 use Rattle.clr_rules.proofs.lists.RoundSteps.{among_own, record_id}
 
 -- ---- how a clearance comes into a phase
@@ -151,6 +151,8 @@ module _ (R : Register) (k : Known) (by : List ℕ) (at : ℕ) where
   all_came (kinds.Transfer c to emergency) passed = by_record (AllPutSuch (CameSo R (kinds.Transfer c to emergency)) AnyStep) tt R c _ (λ r found.
       (same_phase R (kinds.Transfer c to emergency) r c found to at, tt))
   all_came (kinds.Show c) passed = tt
+  all_came (kinds.Jumper point from to lockable remote) passed =
+      by_added (AllPutSuch (CameSo R (kinds.Jumper point from to lockable remote)) AnyStep) R (jumper_row point from to lockable remote) tt tt
   -- the phase and the holder stay
   all_came kind passed = by_record (AllPutSuch (CameSo R kind) AnyStep) tt R _ _ (λ r found. (same_phase R kind r _ found r.holder at, tt))
 
@@ -298,6 +300,8 @@ module _ (R : Register) (good : IsGoodByPhase R) (c : Id) (p : List ℕ) (k : Kn
   leaves_or_untags (kinds.Amend d n) passed = inl (by_step (AllLeave c Tag p) tt R d n _ (λ r row found step. (tt, (tt, tt))))
   leaves_or_untags (kinds.Switch tasks) passed = inl (tt, steps_leave c Tag p (new_steps _ 1 1 tasks))
   leaves_or_untags (kinds.Show d) passed = inl tt
+  leaves_or_untags (kinds.Jumper point from to lockable remote) passed =
+      inl (by_added (AllLeave c Tag p) R (jumper_row point from to lockable remote) (tt, tt) (tt, (tt, tt)))
   -- the record alone
   leaves_or_untags _ passed = inl (by_record (AllLeave c Tag p) tt R _ _ (λ r found. (tt, tt)))
 

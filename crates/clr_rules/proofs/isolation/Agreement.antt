@@ -9,9 +9,10 @@ use Rattle.clr_net.specs.Names.{has_name}
 use Rattle.clr_net.specs.declared.point.PointRow.{PointRow}
 use Rattle.clr_shelf.proofs.Groups.{filter-with_inside, filter-without_row}
 use Rattle.clr_shelf.specs.Rows.{in_key_order, with_row, without_row}
+use Rattle.clr_rules.specs.EditLaws.{adds_nothing}
 use Rattle.clr_rules.specs.Agreement.{Agree, part_near}
-use Rattle.clr_rules.specs.AgreementLaws.{LeavesAlone, concerning, concerns, is_about, is_new_of}
-use Rattle.clr_rules.specs.Prelude.{Edit, SetPosition, SetHand, PutHold, TakeHold, PutRecord, PutStep, Hold, Record, Id, id_cmp, same_id, Register, greatest_number, record_key, hold_cmp, hold_cmp_total, hold_key, holds_of, after_edit}
+use Rattle.clr_rules.specs.AgreementLaws.{ChangesByMarks, LeavesAlone, concerning, concerns, is_about, is_new_of}
+use Rattle.clr_rules.specs.Prelude.{Edit, SetPosition, SetHand, PutHold, TakeHold, PutRecord, PutStep, AddSection, AddPoint, Hold, Record, Id, id_cmp, same_id, Register, greatest_number, record_key, hold_cmp, hold_cmp_total, hold_key, holds_of, after_edit}
 use Rattle.clr_rules.specs.Prelude.{after_edits}
 use Rattle.clr_rules.specs.Fences.{touching_names}
 use Rattle.clr_net.specs.Fence.{touches}
@@ -24,7 +25,7 @@ use Rattle.clr_rules.proofs.lists.Filters.{filter-kept, filter-no_member, name_s
 use Rattle.clr_rules.proofs.lists.NamedRows.{Contains-filter}
 use Rattle.clr_rules.proofs.edits.Refusing.{edited-has_record}
 use Rattle.clr_rules.proofs.isolation.Sparing.{holds_of-others, holds_of-others_taken}
-use Rattle.clr_rules.proofs.isolation.PartEdits.{others_change_by_marks, part_near-edited_all}
+use Rattle.clr_rules.proofs.isolation.PartEdits.{part_near-edited_all}
 
 -- ---- agreement is an equivalence
 
@@ -69,6 +70,8 @@ mark_alike g h inside same (SetPosition point position) = ap (λ (names : List (
 mark_alike g h inside same (SetHand point hand) = ap (λ (names : List (List ℕ)). has_name names point) same
 mark_alike g h inside same (PutRecord r) = refl
 mark_alike g h inside same (PutStep row) = refl
+mark_alike g h inside same (AddSection row) = refl
+mark_alike g h inside same (AddPoint p) = refl
 mark_alike g h inside same _ = rw same refl
 
 pub marks_alike : (R S : Register) (c : Id) (inside : List ℕ → Bool) → Agree c inside R S
@@ -162,15 +165,19 @@ others_greatest R ordered requester (edit ∷ edits) not_new =
     (not_new-edited R requester edit) edits (All-tail (λ next. is_new_of R.records requester next ≡ false) edit edits not_new))
     ∙ greatest-known R ordered requester edit (All-head (λ next. is_new_of R.records requester next ≡ false) edit edits not_new)
 
+pub no_marks : (R : Register) (c : Id) (inside : List ℕ → Bool) → ChangesByMarks R c inside []
+unfolding after_edits
+no_marks R c inside = refl
+
 -- registers that agree still do after edits of others that leave the same marks in both
 pub same_marks_agree : (R S : Register) → ListsAreInOrder R → ListsAreInOrder S → (c : Id) (inside : List ℕ → Bool) (left right : List Edit)
     → All (λ edit. is_about c edit ≡ false) left → All (λ edit. is_new_of R.records c.requester edit ≡ false) left
     → All (λ edit. is_about c edit ≡ false) right → All (λ edit. is_new_of S.records c.requester edit ≡ false) right
+    → ChangesByMarks R c inside left → ChangesByMarks S c inside right
     → marks_of R.net inside left ≡ marks_of S.net inside right
     → Agree c inside R S → Agree c inside (after_edits left R) (after_edits right S)
-same_marks_agree R S R_order S_order c inside left right left_others left_known right_others right_known marks agree = record {
-  near = others_change_by_marks R R_order c inside left left_others ∙ (λ i. after_edits (marks i) (agree.near i))
-      ∙ sym (others_change_by_marks S S_order c inside right right_others);
+same_marks_agree R S R_order S_order c inside left right left_others left_known right_others right_known left_marks right_marks marks agree = record {
+  near = left_marks ∙ (λ i. after_edits (marks i) (agree.near i)) ∙ sym right_marks;
   own_holds = others_own_holds R R_order c left left_others ∙ agree.own_holds ∙ sym (others_own_holds S S_order c right right_others);
   greatest = others_greatest R R_order c.requester left left_known ∙ agree.greatest ∙ sym (others_greatest S S_order c.requester right right_known);
 }
@@ -181,19 +188,21 @@ marks_none g inside edits none =
 
 -- edits that leave a clearance alone keep agreement
 pub left_alone_agrees : (R : Register) → ListsAreInOrder R → (c : Id) (inside : List ℕ → Bool) (edits : List Edit)
+    → ChangesByMarks R c inside edits
     → All (LeavesAlone c inside R) edits → Agree c inside R (after_edits edits R)
 unfolding after_edits
-left_alone_agrees R ordered c inside edits alone = same_marks_agree R R ordered ordered c inside [] edits
+left_alone_agrees R ordered c inside edits by_marks alone = same_marks_agree R R ordered ordered c inside [] edits
     (All-nil (λ edit. is_about c edit ≡ false)) (All-nil (λ edit. is_new_of R.records c.requester edit ≡ false))
     (All-weaker (LeavesAlone c inside R) (λ edit. is_about c edit ≡ false) (λ edit is. is.of_others) edits alone)
     (All-weaker (LeavesAlone c inside R) (λ edit. is_new_of R.records c.requester edit ≡ false) (λ edit is. is.no_new_number) edits alone)
+    (no_marks R c inside) by_marks
     (sym (marks_none R.net inside edits (All-weaker (LeavesAlone c inside R) (λ edit. is_mark R.net inside edit ≡ false) (λ edit is. is.no_mark) edits alone)))
     (agrees_with_itself c inside R)
 
 pub one_left_alone_agrees : (R : Register) → ListsAreInOrder R → (c : Id) (inside : List ℕ → Bool) (edit : Edit)
-    → LeavesAlone c inside R edit → Agree c inside R (after_edit edit R)
+    → ChangesByMarks R c inside (edit ∷ []) → LeavesAlone c inside R edit → Agree c inside R (after_edit edit R)
 unfolding after_edits
-one_left_alone_agrees R ordered c inside edit alone = left_alone_agrees R ordered c inside (edit ∷ [])
+one_left_alone_agrees R ordered c inside edit by_marks alone = left_alone_agrees R ordered c inside (edit ∷ []) by_marks
     (All-cons (LeavesAlone c inside R) edit [] alone (All-nil (LeavesAlone c inside R)))
 
 -- ---- the same edits in both
@@ -216,13 +225,13 @@ same_greatest R S R_order S_order requester (edit ∷ edits) same =
     (greatest-edited R R_order requester edit ∙ ap (greatest_after requester edit) same ∙ sym (greatest-edited S S_order requester edit))
 
 -- registers that agree still do after the same edits, whatever these are about
-pub same_edits_agree : (R S : Register) → ListsAreInOrder R → ListsAreInOrder S → (c : Id) (inside : List ℕ → Bool) (edits : List Edit)
+pub same_edits_agree : (R S : Register) → ListsAreInOrder R → ListsAreInOrder S → (c : Id) (inside : List ℕ → Bool) (edits : List Edit) → adds_nothing edits ≡ true
     → Agree c inside R S → Agree c inside (after_edits edits R) (after_edits edits S)
-same_edits_agree R S R_order S_order c inside edits agree =
+same_edits_agree R S R_order S_order c inside edits plain agree =
     let same : concerning R.net c inside edits ≡ concerning S.net c inside edits =
     ap (λ (names : List (List ℕ)). filter (concerns c inside (has_name names)) edits) (same_touching R S c inside agree) in
     record {
-      near = part_near-edited_all R R_order c inside edits ∙ (λ i. after_edits (same i) (agree.near i)) ∙ sym (part_near-edited_all S S_order c inside edits);
+      near = part_near-edited_all R R_order c inside edits plain ∙ (λ i. after_edits (same i) (agree.near i)) ∙ sym (part_near-edited_all S S_order c inside edits plain);
       own_holds = same_own_holds R S R_order S_order c edits agree.own_holds;
       greatest = same_greatest R S R_order S_order c.requester edits agree.greatest;
     }

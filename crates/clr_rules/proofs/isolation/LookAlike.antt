@@ -19,7 +19,7 @@ use Rattle.clr_net.proofs.Walks.{one_name}
 use Rattle.clr_csv.specs.declared.employee.StaffRow.{StaffRow}
 use Rattle.clr_shelf.proofs.Lists.{filter-filter_wider}
 use Rattle.clr_rules.specs.Agreement.{Agree, extent_near, part_near}
-use Rattle.clr_rules.specs.Answer.{fence_for, known_of, requester_for}
+use Rattle.clr_rules.specs.Answer.{crossed_for, fence_for, known_of, requester_for}
 use Rattle.clr_rules.specs.Checks.{employee, has_role, is_operator}
 use Rattle.clr_rules.specs.Command.{named_clearance}
 use Rattle.clr_rules.specs.Fences.{clearance_fence, order_fence, touching_names}
@@ -32,6 +32,7 @@ use Rattle.clr_rules.specs.NearLaws.{is_order}
 use Rattle.clr_rules.specs.Shown.{asked_row, covers, fence_to_come, found_phase_requested, includes, is_own_command, is_own_kind}
 use Rattle.clr_rules.specs.declared.command.Kind.TheVariants.{Request, Order, Switch}
 use Rattle.clr_rules.proofs.lists.Filters.{filter-no_member, itself_says, there_mapped}
+use Rattle.clr_rules.proofs.near.NearNamed.{near_named, no_jumper, none_crossed}
 use Rattle.clr_rules.proofs.near.NearParts.{fence_named, not_asked, or_false, request_near, switched_named}
 use Rattle.clr_rules.proofs.near.NearWords.{near_hold_says, touching_says}
 use Rattle.clr_rules.proofs.lists.RoundSteps.{one_id, own_id}
@@ -113,12 +114,12 @@ module _ (R : Register) (c : Id) (orders : SwitchOrdersAreOperators R) (no_opera
       λ p. or_false (beside p) (has_name (switched_points R q.kind) p) (ap (λ (names : List (List ℕ)). has_name names p) none) in
       let listed : (s : List ℕ) → (has_name (fence_for R q.kind) s || is_asked q.kind s) ≡ has_name (fence_for R q.kind) s =
       λ s. or_false (has_name (fence_for R q.kind) s) (is_asked q.kind s) (not_asked q.kind c named s) in
-      λ i. part R (record {
+      near_named R q c named ∙ (λ i. part R (record {
         sections = λ s. listed s i;
         holds_at = has_name (fence_for R q.kind);
         points = λ p. by_fence p i;
         clearance = named i;
-      })
+      }))
 
 -- ---- an own command that names the clearance
 
@@ -161,7 +162,9 @@ module _ (c : Id) (inside : List ℕ → Bool) (R S : Register) (agree : Agree c
         let requester : requester_for q.caller (named_clearance q.kind) ≡ c.requester = ap (requester_for q.caller) named in
         let greatest : greatest_number R.records (requester_for q.caller (named_clearance q.kind)) ≡ greatest_number S.records (requester_for q.caller (named_clearance q.kind)) =
         ap (greatest_number R.records) requester ∙ agree.greatest ∙ ap (greatest_number S.records) (sym requester) in
-        λ i. record { known = record { greatest = greatest i; fence = fence i }; rows = rows i }
+        let crossed : crossed_for R q.kind ≡ crossed_for S q.kind =
+        none_crossed R q.kind (no_jumper q.kind c named) ∙ sym (none_crossed S q.kind (no_jumper q.kind c named)) in
+        λ i. record { known = record { greatest = greatest i; fence = fence i; crossed = crossed i }; rows = rows i }
 
 -- ---- an own request
 
@@ -204,7 +207,7 @@ request_look_alike c inside R S agree R_good S_good by at section own asked =
     let steps = first.no_step ∙ sym second.no_step in
     let holds = first.no_hold ∙ sym second.no_hold in
     λ i. record {
-      known = record { greatest = greatest i; fence = [] };
+      known = record { greatest = greatest i; fence = []; crossed = None };
       rows = record {
         net = record { sections = sections i; points = points i };
         staff = staff i;

@@ -1,36 +1,45 @@
 -- The edits of commands about others spare a clearance.
-use Rattle.std.proofs.Common.{◌≡◌, ℕ, ◌+◌, Bool, true, false, not, List, [], ◌∷◌, ◌++◌, map, Option, Some, None, refl, sym, ◌∙◌, ap}
+use Rattle.std.proofs.Common.{◌≡◌, ℕ, ◌+◌, Bool, true, false, cond, ◌||◌, not, List, [], ◌∷◌, ◌++◌, map, Option, Some, None, is_some, refl, sym, ◌∙◌, ap, subst}
 use Rattle.std.specs.Prelude.{if◌then◌else◌}
-use Rattle.std.proofs.lemmas.Bool.{and_from, false_from_ne_true, not-true, not_from_false, true≢false}
+use Rattle.std.proofs.lemmas.Bool.{and_from, false≢true, false_from_ne_true, not-true, not_from_false, true≢false}
 use Rattle.std.proofs.lemmas.List.Folds.{list_all-append}
+use Rattle.clr_net.specs.Grid.{Grid, point_names, section_names}
+use Rattle.clr_net.specs.Names.{has_name}
+use Rattle.clr_net.specs.declared.point.PointRow.{PointRow}
 use Rattle.clr_net.specs.declared.point.Position.TheVariants.{Closed as Shut}
 use Rattle.clr_order.specs.Step.{Task}
 use Rattle.clr_order.specs.declared.action.Action.{Action}
 use Rattle.clr_order.specs.declared.action.Action.TheVariants as actions
 use Rattle.clr_rules.specs.Answer.{Answer, answer, reply_clearance, first_refusal, known_of, requester_for, answer_by_checks}
 use Rattle.clr_rules.specs.Commands.{Known, checks, edits_of}
-use Rattle.clr_rules.specs.Changes.{done_edits, edits_by, new_steps, point_edits, put_steps, undone_edits, with_record, with_step}
+use Rattle.clr_rules.specs.Changes.{added_edits, done_edits, edits_by, jumper_row, new_section, new_steps, point_edits, put_steps, undone_edits, with_record, with_step}
 use Rattle.clr_rules.specs.Checks.{other_hand, refuse, where_some}
-use Rattle.clr_rules.specs.Command.{named_clearance}
-use Rattle.clr_rules.specs.Prelude.{Edit, SetPosition, SetHand, TakeHold, PutRecord, PutStep, Command, Kind, HeldOpen, Tested, Record, Refusal, StepRow, Id, same_id, Register, hand_of, has_in_hand, greatest_number, record_of}
-use Rattle.clr_rules.specs.Prelude.{is_running, present_steps, step_at, has_hold, hold_of, places_of, after_edits}
+use Rattle.clr_rules.specs.Command.{is_jumper, named_clearance}
+use Rattle.clr_rules.specs.Prelude.{Edit, SetPosition, SetHand, TakeHold, PutRecord, PutStep, AddSection, AddPoint, Command, PointState, state_of, Kind, HeldOpen, Tested, Record, Refusal, StepRow, Id, same_id, Register, hand_of, has_in_hand, greatest_number, record_of}
+use Rattle.clr_rules.specs.Prelude.{is_running, points_of, present_steps, steps_in, step_at, has_hold, hold_of, places_of, after_edits}
+use Rattle.clr_rules.specs.Fences.{clearance_fence, found_fence, work_fence}
 use Rattle.clr_rules.specs.Footprint.{Frame, all_spare, both_or_neither, spares}
 use Rattle.clr_rules.specs.FrameLaws.{is_report, subject_of}
-use Rattle.clr_rules.specs.Good.{HandMatchesStep, IsGoodAsSaid, ListsAreInOrder}
-use Rattle.clr_rules.specs.GoodByPhase.{outlook_of}
+use Rattle.clr_rules.specs.Good.{HandMatchesStep, IsGood, IsGoodAsSaid, ListsAreInOrder, PointsAreKnown}
+use Rattle.clr_rules.specs.GoodByPhase.{of_round, outlook_of}
 use Rattle.clr_rules.specs.Id.{same_id_equiv}
 use Rattle.clr_rules.specs.Isolation.{HeldStayOpen, LeftAlone, is_about_another, is_others}
-use Rattle.clr_rules.specs.Records.{is_switch_order}
+use Rattle.clr_rules.specs.Records.{is_fenced, is_switch_order}
 use Rattle.clr_rules.specs.Run.{after}
-use Rattle.clr_rules.specs.States.{is_hand}
+use Rattle.clr_rules.specs.States.{hand_in, is_hand}
 use Rattle.clr_rules.specs.Steps.{is_close, is_repeated}
 use Rattle.clr_rules.specs.declared.refusal.Refusal.TheVariants.{InHand, StepState as WrongState}
 use Rattle.clr_rules.specs.declared.command.Kind.TheVariants as kinds
 use Rattle.clr_rules.proofs.lists.FoundSteps.{present_step, step_is_active, step_is_closing}
 use Rattle.clr_rules.proofs.lists.NewNumbers.{new_is_another}
+use Rattle.clr_rules.proofs.edits.AddedEdits.{jumper_can}
 use Rattle.clr_rules.proofs.edits.Passing.{all_pass, not_refused_true, role_begun}
-use Rattle.clr_rules.proofs.lists.RoundSteps.{one_id, record_id}
+use Rattle.clr_rules.proofs.lists.RoundSteps.{of_round_is, one_id, record_id}
 use Rattle.clr_rules.proofs.isolation.Sparing.{has_hold-same, sparing_edits_keep_outlook, sparing_edits_leave_alone}
+use Rattle.clr_rules.proofs.edits.EditedLists.{edited_all-network}
+use Rattle.clr_rules.proofs.edits.PlainEdits.{answers_plain}
+use Rattle.clr_rules.proofs.keeps.Jumper.{jumpers_keep_fences}
+use Rattle.clr_rules.proofs.lists.StateFacts.{state_is_known}
 use Rattle.clr_rules.proofs.lists.StepSplits.{repeated_is_active}
 
 -- ---- hands of another
@@ -124,43 +133,82 @@ module _ (c : Id) (R : Register) (d : Id) (row : StepRow) (n : ℕ) (matches : H
   report_spares at false r own step =
       and_from _ _ (spares_hand c R row.step.point None reported_hand refl) (and_from _ _ own (and_from _ _ step refl))
 
+-- ---- a point that is added
+
+module _ (c : Id) (R : Register) (p : PointRow) (known : PointsAreKnown R) (new : has_name (point_names (Grid.points R.net)) p.name ≡ false) where
+  -- a name that no point has is in nobody's hand
+  new_in_no_hand : has_in_hand R.states c p.name ≡ false
+  new_in_no_hand = at (state_of R.states p.name) refl
+    where
+      unknown : is_some (state_of R.states p.name) ≡ false
+      unknown = state_is_known R.states p.name ∙ ap (λ (names : List (List ℕ)). has_name names p.name) known.states ∙ new
+
+      at : (found : Option PointState) → state_of R.states p.name ≡ found → is_hand c (hand_in found) ≡ false
+      at None is = refl
+      at (Some state) is = absurd (false≢true (sym unknown ∙ ap is_some is))
+
+  added_spare : all_spare c R (added_edits R p) ≡ true
+  added_spare = at (has_name (section_names (Grid.sections R.net)) p.to_end)
+    where
+      at : (b : Bool) → all_spare c R (cond b (AddPoint p ∷ []) (AddSection (new_section p.to_end) ∷ AddPoint p ∷ [])) ≡ true
+      at true = and_from _ _ (not_from_false _ new_in_no_hand) refl
+      at false = and_from _ _ (not_from_false _ new_in_no_hand) refl
+
 -- ---- each kind of command
 
 module _ (c : Id) (R : Register) (k : Known) (by : List ℕ) (at : ℕ) where
   -- where no check applies, all but the clearance that the command is about are spared
-  edits_spare : (kind : Kind) → (is_report kind ≡ true → HandMatchesStep R) → not (same_id c (reply_clearance k.greatest by (named_clearance kind))) ≡ true
+  edits_spare : (kind : Kind) → is_jumper kind ≡ false → (is_report kind ≡ true → HandMatchesStep R) → not (same_id c (reply_clearance k.greatest by (named_clearance kind))) ≡ true
       → first_refusal (checks k R by at kind) ≡ None → all_spare c R (edits_of k.greatest R by at kind) ≡ true
-  edits_spare (kinds.Request section) matches others passed = and_from _ _ others refl
-  edits_spare (kinds.Order d points tasks) matches others passed =
+  edits_spare (kinds.Request section) plain matches others passed = and_from _ _ others refl
+  edits_spare (kinds.Order d points tasks) plain matches others passed =
       by_record c R d _ others (λ r own. and_from _ _ own (steps_spare c R d 1 1 tasks others))
-  edits_spare (kinds.Instruct d n) matches others passed = by_step c R d n _ others (λ r row found own step.
+  edits_spare (kinds.Instruct d n) plain matches others passed = by_step c R d n _ others (λ r row found own step.
       let (_, _, _, (_, (_, (_, (hand_passes, _))))) = role_begun R d is_running (all_pass (checks k R by at (kinds.Instruct d n)) passed) in
       let free : other_hand d (hand_of R.states row.step.point) ≡ None =
       check_of_found (step_at (present_steps R.steps d) n) row (λ row. other_hand d (hand_of R.states row.step.point)) found hand_passes in
       and_from _ _ (spares_hand c R row.step.point (Some d) (no_other_hand c d (hand_of R.states row.step.point) (not-true (same_id c d) others) free) (not-true (same_id c d) others))
       (and_from _ _ own (and_from _ _ step refl)))
-  edits_spare (kinds.Repeat d n text) matches others passed =
+  edits_spare (kinds.Repeat d n text) plain matches others passed =
       by_step c R d n _ others (λ r row found own step. and_from _ _ own (and_from _ _ step refl))
-  edits_spare (kinds.Report d n done) matches others passed = by_step c R d n _ others (λ r row found own step.
+  edits_spare (kinds.Report d n done) plain matches others passed = by_step c R d n _ others (λ r row found own step.
       let (_, _, _, (_, (state_passes, _))) = role_begun R d is_running (all_pass (checks k R by at (kinds.Report d n done)) passed) in
       let check : refuse (not (is_repeated row.step.state)) WrongState ≡ None =
       check_of_found (step_at (present_steps R.steps d) n) row (λ row. refuse (not (is_repeated row.step.state)) WrongState) found
       state_passes in
       report_spares c R d row n (matches refl) others found (not_refused_true (is_repeated row.step.state) WrongState check) at done r own step)
-  edits_spare (kinds.Test d section true) matches others passed = by_record c R d _ others (λ r own. and_from _ _ others (and_from _ _ own refl))
-  edits_spare (kinds.Test d section false) matches others passed = by_record c R d _ others (λ r own. and_from _ _ others (and_from _ _ own refl))
-  edits_spare (kinds.Release d notified clear) matches others passed = by_record c R d _ others (λ r own.
+  edits_spare (kinds.Test d section true) plain matches others passed = by_record c R d _ others (λ r own. and_from _ _ others (and_from _ _ own refl))
+  edits_spare (kinds.Test d section false) plain matches others passed = by_record c R d _ others (λ r own. and_from _ _ others (and_from _ _ own refl))
+  edits_spare (kinds.Release d notified clear) plain matches others passed = by_record c R d _ others (λ r own.
       list_all-append (spares c R) (map (λ place. TakeHold (hold_of d Tested place)) (places_of R.holds d Tested)) _
       ∙ and_from _ _ (takes_spare c R d (places_of R.holds d Tested) others) (and_from _ _ own refl))
-  edits_spare (kinds.Restore d tasks) matches others passed =
+  edits_spare (kinds.Restore d tasks) plain matches others passed =
       by_record c R d _ others (λ r own. and_from _ _ own (steps_spare c R d 2 1 tasks others))
-  edits_spare (kinds.Amend d n) matches others passed =
+  edits_spare (kinds.Amend d n) plain matches others passed =
       by_step c R d n _ others (λ r row found own step. and_from _ _ own (and_from _ _ step refl))
-  edits_spare (kinds.Switch tasks) matches others passed =
+  edits_spare (kinds.Switch tasks) plain matches others passed =
       and_from _ _ others (steps_spare c R (reply_clearance k.greatest by None) 1 1 tasks others)
-  edits_spare (kinds.Show d) matches others passed = refl
+  edits_spare (kinds.Show d) plain matches others passed = refl
+  edits_spare (kinds.Jumper point from to lockable remote) plain matches others passed = cc plain
   -- holds of the clearance, and its record
-  edits_spare _ matches others passed = by_record c R _ _ others (λ r own. simp (others, own))
+  edits_spare _ plain matches others passed = by_record c R _ _ others (λ r own. simp (others, own))
+
+  -- a jumper that no check refuses adds a point of a new name, which is in nobody's hand
+  jumper_spares : (kind : Kind) → is_jumper kind ≡ true → PointsAreKnown R → first_refusal (checks k R by at kind) ≡ None
+      → all_spare c R (edits_of k.greatest R by at kind) ≡ true
+  jumper_spares (kinds.Jumper point from to lockable remote) is known passed =
+      added_spare c R (jumper_row point from to lockable remote) known
+      (jumper_can k R by at point from to lockable remote (all_pass (checks k R by at (kinds.Jumper point from to lockable remote)) passed)).new
+  jumper_spares _ is known passed = cc is
+
+  all_edits_spare : (kind : Kind) → (is_report kind ≡ true → HandMatchesStep R) → (is_jumper kind ≡ true → PointsAreKnown R)
+      → (is_jumper kind ≡ false → not (same_id c (reply_clearance k.greatest by (named_clearance kind))) ≡ true)
+      → first_refusal (checks k R by at kind) ≡ None → all_spare c R (edits_of k.greatest R by at kind) ≡ true
+  all_edits_spare kind matches known others passed = split (is_jumper kind) refl
+    where
+      split : (b : Bool) → is_jumper kind ≡ b → all_spare c R (edits_of k.greatest R by at kind) ≡ true
+      split true is = jumper_spares kind is (known is) passed
+      split false is = edits_spare kind is matches (others is) passed
 
 -- a command about another is about another
 concerned_is_another : (c : Id) (R : Register) (by : List ℕ) (greatest : ℕ) (named : Option Id) → greatest ≡ greatest_number R.records (requester_for by named)
@@ -169,51 +217,82 @@ concerned_is_another c R by greatest None is others = not_from_false _ (new_is_a
 concerned_is_another c R by greatest (Some d) is others = others
 
 settled_spares : (c : Id) (R : Register) (q : Command) (found : Option Refusal) → first_refusal (checks (known_of R q) R q.caller q.moment q.kind) ≡ found
-    → (is_report q.kind ≡ true → HandMatchesStep R) → not (same_id c (subject_of R q)) ≡ true
+    → (is_report q.kind ≡ true → HandMatchesStep R) → (is_jumper q.kind ≡ true → PointsAreKnown R) → (is_jumper q.kind ≡ false → not (same_id c (subject_of R q)) ≡ true)
     → all_spare c R (Answer.edits (answer_by_checks (known_of R q) R q found)) ≡ true
-settled_spares c R q None passed matches others = edits_spare c R (known_of R q) q.caller q.moment q.kind matches others passed
-settled_spares c R q (Some refusal) passed matches others = refl
+settled_spares c R q None passed matches known others = all_edits_spare c R (known_of R q) q.caller q.moment q.kind matches known others passed
+settled_spares c R q (Some refusal) passed matches known others = refl
 
-answers_spare : (R : Register) (c : Id) (q : Command) → (is_report q.kind ≡ true → HandMatchesStep R) → not (same_id c (subject_of R q)) ≡ true
+answers_spare : (R : Register) (c : Id) (q : Command) → (is_report q.kind ≡ true → HandMatchesStep R) → (is_jumper q.kind ≡ true → PointsAreKnown R)
+    → (is_jumper q.kind ≡ false → not (same_id c (subject_of R q)) ≡ true)
     → all_spare c R (Answer.edits (answer R q)) ≡ true
-answers_spare R c q matches others =
-    settled_spares c R q (first_refusal (checks (known_of R q) R q.caller q.moment q.kind)) refl matches others
+answers_spare R c q matches known others =
+    settled_spares c R q (first_refusal (checks (known_of R q) R q.caller q.moment q.kind)) refl matches known others
 
-pub others_edits_spare : (R : Register) (c : Id) (q : Command) → (is_report q.kind ≡ true → HandMatchesStep R) → is_others c R q ≡ true
+pub others_edits_spare : (R : Register) (c : Id) (q : Command) → (is_report q.kind ≡ true → HandMatchesStep R) → (is_jumper q.kind ≡ true → PointsAreKnown R)
+    → is_others c R q ≡ true
     → all_spare c R (Answer.edits (answer R q)) ≡ true
-others_edits_spare R c q matches others =
-    answers_spare R c q matches (concerned_is_another c R q.caller (Known.greatest (known_of R q)) (named_clearance q.kind) refl others)
+others_edits_spare R c q matches known others = answers_spare R c q matches known (λ plain.
+    concerned_is_another c R q.caller (Known.greatest (known_of R q)) (named_clearance q.kind) refl
+    (subst (λ (b : Bool). (b || is_about_another c R q.caller (named_clearance q.kind)) ≡ true) plain others))
 
 -- ---- what is left alone
 
 -- where no check applies, the outlook of every clearance stays but that of the one that the command is about
-pub edits_keep_others : (R : Register) (k : Known) (by : List ℕ) (at : ℕ) (kind : Kind) → ListsAreInOrder R → HandMatchesStep R
+pub edits_keep_others : (R : Register) (k : Known) (by : List ℕ) (at : ℕ) (kind : Kind) → ListsAreInOrder R → HandMatchesStep R → PointsAreKnown R
     → first_refusal (checks k R by at kind) ≡ None → (c : Id) → same_id c (reply_clearance k.greatest by (named_clearance kind)) ≡ false
     → outlook_of (after_edits (edits_of k.greatest R by at kind) R) c ≡ outlook_of R c
-edits_keep_others R k by at kind ordered matches passed c differs =
+edits_keep_others R k by at kind ordered matches known passed c differs =
     sparing_edits_keep_outlook c R (edits_of k.greatest R by at kind) ordered
-    (edits_spare c R k by at kind (λ _. matches) (not_from_false _ differs) passed)
+    (all_edits_spare c R k by at kind (λ _. matches) (λ _. known) (λ _. not_from_false _ differs) passed)
 
-pub one_outlook_changes : (R : Register) (c : Id) (q : Command) → ListsAreInOrder R → HandMatchesStep R → same_id c (subject_of R q) ≡ false
+pub one_outlook_changes : (R : Register) (c : Id) (q : Command) → ListsAreInOrder R → HandMatchesStep R → PointsAreKnown R → same_id c (subject_of R q) ≡ false
     → outlook_of (after R q) c ≡ outlook_of R c
-one_outlook_changes R c q ordered matches differs =
-    sparing_edits_keep_outlook c R (Answer.edits (answer R q)) ordered (answers_spare R c q (λ _. matches) (not_from_false _ differs))
+one_outlook_changes R c q ordered matches known differs =
+    sparing_edits_keep_outlook c R (Answer.edits (answer R q)) ordered (answers_spare R c q (λ _. matches) (λ _. known) (λ _. not_from_false _ differs))
 
-pub others_keep_outlook : (R : Register) (c : Id) (q : Command) → ListsAreInOrder R → HandMatchesStep R → is_others c R q ≡ true
+pub others_keep_outlook : (R : Register) (c : Id) (q : Command) → ListsAreInOrder R → HandMatchesStep R → PointsAreKnown R → is_others c R q ≡ true
     → outlook_of (after R q) c ≡ outlook_of R c
-others_keep_outlook R c q ordered matches others =
-    sparing_edits_keep_outlook c R (Answer.edits (answer R q)) ordered (others_edits_spare R c q (λ _. matches) others)
+others_keep_outlook R c q ordered matches known others =
+    sparing_edits_keep_outlook c R (Answer.edits (answer R q)) ordered (others_edits_spare R c q (λ _. matches) (λ _. known) others)
 
-pub others_spare : (R : Register) (c : Id) (q : Command) → IsGoodAsSaid R → is_others c R q ≡ true → Frame c R (after R q)
-others_spare R c q good others =
-    sparing_edits_leave_alone c R (Answer.edits (answer R q)) good.in_order (others_edits_spare R c q (λ _. good.hand_matches_step) others)
+pub others_spare : (R : Register) (c : Id) (q : Command) → IsGoodAsSaid R → PointsAreKnown R → is_others c R q ≡ true → Frame c R (after R q)
+others_spare R c q good known others =
+    sparing_edits_leave_alone c R (Answer.edits (answer R q)) good.in_order (others_edits_spare R c q (λ _. good.hand_matches_step) (λ _. known) others)
 
-pub others_keep_held_open : (R : Register) (c : Id) (q : Command) → IsGoodAsSaid R → is_others c R q ≡ true → HeldStayOpen c (after R q)
-others_keep_held_open R c q good others p held =
-    let frame = others_spare R c q good others in
+pub others_keep_held_open : (R : Register) (c : Id) (q : Command) → IsGoodAsSaid R → PointsAreKnown R → is_others c R q ≡ true → HeldStayOpen c (after R q)
+others_keep_held_open R c q good known others p held =
+    let frame = others_spare R c q good known others in
     let held_before : has_hold R.holds c HeldOpen p ≡ true =
     sym (has_hold-same R.holds (Register.holds (after R q)) c HeldOpen p frame.same_holds) ∙ held in
     frame.closes_nothing p held_before (good.held_points_are_open.open_there c HeldOpen p refl held_before)
 
-pub others_left_alone : (R : Register) (c : Id) (q : Command) → IsGoodAsSaid R → is_others c R q ≡ true → LeftAlone c R (after R q)
-others_left_alone R c q good others = record { frame = others_spare R c q good others; held_open = others_keep_held_open R c q good others }
+-- ---- its fence
+
+-- where the network stays, what is left alone of a clearance keeps its fence
+fence_kept : (c : Id) (R S : Register) → Frame c R S → S.net ≡ R.net → clearance_fence S c ≡ clearance_fence R c
+fence_kept c R S frame net = ap (found_fence S.net S.steps) frame.same_record ∙ at (record_of R.records c) refl
+  where
+    at : (found : Option Record) → record_of R.records c ≡ found → found_fence S.net S.steps found ≡ found_fence R.net R.steps found
+    at None is = refl
+    at (Some r) is =
+        let own = record_id R.records c r is in
+        let steps : steps_in S.steps r.id 1 ≡ steps_in R.steps r.id 1 =
+        ap (λ (id : Id). steps_in S.steps id 1) own ∙ sym (of_round_is S.steps c 1) ∙ ap (λ rows. of_round rows 1) frame.same_steps
+        ∙ of_round_is R.steps c 1 ∙ ap (λ (id : Id). steps_in R.steps id 1) (sym own) in
+        λ i. if is_fenced r.phase then work_fence (net i) r.work (points_of (steps i)) else []
+
+-- a command of others leaves a fence as it is: a jumper crosses none, and no other command adds anything
+others_keep_fence : (R : Register) (c : Id) (q : Command) → IsGood R → is_others c R q ≡ true → clearance_fence (after R q) c ≡ clearance_fence R c
+others_keep_fence R c q good others = at (is_jumper q.kind) refl
+  where
+    at : (b : Bool) → is_jumper q.kind ≡ b → clearance_fence (after R q) c ≡ clearance_fence R c
+    at true is = jumpers_keep_fences R q c good is
+    at false is = fence_kept c R (after R q) (others_spare R c q good.said good.besides.points_known others)
+        (edited_all-network R (Answer.edits (answer R q)) (answers_plain R q is) good.said.in_order).same_net
+
+pub others_left_alone : (R : Register) (c : Id) (q : Command) → IsGood R → is_others c R q ≡ true → LeftAlone c R (after R q)
+others_left_alone R c q good others = record {
+  frame = others_spare R c q good.said good.besides.points_known others;
+  held_open = others_keep_held_open R c q good.said good.besides.points_known others;
+  same_fence = others_keep_fence R c q good others;
+}

@@ -1,27 +1,41 @@
 -- Registers that agree near a clearance still do after commands of others.
-use Rattle.std.proofs.Common.{◌≡◌, ℕ, Bool, true, false, not, List, [], ◌∷◌, Option, Some, None, is_some, refl, sym, ◌∙◌, ap, subst}
+use Rattle.std.proofs.Common.{◌≡◌, ℕ, Bool, true, false, cond, ◌&&◌, not, List, [], ◌∷◌, Option, Some, None, is_some, refl, sym, ◌∙◌, ap, subst}
 use Rattle.std.specs.List.{Contains}
-use Rattle.std.proofs.lemmas.Bool.{and_parts, both_ways, false≢true, false_from_ne_true, not-true, not-false, not_from_false, or_left, or_parts}
+use Rattle.std.proofs.lemmas.Bool.{and_parts, both_ways, false≢true, false_from_ne_true, not-true, not-false, not_from_false, or_left, or_parts, or_right}
 use Rattle.std.proofs.lemmas.List.Elements.{All-contains_itself, All-nil, All-weaker}
+use Rattle.clr_net.specs.Additions.{fits_point, fits_section, with_section}
+use Rattle.clr_net.specs.Grid.{Grid, section_names}
 use Rattle.clr_net.specs.Name.{same_name}
+use Rattle.clr_net.specs.Names.{has_name}
+use Rattle.clr_net.specs.declared.point.PointRow.{PointRow}
 use Rattle.clr_net.proofs.Walks.{one_name}
 use Rattle.clr_csv.specs.declared.employee.StaffRow.{StaffRow}
 use Rattle.clr_order.specs.Step.{Task}
 use Rattle.clr_shelf.proofs.Lists.{list_all-contains}
+use Rattle.clr_rules.proofs.edits.AddedEdits.{added_edits_fit, jumper_can}
+use Rattle.clr_rules.proofs.edits.PlainEdits.{answers_plain}
+use Rattle.clr_rules.proofs.good.Keeping.{asked}
+use Rattle.clr_rules.proofs.isolation.Additions.{added_points_are_free, additions_change_by_marks}
+use Rattle.clr_rules.proofs.isolation.Agreement.{no_marks}
+use Rattle.clr_rules.proofs.isolation.PartEdits.{others_change_by_marks}
 use Rattle.clr_rules.specs.Agreement.{Agree}
-use Rattle.clr_rules.specs.AgreementLaws.{is_about, is_new_of}
+use Rattle.clr_rules.specs.AgreementLaws.{ChangesByMarks, is_about, is_new_of}
 use Rattle.clr_rules.specs.Answer.{Answer, answer, first_refusal, known_of, answer_by_checks}
+use Rattle.clr_rules.specs.AdditionLaws.{IsFree}
+use Rattle.clr_rules.specs.Changes.{jumper_row, new_section}
 use Rattle.clr_rules.specs.Commands.{Known, checks}
 use Rattle.clr_rules.specs.Checks.{employee, has_role, is_operator, refuse, where_some}
-use Rattle.clr_rules.specs.Command.{named_clearance}
-use Rattle.clr_rules.specs.Prelude.{Edit, SetPosition, SetHand, PutHold, TakeHold, PutRecord, PutStep, Command, Kind, Record, Refusal, Id, same_id, Register, after_edits}
+use Rattle.clr_rules.specs.Command.{is_jumper, named_clearance}
+use Rattle.clr_rules.specs.EditLaws.{refusal_of}
+use Rattle.clr_rules.specs.Edits.{fit}
+use Rattle.clr_rules.specs.Prelude.{Edit, SetPosition, SetHand, PutHold, TakeHold, PutRecord, PutStep, AddSection, AddPoint, Command, Kind, Record, Refusal, Id, same_id, Register, after_edits}
 use Rattle.clr_rules.specs.Footprint.{spares}
-use Rattle.clr_rules.specs.Good.{HandMatchesStep, ListsAreInOrder, has_record, is_operators}
+use Rattle.clr_rules.specs.Good.{HandMatchesStep, IsGoodAsSaid, ListsAreInOrder, PointsAreKnown, has_record, is_operators}
 use Rattle.clr_rules.specs.Isolation.{AreAlike, is_about_another, is_others}
 use Rattle.clr_rules.specs.Run.{after}
 use Rattle.clr_rules.specs.Shown.{is_own_command, is_own_kind, marks_of}
 use Rattle.clr_rules.specs.StepLaws.{AreOfOthers}
-use Rattle.clr_rules.specs.declared.command.Kind.TheVariants.{Request, Switch}
+use Rattle.clr_rules.specs.declared.command.Kind.TheVariants.{Jumper, Request, Switch}
 use Rattle.clr_rules.specs.declared.refusal.Refusal.TheVariants.{UnknownCaller, WrongRole}
 use Rattle.clr_rules.proofs.isolation.Agreement.{agrees_on, agrees_with_itself, same_edits_agree, same_marks_agree}
 use Rattle.clr_rules.proofs.isolation.OthersEdits.{others_edits_spare}
@@ -37,19 +51,25 @@ has_role_from None known fit = absurd (false≢true (not_refused_true false Unkn
 has_role_from (Some row) known fit = not_refused_true (is_operator row.role) WrongRole fit
 
 module _ (c : Id) (R : Register) (no_operator : is_operators R c.requester ≡ false) (k : Known) (by : List ℕ) (at : ℕ) where
-  -- who gives an accepted switch order is an operator, and so not the requester of the clearance
+  -- an operator is not the requester of the clearance
+  operator_is_another : is_operators R by ≡ true → same_name c.requester by ≡ false
+  operator_is_another operator = false_from_ne_true (same_name c.requester by) (λ same.
+      both_ways (is_operators R c.requester) no_operator (ap (is_operators R) (one_name c.requester by same) ∙ operator))
+
+  -- who gives an accepted switch order is one, and who lays a jumper
   switcher_is_another : (tasks : List Task) → first_refusal (checks k R by at (Switch tasks)) ≡ None → same_name c.requester by ≡ false
   switcher_is_another tasks passed =
       let pass = all_pass (checks k R by at (Switch tasks)) passed in
-      let operator : is_operators R by ≡ true = has_role_from (employee R.staff by) pass.0 pass.1.0 in
-      false_from_ne_true (same_name c.requester by) (λ same.
-      both_ways (is_operators R c.requester) no_operator (ap (is_operators R) (one_name c.requester by same) ∙ operator))
+      operator_is_another (has_role_from (employee R.staff by) pass.0 pass.1.0)
 
   -- who gives an accepted command of others that makes a new clearance is another than the requester
   caller_is_another : (kind : Kind) → named_clearance kind ≡ None → is_own_kind c by kind None ≡ false → first_refusal (checks k R by at kind) ≡ None
       → same_name c.requester by ≡ false
   caller_is_another (Request section) none others passed = others
   caller_is_another (Switch tasks) none others passed = switcher_is_another tasks passed
+  caller_is_another (Jumper point from to lockable remote) none others passed =
+      let pass = all_pass (checks k R by at (Jumper point from to lockable remote)) passed in
+      operator_is_another (has_role_from (employee R.staff by) pass.0 pass.1.0)
   caller_is_another _ none others passed = cc
 
   -- so an accepted command of others is about another clearance
@@ -78,15 +98,17 @@ spared_is_not_about c R (PutHold h) spared = not-true (same_id c h.id) spared
 spared_is_not_about c R (TakeHold h) spared = not-true (same_id c h.id) spared
 spared_is_not_about c R (PutRecord r) spared = not-true (same_id c r.id) spared
 spared_is_not_about c R (PutStep row) spared = not-true (same_id c row.id) spared
+spared_is_not_about c R (AddSection row) spared = refl
+spared_is_not_about c R (AddPoint p) spared = refl
 
-module _ (c : Id) (R : Register) (q : Command) (matches : HandMatchesStep R) (no_operator : is_operators R c.requester ≡ false)
+module _ (c : Id) (R : Register) (q : Command) (matches : HandMatchesStep R) (known : PointsAreKnown R) (no_operator : is_operators R c.requester ≡ false)
     (others : is_own_command c q ≡ false) (passed : first_refusal (checks (known_of R q) R q.caller q.moment q.kind) ≡ None) where
   -- a record of the requester that is put was there: the command is about it
   put_was_there : (r : Record) → Contains (Answer.edits (answer R q)) (PutRecord r) → same_name c.requester r.id.requester ≡ true → has_record R.records r.id ≡ true
   put_was_there r there own = has_record_there c R no_operator (known_of R q) q.caller q.moment r.id own q.kind (named_clearance q.kind) refl others passed
-      (false_from_ne_true (is_others r.id R q) (λ another.
+      (or_parts (is_jumper q.kind) (is_about_another r.id R q.caller (named_clearance q.kind)) (false_from_ne_true (is_others r.id R q) (λ another.
       both_ways (same_id r.id r.id) (not-true (same_id r.id r.id)
-      (list_all-contains (spares r.id R) (Answer.edits (answer R q)) (PutRecord r) (others_edits_spare R r.id q (λ _. matches) another) there)) (own_id r.id)))
+      (list_all-contains (spares r.id R) (Answer.edits (answer R q)) (PutRecord r) (others_edits_spare R r.id q (λ _. matches) (λ _. known) another) there)) (own_id r.id)))).1
 
   known_put : (r : Record) → Contains (Answer.edits (answer R q)) (PutRecord r) → is_new_of R.records c.requester (PutRecord r) ≡ false
   known_put r there = false_from_ne_true (is_new_of R.records c.requester (PutRecord r)) (λ new.
@@ -100,7 +122,7 @@ module _ (c : Id) (R : Register) (q : Command) (matches : HandMatchesStep R) (no
   accepted_of_others : AreOfOthers c R q
   accepted_of_others =
       let another = about_another c R no_operator (known_of R q) q.caller q.moment q.kind (named_clearance q.kind) refl others passed in
-      let all = others_edits_spare R c q (λ _. matches) another in
+      let all = others_edits_spare R c q (λ _. matches) (λ _. known) (or_right (is_jumper q.kind) _ another) in
       record {
         of_others = All-weaker (Contains (Answer.edits (answer R q))) (λ edit. is_about c edit ≡ false)
             (λ edit there. spared_is_not_about c R edit (list_all-contains (spares c R) (Answer.edits (answer R q)) edit all there))
@@ -115,12 +137,50 @@ refused_of_others c R q none = record {
   no_new_number = rw none (All-nil (λ edit. is_new_of R.records c.requester edit ≡ false));
 }
 
-pub others_edits : (R : Register) (c : Id) (q : Command) → HandMatchesStep R → is_operators R c.requester ≡ false → is_own_command c q ≡ false → AreOfOthers c R q
-others_edits R c q matches no_operator others = by (first_refusal (checks (known_of R q) R q.caller q.moment q.kind)) refl
+pub others_edits : (R : Register) (c : Id) (q : Command) → HandMatchesStep R → PointsAreKnown R → is_operators R c.requester ≡ false → is_own_command c q ≡ false
+    → AreOfOthers c R q
+others_edits R c q matches known no_operator others = by (first_refusal (checks (known_of R q) R q.caller q.moment q.kind)) refl
   where
     by : (found : Option Refusal) → first_refusal (checks (known_of R q) R q.caller q.moment q.kind) ≡ found → AreOfOthers c R q
-    by None passed = accepted_of_others c R q matches no_operator others passed
+    by None passed = accepted_of_others c R q matches known no_operator others passed
     by (Some refusal) refused = refused_of_others c R q (ap (λ found. Answer.edits (answer_by_checks (known_of R q) R q found)) refused)
+
+-- ---- what they change
+
+-- what an answer adds is marked where it concerns what stands near a clearance
+module _ (R : Register) (good : IsGoodAsSaid R) (points : PointsAreKnown R) (c : Id) (inside : List ℕ → Bool) where
+  added_by_marks : (p : PointRow) → IsFree R p.name → (b : Bool)
+      → fit R.net (cond b (AddPoint p ∷ []) (AddSection (new_section p.to_end) ∷ AddPoint p ∷ [])) ≡ true
+      → ChangesByMarks R c inside (cond b (AddPoint p ∷ []) (AddSection (new_section p.to_end) ∷ AddPoint p ∷ []))
+  unfolding fit
+  added_by_marks p free true fits = additions_change_by_marks.point R good.network good.in_order p free c inside
+  added_by_marks p free false fits =
+      let row = new_section p.to_end in
+      additions_change_by_marks.both R good.network good.in_order row
+      (and_parts (fits_section R.net row) (fits_point (with_section row R.net) p && true) fits).0 p free c inside
+
+  jumper_by_marks : (point from to : List ℕ) (lockable remote : Bool) (by : List ℕ) (at : ℕ) (found : Option Refusal)
+      → refusal_of R (asked by at (Jumper point from to lockable remote)) ≡ found
+      → ChangesByMarks R c inside (Answer.edits (answer_by_checks (known_of R (asked by at (Jumper point from to lockable remote))) R
+      (asked by at (Jumper point from to lockable remote)) found))
+  jumper_by_marks point from to lockable remote by at None passed =
+      let p = jumper_row point from to lockable remote in
+      let k = known_of R (asked by at (Jumper point from to lockable remote)) in
+      let can = jumper_can k R by at point from to lockable remote (all_pass (checks k R by at (Jumper point from to lockable remote)) passed) in
+      added_by_marks p (added_points_are_free R good points p.name can.new) (has_name (section_names (Grid.sections R.net)) to) (added_edits_fit R good.network p can)
+  jumper_by_marks point from to lockable remote by at (Some refusal) is = no_marks R c inside
+
+  jumpers_change_by_marks : (by : List ℕ) (at : ℕ) (kind : Kind) → is_jumper kind ≡ true → ChangesByMarks R c inside (Answer.edits (answer R (asked by at kind)))
+  jumpers_change_by_marks by at (Jumper point from to lockable remote) is =
+      jumper_by_marks point from to lockable remote by at (refusal_of R (asked by at (Jumper point from to lockable remote))) refl
+  jumpers_change_by_marks by at _ is = cc is
+
+  answers_change_by_marks : (q : Command) → AreOfOthers c R q → ChangesByMarks R c inside (Answer.edits (answer R q))
+  answers_change_by_marks q of = split (is_jumper q.kind) refl
+    where
+      split : (b : Bool) → is_jumper q.kind ≡ b → ChangesByMarks R c inside (Answer.edits (answer R q))
+      split true is = jumpers_change_by_marks q.caller q.moment q.kind is
+      split false is = others_change_by_marks R good.in_order c inside (Answer.edits (answer R q)) (answers_plain R q is) of.of_others
 
 -- ---- the steps
 
@@ -129,54 +189,58 @@ same_staff : (R S : Register) (c : Id) (inside : List ℕ → Bool) → Agree c 
 same_staff R S c inside agree = ap (λ (P : Register). P.staff) agree.near
 
 module _ (c : Id) (inside : List ℕ → Bool) (R S : Register) (commands : List Command) (alike : AreAlike c inside R S commands) where
-  in_first : (q : Command) → is_own_command c q ≡ false → AreOfOthers c R q
-  in_first q others = others_edits R c q alike.first_good.hand_matches_step alike.no_operator others
+  in_first : PointsAreKnown R → (q : Command) → is_own_command c q ≡ false → AreOfOthers c R q
+  in_first known q others = others_edits R c q alike.first_good.hand_matches_step known alike.no_operator others
 
-  in_second : (q : Command) → is_own_command c q ≡ false → AreOfOthers c S q
-  in_second q others = others_edits S c q alike.second_good.hand_matches_step
+  in_second : PointsAreKnown S → (q : Command) → is_own_command c q ≡ false → AreOfOthers c S q
+  in_second known q others = others_edits S c q alike.second_good.hand_matches_step known
       (ap (λ (staff : List StaffRow). has_role is_operator (employee staff c.requester)) (sym (same_staff R S c inside alike.agree)) ∙ alike.no_operator) others
 
   -- one command of others on each side, with the same marks
-  pub both_step : (q p : Command) → is_own_command c q ≡ false → is_own_command c p ≡ false
+  pub both_step : PointsAreKnown R → PointsAreKnown S → (q p : Command) → is_own_command c q ≡ false → is_own_command c p ≡ false
       → marks_of R.net inside (Answer.edits (answer R q)) ≡ marks_of S.net inside (Answer.edits (answer S p)) → Agree c inside (after R q) (after S p)
-  both_step q p q_others p_others marks =
-      let left = in_first q q_others in
-      let right = in_second p p_others in
+  both_step first_known second_known q p q_others p_others marks =
+      let left = in_first first_known q q_others in
+      let right = in_second second_known p p_others in
       same_marks_agree R S alike.first_good.in_order alike.second_good.in_order c inside (Answer.edits (answer R q)) (Answer.edits (answer S p))
-      left.of_others left.no_new_number right.of_others right.no_new_number marks alike.agree
+      left.of_others left.no_new_number right.of_others right.no_new_number
+      (answers_change_by_marks R alike.first_good first_known c inside q left)
+      (answers_change_by_marks S alike.second_good second_known c inside p right) marks alike.agree
 
   -- one on one side, without marks
-  pub first_step : (q : Command) → is_own_command c q ≡ false → marks_of R.net inside (Answer.edits (answer R q)) ≡ [] → Agree c inside (after R q) S
+  pub first_step : PointsAreKnown R → (q : Command) → is_own_command c q ≡ false → marks_of R.net inside (Answer.edits (answer R q)) ≡ [] → Agree c inside (after R q) S
   unfolding after_edits
-  first_step q others none =
-      let left = in_first q others in
+  first_step known q others none =
+      let left = in_first known q others in
       same_marks_agree R S alike.first_good.in_order alike.second_good.in_order c inside (Answer.edits (answer R q)) []
-      left.of_others left.no_new_number (All-nil (λ edit. is_about c edit ≡ false)) (All-nil (λ edit. is_new_of S.records c.requester edit ≡ false)) none alike.agree
+      left.of_others left.no_new_number (All-nil (λ edit. is_about c edit ≡ false)) (All-nil (λ edit. is_new_of S.records c.requester edit ≡ false))
+      (answers_change_by_marks R alike.first_good known c inside q left) (no_marks S c inside) none alike.agree
 
-  pub second_step : (q : Command) → is_own_command c q ≡ false → marks_of S.net inside (Answer.edits (answer S q)) ≡ [] → Agree c inside R (after S q)
+  pub second_step : PointsAreKnown S → (q : Command) → is_own_command c q ≡ false → marks_of S.net inside (Answer.edits (answer S q)) ≡ [] → Agree c inside R (after S q)
   unfolding after_edits
-  second_step q others none =
-      let right = in_second q others in
+  second_step known q others none =
+      let right = in_second known q others in
       same_marks_agree R S alike.first_good.in_order alike.second_good.in_order c inside [] (Answer.edits (answer S q))
-      (All-nil (λ edit. is_about c edit ≡ false)) (All-nil (λ edit. is_new_of R.records c.requester edit ≡ false)) right.of_others right.no_new_number (sym none) alike.agree
+      (All-nil (λ edit. is_about c edit ≡ false)) (All-nil (λ edit. is_new_of R.records c.requester edit ≡ false)) right.of_others right.no_new_number
+      (no_marks R c inside) (answers_change_by_marks S alike.second_good known c inside q right) (sym none) alike.agree
 
-pub others_step : (c : Id) (inside : List ℕ → Bool) (R S : Register) (q p : Command) → AreAlike c inside R S (q ∷ [])
+pub others_step : (c : Id) (inside : List ℕ → Bool) (R S : Register) (q p : Command) → AreAlike c inside R S (q ∷ []) → PointsAreKnown R → PointsAreKnown S
     → is_own_command c q ≡ false → is_own_command c p ≡ false
     → marks_of R.net inside (Answer.edits (answer R q)) ≡ marks_of S.net inside (Answer.edits (answer S p))
     → Agree c inside (after R q) (after S p)
-others_step c inside R S q p alike = both_step c inside R S (q ∷ []) alike q p
+others_step c inside R S q p alike first_known second_known = both_step c inside R S (q ∷ []) alike first_known second_known q p
 
 pub lone_step : (c : Id) (inside : List ℕ → Bool) (R S : Register) (q : Command) → is_own_command c q ≡ false
-    → (AreAlike c inside R S (q ∷ []) → marks_of R.net inside (Answer.edits (answer R q)) ≡ [] → Agree c inside (after R q) S)
-    × (AreAlike c inside R S [] → marks_of S.net inside (Answer.edits (answer S q)) ≡ [] → Agree c inside R (after S q))
+    → (AreAlike c inside R S (q ∷ []) → PointsAreKnown R → marks_of R.net inside (Answer.edits (answer R q)) ≡ [] → Agree c inside (after R q) S)
+    × (AreAlike c inside R S [] → PointsAreKnown S → marks_of S.net inside (Answer.edits (answer S q)) ≡ [] → Agree c inside R (after S q))
 lone_step c inside R S q others =
-    (λ alike. first_step c inside R S (q ∷ []) alike q others, λ alike. second_step c inside R S [] alike q others)
+    (λ alike known. first_step c inside R S (q ∷ []) alike known q others, λ alike known. second_step c inside R S [] alike known q others)
 
 -- registers that agree and answer alike agree again
-pub same_answers_agree : (R S : Register) (c : Id) (inside : List ℕ → Bool) (q : Command) → ListsAreInOrder R → ListsAreInOrder S
+pub same_answers_agree : (R S : Register) (c : Id) (inside : List ℕ → Bool) (q : Command) → is_jumper q.kind ≡ false → ListsAreInOrder R → ListsAreInOrder S
     → answer R q ≡ answer S q → Agree c inside R S → Agree c inside (after R q) (after S q)
-same_answers_agree R S c inside q R_order S_order same agree =
+same_answers_agree R S c inside q plain R_order S_order same agree =
     agrees_on c inside (after R q) (after_edits (Answer.edits (answer R q)) S) (after S q)
-    (same_edits_agree R S R_order S_order c inside (Answer.edits (answer R q)) agree)
+    (same_edits_agree R S R_order S_order c inside (Answer.edits (answer R q)) (answers_plain R q plain) agree)
     (subst (λ (edits : List Edit). Agree c inside (after_edits (Answer.edits (answer R q)) S) (after_edits edits S)) (ap (λ a. Answer.edits a) same)
     (agrees_with_itself c inside (after_edits (Answer.edits (answer R q)) S)))

@@ -1,6 +1,6 @@
 -- Registers that agree near a clearance answer its own commands alike, and agree again.
 use Rattle.std.proofs.Common.{◌≡◌, ℕ, Bool, true, false, List, [], ◌∷◌, Option, Some, None, refl, sym, ◌∙◌, ap, subst}
-use Rattle.std.proofs.lemmas.Bool.{both_ways}
+use Rattle.std.proofs.lemmas.Bool.{both_ways, false≢true}
 use Rattle.clr_order.specs.Step.{Task}
 use Rattle.clr_rules.specs.Answer.{answer, first_refusal, known_of, answer_by_checks}
 use Rattle.clr_rules.specs.Checks.{is_operator, unsound_order}
@@ -12,8 +12,8 @@ use Rattle.clr_rules.specs.NearLaws.{is_order}
 use Rattle.clr_rules.specs.OwnLaws.{SameOwn}
 use Rattle.clr_rules.specs.Records.{is_requested}
 use Rattle.clr_rules.specs.Shown.{asked_row, found_phase_requested, is_own_command, is_own_kind}
-use Rattle.clr_rules.specs.Command.{named_clearance}
-use Rattle.clr_rules.specs.declared.command.Kind.TheVariants.{Order}
+use Rattle.clr_rules.specs.Command.{is_jumper, named_clearance}
+use Rattle.clr_rules.specs.declared.command.Kind.TheVariants.{Jumper, Order}
 use Rattle.clr_rules.specs.declared.reply.Reply.TheVariants.{Refused}
 use Rattle.clr_rules.proofs.isolation.LookAlike.{look_alike}
 use Rattle.clr_rules.proofs.near.NewAnswers.{same_near_same_answer}
@@ -73,7 +73,12 @@ module _ (c : Id) (inside : List ℕ → Bool) (R S : Register) (q : Command) (a
   same_answer true orders true requested = by_near (λ _. requested)
   same_answer true orders false late = late_own c R S (agreeing_have_same c inside R S alike.agree) late q.caller q.moment q.kind own orders
 
+-- an own command is no jumper
+pub own_is_no_jumper : (c : Id) (by : List ℕ) (kind : Kind) → is_own_kind c by kind (named_clearance kind) ≡ true → is_jumper kind ≡ false
+own_is_no_jumper c by (Jumper point from to lockable remote) own = absurd (false≢true own)
+own_is_no_jumper c by _ own = refl
+
 pub own_step : OwnStep
 own_step c inside R S q alike own asked =
     let same = same_answer c inside R S q alike own asked (is_order q.kind) refl (found_phase_requested (record_of R.records c)) refl in
-    (same, same_answers_agree R S c inside q alike.first_good.in_order alike.second_good.in_order same alike.agree)
+    (same, same_answers_agree R S c inside q (own_is_no_jumper c q.caller q.kind own) alike.first_good.in_order alike.second_good.in_order same alike.agree)

@@ -1,5 +1,5 @@
 -- What edits do to what stands near a clearance: they change it exactly by those of them that concern it.
-use Rattle.std.proofs.Common.{◌≡◌, ℕ, Bool, true, false, cond, List, [], ◌∷◌, Option, None, Some, refl, sym, ◌∙◌, ap}
+use Rattle.std.proofs.Common.{not, ◌≡◌, ℕ, Bool, true, false, cond, List, [], ◌∷◌, Option, None, Some, refl, sym, ◌∙◌, ap}
 use Rattle.std.specs.List.{filter, All}
 use Rattle.std.specs.Ordering.{is_eq}
 use Rattle.std.proofs.lemmas.Cmp.{nat_list_cmp_total}
@@ -12,9 +12,12 @@ use Rattle.clr_shelf.proofs.Groups.{filter-with_inside, filter-with_far, filter-
 use Rattle.clr_shelf.proofs.Keys.{equal, same_text}
 use Rattle.clr_shelf.proofs.Members.{member-row_of}
 use Rattle.clr_shelf.specs.Rows.{in_key_order}
+use Rattle.std.proofs.lemmas.Bool.{and_parts}
+use Rattle.clr_rules.specs.EditLaws.{adds, adds_nothing}
+use Rattle.clr_rules.proofs.edits.EditedLists.{not_false}
 use Rattle.clr_rules.specs.Agreement.{part_near}
 use Rattle.clr_rules.specs.AgreementLaws.{concerning, concerns, is_about}
-use Rattle.clr_rules.specs.Prelude.{Edit, SetPosition, SetHand, PutHold, TakeHold, PutRecord, PutStep, Hold, PointState, Record, StepRow, Id, id_cmp, id_cmp_total, same_id, Register, state_key, state_of, record_key, step_key}
+use Rattle.clr_rules.specs.Prelude.{Edit, SetPosition, SetHand, PutHold, TakeHold, PutRecord, PutStep, AddSection, AddPoint, Hold, PointState, Record, StepRow, Id, id_cmp, id_cmp_total, same_id, Register, state_key, state_of, record_key, step_key}
 use Rattle.clr_rules.specs.Prelude.{step_key_cmp, step_key_cmp_total, hold_cmp, hold_cmp_total, hold_key, after_edit, after_edits}
 use Rattle.clr_rules.specs.Fences.{touching_names}
 use Rattle.clr_rules.specs.Good.{ListsAreInOrder}
@@ -128,14 +131,16 @@ module _ (R : Register) (ordered : ListsAreInOrder R) (inside beside : List ℕ 
       (λ other tied. rw (ap (λ key. key.id) (same_step_key (step_key other) (step_key row) (equal (step_key_cmp (step_key other) (step_key row)) tied))) is))
 
   -- an edit changes the part where it concerns it, and else leaves it
-  pub part-edited : (edit : Edit) → part (after_edit edit R) (around inside beside c)
+  pub part-edited : (edit : Edit) → adds edit ≡ false → part (after_edit edit R) (around inside beside c)
       ≡ part_after (concerns c inside beside edit) edit (part R (around inside beside c))
-  part-edited (SetPosition point position) = at_position point position (beside point) refl
-  part-edited (SetHand point hand) = at_hand point hand (beside point) refl
-  part-edited (PutHold h) = at_put h (is_near_hold inside beside (Some c) h) refl
-  part-edited (TakeHold h) = at_take h (is_near_hold inside beside (Some c) h) refl
-  part-edited (PutRecord r) = at_record r (same_id c r.id) refl
-  part-edited (PutStep row) = at_step row (same_id c row.id) refl
+  part-edited (SetPosition point position) plain = at_position point position (beside point) refl
+  part-edited (SetHand point hand) plain = at_hand point hand (beside point) refl
+  part-edited (PutHold h) plain = at_put h (is_near_hold inside beside (Some c) h) refl
+  part-edited (TakeHold h) plain = at_take h (is_near_hold inside beside (Some c) h) refl
+  part-edited (PutRecord r) plain = at_record r (same_id c r.id) refl
+  part-edited (PutStep row) plain = at_step row (same_id c row.id) refl
+  part-edited (AddSection row) plain = absurd cc
+  part-edited (AddPoint p) plain = absurd cc
 
 -- ---- a list of edits
 
@@ -146,22 +151,23 @@ unfolding after_edits
 first_tested p edit edits P true is = rw is refl
 first_tested p edit edits P false is = rw is refl
 
-pub part-edited_all : (R : Register) → ListsAreInOrder R → (inside beside : List ℕ → Bool) (c : Id) (edits : List Edit)
+pub part-edited_all : (R : Register) → ListsAreInOrder R → (inside beside : List ℕ → Bool) (c : Id) (edits : List Edit) → adds_nothing edits ≡ true
     → part (after_edits edits R) (around inside beside c)
     ≡ after_edits (filter (concerns c inside beside) edits) (part R (around inside beside c))
 unfolding after_edits
-part-edited_all R ordered inside beside c [] = refl
-part-edited_all R ordered inside beside c (edit ∷ edits) =
-    part-edited_all (after_edit edit R) (edited-in_order edit R ordered) inside beside c edits
-    ∙ ap (after_edits (filter (concerns c inside beside) edits)) (part-edited R ordered inside beside c edit)
+part-edited_all R ordered inside beside c [] plain = refl
+part-edited_all R ordered inside beside c (edit ∷ edits) plain =
+    let (one, others) = and_parts (not (adds edit)) (adds_nothing edits) plain in
+    part-edited_all (after_edit edit R) (edited-in_order edit R ordered) inside beside c edits others
+    ∙ ap (after_edits (filter (concerns c inside beside) edits)) (part-edited R ordered inside beside c edit (not_false (adds edit) one))
     ∙ first_tested (concerns c inside beside) edit edits (part R (around inside beside c)) (concerns c inside beside edit) refl
 
 -- edits change what stands near a clearance exactly by those of them that concern it
-pub part_near-edited_all : (R : Register) → ListsAreInOrder R → (c : Id) (inside : List ℕ → Bool) (edits : List Edit)
+pub part_near-edited_all : (R : Register) → ListsAreInOrder R → (c : Id) (inside : List ℕ → Bool) (edits : List Edit) → adds_nothing edits ≡ true
     → part_near (after_edits edits R) c inside ≡ after_edits (concerning R.net c inside edits) (part_near R c inside)
-part_near-edited_all R ordered c inside edits =
-    ap (λ (g : Grid). part (after_edits edits R) (around inside (has_name (touching_names g inside)) c)) (edited_all-network R edits ordered).same_net
-    ∙ part-edited_all R ordered inside (has_name (touching_names R.net inside)) c edits
+part_near-edited_all R ordered c inside edits plain =
+    ap (λ (g : Grid). part (after_edits edits R) (around inside (has_name (touching_names g inside)) c)) (edited_all-network R edits plain ordered).same_net
+    ∙ part-edited_all R ordered inside (has_name (touching_names R.net inside)) c edits plain
 
 -- ---- edits of others
 
@@ -182,9 +188,9 @@ concerning_by_marks g c inside (edit ∷ edits) others =
     let rest = concerning_by_marks g c inside edits (All-tail (λ edit. is_about c edit ≡ false) edit edits others) in
     λ i. cond (first i) (edit ∷ rest i) (rest i)
 
-pub others_change_by_marks : (R : Register) → ListsAreInOrder R → (c : Id) (inside : List ℕ → Bool) (edits : List Edit)
+pub others_change_by_marks : (R : Register) → ListsAreInOrder R → (c : Id) (inside : List ℕ → Bool) (edits : List Edit) → adds_nothing edits ≡ true
     → All (λ edit. is_about c edit ≡ false) edits
     → part_near (after_edits edits R) c inside ≡ after_edits (marks_of R.net inside edits) (part_near R c inside)
-others_change_by_marks R ordered c inside edits others =
-    part_near-edited_all R ordered c inside edits
+others_change_by_marks R ordered c inside edits plain others =
+    part_near-edited_all R ordered c inside edits plain
     ∙ ap (λ (l : List Edit). after_edits l (part_near R c inside)) (concerning_by_marks R.net c inside edits others)

@@ -7,10 +7,9 @@ use Rattle.clr_rules.specs.Prelude.{Command, Reply, Id, Register}
 use Rattle.clr_rules.specs.Run.{after, after_all, replies}
 use Rattle.clr_rules.specs.RunHeadline.{IsRun, OthersChangeNoReply, OthersTakeNothing, OwnStandAlone, own_replies}
 use Rattle.clr_rules.specs.Shown.{is_own_command, own_answers}
-use Rattle.clr_rules.proofs.keeps.EveryKind.{reached_are_good}
+use Rattle.clr_rules.proofs.keeps.EveryKind.{runs_keep_good}
 use Rattle.clr_rules.proofs.isolation.Headline.{own_alone, same_shown}
 use Rattle.clr_rules.proofs.isolation.OthersEdits.{others_left_alone}
-use Rattle.clr_rules.proofs.edits.Runs.{reached_go_on}
 
 one_more : (own : Bool) (a : Answer) (told : List Reply) (answers : List Answer) → told ≡ map (λ (x : Answer). x.reply) answers
     → (if own then a.reply ∷ told else told) ≡ map (λ (x : Answer). x.reply) (if own then a ∷ answers else answers)
@@ -37,10 +36,9 @@ others_change_no_reply R commands told S run c inside T others shown =
     }
 
 pub others_take_nothing : (R : Register) (commands : List Command) → OthersTakeNothing R commands
-others_take_nothing R commands c earlier q later reached split others =
+others_take_nothing R commands c earlier q later good split others =
     let here = after_all R earlier in
-    let good = reached_are_good here (reached_go_on R reached earlier) in
-    others_left_alone here c q good.said others
+    others_left_alone here c q (runs_keep_good R earlier good) others
 
 pub own_stand_alone : (R : Register) (commands : List Command) (told : List Reply) (S : Register) → IsRun R commands told S
     → OwnStandAlone R commands told

@@ -10,8 +10,16 @@ use Rattle.clr_net.specs.declared.point.Position.TheVariants.{Opened, Closed as 
 use Rattle.clr_shelf.proofs.Groups.{filter-with_far, filter-without_far, row_of-filter_inside}
 use Rattle.clr_shelf.proofs.Keys.{equal}
 use Rattle.clr_shelf.specs.Rows.{in_key_order, with_row, without_row}
+use Rattle.clr_rules.specs.Register.{first_state}
+use Rattle.std.proofs.lemmas.Cmp.{nat_list_cmp_total}
+use Rattle.clr_net.specs.Grid.{unplaced}
+use Rattle.clr_net.specs.Name.{name_cmp}
+use Rattle.clr_net.specs.declared.point.PointRow.{PointRow}
+use Rattle.clr_shelf.proofs.Keys.{same_text}
+use Rattle.clr_shelf.proofs.Reading.{row_of-with}
+use Rattle.clr_rules.specs.States.{state_key}
 use Rattle.clr_rules.specs.EditLaws.{changed_where}
-use Rattle.clr_rules.specs.Prelude.{Edit, SetPosition, SetHand, PutHold, TakeHold, PutRecord, PutStep, Hold, HoldKind, HeldOpen, PointState, Record, StepRow, Id, id_cmp, same_id, Register, has_in_hand, position_of, state_of, record_key}
+use Rattle.clr_rules.specs.Prelude.{Edit, SetPosition, SetHand, PutHold, TakeHold, PutRecord, PutStep, AddSection, AddPoint, Hold, HoldKind, HeldOpen, PointState, Record, StepRow, Id, id_cmp, same_id, Register, has_in_hand, position_of, state_of, record_key}
 use Rattle.clr_rules.specs.Prelude.{record_of, step_key, step_key_cmp, step_key_cmp_total, steps_of, hold_cmp, hold_cmp_total, has_hold, hold_key, hold_of, holds_of, after_edit, after_edits}
 use Rattle.clr_rules.specs.Footprint.{Frame, all_spare, both_or_neither, is_shut, spares}
 use Rattle.clr_rules.specs.Good.{ListsAreInOrder}
@@ -103,6 +111,19 @@ open_tested c R S p q position spared before held was_open true same =
     stays_open position (has_hold R.holds c HeldOpen p) (state_of S.states q) spared (rw (one_name p q same) held) (before.closes_nothing q held was_open)
 open_tested c R S p q position spared before held was_open false differs = before.closes_nothing q held was_open
 
+-- a new point is open, and in no hand
+new_hand : (c : Id) (R S : Register) (p : PointRow) (q : List ℕ) → spares c R (AddPoint p) ≡ true → Alone c R S → (b : Bool) → is_eq (name_cmp p.name q) ≡ b
+    → is_hand c (hand_in (cond b (Some (first_state (unplaced p))) (state_of S.states q))) ≡ has_in_hand R.states c q
+new_hand c R S p q spared before true same =
+    sym (not-true (has_in_hand R.states c p.name) spared) ∙ ap (has_in_hand R.states c) (same_text p.name q (equal (name_cmp p.name q) same))
+new_hand c R S p q spared before false differs = before.same_hands q
+
+new_open : (c : Id) (R S : Register) (p : PointRow) (q : List ℕ) → Alone c R S → has_hold R.holds c HeldOpen q ≡ true → position_of R.states q ≡ Some Opened
+    → (b : Bool) → is_eq (name_cmp p.name q) ≡ b
+    → option_map (λ (state : PointState). state.position) (cond b (Some (first_state (unplaced p))) (state_of S.states q)) ≡ Some Opened
+new_open c R S p q before held was_open true same = refl
+new_open c R S p q before held was_open false differs = before.closes_nothing q held was_open
+
 -- ---- one edit, and all
 
 alone-edited : (c : Id) (R S : Register) (edit : Edit) → ListsAreInOrder S → spares c R edit ≡ true → Alone c R S → Alone c R (after_edit edit S)
@@ -151,6 +172,19 @@ alone-edited c R S (PutStep row) ordered spared f = record {
   same_holds = f.same_holds;
   same_hands = f.same_hands;
   closes_nothing = f.closes_nothing;
+}
+alone-edited c R S (AddSection row) ordered spared f =
+    record { same_record = f.same_record; same_steps = f.same_steps; same_holds = f.same_holds; same_hands = f.same_hands; closes_nothing = f.closes_nothing }
+alone-edited c R S (AddPoint p) ordered spared f = record {
+  same_record = f.same_record;
+  same_steps = f.same_steps;
+  same_holds = f.same_holds;
+  same_hands = λ q.
+      ap (λ found. is_hand c (hand_in found)) (row_of-with name_cmp state_key nat_list_cmp_total q (first_state (unplaced p)) S.states)
+      ∙ new_hand c R S p q spared f (is_eq (name_cmp p.name q)) refl;
+  closes_nothing = λ q held was_open.
+      ap (option_map (λ (state : PointState). state.position)) (row_of-with name_cmp state_key nat_list_cmp_total q (first_state (unplaced p)) S.states)
+      ∙ new_open c R S p q f held was_open (is_eq (name_cmp p.name q)) refl;
 }
 
 along : (c : Id) (R S : Register) (edits : List Edit) → ListsAreInOrder S → all_spare c R edits ≡ true → Alone c R S → Alone c R (after_edits edits S)

@@ -184,7 +184,7 @@ amend_keeps : (R : Register) (at : ℕ) (c : Id) (r : Record) (row : StepRow) �
     → IsGoodByPhase (after_edits (PutRecord (record r { last = at }) ∷ PutStep (amended row) ∷ []) R)
 unfolding after_edits
 amend_keeps R at c r row good found is p waits closes =
-    keeps R edits c good (put_changes R good c r (record r { last = at }) found (record_id R.records c r found) refl (after_edits edits R) refl
+    keeps R edits c refl good (put_changes R good c r (record r { last = at }) found (record_id R.records c r found) refl (after_edits edits R) refl
     (quiet R (after_edits edits R) c (record r { last = at }) good (record {
       same_states = refl;
       point_holds = λ d kind p at_point has. has;

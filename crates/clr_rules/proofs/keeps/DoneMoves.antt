@@ -158,7 +158,7 @@ module _ (R : Register) (good : IsGoodByPhase R) (c : Id) (r : Record) (found : 
       → IsGoodByPhase (after_edits (SetHand row.step.point None ∷ PutHold (hold_of c of row.step.point) ∷ PutRecord next ∷ PutStep (step_moved Done row.step.reader row) ∷ []) R)
   unfolding after_edits
   put_keeps of stands phase =
-      keeps R (SetHand point None ∷ PutHold (hold_of c of point) ∷ PutRecord next ∷ PutStep new ∷ []) c good
+      keeps R (SetHand point None ∷ PutHold (hold_of c of point) ∷ PutRecord next ∷ PutStep new ∷ []) c refl good
       (put_changes R good c r next found own same_work (done_register (with_hand R.states point None) (with_row hold_cmp hold_key (hold_of c of point) R.holds)) refl
       (done_moved (with_hand R.states point None) (with_row hold_cmp hold_key (hold_of c of point) R.holds) (record {
         hands = let_go R.states point point_there;
@@ -174,7 +174,7 @@ module _ (R : Register) (good : IsGoodByPhase R) (c : Id) (r : Record) (found : 
       → IsGoodByPhase (after_edits (SetHand row.step.point None ∷ TakeHold (hold_of c of row.step.point) ∷ PutRecord next ∷ PutStep (step_moved Done row.step.reader row) ∷ []) R)
   unfolding after_edits
   take_keeps of phase =
-      keeps R (SetHand point None ∷ TakeHold (hold_of c of point) ∷ PutRecord next ∷ PutStep new ∷ []) c good
+      keeps R (SetHand point None ∷ TakeHold (hold_of c of point) ∷ PutRecord next ∷ PutStep new ∷ []) c refl good
       (put_changes R good c r next found own same_work (done_register (with_hand R.states point None) (without_row hold_cmp hold_key (hold_of c of point) R.holds)) refl
       (done_moved (with_hand R.states point None) (without_row hold_cmp hold_key (hold_of c of point) R.holds) (record {
         hands = let_go R.states point point_there;
@@ -199,7 +199,7 @@ module _ (R : Register) (good : IsGoodByPhase R) (c : Id) (r : Record) (found : 
       ∷ PutStep (step_moved Done row.step.reader row) ∷ []) R)
   unfolding after_edits
   open_keeps phase =
-      keeps R (SetPosition point Opened ∷ SetHand point None ∷ PutHold (hold_of c HeldOpen point) ∷ PutRecord next ∷ PutStep new ∷ []) c good
+      keeps R (SetPosition point Opened ∷ SetHand point None ∷ PutHold (hold_of c HeldOpen point) ∷ PutRecord next ∷ PutStep new ∷ []) c refl good
       (put_changes R good c r next found own same_work
       (done_register (with_hand (with_position R.states point Opened) point None) (with_row hold_cmp hold_key (hold_of c HeldOpen point) R.holds)) refl
       (done_moved (with_hand (with_position R.states point Opened) point None) (with_row hold_cmp hold_key (hold_of c HeldOpen point) R.holds) (record {
@@ -217,7 +217,7 @@ module _ (R : Register) (good : IsGoodByPhase R) (c : Id) (r : Record) (found : 
       → IsGoodByPhase (after_edits (SetPosition row.step.point Opened ∷ SetHand row.step.point None ∷ PutRecord next ∷ PutStep (step_moved Done row.step.reader row) ∷ []) R)
   unfolding after_edits
   switch_open_keeps phase =
-      keeps R (SetPosition point Opened ∷ SetHand point None ∷ PutRecord next ∷ PutStep new ∷ []) c good
+      keeps R (SetPosition point Opened ∷ SetHand point None ∷ PutRecord next ∷ PutStep new ∷ []) c refl good
       (put_changes R good c r next found own same_work (done_register (with_hand (with_position R.states point Opened) point None) R.holds) refl
       (done_moved (with_hand (with_position R.states point Opened) point None) R.holds (record {
         hands = placed_let_go R.states point Opened point_there;
@@ -234,7 +234,7 @@ module _ (R : Register) (good : IsGoodByPhase R) (c : Id) (r : Record) (found : 
       ∷ PutStep (step_moved Done row.step.reader row) ∷ []) R)
   unfolding after_edits
   close_keeps closes phase =
-      keeps R (SetPosition point Shut ∷ SetHand point None ∷ TakeHold (hold_of c HeldOpen point) ∷ PutRecord next ∷ PutStep new ∷ []) c good
+      keeps R (SetPosition point Shut ∷ SetHand point None ∷ TakeHold (hold_of c HeldOpen point) ∷ PutRecord next ∷ PutStep new ∷ []) c refl good
       (put_changes R good c r next found own same_work
       (done_register (with_hand (with_position R.states point Shut) point None) (without_row hold_cmp hold_key (hold_of c HeldOpen point) R.holds)) refl
       (done_moved (with_hand (with_position R.states point Shut) point None) (without_row hold_cmp hold_key (hold_of c HeldOpen point) R.holds) (record {

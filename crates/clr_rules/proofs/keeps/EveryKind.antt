@@ -4,12 +4,13 @@ use Rattle.clr_rules.specs.Good.{IsGood}
 use Rattle.clr_rules.specs.Prelude.{Command, Kind, Register}
 use Rattle.clr_rules.specs.Register.{opening}
 use Rattle.clr_rules.specs.Run.{IsReached, after, after_all}
-use Rattle.clr_rules.specs.declared.command.Kind.TheVariants.{Request, Order, Instruct, Repeat, Report, Grant, Test, Ground, Unground, SignOn, SignOff, Transfer, Release, Cancel, Restore, Amend, Switch, Show}
+use Rattle.clr_rules.specs.declared.command.Kind.TheVariants.{Request, Order, Instruct, Repeat, Report, Grant, Test, Ground, Unground, SignOn, SignOff, Transfer, Release, Cancel, Restore, Amend, Switch, Show, Jumper}
 use Rattle.clr_rules.proofs.good.Keeping.{KeepsGood}
 use Rattle.clr_rules.proofs.keeps.Amend.{amends_keep}
 use Rattle.clr_rules.proofs.keeps.Cancel.{cancels_keep}
 use Rattle.clr_rules.proofs.keeps.Release.{releases_keep}
 use Rattle.clr_rules.proofs.keeps.Instruct.{instructs_keep}
+use Rattle.clr_rules.proofs.keeps.Jumper.{jumpers_keep}
 use Rattle.clr_rules.proofs.keeps.Order.{orders_keep}
 use Rattle.clr_rules.proofs.keeps.Grant.{grants_keep}
 use Rattle.clr_rules.proofs.keeps.Show.{shows_keep}
@@ -41,12 +42,13 @@ every_kind_keeps (Restore c tasks) = restores_keep c tasks
 every_kind_keeps (Amend c n) = amends_keep c n
 every_kind_keeps (Switch tasks) = switches_keep tasks
 every_kind_keeps (Show c) = shows_keep c
+every_kind_keeps (Jumper point from to lockable remote) = jumpers_keep point from to lockable remote
 
 pub commands_keep_good : (R : Register) (q : Command) → IsGood R → IsGood (after R q)
 commands_keep_good R q = every_kind_keeps q.kind R q.caller q.moment
 
 -- and so do runs
-runs_keep_good : (R : Register) (commands : List Command) → IsGood R → IsGood (after_all R commands)
+pub runs_keep_good : (R : Register) (commands : List Command) → IsGood R → IsGood (after_all R commands)
 unfolding after_all
 runs_keep_good R [] good = good
 runs_keep_good R (q ∷ commands) good = runs_keep_good (after R q) commands (commands_keep_good R q good)

@@ -91,7 +91,7 @@ module _ (R : Register) (good : IsGoodByPhase R) (c : Id) (r : Record) (found : 
       → IsGoodByPhase (after_edits (SetHand row.step.point hand ∷ PutRecord (record r { last = at }) ∷ PutStep new ∷ []) R)
   unfolding after_edits
   handed_keeps at hand others own free =
-      keeps R edits c good (put_changes R good c r (record r { last = at }) found (record_id R.records c r found) refl (after_edits edits R) refl (record {
+      keeps R edits c refl good (put_changes R good c r (record r { last = at }) found (record_id R.records c r found) refl (after_edits edits R) refl (record {
         other_steps = others_put R good c row new p same_key;
         other_holds = λ d differs kind place. refl;
         other_hands = λ d differs. other_hands R.states row.step.point hand d (state_known R good c row new p same_key) (others d differs).0 (others d differs).1;

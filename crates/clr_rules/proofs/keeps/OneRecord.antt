@@ -21,7 +21,7 @@ pub record_alone : (R : Register) (c : Id) (r new : Record) → IsGoodByPhase R 
     → InPhase R.net new.phase new.work (outlook_with R c new) → IsGoodByPhase (after_edits (PutRecord new ∷ []) R)
 unfolding after_edits
 record_alone R c r new good found same_id same_work phase =
-    keeps R (PutRecord new ∷ []) c good (put_changes R good c r new found (same_id ∙ record_id R.records c r found) same_work (after_edits (PutRecord new ∷ []) R) refl
+    keeps R (PutRecord new ∷ []) c refl good (put_changes R good c r new found (same_id ∙ record_id R.records c r found) same_work (after_edits (PutRecord new ∷ []) R) refl
     (quiet R (after_edits (PutRecord new ∷ []) R) c new good (record {
       same_states = refl;
       point_holds = λ d kind p at_point has. has;

@@ -15,6 +15,7 @@ use Rattle.clr_order.specs.declared.action.Action.{Action}
 use Rattle.clr_order.specs.declared.order_fault.OrderFault.TheVariants.{EmptyOrder, LongOrder, NotOnFence, PointTwice, SourceInside, StepsWrong}
 use Rattle.clr_order.proofs.SoundOrders.{sound_from_no_fault}
 use Rattle.clr_order.proofs.Steps.{once_from}
+use Rattle.clr_rules.proofs.edits.PlainEdits.{steps_plain}
 use Rattle.clr_rules.specs.Changes.{new_steps, put_steps}
 use Rattle.clr_rules.specs.Checks.{unsound_order}
 use Rattle.clr_rules.specs.Prelude.{PutRecord, Phase, Requested, Ordered, Record, StepRow, Id, Register, record_of, is_active, points_of, steps_of, tasks_of, first_of_each, after_edits}
@@ -230,7 +231,7 @@ module _ (R : Register) (good : IsGoodByPhase R) (r : Record) (found : record_of
   }
 
   order_keeps : IsGoodByPhase (after_edits (PutRecord next ∷ put_steps (new_steps r.id 1 1 tasks)) R)
-  order_keeps = keeps R (PutRecord next ∷ put_steps (new_steps r.id 1 1 tasks)) r.id good
+  order_keeps = keeps R (PutRecord next ∷ put_steps (new_steps r.id 1 1 tasks)) r.id (steps_plain (new_steps r.id 1 1 tasks)) good
       (subst (λ (S : Register). Changed R S r.id) (sym (round_put R next 1 tasks))
       (put_changes R good r.id r next found refl refl (with_round R next 1 tasks) refl
       (round_moved R good next 1 tasks ready

@@ -5,6 +5,7 @@ use Rattle.std.proofs.lemmas.Cmp.{nat_list_eq_equiv}
 use Rattle.clr_net.specs.Name.{same_name}
 use Rattle.clr_net.specs.Names.{has_name}
 use Rattle.clr_shelf.specs.Rows.{with_row, without_row}
+use Rattle.clr_rules.proofs.edits.PlainEdits.{takes_plain}
 use Rattle.clr_rules.specs.Prelude.{Edit, TakeHold, PutRecord, Hold, HoldKind, HeldOpen, Block, Control, Tag, Tested, Ground, Crew, Released, Record, Id, id_cmp, same_id, Register, record_key, record_of, is_granted, hold_cmp}
 use Rattle.clr_rules.specs.Prelude.{is_point_kind, has_hold, has_some_hold, hold_key, hold_of, places_of, same_kind, after_edits}
 use Rattle.clr_rules.specs.GoodByPhase.{InPhase, InReleased, IsGoodByPhase}
@@ -138,7 +139,7 @@ module _ (R : Register) (good : IsGoodByPhase R) (c : Id) (r : Record) (found : 
   after_it = takes_edited c (places_of R.holds c Tested) (PutRecord next ∷ []) R
 
   pub release_keeps : IsGoodByPhase (after_edits edits R)
-  release_keeps = keeps R edits c good (subst (λ (S : Register). Changed R S c) (sym after_it) release_changed)
+  release_keeps = keeps R edits c (takes_plain c (places_of R.holds c Tested) _ refl) good (subst (λ (S : Register). Changed R S c) (sym after_it) release_changed)
 
 pub releases_keep : (c : Id) (notified clear : Bool) → KeepsGood (Release c notified clear)
 releases_keep c notified clear = commands_keep (Release c notified clear) (λ R by at good passed.

@@ -32,7 +32,7 @@ repeat_keeps : (R : Register) (by : List ℕ) (at : ℕ) (c : Id) (r : Record) (
     → IsPresent R c row → is_active row.step.state ≡ true → IsGoodByPhase (after_edits (PutRecord (record r { last = at }) ∷ PutStep (step_moved Repeated (Some by) row) ∷ []) R)
 unfolding after_edits
 repeat_keeps R by at c r row good found runs p active =
-    keeps R edits c good (put_changes R good c r (record r { last = at }) found (record_id R.records c r found) refl (after_edits edits R) refl
+    keeps R edits c refl good (put_changes R good c r (record r { last = at }) found (record_id R.records c r found) refl (after_edits edits R) refl
     (quiet R (after_edits edits R) c (record r { last = at }) good (record {
       same_states = refl;
       point_holds = λ d kind p at_point has. has;

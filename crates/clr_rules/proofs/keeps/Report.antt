@@ -11,7 +11,7 @@ use Rattle.clr_order.specs.declared.step.StepState.TheVariants.{Waiting, Done}
 use Rattle.clr_order.specs.declared.action.Action.TheVariants as actions
 use Rattle.clr_shelf.specs.Rows.{with_row, without_row}
 use Rattle.clr_rules.specs.Changes.{done_edits, step_moved, phase_after, point_edits, undone_edits}
-use Rattle.clr_rules.specs.Prelude.{Edit, SetHand, PutRecord, PutStep, Hold, HoldKind, HeldOpen, Block, Control, Tag, Phase, Ordered, Restoring, Switching, Closed, PointState, Record, StepRow, Id, Register}
+use Rattle.clr_rules.specs.Prelude.{Edit, PutRecord, PutStep, Hold, HoldKind, HeldOpen, Block, Control, Tag, Phase, Ordered, Restoring, Switching, Closed, PointState, Record, StepRow, Id, Register}
 use Rattle.clr_rules.specs.Prelude.{hand_of, has_in_hand, position_of, record_of, is_running, all_done, is_active, is_done, is_some_step, present_steps, steps_in, steps_of, hold_cmp, is_point_kind, has_hold, hold_key, hold_of, same_kind}
 use Rattle.clr_rules.specs.Prelude.{after_edits}
 use Rattle.clr_rules.specs.Good.{puts}

@@ -48,7 +48,7 @@ unfolding after_edits
 request_keeps R by at section good known not_operator =
     let new = new_record (greatest_number R.records by) by at (Some section) Requested in
     let bare = bare_before R new.id good (next_is_free R by) in
-    keeps R (PutRecord new ∷ []) new.id good (changed_by R good new.id new refl (after_edits (PutRecord new ∷ []) R) refl
+    keeps R (PutRecord new ∷ []) new.id refl good (changed_by R good new.id new refl (after_edits (PutRecord new ∷ []) R) refl
     (quiet R (after_edits (PutRecord new ∷ []) R) new.id new good (record {
       same_states = refl;
       point_holds = λ d kind p at_point has. has;

@@ -16,6 +16,7 @@ use Rattle.clr_order.specs.declared.held.Held.{Held}
 use Rattle.clr_order.specs.declared.order_fault.OrderFault.TheVariants.{EmptyOrder, LongOrder, StepsWrong}
 use Rattle.clr_order.proofs.OtherOrders.{restoring_from_no_fault}
 use Rattle.clr_order.proofs.Undoing.{rule_undoes}
+use Rattle.clr_rules.proofs.edits.PlainEdits.{steps_plain}
 use Rattle.clr_rules.specs.Changes.{new_steps, put_steps}
 use Rattle.clr_rules.specs.Checks.{wrong_restoring}
 use Rattle.clr_rules.specs.Prelude.{PutRecord, Hold, HoldKind, HeldOpen, Block, Control, Tag, Phase, Released, Restoring, Record, StepRow, Id, Register, record_of, is_active, is_some_step}
@@ -166,7 +167,7 @@ module _ (R : Register) (r : Record) (at : ℕ) (tasks : List Task) (good : IsGo
   }
 
   restore_keeps : record_of R.records r.id ≡ Some r → r.work ≡ Some work → IsGoodByPhase (after_edits (PutRecord new ∷ put_steps (new_steps r.id 2 1 tasks)) R)
-  restore_keeps found work_is = keeps R (PutRecord new ∷ put_steps (new_steps r.id 2 1 tasks)) r.id good
+  restore_keeps found work_is = keeps R (PutRecord new ∷ put_steps (new_steps r.id 2 1 tasks)) r.id (steps_plain (new_steps r.id 2 1 tasks)) good
       (subst (λ (S : Register). Changed R S r.id) (sym (round_put R new 2 tasks))
       (put_changes R good r.id r new found refl refl (with_round R new 2 tasks) refl (round_moved R good new 2 tasks ready
       (subst (λ (o : Option (List ℕ)). InPhase R.net Restoring o (outlook_with (with_round R new 2 tasks) r.id new)) (sym work_is) restoring))))

@@ -8,6 +8,7 @@ use Rattle.clr_order.specs.Step.{Task, stray_point}
 use Rattle.clr_order.specs.Switching.{IsSwitching, switching_fault, unswitching_point}
 use Rattle.clr_order.specs.declared.order_fault.OrderFault.TheVariants.{EmptyOrder, LongOrder, StepsWrong, UnknownPoint}
 use Rattle.clr_order.proofs.OtherOrders.{switching_from_no_fault}
+use Rattle.clr_rules.proofs.edits.PlainEdits.{steps_plain}
 use Rattle.clr_rules.specs.Changes.{new_record, new_steps, put_steps}
 use Rattle.clr_rules.specs.Checks.{has_role, is_operator, wrong_switching}
 use Rattle.clr_rules.specs.Prelude.{PutRecord, Switching, Record, StepRow, Register, greatest_number, is_active, steps_of, after_edits}
@@ -60,7 +61,7 @@ module _ (R : Register) (by : List ℕ) (at : ℕ) (tasks : List Task) (good : I
       })) refl (sym operator) (new_numbered R good by new refl)
 
   switch_keeps : IsGoodByPhase (after_edits (PutRecord new ∷ put_steps (new_steps new.id 1 1 tasks)) R)
-  switch_keeps = keeps R (PutRecord new ∷ put_steps (new_steps new.id 1 1 tasks)) new.id good
+  switch_keeps = keeps R (PutRecord new ∷ put_steps (new_steps new.id 1 1 tasks)) new.id (steps_plain (new_steps new.id 1 1 tasks)) good
       (subst (λ (S : Register). Changed R S new.id) (sym (round_put R new 1 tasks)) changed)
 
 pub switches_keep : (tasks : List Task) → KeepsGood (Switch tasks)

@@ -129,7 +129,7 @@ module _ (R : Register) (good : IsGoodByPhase R) (c : Id) (r : Record) (found : 
 
   test_keeps : (section : List ℕ) → has_name (clearance_fence R c) section ≡ true → IsGoodByPhase (after_edits (PutHold (hold_of c Tested section) ∷ PutRecord next ∷ []) R)
   unfolding after_edits
-  test_keeps section fenced = keeps R (PutHold (hold_of c Tested section) ∷ PutRecord next ∷ []) c good
+  test_keeps section fenced = keeps R (PutHold (hold_of c Tested section) ∷ PutRecord next ∷ []) c refl good
       (work_changed (with_row hold_cmp hold_key (hold_of c Tested section) R.holds) (record {
         others = others_hold_put c Tested section R.holds;
         at_points = put_points Tested section refl;
@@ -140,7 +140,7 @@ module _ (R : Register) (good : IsGoodByPhase R) (c : Id) (r : Record) (found : 
 
   not_dead_keeps : (section : List ℕ) → IsGoodByPhase (after_edits (TakeHold (hold_of c Tested section) ∷ PutRecord next ∷ []) R)
   unfolding after_edits
-  not_dead_keeps section = keeps R (TakeHold (hold_of c Tested section) ∷ PutRecord next ∷ []) c good
+  not_dead_keeps section = keeps R (TakeHold (hold_of c Tested section) ∷ PutRecord next ∷ []) c refl good
       (work_changed (without_row hold_cmp hold_key (hold_of c Tested section) R.holds) (record {
         others = others_hold_taken c Tested section R.holds;
         at_points = taken_points Tested section R.holds refl;
@@ -151,7 +151,7 @@ module _ (R : Register) (good : IsGoodByPhase R) (c : Id) (r : Record) (found : 
 
   ground_keeps : (section : List ℕ) → has_name (clearance_fence R c) section ≡ true → IsGoodByPhase (after_edits (PutHold (hold_of c Ground section) ∷ PutRecord next ∷ []) R)
   unfolding after_edits
-  ground_keeps section fenced = keeps R (PutHold (hold_of c Ground section) ∷ PutRecord next ∷ []) c good
+  ground_keeps section fenced = keeps R (PutHold (hold_of c Ground section) ∷ PutRecord next ∷ []) c refl good
       (work_changed (with_row hold_cmp hold_key (hold_of c Ground section) R.holds) (record {
         others = others_hold_put c Ground section R.holds;
         at_points = put_points Ground section refl;
@@ -165,7 +165,7 @@ module _ (R : Register) (good : IsGoodByPhase R) (c : Id) (r : Record) (found : 
   unground_keeps : (section : List ℕ) → (same_name w.work section && has_some_hold R.holds c Crew) ≡ false
       → IsGoodByPhase (after_edits (TakeHold (hold_of c Ground section) ∷ TakeHold (hold_of c Tested section) ∷ PutRecord next ∷ []) R)
   unfolding after_edits
-  unground_keeps section clear = keeps R (TakeHold (hold_of c Ground section) ∷ TakeHold (hold_of c Tested section) ∷ PutRecord next ∷ []) c good
+  unground_keeps section clear = keeps R (TakeHold (hold_of c Ground section) ∷ TakeHold (hold_of c Tested section) ∷ PutRecord next ∷ []) c refl good
       (work_changed (without_row hold_cmp hold_key (hold_of c Tested section) (without_row hold_cmp hold_key (hold_of c Ground section) R.holds)) (record {
         others = λ d differs kind q. others_hold_taken c Tested section (without_row hold_cmp hold_key (hold_of c Ground section) R.holds) d differs kind q
             ∙ others_hold_taken c Ground section R.holds d differs kind q;
@@ -189,7 +189,7 @@ module _ (R : Register) (good : IsGoodByPhase R) (c : Id) (r : Record) (found : 
 
   sign_on_keeps : (crew : List ℕ) → has_hold R.holds c Ground w.work ≡ true → IsGoodByPhase (after_edits (PutHold (hold_of c Crew crew) ∷ PutRecord next ∷ []) R)
   unfolding after_edits
-  sign_on_keeps crew grounded = keeps R (PutHold (hold_of c Crew crew) ∷ PutRecord next ∷ []) c good
+  sign_on_keeps crew grounded = keeps R (PutHold (hold_of c Crew crew) ∷ PutRecord next ∷ []) c refl good
       (work_changed (with_row hold_cmp hold_key (hold_of c Crew crew) R.holds) (record {
         others = others_hold_put c Crew crew R.holds;
         at_points = put_points Crew crew refl;
@@ -200,7 +200,7 @@ module _ (R : Register) (good : IsGoodByPhase R) (c : Id) (r : Record) (found : 
 
   sign_off_keeps : (crew : List ℕ) → IsGoodByPhase (after_edits (TakeHold (hold_of c Crew crew) ∷ PutRecord next ∷ []) R)
   unfolding after_edits
-  sign_off_keeps crew = keeps R (TakeHold (hold_of c Crew crew) ∷ PutRecord next ∷ []) c good
+  sign_off_keeps crew = keeps R (TakeHold (hold_of c Crew crew) ∷ PutRecord next ∷ []) c refl good
       (work_changed (without_row hold_cmp hold_key (hold_of c Crew crew) R.holds) (record {
         others = others_hold_taken c Crew crew R.holds;
         at_points = taken_points Crew crew R.holds refl;

@@ -14,14 +14,14 @@ use Rattle.clr_shelf.proofs.Keys.{equal, same_text}
 use Rattle.clr_shelf.proofs.Lists.{filter-filter_wider}
 use Rattle.clr_rules.specs.Answer.{answer, answer_with, fence_for, first_refusal, known_of, answer_by_checks}
 use Rattle.clr_rules.specs.Commands.{by_operator, checks}
-use Rattle.clr_rules.specs.Checks.{earlier_moment, hold_hinders, held_by, in_hand, is_operator, no_step, other_hand, out_of_turn, where_some, wrong_state}
+use Rattle.clr_rules.specs.Checks.{hold_hinders, held_by, in_hand, is_operator, no_step, other_hand, out_of_turn, where_some, wrong_state}
 use Rattle.clr_rules.specs.Command.{named_clearance}
 use Rattle.clr_rules.specs.Fences.{clearance_fence, touching_names}
 use Rattle.clr_rules.specs.Good.{IsGoodAsSaid, OnlySwitchOrdersSwitch, steps_left_of}
 use Rattle.clr_rules.specs.Prelude.{Command, Hold, HeldOpen, Phase, Ordered, Restoring, Switching, PointState, Record, Refusal, StepRow, Id, same_id, Register, hand_of, state_key, record_of, is_running, is_standing, is_restoring}
 use Rattle.clr_rules.specs.Prelude.{is_done, is_some_step, is_waiting, points_of, present_steps, step_at, steps_in, steps_of, tasks_of, is_point_kind, has_hold, same_kind}
 use Rattle.clr_rules.specs.Holds.{first_hold, hindering_hold, hinders, is_near_hold}
-use Rattle.clr_rules.specs.Near.{is_beside, near_part, switched_in}
+use Rattle.clr_rules.specs.Near.{is_beside, near_part, part_beside, switched_in}
 use Rattle.clr_rules.specs.OwnLaws.{SameOwn}
 use Rattle.clr_rules.specs.Records.{is_closed, is_in_switching}
 use Rattle.clr_rules.specs.States.{hand_in}
@@ -112,7 +112,7 @@ module _ (R : Register) (good : IsGoodAsSaid R) (switch : OnlySwitchOrdersSwitch
 -- ---- at a point that is near stands the same
 
 module _ (R : Register) (q : Command) (p : List ℕ) (beside : is_beside R (known_of R q) q.kind p ≡ true) where
-  same_hand : hand_of R.states p ≡ hand_of (Register.states (near_part R q)) p
+  same_hand : hand_of R.states p ≡ hand_of (Register.states (part_beside R q)) p
   same_hand = ap hand_in (sym (row_of-filter_inside name_cmp state_key nat_list_cmp_total (λ (state : PointState). is_beside R (known_of R q) q.kind state.point) p R.states
       (λ state tied. rw (same_text state.point p (equal (name_cmp state.point p) tied)) beside)))
 
@@ -124,7 +124,7 @@ module _ (R : Register) (q : Command) (p : List ℕ) (beside : is_beside R (know
       (and_from (is_point_kind h.kind) (is_beside R (known_of R q) q.kind h.place) at_point
       (subst (λ (place : List ℕ). is_beside R (known_of R q) q.kind place ≡ true) (one_name p h.place here) beside))
 
-  same_hindering : (c : Id) → hindering_hold R.holds c p ≡ hindering_hold (Register.holds (near_part R q)) c p
+  same_hindering : (c : Id) → hindering_hold R.holds c p ≡ hindering_hold (Register.holds (part_beside R q)) c p
   unfolding hindering_hold
   same_hindering c = ap first_hold (sym (filter-filter_wider (hinders c p)
       (is_near_hold (has_name (fence_for R q.kind)) (is_beside R (known_of R q) q.kind) (named_clearance q.kind)) (hindering_near c) R.holds))

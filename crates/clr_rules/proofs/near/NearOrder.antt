@@ -1,5 +1,5 @@
 -- The near part keeps the order of the lists; a point of a network has one row.
-use Rattle.std.proofs.Common.{◌≡◌, ℕ, ◌<◌, [], length, get_or, sym, ◌∙◌, ap, arith}
+use Rattle.std.proofs.Common.{◌≡◌, ℕ, ◌<◌, Bool, true, false, cond, ◌==◌, refl, [], length, get_or, sym, ◌∙◌, ap, arith}
 use Rattle.std.specs.List.{Contains}
 use Rattle.std.proofs.lemmas.Cmp.{nat_list_cmp_total}
 use Rattle.std.proofs.lemmas.List.{get_or-map, get_or_default, length-map}
@@ -12,20 +12,35 @@ use Rattle.clr_net.specs.Names.{has_name}
 use Rattle.clr_shelf.proofs.KeyOrder.{in_key_order-filter}
 use Rattle.clr_rules.specs.Commands.{Known}
 use Rattle.clr_rules.specs.Answer.{known_of}
-use Rattle.clr_rules.specs.Command.{named_clearance}
+use Rattle.clr_rules.specs.Command.{is_jumper, named_clearance}
 use Rattle.clr_rules.specs.Good.{ListsAreInOrder}
 use Rattle.clr_rules.specs.Prelude.{Command, PointState, Record, StepRow, id_cmp, id_cmp_total, Register, state_key, record_key, step_key, step_key_cmp, step_key_cmp_total, hold_cmp, hold_cmp_total, hold_key}
 use Rattle.clr_rules.specs.Holds.{is_near_hold, is_own}
-use Rattle.clr_rules.specs.Near.{is_beside, near_part}
+use Rattle.clr_rules.specs.Near.{is_beside, near_part, network_part, part_beside}
 
-pub near_in_order : (R : Register) (q : Command) → ListsAreInOrder R → ListsAreInOrder (near_part R q)
-near_in_order R q ordered = record {
+beside_in_order : (R : Register) (q : Command) → ListsAreInOrder R → ListsAreInOrder (part_beside R q)
+beside_in_order R q ordered = record {
   states = in_key_order-filter name_cmp state_key nat_list_cmp_total (λ (state : PointState). is_beside R (known_of R q) q.kind state.point) R.states ordered.states;
   records = in_key_order-filter id_cmp record_key id_cmp_total (λ (r : Record). is_own (named_clearance q.kind) r.id) R.records ordered.records;
   steps = in_key_order-filter step_key_cmp step_key step_key_cmp_total (λ (row : StepRow). is_own (named_clearance q.kind) row.id) R.steps ordered.steps;
   holds = in_key_order-filter hold_cmp hold_key hold_cmp_total
       (is_near_hold (has_name (Known.fence (known_of R q))) (is_beside R (known_of R q) q.kind) (named_clearance q.kind)) R.holds ordered.holds;
 }
+
+network_in_order : (R : Register) → ListsAreInOrder R → ListsAreInOrder (network_part R)
+network_in_order R ordered = record {
+  states = refl;
+  records = ordered.records;
+  steps = in_key_order-filter step_key_cmp step_key step_key_cmp_total (λ (row : StepRow). row.round == 1) R.steps ordered.steps;
+  holds = refl;
+}
+
+pub near_in_order : (R : Register) (q : Command) → ListsAreInOrder R → ListsAreInOrder (near_part R q)
+near_in_order R q ordered = at (is_jumper q.kind)
+  where
+    at : (b : Bool) → ListsAreInOrder (cond b (network_part R) (part_beside R q))
+    at true = network_in_order R ordered
+    at false = beside_in_order R q ordered
 
 -- the place of a row of a network by its name
 place_of_row : (g : Grid) → IsNetwork g → (p : PointRow) (k : ℕ) → k < length g.points → get_or g.points k p ≡ p → place_in (point_names g.points) p.name ≡ k

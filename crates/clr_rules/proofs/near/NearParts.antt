@@ -16,10 +16,11 @@ use Rattle.clr_rules.specs.Fences.{clearance_fence, touching_names}
 use Rattle.clr_rules.specs.Prelude.{Command, Kind, Hold, PointState, Record, StepRow, Id, Register, record_of, is_point_kind}
 use Rattle.clr_rules.specs.Holds.{is_near_hold, is_own}
 use Rattle.clr_rules.specs.MarkLaws.{HasEndIn}
-use Rattle.clr_rules.specs.Near.{is_asked, is_beside, near_of, switched_points, switched_in}
+use Rattle.clr_rules.specs.Near.{is_asked, is_beside, near_of, part_beside, switched_points, switched_in}
 use Rattle.clr_rules.specs.NearLaws.{HasAskedRow, HasNearRows, HasSwitchRows, InFence, InOrderFence, IsNearHold, IsNearPoint, IsStepPoint, IsSwitchPoint, is_order}
 use Rattle.clr_rules.specs.declared.command.Kind.TheVariants.{Request, Order, Switch}
 use Rattle.clr_rules.proofs.lists.Filters.{Says, fails, filter-nothing, is_kept, name_says, or_says, says_as, says_like}
+use Rattle.clr_rules.proofs.near.NearNamed.{near_named, no_jumper, none_crossed}
 use Rattle.clr_rules.proofs.near.NearTests.{crew_says, fence_says, order_says, own_says, switched_says}
 use Rattle.clr_rules.proofs.near.NearWords.{near_hold_says, standing_says, touching_says}
 
@@ -60,8 +61,8 @@ module _ (R : Register) (q : Command) (c : Id) (named : named_clearance q.kind �
       (λ crew. inr (inr ((crew_says h.kind).1 crew.0, crew.1))) words)
 
   -- the rows near a command, by what its fence and its points are
-  rows_near : HasNearRows R c Inside AtPoint (near_of R q)
-  rows_near = record {
+  rows_beside : HasNearRows R c Inside AtPoint (record { known = known_of R q; rows = part_beside R q })
+  rows_beside = record {
     staff = refl;
     sections = is_kept (λ (row : SectionRow). has_name (fence_for R q.kind) row.name || is_asked q.kind row.name) (Grid.sections R.net)
         (λ row. Inside row.name) (λ row. listed_says row.name);
@@ -72,7 +73,11 @@ module _ (R : Register) (q : Command) (c : Id) (named : named_clearance q.kind �
     holds = is_kept (is_near_hold (has_name (fence_for R q.kind)) (is_beside R (known_of R q) q.kind) (named_clearance q.kind)) R.holds (IsNearHold AtPoint Inside c) hold_says;
     fence = λ s. (λ there. (inside_says s).0 ((name_says (fence_for R q.kind) s).1 there), λ words. (name_says (fence_for R q.kind) s).0 ((inside_says s).1 words));
     greatest = rw named refl;
+    none_crossed = none_crossed R q.kind (no_jumper q.kind c named);
   }
+
+  rows_near : HasNearRows R c Inside AtPoint (near_of R q)
+  rows_near = subst (λ (rows : Register). HasNearRows R c Inside AtPoint (record { known = known_of R q; rows = rows })) (sym (near_named R q c named)) rows_beside
 
 -- the points near a command that names a clearance: those that touch the fence, and those of a switch order
 beside_named : (R : Register) (q : Command) (c : Id) → named_clearance q.kind ≡ Some c → (Inside : List ℕ → Type 0)
@@ -166,6 +171,7 @@ request_near R by at section =
           (λ h. fails (is_near_hold (has_name []) beside None h) (says_like (standing_list R.net [] h) (λ at_point. none_in h.place at_point.1) (λ never. absurd never)));
       no_fence = refl;
       greatest = refl;
+      none_crossed = refl;
     }
 
 pub switch_near : (R : Register) (by : List ℕ) (at : ℕ) (tasks : List Task)
@@ -183,4 +189,5 @@ switch_near R by at tasks =
       holds = is_kept (is_near_hold (has_name []) beside None) R.holds (λ h. (is_point_kind h.kind ≡ true) × Contains points h.place) (standing_list R.net points);
       no_fence = refl;
       greatest = refl;
+      none_crossed = refl;
     }

@@ -8,7 +8,7 @@ use Rattle.clr_net.specs.Names.{has_name}
 use Rattle.clr_net.specs.declared.point.PointRow.{PointRow}
 use Rattle.clr_rules.specs.Fences.{touching_names}
 use Rattle.clr_net.specs.Fence.{touches}
-use Rattle.clr_rules.specs.Prelude.{Edit, SetPosition, SetHand, PutHold, TakeHold, Hold, Id, is_crew, is_point_kind, is_section_kind}
+use Rattle.clr_rules.specs.Prelude.{Edit, SetPosition, SetHand, PutHold, TakeHold, AddSection, AddPoint, Hold, Id, is_crew, is_point_kind, is_section_kind}
 use Rattle.clr_rules.specs.Holds.{is_near_hold, is_own}
 use Rattle.clr_rules.specs.MarkLaws.{HasEndIn, IsEditAmong, StandsAmong}
 use Rattle.clr_rules.specs.Shown.{is_mark}
@@ -69,4 +69,6 @@ mark_says g inside (PutHold h) = standing_says inside (has_name (touching_names 
     (λ s. itself_says (inside s)) (touching_says g inside (λ s. IsTrue (inside s)) (λ s. itself_says (inside s))) h
 mark_says g inside (TakeHold h) = standing_says inside (has_name (touching_names g inside)) (λ s. IsTrue (inside s)) (HasEndIn g (λ s. IsTrue (inside s)))
     (λ s. itself_says (inside s)) (touching_says g inside (λ s. IsTrue (inside s)) (λ s. itself_says (inside s))) h
+mark_says g inside (AddSection row) = itself_says (inside row.name)
+mark_says g inside (AddPoint p) = touches_says g inside (λ s. IsTrue (inside s)) (λ s. itself_says (inside s)) p
 mark_says g inside _ = (λ passes. absurd (false≢true passes), λ never. absurd never)

@@ -20,13 +20,13 @@ use Rattle.clr_rules.specs.Answer.{answer, answer_with, first_refusal, known_of,
 use Rattle.clr_rules.specs.Commands.{checks, edits_of}
 use Rattle.clr_rules.specs.Checks.{refuse, too_many_clearances, unknown_caller, wrong_role, wrong_switching, is_charge, is_operator}
 use Rattle.clr_rules.specs.Command.{named_clearance}
-use Rattle.clr_rules.specs.Prelude.{Command, Kind, Hold, Requested, Record, Refusal, StepRow, Id, same_id, Register, greatest_number, record_of, steps_of, holds_of, after_edits}
+use Rattle.clr_rules.specs.Prelude.{Command, Kind, Hold, Record, Refusal, StepRow, Id, same_id, Register, greatest_number, record_of, steps_of, holds_of, after_edits}
 use Rattle.clr_rules.specs.Good.{IsGoodAsSaid, OnlySwitchOrdersSwitch, has_record}
 use Rattle.clr_rules.specs.Holds.{is_near_hold}
 use Rattle.clr_rules.specs.Near.{Near, is_beside, near_of, near_part}
 use Rattle.clr_rules.specs.OwnLaws.{SameOwn}
 use Rattle.clr_rules.specs.Refusals.{order_refusal}
-use Rattle.clr_rules.specs.declared.command.Kind.TheVariants.{Request, Switch}
+use Rattle.clr_rules.specs.declared.command.Kind.TheVariants.{Request, Switch, Jumper}
 use Rattle.clr_rules.specs.declared.refusal.Refusal.TheVariants.{UnknownSection}
 use Rattle.clr_rules.proofs.lists.Filters.{filter-no_member, filter-nothing, kept_there, name_says}
 use Rattle.clr_rules.proofs.lists.NamedRows.{has_name-kept}
@@ -166,6 +166,7 @@ by_kind : (R : Register) → IsGoodAsSaid R → OnlySwitchOrdersSwitch R → (by
     ≡ answer_with (known_of R (record { caller = by; moment = at; kind = kind })) (near_part R (record { caller = by; moment = at; kind = kind })) (record { caller = by; moment = at; kind = kind })
 by_kind R good switches by at (Request section) named is = request_is_enough R good by at section
 by_kind R good switches by at (Switch tasks) named is = switch_is_enough R good by at tasks
+by_kind R good switches by at (Jumper point from to lockable remote) named is = refl
 by_kind R good switches by at kind (Some c) is = named_is_enough R (record { caller = by; moment = at; kind = kind }) c good switches is
 by_kind R good switches by at _ None is = cc is
 

@@ -14,13 +14,14 @@ use Rattle.clr_rules.specs.Fences.{touching_names}
 use Rattle.clr_net.specs.Fence.{touches}
 use Rattle.clr_rules.specs.Good.{IsGoodAsSaid, ListsAreInOrder}
 use Rattle.clr_rules.specs.Holds.{in_kind_order, is_near_hold, is_own}
-use Rattle.clr_rules.specs.Near.{is_beside, near_part}
+use Rattle.clr_rules.specs.Near.{is_beside, near_part, part_beside}
 use Rattle.clr_rules.specs.NearLaws.{is_order}
 use Rattle.clr_rules.specs.OwnLaws.{SameOwn, is_instruct}
 use Rattle.clr_rules.specs.declared.command.Kind.TheVariants.{Show}
 use Rattle.clr_rules.specs.declared.reply.Reply.TheVariants.{Accepted, Shown}
 use Rattle.clr_rules.proofs.isolation.Agreement.{touching_named}
 use Rattle.clr_rules.proofs.lists.Filters.{filter-kept, itself_says}
+use Rattle.clr_rules.proofs.near.NearNamed.{no_jumper, reply_named}
 use Rattle.clr_rules.proofs.near.NearOrder.{near_in_order}
 use Rattle.clr_rules.proofs.near.NearWords.{near_hold_says, standing_says}
 use Rattle.clr_rules.proofs.near.OwnChecks.{checks_of_own}
@@ -77,7 +78,7 @@ module _ (c : Id) (R S : Register) (R_order : ListsAreInOrder R) (S_order : List
   made = edits_of_own c R S R_order S_order same k.greatest q.caller q.moment q.kind named
 
   about : (T : Register) → reply_after k T q.caller q.kind ≡ reply_of k T q.kind (record_of T.records c)
-  about T = ap (λ (o : Option Id). reply_of k T q.kind (record_of T.records (reply_clearance k.greatest q.caller o))) named
+  about T = reply_named k T q.caller q.kind (no_jumper q.kind c named) ∙ ap (λ (o : Option Id). reply_of k T q.kind (record_of T.records (reply_clearance k.greatest q.caller o))) named
 
   pub accepted_alike : is_show q.kind ≡ false → answer_by_checks k R q None ≡ answer_by_checks k S q None
   accepted_alike no_show =
@@ -101,16 +102,16 @@ module _ (c : Id) (R S : Register) (R_order : ListsAreInOrder R) (S_order : List
 
 module _ (R : Register) (q : Command) where
   -- the points that touch the fence are near
-  pub touching_rows_near : filter (touches (has_name (fence_for R q.kind))) (Grid.points (Register.net (near_part R q))) ≡ filter (touches (has_name (fence_for R q.kind))) R.net.points
+  pub touching_rows_near : filter (touches (has_name (fence_for R q.kind))) (Grid.points (Register.net (part_beside R q))) ≡ filter (touches (has_name (fence_for R q.kind))) R.net.points
   touching_rows_near = filter-kept (touches (has_name (fence_for R q.kind))) (λ (p : PointRow). is_beside R (known_of R q) q.kind p.name) R.net.points
       (λ p there touching. or_left (has_name (touching_names R.net (has_name (fence_for R q.kind))) p.name) _ (touching_named R.net (has_name (fence_for R q.kind)) p there touching))
 
-  touching_near : touching_names (Register.net (near_part R q)) (has_name (fence_for R q.kind)) ≡ touching_names R.net (has_name (fence_for R q.kind))
+  touching_near : touching_names (Register.net (part_beside R q)) (has_name (fence_for R q.kind)) ≡ touching_names R.net (has_name (fence_for R q.kind))
   unfolding touching_names
   touching_near = ap point_names touching_rows_near
 
   -- the states of the points that touch the fence, and the holds there and at its sections, are near
-  shown_states : filter (λ (state : PointState). has_name (touching_names R.net (has_name (fence_for R q.kind))) state.point) (Register.states (near_part R q))
+  shown_states : filter (λ (state : PointState). has_name (touching_names R.net (has_name (fence_for R q.kind))) state.point) (Register.states (part_beside R q))
       ≡ filter (λ state. has_name (touching_names R.net (has_name (fence_for R q.kind))) state.point) R.states
   shown_states = filter-filter_wider (λ (state : PointState). has_name (touching_names R.net (has_name (fence_for R q.kind))) state.point)
       (λ state. is_beside R (known_of R q) q.kind state.point)
@@ -127,15 +128,15 @@ module _ (R : Register) (q : Command) where
       (λ s. itself_says (inside s)) (λ p. itself_says (beside p)) (λ d. itself_says (is_own (named_clearance q.kind) d)) h).1
       (⊎_elim (λ at_point. inl (at_point.0, or_left (touching h.place) _ at_point.1)) (λ at_section. inr (inl at_section)) standing)
 
-  shown_holds : filter (is_near_hold (has_name (fence_for R q.kind)) (has_name (touching_names R.net (has_name (fence_for R q.kind)))) None) (Register.holds (near_part R q))
+  shown_holds : filter (is_near_hold (has_name (fence_for R q.kind)) (has_name (touching_names R.net (has_name (fence_for R q.kind)))) None) (Register.holds (part_beside R q))
       ≡ filter (is_near_hold (has_name (fence_for R q.kind)) (has_name (touching_names R.net (has_name (fence_for R q.kind)))) None) R.holds
   shown_holds = filter-filter_wider (is_near_hold (has_name (fence_for R q.kind)) (has_name (touching_names R.net (has_name (fence_for R q.kind)))) None)
       (is_near_hold (has_name (fence_for R q.kind)) (is_beside R (known_of R q) q.kind) (named_clearance q.kind)) shown_hold_near R.holds
 
   -- the view of the clearance's record is made of what is near
-  view_near : (c : Id) → SameOwn c R (near_part R q) → (r : Record) → r.id ≡ c → view_of (known_of R q) R r ≡ view_of (known_of R q) (near_part R q) r
+  view_near : (c : Id) → SameOwn c R (part_beside R q) → (r : Record) → r.id ≡ c → view_of (known_of R q) R r ≡ view_of (known_of R q) (part_beside R q) r
   view_near c same r own =
-      let S = near_part R q in
+      let S = part_beside R q in
       let names = sym touching_near in
       let crews : places_of R.holds r.id Crew ≡ places_of S.holds r.id Crew =
       ap (λ (d : Id). places_of R.holds d Crew) own ∙ same_places c R S same Crew ∙ ap (λ (d : Id). places_of S.holds d Crew) (sym own) in

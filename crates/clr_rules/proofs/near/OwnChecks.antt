@@ -1,5 +1,5 @@
 -- Registers that have the same of a clearance: each check of a command that names it says the same.
-use Rattle.std.proofs.Common.{◌≡◌, ◌∙◌, ℕ, Bool, false, ◌&&◌, ◌||◌, not, List, [], ◌∷◌, Option, Some, None, is_some, sym, ap, subst}
+use Rattle.std.proofs.Common.{◌≡◌, ℕ, Bool, false, not, List, [], ◌∷◌, Option, Some, None, is_some, sym, ap, subst}
 use Rattle.clr_csv.specs.declared.employee.Role.{Role}
 use Rattle.clr_order.specs.declared.step.StepState.{StepState}
 use Rattle.clr_rules.specs.Commands.{Known, by_holder, by_role, checks}
@@ -63,6 +63,7 @@ module _ (k : Known) (R S : Register) (by : List ℕ) (at : ℕ) where
       → checks k R by at kind ≡ checks k S by at kind
   same_checks (kinds.Request section) same no_order no_instruct = absurd same
   same_checks (kinds.Switch tasks) same no_order no_instruct = absurd same
+  same_checks (kinds.Jumper point from to lockable remote) same no_order no_instruct = absurd same
   same_checks (kinds.Order c points tasks) same no_order no_instruct = cc no_order
   same_checks (kinds.Instruct c n) same no_order no_instruct = cc no_instruct
   same_checks (kinds.SignOn c crew) same no_order no_instruct = same_by_holder c R S same by at is_charge is_granted (λ i. at_works c R S same (not_tested R c) (not_tested S c) (tested c R S same) i ∷ at_works c R S same (no_ground R c) (no_ground S c) (grounded_at c R S same) i ∷ no_crew c R S same crew i ∷ [])

@@ -8,7 +8,7 @@ use Rattle.clr_shelf.specs.Rows.{in_key_order, with_row}
 use Rattle.clr_rules.specs.Changes.{cancelled_phase, done_edits, edits_by, step_moved, phase_after, point_edits, undone_edits, with_record, with_step}
 use Rattle.clr_rules.specs.Commands.{edits_of}
 use Rattle.clr_rules.specs.Command.{named_clearance}
-use Rattle.clr_rules.specs.Prelude.{Edit, SetPosition, SetHand, PutHold, TakeHold, PutRecord, PutStep, Kind, Tested, Phase, Released, Closed, Record, StepRow, Id, same_id, Register, record_of, is_ordered, step_key, step_key_cmp}
+use Rattle.clr_rules.specs.Prelude.{Edit, PutHold, TakeHold, PutRecord, PutStep, Kind, Tested, Phase, Released, Closed, Record, StepRow, Id, same_id, Register, record_of, is_ordered, step_key, step_key_cmp}
 use Rattle.clr_rules.specs.Prelude.{step_key_cmp_total, all_done, present_steps, step_at, steps_of, has_any_hold, hold_of, holds_of, after_edit, after_edits}
 use Rattle.clr_rules.specs.Good.{ListsAreInOrder}
 use Rattle.clr_rules.specs.OwnLaws.{SameOwn}
@@ -131,6 +131,7 @@ pub same_edits : (R S : Register) → ListsAreInOrder R → ListsAreInOrder S �
     → edits_of greatest R by at kind ≡ edits_of greatest S by at kind
 same_edits R S R_order S_order greatest by at (kinds.Request section) same = absurd same
 same_edits R S R_order S_order greatest by at (kinds.Switch tasks) same = absurd same
+same_edits R S R_order S_order greatest by at (kinds.Jumper point from to lockable remote) same = absurd same
 same_edits R S R_order S_order greatest by at (kinds.Instruct c n) same = only_step c R S R_order S_order same n _
 same_edits R S R_order S_order greatest by at (kinds.Repeat c n text) same = only_step c R S R_order S_order same n _
 same_edits R S R_order S_order greatest by at (kinds.Report c n done) same = reported c R S R_order S_order same n at done

@@ -19,13 +19,14 @@ use Rattle.clr_rules.specs.Prelude.{Command, Hold, HoldKind, Tested, Ground, Cre
 use Rattle.clr_rules.specs.Prelude.{record_of, is_standing, points_of, steps_in, tasks_of, is_crew, is_point_kind, is_section_kind, has_hold, holds_of, first_of_each}
 use Rattle.clr_rules.specs.Holds.{is_near_hold, is_own}
 use Rattle.clr_rules.specs.MarkLaws.{HasEndIn}
-use Rattle.clr_rules.specs.Near.{is_beside, near_part}
+use Rattle.clr_rules.specs.Near.{is_beside, near_part, part_beside}
 use Rattle.clr_rules.specs.NearLaws.{is_order}
 use Rattle.clr_rules.specs.Records.{is_fenced}
 use Rattle.clr_rules.proofs.live.FenceCuts.{has_name-once, in_fence_alike, known_in_fence}
 use Rattle.clr_rules.proofs.lists.HoldMembers.{hold_had}
 use Rattle.clr_rules.proofs.lists.Filters.{filter-kept, itself_says, kept_there, name_says}
 use Rattle.clr_rules.proofs.near.NearParts.{fence_named}
+use Rattle.clr_rules.proofs.near.NearNamed.{near_named}
 use Rattle.clr_rules.proofs.near.NearTests.{fence_says}
 use Rattle.clr_rules.proofs.near.NearWords.{touching_says}
 use Rattle.clr_rules.proofs.good.PutHolds.{found_there}
@@ -148,7 +149,10 @@ module _ (R : Register) (q : Command) (c : Id) (good : IsGoodAsSaid R) (named : 
       fence = fence_named R q.kind c named no_order
 
   -- all holds of the clearance are in the near part of a command that names it
-  pub own_holds_near : holds_of (Register.holds (near_part R q)) c ≡ holds_of R.holds c
+  own_holds_beside : holds_of (Register.holds (part_beside R q)) c ≡ holds_of R.holds c
   unfolding holds_of
-  own_holds_near = filter-kept (λ (h : Hold). same_id c h.id)
+  own_holds_beside = filter-kept (λ (h : Hold). same_id c h.id)
       (is_near_hold (has_name (fence_for R q.kind)) (is_beside R (known_of R q) q.kind) (named_clearance q.kind)) R.holds own_hold_near
+
+  pub own_holds_near : holds_of (Register.holds (near_part R q)) c ≡ holds_of R.holds c
+  own_holds_near = ap (λ (P : Register). holds_of P.holds c) (near_named R q c named) ∙ own_holds_beside

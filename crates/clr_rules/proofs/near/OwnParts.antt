@@ -1,14 +1,15 @@
 -- What is near a clearance has the same of it as the whole register.
-use Rattle.std.proofs.Common.{◌≡◌, ◌∙◌, ℕ, Bool, false, List, Some, refl, sym, ap}
+use Rattle.std.proofs.Common.{◌≡◌, ◌∙◌, ℕ, Bool, false, List, Some, refl, sym, ap, subst}
 use Rattle.std.specs.List.{filter}
 use Rattle.clr_shelf.proofs.Lists.{filter-filter_wider}
 use Rattle.clr_rules.specs.Agreement.{Agree}
 use Rattle.clr_rules.specs.Command.{named_clearance}
 use Rattle.clr_rules.specs.Good.{IsGoodAsSaid}
-use Rattle.clr_rules.specs.Prelude.{Command, StepRow, Id, same_id, Register, steps_of}
+use Rattle.clr_rules.specs.Prelude.{Command, StepRow, Id, same_id, Register, steps_of, holds_of}
 use Rattle.clr_rules.specs.Near.{near_part}
 use Rattle.clr_rules.specs.NearLaws.{is_order}
 use Rattle.clr_rules.specs.OwnLaws.{SameOwn}
+use Rattle.clr_rules.proofs.near.NearNamed.{near_named}
 use Rattle.clr_rules.proofs.near.OwnHoldsNear.{own_holds_near}
 use Rattle.clr_rules.proofs.isolation.SameFences.{record_of-own, same_record}
 
@@ -26,9 +27,9 @@ agreeing_have_same c inside R S agree = record {
 }
 
 pub near_has_own : (R : Register) (q : Command) (c : Id) → IsGoodAsSaid R → named_clearance q.kind ≡ Some c → is_order q.kind ≡ false → SameOwn c R (near_part R q)
-near_has_own R q c good named no_order = record {
+near_has_own R q c good named no_order = subst (SameOwn c R) (sym (near_named R q c named)) (record {
   staff = refl;
   own_record = sym (rw named (record_of-own R.records c));
   own_steps = sym (rw named (steps_of-own R.steps c));
-  own_holds = sym (own_holds_near R q c good named no_order);
-}
+  own_holds = sym (ap (λ (P : Register). holds_of P.holds c) (sym (near_named R q c named)) ∙ own_holds_near R q c good named no_order);
+})

@@ -1,7 +1,8 @@
 //! Laws of edits: what each does to the register, what it leaves, and which answers have none.
 ghost use Rattle.clr_rules.specs.EditOrder.{AnswersEditsInOrder};
-ghost use Rattle.clr_rules.specs.EditLaws.{AcceptedPassesChecks, EditsKeepNetwork, EditsKeepOrder};
-ghost use Rattle.clr_rules.specs.EditLaws.{EditsLeaveTheRest, PutHoldAdds, PutRecordReplaces};
+ghost use Rattle.clr_rules.specs.EditLaws.{AcceptedPassesChecks, AddedPassesChecks};
+ghost use Rattle.clr_rules.specs.EditLaws.{EditsKeepNetwork, EditsKeepOrder, EditsLeaveTheRest};
+ghost use Rattle.clr_rules.specs.EditLaws.{PutHoldAdds, PutRecordReplaces};
 ghost use Rattle.clr_rules.specs.EditLaws.{PutStepReplaces, PutsKeepOtherRows, RefusedByFirstCheck};
 ghost use Rattle.clr_rules.specs.EditLaws.{RefusedChangesNothing, SetHandSets, SetPositionSets};
 ghost use Rattle.clr_rules.specs.EditLaws.{ShownChangesNothing, TakeHoldTakes};
@@ -52,10 +53,11 @@ pub fn refused_commands_change_nothing()
 {}
 
 /// A command that is shown passes all checks and changes nothing; one that is accepted passes all
-/// checks.
+/// checks, and so does one that adds a point.
 pub fn accepted_commands_pass_all_checks()
     ensures shown { ShownChangesNothing }
     ensures accepted { AcceptedPassesChecks }
+    ensures added { AddedPassesChecks }
 {}
 
 /// Where the lists are in key order, an answer's edits stand in the order of their kinds, and those

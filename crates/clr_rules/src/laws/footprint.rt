@@ -13,14 +13,15 @@ pub fn sparing_edits_leave_alone()
     ensures outlook { SparingEditsKeepOutlook }
 {}
 
-/// The edits of a command about another clearance spare a clearance: those of a report where the
-/// hands match the steps, those of any other command in every register.
+/// The edits of a command of others spare a clearance: those of a report where the hands match the
+/// steps, those of a jumper where only points of the network have states, those of any other
+/// command in every register.
 pub fn edits_of_others_spare()
     ensures matched { OthersEditsSpare }
     ensures anywhere { OthersEditsSpareAnywhere }
 {}
 
-/// In a good register a command about another clearance leaves a clearance's record, steps and
+/// In a good register a command of others leaves a clearance's record, steps and
 /// holds as they are, clears no hand of it, and closes no point that it holds open.
 pub fn commands_of_others_leave_alone()
     ensures frame { OthersSpare }

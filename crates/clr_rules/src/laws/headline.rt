@@ -1,9 +1,9 @@
 //! The headline: what others do does not change what a clearance is answered, and takes nothing
 //! away from it.
 ghost use Rattle.clr_rules.specs.Isolation.{NothingIsTakenAway, OwnCommandsAlone};
-ghost use Rattle.clr_rules.specs.Isolation.{SameShownSameAnswers};
+ghost use Rattle.clr_rules.specs.Isolation.{ReachedShowTheSame, SameShownSameAnswers};
 
-/// The headline's first half: where two reached registers agree near a clearance on a set that
+/// The headline's first half: where two good registers agree near a clearance on a set that
 /// covers its run, two lists of commands that show it the same give the same answers to its own
 /// commands, and leave registers that agree again.
 pub fn same_shown_same_answers()
@@ -21,4 +21,10 @@ pub fn nothing_is_taken_away()
 /// commands stood alone.
 pub fn own_commands_stand_alone()
     ensures { OwnCommandsAlone }
+{}
+
+/// Two reached registers that agree near a clearance, and lists that show it the same, are what the
+/// headline asks for: a register that commands reach from an opening one is good.
+pub fn reached_show_the_same()
+    ensures { ReachedShowTheSame }
 {}

@@ -2,7 +2,8 @@
 ghost use Rattle.clr_rules.specs.NearLaws.{GreatestIsGreatest, NamedLooksAtItsFence};
 ghost use Rattle.clr_rules.specs.NearLaws.{NearHasNoOtherRows, NearIsInOrder};
 ghost use Rattle.clr_rules.specs.NearLaws.{OrderLooksAtFenceToBe, OrderPointsTouchTheFence};
-ghost use Rattle.clr_rules.specs.NearLaws.{OwnHoldsAreNear, PointsHaveOneRow};
+ghost use Rattle.clr_rules.specs.NearLaws.{JumperLooksAtTheNetwork, OwnHoldsAreNear};
+ghost use Rattle.clr_rules.specs.NearLaws.{PointsHaveOneRow};
 ghost use Rattle.clr_rules.specs.NearLaws.{RequestLooksAtItsSection, SwitchLooksAtItsPoints};
 ghost use Rattle.clr_rules.specs.NearLaws.{SwitchOrderHasItsPoints};
 
@@ -31,6 +32,12 @@ pub fn request_looks_at_its_section()
 /// A switch order that is made looks at the points of its steps and at the holds there.
 pub fn switch_looks_at_its_points()
     ensures { SwitchLooksAtItsPoints }
+{}
+
+/// A jumper looks at the network, at all records and at the steps of all first rounds, which tell
+/// whose fence it would cross, and at no other row.
+pub fn jumper_looks_at_the_network()
+    ensures { JumperLooksAtTheNetwork }
 {}
 
 /// A point of a network has one row.

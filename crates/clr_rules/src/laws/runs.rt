@@ -1,17 +1,18 @@
-//! Laws of runs: what no command changes, one reply a command, and what every reached register has.
+//! Laws of runs: what commands may add, one reply a command, and what every reached register has.
 ghost use Rattle.clr_rules.specs.BoundLaws.{ReachedRegistersAreBounded};
 ghost use Rattle.clr_rules.specs.RunLaws.{CommandsAreReplied, OpeningRegistersAreReached};
 ghost use Rattle.clr_rules.specs.RunLaws.{ReachedGoOn, ReachedListsAreInOrder, RunsGoOn};
-ghost use Rattle.clr_rules.specs.RunLaws.{RunsKeepOpening};
+ghost use Rattle.clr_rules.specs.RunLaws.{RunsOnlyAdd};
 
 /// In a reached register each list is in key order, one row a key.
 pub fn reached_lists_are_in_order()
     ensures { ReachedListsAreInOrder }
 {}
 
-/// No command changes the network, the staff, or which points there are.
-pub fn runs_keep_opening()
-    ensures { RunsKeepOpening }
+/// No command changes the staff or a row of the network. What is added to it are jumpers, and
+/// sections without a source; each point has a state, and no other name has one.
+pub fn runs_only_add()
+    ensures { RunsOnlyAdd }
 {}
 
 /// Each command of a run has one reply. A run goes on where another ended, and what it makes of a
