@@ -1,10 +1,20 @@
 -- One turn of a loop over edits, and of one over points.
 use Rattle.std.proofs.Common.{◌≡◌, ◌<◌, ℕ, ◌+◌, true, List, [], ◌∷◌, ◌++◌, length, drop, get_or, refl, sym, ◌∙◌, ap}
 use Rattle.std.proofs.lemmas.List.{append_assoc, drop_more}
+use Rattle.std.proofs.lemmas.Bool.{and_parts}
+use Rattle.clr_net.specs.Grid.{Grid, IsNetwork}
 use Rattle.clr_net.specs.Name.{name_cmp}
 use Rattle.clr_shelf.specs.Rows.{in_key_order, with_row}
-use Rattle.clr_rules.specs.Edits.{after_edit, after_edits}
+use Rattle.clr_rules.specs.Edits.{after_edit, after_edits, fit, fits_edit, net_after}
+use Rattle.clr_rules.specs.Answer.{Answer, answer_with}
+use Rattle.clr_rules.specs.Near.{Near, near_of}
 use Rattle.clr_rules.specs.Register.{Register}
+use Rattle.clr_rules.specs.Command.{is_jumper}
+use Rattle.clr_rules.specs.declared.command.Command.{Command}
+use Rattle.clr_rules.specs.declared.command.Kind.{Kind}
+use Rattle.clr_rules.specs.declared.command.Kind.TheVariants.{Jumper}
+use Rattle.clr_rules.proofs.edits.Growing.{answers_fit, plain_fit}
+use Rattle.clr_rules.proofs.edits.PlainEdits.{answers_with_plain}
 use Rattle.clr_rules.specs.States.{state_key}
 use Rattle.clr_rules.specs.declared.change.Edit.{Edit}
 use Rattle.clr_rules.specs.declared.point_state.PointState.{PointState}
@@ -17,12 +27,32 @@ pub drop_step : {X : Type 0} (xs ys : List X) (i : ℕ) (x : X) → xs ≡ ys �
 drop_step xs ys i x same is inside =
     ap (drop i) (sym same) ∙ drop_more xs i x inside ∙ ap (λ y. y ∷ drop (i + 1) xs) (sym is) ∙ ap (λ zs. x ∷ drop (i + 1) zs) same
 
--- an edit is made, in the room for it and for those after it
+-- an edit is made, in the room for it and for those after it, of a network that takes them
 pub edit_step : (edit : Edit) (rest : List Edit) (before after : Shelved) → Fits (needs (edit ∷ rest)) before.room → Fits before.room (need_of edit after.room)
-    → after.register ≡ after_edit edit before.register
-    → Fits (needs rest) after.room × (after_edits rest after.register ≡ after_edits (edit ∷ rest) before.register)
-unfolding after_edits
-edit_step edit rest before after fits left made = (room_left edit (needs rest) before.room after.room fits left, ap (after_edits rest) made)
+    → fit before.register.net (edit ∷ rest) ≡ true → after.register ≡ after_edit edit before.register
+    → Fits (needs rest) after.room × (fit after.register.net rest ≡ true) × (after_edits rest after.register ≡ after_edits (edit ∷ rest) before.register)
+unfolding after_edits fit
+edit_step edit rest before after fits left taken made = (
+  room_left edit (needs rest) before.room after.room fits left,
+  ap (λ (R : Register). fit R.net rest) made ∙ (and_parts (fits_edit before.register.net edit) (fit (net_after edit before.register.net) rest) taken).1,
+  ap (after_edits rest) made,
+)
+
+-- the network takes the first of edits that it takes
+pub first_taken : (g : Grid) (edit : Edit) (rest : List Edit) → fit g (edit ∷ rest) ≡ true → fits_edit g edit ≡ true
+unfolding fit
+first_taken g edit rest taken = (and_parts (fits_edit g edit) (fit (net_after edit g) rest) taken).0
+
+-- the network takes the edits of an answer from the near part
+pub answers_taken : (R : Register) → IsNetwork R.net → (q : Command) → fit R.net (Answer.edits (answer_with (Near.known (near_of R q)) (Near.rows (near_of R q)) q)) ≡ true
+answers_taken R net q = at q.kind refl
+  where
+    at : (kind : Kind) → q.kind ≡ kind → fit R.net (Answer.edits (answer_with (Near.known (near_of R q)) (Near.rows (near_of R q)) q)) ≡ true
+    at (Jumper point from to lockable remote) is =
+        rw is (answers_fit R (record { caller = q.caller; moment = q.moment; kind = Jumper point from to lockable remote }) net)
+    at _ is =
+        let near = near_of R q in
+        plain_fit (Answer.edits (answer_with near.known near.rows q)) R.net (answers_with_plain near.known near.rows q (ap is_jumper is))
 
 pub edits_end : (R : Register) → after_edits [] R ≡ R
 unfolding after_edits

@@ -1,5 +1,5 @@
 -- Rows that are lent: their order, and the row of a key, behind references.
-use Rattle.std.proofs.Common.{◌≡◌, Bool, true, false, ◌&&◌, Bor, List, [], ◌∷◌, Option, Some, None, cond, map, refl, ap}
+use Rattle.std.proofs.Common.{◌≡◌, Bool, true, false, ◌&&◌, Bor, List, [], ◌∷◌, map, refl, ap}
 use Rattle.std.specs.List.{find, list_all}
 use Rattle.std.specs.Option.{option_copied}
 use Rattle.std.specs.Ordering.{is_eq, is_lt}

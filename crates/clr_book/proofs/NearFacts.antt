@@ -1,5 +1,5 @@
 -- What is lent, and the definitions.
-use Rattle.std.proofs.Common.{◌≡◌, ◌∙◌, ◌==◌, ◌&&◌, ◌||◌, ℕ, zero, suc, Bool, true, Some, ◌++◌, List, [], ◌∷◌, map, filter, length, refl, sym, ap}
+use Rattle.std.proofs.Common.{◌≡◌, ◌∙◌, ◌==◌, ◌&&◌, ◌||◌, ℕ, zero, suc, Bool, true, false, Some, ◌++◌, List, [], ◌∷◌, map, filter, length, refl, sym, ap}
 use Rattle.std.proofs.lemmas.Bool.{and_parts}
 use Rattle.std.proofs.lemmas.List.Folds.{list_any-append}
 use Rattle.clr_net.specs.Fence.{FenceRows, fence_of, in_fence, leads, reaches, touches}
@@ -66,6 +66,16 @@ pub unplaced_shown : {X : Type 0} (shows : X → PointRow) (items : List X) → 
 unplaced_shown shows [] = refl
 unplaced_shown shows (item ∷ items) = ap (λ points. unplaced (shows item) ∷ points) (unplaced_shown shows items)
 
+-- rows that are kept by what they show
+pub filter_shown : {X Y : Type 0} (shows : X → Y) (test : Y → Bool) (items : List X) → map shows (filter (λ item. test (shows item)) items) ≡ filter test (map shows items)
+filter_shown shows test [] = refl
+filter_shown shows test (item ∷ items) = at (test (shows item)) refl (filter_shown shows test items)
+  where
+    at : (b : Bool) → test (shows item) ≡ b → map shows (filter (λ item. test (shows item)) items) ≡ filter test (map shows items)
+        → map shows (filter (λ item. test (shows item)) (item ∷ items)) ≡ filter test (map shows (item ∷ items))
+    at true e more = rw e (ap (λ rest. shows item ∷ rest) more)
+    at false e more = rw e more
+
 pub points_shown : {X : Type 0} (shows : X → StepRow) (items : List X) → map (λ item. (shows item).step.point) items ≡ points_of (map shows items)
 points_shown shows [] = refl
 points_shown shows (item ∷ items) = ap (λ points. (shows item).step.point ∷ points) (points_shown shows items)
@@ -100,13 +110,13 @@ beside_lent R q names fence are fenced = rw (are, fenced) (λ i p. has_name-appe
 
 -- what is lent is a register with what is known of it, if each of its parts is
 pub lent_whole : (near : Near) (known : Known) (R : Register)
-    → Known.greatest near.known ≡ known.greatest → Known.fence near.known ≡ known.fence
+    → Known.greatest near.known ≡ known.greatest → Known.fence near.known ≡ known.fence → Known.crossed near.known ≡ known.crossed
     → Grid.sections (Register.net near.rows) ≡ Grid.sections R.net → Grid.points (Register.net near.rows) ≡ Grid.points R.net
     → Register.staff near.rows ≡ R.staff → Register.states near.rows ≡ R.states → Register.records near.rows ≡ R.records
     → Register.steps near.rows ≡ R.steps → Register.holds near.rows ≡ R.holds
     → near ≡ record { known = known; rows = R }
-lent_whole near known R greatest fence sections points staff states records steps holds i = record {
-  known = record { greatest = greatest i; fence = fence i };
+lent_whole near known R greatest fence crossed sections points staff states records steps holds i = record {
+  known = record { greatest = greatest i; fence = fence i; crossed = crossed i };
   rows = record {
     net = record { sections = sections i; points = points i };
     staff = staff i;

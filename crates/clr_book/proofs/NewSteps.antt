@@ -1,5 +1,5 @@
 -- New steps are numbered in rising order, so they stand in key order.
-use Rattle.std.proofs.Common.{◌≡◌, ◌<◌, ℕ, ◌+◌, Bool, true, None, List, [], ◌∷◌, arith, refl, sym}
+use Rattle.std.proofs.Common.{◌≡◌, ◌<◌, ℕ, ◌+◌, true, None, List, [], ◌∷◌, arith, refl, sym}
 use Rattle.std.specs.Cmp.{IsTotalOrder, nat_cmp_is}
 use Rattle.std.specs.List.{list_all}
 use Rattle.std.specs.Ordering.{is_lt, nat_cmp, ordering_reverse}
@@ -9,7 +9,7 @@ use Rattle.std.proofs.lemmas.Cmp.{nat_cmp_total}
 use Rattle.clr_order.specs.Step.{Task}
 use Rattle.clr_order.specs.declared.step.StepState.TheVariants.{Waiting}
 use Rattle.clr_rules.specs.Changes.{new_steps}
-use Rattle.clr_rules.specs.Id.{Id, id_cmp, id_cmp_total}
+use Rattle.clr_rules.specs.Id.{Id, id_cmp_total}
 use Rattle.clr_rules.specs.StepKey.{step_key, step_key_cmp}
 use Rattle.clr_rules.specs.declared.step_row.StepRow.{StepRow}
 use Rattle.clr_shelf.specs.Rows.{in_key_order}

@@ -6,15 +6,18 @@ use Rattle.clr_rules.specs.Register.{Register}
 use Rattle.clr_rules.specs.declared.change.Edit.{Edit}
 use Rattle.clr_rules.specs.declared.change.Edit.TheVariants.{SetPosition, SetHand, PutHold}
 use Rattle.clr_rules.specs.declared.change.Edit.TheVariants.{TakeHold, PutRecord, PutStep}
+use Rattle.clr_rules.specs.declared.change.Edit.TheVariants.{AddSection, AddPoint}
 
--- rows that may be put; a point's state is only ever replaced, and needs no room
+-- rows that may be put; a state that is set is replaced, and needs no room, but an added point has a
+-- new one. A network has the room of the greatest one
 pub record Room : Type 0 where
+  pub states : ℕ
   pub records : ℕ
   pub steps : ℕ
   pub holds : ℕ
 
 pub record Shelved : Type 0 where
-  -- the network as it was built, with the positions of its rows
+  -- the network, with the positions of the rows that it was built of and of those that were added
   pub network : Grid
   pub register : Register
   pub room : Room
@@ -27,12 +30,15 @@ need_of (PutHold h) need = record need { holds = need.holds + 1 }
 need_of (TakeHold h) need = need
 need_of (PutRecord r) need = record need { records = need.records + 1 }
 need_of (PutStep row) need = record need { steps = need.steps + 1 }
+need_of (AddSection row) need = need
+need_of (AddPoint p) need = record need { states = need.states + 1 }
 
 abbrev pub needs : List Edit → Room
-needs [] = record { records = 0; steps = 0; holds = 0 }
+needs [] = record { states = 0; records = 0; steps = 0; holds = 0 }
 needs (edit ∷ edits) = need_of edit (needs edits)
 
 pub record Fits (need room : Room) : Type 0 where
+  pub states : need.states ≤ room.states
   pub records : need.records ≤ room.records
   pub steps : need.steps ≤ room.steps
   pub holds : need.holds ≤ room.holds

@@ -1,5 +1,5 @@
 -- What is decided, as an answer.
-use Rattle.std.specs.Prelude.{◌≡◌, ℕ, Bool, true, false, List, [], ◌∷◌, ◌++◌, Option, None, Some}
+use Rattle.std.specs.Prelude.{◌≡◌, ℕ, Bool, true, false, List, [], ◌∷◌, ◌++◌, Option}
 use Rattle.clr_rules.specs.Answer.{Answer, card_of, first_refusal}
 use Rattle.clr_rules.specs.Changes.{put_steps}
 use Rattle.clr_rules.specs.Commands.{checks, edits_of}
@@ -9,11 +9,11 @@ use Rattle.clr_rules.specs.Register.{Register}
 use Rattle.clr_rules.specs.declared.change.Edit.{Edit}
 use Rattle.clr_rules.specs.declared.change.Edit.TheVariants.{PutRecord}
 use Rattle.clr_rules.specs.declared.command.Kind.{Kind}
-use Rattle.clr_rules.specs.declared.command.Kind.TheVariants.{Show}
+use Rattle.clr_rules.specs.declared.command.Kind.TheVariants.{Show, Jumper}
 use Rattle.clr_rules.specs.declared.refusal.Refusal.{Refusal}
 use Rattle.clr_rules.specs.declared.record.Record.{Record}
 use Rattle.clr_rules.specs.declared.reply.Reply.{Reply}
-use Rattle.clr_rules.specs.declared.reply.Reply.TheVariants.{Accepted, Shown, Refused}
+use Rattle.clr_rules.specs.declared.reply.Reply.TheVariants.{Accepted, Shown, Refused, Added}
 use Rattle.clr_rules.specs.declared.step_row.StepRow.{StepRow}
 use Rattle.clr_book.specs.declared.decision.Decision.{Decision}
 
@@ -45,12 +45,14 @@ abbrev pub is_accepted : Reply → Bool
 is_accepted (Accepted card) = true
 is_accepted (Shown view) = false
 is_accepted (Refused refusal) = false
+is_accepted (Added point) = true
 
 -- a command that is refused, or is shown what it asks for, changes nothing
 abbrev pub ChangesIfAccepted : Decision → Type 0
 ChangesIfAccepted d = is_accepted d.reply ≡ false → d.change.edits.items ≡ []
 
--- whether a command only asks
-abbrev pub is_question : Kind → Bool
-is_question (Show c) = true
-is_question _ = false
+-- whether an accepted command puts no record: it asks, or is about no clearance
+abbrev pub has_no_record : Kind → Bool
+has_no_record (Show c) = true
+has_no_record (Jumper point from to lockable remote) = true
+has_no_record _ = false

@@ -7,13 +7,14 @@ use Rattle.clr_rules.specs.StepKey.{step_key, step_key_cmp}
 use Rattle.clr_rules.specs.declared.change.Edit.{Edit}
 use Rattle.clr_rules.specs.declared.change.Edit.TheVariants.{SetPosition, SetHand, PutHold}
 use Rattle.clr_rules.specs.declared.change.Edit.TheVariants.{TakeHold, PutRecord, PutStep}
+use Rattle.clr_rules.specs.declared.change.Edit.TheVariants.{AddSection, AddPoint}
 use Rattle.clr_book.specs.Decision.{all_edits}
 use Rattle.clr_book.specs.declared.effect.Effect.{Effect}
 
 abbrev pub edits_in : Effect → List Edit
 edits_in e = all_edits e.lead.items e.clearance e.steps.items
 
--- edits of points and holds
+-- edits of the network, of points and of holds
 abbrev pub leaves_rows : Edit → Bool
 leaves_rows (SetPosition point position) = true
 leaves_rows (SetHand point hand) = true
@@ -21,6 +22,8 @@ leaves_rows (PutHold h) = true
 leaves_rows (TakeHold h) = true
 leaves_rows (PutRecord r) = false
 leaves_rows (PutStep row) = false
+leaves_rows (AddSection row) = true
+leaves_rows (AddPoint p) = true
 
 -- an effect on a clearance: the record is its own, and the steps stand in key order
 pub record IsOf (c : Id) (e : Effect) : Type 0 where

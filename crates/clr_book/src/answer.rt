@@ -1,7 +1,7 @@
 //! The book's answer to a command.
-ghost use Rattle.std.specs.Prelude.{◌≡◌, false, IfOk, OnErr};
+ghost use Rattle.std.specs.Prelude.{◌≡◌, false, true, IfOk, OnErr};
 ghost use Rattle.clr_rules.specs.Answer.{Answer, answer, answer_with};
-ghost use Rattle.clr_rules.specs.Edits.{after_edits};
+ghost use Rattle.clr_rules.specs.Edits.{after_edits, fit};
 ghost use Rattle.clr_rules.specs.Good.{IsGood};
 ghost use Rattle.clr_rules.specs.Near.{Near, near_of};
 ghost use Rattle.clr_rules.specs.Run.{after};
@@ -26,7 +26,10 @@ impl<P: Shelf<PointState>, C: Shelf<Record>, T: Shelf<StepRow>, H: Shelf<Hold>> 
         ensures whole { IsGood self.now.register
             → IfOk result (λ d. answer self.now.register command.now ≡ answer_of_decision d) }
         ensures nothing { IfOk result ChangesIfAccepted }
+        ensures fits { IfOk result
+            (λ d. fit self.now.register.net d.change.edits.items ≡ true) }
     {
+        self.network.is_network();
         let near = self.near(command)?;
         let decision = decide(&near, command)?;
         Ok(decision)
@@ -47,7 +50,6 @@ impl<P: Shelf<PointState>, C: Shelf<Record>, T: Shelf<StepRow>, H: Shelf<Hold>> 
         ensures nothing { IfOk result (λ reply.
             is_accepted reply ≡ false → self.new.register ≡ self.old.register) }
         ensures refused { OnErr result (self.new.register ≡ self.old.register) }
-        ensures network { self.new.network ≡ self.old.network }
     {
         let decision = self.answer(command)?;
         self.reserve(&decision.change)?;

@@ -1,12 +1,13 @@
 //! The book: the network, the staff, and the rows of the register on four shelves.
-ghost use Rattle.std.specs.Prelude.{◌≡◌, [], IfOk, IsOk, OnOk, map, option_copied};
-ghost use Rattle.clr_rules.specs.Edits.{after_edit, after_edits};
+ghost use Rattle.std.specs.Prelude.{◌≡◌, ◌<◌, [], true, IfOk, IsOk, OnOk, map, option_copied};
+ghost use Rattle.clr_rules.specs.Edits.{after_edit, after_edits, fit, fits_edit};
 ghost use Rattle.clr_rules.specs.Good.{ListsAreInOrder};
 ghost use Rattle.clr_rules.specs.Records.{record_of};
 ghost use Rattle.clr_rules.specs.Register.{Register, opening, unplaced_net};
 ghost use Rattle.clr_rules.specs.Run.{IsReached};
 ghost use Rattle.clr_rules.specs.States.{state_of};
 ghost use Rattle.clr_rules.specs.Steps.{steps_of};
+ghost use Rattle.clr_rules.specs.declared.change.Edit.TheVariants.{AddPoint, AddSection};
 ghost use Rattle.clr_book.specs.Book.{Fits, Room, Shelved, need_of, needs};
 
 pub(crate) mod room;
@@ -16,7 +17,7 @@ use crate::book::room::puts_of;
 use crate::book::rows::all_rows;
 use crate::states::{opening_states, set_hand, set_position};
 use clr_csv::Staff;
-use clr_net::{Name, Network};
+use clr_net::{Name, Network, PointRow, Position, SectionRow};
 use clr_rules::{Change, ClearanceId, Edit, Hold, PointState, Record, StepRow};
 use clr_shelf::Shelf;
 use std::alloc::{AllocError, Global};
@@ -51,7 +52,12 @@ impl<P: Shelf<PointState>, C: Shelf<Record>, T: Shelf<StepRow>, H: Shelf<Hold>> 
         steps = T.rows b.steps;
         holds = H.rows b.holds;
       };
-      room = record { records = C.room b.records; steps = T.room b.steps; holds = H.room b.holds };
+      room = record {
+        states = P.room b.states;
+        records = C.room b.records;
+        steps = T.room b.steps;
+        holds = H.room b.holds;
+      };
     } };
 }
 
@@ -77,9 +83,11 @@ impl<P: Shelf<PointState>, C: Shelf<Record>, T: Shelf<StepRow>, H: Shelf<Hold>> 
         })
     }
 
-    /// The network that the book was opened with, each point in the position of its row.
+    /// The network that the book was opened with and what was added to it, each point in the
+    /// position of its row.
     pub fn network(&self) -> &Network
-        ensures { result.now ≡ self.now.network }
+        ensures rows { result.now ≡ self.now.network }
+        ensures register { unplaced_net result.now ≡ self.now.register.net }
     {
         &self.network
     }
@@ -145,7 +153,8 @@ impl<P: Shelf<PointState>, C: Shelf<Record>, T: Shelf<StepRow>, H: Shelf<Hold>> 
     }
 
     /// Makes the room that a change needs. It changes nothing else, and room that was made stays,
-    /// also where memory is refused; that is only asked for where there is less room.
+    /// also where memory is refused; that is only asked for where there is less room. The network
+    /// needs none: it has that of the greatest one.
     pub fn reserve(&mut self, change: &Change) -> Result<(), AllocError>
         ensures register { self.new.register ≡ self.old.register }
         ensures network { self.new.network ≡ self.old.network }
@@ -154,17 +163,19 @@ impl<P: Shelf<PointState>, C: Shelf<Record>, T: Shelf<StepRow>, H: Shelf<Hold>> 
         ensures succeeds { Fits (needs change.now.edits.items) self.old.room → IsOk result }
     {
         let puts = puts_of(&change.edits);
+        self.states.reserve(puts.states)?;
         self.records.reserve(puts.records)?;
         self.steps.reserve(puts.steps)?;
         self.holds.reserve(puts.holds)?;
         Ok(())
     }
 
-    /// Makes a change, in the room that `reserve` made for it.
+    /// Makes a change, in the room that `reserve` made for it. What it adds has to fit the network,
+    /// as it does in each change that `answer` gives.
     pub fn apply(&mut self, change: Change)
-        requires { Fits (needs change.edits.items) self.old.room }
-        ensures register { self.new.register ≡ after_edits change.edits.items self.old.register }
-        ensures network { self.new.network ≡ self.old.network }
+        requires room { Fits (needs change.edits.items) self.old.room }
+        requires fits { fit self.old.register.net change.edits.items ≡ true }
+        ensures { self.new.register ≡ after_edits change.edits.items self.old.register }
     {
         for edit in &change.edits {
             self.make(edit);
@@ -173,9 +184,9 @@ impl<P: Shelf<PointState>, C: Shelf<Record>, T: Shelf<StepRow>, H: Shelf<Hold>> 
 
     /// Makes one edit.
     fn make(&mut self, edit: &Edit)
-        requires { Fits (need_of edit.now (needs [])) self.old.room }
+        requires room { Fits (need_of edit.now (needs [])) self.old.room }
+        requires fits { fits_edit self.old.register.net edit.now ≡ true }
         ensures register { self.new.register ≡ after_edit edit.now self.old.register }
-        ensures network { self.new.network ≡ self.old.network }
         ensures room { Fits self.old.room (need_of edit.now self.new.room) }
     {
         match *edit {
@@ -191,6 +202,33 @@ impl<P: Shelf<PointState>, C: Shelf<Record>, T: Shelf<StepRow>, H: Shelf<Hold>> 
             }
             Edit::PutRecord(record) => self.records.put(record),
             Edit::PutStep(row) => self.steps.put(row),
+            Edit::AddSection(section) => self.add_section(section),
+            Edit::AddPoint(point) => self.add_point(point),
         }
+    }
+
+    /// Adds a section.
+    fn add_section(&mut self, section: SectionRow)
+        requires { fits_edit self.old.register.net (AddSection section) ≡ true }
+        ensures register { self.new.register ≡ after_edit (AddSection section) self.old.register }
+        ensures room { self.new.room ≡ self.old.room }
+    {
+        self.network.add_section(section);
+    }
+
+    /// Adds a point, which is open and in nobody's hand.
+    fn add_point(&mut self, point: PointRow)
+        requires room { 0 < Room.states self.old.room }
+        requires fits { fits_edit self.old.register.net (AddPoint point) ≡ true }
+        ensures register { self.new.register ≡ after_edit (AddPoint point) self.old.register }
+        ensures room { Fits self.old.room (need_of (AddPoint point) self.new.room) }
+    {
+        let state = PointState {
+            point: point.name,
+            position: Position::Opened,
+            hand: None,
+        };
+        self.network.add_point(point);
+        self.states.put(state);
     }
 }

@@ -6,6 +6,7 @@ ghost use Rattle.clr_rules.specs.Checks.{refuse};
 pub(crate) mod begins;
 pub(crate) mod callers;
 pub(crate) mod clearances;
+pub(crate) mod network;
 pub(crate) mod orders;
 pub(crate) mod rows;
 pub(crate) mod steps;

@@ -5,7 +5,7 @@ ghost use Rattle.clr_rules.specs.Command.{named_clearance};
 ghost use Rattle.clr_rules.specs.Good.{IsGoodAsSaid, OnlySwitchOrdersSwitch};
 ghost use Rattle.clr_rules.specs.Near.{near_of};
 ghost use Rattle.clr_rules.specs.Register.{Register};
-ghost use Rattle.clr_book.specs.Decision.{ChangesIfAccepted, answer_of_decision, is_question};
+ghost use Rattle.clr_book.specs.Decision.{ChangesIfAccepted, answer_of_decision, has_no_record};
 ghost use Rattle.clr_book.specs.Decision.{near_edits, near_refusal};
 ghost use Rattle.clr_book.specs.Effect.{IsOf, edits_in};
 
@@ -14,6 +14,7 @@ mod cancel;
 mod grant;
 mod ground;
 mod instruct;
+mod jumper;
 mod new_record;
 mod new_steps;
 mod order;
@@ -34,6 +35,7 @@ mod unground;
 use crate::checks::begins::Ask;
 use crate::decision::{Decision, accept, refused, shown};
 use crate::effect::Effect;
+use crate::kinds::jumper::Jumper;
 use crate::near::Near;
 use clr_rules::{ClearanceId, Command, Kind, Refusal};
 use std::alloc::AllocError;
@@ -55,7 +57,8 @@ pub fn decide(near: &Near, command: &Command) -> Result<Decision, AllocError>
     Ok(decision)
 }
 
-/// The checks refuse a command, or it is shown what it asks for, or it is carried out.
+/// The checks refuse a command, or it is shown what it asks for, or its point is laid, or it is
+/// carried out.
 fn decision_of(near: &Near, command: &Command) -> Result<Decision, AllocError>
     ensures answer { IfOk result (λ d.
         answer_with near.now.known near.now.rows command.now ≡ answer_of_decision d) }
@@ -72,6 +75,24 @@ fn decision_of(near: &Near, command: &Command) -> Result<Decision, AllocError>
         };
         let view = show::view(near, asked)?;
         return Ok(shown(near.alloc, view));
+    }
+    if let Kind::Jumper {
+        point,
+        from,
+        to,
+        lockable,
+        remote,
+    } = &command.kind
+    {
+        let laid = Jumper {
+            point: *point,
+            from: *from,
+            to: *to,
+            lockable: *lockable,
+            remote: *remote,
+        };
+        let decision = jumper::added(near, laid)?;
+        return Ok(decision);
     }
     let effect = effect_of(near, command)?;
     let decision = accept(near, effect)?;
@@ -132,6 +153,22 @@ fn refusal_of(near: &Near, command: &Command) -> Result<Option<Refusal>, AllocEr
         Kind::Amend { clearance, step } => amend::refusal_of(near, ask(*clearance), *step),
         Kind::Switch { steps } => switch::refusal_of(near, by, at, steps),
         Kind::Show { clearance } => show::refusal_of(near, ask(*clearance)),
+        Kind::Jumper {
+            point,
+            from,
+            to,
+            lockable,
+            remote,
+        } => {
+            let laid = Jumper {
+                point: *point,
+                from: *from,
+                to: *to,
+                lockable: *lockable,
+                remote: *remote,
+            };
+            jumper::refusal_of(near, by, at, laid)
+        }
     };
     Ok(refusal)
 }
@@ -140,7 +177,7 @@ fn refusal_of(near: &Near, command: &Command) -> Result<Option<Refusal>, AllocEr
 fn effect_of(near: &Near, command: &Command) -> Result<Effect, AllocError>
     requires passes { near_refusal near.now command.now.caller command.now.moment command.now.kind
         ≡ None }
-    requires changes { is_question command.now.kind ≡ false }
+    requires changes { has_no_record command.now.kind ≡ false }
     ensures edits { IfOk result
         (λ effect. near_edits near.now command.now.caller command.now.moment command.now.kind
         ≡ edits_in effect) }
@@ -192,7 +229,7 @@ fn effect_of(near: &Near, command: &Command) -> Result<Effect, AllocError>
         Kind::Restore { clearance, steps } => restore::effect(near, ask(*clearance), steps)?,
         Kind::Amend { clearance, step } => amend::effect(near, ask(*clearance), *step)?,
         Kind::Switch { steps } => switch::effect(near, by, at, steps)?,
-        Kind::Show { .. } => unreachable!(),
+        Kind::Show { .. } | Kind::Jumper { .. } => unreachable!(),
     };
     Ok(effect)
 }

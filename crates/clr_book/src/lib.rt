@@ -15,6 +15,9 @@ mod states;
 mod view;
 
 pub use book::Book;
+pub use book::rows::all_rows;
+pub use checks::orders::each_once;
+pub use checks::steps::hinders;
 pub use clr_rules::{
     Card, Change, ClearanceId, Command, Edit, Hold, HoldGroup, HoldKind, Holds, IdFault, Items,
     Kind, MAX_CLEARANCE_NUMBER, MAX_MOMENT, Moment, Names, Phase, PointState, PointStates, Record,

@@ -2,12 +2,13 @@
 mod fence;
 mod groups;
 pub(crate) mod names;
+mod network;
 mod points;
 mod rows;
 
 use clr_csv::Staff;
 use clr_net::{Name, PointRow, SectionRow};
-use clr_rules::{Hold, PointState, Record, StepRow};
+use clr_rules::{ClearanceId, Hold, PointState, Record, StepRow};
 use std::alloc::Global;
 use std::marker::Model;
 
@@ -26,6 +27,8 @@ pub struct Near<'a> {
     pub(crate) greatest: u16,
     /// The sections of the clearance's fence, or of the fence that the order would make.
     pub(crate) fence: Vec<Name>,
+    /// The least clearance whose fence a jumper would cross. Other commands cross none.
+    pub(crate) crossed: Option<ClearanceId>,
     pub(crate) sections: Vec<&'a SectionRow>,
     pub(crate) points: Vec<&'a PointRow>,
     pub(crate) staff: &'a Staff,
@@ -51,7 +54,7 @@ impl<'a> Model for Near<'a> {
     ghost Value = { Near };
 
     ghost view = { λ n. record {
-      known = record { greatest = n.greatest; fence = n.fence.items };
+      known = record { greatest = n.greatest; fence = n.fence.items; crossed = n.crossed };
       rows = record {
         net = record {
           sections = map (λ row. row.now) n.sections.items;

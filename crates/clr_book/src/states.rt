@@ -32,9 +32,10 @@ pub(crate) fn opening_states<P: Shelf<PointState>>(
 
 /// Sets the position of a point, if it has a state.
 pub(crate) fn set_position<P: Shelf<PointState>>(states: &mut P, point: &Name, position: Position)
-    ensures { P.rows states.new
+    ensures rows { P.rows states.new
         ≡ change_state (P.rows states.old) point.now
         (λ state. record state { position = position }) }
+    ensures room { P.room states.new ≡ P.room states.old }
 {
     if let Some(state) = states.get(point) {
         let state = PointState { position, ..*state };
@@ -48,8 +49,9 @@ pub(crate) fn set_hand<P: Shelf<PointState>>(
     point: &Name,
     hand: Option<ClearanceId>,
 )
-    ensures { P.rows states.new
+    ensures rows { P.rows states.new
         ≡ change_state (P.rows states.old) point.now (λ state. record state { hand = hand }) }
+    ensures room { P.room states.new ≡ P.room states.old }
 {
     if let Some(state) = states.get(point) {
         let state = PointState { hand, ..*state };

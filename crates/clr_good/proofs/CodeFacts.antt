@@ -95,12 +95,11 @@ sound_told g net work rows fence cut points tasks same fence_is cut_is points_ar
     fault_of_network g work all (tasks_of rows) ∙ ap (λ (n : Grid). isolating_fault (fence_of n work all) all (tasks_of rows)) same in
     ap (λ (o : Option OrderFault). not (is_some o)) (one ∙ two ∙ three)
 
--- and whether a section lies inside
-pub inside_told : (g net : Grid) (work : List ℕ) (rows : List StepRow) (fence : FenceRows) (cut : List (List ℕ)) (s : List ℕ)
+-- and which sections lie inside
+pub cut_told : (g net : Grid) (work : List ℕ) (rows : List StepRow) (fence : FenceRows) (cut : List (List ℕ))
     → unplaced_net g ≡ net → fence ≡ fence_of g work cut → cut ≡ points_of rows
-    → has_name (section_names (FenceRows.sections fence)) s ≡ has_name (work_fence net (Some work) (points_of rows)) s
-inside_told g net work rows fence cut s same fence_is cut_is =
-    let has = λ (sections : List SectionRow). has_name (section_names sections) s in
-    ap (λ (f : FenceRows). has (FenceRows.sections f)) fence_is ∙ ap has (fence_unplaced g work cut)
-    ∙ ap (λ (n : Grid). has (FenceRows.sections (fence_of n work cut))) same
-    ∙ ap (λ (c : List (List ℕ)). has (FenceRows.sections (fence_of net work c))) cut_is
+    → section_names (FenceRows.sections fence) ≡ work_fence net (Some work) (points_of rows)
+cut_told g net work rows fence cut same fence_is cut_is =
+    ap (λ (f : FenceRows). section_names (FenceRows.sections f)) fence_is ∙ ap section_names (fence_unplaced g work cut)
+    ∙ ap (λ (n : Grid). section_names (FenceRows.sections (fence_of n work cut))) same
+    ∙ ap (λ (c : List (List ℕ)). section_names (FenceRows.sections (fence_of net work c))) cut_is

@@ -3,6 +3,7 @@ pub mod Clearances
 pub mod Steps
 pub mod Holds
 pub mod HoldsLeft
+pub mod Around
 pub mod Whole
 pub mod Fault
 pub mod Laws

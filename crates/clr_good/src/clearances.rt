@@ -7,8 +7,8 @@ ghost use Rattle.clr_rules.specs.Good.{is_known_work, is_operators};
 ghost use Rattle.clr_good.specs.Clearances.{answers_alike, clearances_fit, number_after};
 ghost use Rattle.clr_good.specs.Clearances.{numbers_fit, record_fits, work_fits};
 
-use crate::rows::all_rows;
 use crate::shelves::Shelves;
+use clr_book::all_rows;
 use clr_csv::Role;
 use clr_net::Name;
 use clr_rules::{ClearanceId, Hold, Phase, PointState, Record, StepRow};

@@ -1,5 +1,5 @@
 //! Whether the list of holds fits.
-ghost use Rattle.std.specs.Prelude.{◌≡◌, IfOk, map, true, false};
+ghost use Rattle.std.specs.Prelude.{◌≡◌, Bool, IfOk, IfSome, map, true, false};
 ghost use Rattle.std.specs.List.{list_all};
 ghost use Rattle.clr_net.specs.Names.{has_name};
 ghost use Rattle.clr_rules.specs.Fences.{work_fence};
@@ -8,16 +8,18 @@ ghost use Rattle.clr_rules.specs.GoodByPhase.{of_round};
 ghost use Rattle.clr_rules.specs.Holds.{has_hold};
 ghost use Rattle.clr_rules.specs.States.{position_of};
 ghost use Rattle.clr_rules.specs.Steps.{points_of, steps_of};
+ghost use Rattle.clr_rules.specs.declared.hold.Hold.{Hold};
 ghost use Rattle.clr_rules.specs.declared.hold_kind.HoldKind.TheVariants.{Ground};
+ghost use Rattle.clr_good.specs.Around.{IsAround};
 ghost use Rattle.clr_good.specs.Holds.{all_put_stands, hold_fits, holds_fit, holds_suit};
 ghost use Rattle.clr_good.specs.Holds.{is_opened, is_undone_at, kind_suits, put_stands};
 ghost use Rattle.clr_good.specs.Holds.{record_holds_fit};
 
+use crate::around::Around;
 use crate::rounds::of_round;
-use crate::rows::all_rows;
 use crate::shelves::Shelves;
-use crate::steps::points_of;
 use crate::undoing::{HoldsLeft, undo};
+use clr_book::all_rows;
 use clr_net::{Name, Position};
 use clr_order::Action;
 use clr_rules::{ClearanceId, Hold, HoldKind, Phase, PointState, Record, StepRow};
@@ -37,6 +39,7 @@ impl<'a, P: Shelf<PointState>, C: Shelf<Record>, T: Shelf<StepRow>, H: Shelf<Hol
         ensures { IfOk result (λ fit. fit ≡ holds_fit self.now) }
     {
         let holds: Vec<&Hold> = all_rows(self.alloc, self.holds)?;
+        let holds = by_clearance(holds);
         if !self.each_hold_fits(&holds)? {
             return Ok(false);
         }
@@ -45,20 +48,24 @@ impl<'a, P: Shelf<PointState>, C: Shelf<Record>, T: Shelf<StepRow>, H: Shelf<Hol
         Ok(fit)
     }
 
+    /// Where the holds of a clearance stand side by side, its fence is searched once.
     fn each_hold_fits(&self, holds: &[&Hold]) -> Result<bool, AllocError>
         ensures { IfOk result (λ fit. fit
             ≡ list_all (hold_fits self.now) (map (λ hold. hold.now) holds.now)) }
     {
+        let mut last = None;
         for hold in holds {
-            if !self.hold_fits(hold)? {
+            if !self.hold_fits(hold, &mut last)? {
                 return Ok(false);
             }
         }
         Ok(true)
     }
 
-    fn hold_fits(&self, hold: &Hold) -> Result<bool, AllocError>
-        ensures { IfOk result (λ fits. fits ≡ hold_fits self.now hold.now) }
+    fn hold_fits(&self, hold: &Hold, last: &mut Option<Around<'a>>) -> Result<bool, AllocError>
+        requires { IfSome last.old (IsAround self.now) }
+        ensures fits { IfOk result (λ fits. fits ≡ hold_fits self.now hold.now) }
+        ensures last { IfSome last.new (IsAround self.now) }
     {
         let Some(record) = self.records.get(&hold.id) else {
             return Ok(false);
@@ -67,7 +74,7 @@ impl<'a, P: Shelf<PointState>, C: Shelf<Record>, T: Shelf<StepRow>, H: Shelf<Hol
             let suits = self.stands_at_point(record.phase, record.work, hold)?;
             Ok(suits)
         } else {
-            let suits = self.stands_at_work(record.phase, record.work, hold)?;
+            let suits = self.stands_at_work(record.phase, record.work, hold, last)?;
             Ok(suits)
         }
     }
@@ -120,15 +127,19 @@ impl<'a, P: Shelf<PointState>, C: Shelf<Record>, T: Shelf<StepRow>, H: Shelf<Hol
         phase: Phase,
         work: Option<Name>,
         hold: &Hold,
+        last: &mut Option<Around<'a>>,
     ) -> Result<bool, AllocError>
-        ensures { IfOk result (λ suits. suits ≡ kind_suits self.now phase work hold.now false) }
+        requires { IfSome last.old (IsAround self.now) }
+        ensures suits { IfOk result (λ suits. suits
+            ≡ kind_suits self.now phase work hold.now false) }
+        ensures last { IfSome last.new (IsAround self.now) }
     {
         if !phase.is_granted() {
             return Ok(false);
         }
         match hold.kind {
             HoldKind::Tested | HoldKind::Ground => {
-                let inside = self.is_inside(hold.id, work, hold.place)?;
+                let inside = self.is_inside(hold.id, work, hold.place, last)?;
                 Ok(inside)
             }
             HoldKind::Crew => Ok(self.is_grounded(hold.id, work)),
@@ -137,25 +148,26 @@ impl<'a, P: Shelf<PointState>, C: Shelf<Record>, T: Shelf<StepRow>, H: Shelf<Hol
     }
 
     /// Whether a section lies in the fence that the first round cuts out around a work section.
-    #[tactic(auto, unfolding(clr_rules::specs::Steps::steps_of))]
     fn is_inside(
         &self,
         id: ClearanceId,
         work: Option<Name>,
         section: Name,
+        last: &mut Option<Around<'a>>,
     ) -> Result<bool, AllocError>
-        ensures { IfOk result (λ inside. inside
+        requires { IfSome last.old (IsAround self.now) }
+        ensures inside { IfOk result (λ inside. inside
             ≡ has_name (work_fence self.now.net work
             (points_of (of_round (steps_of self.now.steps id) 1))) section) }
+        ensures last { IfSome last.new (IsAround self.now) }
     {
         let Some(work) = work else {
             return Ok(false);
         };
-        let steps = self.steps.group(&id)?;
-        let first = of_round(self.alloc, &steps, 1)?;
-        let points = points_of(self.alloc, &first)?;
-        let fence = self.network.fence(&work, &points)?;
-        Ok(fence.has(&section))
+        let around = self.around(last.take(), id, work)?;
+        let inside = around.fence.has(&section);
+        *last = Some(around);
+        Ok(inside)
     }
 
     /// Whether the work section bears the clearance's ground.
@@ -254,6 +266,16 @@ impl<'a, P: Shelf<PointState>, C: Shelf<Record>, T: Shelf<StepRow>, H: Shelf<Hol
         };
         undo(held, second, point)
     }
+}
+
+/// These holds, those of a clearance side by side.
+fn by_clearance(holds: Vec<&Hold>) -> Vec<&Hold>
+    ensures { (test : Hold → Bool) → list_all test (map (λ hold. hold.now) result.items)
+        ≡ list_all test (map (λ hold. hold.now) holds.entry.items) }
+{
+    let mut ordered = holds;
+    ordered.sort_unstable_by_key(|hold| hold.id);
+    ordered
 }
 
 /// Whether the Done steps put a hold of this kind at a point.

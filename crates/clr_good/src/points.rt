@@ -6,8 +6,8 @@ ghost use Rattle.clr_rules.specs.GoodByPhase.{active_at};
 ghost use Rattle.clr_rules.specs.States.{state_key};
 ghost use Rattle.clr_good.specs.Points.{points_fit, same_names, state_fits};
 
-use crate::rows::all_rows;
 use crate::shelves::Shelves;
+use clr_book::all_rows;
 use clr_net::{Name, PointRow};
 use clr_rules::{Hold, PointState, Record, StepRow};
 use clr_shelf::Shelf;

@@ -8,7 +8,7 @@ ghost use Rattle.clr_order.specs.Isolating.{isolating_fault};
 ghost use Rattle.clr_order.specs.Step.{task};
 ghost use Rattle.clr_rules.specs.Good.{has_record};
 ghost use Rattle.clr_rules.specs.GoodByPhase.{of_round, present_of};
-ghost use Rattle.clr_rules.specs.Holds.{hinders, first_of_each};
+ghost use Rattle.clr_rules.specs.Holds.{hinders};
 ghost use Rattle.clr_rules.specs.States.{has_in_hand};
 ghost use Rattle.clr_rules.specs.declared.step_row.StepRow.{StepRow};
 ghost use Rattle.clr_good.specs.Steps.{closing_fits, isolates, record_steps_fit, step_fits};
@@ -18,14 +18,13 @@ use crate::rounds::{
     active_within, all_done, has_steps, is_closing, of_round, only_switch, rounds_go_in_turn,
     some_active,
 };
-use crate::rows::all_rows;
 use crate::shelves::Shelves;
+use clr_book::{all_rows, each_once, hinders};
 use clr_net::{Fence, Name};
 use clr_order::{Step, check_isolating};
 use clr_rules::{ClearanceId, Hold, HoldGroup, HoldKind, Phase, PointState, Record, StepRow};
 use clr_shelf::Shelf;
 use std::alloc::{AllocError, Global};
-use std::collections::BTreeSet;
 
 impl<'a, P: Shelf<PointState>, C: Shelf<Record>, T: Shelf<StepRow>, H: Shelf<Hold>> Shelves<
     'a,
@@ -234,21 +233,6 @@ fn steps_of(alloc: Global, rows: &[&StepRow]) -> Result<Vec<Step>, AllocError>
     rows.iter().map(|row| row.step).collect(alloc)
 }
 
-/// These names, each where it stands first.
-#[tactic(auto, unfolding(clr_rules::specs::Holds::first_of_each))]
-fn each_once(alloc: Global, names: &[Name]) -> Result<Vec<Name>, AllocError>
-    ensures { IfOk result (λ kept. kept.items ≡ first_of_each names.now) }
-{
-    let mut met = BTreeSet::new(alloc);
-    let mut kept = Vec::new(alloc);
-    for name in names {
-        if met.insert(*name)? {
-            kept.push(*name)?;
-        }
-    }
-    Ok(kept)
-}
-
 /// Whether one of these holds keeps a clearance from closing a point.
 fn any_hinders(holds: &[&Hold], id: ClearanceId, point: Name) -> bool
     ensures { result ≡ list_any (hinders id point) (map (λ hold. hold.now) holds.now) }
@@ -259,13 +243,4 @@ fn any_hinders(holds: &[&Hold], id: ClearanceId, point: Name) -> bool
         }
     }
     false
-}
-
-/// Whether a hold keeps a clearance from closing a point: any but its own HeldOpen.
-fn hinders(hold: &Hold, id: ClearanceId, point: Name) -> bool
-    ensures { result ≡ hinders id point hold.now }
-{
-    let stands_there = hold.kind.stands_at_point() && point == hold.place;
-    let holds_open = id == hold.id && HoldKind::HeldOpen.compare_own(hold.kind).is_eq();
-    stands_there && !holds_open
 }

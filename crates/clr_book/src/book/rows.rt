@@ -5,7 +5,7 @@ use clr_shelf::{Row, Shelf};
 use std::alloc::{AllocError, Global};
 
 /// All rows of a shelf, in key order.
-pub(crate) fn all_rows<R: Row, S: Shelf<R>>(alloc: Global, shelf: &S) -> Result<Vec<&R>, AllocError>
+pub fn all_rows<R: Row, S: Shelf<R>>(alloc: Global, shelf: &S) -> Result<Vec<&R>, AllocError>
     ensures { IfOk result (λ found. map (λ row. row.now) found.items ≡ S.rows shelf.now) }
 {
     let mut found = Vec::new(alloc);

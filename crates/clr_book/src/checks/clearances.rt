@@ -2,8 +2,7 @@
 ghost use Rattle.std.specs.Prelude.{◌≡◌, ◌≤◌, IfSome, option_copied};
 ghost use Rattle.clr_rules.specs.Checks.{bad_transfer, earlier_moment, is_charge, is_in_charge};
 ghost use Rattle.clr_rules.specs.Checks.{is_supervisor, may_not_transfer, not_holder};
-ghost use Rattle.clr_rules.specs.Checks.{too_many_clearances, unknown_clearance, unknown_section};
-ghost use Rattle.clr_rules.specs.Checks.{wrong_phase};
+ghost use Rattle.clr_rules.specs.Checks.{too_many_clearances, unknown_clearance, wrong_phase};
 ghost use Rattle.clr_rules.specs.Checks.{employee};
 ghost use Rattle.clr_rules.specs.Records.{record_of};
 ghost use Rattle.clr_book.specs.Begins.{phase_fits};
@@ -21,18 +20,6 @@ pub(crate) fn record<'a>(near: &Near<'a>, id: ClearanceId) -> Option<&'a Record>
     ensures own { IfSome result (λ r. r.now.id ≡ id) }
 {
     find_row(&near.records, &id)
-}
-
-/// Whether the network lacks the section that is asked for.
-pub(crate) fn unknown_section(near: &Near, section: Name) -> Option<Refusal>
-    ensures { result ≡ unknown_section near.now.rows section }
-{
-    for row in &near.sections {
-        if section == row.name {
-            return None;
-        }
-    }
-    Some(Refusal::UnknownSection)
 }
 
 /// The greatest number of the requester's clearances.

@@ -89,7 +89,7 @@ fn first_points(near: &Near, id: ClearanceId) -> Result<Vec<Name>, AllocError>
 
 /// These names, each where it stands first.
 #[tactic(auto, unfolding(clr_rules::specs::Holds::first_of_each))]
-fn each_once(alloc: Global, names: &[Name]) -> Result<Vec<Name>, AllocError>
+pub fn each_once(alloc: Global, names: &[Name]) -> Result<Vec<Name>, AllocError>
     ensures { IfOk result (λ kept. kept.items ≡ first_of_each names.now) }
 {
     let mut met = BTreeSet::new(alloc);

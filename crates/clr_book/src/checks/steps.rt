@@ -202,7 +202,7 @@ pub(crate) fn in_hand(near: &Near, id: ClearanceId, number: u16) -> Option<Refus
 }
 
 /// Whether a hold keeps a clearance from closing a point: any but its own HeldOpen.
-fn hinders(hold: &Hold, id: ClearanceId, point: Name) -> bool
+pub fn hinders(hold: &Hold, id: ClearanceId, point: Name) -> bool
     ensures { result ≡ hinders id point hold.now }
 {
     let stands_there = hold.kind.stands_at_point() && point == hold.place;

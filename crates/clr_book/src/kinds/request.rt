@@ -5,8 +5,9 @@ ghost use Rattle.clr_book.specs.Decision.{near_edits, near_refusal};
 ghost use Rattle.clr_book.specs.Effect.{IsOf, edits_in};
 
 use crate::checks::callers::{RoleTest, unknown_caller, wrong_role};
-use crate::checks::clearances::{too_many_clearances, unknown_section};
+use crate::checks::clearances::too_many_clearances;
 use crate::checks::first_of;
+use crate::checks::network::unknown_section;
 use crate::effect::Effect;
 use crate::kinds::new_record::new_record;
 use crate::near::Near;

@@ -77,7 +77,7 @@ impl<P: Shelf<PointState>, C: Shelf<Record>, T: Shelf<StepRow>, H: Shelf<Hold>> 
     }
 
     /// A clearance's fence, which is cut at the points of its first round.
-    fn record_fence(&self, clearance: &Record) -> Result<FenceNames, AllocError>
+    pub(crate) fn record_fence(&self, clearance: &Record) -> Result<FenceNames, AllocError>
         ensures sections { IfOk result (λ fence. fence.sections.items
             ≡ record_fence self.now.register.net self.now.register.steps clearance.now) }
         ensures touching { IfOk result (λ fence. fence.touching.items

@@ -1,11 +1,12 @@
 //! Lends a command the rows that it looks at.
-ghost use Rattle.std.specs.Prelude.{◌≡◌, ◌||◌, ℕ, List, IfOk, map, filter};
+ghost use Rattle.std.specs.Prelude.{◌≡◌, ◌||◌, ℕ, List, false, IfOk, map, filter};
 ghost use Rattle.std.specs.List.{list_any};
 ghost use Rattle.std.specs.List.Sorted.{IsStrictlySortedBy};
 ghost use Rattle.clr_net.specs.Name.{name_cmp};
 ghost use Rattle.clr_net.specs.Names.{has_name};
 ghost use Rattle.clr_rules.specs.Hold.{hold_group_cmp, is_in_hold_group};
 ghost use Rattle.clr_rules.specs.Holds.{is_near_hold, is_own};
+ghost use Rattle.clr_rules.specs.Command.{is_jumper};
 ghost use Rattle.clr_rules.specs.Near.{is_asked, near_of};
 ghost use Rattle.clr_rules.specs.declared.hold.Hold.{Hold};
 ghost use Rattle.clr_rules.specs.declared.hold.HoldGroup.TheVariants as group;
@@ -23,6 +24,19 @@ use std::alloc::{AllocError, Global};
 impl<P: Shelf<PointState>, C: Shelf<Record>, T: Shelf<StepRow>, H: Shelf<Hold>> Book<P, C, T, H> {
     /// What a command looks at, and no other row: the near part of the book's register.
     pub fn near(&self, command: &Command) -> Result<Near<'_>, AllocError>
+        ensures { IfOk result (λ near. near ≡ near_of self.now.register command.now) }
+    {
+        if let Kind::Jumper { from, to, .. } = &command.kind {
+            let near = self.network_near(command, *from, *to)?;
+            return Ok(near);
+        }
+        let near = self.near_clearance(command)?;
+        Ok(near)
+    }
+
+    /// What a command looks at that is no jumper.
+    fn near_clearance(&self, command: &Command) -> Result<Near<'_>, AllocError>
+        requires { is_jumper command.now.kind ≡ false }
         ensures { IfOk result (λ near. near ≡ near_of self.now.register command.now) }
     {
         let kind = &command.kind;
@@ -43,6 +57,7 @@ impl<P: Shelf<PointState>, C: Shelf<Record>, T: Shelf<StepRow>, H: Shelf<Hold>> 
             steps: self.own_steps(own)?,
             holds: self.holds_near(&fence, &beside, own)?,
             fence,
+            crossed: None,
         };
         Ok(near)
     }

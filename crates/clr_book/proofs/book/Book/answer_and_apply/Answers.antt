@@ -14,11 +14,11 @@ returns-clause-good g c good =
     let d = c.in_ok-decision.decision in
     let made : after R q ≡ c.apply.new.self.register =
     ap (λ (a : Answer). after_edits a.edits R) (c.in_ok-decision.ensures.whole good)
-    ∙ ap (after_edits d.change.edits.items) (sym c.in_ok-reserve.ensures.register) ∙ sym c.apply.ensures.register in
+    ∙ ap (after_edits d.change.edits.items) (sym c.in_ok-reserve.ensures.register) ∙ sym c.apply.ensures in
     subst IsGood made (commands_keep_good R q good)
 
 pub returns-clause-nothing : goal.returns-clause-nothing
 returns-clause-nothing g c refused =
     let R = c.args.self.now.register in
     let d = c.in_ok-decision.decision in
-    c.apply.ensures.register ∙ (λ i. after_edits (c.in_ok-decision.ensures.nothing refused i) (c.in_ok-reserve.ensures.register i)) ∙ edits_end R
+    c.apply.ensures ∙ (λ i. after_edits (c.in_ok-decision.ensures.nothing refused i) (c.in_ok-reserve.ensures.register i)) ∙ edits_end R

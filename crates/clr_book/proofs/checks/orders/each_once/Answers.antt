@@ -1,6 +1,4 @@
-use Rattle.std.proofs.Common.{◌≡◌, ◌∙◌, ◌++◌, ℕ, [], ◌∷◌, List, Vec, Global, Bool, true, false, not, ap, arith, rules, sym}
-use Rattle.std.specs.BTreeSet.{contains}
-use Rattle.clr_net.specs.Name.{name_cmp}
+use Rattle.std.proofs.Common.{◌≡◌, ◌∙◌, ◌++◌, [], ◌∷◌, Vec, Global, not, ap, arith, rules}
 use Rattle.clr_net.specs.Names.{has_name}
 use Rattle.clr_net.specs.declared.name.Name.{Name}
 use Rattle.clr_rules.specs.Holds.{first_of_each}

@@ -1,4 +1,4 @@
-use Rattle.std.proofs.Common.{◌≡◌, ◌∙◌, Bor, Ok, Err, ap, map, rules, sym}
+use Rattle.std.proofs.Common.{◌∙◌, Bor, ap, rules, sym}
 use Rattle.std.specs.Prelude.{option_copied}
 use Rattle.std.proofs.lemmas.Fn.{always_returns_same}
 use Rattle.clr_shelf.proofs.Places.{none_in_gap, row_at, searched}

@@ -3,8 +3,8 @@ use Rattle.clr_rules.specs.GoodByPhase.{of_round}
 use Rattle.clr_rules.specs.Register.{Register}
 use Rattle.clr_rules.specs.Steps.{points_of, steps_of}
 use Rattle.clr_rules.specs.declared.step_row.StepRow.{StepRow}
-use Rattle.clr_good.proofs.CodeFacts.{inside_told, points_behind}
-use Rattle.clr_good.proofs.shelves.Shelves.is_inside.Goals as goal
+use Rattle.clr_good.proofs.CodeFacts.{cut_told, points_behind}
+use Rattle.clr_good.proofs.shelves.Shelves.fence_cut.Goals as goal
 
 pub returns : goal.returns
 unfolding steps_of
@@ -16,7 +16,5 @@ returns g c =
     c.in_ok-first.ensures ∙ ap (λ (steps : List StepRow). of_round steps 1) (ap (map shows) c.deref.ensures.value ∙ own) in
     let cut : c.in_ok-points.points.items ≡ points_of (of_round (steps_of c.args.self.now.steps c.args.id) 1) =
     c.in_ok-points.ensures ∙ points_behind shows c.deref-2.result.now ∙ ap points_of (ap (map shows) c.deref-2.ensures.value ∙ rows) in
-    rw c.in-Some.is
-    (c.has.ensures
-    ∙ inside_told c.self.inside.network.now c.args.self.now.net c.in-Some.work (of_round (steps_of c.args.self.now.steps c.args.id) 1) c.in_ok-fence.fence c.deref-3.result.now c.args.section
-    (ap (λ (R : Register). R.net) c.self.view_is) c.in_ok-fence.ensures.rows (c.deref-3.ensures.value ∙ cut))
+    cut_told c.self.inside.network.now c.args.self.now.net c.args.work (of_round (steps_of c.args.self.now.steps c.args.id) 1) c.in_ok-fence.fence c.deref-3.result.now
+    (ap (λ (R : Register). R.net) c.self.view_is) c.in_ok-fence.ensures.rows (c.deref-3.ensures.value ∙ cut)

@@ -5,12 +5,14 @@ use Rattle.clr_net.specs.Names.{has_name}
 use Rattle.clr_net.specs.declared.point.PointRow.{PointRow}
 use Rattle.clr_net.specs.declared.section.SectionRow.{SectionRow}
 use Rattle.clr_rules.specs.Answer.{known_of}
+use Rattle.clr_rules.specs.Register.{Register}
+use Rattle.clr_rules.proofs.near.NearNamed.{near_beside, none_crossed}
 use Rattle.clr_rules.specs.Fences.{touching_names}
 use Rattle.clr_rules.specs.Good.{ListsAreInOrder}
 use Rattle.clr_rules.specs.Hold.{hold_cmp, hold_cmp_total}
 use Rattle.clr_rules.specs.Holds.{hold_key, is_near_hold, is_own}
 use Rattle.clr_rules.specs.Id.{Id, id_cmp, id_cmp_total}
-use Rattle.clr_rules.specs.Near.{is_asked, is_beside, near_part, switched_points}
+use Rattle.clr_rules.specs.Near.{is_asked, is_beside, part_beside, switched_points}
 use Rattle.clr_rules.specs.Records.{record_key}
 use Rattle.clr_net.specs.Grid.{unplaced}
 use Rattle.clr_rules.specs.States.{state_key}
@@ -19,7 +21,7 @@ use Rattle.clr_book.specs.Book.{Shelved}
 use Rattle.clr_book.proofs.NearFacts.{lent_whole, unplaced_shown}
 use Rattle.clr_book.proofs.OrderPositions.{unplaced_kept}
 use Rattle.clr_book.proofs.SortedRows.{rising-filter}
-use Rattle.clr_book.proofs.book.Book.near.Goals as goal
+use Rattle.clr_book.proofs.book.Book.near_clearance.Goals as goal
 
 pub returns : goal.returns
 returns g c =
@@ -34,9 +36,10 @@ returns g c =
     let at_points : has_name c.deref-2.result.now ≡ is_beside R k q.kind = ap has_name c.deref-2.ensures.value ∙ beside in
     let at_states : has_name c.deref-3.result.now ≡ is_beside R k q.kind = ap has_name c.deref-3.ensures.value ∙ beside in
     let at_holds : has_name c.deref-5.result.now ≡ is_beside R k q.kind = ap has_name c.deref-5.ensures.value ∙ beside in
-    lent_whole _ k (near_part R q)
+    lent_whole _ k (part_beside R q)
     c.greatest_for.ensures.value
     c.in_ok-fence.ensures.sections
+    (sym (none_crossed R q.kind c.requires))
     (c.in_ok-sections_near.ensures ∙ ap (λ (names : List (List ℕ)). filter (λ row. has_name names row.name || is_asked q.kind row.name) R.net.sections) (c.deref.ensures.value ∙ c.in_ok-fence.ensures.sections))
     (unplaced_shown (λ (row : Bor PointRow). row.now) c.in_ok-rows_named.field-0.items
     ∙ ap (map unplaced) (c.in_ok-rows_named.ensures ∙ (λ i. filter (λ row. at_points i row.name) (c.points.ensures.rows i)))
@@ -46,6 +49,7 @@ returns g c =
     (c.in_ok-own_records.ensures ∙ ap (λ (o : Option Id). filter (λ r. is_own o r.id) R.records) own)
     (c.in_ok-own_steps.ensures ∙ ap (λ (o : Option Id). filter (λ row. is_own o row.id) R.steps) own)
     (c.in_ok-holds_near.ensures ∙ (λ i. filter (is_near_hold (has_name ((c.deref-4.ensures.value ∙ c.in_ok-fence.ensures.sections) i)) (at_holds i) (own i)) R.holds))
+    ∙ ap (λ (rows : Register). record { known = k; rows = rows }) (sym (near_beside R q c.requires))
 
 pub invariant_of-near : goal.invariant_of-near
 invariant_of-near g c =
