@@ -1,5 +1,6 @@
 -- The seven tables read one after the other: what the whole reads as.
-use Rattle.std.proofs.Common.{◌≡◌, ◌∙◌, ℤ, Ok, Err, List, [], ◌∷◌, map, Result, refl, sym, ap}
+use Rattle.std.proofs.Common.{◌≡◌, ◌∙◌, ℤ, Ok, Err, List, [], ◌∷◌, map, Result, true, refl, sym, ap}
+use Rattle.std.specs.Prelude.{is_ok}
 use Rattle.sqlite.specs.Order.{Row}
 use Rattle.sqlite.specs.State.{State}
 use Rattle.sqlite_trees.proofs.ListLemmas.{map-map}
@@ -56,42 +57,56 @@ gives_back R read (Err (BadRow t)) is gives = let h : Ok (rows_of R) ≡ Err t =
 gives_back R read (Err (WrongVersion n)) is gives = absurd gives
 
 -- ---- switching points, whose rows are read into two fields
-abbrev all_in_fields : Result (List ReadPoint) TableName → Result (List PointRead) TableName
-all_in_fields read = read >>= λ points. Ok (map in_fields points)
+abbrev all_viewed : {A B : Type 0} → (A → B) → Result (List A) TableName → Result (List B) TableName
+all_viewed view read = read >>= λ xs. Ok (map view xs)
 
-abbrev front_in_fields : Result ReadPoint TableName → Result (List PointRead) TableName → Result (List PointRead) TableName
-front_in_fields first rest = (first >>= λ p. Ok (in_fields p)) >>= λ x. rest >>= λ xs. Ok (x ∷ xs)
+abbrev front_viewed : {A B : Type 0} → (A → B) → Result A TableName → Result (List B) TableName → Result (List B) TableName
+front_viewed view first rest = (first >>= λ p. Ok (view p)) >>= λ x. rest >>= λ xs. Ok (x ∷ xs)
 
-fields_join : (first : Result ReadPoint TableName) (rest : Result (List ReadPoint) TableName)
-    → front_in_fields first (all_in_fields rest) ≡ all_in_fields (first >>= λ p. rest >>= λ ps. Ok (p ∷ ps))
-fields_join (Err t) rest = refl
-fields_join (Ok p) (Err t) = refl
-fields_join (Ok p) (Ok ps) = refl
+module _ {A B : Type 0} (view : A → B) where
+  views_join : (first : Result A TableName) (rest : Result (List A) TableName)
+      → front_viewed view first (all_viewed view rest) ≡ all_viewed view (first >>= λ p. rest >>= λ ps. Ok (p ∷ ps))
+  views_join (Err t) rest = refl
+  views_join (Ok p) (Err t) = refl
+  views_join (Ok p) (Ok ps) = refl
 
-points_read : (rows : List Row) → all_read point_values rows ≡ all_in_fields (all_read read_point rows)
-unfolding all_read
-points_read [] = refl
-points_read (row ∷ rows) =
-    ap (front_in_fields (read_point row)) (points_read rows) ∙ fields_join (read_point row) (all_read read_point rows)
+  views_read : (read : Row → Result A TableName) (rows : List Row) → all_read (λ row. read row >>= λ p. Ok (view p)) rows ≡ all_viewed view (all_read read rows)
+  unfolding all_read
+  views_read read [] = refl
+  views_read read (row ∷ rows) =
+      ap (front_viewed view (read row)) (views_read read rows) ∙ views_join (read row) (all_read read rows)
 
-fields_fail : (read : Result (List ReadPoint) TableName) (t : TableName) → all_in_fields read ≡ Err t → read ≡ Err t
-fields_fail (Ok points) t h = absurd cc
-fields_fail (Err other) t h = let same : other ≡ t = cc in ap Err same
+  view_fails : (read : Result (List A) TableName) (t : TableName) → all_viewed view read ≡ Err t → read ≡ Err t
+  view_fails (Ok points) t h = absurd cc
+  view_fails (Err other) t h = let same : other ≡ t = cc in ap Err same
+
+  view_gives : (read : Result (List A) TableName) (ys : List B) → all_viewed view read ≡ Ok ys → is_ok read ≡ true
+  view_gives (Ok points) ys h = refl
+  view_gives (Err other) ys h = absurd cc
+
+  -- rows whose view does not read do not read themselves, and rows whose view reads do
+  pub rows_fail : (read : Row → Result A TableName) (rows : List Row) (t : TableName)
+      → all_read (λ row. read row >>= λ p. Ok (view p)) rows ≡ Err t → all_read read rows ≡ Err t
+  rows_fail read rows t h = view_fails (all_read read rows) t (sym (views_read read rows) ∙ h)
+
+  pub rows_give : (read : Row → Result A TableName) (rows : List Row) (ys : List B)
+      → all_read (λ row. read row >>= λ p. Ok (view p)) rows ≡ Ok ys → is_ok (all_read read rows) ≡ true
+  rows_give read rows ys h = view_gives (all_read read rows) ys (sym (views_read read rows) ∙ h)
 
 pub points_fail : (rows : List Row) (t : TableName) → all_read point_values rows ≡ Err t → all_read read_point rows ≡ Err t
-points_fail rows t h = fields_fail (all_read read_point rows) t (sym (points_read rows) ∙ h)
+points_fail rows t h = rows_fail in_fields read_point rows t h
 
 pub record PointsAre (read : Result (List ReadPoint) TableName) (both : List PointRead) : Type 0 where
   pub points : List ReadPoint
   pub read_is : read ≡ Ok points
   pub both_are : both ≡ map in_fields points
 
-fields_are : (read : Result (List ReadPoint) TableName) (both : List PointRead) → all_in_fields read ≡ Ok both → PointsAre read both
+fields_are : (read : Result (List ReadPoint) TableName) (both : List PointRead) → all_viewed in_fields read ≡ Ok both → PointsAre read both
 fields_are (Ok points) both h = record { points = points; read_is = refl; both_are = sym (same_value h) }
 fields_are (Err t) both h = absurd cc
 
 pub points_are : (rows : List Row) (both : List PointRead) → all_read point_values rows ≡ Ok both → PointsAre (all_read read_point rows) both
-points_are rows both h = fields_are (all_read read_point rows) both (sym (points_read rows) ∙ h)
+points_are rows both h = fields_are (all_read read_point rows) both (sym (views_read in_fields read_point rows) ∙ h)
 
 -- ---- the seven in their order
 abbrev pub rows_joined : Result ℤ TableName → Result (List SectionRow) TableName → Result (List ReadPoint) TableName

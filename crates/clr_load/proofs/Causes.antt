@@ -18,10 +18,10 @@ use Rattle.sqlite_trees.specs.declared.store.Store.{Ghosts}
 use Rattle.sqlite_trees.specs.declared.error.StoreError.{StoreError}
 use Rattle.sqlite_trees.specs.declared.error.StoreError.TheVariants as store
 use Rattle.clr_tables.specs.declared.table_name.TableName.{TableName}
-use Rattle.clr_tables.specs.declared.table_name.TableName.TheVariants.{Meta, Section, Point, Staff, Clearance, Step, Hold}
+use Rattle.clr_tables.specs.declared.table_name.TableName.TheVariants.{Meta, Section, Point, Staff, Clearance, Step, Hold, NetworkPoint}
 use Rattle.clr_load.specs.Cause.{IsAble, SqlHasCause, fault_of}
 use Rattle.clr_load.specs.Fault.{IsOfDatabase}
-use Rattle.clr_load.specs.Layout.{Layout, OfOne}
+use Rattle.clr_load.specs.Layout.{AsMade, AsMoved, Layout, OfOne, has_table}
 use Rattle.clr_load.specs.Schema.{behind_meta, schema_in}
 use Rattle.clr_load.specs.Sql.{select_sql}
 use Rattle.clr_load.specs.declared.fault.StoreFault.{StoreFault}
@@ -67,18 +67,35 @@ is_statement s schema sql command has reads e (inr h) =
 abbrev Refuses : Schema → Layout → TableName → Type 0
 Refuses schema l name = (db : Database) (e : Error) → db.schema ≡ schema → RefusesToRead None (selecting l name) db [] e → ⊥
 
-never_refused : (l : Layout) (name : TableName) → Refuses (schema_in l) l name
+never_refused : (l : Layout) (name : TableName) → has_table l name ≡ true → Refuses (schema_in l) l name
 unfolding everything
-never_refused OfOne Meta db e has (inl h) = let typed = rw has at h.1 in cc
-never_refused OfOne Section db e has (inl h) = let typed = rw has at h.1 in cc
-never_refused OfOne Point db e has (inl h) = let typed = rw has at h.1 in cc
-never_refused OfOne Staff db e has (inl h) = let typed = rw has at h.1 in cc
-never_refused OfOne Clearance db e has (inl h) = let typed = rw has at h.1 in cc
-never_refused OfOne Step db e has (inl h) = let typed = rw has at h.1 in cc
-never_refused OfOne Hold db e has (inl h) = let typed = rw has at h.1 in cc
-never_refused l name db e has (inr (inl (_, inl over))) = over
-never_refused l name db e has (inr (inl (_, inr over))) = over.4
-never_refused l name db e has (inr (inr cut)) = absurd (let o = cut.1 in cc)
+never_refused OfOne Meta there db e has (inl h) = let typed = rw has at h.1 in cc
+never_refused AsMade Meta there db e has (inl h) = let typed = rw has at h.1 in cc
+never_refused AsMoved Meta there db e has (inl h) = let typed = rw has at h.1 in cc
+never_refused OfOne Section there db e has (inl h) = let typed = rw has at h.1 in cc
+never_refused AsMade Section there db e has (inl h) = let typed = rw has at h.1 in cc
+never_refused AsMoved Section there db e has (inl h) = let typed = rw has at h.1 in cc
+never_refused OfOne Point there db e has (inl h) = let typed = rw has at h.1 in cc
+never_refused AsMade Point there db e has (inl h) = absurd cc
+never_refused AsMoved Point there db e has (inl h) = let typed = rw has at h.1 in cc
+never_refused OfOne Staff there db e has (inl h) = let typed = rw has at h.1 in cc
+never_refused AsMade Staff there db e has (inl h) = let typed = rw has at h.1 in cc
+never_refused AsMoved Staff there db e has (inl h) = let typed = rw has at h.1 in cc
+never_refused OfOne Clearance there db e has (inl h) = let typed = rw has at h.1 in cc
+never_refused AsMade Clearance there db e has (inl h) = let typed = rw has at h.1 in cc
+never_refused AsMoved Clearance there db e has (inl h) = let typed = rw has at h.1 in cc
+never_refused OfOne Step there db e has (inl h) = let typed = rw has at h.1 in cc
+never_refused AsMade Step there db e has (inl h) = let typed = rw has at h.1 in cc
+never_refused AsMoved Step there db e has (inl h) = let typed = rw has at h.1 in cc
+never_refused OfOne Hold there db e has (inl h) = let typed = rw has at h.1 in cc
+never_refused AsMade Hold there db e has (inl h) = let typed = rw has at h.1 in cc
+never_refused AsMoved Hold there db e has (inl h) = let typed = rw has at h.1 in cc
+never_refused OfOne NetworkPoint there db e has (inl h) = absurd cc
+never_refused AsMade NetworkPoint there db e has (inl h) = let typed = rw has at h.1 in cc
+never_refused AsMoved NetworkPoint there db e has (inl h) = let typed = rw has at h.1 in cc
+never_refused l name there db e has (inr (inl (_, inl over))) = over
+never_refused l name there db e has (inr (inl (_, inr over))) = over.4
+never_refused l name there db e has (inr (inr cut)) = absurd (let o = cut.1 in cc)
 
 meta_never_refused : (others : Schema) → Refuses (behind_meta others) OfOne Meta
 unfolding everything
@@ -112,9 +129,9 @@ module _ (l : Layout) (name : TableName) (schema : Schema) (reads : understood s
       → FailsToQuery (select_sql name) [] old new e ⊎ IsTooLate (select_sql name) [] old new e → SqlHasCause old new fault
   listing_cause old new e fault has inside is h = has_cause old new fault (λ sql able. query_cause old new e has inside able h (sym is ∙ sql))
 
-pub list_cause : (l : Layout) (name : TableName) (old new : State) (e : Error) (fault : StoreFault) → old.now.schema ≡ schema_in l → IsTrue old.in_transaction → fault ≡ fault_of e
+pub list_cause : (l : Layout) (name : TableName) → has_table l name ≡ true → (old new : State) (e : Error) (fault : StoreFault) → old.now.schema ≡ schema_in l → IsTrue old.in_transaction → fault ≡ fault_of e
     → FailsToQuery (select_sql name) [] old new e ⊎ IsTooLate (select_sql name) [] old new e → SqlHasCause old new fault
-list_cause l name = listing_cause l name (schema_in l) (select_known l name) (select_unlisted l name) (never_refused l name)
+list_cause l name there = listing_cause l name (schema_in l) (select_known l name there) (select_unlisted l name there) (never_refused l name there)
 
 pub meta_cause : (others : Schema) (old new : State) (e : Error) (fault : StoreFault) → old.now.schema ≡ behind_meta others → IsTrue old.in_transaction → fault ≡ fault_of e
     → FailsToQuery (select_sql Meta) [] old new e ⊎ IsTooLate (select_sql Meta) [] old new e → SqlHasCause old new fault

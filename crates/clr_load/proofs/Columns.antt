@@ -106,12 +106,12 @@ met_values (suc n) at params row = ap (λ l. column row at ∷ l) (met_values n 
 
 -- ---- tests of the key
 
-says : (b : Bool) → is_true (from_truth (Rattle.std.proofs.Common.Some b)) ≡ b
+pub says : (b : Bool) → is_true (from_truth (Rattle.std.proofs.Common.Some b)) ≡ b
 says true = refl
 says false = refl
 
 -- a value is equal to one that is set exactly where they tie
-equal_is : (v k : Value) → is_set k ≡ true → is_true (binary (Compare Eq Binary) v k) ≡ is_eq (value_cmp v k)
+pub equal_is : (v k : Value) → is_set k ≡ true → is_true (binary (Compare Eq Binary) v k) ≡ is_eq (value_cmp v k)
 unfolding binary value_cmp
 equal_is v Null h = absurd cc
 equal_is Null (Int n) h = refl

@@ -7,3 +7,5 @@ pub mod TextsRead
 pub mod AllRead
 pub mod AllGiven
 pub mod Reopened
+pub mod Blamed
+pub mod OldPoints

@@ -27,13 +27,13 @@ use Rattle.sqlite_trees.proofs.ListLemmas.{map-map, ascending-map}
 use Rattle.clr_shelf.specs.Rows.{in_key_order}
 use Rattle.clr_tables.specs.Tables.{Tables}
 use Rattle.clr_tables.specs.declared.table_name.TableName.{TableName}
-use Rattle.clr_tables.specs.declared.table_name.TableName.TheVariants.{Meta, Section, Point, Staff, Clearance, Step, Hold}
+use Rattle.clr_tables.specs.declared.table_name.TableName.TheVariants.{Meta, Section, Point, Staff, Clearance, Step, Hold, NetworkPoint}
 use Rattle.clr_load.specs.Found.{Fails, Finds}
 use Rattle.clr_load.specs.Listed.{both_of}
-use Rattle.clr_load.specs.Layout.{Layout, OfOne, names_in, tree_in}
+use Rattle.clr_load.specs.Layout.{AsMade, AsMoved, Layout, OfOne, has_table, is_two, names_in, tree_in}
 use Rattle.clr_load.specs.Schema.{behind_meta, columns_in, keys_in, no_schema, schema_in, schema_of}
 use Rattle.clr_load.specs.Sql.{select_sql}
-use Rattle.clr_load.specs.Stored.{HasMeta, HasRows, HasTables, Holds, IsInOrder, bodies, fits_columns, rows_in}
+use Rattle.clr_load.specs.Stored.{HasMeta, HasRows, HasTablesIn, Holds, IsInOrder, bodies, fits_columns, rows_in}
 use Rattle.clr_load.specs.declared.fault.StoreFault.{StoreFault}
 use Rattle.clr_load.proofs.Causes.{then_cause}
 use Rattle.clr_load.proofs.Columns.{both_true, fits_length, key_order, met_values, values_all, values_from, values_shift, values_take}
@@ -86,6 +86,7 @@ keys_within Staff = omega arith
 keys_within Clearance = omega arith
 keys_within Step = omega arith
 keys_within Hold = omega arith
+keys_within NetworkPoint = omega arith
 
 is_less : (o : Ordering) → is_lt o ≡ true → o ≡ Less
 is_less Less h = refl
@@ -147,11 +148,12 @@ answer_is l name db rows shown has ordered a =
     let sorted = sorted_unique (output_cmp (listing l name)) (output_cmp_total (listing l name)) (map (shown_as name) rows) a.ordered rise mixed a.sorted in
     a.shown ∙ ap (map (λ (o : Output). o.1)) sorted ∙ map-map (λ (o : Output). o.1) (shown_as name) rows ∙ whole_rows name rows has.fit
 
-pub lists : (l : Layout) (old new : State) (name : TableName) (t : Tables) (shown : List Row) → Holds l old.now t → IsInOrder t → Shown (select_sql name) [] old new shown → shown ≡ rows_in name t
-lists l old new name t shown has ordered ran =
-    let text = select_is l name in
-    let read = reads_as (select_sql name) [] old new (schema_in l) has.schema _ text.is text.plain (select_unlisted l name) shown ran in
-    answer_is l name old.now.trees (rows_in name t) shown (has.rows name) (ordered name) (read.answer Null)
+pub lists : (l : Layout) (old new : State) (name : TableName) (t : Tables) (shown : List Row) → has_table l name ≡ true → Holds l old.now t → IsInOrder l t
+    → Shown (select_sql name) [] old new shown → shown ≡ rows_in l name t
+lists l old new name t shown there has ordered ran =
+    let text = select_is l name there in
+    let read = reads_as (select_sql name) [] old new (schema_in l) has.schema _ text.is text.plain (select_unlisted l name there) shown ran in
+    answer_is l name old.now.trees (rows_in l name t) shown (has.rows name there) (ordered name) (read.answer Null)
 
 -- the rows that tell the version are listed whatever the other tables are
 pub lists_meta : (old new : State) (meta shown : List Row) → HasMeta old.now meta → Shown (select_sql Meta) [] old new shown → shown ≡ meta
@@ -166,16 +168,18 @@ unfolding Shown
 never_shown old new name rows bare h = let unknown = sym (select_unknown name) ∙ sym (ap (λ s. understood s (select_sql name)) bare) ∙ h.1.is in cc
 
 -- the tables of a register begin with the one that tells the version
-pub has_meta : (db : Database) (t : Tables) → HasTables db t → HasMeta db t.meta
-has_meta db t has = record {
-  others = schema_of has.layout (drop 1 (names_in has.layout));
-  schema = has.holds.schema ∙ first has.layout;
-  rows = has.holds.rows Meta;
+pub has_meta : (l : Layout) (db : Database) (t : Tables) → HasTablesIn l db t → HasMeta db t.meta
+has_meta l db t has = record {
+  others = schema_of l (drop 1 (names_in l));
+  schema = has.holds.schema ∙ first l;
+  rows = has.holds.rows Meta refl;
   in_order = has.in_order Meta;
 }
   where
     first : (l : Layout) → schema_in l ≡ behind_meta (schema_of l (drop 1 (names_in l)))
     first OfOne = refl
+    first AsMade = refl
+    first AsMoved = refl
 
 -- ---- what a query inside a transaction leaves of the last commit
 unchanged_keeps : (old new : State) → IsUnchanged old new → KeepsCommit old new
@@ -222,56 +226,70 @@ query_keeps sql params old new e (inl (inl (inr h))) = undone_keeps old new h.3
 query_keeps sql params old new e (inl (inr h)) = show_keeps old new sql h.0 (timed params h.0.formats h.1.now) e h.0.returning h.2
 query_keeps sql params old new e (inr h) = unchanged_keeps old new h.5
 
-stays : (l : Layout) (old new : State) (name : TableName) (rows : List Row) → old.now.schema ≡ schema_in l → Shown (select_sql name) [] old new rows → new.now ≡ old.now
+stays : (l : Layout) (old new : State) (name : TableName) (rows : List Row) → has_table l name ≡ true → old.now.schema ≡ schema_in l → Shown (select_sql name) [] old new rows → new.now ≡ old.now
 unfolding Shown
-stays l old new name rows has h =
-    let plain = subst (λ schema. IsPlain (understood schema (select_sql name))) (sym has) (select_is l name).plain in
+stays l old new name rows there has h =
+    let plain = subst (λ schema. IsPlain (understood schema (select_sql name))) (sym has) (select_is l name there).plain in
     let none = (subst IsPlain h.1.is plain).0 in
     let it = subst (ShowsRows old new (select_sql name) h.0 (timed [] h.0.formats h.1.now) rows) none h.2 in
     it.3.0.now_is
 
 pub listed : (old new : State) (name : TableName) (rows : List Row) → IsTrue old.in_transaction
-    → Shown (select_sql name) [] old new rows → Finds old new (rows_in name) rows
+    → Shown (select_sql name) [] old new rows → Finds old new (λ l. has_table l name) (λ l t. rows_in l name t) rows
 listed old new name rows inside shown =
     let keeps = shown_keeps (select_sql name) [] old new rows inside shown in
     record {
       was_open = keeps.was_open;
       inside = keeps.inside;
       kept = keeps.kept;
-      found_is = λ l t has ordered.
-          let same = stays l old new name rows has.schema shown in
-          (lists l old new name t rows has ordered shown, subst (λ (db : Database). Holds l db t) (sym same) has);
+      found_is = λ l there t has ordered.
+          let same = stays l old new name rows there has.schema shown in
+          (lists l old new name t rows there has ordered shown, subst (λ (db : Database). Holds l db t) (sym same) has);
     }
 
 -- ---- one thing found after another
 pub then_kept : (a b c : State) → KeepsCommit a b → KeepsCommit b c → KeepsCommit a c
 then_kept a b c p q = record { was_open = λ o. p.was_open (q.was_open o); committed = λ o. q.committed o ∙ p.committed (q.was_open o) }
 
-pub then_finds : {A B : Type 0} (a b c : State) (f : Tables → A) (g : Tables → B) (x : A) (y : B)
-    → Finds a b f x → Finds b c g y → Finds {A = A × B} a c (λ t. (f t, g t)) (x, y)
-then_finds a b c f g x y p q = record {
+module _ (f g : Layout → Bool) (fewer : (l : Layout) → g l ≡ true → f l ≡ true) where
+  -- what is found in some layouts is found in fewer
+  pub finds_in : {A : Type 0} (a b : State) (F : Layout → Tables → A) (x : A) → Finds a b f F x → Finds a b g F x
+  finds_in a b F x p = record { was_open = p.was_open; inside = p.inside; kept = p.kept; found_is = λ l fit. p.found_is l (fewer l fit) }
+
+  pub fails_in : (a b : State) (fault : StoreFault) → Fails a b f fault → Fails a b g fault
+  fails_in a b fault p = record { kept = p.kept; cause = λ l fit. p.cause l (fewer l fit) }
+
+pub then_finds : {A B : Type 0} (a b c : State) (fits : Layout → Bool) (f : Layout → Tables → A) (g : Layout → Tables → B) (x : A) (y : B)
+    → Finds a b fits f x → Finds b c fits g y → Finds {A = A × B} a c fits (λ l t. (f l t, g l t)) (x, y)
+then_finds a b c fits f g x y p q = record {
   was_open = p.was_open;
   inside = q.inside;
   kept = then_kept a b c p.kept q.kept;
-  found_is = λ l t has ordered.
-      let first = p.found_is l t has ordered in
-      let second = q.found_is l t first.1 ordered in
+  found_is = λ l fit t has ordered.
+      let first = p.found_is l fit t has ordered in
+      let second = q.found_is l fit t first.1 ordered in
       (λ i. (first.0 i, second.0 i), second.1);
 }
 
 -- what fails after something was found has failed from there on
-pub then_fails : {A : Type 0} (a b c : State) (f : Tables → A) (x : A) (fault : StoreFault) (Commits : Trees → Type 0)
-    → Finds a b f x → Survives a b Commits → HasCleanDisk b → b.faults ≤ c.faults → Fails b c fault → Fails a c fault
-then_fails a b c f x fault Commits found first clean later failed = record {
+pub then_fails : {A : Type 0} (a b c : State) (fits : Layout → Bool) (f : Layout → Tables → A) (x : A) (fault : StoreFault) (Commits : Trees → Type 0)
+    → Finds a b fits f x → Survives a b Commits → HasCleanDisk b → b.faults ≤ c.faults → Fails b c fits fault → Fails a c fits fault
+then_fails a b c fits f x fault Commits found first clean later failed = record {
   kept = then_kept a b c found.kept failed.kept;
-  cause = λ l t has ordered. then_cause a b c Commits fault first clean later (failed.cause l t (found.found_is l t has ordered).1 ordered);
+  cause = λ l fit t has ordered. then_cause a b c Commits fault first clean later (failed.cause l fit t (found.found_is l fit t has ordered).1 ordered);
 }
+
+-- ---- the tables of version 2
+pub both_in_two : (l : Layout) → is_two l ≡ true → has_table l NetworkPoint ≡ true
+both_in_two OfOne two = absurd cc
+both_in_two AsMade two = refl
+both_in_two AsMoved two = refl
 
 -- the rows of all tables, found one after the other, are the tables
 pub all_found : (old a b c new : State) (meta sections points staff clearances steps holds : List Row)
-    → Finds old a (rows_in Meta) meta → Finds a b (both_of Section Point) (sections, points)
-    → Finds b c (both_of Staff Clearance) (staff, clearances) → Finds c new (both_of Step Hold) (steps, holds)
-    → Finds {A = Tables} old new (λ t. t) (record {
+    → Finds old a is_two (λ l t. rows_in l Meta t) meta → Finds a b is_two (both_of Section NetworkPoint) (sections, points)
+    → Finds b c is_two (both_of Staff Clearance) (staff, clearances) → Finds c new is_two (both_of Step Hold) (steps, holds)
+    → Finds {A = Tables} old new is_two (λ l t. t) (record {
       meta = meta;
       sections = sections;
       points = points;
@@ -284,15 +302,15 @@ all_found old a b c new meta sections points staff clearances steps holds p q r 
   was_open = p.was_open;
   inside = s.inside;
   kept = then_kept old c new (then_kept old b c (then_kept old a b p.kept q.kept) r.kept) s.kept;
-  found_is = λ l t has ordered.
-      let one = p.found_is l t has ordered in
-      let two = q.found_is l t one.1 ordered in
-      let three = r.found_is l t two.1 ordered in
-      let four = s.found_is l t three.1 ordered in (
+  found_is = λ l two t has ordered.
+      let one = p.found_is l two t has ordered in
+      let both = q.found_is l two t one.1 ordered in
+      let three = r.found_is l two t both.1 ordered in
+      let four = s.found_is l two t three.1 ordered in (
         λ i. record {
           meta = one.0 i;
-          sections = (two.0 i).0;
-          points = (two.0 i).1;
+          sections = (both.0 i).0;
+          points = (both.0 i).1;
           staff = (three.0 i).0;
           clearances = (three.0 i).1;
           steps = (four.0 i).0;

@@ -9,7 +9,7 @@ use Rattle.sqlite_trees.specs.Objects.{catalog_tree}
 use Rattle.clr_tables.specs.Tables.{Tables}
 use Rattle.clr_load.specs.Contract.{IsSaved}
 use Rattle.clr_load.specs.Schema.{schema_in}
-use Rattle.clr_load.specs.Stored.{AreTables, HasAllRows, HasTables, TablesOpenAgain}
+use Rattle.clr_load.specs.Stored.{AreTables, HasEachRow, HasTables, TablesOpenAgain, rows_in}
 
 -- the trees list one schema alone
 pub opened_with : TablesOpenAgain
@@ -18,12 +18,15 @@ opened_with trees t db are sound is =
     let schema = schema_in are.layout in
     record {
       layout = are.layout;
-      holds = record {
-        schema = lists_once (trees catalog_tree) db.schema schema there are.listed.lists;
-        listed = subst (IsSound schema) (sym is) are.listed;
-        rows = subst (λ (all : Trees). HasAllRows are.layout all t) (sym is) are.rows;
+      two = are.two;
+      here = record {
+        holds = record {
+          schema = lists_once (trees catalog_tree) db.schema schema there are.listed.lists;
+          listed = subst (IsSound schema) (sym is) are.listed;
+          rows = subst (λ (all : Trees). HasEachRow are.layout all (λ name. rows_in are.layout name t)) (sym is) are.rows;
+        };
+        in_order = are.in_order;
       };
-      in_order = are.in_order;
     }
 
 -- and so the state of a connection that is opened on them has the tables, and is saved
@@ -33,4 +36,4 @@ opened_again trees t s are opens live is =
 
 -- the trees of a database that has the tables
 pub left_of : (db : Database) (t : Tables) → HasTables db t → AreTables db.trees t
-left_of db t has = record { layout = has.layout; listed = has.holds.listed; rows = has.holds.rows; in_order = has.in_order }
+left_of db t has = record { layout = has.layout; two = has.two; listed = has.here.holds.listed; rows = has.here.holds.rows; in_order = has.here.in_order }

@@ -20,7 +20,6 @@ use Rattle.clr_order.specs.Action.{all_actions}
 use Rattle.clr_tables.specs.RowsRead.{id_at, id_unless_null, name_at, name_if_read, name_unless_null, text_of, word_at}
 use Rattle.clr_tables.specs.Words.{action_name, action_named, all_roles, all_states, role_word, role_worded, state_name, state_named}
 use Rattle.clr_tables.specs.declared.table_name.TableName.{TableName}
-use Rattle.clr_tables.specs.declared.table_name.TableName.TheVariants.{Point}
 use Rattle.clr_load.specs.Reading.{is_null, utf8_at}
 use Rattle.clr_load.proofs.Columns.{both_true}
 
@@ -111,16 +110,16 @@ name_unless t (Text text) h = at (name_if_read t (read_name text))
 name_unless t (Blob b) h = refl
 
 -- columns that are not both NULL have to have a clearance
-pub id_unless : (v w : Value) (row : Row) → (is_null v && is_null w) ≡ false → id_unless_null v w row ≡ (id_at Point 6 row >>= λ c. Ok (Some c))
-id_unless Null Null row h = absurd (true≢false h)
-id_unless Null (Int n) row h = refl
-id_unless Null (Real n) row h = refl
-id_unless Null (Text n) row h = refl
-id_unless Null (Blob n) row h = refl
-id_unless (Int n) w row h = refl
-id_unless (Real n) w row h = refl
-id_unless (Text n) w row h = refl
-id_unless (Blob n) w row h = refl
+pub id_unless : (t : TableName) (v w : Value) (row : Row) → (is_null v && is_null w) ≡ false → id_unless_null t v w row ≡ (id_at t 6 row >>= λ c. Ok (Some c))
+id_unless t Null Null row h = absurd (true≢false h)
+id_unless t Null (Int n) row h = refl
+id_unless t Null (Real n) row h = refl
+id_unless t Null (Text n) row h = refl
+id_unless t Null (Blob n) row h = refl
+id_unless t (Int n) w row h = refl
+id_unless t (Real n) w row h = refl
+id_unless t (Text n) w row h = refl
+id_unless t (Blob n) w row h = refl
 
 pub is_text_at : (t : TableName) (place : ℕ) (row : Row) (text : List ℕ) → column row place ≡ Text text → IsUtf8 text → utf8_at t place row ≡ Ok text
 is_text_at t place row text is utf8 = rw (is, is_utf8-from_IsUtf8 text utf8) refl

@@ -1,9 +1,11 @@
 -- What a call that reads promises.
-use Rattle.std.specs.Prelude.{◌≡◌, IsTrue, Result, Ok, Err, ⊤}
+use Rattle.std.specs.Prelude.{◌≡◌, IsTrue, List, Result, Ok, Err, ⊤}
 use Rattle.sqlite.specs.State.{State}
 use Rattle.clr_rules.specs.Register.{Register}
-use Rattle.clr_tables.specs.RowsRead.{Rows, rows_of}
+use Rattle.clr_tables.specs.RowsRead.{PointRead, Rows, all_read, read_placed, rows_of}
+use Rattle.clr_tables.specs.Tables.{Tables}
 use Rattle.clr_tables.specs.declared.table_name.TableName.{TableName}
+use Rattle.clr_tables.specs.declared.table_name.TableName.TheVariants.{Point}
 use Rattle.clr_load.specs.Fault.{IsOfDatabase}
 use Rattle.clr_load.specs.declared.fault.StoreFault.{StoreFault}
 use Rattle.clr_load.specs.declared.fault.StoreFault.TheVariants.{Sql, WrongVersion, BadRow}
@@ -60,3 +62,15 @@ YieldsRows read result = Yields rows_told read result
 abbrev pub GivesBack : Register → Result Loaded StoreFault → Type 0
 GivesBack R (Ok rows) = rows_told rows ≡ rows_of R
 GivesBack R (Err fault) = IsOfDatabase fault
+
+-- what the points of version 1 read as
+abbrev pub old_points : Tables → Result (List PointRead) TableName
+old_points t = all_read (read_placed Point) t.points
+
+-- why the points are not read: the database refused or failed, memory ran out, or a row does not
+-- read
+abbrev pub RefusesPoints : Result (List PointRead) TableName → StoreFault → Type 0
+RefusesPoints read Sql = ⊤
+RefusesPoints read NoMemory = ⊤
+RefusesPoints read (BadRow table) = read ≡ Err table
+RefusesPoints read (WrongVersion n) = ⊥

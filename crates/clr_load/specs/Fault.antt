@@ -1,6 +1,6 @@
 -- Faults of the database itself.
 use Rattle.std.specs.Prelude.{◌≡◌, ⊤}
-use Rattle.clr_tables.specs.declared.table_name.TableName.TheVariants.{Meta}
+use Rattle.clr_tables.specs.declared.table_name.TableName.TheVariants.{Meta, Point}
 use Rattle.clr_load.specs.declared.fault.StoreFault.{StoreFault}
 use Rattle.clr_load.specs.declared.fault.StoreFault.TheVariants.{Sql, WrongVersion, BadRow}
 use Rattle.clr_load.specs.declared.fault.StoreFault.TheVariants.{NoMemory}
@@ -18,3 +18,10 @@ IsOfVersion Sql = ⊤
 IsOfVersion NoMemory = ⊤
 IsOfVersion (WrongVersion n) = ⊥
 IsOfVersion (BadRow table) = table ≡ Meta
+
+-- the database refused or failed, memory ran out, or a point of version 1 does not read
+abbrev pub IsOfPoints : StoreFault → Type 0
+IsOfPoints Sql = ⊤
+IsOfPoints NoMemory = ⊤
+IsOfPoints (WrongVersion n) = ⊥
+IsOfPoints (BadRow table) = table ≡ Point

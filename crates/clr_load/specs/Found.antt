@@ -1,5 +1,5 @@
 -- What a call finds in the tables, inside a transaction.
-use Rattle.std.specs.Prelude.{◌≡◌, IsTrue, Result, MatchResult}
+use Rattle.std.specs.Prelude.{◌≡◌, Bool, true, IsTrue, Result, MatchResult}
 use Rattle.sqlite.specs.State.{State, HasCleanDisk, KeepsCommit}
 use Rattle.clr_tables.specs.Tables.{Tables}
 use Rattle.clr_load.specs.Cause.{SqlHasCause}
@@ -7,23 +7,25 @@ use Rattle.clr_load.specs.Layout.{Layout}
 use Rattle.clr_load.specs.Stored.{Holds, IsInOrder}
 use Rattle.clr_load.specs.declared.fault.StoreFault.{StoreFault}
 
--- the connection was open, something that the tables tell is found, the tables stay, and nothing is committed
-pub record Finds {A : Type 0} (old new : State) (tells : Tables → A) (found : A) : Type 0 where
+-- in layouts that fit: the connection was open, something that the tables tell is found, the tables
+-- stay, and nothing is committed
+pub record Finds {A : Type 0} (old new : State) (fits : Layout → Bool) (tells : Layout → Tables → A)
+    (found : A) : Type 0 where
   pub was_open : IsTrue old.is_open
   pub inside : IsTrue new.in_transaction
   pub kept : KeepsCommit old new
-  pub found_is : (l : Layout) (t : Tables) → Holds l old.now t → IsInOrder t
-      → (found ≡ tells t) × Holds l new.now t
+  pub found_is : (l : Layout) → fits l ≡ true → (t : Tables) → Holds l old.now t → IsInOrder l t
+      → (found ≡ tells l t) × Holds l new.now t
 
 -- nothing is found or committed. Where the tables are there, `Sql` has a cause
-pub record Fails (old new : State) (fault : StoreFault) : Type 0 where
+pub record Fails (old new : State) (fits : Layout → Bool) (fault : StoreFault) : Type 0 where
   pub kept : KeepsCommit old new
-  pub cause : (l : Layout) (t : Tables) → Holds l old.now t → IsInOrder t
+  pub cause : (l : Layout) → fits l ≡ true → (t : Tables) → Holds l old.now t → IsInOrder l t
       → SqlHasCause old new fault
 
 -- a call inside a transaction finds it, or fails; it commits nothing
-abbrev pub Lists : {A X : Type 0} → State → State → (Tables → A) → (X → A) → Result X StoreFault
-    → Type 0
-Lists old new tells items result =
+abbrev pub Lists : {A X : Type 0} → State → State → (Layout → Bool) → (Layout → Tables → A)
+    → (X → A) → Result X StoreFault → Type 0
+Lists old new fits tells items result =
     HasCleanDisk new → IsTrue old.in_transaction
-    → MatchResult result (λ listed. Finds old new tells (items listed)) (Fails old new)
+    → MatchResult result (λ listed. Finds old new fits tells (items listed)) (Fails old new fits)

@@ -5,8 +5,10 @@ use Rattle.sqlite.specs.Order.{Row, column}
 use Rattle.sqlite.specs.declared.types.Value.{Value}
 use Rattle.sqlite.specs.declared.types.Value.TheVariants.{Null}
 use Rattle.clr_csv.specs.Rows.{◌>>=◌}
-use Rattle.clr_tables.specs.RowsRead.{PointRead as ReadPoint, read_point, text_at}
+use Rattle.clr_tables.specs.RowsRead.{PointRead as ReadPoint, read_placed, read_point, text_at}
 use Rattle.clr_tables.specs.declared.table_name.TableName.{TableName}
+use Rattle.clr_tables.specs.declared.table_name.TableName.TheVariants.{Point}
+use Rattle.clr_load.specs.declared.table_row.OldPoint.{OldPoint}
 use Rattle.clr_load.specs.declared.table_row.PointRead.{PointRead}
 
 -- a text whose bytes are those of characters
@@ -32,7 +34,21 @@ is_null_at place row = is_null (column row place)
 abbrev pub in_fields : ReadPoint → PointRead
 in_fields p = record { point = p.point; state = p.state }
 
+abbrev pub placed_values : TableName → Row → Result PointRead TableName
+placed_values t row = do
+  p ← read_placed t row
+  Ok (in_fields p)
+
 abbrev pub point_values : Row → Result PointRead TableName
 point_values row = do
   p ← read_point row
   Ok (in_fields p)
+
+-- a switching point of version 1
+abbrev pub old_point : ReadPoint → OldPoint
+old_point p = record { read = in_fields p }
+
+abbrev pub old_values : Row → Result OldPoint TableName
+old_values row = do
+  p ← read_placed Point row
+  Ok (old_point p)

@@ -15,6 +15,7 @@ use Rattle.clr_tables.specs.TableText.{table_text}
 use Rattle.clr_tables.specs.declared.table_name.TableName.{TableName}
 use Rattle.clr_tables.specs.declared.table_name.TableName.TheVariants.{Meta, Section, Point, Staff}
 use Rattle.clr_tables.specs.declared.table_name.TableName.TheVariants.{Clearance, Step, Hold}
+use Rattle.clr_tables.specs.declared.table_name.TableName.TheVariants.{NetworkPoint}
 use Rattle.clr_load.specs.Layout.{Layout, names_in, tree_in}
 
 -- a column of a STRICT table that has to have a value, and one that may be NULL
@@ -45,16 +46,21 @@ keys_in Staff = 1
 keys_in Clearance = 2
 keys_in Step = 4
 keys_in Hold = 4
+keys_in NetworkPoint = 1
 
-abbrev pub columns_in : TableName → List Column
-columns_in Meta = needed (codes "name") Text ∷ needed (codes "value") Integer ∷ []
-columns_in Section = needed (codes "name") Text ∷ needed (codes "source") Integer ∷ []
-columns_in Point =
+-- the columns of a point, and more behind them
+abbrev pub point_columns : List Column → List Column
+point_columns more =
     needed (codes "name") Text ∷ needed (codes "from_end") Text ∷ needed (codes "to_end") Text
     ∷ needed (codes "lockable") Integer
     ∷ needed (codes "remote") Integer ∷ needed (codes "position") Integer
     ∷ or_null (codes "hand_requester") Text
-    ∷ or_null (codes "hand_number") Integer ∷ []
+    ∷ or_null (codes "hand_number") Integer ∷ more
+
+abbrev pub columns_in : TableName → List Column
+columns_in Meta = needed (codes "name") Text ∷ needed (codes "value") Integer ∷ []
+columns_in Section = needed (codes "name") Text ∷ needed (codes "source") Integer ∷ []
+columns_in Point = point_columns []
 columns_in Staff = needed (codes "name") Text ∷ needed (codes "role") Text
     ∷ or_null (codes "supervisor") Text ∷ []
 columns_in Clearance =
@@ -69,6 +75,7 @@ columns_in Step =
 columns_in Hold =
     needed (codes "kind") Text ∷ needed (codes "place") Text ∷ needed (codes "requester") Text
     ∷ needed (codes "number") Integer ∷ []
+columns_in NetworkPoint = point_columns (needed (codes "jumper") Integer ∷ [])
 
 -- the first columns, which a database counts from 1
 abbrev pub first_columns : ℕ → ℕ → List ℕ

@@ -20,18 +20,22 @@ use Rattle.clr_tables.specs.Tables.{Tables}
 use Rattle.clr_tables.specs.declared.table_name.TableName.{TableName}
 use Rattle.clr_tables.specs.declared.table_name.TableName.TheVariants.{Meta, Section, Point, Staff}
 use Rattle.clr_tables.specs.declared.table_name.TableName.TheVariants.{Clearance, Step, Hold}
-use Rattle.clr_load.specs.Layout.{Layout, tree_in}
+use Rattle.clr_tables.specs.declared.table_name.TableName.TheVariants.{NetworkPoint}
+use Rattle.clr_load.specs.Layout.{AsMade, AsMoved, Layout, OfOne, has_table, is_two, tree_in}
 use Rattle.clr_load.specs.Schema.{behind_meta, columns_in, keys_in, schema_in}
 
--- the rows of a table
-abbrev pub rows_in : TableName → Tables → List Row
-rows_in Meta t = t.meta
-rows_in Section t = t.sections
-rows_in Point t = t.points
-rows_in Staff t = t.staff
-rows_in Clearance t = t.clearances
-rows_in Step t = t.steps
-rows_in Hold t = t.holds
+-- the rows of a table. In version 2 `point` has none
+abbrev pub rows_in : Layout → TableName → Tables → List Row
+rows_in l Meta t = t.meta
+rows_in l Section t = t.sections
+rows_in OfOne Point t = t.points
+rows_in AsMade Point t = []
+rows_in AsMoved Point t = []
+rows_in l Staff t = t.staff
+rows_in l Clearance t = t.clearances
+rows_in l Step t = t.steps
+rows_in l Hold t = t.holds
+rows_in l NetworkPoint t = t.points
 
 -- whether a value is of a column's kind, or NULL
 abbrev pub is_of_kind : Kind → Value → Bool
@@ -67,20 +71,23 @@ pub record HasRows (columns : List Column) (tree rows : List Row) : Type 0 where
   pub fit : list_all (fits_columns columns) rows ≡ true
 
 -- each list of rows stands in the order of its key
-abbrev pub IsInOrder : Tables → Type 0
-IsInOrder t = (name : TableName) → in_key_order row_cmp (take (keys_in name)) (rows_in name t)
-    ≡ true
+abbrev pub IsInOrder : Layout → Tables → Type 0
+IsInOrder l t = (name : TableName)
+    → in_key_order row_cmp (take (keys_in name)) (rows_in l name t) ≡ true
 
--- the trees have these rows
-abbrev pub HasAllRows : Layout → Trees → Tables → Type 0
-HasAllRows l trees t = (name : TableName)
-    → HasRows (columns_in name) (trees (tree_in l name)) (rows_in name t)
+-- the trees have these rows, by the name of the table
+abbrev pub HasEachRow : Layout → Trees → (TableName → List Row) → Type 0
+HasEachRow l trees rows = (name : TableName) → has_table l name ≡ true
+    → HasRows (columns_in name) (trees (tree_in l name)) (rows name)
 
--- the database has the tables of the register alone, with these rows
-pub record Holds (l : Layout) (db : Database) (t : Tables) : Type 0 where
+-- the database has the tables of a layout alone, with these rows
+pub record Keeps (l : Layout) (db : Database) (told : TableName → List Row) : Type 0 where
   pub schema : db.schema ≡ schema_in l
   pub listed : IsSound (schema_in l) db.trees
-  pub rows : HasAllRows l db.trees t
+  pub rows : HasEachRow l db.trees told
+
+abbrev pub Holds : Layout → Database → Tables → Type 0
+Holds l db t = Keeps l db (λ name. rows_in l name t)
 
 -- THE DATABASE HAS A TABLE OF THE VERSION, the first of its tables, with these rows. Its other
 -- tables are any, also those of another version
@@ -93,15 +100,25 @@ pub record HasMeta (db : Database) (meta : List Row) : Type 0 where
 -- THE TREES HAVE THESE TABLES, and their catalogue lists the tables of the register alone
 pub record AreTables (trees : Trees) (t : Tables) : Type 0 where
   pub layout : Layout
+  pub two : is_two layout ≡ true
   pub listed : IsSound (schema_in layout) trees
-  pub rows : HasAllRows layout trees t
-  pub in_order : IsInOrder t
+  pub rows : HasEachRow layout trees (λ name. rows_in layout name t)
+  pub in_order : IsInOrder layout t
 
--- THE DATABASE HAS THESE TABLES, and no others
+-- THE DATABASE HAS THE TABLES OF A LAYOUT, and no others
+pub record HasTablesIn (l : Layout) (db : Database) (t : Tables) : Type 0 where
+  pub holds : Holds l db t
+  pub in_order : IsInOrder l t
+
+-- THE DATABASE HAS THESE TABLES, of version 2, and no others
 pub record HasTables (db : Database) (t : Tables) : Type 0 where
   pub layout : Layout
-  pub holds : Holds layout db t
-  pub in_order : IsInOrder t
+  pub two : is_two layout ≡ true
+  pub here : HasTablesIn layout db t
+
+-- THE DATABASE HAS THESE TABLES, of version 1
+abbrev pub HasOldTables : Database → Tables → Type 0
+HasOldTables = HasTablesIn OfOne
 
 -- TREES THAT HAVE TABLES OPEN WITH THEM: a sound database of these trees has the tables
 abbrev pub TablesOpenAgain : Type 0

@@ -6,6 +6,7 @@ ghost use Rattle.sqlite.specs.State.{HasCleanDisk, Shown, Survives};
 ghost use Rattle.clr_load.specs.Cause.{SqlHasCause};
 ghost use Rattle.clr_load.specs.Fault.{IsOfDatabase};
 ghost use Rattle.clr_load.specs.Found.{Lists};
+ghost use Rattle.clr_load.specs.Layout.{has_table};
 ghost use Rattle.clr_load.specs.Sql.{select_sql};
 ghost use Rattle.clr_load.specs.Stored.{HasMeta, rows_in};
 
@@ -33,6 +34,9 @@ fn select_sql(table: TableName) -> &'static str
         TableName::Hold =>
             "SELECT kind, place, requester, number FROM hold ORDER BY kind, place, requester, \
              number",
+        TableName::NetworkPoint =>
+            "SELECT name, from_end, to_end, lockable, remote, position, hand_requester, \
+             hand_number, jumper FROM network_point ORDER BY name",
     }
 }
 
@@ -43,7 +47,7 @@ pub(crate) fn list_rows<S: Alter>(
 ) -> Result<Vec<Row>, StoreFault>
     ensures same_reference { tx.new.conn.ghost_name ≡ tx.old.conn.ghost_name }
     ensures step { Lists (state S.Store tx.old.conn.now) (state S.Store tx.new.conn.now)
-        (rows_in table) (λ rows. rows.items) result }
+        (λ l. has_table l table) (λ l t. rows_in l table t) (λ rows. rows.items) result }
     ensures shown { HasCleanDisk (state S.Store tx.new.conn.now) → IfOk result (λ rows.
         Shown (select_sql table) [] (state S.Store tx.old.conn.now)
         (state S.Store tx.new.conn.now) rows.items) }

@@ -8,8 +8,9 @@ ghost use Rattle.clr_load.specs.Cause.{SqlHasCause};
 ghost use Rattle.clr_load.specs.Contract.{GivesRows, IsSaved, YieldsRows};
 ghost use Rattle.clr_load.specs.Fault.{IsOfDatabase};
 ghost use Rattle.clr_load.specs.Found.{Lists};
-ghost use Rattle.clr_load.specs.Listed.{both_of, tables_in};
-ghost use Rattle.clr_load.specs.Stored.{HasTables, rows_in};
+ghost use Rattle.clr_load.specs.Layout.{is_two};
+ghost use Rattle.clr_load.specs.Listed.{both_fit, both_of, tables_in};
+ghost use Rattle.clr_load.specs.Stored.{HasTables};
 
 use crate::fault::StoreFault;
 use crate::listing::list_rows;
@@ -42,7 +43,7 @@ fn list_both<S: Alter>(
 ) -> Result<(Vec<Row>, Vec<Row>), StoreFault>
     ensures same_reference { tx.new.conn.ghost_name ≡ tx.old.conn.ghost_name }
     ensures step { Lists (state S.Store tx.old.conn.now) (state S.Store tx.new.conn.now)
-        (both_of one other) (λ listed. (listed.0.items, listed.1.items)) result }
+        (both_fit one other) (both_of one other) (λ listed. (listed.0.items, listed.1.items)) result }
     ensures fault { IfErr result IsOfDatabase }
     ensures survives { Survives (state S.Store tx.old.conn.now) (state S.Store tx.new.conn.now)
         (λ _. ⊥) }
@@ -55,14 +56,14 @@ fn list_both<S: Alter>(
 /// Lists the rows of all tables.
 fn list_tables<S: Alter>(tx: &mut Transaction<'_, S>) -> Result<Listed, StoreFault>
     ensures same_reference { tx.new.conn.ghost_name ≡ tx.old.conn.ghost_name }
-    ensures step { Lists (state S.Store tx.old.conn.now) (state S.Store tx.new.conn.now) (λ t. t)
-        tables_in result }
+    ensures step { Lists (state S.Store tx.old.conn.now) (state S.Store tx.new.conn.now) is_two
+        (λ l t. t) tables_in result }
     ensures fault { IfErr result IsOfDatabase }
     ensures survives { Survives (state S.Store tx.old.conn.now) (state S.Store tx.new.conn.now)
         (λ _. ⊥) }
 {
     let meta = list_rows(tx, TableName::Meta)?;
-    let network = list_both(tx, TableName::Section, TableName::Point)?;
+    let network = list_both(tx, TableName::Section, TableName::NetworkPoint)?;
     let people = list_both(tx, TableName::Staff, TableName::Clearance)?;
     let work = list_both(tx, TableName::Step, TableName::Hold)?;
     Ok(Listed {

@@ -125,13 +125,13 @@ pub(crate) fn id_at(table: TableName, place: usize, row: &Row) -> Result<Clearan
 }
 
 /// The hand of a switching point: two NULLs, or a clearance.
-pub(crate) fn hand_at(row: &Row) -> Result<Option<ClearanceId>, TableName>
-    ensures { result ≡ hand_at row.now }
+pub(crate) fn hand_at(table: TableName, row: &Row) -> Result<Option<ClearanceId>, TableName>
+    ensures { result ≡ hand_at table row.now }
 {
     if is_null_at(6, row) && is_null_at(7, row) {
         return Ok(None);
     }
-    let id = id_at(TableName::Point, 6, row)?;
+    let id = id_at(table, 6, row)?;
     Ok(Some(id))
 }
 

@@ -4,7 +4,7 @@ ghost use Rattle.std.specs.Prelude.{◌≡◌};
 ghost use Rattle.clr_tables.specs.RowsRead.{all_read, read_clearance, read_hold, read_section};
 ghost use Rattle.clr_tables.specs.RowsRead.{read_staff, read_step};
 ghost use Rattle.clr_load.specs.Contract.{Yields};
-ghost use Rattle.clr_load.specs.Reading.{point_values};
+ghost use Rattle.clr_load.specs.Reading.{old_values, placed_values, point_values};
 
 use crate::fault::StoreFault;
 use crate::reading::{
@@ -51,33 +51,59 @@ pub(crate) struct PointRead {
     pub(crate) state: PointState,
 }
 
+/// Reads the columns of version 1, in a table of this name.
+#[tactic(auto, unfolding(clr_tables::specs::RowsRead::read_placed))]
+fn placed_at(table: TableName, row: &Row) -> Result<PointRead, TableName>
+    ensures { result ≡ placed_values table row.now }
+{
+    let name = name_at(table, 0, row)?;
+    let from_end = name_at(table, 1, row)?;
+    let to_end = name_at(table, 2, row)?;
+    let lockable = flag_at(table, 3, row)?;
+    let remote = flag_at(table, 4, row)?;
+    let position = position_at(table, 5, row)?;
+    let hand = hand_at(table, row)?;
+    Ok(PointRead {
+        point: PointRow {
+            name,
+            from_end,
+            to_end,
+            lockable,
+            remote,
+            position,
+            jumper: false,
+        },
+        state: PointState {
+            point: name,
+            position,
+            hand,
+        },
+    })
+}
+
 impl TableRow for PointRead {
     ghost values = { point_values };
 
     #[tactic(auto, unfolding(clr_tables::specs::RowsRead::read_point))]
     fn read(row: &Row) -> Result<PointRead, TableName> {
-        let name = name_at(TableName::Point, 0, row)?;
-        let from_end = name_at(TableName::Point, 1, row)?;
-        let to_end = name_at(TableName::Point, 2, row)?;
-        let lockable = flag_at(TableName::Point, 3, row)?;
-        let remote = flag_at(TableName::Point, 4, row)?;
-        let position = position_at(TableName::Point, 5, row)?;
-        let hand = hand_at(row)?;
-        Ok(PointRead {
-            point: PointRow {
-                name,
-                from_end,
-                to_end,
-                lockable,
-                remote,
-                position,
-            },
-            state: PointState {
-                point: name,
-                position,
-                hand,
-            },
-        })
+        let mut read = placed_at(TableName::NetworkPoint, row)?;
+        read.point.jumper = flag_at(TableName::NetworkPoint, 8, row)?;
+        Ok(read)
+    }
+}
+
+/// A switching point of version 1.
+#[derive(Clone, Copy)]
+pub(crate) struct OldPoint {
+    pub(crate) read: PointRead,
+}
+
+impl TableRow for OldPoint {
+    ghost values = { old_values };
+
+    fn read(row: &Row) -> Result<OldPoint, TableName> {
+        let read = placed_at(TableName::Point, row)?;
+        Ok(OldPoint { read })
     }
 }
 

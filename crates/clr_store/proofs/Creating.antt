@@ -1,5 +1,5 @@
 -- What the statements that make the tables do, and what the opening register's rows make of them.
-use Rattle.std.proofs.Common.{◌≡◌, ◌+◌, ◌<◌, ◌≤◌, ℕ, List, [], ◌∷◌, ◌++◌, map, take, get_or, length, false, ◌&&◌, Some, None, unwrap_or, Ok, Err, Result, refl, sym, ap, subst, ◌∙◌, ◌⊎◌, inl, inr, IsTrue, append-nil, arith}
+use Rattle.std.proofs.Common.{◌≡◌, ◌+◌, ◌<◌, ◌≤◌, ℕ, List, [], ◌∷◌, ◌++◌, map, take, get_or, length, true, false, ◌&&◌, Some, None, unwrap_or, Ok, Err, Result, refl, sym, ap, subst, ◌∙◌, ◌⊎◌, inl, inr, IsTrue, append-nil, arith}
 use Rattle.std.specs.Prelude.{MatchResult}
 use Rattle.std.specs.List.{AllByRecursion, Contains, list_all}
 use Rattle.std.specs.List.Sorted.{IsPermutation}
@@ -34,21 +34,21 @@ use Rattle.clr_rules.proofs.good.Opening.{in_key_order-from_sorted}
 use Rattle.clr_rules.specs.Register.{first_state, opening}
 use Rattle.clr_rules.specs.States.{state_key, state_of}
 use Rattle.std.proofs.lemmas.Cmp.{nat_list_cmp_total}
-use Rattle.clr_tables.specs.Tables.{Tables, point_row, section_row, staff_row, state_at, tables_of}
+use Rattle.clr_tables.specs.Tables.{Tables, jumper_row, section_row, staff_row, state_at, tables_of}
 use Rattle.clr_tables.specs.declared.table_name.TableName.{TableName}
-use Rattle.clr_tables.specs.declared.table_name.TableName.TheVariants.{Meta, Section, Point, Staff, Clearance, Step, Hold}
+use Rattle.clr_tables.specs.declared.table_name.TableName.TheVariants.{Meta, Section, Point, Staff, Clearance, Step, Hold, NetworkPoint}
 use Rattle.clr_store.specs.Change.{Changes, HasEmpty, Makes, added, filled, opening_points, tables_with, with_rows}
-use Rattle.clr_load.specs.Layout.{Layout, OfOne, names_before, names_in, place_in, tree_in}
+use Rattle.clr_load.specs.Layout.{AsMade, AsMoved, Layout, OfOne, has_table, is_two, names_before, names_in, place_in, tree_in}
 use Rattle.clr_load.specs.Schema.{columns_in, no_schema, schema_of, table_at, table_in}
 use Rattle.clr_load.specs.Sql.{create_sql}
-use Rattle.clr_load.specs.Stored.{HasAllRows, HasRows, HasTables, Holds, IsInOrder, rows_in}
+use Rattle.clr_load.specs.Stored.{HasEachRow, HasRows, HasTables, Holds, IsInOrder, rows_in}
 use Rattle.clr_load.specs.declared.fault.StoreFault.{StoreFault}
 use Rattle.clr_store.proofs.Effects.{went}
 use Rattle.clr_load.proofs.AllRead.{same_value}
 use Rattle.clr_load.proofs.Loading.{then_kept}
 use Rattle.clr_store.proofs.Inside.{in_any_order}
 use Rattle.clr_load.proofs.Texts.{create_is, create_text, created_is, defines}
-use Rattle.clr_store.proofs.Layouts.{all_at, named_at, nothing, rows_with, twice}
+use Rattle.clr_store.proofs.Layouts.{all_at, named_at, nothing, rows_with, twice, two_rows}
 
 -- ---- CREATE TABLE
 still_empty : (l : Layout) (names : List TableName) (old new : Trees) → KeepsRows (map (table_in l) names) old new → AllByRecursion (λ name. old (tree_in l name) ≡ []) names
@@ -56,27 +56,61 @@ still_empty : (l : Layout) (names : List TableName) (old new : Trees) → KeepsR
 still_empty l [] old new kept empty = tt
 still_empty l (name ∷ names) old new kept empty = (kept.0 ∙ empty.0, still_empty l names old new kept.1 empty.1)
 
-lacks : (l : Layout) (name : TableName) → lacks_sequence (schema_of l (names_before l name ++ name ∷ [])) ≡ false
-lacks OfOne Meta = refl
-lacks OfOne Section = refl
-lacks OfOne Point = refl
-lacks OfOne Staff = refl
-lacks OfOne Clearance = refl
-lacks OfOne Step = refl
-lacks OfOne Hold = refl
+pub lacks : (l : Layout) (name : TableName) → has_table l name ≡ true → lacks_sequence (schema_of l (names_before l name ++ name ∷ [])) ≡ false
+lacks OfOne Meta has = refl
+lacks AsMade Meta has = refl
+lacks AsMoved Meta has = refl
+lacks OfOne Section has = refl
+lacks AsMade Section has = refl
+lacks AsMoved Section has = refl
+lacks OfOne Point has = refl
+lacks AsMade Point has = absurd cc
+lacks AsMoved Point has = refl
+lacks OfOne Staff has = refl
+lacks AsMade Staff has = refl
+lacks AsMoved Staff has = refl
+lacks OfOne Clearance has = refl
+lacks AsMade Clearance has = refl
+lacks AsMoved Clearance has = refl
+lacks OfOne Step has = refl
+lacks AsMade Step has = refl
+lacks AsMoved Step has = refl
+lacks OfOne Hold has = refl
+lacks AsMade Hold has = refl
+lacks AsMoved Hold has = refl
+lacks OfOne NetworkPoint has = absurd cc
+lacks AsMade NetworkPoint has = refl
+lacks AsMoved NetworkPoint has = refl
 
-next_is : (l : Layout) (name : TableName) → next_tree (schema_of l (names_before l name)) ≡ tree_in l name
-next_is OfOne Meta = refl
-next_is OfOne Section = refl
-next_is OfOne Point = refl
-next_is OfOne Staff = refl
-next_is OfOne Clearance = refl
-next_is OfOne Step = refl
-next_is OfOne Hold = refl
+pub next_is : (l : Layout) (name : TableName) → has_table l name ≡ true → next_tree (schema_of l (names_before l name)) ≡ tree_in l name
+next_is OfOne Meta has = refl
+next_is AsMade Meta has = refl
+next_is AsMoved Meta has = refl
+next_is OfOne Section has = refl
+next_is AsMade Section has = refl
+next_is AsMoved Section has = refl
+next_is OfOne Point has = refl
+next_is AsMade Point has = absurd cc
+next_is AsMoved Point has = refl
+next_is OfOne Staff has = refl
+next_is AsMade Staff has = refl
+next_is AsMoved Staff has = refl
+next_is OfOne Clearance has = refl
+next_is AsMade Clearance has = refl
+next_is AsMoved Clearance has = refl
+next_is OfOne Step has = refl
+next_is AsMade Step has = refl
+next_is AsMoved Step has = refl
+next_is OfOne Hold has = refl
+next_is AsMade Hold has = refl
+next_is AsMoved Hold has = refl
+next_is OfOne NetworkPoint has = absurd cc
+next_is AsMade NetworkPoint has = refl
+next_is AsMoved NetworkPoint has = refl
 
-pub makes_table : (l : Layout) (old new : State) (name : TableName) (count : ℕ) → ExecutesInside 0 (create_sql name) [] old new (Ok count)
+pub makes_table : (l : Layout) (old new : State) (name : TableName) (count : ℕ) → has_table l name ≡ true → ExecutesInside 0 (create_sql name) [] old new (Ok count)
     → Makes old new (HasEmpty l (names_before l name)) (HasEmpty l (names_before l name ++ name ∷ []))
-makes_table l old new name count ran = record {
+makes_table l old new name count there ran = record {
   inside = ran.1.mode;
   kept = record { was_open = λ _. ran.1.was_open; committed = λ _. ran.1.committed_is };
   sound = λ before. (writes before).sound;
@@ -89,11 +123,11 @@ makes_table l old new name count ran = record {
       let both : Ok made.table ≡ Ok (table_at 0 name) = sym made.defined ∙ defines name in
       let same : made.table ≡ table_at 0 name = same_value both in
       let schema : first.0.schema ≡ schema_of l (names_before l name ++ name ∷ []) =
-      made.is ∙ ap (λ s. created s made.table) has ∙ ap (created (schema_of l (names_before l name))) same ∙ created_is l name in
-      let plain : lacks_sequence first.0.schema ≡ false = ap lacks_sequence schema ∙ lacks l name in
+      made.is ∙ ap (λ s. created s made.table) has ∙ ap (created (schema_of l (names_before l name))) same ∙ created_is l name there in
+      let plain : lacks_sequence first.0.schema ≡ false = ap lacks_sequence schema ∙ lacks l name there in
       let now : new.now ≡ first.0 = ap (λ (p : Tally × Database). p.1) (same_value all.2) ∙ same_value (rw plain at first.2) in
       let others = subst (λ s. KeepsRows s.tables old.now.trees first.0.trees) has made.others in
-      let empty : first.0.trees (tree_in l name) ≡ [] = subst (λ tree. first.0.trees tree ≡ []) (ap next_tree has ∙ next_is l name) made.empty in
+      let empty : first.0.trees (tree_in l name) ≡ [] = subst (λ tree. first.0.trees tree ≡ []) (ap next_tree has ∙ next_is l name there) made.empty in
       let trees = λ (n : ℕ). ap (λ (d : Database). d.trees n) now in
       record {
         schema = ap (λ (d : Database). d.schema) now ∙ schema;
@@ -104,8 +138,8 @@ makes_table l old new name count ran = record {
 }
   where
     writes : HasEmpty l (names_before l name) old.now → Writes old new None CreateTable (create_sql name) [] count
-    writes before = subst (λ t. Writes old new None CreateTable t [] count) (create_text l name)
-        (runs_as (create_sql name) [] old new (schema_of l (names_before l name)) before.schema CreateTable (create_is l name).is (create_is l name).plain count ran.0)
+    writes before = subst (λ t. Writes old new None CreateTable t [] count) (create_text l name there)
+        (runs_as (create_sql name) [] old new (schema_of l (names_before l name)) before.schema CreateTable (create_is l name there).is (create_is l name there).plain count ran.0)
 
     moved : (names : List TableName) (a b : Trees) → a ≡ b → AllByRecursion (λ name. b (tree_in l name) ≡ []) names → AllByRecursion (λ name. a (tree_in l name) ≡ []) names
     moved names a b same empty = subst (λ (t : Trees). AllByRecursion (λ name. t (tree_in l name) ≡ []) names) (sym same) empty
@@ -126,22 +160,22 @@ added_same : (news rows : List Row) → IsPermutation (news ++ rows) (added news
 added_same [] rows = IsPermutation-refl _
 added_same (row ∷ news) rows = IsPermutation-trans _ _ _ (IsPermutation-sym _ _ (IsPermutation-middle news row rows)) (added_same news (row ∷ rows))
 
-pub one_more_row : (old new : State) (name : TableName) (news : List Row) (k : ℕ) (row : Row) → k < length news → row ≡ get_or news k row
+pub one_more_row : (old new : State) (name : TableName) (news : List Row) (k : ℕ) (row : Row) → has_table AsMade name ≡ true → k < length news → row ≡ get_or news k row
     → Changes old new (λ t. with_rows name (λ rows. row ∷ rows) (with_rows name (added (take k news)) t)) → Changes old new (with_rows name (added (take (k + 1) news)))
-one_more_row old new name news k row within is both = record {
+one_more_row old new name news k row here within is both = record {
   inside = both.inside;
   kept = both.kept;
-  tables = λ l t has. subst (Holds l new.now)
-      (twice name (λ rows. row ∷ rows) (added (take k news)) t ∙ ap (λ (f : List Row → List Row). with_rows name f t) (λ i rows. sym (added_more news rows k row within is) i))
-      (both.tables l t has);
+  tables = λ l two t has. subst (Holds l new.now)
+      (twice name here (λ rows. row ∷ rows) (added (take k news)) t ∙ ap (λ (f : List Row → List Row). with_rows name f t) (λ i rows. sym (added_more news rows k row within is) i))
+      (both.tables l two t has);
 }
 
 -- one more of the items, each as its row
-pub one_more_of : {A : Type 0} (old new : State) (name : TableName) (row : A → Row) (items : List A) (k : ℕ) (item : A) → k < length items → item ≡ get_or items k item
+pub one_more_of : {A : Type 0} (old new : State) (name : TableName) (row : A → Row) (items : List A) (k : ℕ) (item : A) → has_table AsMade name ≡ true → k < length items → item ≡ get_or items k item
     → Changes old new (λ t. with_rows name (λ rows. row item ∷ rows) (with_rows name (added (take k (map row items))) t)) → Changes old new (with_rows name (added (take (k + 1) (map row items))))
-one_more_of old new name row items k item within is both =
+one_more_of old new name row items k item here within is both =
     let long : k < length (map row items) = omega (arith, length-map items row) in
-    one_more_row old new name (map row items) k (row item) long (ap row is ∙ sym (get_or-map row items k item (row item) within)) both
+    one_more_row old new name (map row items) k (row item) here long (ap row is ∙ sym (get_or-map row items k item (row item) within)) both
 
 pub all_taken : {A : Type 0} (old new : State) (name : TableName) (row : A → Row) (items : List A) (k : ℕ) → length items ≤ k
     → Changes old new (with_rows name (added (take k (map row items)))) → Changes old new (with_rows name (added (map row items)))
@@ -152,22 +186,22 @@ pub no_rows : (s : State) (name : TableName) → IsTrue s.in_transaction → Cha
 no_rows s name inside = record {
   inside = inside;
   kept = record { was_open = λ is_open. is_open; committed = λ _. refl };
-  tables = λ l t has. subst (Holds l s.now) (sym (nothing name t)) has;
+  tables = λ l two t has. subst (Holds l s.now) (sym (nothing name t)) has;
 }
 
 -- ---- the opening register
 abbrev pub no_tables : Tables
 no_tables = tables_with (λ _. [])
 
-empty_rows : (columns : List Column) (tree : List Row) → tree ≡ [] → HasRows columns tree []
+pub empty_rows : (columns : List Column) (tree : List Row) → tree ≡ [] → HasRows columns tree []
 empty_rows columns tree empty = rw empty (record { same = IsPermutation-refl _; numbered = (tt, tt); fit = refl })
 
-pub has_none : (l : Layout) (db : Database) → HasEmpty l (names_in l) db → IsDatabase db → Holds l db no_tables
-has_none l db has sound = record {
+pub has_none : (l : Layout) → is_two l ≡ true → (db : Database) → HasEmpty l (names_in l) db → IsDatabase db → Holds l db no_tables
+has_none l two db has sound = record {
   schema = has.schema;
   listed = subst (λ s. IsSound s db.trees) has.schema sound;
-  rows = λ name. subst (HasRows (columns_in name) (db.trees (tree_in l name))) (sym (rows_with (λ _. []) name))
-      (empty_rows (columns_in name) (db.trees (tree_in l name)) (all_at _ (names_in l) (place_in l name) name (named_at l name) has.empty));
+  rows = λ name there. subst (HasRows (columns_in name) (db.trees (tree_in l name))) (sym (two_rows l two name no_tables ∙ rows_with (λ _. []) refl name))
+      (empty_rows (columns_in name) (db.trees (tree_in l name)) (all_at _ (names_in l) (place_in l name) name (named_at l name there) has.empty));
 }
 
 text_order : (a b : List ℕ) → row_cmp (Text a ∷ []) (Text b ∷ []) ≡ name_cmp a b
@@ -201,47 +235,53 @@ first_keys (p ∷ points) = ap (λ names. p.name ∷ names) (first_keys points)
 
 -- each point's first state is the one that its name reads
 points_first : (g : Grid) → IsNetwork g → (rest : List PointRow) → ((p : PointRow) → Contains rest p → Contains g.points p)
-    → map (λ p. point_row p (state_at (map first_state g.points) p)) (map unplaced rest) ≡ opening_points rest
+    → map (λ p. jumper_row p (state_at (map first_state g.points) p)) (map unplaced rest) ≡ opening_points rest
 points_first g net [] within = refl
 points_first g net (p ∷ rest) within =
     let ordered = in_key_order-from_sorted name_cmp state_key (map first_state g.points) (rw (first_keys g.points) net.points_rise) in
     let found : state_of (map first_state g.points) p.name ≡ Some (first_state p) =
     row_of-member name_cmp state_key nat_list_cmp_total (first_state p) (map first_state g.points) ordered (contains_mapped first_state g.points p (within p (Contains-here p rest))) in
-    λ i. point_row (unplaced p) (unwrap_or (found i) (first_state (unplaced p))) ∷ points_first g net rest (λ q there. within q (Contains-later p q rest there)) i
+    λ i. jumper_row (unplaced p) (unwrap_or (found i) (first_state (unplaced p))) ∷ points_first g net rest (λ q there. within q (Contains-later p q rest there)) i
 
 -- the rows that are inserted are those of the opening register
-pub fills : (db : Database) (g : Grid) (staff : List StaffRow) → IsNetwork g → IsStaff staff → Holds OfOne db (filled g.sections g.points staff no_tables) → HasTables db (tables_of (opening g staff))
-fills db g staff net is_staff has = record { layout = OfOne; holds = record { schema = has.schema; listed = has.listed; rows = at }; in_order = ordered }
+pub fills : (db : Database) (g : Grid) (staff : List StaffRow) → IsNetwork g → IsStaff staff → Holds AsMade db (filled g.sections g.points staff no_tables) → HasTables db (tables_of (opening g staff))
+fills db g staff net is_staff has = record {
+  layout = AsMade;
+  two = refl;
+  here = record { holds = record { schema = has.schema; listed = has.listed; rows = at }; in_order = ordered };
+}
   where
-    front : (name : TableName) (news : List Row) → HasRows (columns_in name) (db.trees (tree_in OfOne name)) (added news []) → HasRows (columns_in name) (db.trees (tree_in OfOne name)) news
-    front name news there = in_any_order (columns_in name) (db.trees (tree_in OfOne name)) (added news []) news
+    front : (name : TableName) (news : List Row) → HasRows (columns_in name) (db.trees (tree_in AsMade name)) (added news []) → HasRows (columns_in name) (db.trees (tree_in AsMade name)) news
+    front name news there = in_any_order (columns_in name) (db.trees (tree_in AsMade name)) (added news []) news
         (IsPermutation-sym _ _ (subst (λ l. IsPermutation l (added news [])) (append-nil news) (added_same news []))) there
 
-    points : opening_points g.points ≡ rows_in Point (tables_of (opening g staff))
+    points : opening_points g.points ≡ rows_in AsMade NetworkPoint (tables_of (opening g staff))
     points = sym (points_first g net g.points (λ p there. there))
 
-    at : HasAllRows OfOne db.trees (tables_of (opening g staff))
-    at Meta = has.rows Meta
-    at Section = front Section (map section_row g.sections) (has.rows Section)
-    at Point = subst (HasRows (columns_in Point) (db.trees 4)) points (front Point (opening_points g.points) (has.rows Point))
-    at Staff = front Staff (map staff_row staff) (has.rows Staff)
-    at Clearance = has.rows Clearance
-    at Step = has.rows Step
-    at Hold = has.rows Hold
+    at : HasEachRow AsMade db.trees (λ name. rows_in AsMade name (tables_of (opening g staff)))
+    at Meta there = has.rows Meta refl
+    at Section there = front Section (map section_row g.sections) (has.rows Section refl)
+    at Point there = absurd cc
+    at Staff there = front Staff (map staff_row staff) (has.rows Staff refl)
+    at Clearance there = has.rows Clearance refl
+    at Step there = has.rows Step refl
+    at Hold there = has.rows Hold refl
+    at NetworkPoint there = subst (HasRows (columns_in NetworkPoint) (db.trees 4)) points (front NetworkPoint (opening_points g.points) (has.rows NetworkPoint refl))
 
-    ordered : IsInOrder (tables_of (opening g staff))
+    ordered : IsInOrder AsMade (tables_of (opening g staff))
     ordered Meta = refl
     ordered Section = named_order (λ s. s.name) section_row (λ s. refl) g.sections ∙ in_key_order-from_sorted name_cmp (λ s. s.name) g.sections net.sections_rise
-    ordered Point =
+    ordered Point = refl
+    ordered NetworkPoint =
         ap (in_key_order row_cmp (take 1)) (sym points)
-        ∙ named_order (λ p. p.name) (λ p. point_row p (first_state p)) (λ p. refl) g.points ∙ in_key_order-from_sorted name_cmp (λ p. p.name) g.points net.points_rise
+        ∙ named_order (λ p. p.name) (λ p. jumper_row p (first_state p)) (λ p. refl) g.points ∙ in_key_order-from_sorted name_cmp (λ p. p.name) g.points net.points_rise
     ordered Staff = named_order (λ e. e.name) staff_row (λ e. refl) staff ∙ in_key_order-from_sorted name_cmp (λ e. e.name) staff is_staff.names_rise
     ordered Clearance = refl
     ordered Step = refl
     ordered Hold = refl
 
-pub whole : (a b c : State) (g : Grid) (staff : List StaffRow) → IsNetwork g → IsStaff staff → a.now.schema ≡ no_schema → Makes a b (HasEmpty OfOne []) (HasEmpty OfOne (names_in OfOne))
+pub whole : (a b c : State) (g : Grid) (staff : List StaffRow) → IsNetwork g → IsStaff staff → a.now.schema ≡ no_schema → Makes a b (HasEmpty AsMade []) (HasEmpty AsMade (names_in AsMade))
     → Changes b c (filled g.sections g.points staff) → HasTables c.now (tables_of (opening g staff))
 whole a b c g staff net is_staff bare made changes =
-    let none : HasEmpty OfOne [] a.now = record { schema = bare; empty = tt } in
-    fills c.now g staff net is_staff (changes.tables OfOne no_tables (has_none OfOne b.now (made.makes none) (made.sound none)))
+    let none : HasEmpty AsMade [] a.now = record { schema = bare; empty = tt } in
+    fills c.now g staff net is_staff (changes.tables AsMade refl no_tables (has_none AsMade refl b.now (made.makes none) (made.sound none)))

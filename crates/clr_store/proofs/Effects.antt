@@ -5,6 +5,8 @@ use Rattle.std.specs.List.{AllByRecursion, filter_map, flat_map, list_all}
 use Rattle.std.specs.List.Sorted.{IsPermutation}
 use Rattle.std.proofs.lemmas.List.Sorted.{IsPermutation-map}
 use Rattle.sqlite.specs.Cast.{cast_row}
+use Rattle.sqlite.specs.Collation.{Collation}
+use Rattle.sqlite.specs.Command.TheVariants.{Delete}
 use Rattle.sqlite.specs.Does.{Tally, Does, AtPlace, OnRows}
 use Rattle.sqlite.specs.Edit.{edit_of, put_all, are_fresh, is_taken, next_rowid, numbered}
 use Rattle.sqlite.specs.Effect.{Database, value_rows}
@@ -15,7 +17,7 @@ use Rattle.sqlite.specs.Query.{Query, IsAnswer, Output, output}
 use Rattle.sqlite.specs.Rowids.TheVariants.{Chosen, Given}
 use Rattle.sqlite.specs.Rows.{Written, Task}
 use Rattle.sqlite.specs.State.{State, mode_of, Executes}
-use Rattle.sqlite.specs.Term.{Env, Term, eval_all, holds}
+use Rattle.sqlite.specs.Term.{Env, Term, col, eval_all, holds}
 use Rattle.sqlite.specs.Tree.{Trees, put_row, rowid}
 use Rattle.sqlite.specs.declared.types.Value.TheVariants.{Null, Int}
 use Rattle.sqlite.proofs.Callers.{statement_of, runs_as, one_step}
@@ -30,8 +32,8 @@ use Rattle.sqlite_trees.proofs.ListLemmas.{map-map}
 use Rattle.sqlite_trees.specs.View.{IsShaped}
 use Rattle.sqlite_trees.specs.declared.store.Shape.TheVariants as Shape
 use Rattle.clr_tables.specs.declared.table_name.TableName.{TableName}
-use Rattle.clr_tables.specs.declared.table_name.TableName.TheVariants.{Meta, Section, Point, Staff, Clearance, Step, Hold}
-use Rattle.clr_load.specs.Layout.{Layout, names_in, tree_in}
+use Rattle.clr_tables.specs.declared.table_name.TableName.TheVariants.{Meta, Section, Point, Staff, Clearance, Step, Hold, NetworkPoint}
+use Rattle.clr_load.specs.Layout.{Layout, has_table, names_in, place_in, tree_in}
 use Rattle.clr_load.specs.Schema.{columns_in, schema_in, table_in}
 use Rattle.clr_load.specs.Sql.{insert_sql, delete_sql}
 use Rattle.clr_load.specs.Stored.{fits_columns}
@@ -39,7 +41,7 @@ use Rattle.clr_load.proofs.Columns.{cast_fits, cast_number, fits_length, values_
 use Rattle.clr_store.proofs.RowLemmas.{removed}
 use Rattle.clr_load.proofs.AllRead.{same_value}
 use Rattle.clr_load.proofs.Loading.{laid}
-use Rattle.clr_load.proofs.Texts.{delete_is, deleting, insert_is, insert_terms, inserting, key_tests, matching, query_of, width_of}
+use Rattle.clr_load.proofs.Texts.{IsRead, delete_is, insert_is, insert_terms, inserting, key_tests, query_of, width_of}
 use Rattle.clr_store.proofs.Layouts.{at_place, others_stay}
 
 -- a part that gave a value did not stop on the way
@@ -73,7 +75,7 @@ pub record Wrote (l : Layout) (old new : State) (name : TableName) (rows : List 
   pub schema : new.now.schema ≡ schema_in l
   pub listed : IsSound (schema_in l) new.now.trees
   pub tree : new.now.trees (tree_in l name) ≡ rows
-  pub others : (other : TableName) → tree_in l other ≢ tree_in l name → new.now.trees (tree_in l other) ≡ old.now.trees (tree_in l other)
+  pub others : (other : TableName) → has_table l other ≡ true → tree_in l other ≢ tree_in l name → new.now.trees (tree_in l other) ≡ old.now.trees (tree_in l other)
 
 pub wrote : (l : Layout) (old new : State) (name : TableName) (rows : List Row) (next : Trees) → new.now.schema ≡ schema_in l → IsSound new.now.schema new.now.trees
     → new.now.trees ≡ next → next (tree_in l name) ≡ rows → AllByRecursion (λ t. t.tree ≢ tree_in l name → next t.tree ≡ old.now.trees t.tree) (schema_in l).tables
@@ -82,7 +84,7 @@ wrote l old new name rows next schema sound all tree stay = record {
   schema = schema;
   listed = subst (λ s. IsSound s new.now.trees) schema sound;
   tree = ap (λ (t : Trees). t (tree_in l name)) all ∙ tree;
-  others = λ other apart. ap (λ (t : Trees). t (tree_in l other)) all ∙ others_stay l next old.now.trees (tree_in l name) stay other apart;
+  others = λ other there apart. ap (λ (t : Trees). t (tree_in l other)) all ∙ others_stay l next old.now.trees (tree_in l name) stay other there apart;
 }
 
 value_row : (name : TableName) (row : Row) → value_rows row (suc (width_of name)) (length (insert_terms name) / suc (width_of name)) (insert_terms name) ≡ (Null ∷ values_from 0 (width_of name) row) ∷ []
@@ -93,6 +95,7 @@ value_row Staff row = refl
 value_row Clearance row = refl
 value_row Step row = refl
 value_row Hold row = refl
+value_row NetworkPoint row = refl
 
 given_row : (name : TableName) (row : Row) → fits_columns (columns_in name) row ≡ true
     → value_rows (row ++ []) (suc (width_of name)) (length (insert_terms name) / suc (width_of name)) (insert_terms name) ≡ (Null ∷ row) ∷ []
@@ -107,19 +110,19 @@ stored_as l name row fits i = cast_number i ∷ cast_fits (columns_in name) row 
 abbrev pub task_on : Layout → TableName → State → Row → Task
 task_on l name old params = record { limit = old.step_limit; keys = (mode_of old).keys; schema = schema_in l; table = table_in l name; params = params }
 
-pub inserts : (l : Layout) (old new : State) (name : TableName) (row : Row) (count : ℕ) → old.now.schema ≡ schema_in l → fits_columns (columns_in name) row ≡ true
+pub inserts : (l : Layout) (old new : State) (name : TableName) (row : Row) (count : ℕ) → has_table l name ≡ true → old.now.schema ≡ schema_in l → fits_columns (columns_in name) row ≡ true
     → Executes (insert_sql name) row old new (Ok count)
     → Wrote l old new name (put_row (next_row (old.now.trees (tree_in l name)) row) (old.now.trees (tree_in l name)))
     × (is_taken (old.now.trees (tree_in l name)) (next_row (old.now.trees (tree_in l name)) row) ≡ false)
-inserts l old new name row count has fits ran =
+inserts l old new name row count there has fits ran =
     let db = old.now.trees in
     let tree = db (tree_in l name) in
     let command = inserting l name in
-    let read = insert_is l name in
+    let read = insert_is l name there in
     let w = runs_as (insert_sql name) row old new (schema_in l) has command read.is read.plain count ran in
     let text = statement_of (insert_sql name) (understood (schema_in l) (insert_sql name)) in
     let placed = subst (λ s. Does old.step_limit (mode_of old) row (record old.now { schema = s }) text None command (Ok (w.tally, new.now))) has w.changed in
-    let done = went (subst (λ found. AtPlace (λ table. OnRows (record (task_on l name old row) { table = table }) (mode_of old) None command db) found (Ok (w.tally, new.now))) (at_place l name) placed) in
+    let done = went (subst (λ found. AtPlace (λ table. OnRows (record (task_on l name old row) { table = table }) (mode_of old) None command db) found (Ok (w.tally, new.now))) (at_place l name there) placed) in
     let now = ap (λ (p : Tally × Database). p.1) (same_value (went (went done.2).2).2) in
     let given = went done.1 in
     let written = went (went given.2).2 in
@@ -154,11 +157,11 @@ abbrev pub is_met : List Term → Row → Row → Bool
 is_met tests params r = list_all (holds (params ∷ r ∷ [])) tests
 
 -- what a query without an order shows of the rows of one tree that it meets
-pub shown_rows : (tree : ℕ) (tests shown : List Term) (db : Trees) (params : Row) (rows : List Row)
-    → IsAnswer (query_of tree tests shown []) (overlay db []) params rows
+pub shown_rows : (tree : ℕ) (tests shown : List Term) (collations : List Collation) (db : Trees) (params : Row) (rows : List Row)
+    → IsAnswer (record (query_of tree tests shown []) { collations = collations }) (overlay db []) params rows
     → IsPermutation (map (λ r. eval_all shown (params ∷ r ∷ [])) (filter (is_met tests params) (db tree))) rows
-shown_rows tree tests shown db params rows a =
-    let q = query_of tree tests shown [] in
+shown_rows tree tests shown collations db params rows a =
+    let q = record (query_of tree tests shown []) { collations = collations } in
     let pair = λ (r : Row). params ∷ r ∷ [] in
     let met = is_met tests params in
     let staged : a.staged ≡ map pair (filter met (db tree)) =
@@ -173,27 +176,33 @@ ids_listed shown rows ids same is = subst (λ l. IsPermutation l (ids_of rows)) 
 abbrev pub is_met_in : TableName → Row → Row → Bool
 is_met_in name key r = is_met (key_tests name) key r
 
-pub deletes : (l : Layout) (old new : State) (name : TableName) (key : Row) (count : ℕ) → old.now.schema ≡ schema_in l → IsShaped Shape.Table (old.now.trees (tree_in l name))
-    → Executes (delete_sql name) key old new (Ok count) → Wrote l old new name (filter (λ r. not (is_met_in name key r)) (old.now.trees (tree_in l name)))
-deletes l old new name key count has shaped ran =
+-- what a DELETE of the rows that are met by its tests leaves
+pub deleted : (l : Layout) (old new : State) (name : TableName) (sql : List ℕ) (tests : List Term) (key : Row) (count : ℕ) → has_table l name ≡ true → old.now.schema ≡ schema_in l
+    → IsRead (schema_in l) sql (Delete (place_in l name) (record { lets = []; body = query_of (tree_in l name) tests (col 1 0 ∷ []) [] }))
+    → IsShaped Shape.Table (old.now.trees (tree_in l name)) → Executes sql key old new (Ok count)
+    → Wrote l old new name (filter (λ r. not (is_met tests key r)) (old.now.trees (tree_in l name)))
+deleted l old new name sql tests key count there has read shaped ran =
     let db = old.now.trees in
     let tree = db (tree_in l name) in
-    let command = deleting l name in
-    let read = delete_is l name in
-    let w = runs_as (delete_sql name) key old new (schema_in l) has command read.is read.plain count ran in
-    let text = statement_of (delete_sql name) (understood (schema_in l) (delete_sql name)) in
+    let q = query_of (tree_in l name) tests (col 1 0 ∷ []) [] in
+    let command = Delete (place_in l name) (record { lets = []; body = q }) in
+    let w = runs_as sql key old new (schema_in l) has command read.is read.plain count ran in
+    let text = statement_of sql (understood (schema_in l) sql) in
     let placed = subst (λ s. Does old.step_limit (mode_of old) key (record old.now { schema = s }) text None command (Ok (w.tally, new.now))) has w.changed in
-    let done = went (subst (λ found. AtPlace (λ table. OnRows (record (task_on l name old key) { table = table }) (mode_of old) None command db) found (Ok (w.tally, new.now))) (at_place l name) placed) in
+    let done = went (subst (λ found. AtPlace (λ table. OnRows (record (task_on l name old key) { table = table }) (mode_of old) None command db) found (Ok (w.tally, new.now))) (at_place l name there) placed) in
     let now = ap (λ (p : Tally × Database). p.1) (same_value (went (went done.2).2).2) in
     let given = went done.1 in
     let written = went given.2 in
     let trees : done.0.trees ≡ written.0 = ap (λ (it : Written). it.trees) (same_value written.2) in
     let it = edit_of db (table_in l name) (ids_of given.0) Given 0 [] in
     let step = one_write l _ db written.0 it written.1 in
-    let q = matching l name in
     let a : IsAnswer q (overlay db []) key given.0 = given.1.answer Null in
-    let met = filter (is_met_in name key) tree in
-    let shown = shown_rows (tree_in l name) (key_tests name) (Query.project q) db key given.0 a in
+    let met = filter (is_met tests key) tree in
+    let shown = shown_rows (tree_in l name) tests (Query.project q) [] db key given.0 a in
     let ids = ids_listed _ given.0 met shown (map-map (λ r. id_in (rowid r)) (λ r. eval_all (Query.project q) (key ∷ r ∷ [])) met) in
     wrote l old new name _ written.0 (ap (λ (d : Database). d.schema) now) w.sound (ap (λ (d : Database). d.trees) now ∙ trees)
-    (step.rows ∙ removed tree shaped (is_met_in name key) (ids_of given.0) ids) step.tables
+    (step.rows ∙ removed tree shaped (is_met tests key) (ids_of given.0) ids) step.tables
+
+pub deletes : (l : Layout) (old new : State) (name : TableName) (key : Row) (count : ℕ) → has_table l name ≡ true → old.now.schema ≡ schema_in l → IsShaped Shape.Table (old.now.trees (tree_in l name))
+    → Executes (delete_sql name) key old new (Ok count) → Wrote l old new name (filter (λ r. not (is_met_in name key r)) (old.now.trees (tree_in l name)))
+deletes l old new name key count there has shaped ran = deleted l old new name (delete_sql name) (key_tests name) key count there has (delete_is l name there) shaped ran

@@ -33,40 +33,40 @@ use Rattle.clr_shelf.proofs.KeyOrder.{in_key_order-with_row, in_key_order-withou
 use Rattle.clr_shelf.specs.Rows.{in_key_order, with_row, without_row}
 use Rattle.sqlite_value.proofs.OrderLemmas.{row_cmp_total}
 use Rattle.clr_rules.specs.declared.change.Edit.{Edit}
-use Rattle.clr_rules.specs.declared.change.Edit.TheVariants.{SetPosition, SetHand, PutHold, TakeHold, PutRecord, PutStep}
-use Rattle.clr_tables.specs.TableEdits.{changed_point, handed_row, placed_row, table_edited, tables_edited, with_table_row, without_table_row}
-use Rattle.clr_tables.specs.Tables.{Tables, clearance_row, hand_values, hold_row, position_value, step_row}
+use Rattle.clr_rules.specs.declared.change.Edit.TheVariants.{SetPosition, SetHand, PutHold, TakeHold, PutRecord, PutStep, AddSection, AddPoint}
+use Rattle.clr_tables.specs.TableEdits.{added_point, changed_point, handed_row, placed_row, table_edited, tables_edited, with_table_row, without_table_row}
+use Rattle.clr_tables.specs.Tables.{Tables, clearance_row, hand_values, hold_row, position_value, section_row, step_row}
 use Rattle.clr_tables.specs.declared.table_name.TableName.{TableName}
-use Rattle.clr_tables.specs.declared.table_name.TableName.TheVariants.{Point, Clearance, Step, Hold}
+use Rattle.clr_tables.specs.declared.table_name.TableName.TheVariants.{Section, Clearance, Step, Hold, NetworkPoint}
 use Rattle.clr_store.specs.Contract.{AreEdited}
 use Rattle.clr_store.specs.Change.{Changes, with_rows}
-use Rattle.clr_load.specs.Layout.{Layout, tree_in}
+use Rattle.clr_load.specs.Layout.{AsMade, Layout, has_table, is_two, tree_in}
 use Rattle.clr_load.specs.Schema.{columns_in, keys_in}
 use Rattle.clr_load.specs.Sql.{insert_sql, delete_sql}
 use Rattle.clr_load.specs.declared.fault.StoreFault.{StoreFault}
-use Rattle.clr_load.specs.Stored.{HasAllRows, HasRows, HasTables, Holds, IsInOrder, bodies, fits_columns, rows_in}
+use Rattle.clr_load.specs.Stored.{HasEachRow, HasRows, HasTables, Holds, IsInOrder, bodies, fits_columns, rows_in}
 use Rattle.clr_load.proofs.Columns.{sets_from, tests_are}
 use Rattle.clr_load.proofs.Texts.{tests_from}
 use Rattle.clr_load.proofs.Loading.{then_kept}
 use Rattle.clr_load.proofs.Reopened.{left_of}
 use Rattle.clr_store.proofs.RowLemmas.{put_fresh, shaped-filter}
 use Rattle.clr_store.proofs.Effects.{Wrote, deletes, inserts, is_met_in}
-use Rattle.clr_store.proofs.Layouts.{apart, each_changed, same_rows, twice}
+use Rattle.clr_store.proofs.Layouts.{apart, each_changed, in_two, same_rows, twice}
 
 -- the rows of one table are changed, and those of the others stay
-pub changed_to : (l : Layout) (old new : State) (name : TableName) (tree : List Row) (change : List Row → List Row) (t : Tables) → Wrote l old new name tree → Holds l old.now t
-    → HasRows (columns_in name) tree (change (rows_in name t)) → Holds l new.now (with_rows name change t)
-changed_to l old new name tree change t did has changed = record {
+pub changed_to : (l : Layout) → is_two l ≡ true → (old new : State) (name : TableName) (tree : List Row) (change : List Row → List Row) (t : Tables) → has_table AsMade name ≡ true
+    → Wrote l old new name tree → Holds l old.now t → HasRows (columns_in name) tree (change (rows_in l name t)) → Holds l new.now (with_rows name change t)
+changed_to l two old new name tree change t here did has changed = record {
   schema = did.schema;
   listed = did.listed;
-  rows = each_changed (λ other rows. HasRows (columns_in other) (new.now.trees (tree_in l other)) rows) name change t
-      (subst (λ it. HasRows (columns_in name) it (change (rows_in name t))) (sym did.tree) changed)
-      (λ other differ. subst (λ it. HasRows (columns_in other) it (rows_in other t)) (sym (did.others other (apart l name other differ))) (has.rows other));
+  rows = each_changed name here l two (λ other rows. has_table l other ≡ true → HasRows (columns_in other) (new.now.trees (tree_in l other)) rows) change t
+      (λ there. subst (λ it. HasRows (columns_in name) it (change (rows_in l name t))) (sym did.tree) changed)
+      (λ other differ there. subst (λ it. HasRows (columns_in other) it (rows_in l other t)) (sym (did.others other there (apart l name other (in_two name here l two) there differ))) (has.rows other there));
 }
 
 -- a statement inside a transaction changes the tables, and commits nothing
 pub runs_inside : (sql : List ℕ) (params : Row) (old new : State) (count : ℕ) (change : Tables → Tables) → ExecutesInside 0 sql params old new (Ok count)
-    → ((l : Layout) (t : Tables) → Holds l old.now t → Holds l new.now (change t)) → Changes old new change
+    → ((l : Layout) → is_two l ≡ true → (t : Tables) → Holds l old.now t → Holds l new.now (change t)) → Changes old new change
 runs_inside sql params old new count change ran tables =
     record { inside = ran.1.mode; kept = record { was_open = λ _. ran.1.was_open; committed = λ _. ran.1.committed_is }; tables = tables }
 
@@ -136,23 +136,25 @@ put_again keys row (other ∷ rows) =
     (filter (λ it. is_gt (row_cmp (take keys it) (take keys row))) rows) (row_cmp (take keys other) (take keys row)) (put_again keys row rows)
 
 -- ---- statements
-pub adds : (old new : State) (name : TableName) (row : Row) (count : ℕ) → fits_columns (columns_in name) row ≡ true → ExecutesInside 0 (insert_sql name) row old new (Ok count)
+pub adds : (old new : State) (name : TableName) (row : Row) (count : ℕ) → has_table AsMade name ≡ true → fits_columns (columns_in name) row ≡ true → ExecutesInside 0 (insert_sql name) row old new (Ok count)
     → Changes old new (with_rows name (λ rows. row ∷ rows))
-adds old new name row count fits ran = runs_inside (insert_sql name) row old new count _ ran (λ l t has.
-    let did = inserts l old new name row count has.schema fits ran.0 in
-    let put = put_in (columns_in name) row (old.now.trees (tree_in l name)) (rows_in name t) fits did.1 (has.rows name) in
-    changed_to l old new name _ (λ rows. row ∷ rows) t did.0 has put)
+adds old new name row count here fits ran = runs_inside (insert_sql name) row old new count _ ran (λ l two t has.
+    let there = in_two name here l two in
+    let did = inserts l old new name row count there has.schema fits ran.0 in
+    let put = put_in (columns_in name) row (old.now.trees (tree_in l name)) (rows_in l name t) fits did.1 (has.rows name there) in
+    changed_to l two old new name _ (λ rows. row ∷ rows) t here did.0 has put)
 
-pub removes : (old new : State) (name : TableName) (key : Row) (count : ℕ) → length key ≡ keys_in name → sets_from 0 (keys_in name) key ≡ true
+pub removes : (old new : State) (name : TableName) (key : Row) (count : ℕ) → has_table AsMade name ≡ true → length key ≡ keys_in name → sets_from 0 (keys_in name) key ≡ true
     → ExecutesInside 0 (delete_sql name) key old new (Ok count) → Changes old new (with_rows name (without_table_row (keys_in name) key))
-removes old new name key count is set ran = runs_inside (delete_sql name) key old new count _ ran (λ l t has.
-    let did = deletes l old new name key count has.schema (has.rows name).numbered ran.0 in
-    let left = taken_away name key (old.now.trees (tree_in l name)) (rows_in name t) is set (has.rows name) in
-    changed_to l old new name _ (without_table_row (keys_in name) key) t did has left)
+removes old new name key count here is set ran = runs_inside (delete_sql name) key old new count _ ran (λ l two t has.
+    let there = in_two name here l two in
+    let did = deletes l old new name key count there has.schema (has.rows name there).numbered ran.0 in
+    let left = taken_away name key (old.now.trees (tree_in l name)) (rows_in l name t) is set (has.rows name there) in
+    changed_to l two old new name _ (without_table_row (keys_in name) key) t here did has left)
 
 -- ---- statements in turn
 pub then_changes : (a b c : State) (f g : Tables → Tables) → Changes a b f → Changes b c g → Changes a c (λ t. g (f t))
-then_changes a b c f g p q = record { inside = q.inside; kept = then_kept a b c p.kept q.kept; tables = λ l t has. q.tables l (f t) (p.tables l t has) }
+then_changes a b c f g p q = record { inside = q.inside; kept = then_kept a b c p.kept q.kept; tables = λ l two t has. q.tables l two (f t) (p.tables l two t has) }
 
 pub then_step : {X : Type 0} (a b c : State) (f g : Tables → Tables) (r : Result X StoreFault) → Changes a b f → MatchResult r (λ _. Changes b c g) (λ _. KeepsCommit b c)
     → MatchResult r (λ _. Changes a c (λ t. g (f t))) (λ _. KeepsCommit a c)
@@ -160,25 +162,25 @@ then_step a b c f g (Ok x) p q = then_changes a b c f g p q
 then_step a b c f g (Err e) p q = then_kept a b c p.kept q
 
 -- the row of a key deleted and a row of that key inserted are the row put
-puts_rows : (l : Layout) (trees : Trees) (name : TableName) (row : Row) (t : Tables)
-    → HasAllRows l trees (with_rows name (λ rows. row ∷ rows) (with_rows name (without_table_row (keys_in name) (take (keys_in name) row)) t))
-    → HasAllRows l trees (with_rows name (with_table_row (keys_in name) row) t)
-puts_rows l trees name row t has other =
+puts_rows : (l : Layout) → is_two l ≡ true → (trees : Trees) (name : TableName) (row : Row) (t : Tables) → has_table AsMade name ≡ true
+    → HasEachRow l trees (λ other. rows_in l other (with_rows name (λ rows. row ∷ rows) (with_rows name (without_table_row (keys_in name) (take (keys_in name) row)) t)))
+    → HasEachRow l trees (λ other. rows_in l other (with_rows name (with_table_row (keys_in name) row) t))
+puts_rows l two trees name row t here has other there =
     let news = λ (rows : List Row). row ∷ without_table_row (keys_in name) (take (keys_in name) row) rows in
-    let both = subst (HasAllRows l trees) (twice name (λ rows. row ∷ rows) (without_table_row (keys_in name) (take (keys_in name) row)) t) has in
-    in_any_order (columns_in other) (trees (tree_in l other)) _ _ (same_rows name news (with_table_row (keys_in name) row) t (put_again (keys_in name) row) other) (both other)
+    let both = subst (λ (u : Tables). HasEachRow l trees (λ other. rows_in l other u)) (twice name here (λ rows. row ∷ rows) (without_table_row (keys_in name) (take (keys_in name) row)) t) has in
+    in_any_order (columns_in other) (trees (tree_in l other)) _ _ (same_rows name here l two news (with_table_row (keys_in name) row) t (put_again (keys_in name) row) other) (both other there)
 
-pub puts : {X : Type 0} (a b c : State) (name : TableName) (row : Row) (r : Result X StoreFault) → Changes a b (with_rows name (without_table_row (keys_in name) (take (keys_in name) row)))
+pub puts : {X : Type 0} (a b c : State) (name : TableName) (row : Row) (r : Result X StoreFault) → has_table AsMade name ≡ true → Changes a b (with_rows name (without_table_row (keys_in name) (take (keys_in name) row)))
     → MatchResult r (λ _. Changes b c (with_rows name (λ rows. row ∷ rows))) (λ _. KeepsCommit b c)
     → MatchResult r (λ _. Changes a c (with_rows name (with_table_row (keys_in name) row))) (λ _. KeepsCommit a c)
-puts a b c name row (Ok x) p q = record {
+puts a b c name row (Ok x) here p q = record {
   inside = q.inside;
   kept = then_kept a b c p.kept q.kept;
-  tables = λ l t has.
-      let both = q.tables l (with_rows name (without_table_row (keys_in name) (take (keys_in name) row)) t) (p.tables l t has) in
-      record { schema = both.schema; listed = both.listed; rows = puts_rows l c.now.trees name row t both.rows };
+  tables = λ l two t has.
+      let both = q.tables l two (with_rows name (without_table_row (keys_in name) (take (keys_in name) row)) t) (p.tables l two t has) in
+      record { schema = both.schema; listed = both.listed; rows = puts_rows l two c.now.trees name row t here both.rows };
 }
-puts a b c name row (Err e) p q = then_kept a b c p.kept q
+puts a b c name row (Err e) here p q = then_kept a b c p.kept q
 
 tables_more : (xs : List Edit) (e : Edit) (t : Tables) → tables_edited (xs ++ e ∷ []) t ≡ table_edited e (tables_edited xs t)
 unfolding tables_edited
@@ -190,24 +192,24 @@ pub one_more : (old new : State) (es : List Edit) (k : ℕ) (e : Edit) → k < l
 one_more old new es k e within is both = record {
   inside = both.inside;
   kept = both.kept;
-  tables = λ l t has.
+  tables = λ l two t has.
       let more : tables_edited (take (k + 1) es) t ≡ table_edited e (tables_edited (take k es) t) =
       ap (λ l. tables_edited l t) (take_more es k e within ∙ ap (λ x. take k es ++ x ∷ []) (sym is)) ∙ tables_more (take k es) e t in
-      subst (Holds l new.now) (sym more) (both.tables l t has);
+      subst (Holds l new.now) (sym more) (both.tables l two t has);
 }
 
 pub no_edits : (s : State) → IsTrue s.in_transaction → Changes s s (tables_edited [])
 unfolding tables_edited
-no_edits s inside = record { inside = inside; kept = record { was_open = λ open_now. open_now; committed = λ _. refl }; tables = λ l t has. has }
+no_edits s inside = record { inside = inside; kept = record { was_open = λ open_now. open_now; committed = λ _. refl }; tables = λ l two t has. has }
 
 pub survives_still : (s : State) → Survives s s (λ _. ⊥)
 survives_still s = record { clean = omega arith; shield = λ shielded. shielded; counts = omega arith; limit = refl; closes = λ _ is_open. inl is_open; crash = λ _ db left. inl left }
 
 -- ---- the order of keys
-order_changed : (name : TableName) (change : List Row → List Row) (t : Tables) → IsInOrder t → in_key_order row_cmp (take (keys_in name)) (change (rows_in name t)) ≡ true
-    → IsInOrder (with_rows name change t)
-order_changed name change t ordered here =
-    each_changed (λ other rows. in_key_order row_cmp (take (keys_in other)) rows ≡ true) name change t here (λ other _. ordered other)
+order_changed : (l : Layout) → is_two l ≡ true → (name : TableName) (change : List Row → List Row) (t : Tables) → has_table AsMade name ≡ true → IsInOrder l t
+    → in_key_order row_cmp (take (keys_in name)) (change (rows_in l name t)) ≡ true → IsInOrder l (with_rows name change t)
+order_changed l two name change t here ordered changed =
+    each_changed name here l two (λ other rows. in_key_order row_cmp (take (keys_in other)) rows ≡ true) change t changed (λ other _. ordered other)
 
 order_mapped : (change : Row → Row) → ((row : Row) → take 1 (change row) ≡ take 1 row) → (rows : List Row)
     → in_key_order row_cmp (take 1) (map change rows) ≡ in_key_order row_cmp (take 1) rows
@@ -226,29 +228,33 @@ keeps_first : (b : Bool) (row changed : Row) → take 1 changed ≡ take 1 row �
 keeps_first true row changed same = same
 keeps_first false row changed same = refl
 
-edit_in_order : (edit : Edit) (t : Tables) → IsInOrder t → IsInOrder (table_edited edit t)
-edit_in_order (SetPosition point position) t ordered =
-    order_changed Point (changed_point point (placed_row position)) t ordered
-    (order_mapped _ (λ row. keeps_first (is_eq (row_cmp (take 1 row) (Text point ∷ []))) row (placed_row position row) (first_stays row 4 (position_value position))) t.points ∙ ordered Point)
-edit_in_order (SetHand point hand) t ordered =
-    order_changed Point (changed_point point (handed_row hand)) t ordered
+edit_in_order : (l : Layout) → is_two l ≡ true → (edit : Edit) (t : Tables) → IsInOrder l t → IsInOrder l (table_edited edit t)
+edit_in_order l two (SetPosition point position) t ordered =
+    order_changed l two NetworkPoint (changed_point point (placed_row position)) t refl ordered
+    (order_mapped _ (λ row. keeps_first (is_eq (row_cmp (take 1 row) (Text point ∷ []))) row (placed_row position row) (first_stays row 4 (position_value position))) t.points ∙ ordered NetworkPoint)
+edit_in_order l two (SetHand point hand) t ordered =
+    order_changed l two NetworkPoint (changed_point point (handed_row hand)) t refl ordered
     (order_mapped _ (λ row. keeps_first (is_eq (row_cmp (take 1 row) (Text point ∷ []))) row (handed_row hand row)
-    (first_stays (slice_set row 6 (column (hand_values hand) 0)) 6 (column (hand_values hand) 1) ∙ first_stays row 5 (column (hand_values hand) 0))) t.points ∙ ordered Point)
-edit_in_order (PutHold h) t ordered = order_changed Hold (with_table_row 4 (hold_row h)) t ordered (in_key_order-with_row row_cmp (take 4) row_cmp_total (hold_row h) t.holds (ordered Hold))
-edit_in_order (TakeHold h) t ordered = order_changed Hold (without_table_row 4 (hold_row h)) t ordered (in_key_order-without_row row_cmp (take 4) row_cmp_total (hold_row h) t.holds (ordered Hold))
-edit_in_order (PutRecord r) t ordered =
-    order_changed Clearance (with_table_row 2 (clearance_row r)) t ordered (in_key_order-with_row row_cmp (take 2) row_cmp_total (clearance_row r) t.clearances (ordered Clearance))
-edit_in_order (PutStep row) t ordered = order_changed Step (with_table_row 4 (step_row row)) t ordered (in_key_order-with_row row_cmp (take 4) row_cmp_total (step_row row) t.steps (ordered Step))
+    (first_stays (slice_set row 6 (column (hand_values hand) 0)) 6 (column (hand_values hand) 1) ∙ first_stays row 5 (column (hand_values hand) 0))) t.points ∙ ordered NetworkPoint)
+edit_in_order l two (PutHold h) t ordered = order_changed l two Hold (with_table_row 4 (hold_row h)) t refl ordered (in_key_order-with_row row_cmp (take 4) row_cmp_total (hold_row h) t.holds (ordered Hold))
+edit_in_order l two (TakeHold h) t ordered = order_changed l two Hold (without_table_row 4 (hold_row h)) t refl ordered (in_key_order-without_row row_cmp (take 4) row_cmp_total (hold_row h) t.holds (ordered Hold))
+edit_in_order l two (PutRecord r) t ordered =
+    order_changed l two Clearance (with_table_row 2 (clearance_row r)) t refl ordered (in_key_order-with_row row_cmp (take 2) row_cmp_total (clearance_row r) t.clearances (ordered Clearance))
+edit_in_order l two (PutStep row) t ordered = order_changed l two Step (with_table_row 4 (step_row row)) t refl ordered (in_key_order-with_row row_cmp (take 4) row_cmp_total (step_row row) t.steps (ordered Step))
+edit_in_order l two (AddSection row) t ordered =
+    order_changed l two Section (with_table_row 1 (section_row row)) t refl ordered (in_key_order-with_row row_cmp (take 1) row_cmp_total (section_row row) t.sections (ordered Section))
+edit_in_order l two (AddPoint p) t ordered =
+    order_changed l two NetworkPoint (with_table_row 1 (added_point p)) t refl ordered (in_key_order-with_row row_cmp (take 1) row_cmp_total (added_point p) t.points (ordered NetworkPoint))
 
 -- edits keep the order of keys
-pub edits_in_order : (edits : List Edit) (t : Tables) → IsInOrder t → IsInOrder (tables_edited edits t)
+pub edits_in_order : (l : Layout) → is_two l ≡ true → (edits : List Edit) (t : Tables) → IsInOrder l t → IsInOrder l (tables_edited edits t)
 unfolding tables_edited
-edits_in_order [] t ordered = ordered
-edits_in_order (edit ∷ edits) t ordered = edits_in_order edits (table_edited edit t) (edit_in_order edit t ordered)
+edits_in_order l two [] t ordered = ordered
+edits_in_order l two (edit ∷ edits) t ordered = edits_in_order l two edits (table_edited edit t) (edit_in_order l two edit t ordered)
 
 -- ---- a transaction
-pub edited_tables : (l : Layout) (db : Database) (edits : List Edit) (t : Tables) → IsInOrder t → Holds l db (tables_edited edits t) → HasTables db (tables_edited edits t)
-edited_tables l db edits t ordered has = record { layout = l; holds = has; in_order = edits_in_order edits t ordered }
+pub edited_tables : (l : Layout) → is_two l ≡ true → (db : Database) (edits : List Edit) (t : Tables) → IsInOrder l t → Holds l db (tables_edited edits t) → HasTables db (tables_edited edits t)
+edited_tables l two db edits t ordered has = record { layout = l; two = two; here = record { holds = has; in_order = edits_in_order l two edits t ordered } }
 
 -- what a transaction leaves that is committed as it stands in `mid`, wherever it is cut
 pub crash_leaves : {S : Type 0} (g : Ghosts S) (old mid end : Held S) (P : Trees → Type 0) → Survives (state g (record old { in_transaction = true })) (state g mid) (λ _. ⊥)
@@ -262,4 +268,4 @@ pub commit_crash : {S : Type 0} (g : Ghosts S) (old mid end : Held S) (edits : L
     → (HasCleanDisk (state g mid) → Changes (state g (record old { in_transaction = true })) (state g mid) (tables_edited edits))
     → Survives (state g old) (state g end) (AreEdited (state g old).now edits)
 commit_crash g old mid end edits inside ended changes = crash_leaves g old mid end _ inside ended (λ clean t has.
-    left_of (state g mid).now (tables_edited edits t) (edited_tables has.layout (state g mid).now edits t has.in_order ((changes clean).tables has.layout t has.holds)))
+    left_of (state g mid).now (tables_edited edits t) (edited_tables has.layout has.two (state g mid).now edits t has.here.in_order ((changes clean).tables has.layout has.two t has.here.holds)))

@@ -3,6 +3,8 @@ pub mod Layouts
 pub mod Effects
 pub mod Inside
 pub mod Updates
+pub mod Replacing
 pub mod Given
 pub mod Creating
 pub mod Versions
+pub mod Moving

@@ -36,9 +36,9 @@ use Rattle.clr_rules.specs.Id.{Id}
 use Rattle.clr_rules.specs.declared.change.Edit.TheVariants.{SetPosition, SetHand}
 use Rattle.clr_tables.specs.TableEdits.{changed_point, handed_row, placed_row, table_edited}
 use Rattle.clr_tables.specs.Tables.{position_value}
-use Rattle.clr_tables.specs.declared.table_name.TableName.TheVariants.{Point}
+use Rattle.clr_tables.specs.declared.table_name.TableName.TheVariants.{NetworkPoint}
 use Rattle.clr_store.specs.Change.{Changes, with_rows}
-use Rattle.clr_load.specs.Layout.{Layout, tree_in}
+use Rattle.clr_load.specs.Layout.{Layout, is_two, tree_in}
 use Rattle.clr_load.specs.Schema.{columns_in, schema_in, table_in}
 use Rattle.clr_load.specs.Stored.{HasRows, bodies, fits_columns, is_of_kind, rows_in}
 use Rattle.clr_load.proofs.Columns.{both_true, cast_fits, values_all, values_from, fits_length}
@@ -48,14 +48,14 @@ use Rattle.clr_store.proofs.Effects.{ids_listed, is_met, one_write, shown_rows, 
 use Rattle.clr_load.proofs.AllRead.{same_value}
 use Rattle.clr_load.specs.Sql.{set_hand_sql, set_position_sql}
 use Rattle.clr_load.proofs.Texts.{IsRead, changing, hand_terms, key_tests, position_terms, set_hand_is, set_position_is, updating}
-use Rattle.clr_store.proofs.Layouts.{at_place}
+use Rattle.clr_store.proofs.Layouts.{at_place, in_two}
 
 -- ---- rows put under numbers that they have
-given_numbers : (rows news : List Row) → numbered Given rows news ≡ news
+pub given_numbers : (rows news : List Row) → numbered Given rows news ≡ news
 given_numbers rows [] = refl
 given_numbers rows (r ∷ news) = ap (λ l. r ∷ l) (given_numbers (put_row r rows) news)
 
-fresh_parts : (rows : List Row) (r : Row) (rs : List Row) → are_fresh rows (r ∷ rs) ≡ true → (is_taken rows r ≡ false) × (are_fresh (put_row r rows) rs ≡ true)
+pub fresh_parts : (rows : List Row) (r : Row) (rs : List Row) → are_fresh rows (r ∷ rs) ≡ true → (is_taken rows r ≡ false) × (are_fresh (put_row r rows) rs ≡ true)
 fresh_parts rows r rs h = go (is_taken rows r) (are_fresh (put_row r rows) rs) h
   where
     go : (a b : Bool) → (not a && b) ≡ true → (a ≡ false) × (b ≡ true)
@@ -85,16 +85,16 @@ parted met f g (r ∷ rows) = go (met r) refl (parted met f g rows)
     go true e more = rw e (IsPermutation-cons (f r) _ _ more)
     go false e more = rw e (IsPermutation-trans _ _ _ (IsPermutation-cons (g r) _ _ more) (IsPermutation-sym _ _ (IsPermutation-middle (map f (filter met rows)) (g r) (map g (filter (λ r. not (met r)) rows)))))
 
-map_on : {A B : Type 0} (p : A → Bool) (f g : A → B) → ((x : A) → p x ≡ true → f x ≡ g x) → (xs : List A) → list_all p xs ≡ true → map f xs ≡ map g xs
+pub map_on : {A B : Type 0} (p : A → Bool) (f g : A → B) → ((x : A) → p x ≡ true → f x ≡ g x) → (xs : List A) → list_all p xs ≡ true → map f xs ≡ map g xs
 map_on p f g same [] h = refl
 map_on p f g same (x ∷ xs) h = let parts = both_true (p x) (list_all p xs) h in λ i. same x parts.0 i ∷ map_on p f g same xs parts.1 i
 
-list_all_map : {A B : Type 0} (p : B → Bool) (f : A → B) (xs : List A) → list_all p (map f xs) ≡ list_all (λ x. p (f x)) xs
+pub list_all_map : {A B : Type 0} (p : B → Bool) (f : A → B) (xs : List A) → list_all p (map f xs) ≡ list_all (λ x. p (f x)) xs
 list_all_map p f [] = refl
 list_all_map p f (x ∷ xs) = ap (λ b. p (f x) && b) (list_all_map p f xs)
 
 abbrev pub point_columns : List Column
-point_columns = columns_in Point
+point_columns = columns_in NetworkPoint
 
 abbrev pub key_of_point : List ℕ → Row
 key_of_point point = Text point ∷ []
@@ -109,11 +109,11 @@ module _ (point : List ℕ) (more : Row) (terms : List Term) (change : Row → R
   params = Text point ∷ more
 
   met : Row → Bool
-  met = is_met (key_tests Point) params
+  met = is_met (key_tests NetworkPoint) params
 
   met_point : (r : Row) → met r ≡ is_point point (drop 1 r)
   unfolding met params
-  met_point r = met_is Point (key_of_point point) r refl refl
+  met_point r = met_is NetworkPoint (key_of_point point) r refl refl
 
   -- the row of a point as the statement makes it, less its number
   made : Row → Row
@@ -126,12 +126,12 @@ module _ (point : List ℕ) (more : Row) (terms : List Term) (change : Row → R
   -- a tree without the rows that are met, and with what the statement makes of them
   rebuilt : (l : Layout) (tree rows shown : List Row) → HasRows point_columns tree rows
       → IsPermutation (map (λ r. eval_all (Query.project (changing l terms)) (params ∷ r ∷ [])) (filter met tree)) shown
-      → are_fresh (filter (λ r. not (met r)) tree) (map (λ s. cast_row (table_in l Point) (drop 1 s)) shown) ≡ true
-      → have_rowids (map (λ s. cast_row (table_in l Point) (drop 1 s)) shown) ≡ true
-      → HasRows point_columns (put_all (filter (λ r. not (met r)) tree) (map (λ s. cast_row (table_in l Point) (drop 1 s)) shown)) (changed_point point change rows)
+      → are_fresh (filter (λ r. not (met r)) tree) (map (λ s. cast_row (table_in l NetworkPoint) (drop 1 s)) shown) ≡ true
+      → have_rowids (map (λ s. cast_row (table_in l NetworkPoint) (drop 1 s)) shown) ≡ true
+      → HasRows point_columns (put_all (filter (λ r. not (met r)) tree) (map (λ s. cast_row (table_in l NetworkPoint) (drop 1 s)) shown)) (changed_point point change rows)
   unfolding made
   rebuilt l tree rows shown has same fresh keyed =
-      let stored = λ (s : Row). cast_row (table_in l Point) (drop 1 s) in
+      let stored = λ (s : Row). cast_row (table_in l NetworkPoint) (drop 1 s) in
       let left = filter (λ r. not (met r)) tree in
       let changed = λ (row : Row). if is_point point row then change row else row in
       let tree_fits : list_all (λ r. fits_columns point_columns (drop 1 r)) tree ≡ true =
@@ -167,18 +167,19 @@ module _ (point : List ℕ) (more : Row) (terms : List Term) (change : Row → R
           let parts = both_true (fits_columns point_columns row) (list_all (fits_columns point_columns) rows) h in
           rw (one_fits row (is_point point row) parts.0, still_fit rows parts.1) refl
 
-  pub updates : (sql : List ℕ) → ((l : Layout) → IsRead (schema_in l) sql (updating l terms))
-      → (old new : State) (count : ℕ) → ExecutesInside 0 sql (Text point ∷ more) old new (Ok count) → Changes old new (with_rows Point (changed_point point change))
+  pub updates : (sql : List ℕ) → ((l : Layout) → is_two l ≡ true → IsRead (schema_in l) sql (updating l terms))
+      → (old new : State) (count : ℕ) → ExecutesInside 0 sql (Text point ∷ more) old new (Ok count) → Changes old new (with_rows NetworkPoint (changed_point point change))
   unfolding met params
-  updates sql reads old new count ran = runs_inside sql params old new count _ ran (λ l t has.
+  updates sql reads old new count ran = runs_inside sql params old new count _ ran (λ l two t has.
+      let there = in_two NetworkPoint refl l two in
       let db = old.now.trees in
-      let table = table_in l Point in
-      let tree = db (tree_in l Point) in
+      let table = table_in l NetworkPoint in
+      let tree = db (tree_in l NetworkPoint) in
       let command = updating l terms in
-      let w = runs_as sql params old new (schema_in l) has.schema command (reads l).is (reads l).plain count ran.0 in
+      let w = runs_as sql params old new (schema_in l) has.schema command (reads l two).is (reads l two).plain count ran.0 in
       let text = statement_of sql (understood (schema_in l) sql) in
       let placed = subst (λ s. Does old.step_limit (mode_of old) params (record old.now { schema = s }) text None command (Ok (w.tally, new.now))) has.schema w.changed in
-      let done = went (subst (λ found. AtPlace (λ table. OnRows (record (task_on l Point old params) { table = table }) (mode_of old) None command db) found (Ok (w.tally, new.now))) (at_place l Point) placed) in
+      let done = went (subst (λ found. AtPlace (λ table. OnRows (record (task_on l NetworkPoint old params) { table = table }) (mode_of old) None command db) found (Ok (w.tally, new.now))) (at_place l NetworkPoint there) placed) in
       let now = ap (λ (p : Tally × Database). p.1) (same_value (went (went done.2).2).2) in
       let given = went done.1 in
       let written = went given.2 in
@@ -186,16 +187,16 @@ module _ (point : List ℕ) (more : Row) (terms : List Term) (change : Row → R
       let it = edit_of db table (ids_of given.0) Given 1 given.0 in
       let step = one_write l _ db written.0 it written.1 in
       let a : IsAnswer (changing l terms) (overlay db []) params given.0 = given.1.answer Null in
-      let shown = shown_rows (tree_in l Point) (key_tests Point) (Query.project (changing l terms)) db params given.0 a in
+      let shown = shown_rows (tree_in l NetworkPoint) (key_tests NetworkPoint) (Query.project (changing l terms)) [] db params given.0 a in
       let ids = ids_listed _ given.0 (filter met tree) shown (map-map (λ r. id_in (rowid r)) (λ r. eval_all (Query.project (changing l terms)) (params ∷ r ∷ [])) (filter met tree)) in
-      let left : without_all tree (ids_of given.0) ≡ filter (λ r. not (met r)) tree = removed tree (has.rows Point).numbered met (ids_of given.0) ids in
+      let left : without_all tree (ids_of given.0) ≡ filter (λ r. not (met r)) tree = removed tree (has.rows NetworkPoint there).numbered met (ids_of given.0) ids in
       let news : it.news ≡ map (λ s. cast_row table (drop 1 s)) given.0 = given_numbers (without_all tree (ids_of given.0)) (map (λ s. cast_row table (drop 1 s)) given.0) in
-      let built = rebuilt l tree (rows_in Point t) given.0 (has.rows Point) shown
+      let built = rebuilt l tree (rows_in l NetworkPoint t) given.0 (has.rows NetworkPoint there) shown
       (subst (λ n. are_fresh (filter (λ r. not (met r)) tree) n ≡ true) news (subst (λ x. are_fresh x it.news ≡ true) left step.fresh))
       (subst (λ n. have_rowids n ≡ true) news step.keyed) in
-      let did = wrote l old new Point _ written.0 (ap (λ (d : Database). d.schema) now) w.sound (ap (λ (d : Database). d.trees) now ∙ trees)
+      let did = wrote l old new NetworkPoint _ written.0 (ap (λ (d : Database). d.schema) now) w.sound (ap (λ (d : Database). d.trees) now ∙ trees)
       (step.rows ∙ ap (λ x. put_all x it.news) left ∙ ap (put_all (filter (λ r. not (met r)) tree)) news) step.tables in
-      changed_to l old new Point _ (changed_point point change) t did has built)
+      changed_to l two old new NetworkPoint _ (changed_point point change) t refl did has built)
 
 -- ---- the two updates
 fits_set : (columns : List Column) (row : Row) (at : ℕ) (v : Value) → fits_columns columns row ≡ true → is_of_kind (slice_index_or (map (λ (c : Column). c.kind) columns) at Kind.Any) v ≡ true
@@ -208,20 +209,20 @@ fits_set (c ∷ columns) (x ∷ row) (suc at) v fits kind =
     let parts = both_true (is_of_kind c.kind x) (fits_columns columns row) fits in
     rw (parts.0, fits_set columns row at v parts.1 kind) refl
 
-eight : (row : Row) → fits_columns point_columns row ≡ true → values_from 0 8 row ≡ row
-eight row fits = values_all 8 row (fits_length point_columns row fits)
+nine : (row : Row) → fits_columns point_columns row ≡ true → values_from 0 9 row ≡ row
+nine row fits = values_all 9 row (fits_length point_columns row fits)
 
 position_reads : (point : List ℕ) (v : Value) (r : Row) → fits_columns point_columns (drop 1 r) ≡ true
     → eval_all position_terms ((Text point ∷ v ∷ []) ∷ r ∷ []) ≡ slice_set (drop 1 r) 5 v
 position_reads point v [] fits = absurd cc
 position_reads point v (id ∷ row) fits =
-    subst (λ (body : Row). eval_all position_terms ((Text point ∷ v ∷ []) ∷ (id ∷ body) ∷ []) ≡ slice_set body 5 v) (eight row fits) refl
+    subst (λ (body : Row). eval_all position_terms ((Text point ∷ v ∷ []) ∷ (id ∷ body) ∷ []) ≡ slice_set body 5 v) (nine row fits) refl
 
 hand_reads : (point : List ℕ) (v w : Value) (r : Row) → fits_columns point_columns (drop 1 r) ≡ true
     → eval_all hand_terms ((Text point ∷ v ∷ w ∷ []) ∷ r ∷ []) ≡ slice_set (slice_set (drop 1 r) 6 v) 7 w
 hand_reads point v w [] fits = absurd cc
 hand_reads point v w (id ∷ row) fits =
-    subst (λ (body : Row). eval_all hand_terms ((Text point ∷ v ∷ w ∷ []) ∷ (id ∷ body) ∷ []) ≡ slice_set (slice_set body 6 v) 7 w) (eight row fits) refl
+    subst (λ (body : Row). eval_all hand_terms ((Text point ∷ v ∷ w ∷ []) ∷ (id ∷ body) ∷ []) ≡ slice_set (slice_set body 6 v) 7 w) (nine row fits) refl
 
 position_fits : (position : Position) → is_of_kind Kind.Integer (position_value position) ≡ true
 position_fits Opened = refl

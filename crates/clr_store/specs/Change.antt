@@ -1,5 +1,6 @@
 -- What statements make of the tables, inside a transaction.
-use Rattle.std.specs.Prelude.{◌≡◌, IsTrue, Bool, Result, MatchResult, if◌then◌else◌, ◌==◌, List, []}
+use Rattle.std.specs.Prelude.{◌≡◌, ℕ, zero, suc, IsTrue, Bool, true, Result, MatchResult}
+use Rattle.std.specs.Prelude.{if◌then◌else◌, ◌==◌, List, [], take}
 use Rattle.std.specs.Prelude.{◌∷◌}
 use Rattle.std.specs.Prelude.{fold, map}
 use Rattle.std.specs.List.{AllByRecursion}
@@ -10,21 +11,23 @@ use Rattle.clr_net.specs.declared.section.SectionRow.{SectionRow}
 use Rattle.clr_net.specs.declared.point.PointRow.{PointRow}
 use Rattle.clr_csv.specs.declared.employee.StaffRow.{StaffRow}
 use Rattle.clr_rules.specs.Register.{first_state}
-use Rattle.clr_tables.specs.Tables.{Tables, point_row, section_row, staff_row, version_row}
+use Rattle.clr_tables.specs.TableEdits.{with_table_row, without_table_row}
+use Rattle.clr_tables.specs.Tables.{Tables, jumper_row, section_row, staff_row, version_row}
 use Rattle.clr_tables.specs.declared.table_name.TableName.{TableName}
-use Rattle.clr_tables.specs.declared.table_name.TableName.TheVariants.{Meta, Section, Point, Staff}
+use Rattle.clr_tables.specs.declared.table_name.TableName.TheVariants.{Meta, Section, Staff}
 use Rattle.clr_tables.specs.declared.table_name.TableName.TheVariants.{Clearance, Step, Hold}
-use Rattle.clr_load.specs.Layout.{Layout, OfOne, place_in, tree_in}
-use Rattle.clr_load.specs.Schema.{schema_of}
+use Rattle.clr_tables.specs.declared.table_name.TableName.TheVariants.{NetworkPoint}
+use Rattle.clr_load.specs.Layout.{AsMade, AsMoved, Layout, is_two, place_in, tree_in}
+use Rattle.clr_load.specs.Schema.{keys_in, schema_of}
 use Rattle.clr_load.specs.Stored.{Holds, rows_in}
 use Rattle.clr_load.specs.declared.fault.StoreFault.{StoreFault}
 
--- the tables with these rows
+-- the tables of version 2 with these rows
 abbrev pub tables_with : (TableName → List Row) → Tables
 tables_with rows = record {
   meta = rows Meta;
   sections = rows Section;
-  points = rows Point;
+  points = rows NetworkPoint;
   staff = rows Staff;
   clearances = rows Clearance;
   steps = rows Step;
@@ -32,21 +35,26 @@ tables_with rows = record {
 }
 
 abbrev pub is_same : TableName → TableName → Bool
-is_same name other = place_in OfOne name == place_in OfOne other
+is_same name other = place_in AsMoved name == place_in AsMoved other
 
 -- a change of the rows of one table, as it is for another
 abbrev pub change_at : TableName → TableName → (List Row → List Row) → List Row → List Row
 change_at name other change rows = if is_same name other then change rows else rows
 
--- the tables with the rows of one of them changed
-abbrev pub with_rows : TableName → (List Row → List Row) → Tables → Tables
-with_rows name change t = tables_with (λ other. change_at name other change (rows_in other t))
+-- the rows of version 2 with those of one table changed
+abbrev pub rows_changed : TableName → (List Row → List Row) → Tables → TableName → List Row
+rows_changed name change t other = change_at name other change (rows_in AsMade other t)
 
--- the tables are changed inside the transaction, and nothing is committed
+-- the tables of version 2 with the rows of one of them changed
+abbrev pub with_rows : TableName → (List Row → List Row) → Tables → Tables
+with_rows name change t = tables_with (rows_changed name change t)
+
+-- the tables of version 2 are changed inside the transaction, and nothing is committed
 pub record Changes (old new : State) (change : Tables → Tables) : Type 0 where
   pub inside : IsTrue new.in_transaction
   pub kept : KeepsCommit old new
-  pub tables : (l : Layout) (t : Tables) → Holds l old.now t → Holds l new.now (change t)
+  pub tables : (l : Layout) → is_two l ≡ true → (t : Tables) → Holds l old.now t
+      → Holds l new.now (change t)
 
 -- a call inside a transaction makes the change, or fails; it commits nothing
 abbrev pub Steps : {X : Type 0} → State → State → (Tables → Tables) → Result X StoreFault → Type 0
@@ -77,11 +85,25 @@ added news rows = fold (λ had row. row ∷ had) rows news
 
 -- the rows of points before the first command
 abbrev pub opening_points : List PointRow → List Row
-opening_points points = map (λ p. point_row p (first_state p)) points
+opening_points points = map (λ p. jumper_row p (first_state p)) points
 
 -- the tables with the rows of an opening register put in
 abbrev pub filled : List SectionRow → List PointRow → List StaffRow → Tables → Tables
 filled sections points staff t =
-    with_rows Staff (added (map staff_row staff)) (with_rows Point (added (opening_points points))
+    with_rows Staff (added (map staff_row staff))
+    (with_rows NetworkPoint (added (opening_points points))
     (with_rows Section (added (map section_row sections))
-    (with_rows Meta (λ rows. version_row 1 ∷ rows) t)))
+    (with_rows Meta (λ rows. version_row 2 ∷ rows) t)))
+
+-- the rows of a table once the row of a key is replaced, where there were so many of that key: with
+-- none there is none of it as before, or else the row is put
+abbrev pub after_replace : ℕ → TableName → Row → List Row → List Row
+after_replace zero name row rows =
+    without_table_row (keys_in name) (take (keys_in name) row) rows
+after_replace (suc n) name row rows = with_table_row (keys_in name) row rows
+
+-- a call inside a transaction replaces the row of a key and says how many there were, or fails
+abbrev pub Replaces : State → State → TableName → Row → Result ℕ StoreFault → Type 0
+Replaces old new name row result = HasCleanDisk new → IsTrue old.in_transaction
+    → MatchResult result (λ n. Changes old new (with_rows name (after_replace n name row)))
+    (λ _. KeepsCommit old new)

@@ -22,17 +22,17 @@ abbrev pub MakesEdits : Database → List Edit → Database → Type 0
 MakesEdits before edits after = (t : Tables) → HasTables before t
     → HasTables after (tables_edited edits t)
 
--- why a database is not opened: the version does not read, or it is not 1
+-- why a database is not opened: the version does not read, or it is not 2
 abbrev pub RefusesVersion : Result ℤ TableName → StoreFault → Type 0
 RefusesVersion read Sql = ⊤
 RefusesVersion read NoMemory = ⊤
 RefusesVersion read (BadRow table) = read ≡ Err table
-RefusesVersion read (WrongVersion n) = (read ≡ Ok n) × (n ≢ pos 1)
+RefusesVersion read (WrongVersion n) = (read ≡ Ok n) × (n ≢ pos 2)
 
 -- why a database is not opened, whatever it has: it refused or failed, memory ran out, no row
--- tells the version, or the version is not 1
+-- tells the version, or the version is not 2
 abbrev pub IsOfOpening : StoreFault → Type 0
 IsOfOpening Sql = ⊤
 IsOfOpening NoMemory = ⊤
 IsOfOpening (BadRow table) = table ≡ Meta
-IsOfOpening (WrongVersion n) = n ≢ pos 1
+IsOfOpening (WrongVersion n) = n ≢ pos 2

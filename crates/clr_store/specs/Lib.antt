@@ -1,2 +1,3 @@
 pub mod Change
 pub mod Contract
+pub mod Moving

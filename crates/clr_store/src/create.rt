@@ -1,15 +1,15 @@
 //! The tables are made, with the rows of an opening register, in one transaction.
-ghost use Rattle.std.specs.Prelude.{IfErr, ◌≡◌, [], ◌∷◌, ◌++◌, false, IsTrue, OnErr, OnOk, map};
+ghost use Rattle.std.specs.Prelude.{IfErr, ◌≡◌, [], ◌∷◌, ◌++◌, false, true, IsTrue, OnErr, OnOk, map};
 ghost use Rattle.sqlite.specs.Held.{state};
 ghost use Rattle.sqlite.specs.State.{HasCleanDisk, Survives};
 ghost use Rattle.clr_rules.specs.Register.{first_state, opening};
-ghost use Rattle.clr_tables.specs.Tables.{point_row, section_row, staff_row, tables_of};
+ghost use Rattle.clr_tables.specs.Tables.{jumper_row, section_row, staff_row, tables_of};
 ghost use Rattle.clr_tables.specs.Tables.{version_row};
 ghost use Rattle.clr_store.specs.Change.{HasEmpty, Steps, StepsTo, added, opening_points, filled};
 ghost use Rattle.clr_store.specs.Change.{with_rows};
 ghost use Rattle.clr_load.specs.Fault.{IsOfDatabase};
 ghost use Rattle.clr_load.specs.Contract.{IsSaved};
-ghost use Rattle.clr_load.specs.Layout.{OfOne, names_before, names_in};
+ghost use Rattle.clr_load.specs.Layout.{AsMade, has_table, names_before, names_in};
 ghost use Rattle.clr_load.specs.Schema.{no_schema};
 ghost use Rattle.clr_load.specs.Stored.{AreTables, HasTables};
 
@@ -27,10 +27,11 @@ use sqlite::{Alter, Connection, Transaction};
 use sqlite_schema::schema::Schema;
 
 fn make_table<S: Alter>(tx: &mut Transaction<'_, S>, table: TableName) -> Result<(), StoreFault>
+    requires { has_table AsMade table ≡ true }
     ensures same_reference { tx.new.conn.ghost_name ≡ tx.old.conn.ghost_name }
     ensures step { StepsTo (state S.Store tx.old.conn.now) (state S.Store tx.new.conn.now)
-        (HasEmpty OfOne (names_before OfOne table))
-        (HasEmpty OfOne (names_before OfOne table ++ table ∷ [])) result }
+        (HasEmpty AsMade (names_before AsMade table))
+        (HasEmpty AsMade (names_before AsMade table ++ table ∷ [])) result }
     ensures fault { IfErr result IsOfDatabase }
     ensures survives { Survives (state S.Store tx.old.conn.now) (state S.Store tx.new.conn.now)
         (λ _. ⊥) }
@@ -42,21 +43,21 @@ fn make_table<S: Alter>(tx: &mut Transaction<'_, S>, table: TableName) -> Result
 fn make_first_tables<S: Alter>(tx: &mut Transaction<'_, S>) -> Result<(), StoreFault>
     ensures same_reference { tx.new.conn.ghost_name ≡ tx.old.conn.ghost_name }
     ensures step { StepsTo (state S.Store tx.old.conn.now) (state S.Store tx.new.conn.now)
-        (HasEmpty OfOne []) (HasEmpty OfOne (names_before OfOne TableName.Staff)) result }
+        (HasEmpty AsMade []) (HasEmpty AsMade (names_before AsMade TableName.Staff)) result }
     ensures fault { IfErr result IsOfDatabase }
     ensures survives { Survives (state S.Store tx.old.conn.now) (state S.Store tx.new.conn.now)
         (λ _. ⊥) }
 {
     make_table(tx, TableName::Meta)?;
     make_table(tx, TableName::Section)?;
-    make_table(tx, TableName::Point)
+    make_table(tx, TableName::NetworkPoint)
 }
 
 fn make_next_tables<S: Alter>(tx: &mut Transaction<'_, S>) -> Result<(), StoreFault>
     ensures same_reference { tx.new.conn.ghost_name ≡ tx.old.conn.ghost_name }
     ensures step { StepsTo (state S.Store tx.old.conn.now) (state S.Store tx.new.conn.now)
-        (HasEmpty OfOne (names_before OfOne TableName.Staff))
-        (HasEmpty OfOne (names_before OfOne TableName.Hold)) result }
+        (HasEmpty AsMade (names_before AsMade TableName.Staff))
+        (HasEmpty AsMade (names_before AsMade TableName.Hold)) result }
     ensures fault { IfErr result IsOfDatabase }
     ensures survives { Survives (state S.Store tx.old.conn.now) (state S.Store tx.new.conn.now)
         (λ _. ⊥) }
@@ -70,7 +71,7 @@ fn make_next_tables<S: Alter>(tx: &mut Transaction<'_, S>) -> Result<(), StoreFa
 fn make_tables<S: Alter>(tx: &mut Transaction<'_, S>) -> Result<(), StoreFault>
     ensures same_reference { tx.new.conn.ghost_name ≡ tx.old.conn.ghost_name }
     ensures step { StepsTo (state S.Store tx.old.conn.now) (state S.Store tx.new.conn.now)
-        (HasEmpty OfOne []) (HasEmpty OfOne (names_in OfOne)) result }
+        (HasEmpty AsMade []) (HasEmpty AsMade (names_in AsMade)) result }
     ensures fault { IfErr result IsOfDatabase }
     ensures survives { Survives (state S.Store tx.old.conn.now) (state S.Store tx.new.conn.now)
         (λ _. ⊥) }
@@ -83,12 +84,12 @@ fn make_tables<S: Alter>(tx: &mut Transaction<'_, S>) -> Result<(), StoreFault>
 fn add_version<S: Alter>(tx: &mut Transaction<'_, S>) -> Result<(), StoreFault>
     ensures same_reference { tx.new.conn.ghost_name ≡ tx.old.conn.ghost_name }
     ensures step { Steps (state S.Store tx.old.conn.now) (state S.Store tx.new.conn.now)
-        (with_rows TableName.Meta (λ rows. version_row 1 ∷ rows)) result }
+        (with_rows TableName.Meta (λ rows. version_row 2 ∷ rows)) result }
     ensures fault { IfErr result IsOfDatabase }
     ensures survives { Survives (state S.Store tx.old.conn.now) (state S.Store tx.new.conn.now)
         (λ _. ⊥) }
 {
-    let row = [text_value("version"), number_value(1)];
+    let row = [text_value("version"), number_value(2)];
     insert_row(tx, TableName::Meta, &row)
 }
 
@@ -128,7 +129,7 @@ fn add_sections<S: Alter>(
 fn add_point<S: Alter>(tx: &mut Transaction<'_, S>, point: &PointRow) -> Result<(), StoreFault>
     ensures same_reference { tx.new.conn.ghost_name ≡ tx.old.conn.ghost_name }
     ensures step { Steps (state S.Store tx.old.conn.now) (state S.Store tx.new.conn.now)
-        (with_rows TableName.Point (λ rows. point_row point.now (first_state point.now) ∷ rows))
+        (with_rows TableName.NetworkPoint (λ rows. jumper_row point.now (first_state point.now) ∷ rows))
         result }
     ensures fault { IfErr result IsOfDatabase }
     ensures survives { Survives (state S.Store tx.old.conn.now) (state S.Store tx.new.conn.now)
@@ -143,14 +144,15 @@ fn add_point<S: Alter>(tx: &mut Transaction<'_, S>, point: &PointRow) -> Result<
         position_value(point.position),
         ValueRef::Null,
         ValueRef::Null,
+        flag_value(point.jumper),
     ];
-    insert_row(tx, TableName::Point, &row)
+    insert_row(tx, TableName::NetworkPoint, &row)
 }
 
 fn add_points<S: Alter>(tx: &mut Transaction<'_, S>, points: &[PointRow]) -> Result<(), StoreFault>
     ensures same_reference { tx.new.conn.ghost_name ≡ tx.old.conn.ghost_name }
     ensures step { Steps (state S.Store tx.old.conn.now) (state S.Store tx.new.conn.now)
-        (with_rows TableName.Point (added (opening_points points.now))) result }
+        (with_rows TableName.NetworkPoint (added (opening_points points.now))) result }
     ensures fault { IfErr result IsOfDatabase }
     ensures survives { Survives (state S.Store tx.old.conn.now) (state S.Store tx.new.conn.now)
         (λ _. ⊥) }
@@ -202,7 +204,7 @@ fn add_network<S: Alter>(
 ) -> Result<(), StoreFault>
     ensures same_reference { tx.new.conn.ghost_name ≡ tx.old.conn.ghost_name }
     ensures step { Steps (state S.Store tx.old.conn.now) (state S.Store tx.new.conn.now)
-        (λ t. with_rows TableName.Point (added (opening_points points.now))
+        (λ t. with_rows TableName.NetworkPoint (added (opening_points points.now))
         (with_rows TableName.Section (added (map section_row sections.now)) t)) result }
     ensures fault { IfErr result IsOfDatabase }
     ensures survives { Survives (state S.Store tx.old.conn.now) (state S.Store tx.new.conn.now)

@@ -5,28 +5,32 @@ ghost use Rattle.sqlite.specs.State.{Survives};
 ghost use Rattle.sqlite.specs.Values.{bound};
 ghost use Rattle.clr_rules.specs.declared.change.Edit.TheVariants.{SetPosition, SetHand, PutHold};
 ghost use Rattle.clr_rules.specs.declared.change.Edit.TheVariants.{TakeHold, PutRecord, PutStep};
+ghost use Rattle.clr_rules.specs.declared.change.Edit.TheVariants.{AddSection, AddPoint};
 ghost use Rattle.clr_tables.specs.TableEdits.{table_edited, tables_edited, with_table_row};
 ghost use Rattle.clr_store.specs.Change.{Steps, with_rows};
 ghost use Rattle.clr_load.specs.Fault.{IsOfDatabase};
+ghost use Rattle.clr_load.specs.Layout.{AsMade, has_table};
 ghost use Rattle.clr_load.specs.Schema.{columns_in, keys_in};
 ghost use Rattle.clr_load.specs.Stored.{fits_columns, has_key};
 
-use crate::sql::keys_in;
-use crate::statements::{delete_row, insert_row};
-use crate::values::{name_or_null, name_value, number_value, position_value, text_value};
+use crate::statements::{delete_row, insert_row, replace_row};
+use crate::values::{
+    flag_value, name_or_null, name_value, number_value, position_value, text_value,
+};
 use clr_load::StoreFault;
-use clr_net::{Name, Position};
+use clr_net::{Name, PointRow, Position, SectionRow};
 use clr_rules::{ClearanceId, Edit, Hold, Record, StepRow};
 use clr_tables::{TableName, action_name, state_name};
 use sqlite::types::ValueRef;
 use sqlite::{Alter, Transaction};
 
 /// Puts a row in place of the one that has its key.
-fn put_row<S: Alter>(
+pub(crate) fn put_row<S: Alter>(
     tx: &mut Transaction<'_, S>,
     table: TableName,
     row: &[ValueRef<'_>],
 ) -> Result<(), StoreFault>
+    requires there { has_table AsMade table ≡ true }
     requires fits { fits_columns (columns_in table) (bound row.now) ≡ true }
     requires keyed { has_key (keys_in table) (take (keys_in table) (bound row.now)) ≡ true }
     ensures same_reference { tx.new.conn.ghost_name ≡ tx.old.conn.ghost_name }
@@ -36,9 +40,11 @@ fn put_row<S: Alter>(
     ensures survives { Survives (state S.Store tx.old.conn.now) (state S.Store tx.new.conn.now)
         (λ _. ⊥) }
 {
-    let key = &row[..keys_in(table)];
-    delete_row(tx, table, key)?;
-    insert_row(tx, table, row)
+    if replace_row(tx, table, row)? == 0 {
+        insert_row(tx, table, row)
+    } else {
+        Ok(())
+    }
 }
 
 fn put_hold<S: Alter>(tx: &mut Transaction<'_, S>, hold: &Hold) -> Result<(), StoreFault>
@@ -132,7 +138,10 @@ fn set_position<S: Alter>(
         (λ _. ⊥) }
 {
     let given = [name_value(point), position_value(position)];
-    tx.execute("UPDATE point SET position = ?2 WHERE name = ?1", &given)?;
+    tx.execute(
+        "UPDATE network_point SET position = ?2 WHERE name = ?1",
+        &given,
+    )?;
     Ok(())
 }
 
@@ -146,7 +155,7 @@ fn clear_hand<S: Alter>(tx: &mut Transaction<'_, S>, point: &Name) -> Result<(),
 {
     let given = [name_value(point), ValueRef::Null, ValueRef::Null];
     tx.execute(
-        "UPDATE point SET hand_requester = ?2, hand_number = ?3 WHERE name = ?1",
+        "UPDATE network_point SET hand_requester = ?2, hand_number = ?3 WHERE name = ?1",
         &given,
     )?;
     Ok(())
@@ -168,7 +177,7 @@ fn give_hand<S: Alter>(
     let number = number_value(u64::from(id.number()));
     let given = [name_value(point), name_value(&requester), number];
     tx.execute(
-        "UPDATE point SET hand_requester = ?2, hand_number = ?3 WHERE name = ?1",
+        "UPDATE network_point SET hand_requester = ?2, hand_number = ?3 WHERE name = ?1",
         &given,
     )?;
     Ok(())
@@ -192,6 +201,43 @@ fn set_hand<S: Alter>(
     }
 }
 
+fn add_section<S: Alter>(
+    tx: &mut Transaction<'_, S>,
+    section: &SectionRow,
+) -> Result<(), StoreFault>
+    ensures same_reference { tx.new.conn.ghost_name ≡ tx.old.conn.ghost_name }
+    ensures step { Steps (state S.Store tx.old.conn.now) (state S.Store tx.new.conn.now)
+        (table_edited (AddSection section.now)) result }
+    ensures fault { IfErr result IsOfDatabase }
+    ensures survives { Survives (state S.Store tx.old.conn.now) (state S.Store tx.new.conn.now)
+        (λ _. ⊥) }
+{
+    let row = [name_value(&section.name), flag_value(section.source)];
+    put_row(tx, TableName::Section, &row)
+}
+
+fn add_point<S: Alter>(tx: &mut Transaction<'_, S>, point: &PointRow) -> Result<(), StoreFault>
+    ensures same_reference { tx.new.conn.ghost_name ≡ tx.old.conn.ghost_name }
+    ensures step { Steps (state S.Store tx.old.conn.now) (state S.Store tx.new.conn.now)
+        (table_edited (AddPoint point.now)) result }
+    ensures fault { IfErr result IsOfDatabase }
+    ensures survives { Survives (state S.Store tx.old.conn.now) (state S.Store tx.new.conn.now)
+        (λ _. ⊥) }
+{
+    let row = [
+        name_value(&point.name),
+        name_value(&point.from_end),
+        name_value(&point.to_end),
+        flag_value(point.lockable),
+        flag_value(point.remote),
+        position_value(Position::Opened),
+        ValueRef::Null,
+        ValueRef::Null,
+        flag_value(point.jumper),
+    ];
+    put_row(tx, TableName::NetworkPoint, &row)
+}
+
 /// Makes one edit.
 fn make<S: Alter>(tx: &mut Transaction<'_, S>, edit: &Edit) -> Result<(), StoreFault>
     ensures same_reference { tx.new.conn.ghost_name ≡ tx.old.conn.ghost_name }
@@ -208,6 +254,8 @@ fn make<S: Alter>(tx: &mut Transaction<'_, S>, edit: &Edit) -> Result<(), StoreF
         Edit::TakeHold(hold) => take_hold(tx, hold),
         Edit::PutRecord(record) => put_record(tx, record),
         Edit::PutStep(row) => put_step(tx, row),
+        Edit::AddSection(section) => add_section(tx, section),
+        Edit::AddPoint(point) => add_point(tx, point),
     }
 }
 

@@ -4,6 +4,7 @@
 
 mod create;
 mod edits;
+mod migrate;
 mod sql;
 mod statements;
 mod store;

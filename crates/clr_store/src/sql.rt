@@ -1,20 +1,8 @@
 //! The statements that write the tables of a register, as texts.
 ghost use Rattle.std.specs.Prelude.{◌≡◌};
-ghost use Rattle.clr_load.specs.Schema.{keys_in};
-ghost use Rattle.clr_load.specs.Sql.{create_sql, delete_sql, insert_sql};
+ghost use Rattle.clr_load.specs.Sql.{create_sql, delete_sql, insert_sql, replace_sql};
 
 use clr_tables::TableName;
-
-/// How many columns of a table, the first, are its key.
-pub(crate) fn keys_in(table: TableName) -> usize
-    ensures { result ≡ keys_in table }
-{
-    match table {
-        TableName::Meta | TableName::Section | TableName::Point | TableName::Staff => 1,
-        TableName::Clearance => 2,
-        TableName::Step | TableName::Hold => 4,
-    }
-}
 
 /// Makes a table.
 pub(crate) fn create_sql(table: TableName) -> &'static str
@@ -44,6 +32,10 @@ pub(crate) fn create_sql(table: TableName) -> &'static str
         TableName::Hold =>
             "CREATE TABLE hold (kind TEXT NOT NULL, place TEXT NOT NULL, requester TEXT NOT NULL, \
              number INTEGER NOT NULL, PRIMARY KEY (kind, place, requester, number)) STRICT",
+        TableName::NetworkPoint => "CREATE TABLE network_point (name TEXT NOT NULL, \
+             from_end TEXT NOT NULL, to_end TEXT NOT NULL, lockable INTEGER NOT NULL, \
+             remote INTEGER NOT NULL, position INTEGER NOT NULL, hand_requester TEXT, \
+             hand_number INTEGER, jumper INTEGER NOT NULL, PRIMARY KEY (name)) STRICT",
     }
 }
 
@@ -59,6 +51,8 @@ pub(crate) fn insert_sql(table: TableName) -> &'static str
         TableName::Clearance => "INSERT INTO clearance VALUES (?1, ?2, ?3, ?4, ?5, ?6)",
         TableName::Step => "INSERT INTO step VALUES (?1, ?2, ?3, ?4, ?5, ?6, ?7, ?8)",
         TableName::Hold => "INSERT INTO hold VALUES (?1, ?2, ?3, ?4)",
+        TableName::NetworkPoint =>
+            "INSERT INTO network_point VALUES (?1, ?2, ?3, ?4, ?5, ?6, ?7, ?8, ?9)",
     }
 }
 
@@ -76,5 +70,31 @@ pub(crate) fn delete_sql(table: TableName) -> &'static str
             "DELETE FROM step WHERE requester = ?1 AND number = ?2 AND round = ?3 AND ordinal = ?4",
         TableName::Hold =>
             "DELETE FROM hold WHERE kind = ?1 AND place = ?2 AND requester = ?3 AND number = ?4",
+        TableName::NetworkPoint => "DELETE FROM network_point WHERE name = ?1",
+    }
+}
+
+/// Replaces the row of a key by one that has it. Its values are the parameters.
+pub(crate) fn replace_sql(table: TableName) -> &'static str
+    ensures { result.now ≡ replace_sql table }
+{
+    match table {
+        TableName::Meta => "UPDATE meta SET name = ?1, value = ?2 WHERE name = ?1",
+        TableName::Section => "UPDATE section SET name = ?1, source = ?2 WHERE name = ?1",
+        TableName::Point => "UPDATE point SET name = ?1, from_end = ?2, to_end = ?3, \
+             lockable = ?4, remote = ?5, position = ?6, hand_requester = ?7, hand_number = ?8 \
+             WHERE name = ?1",
+        TableName::Staff =>
+            "UPDATE staff SET name = ?1, role = ?2, supervisor = ?3 WHERE name = ?1",
+        TableName::Clearance => "UPDATE clearance SET requester = ?1, number = ?2, holder = ?3, \
+             work = ?4, phase = ?5, last_at = ?6 WHERE requester = ?1 AND number = ?2",
+        TableName::Step => "UPDATE step SET requester = ?1, number = ?2, round = ?3, \
+             ordinal = ?4, action = ?5, point = ?6, state = ?7, reader = ?8 \
+             WHERE requester = ?1 AND number = ?2 AND round = ?3 AND ordinal = ?4",
+        TableName::Hold => "UPDATE hold SET kind = ?1, place = ?2, requester = ?3, number = ?4 \
+             WHERE kind = ?1 AND place = ?2 AND requester = ?3 AND number = ?4",
+        TableName::NetworkPoint => "UPDATE network_point SET name = ?1, from_end = ?2, \
+             to_end = ?3, lockable = ?4, remote = ?5, position = ?6, hand_requester = ?7, \
+             hand_number = ?8, jumper = ?9 WHERE name = ?1",
     }
 }

@@ -1,15 +1,16 @@
 //! One statement each, inside a transaction.
-ghost use Rattle.std.specs.Prelude.{◌≡◌, [], ◌∷◌, IfErr, true};
+ghost use Rattle.std.specs.Prelude.{◌≡◌, [], ◌∷◌, IfErr, true, take};
 ghost use Rattle.sqlite.specs.Held.{state};
 ghost use Rattle.sqlite.specs.State.{Survives};
 ghost use Rattle.sqlite.specs.Values.{bound};
 ghost use Rattle.clr_tables.specs.TableEdits.{without_table_row};
-ghost use Rattle.clr_store.specs.Change.{Steps, with_rows};
+ghost use Rattle.clr_store.specs.Change.{Replaces, Steps, with_rows};
 ghost use Rattle.clr_load.specs.Fault.{IsOfDatabase};
+ghost use Rattle.clr_load.specs.Layout.{AsMade, has_table};
 ghost use Rattle.clr_load.specs.Schema.{columns_in, keys_in};
 ghost use Rattle.clr_load.specs.Stored.{fits_columns, has_key};
 
-use crate::sql::{delete_sql, insert_sql};
+use crate::sql::{delete_sql, insert_sql, replace_sql};
 use clr_load::StoreFault;
 use clr_tables::TableName;
 use sqlite::types::ValueRef;
@@ -21,7 +22,8 @@ pub(crate) fn insert_row<S: Alter>(
     table: TableName,
     row: &[ValueRef<'_>],
 ) -> Result<(), StoreFault>
-    requires { fits_columns (columns_in table) (bound row.now) ≡ true }
+    requires there { has_table AsMade table ≡ true }
+    requires fits { fits_columns (columns_in table) (bound row.now) ≡ true }
     ensures same_reference { tx.new.conn.ghost_name ≡ tx.old.conn.ghost_name }
     ensures step { Steps (state S.Store tx.old.conn.now) (state S.Store tx.new.conn.now)
         (with_rows table (λ rows. bound row.now ∷ rows)) result }
@@ -39,7 +41,8 @@ pub(crate) fn delete_row<S: Alter>(
     table: TableName,
     key: &[ValueRef<'_>],
 ) -> Result<(), StoreFault>
-    requires { has_key (keys_in table) (bound key.now) ≡ true }
+    requires there { has_table AsMade table ≡ true }
+    requires keyed { has_key (keys_in table) (bound key.now) ≡ true }
     ensures same_reference { tx.new.conn.ghost_name ≡ tx.old.conn.ghost_name }
     ensures step { Steps (state S.Store tx.old.conn.now) (state S.Store tx.new.conn.now)
         (with_rows table (without_table_row (keys_in table) (bound key.now))) result }
@@ -49,4 +52,24 @@ pub(crate) fn delete_row<S: Alter>(
 {
     tx.execute(delete_sql(table), key)?;
     Ok(())
+}
+
+/// Replaces the row that has the key of a row by that row, and says how many there were: one or
+/// none. A table in memory finds it by its key, where it would delete it by a walk over all rows.
+pub(crate) fn replace_row<S: Alter>(
+    tx: &mut Transaction<'_, S>,
+    table: TableName,
+    row: &[ValueRef<'_>],
+) -> Result<usize, StoreFault>
+    requires there { has_table AsMade table ≡ true }
+    requires fits { fits_columns (columns_in table) (bound row.now) ≡ true }
+    requires keyed { has_key (keys_in table) (take (keys_in table) (bound row.now)) ≡ true }
+    ensures same_reference { tx.new.conn.ghost_name ≡ tx.old.conn.ghost_name }
+    ensures step { Replaces (state S.Store tx.old.conn.now) (state S.Store tx.new.conn.now) table
+        (bound row.now) result }
+    ensures fault { IfErr result IsOfDatabase }
+    ensures survives { Survives (state S.Store tx.old.conn.now) (state S.Store tx.new.conn.now)
+        (λ _. ⊥) }
+{
+    Ok(tx.execute(replace_sql(table), row)?)
 }

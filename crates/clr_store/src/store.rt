@@ -1,24 +1,28 @@
 //! The store: the register of a database, over a connection to it.
-ghost use Rattle.std.specs.Prelude.{◌≡◌, ◌⊎◌, false, true, pos, List, IsTrue, IfErr, IfOk, IsErrAnd};
-ghost use Rattle.std.specs.Prelude.{MatchResult, Ok, OnErr, OnOk};
+ghost use Rattle.std.specs.Prelude.{◌≡◌, ◌≢◌, ◌⊎◌, false, true, pos, List, IsTrue, IfErr, IfOk};
+ghost use Rattle.std.specs.Prelude.{IsErrAnd, MatchResult, Ok, OnErr, OnOk};
 ghost use Rattle.sqlite.specs.Held.{state};
 ghost use Rattle.sqlite.specs.Order.{Row};
 ghost use Rattle.sqlite.specs.State.{HasCleanDisk, Survives};
 ghost use Rattle.clr_rules.specs.Good.{IsGood};
 ghost use Rattle.clr_rules.specs.Register.{Register, opening};
 ghost use Rattle.clr_tables.specs.RowsRead.{read_version, rows_read};
-ghost use Rattle.clr_tables.specs.Tables.{Tables, tables_of};
+ghost use Rattle.clr_tables.specs.TableEdits.{tables_moved};
+ghost use Rattle.clr_tables.specs.TableLaws.{HasNoJumper};
+ghost use Rattle.clr_tables.specs.Tables.{Tables, tables_by, tables_of, version_one};
 ghost use Rattle.clr_tables.specs.TypedRows.{IsTyped};
 ghost use Rattle.clr_load.specs.Schema.{no_schema};
-ghost use Rattle.clr_load.specs.Stored.{AreTables, HasMeta, HasTables};
+ghost use Rattle.clr_load.specs.Stored.{AreTables, HasMeta, HasOldTables, HasTables};
 ghost use Rattle.clr_load.specs.Cause.{SqlHasCause};
 ghost use Rattle.clr_load.specs.Fault.{IsOfDatabase};
 ghost use Rattle.clr_load.specs.Contract.{GivesBack, GivesRows, IsSaved};
 ghost use Rattle.clr_load.specs.declared.fault.StoreFault.TheVariants.{Sql};
 ghost use Rattle.clr_store.specs.Contract.{AreEdited, IsOfOpening, MakesEdits, RefusesVersion};
+ghost use Rattle.clr_store.specs.Moving.{IsOfMove, LeavesMoved, RefusesMove, RefusesToMove};
 
 use crate::create::make_register;
 use crate::edits::make_all;
+use crate::migrate::move_tables;
 use clr_csv::Staff;
 use clr_load::{Rows, StoreFault, load_rows, read_version};
 use clr_net::Network;
@@ -106,7 +110,7 @@ impl<S: Alter + Drop> Store<S> {
             ≡ (state S.Store connection).now) }
         ensures version { IfOk result (λ store. HasCleanDisk (state S.Store store)
             → (meta : List Row) → HasMeta (state S.Store connection).now meta
-            → read_version meta ≡ Ok (pos 1)) }
+            → read_version meta ≡ Ok (pos 2)) }
         ensures inside { connection.in_transaction ≡ true → IsErrAnd result
             (λ back. back.fault ≡ Sql) }
         ensures mode { MatchResult result
@@ -139,12 +143,85 @@ impl<S: Alter + Drop> Store<S> {
             return Err(Back { fault, connection });
         }
         match read_version(&mut connection) {
-            Ok(1) => Ok(Store { connection }),
+            Ok(2) => Ok(Store { connection }),
             Ok(other) => {
                 let fault = StoreFault::WrongVersion(other);
                 Err(Back { fault, connection })
             }
             Err(fault) => Err(Back { fault, connection }),
+        }
+    }
+
+    /// Opens the store of a database, and moves tables of version 1 to version 2 first.
+    ///
+    /// Tables of version 2 are opened as they are. Of version 1 each point is copied, with its
+    /// position and its hand, into the table that version 2 reads, in one transaction; the table
+    /// of version 1 stays, empty. `Sql` where there are no tables, a transaction is open, or the
+    /// database fails; `NoMemory` where memory runs out; `WrongVersion` where the version is
+    /// another; `BadRow` of `meta` where that has no version, of `point` where the version is 1
+    /// and a point does not read. No other row is looked at. A fault hands the connection back,
+    /// with the database as it was.
+    pub fn migrate(mut connection: Connection<S>) -> Result<Store<S>, Back<S>>
+        ensures opened { IfOk result (λ store. HasCleanDisk (state S.Store store)
+            → IsTrue (state S.Store store).is_open → (meta : List Row)
+            → HasMeta (state S.Store connection).now meta → read_version meta ≡ Ok (pos 2)
+            → (state S.Store store).now ≡ (state S.Store connection).now) }
+        ensures moved { IfOk result (λ store. HasCleanDisk (state S.Store store) → (t : Tables)
+            → HasOldTables (state S.Store connection).now t → read_version t.meta ≡ Ok (pos 1)
+            → IsSaved (state S.Store store)
+            × HasTables (state S.Store store).now (tables_moved t)) }
+        ensures register { IfOk result (λ store. HasCleanDisk (state S.Store store)
+            → (R : Register) → HasNoJumper R
+            → HasOldTables (state S.Store connection).now (tables_by version_one R)
+            → HasTables (state S.Store store).now (tables_of R)) }
+        ensures version { IfOk result (λ store. HasCleanDisk (state S.Store store)
+            → (meta : List Row) → HasMeta (state S.Store connection).now meta
+            → (read_version meta ≡ Ok (pos 1)) ⊎ (read_version meta ≡ Ok (pos 2))) }
+        ensures inside { connection.in_transaction ≡ true → IsErrAnd result
+            (λ back. back.fault ≡ Sql) }
+        ensures mode { MatchResult result
+            (λ store. store.in_transaction ≡ connection.in_transaction)
+            (λ back. back.connection.in_transaction ≡ connection.in_transaction) }
+        ensures fault { IfErr result (λ back. IsOfMove back.fault) }
+        ensures bare { (state S.Store connection).now.schema ≡ no_schema → MatchResult result
+            (λ store. HasCleanDisk (state S.Store store) → ⊥)
+            (λ back. HasCleanDisk (state S.Store back.connection) → IsOfDatabase back.fault) }
+        ensures none { IfErr result (λ back. HasCleanDisk (state S.Store back.connection)
+            → IsTrue (state S.Store back.connection).is_open
+            → (state S.Store back.connection).now ≡ (state S.Store connection).now) }
+        ensures cause { IfErr result (λ back. HasCleanDisk (state S.Store back.connection)
+            → connection.in_transaction ≡ false → (meta : List Row)
+            → HasMeta (state S.Store connection).now meta → read_version meta ≢ Ok (pos 1)
+            → SqlHasCause (state S.Store connection) (state S.Store back.connection) back.fault) }
+        ensures unread { IfErr result (λ back. HasCleanDisk (state S.Store back.connection)
+            → (meta : List Row) → HasMeta (state S.Store connection).now meta
+            → RefusesToMove (read_version meta) back.fault) }
+        ensures refused { IfErr result (λ back. HasCleanDisk (state S.Store back.connection)
+            → (t : Tables) → HasOldTables (state S.Store connection).now t
+            → RefusesMove t back.fault) }
+        ensures crash_moved { IfOk result (λ store. Survives (state S.Store connection)
+            (state S.Store store) (LeavesMoved (state S.Store connection).now)) }
+        ensures crash_none { IfErr result (λ back. Survives (state S.Store connection)
+            (state S.Store back.connection) (LeavesMoved (state S.Store connection).now)) }
+    {
+        if !connection.is_autocommit() {
+            let fault = StoreFault::Sql;
+            return Err(Back { fault, connection });
+        }
+        let version = match read_version(&mut connection) {
+            Ok(version) => version,
+            Err(fault) => return Err(Back { fault, connection }),
+        };
+        match version {
+            1 => match move_tables(&mut connection) {
+                Ok(()) => Ok(Store { connection }),
+                Err(fault) => Err(Back { fault, connection }),
+            },
+            2 => Ok(Store { connection }),
+            _ => {
+                let fault = StoreFault::WrongVersion(version);
+                Err(Back { fault, connection })
+            }
         }
     }
 
@@ -158,7 +235,8 @@ impl<S: Alter + Drop> Store<S> {
 
     /// Reads all rows of the tables, in one transaction that changes nothing.
     ///
-    /// `BadRow` names the first table, of meta, section, point, staff, clearance, step and hold,
+    /// `BadRow` names the first table, of meta, section, network_point, staff, clearance, step
+    /// and hold,
     /// with a row that reads no value of its type. `Sql` where the database refuses or fails,
     /// `NoMemory` where memory runs out. `WrongVersion` never comes: `open` has asked for the
     /// version, and the rows tell it.

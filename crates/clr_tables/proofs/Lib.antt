@@ -5,4 +5,5 @@ pub mod RowsBack
 pub mod PointStates
 pub mod TablesRead
 pub mod SameTables
+pub mod Moved
 pub mod TypedEdits

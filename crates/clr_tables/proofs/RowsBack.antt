@@ -1,5 +1,5 @@
 -- What a row of a table reads as: the row of the register that was written, where its values are of their types.
-use Rattle.std.proofs.Common.{◌≡◌, Bool, true, false, cond, ◌&&◌, nat_le, List, [], ◌∷◌, map, Option, Some, None, Result, Ok, Err, refl, ap}
+use Rattle.std.proofs.Common.{◌≡◌, Bool, true, false, cond, ◌&&◌, nat_le, List, [], ◌∷◌, ◌++◌, map, Option, Some, None, Result, Ok, Err, refl, ap}
 use Rattle.std.specs.List.{list_all}
 use Rattle.sqlite.specs.Order.{Row}
 use Rattle.clr_net.specs.Name.{is_name}
@@ -7,6 +7,7 @@ use Rattle.clr_net.specs.NameText.{read_name}
 use Rattle.clr_net.specs.declared.point.PointRow.{PointRow}
 use Rattle.clr_net.specs.declared.point.Position.{Position}
 use Rattle.clr_net.specs.declared.section.SectionRow.{SectionRow}
+use Rattle.clr_csv.specs.Rows.{◌>>=◌}
 use Rattle.clr_csv.specs.declared.employee.StaffRow.{StaffRow}
 use Rattle.clr_rules.specs.HoldKind.{hold_kind_named, hold_kind_text}
 use Rattle.clr_rules.specs.Id.{Id, is_clearance_number, is_id}
@@ -16,8 +17,8 @@ use Rattle.clr_rules.specs.declared.hold.Hold.{Hold}
 use Rattle.clr_rules.specs.declared.point_state.PointState.{PointState}
 use Rattle.clr_rules.specs.declared.record.Record.{Record}
 use Rattle.clr_rules.specs.declared.step_row.StepRow.{StepRow}
-use Rattle.clr_tables.specs.RowsRead.{PointRead, all_read, flag_at, name_if_read, position_at, read_clearance, read_hold, read_point, read_section, read_staff, read_step}
-use Rattle.clr_tables.specs.Tables.{clearance_row, flag_value, hold_row, point_row, position_value, section_row, staff_row, step_row}
+use Rattle.clr_tables.specs.RowsRead.{PointRead, all_read, flag_at, marked, name_if_read, position_at, read_clearance, read_hold, read_placed, read_point, read_section, read_staff, read_step}
+use Rattle.clr_tables.specs.Tables.{clearance_row, flag_value, hold_row, jumper_row, point_row, position_value, section_row, staff_row, step_row}
 use Rattle.clr_tables.specs.TypedRows.{is_id_or_none, is_name_or_none, is_typed_employee, is_typed_hold, is_typed_point, is_typed_record, is_typed_section, is_typed_step}
 use Rattle.clr_tables.specs.Words.{action_name, action_named, role_word, role_worded, state_name, state_named}
 use Rattle.clr_tables.specs.declared.table_name.TableName.{TableName}
@@ -43,55 +44,68 @@ point_said p state = record {
   state = record { point = p.name; position = state.position; hand = state.hand };
 }
 
-module _ (p : PointRow) (position : Position) where
+-- the columns of version 1, in a table with more behind them
+module _ (t : TableName) (more : Row) (p : PointRow) (position : Position) where
   abbrev with_hand : Option Id → PointState
   with_hand hand = record { point = p.name; position = position; hand = hand }
 
-  point_of : (hand : Option Id) → read_point (point_row p (with_hand hand))
-      ≡ cond (is_typed_point p && is_id_or_none hand) (Ok (point_said p (with_hand hand))) (Err table.Point)
-  unfolding read_point
-  point_of hand = at (is_name p.name) refl (is_name p.from_end) refl (is_name p.to_end) refl hand
+  pub placed_reads : (hand : Option Id) → read_placed t (point_row p (with_hand hand) ++ more)
+      ≡ cond (is_typed_point p && is_id_or_none hand) (Ok (marked false (point_said p (with_hand hand)))) (Err t)
+  unfolding read_placed
+  placed_reads hand = at (is_name p.name) refl (is_name p.from_end) refl (is_name p.to_end) refl hand
     where
-      lockable : flag_at table.Point 0 (flag_value p.lockable ∷ []) ≡ Ok p.lockable
-      lockable = flag_back table.Point p.lockable
+      lockable : flag_at t 0 (flag_value p.lockable ∷ []) ≡ Ok p.lockable
+      lockable = flag_back t p.lockable
 
-      remote : flag_at table.Point 0 (flag_value p.remote ∷ []) ≡ Ok p.remote
-      remote = flag_back table.Point p.remote
+      remote : flag_at t 0 (flag_value p.remote ∷ []) ≡ Ok p.remote
+      remote = flag_back t p.remote
 
-      stands : position_at table.Point 0 (position_value position ∷ []) ≡ Ok position
-      stands = position_back table.Point position
+      stands : position_at t 0 (position_value position ∷ []) ≡ Ok position
+      stands = position_back t position
 
       at : (a : Bool) → is_name p.name ≡ a → (b : Bool) → is_name p.from_end ≡ b → (c : Bool) → is_name p.to_end ≡ c → (hand : Option Id)
-          → read_point (point_row p (with_hand hand)) ≡ cond (is_typed_point p && is_id_or_none hand) (Ok (point_said p (with_hand hand))) (Err table.Point)
-      at false e b f c g hand = let name = name_is_not_read table.Point p.name e in rw (name, e) refl
+          → read_placed t (point_row p (with_hand hand) ++ more) ≡ cond (is_typed_point p && is_id_or_none hand) (Ok (marked false (point_said p (with_hand hand)))) (Err t)
+      at false e b f c g hand = let name = name_is_not_read t p.name e in rw (name, e) refl
       at true e false f c g hand =
-          let name = name_is_read table.Point p.name e in let from_end = name_is_not_read table.Point p.from_end f in rw (name, from_end, e, f) refl
+          let name = name_is_read t p.name e in let from_end = name_is_not_read t p.from_end f in rw (name, from_end, e, f) refl
       at true e true f false g hand =
-          let name = name_is_read table.Point p.name e in let from_end = name_is_read table.Point p.from_end f in
-          let to_end = name_is_not_read table.Point p.to_end g in rw (name, from_end, to_end, e, f, g) refl
+          let name = name_is_read t p.name e in let from_end = name_is_read t p.from_end f in
+          let to_end = name_is_not_read t p.to_end g in rw (name, from_end, to_end, e, f, g) refl
       at true e true f true g None =
-          let name = name_is_read table.Point p.name e in let from_end = name_is_read table.Point p.from_end f in
-          let to_end = name_is_read table.Point p.to_end g in rw (name, from_end, to_end, lockable, remote, stands, e, f, g) refl
+          let name = name_is_read t p.name e in let from_end = name_is_read t p.from_end f in
+          let to_end = name_is_read t p.to_end g in rw (name, from_end, to_end, lockable, remote, stands, e, f, g) refl
       at true e true f true g (Some c) = in_hand (is_name c.requester) refl (is_clearance_number c.number) refl
         where
-          name : name_if_read table.Point (read_name p.name) ≡ Ok p.name
-          name = name_is_read table.Point p.name e
+          name : name_if_read t (read_name p.name) ≡ Ok p.name
+          name = name_is_read t p.name e
 
-          from_end : name_if_read table.Point (read_name p.from_end) ≡ Ok p.from_end
-          from_end = name_is_read table.Point p.from_end f
+          from_end : name_if_read t (read_name p.from_end) ≡ Ok p.from_end
+          from_end = name_is_read t p.from_end f
 
-          to_end : name_if_read table.Point (read_name p.to_end) ≡ Ok p.to_end
-          to_end = name_is_read table.Point p.to_end g
+          to_end : name_if_read t (read_name p.to_end) ≡ Ok p.to_end
+          to_end = name_is_read t p.to_end g
 
           in_hand : (d : Bool) → is_name c.requester ≡ d → (n : Bool) → is_clearance_number c.number ≡ n
-              → read_point (point_row p (with_hand (Some c))) ≡ cond (is_typed_point p && is_id c) (Ok (point_said p (with_hand (Some c)))) (Err table.Point)
-          in_hand false h n k = let requester = name_is_not_read table.Point c.requester h in rw (name, from_end, to_end, lockable, remote, stands, requester, e, f, g, h) refl
-          in_hand true h false k = let requester = name_is_read table.Point c.requester h in rw (name, from_end, to_end, lockable, remote, stands, requester, e, f, g, h, k) refl
-          in_hand true h true k = let requester = name_is_read table.Point c.requester h in rw (name, from_end, to_end, lockable, remote, stands, requester, e, f, g, h, k) refl
+              → read_placed t (point_row p (with_hand (Some c)) ++ more) ≡ cond (is_typed_point p && is_id c) (Ok (marked false (point_said p (with_hand (Some c))))) (Err t)
+          in_hand false h n k = let requester = name_is_not_read t c.requester h in rw (name, from_end, to_end, lockable, remote, stands, requester, e, f, g, h) refl
+          in_hand true h false k = let requester = name_is_read t c.requester h in rw (name, from_end, to_end, lockable, remote, stands, requester, e, f, g, h, k) refl
+          in_hand true h true k = let requester = name_is_read t c.requester h in rw (name, from_end, to_end, lockable, remote, stands, requester, e, f, g, h, k) refl
 
 pub point_reads : (p : PointRow) (state : PointState)
-    → read_point (point_row p state) ≡ cond (is_typed_point p && is_id_or_none state.hand) (Ok (point_said p state)) (Err table.Point)
-point_reads p state = point_of p state.position state.hand
+    → read_point (jumper_row p state) ≡ cond (is_typed_point p && is_id_or_none state.hand) (Ok (point_said p state)) (Err table.NetworkPoint)
+unfolding read_point
+point_reads p state =
+    let placed = placed_reads table.NetworkPoint (flag_value p.jumper ∷ []) p state.position state.hand in
+    rw placed (at (is_typed_point p && is_id_or_none state.hand) (flag_at table.NetworkPoint 8 (jumper_row p state)) (mark state.hand))
+  where
+    mark : (hand : Option Id) → flag_at table.NetworkPoint 8 (jumper_row p (record state { hand = hand })) ≡ Ok p.jumper
+    mark None = flag_back table.NetworkPoint p.jumper
+    mark (Some c) = flag_back table.NetworkPoint p.jumper
+
+    at : (b : Bool) (flag : Result Bool TableName) → flag ≡ Ok p.jumper
+        → (cond b (Ok (marked false (point_said p state))) (Err table.NetworkPoint) >>= λ q. flag >>= λ jumper. Ok (marked jumper q)) ≡ cond b (Ok (point_said p state)) (Err table.NetworkPoint)
+    at true flag is = rw is refl
+    at false flag is = refl
 
 -- ---- staff
 

@@ -1,5 +1,5 @@
 -- The tables of a register say all that is in it: each value of a row is one of a column.
-use Rattle.std.proofs.Common.{◌≡◌, ℕ, ◌+◌, Bool, true, false, nat_eq, List, [], ◌∷◌, map, Option, Some, None, refl, sym, ◌∙◌, ap}
+use Rattle.std.proofs.Common.{◌≡◌, ℕ, ◌+◌, Bool, true, false, nat_eq, List, [], ◌∷◌, ◌++◌, map, Option, Some, None, refl, sym, ◌∙◌, ap}
 use Rattle.std.specs.Prelude.{pos, unwrap_or}
 use Rattle.sqlite.specs.Order.{Row, column}
 use Rattle.sqlite.specs.declared.types.Value.{Value}
@@ -26,7 +26,7 @@ use Rattle.clr_rules.specs.declared.record.Record.{Record}
 use Rattle.clr_rules.specs.declared.step_row.StepRow.{StepRow}
 use Rattle.clr_tables.specs.RowsRead.{position_if}
 use Rattle.clr_tables.specs.TableLaws.{GoodAreToldByTables, SameTablesSameRegister, StatesAreThePoints}
-use Rattle.clr_tables.specs.Tables.{Tables, clearance_row, flag_value, hand_values, hold_row, name_or_null, point_row, position_value, section_row, staff_row, state_at, step_row, tables_of}
+use Rattle.clr_tables.specs.Tables.{Tables, clearance_row, flag_value, hand_values, hold_row, jumper_row, name_or_null, position_value, section_row, staff_row, state_at, step_row, tables_of}
 use Rattle.clr_tables.specs.Words.{action_named, role_worded, state_named}
 use Rattle.clr_tables.proofs.ColumnsRead.{action_back, kind_back, phase_back, role_back, state_back}
 use Rattle.clr_tables.proofs.PointStates.{state_from, states_back}
@@ -70,9 +70,14 @@ name_said : (o : Option (List ℕ)) → name_in (name_or_null o) ≡ o
 name_said None = refl
 name_said (Some name) = refl
 
-hand_said : (hand : Option Id) → hand_in (column (hand_values hand) 0) (column (hand_values hand) 1) ≡ hand
-hand_said None = refl
-hand_said (Some c) = refl
+-- with more behind it
+hand_said : (hand : Option Id) (more : Row) → hand_in (column (hand_values hand ++ more) 0) (column (hand_values hand ++ more) 1) ≡ hand
+hand_said None more = refl
+hand_said (Some c) more = refl
+
+mark_said : (hand : Option Id) (jumper : Bool) → flag_in (column (hand_values hand ++ flag_value jumper ∷ []) 2) ≡ jumper
+mark_said None jumper = flag_said jumper
+mark_said (Some c) jumper = flag_said jumper
 
 -- ---- rows
 
@@ -90,17 +95,26 @@ point_in row = record {
   lockable = flag_in (column row 3);
   remote = flag_in (column row 4);
   position = Opened;
+  jumper = flag_in (column row 8);
 }
 
-point_said : (p : PointRow) (state : PointState) → point_in (point_row p state) ≡ unplaced p
+point_said : (p : PointRow) (state : PointState) → point_in (jumper_row p state) ≡ unplaced p
 point_said p state i =
-    record { name = p.name; from_end = p.from_end; to_end = p.to_end; lockable = flag_said p.lockable i; remote = flag_said p.remote i; position = Opened }
+    record {
+      name = p.name;
+      from_end = p.from_end;
+      to_end = p.to_end;
+      lockable = flag_said p.lockable i;
+      remote = flag_said p.remote i;
+      position = Opened;
+      jumper = mark_said state.hand p.jumper i;
+    }
 
 abbrev state_in : Row → PointState
 state_in row = record { point = text_in (column row 0); position = position_in (column row 5); hand = hand_in (column row 6) (column row 7) }
 
-state_said : (p : PointRow) (state : PointState) → state_in (point_row p state) ≡ record { point = p.name; position = state.position; hand = state.hand }
-state_said p state i = record { point = p.name; position = position_said state.position i; hand = hand_said state.hand i }
+state_said : (p : PointRow) (state : PointState) → state_in (jumper_row p state) ≡ record { point = p.name; position = state.position; hand = state.hand }
+state_said p state i = record { point = p.name; position = position_said state.position i; hand = hand_said state.hand (flag_value p.jumper ∷ []) i }
 
 abbrev employee_in : Row → StaffRow
 employee_in row = record {
@@ -179,7 +193,7 @@ mapped_back g f same (x ∷ xs) = λ i. same x i ∷ mapped_back g f same xs i
 
 pub register_said : (R : Register) → StatesAreThePoints R → ListsAreInOrder R → NetworkIsUnplaced R → register_in (tables_of R) ≡ R
 register_said R known ordered placed =
-    let row_of = λ (p : PointRow). point_row p (state_at R.states p) in
+    let row_of = λ (p : PointRow). jumper_row p (state_at R.states p) in
     let sections = mapped_back section_in section_row section_said (Grid.sections R.net) in
     let points = mapped_to point_in row_of unplaced (λ p. point_said p (state_at R.states p)) (Grid.points R.net) ∙ ap Grid.points placed in
     let staff = mapped_back employee_in staff_row employee_said R.staff in

@@ -9,7 +9,9 @@ use Rattle.std.proofs.lemmas.List.{map-append}
 use Rattle.sqlite.specs.Order.{row_cmp, value_cmp}
 use Rattle.sqlite.specs.declared.types.Value.TheVariants.{Text}
 use Rattle.sqlite_value.proofs.OrderLemmas.{value_cmp-Int, value_cmp-Text}
+use Rattle.clr_net.specs.Additions.{with_named}
 use Rattle.clr_net.specs.Name.{name_cmp}
+use Rattle.clr_net.specs.declared.section.SectionRow.{SectionRow}
 use Rattle.clr_shelf.specs.Rows.{with_row, without_row}
 use Rattle.clr_rules.specs.Hold.{hold_cmp}
 use Rattle.clr_rules.specs.HoldKind.{hold_kind_text}
@@ -20,8 +22,9 @@ use Rattle.clr_rules.specs.StepKey.{step_key, step_key_cmp}
 use Rattle.clr_rules.specs.declared.hold.Hold.{Hold}
 use Rattle.clr_rules.specs.declared.record.Record.{Record}
 use Rattle.clr_rules.specs.declared.step_row.StepRow.{StepRow}
+use Rattle.clr_rules.proofs.edits.Growing.{named_is_put}
 use Rattle.clr_tables.specs.TableEdits.{with_table_row, without_table_row}
-use Rattle.clr_tables.specs.Tables.{clearance_row, hold_row, number_value, step_row}
+use Rattle.clr_tables.specs.Tables.{clearance_row, hold_row, number_value, section_row, step_row}
 
 -- ---- rows mapped
 
@@ -110,3 +113,8 @@ hold_put h holds = map-with_row hold_cmp hold_key row_cmp (take 4) hold_row h (�
 
 pub hold_taken : (h : Hold) (holds : List Hold) → map hold_row (without_row hold_cmp hold_key h holds) ≡ without_table_row 4 (hold_row h) (map hold_row holds)
 hold_taken h holds = map-without_row hold_cmp hold_key row_cmp (take 4) hold_row h (hold_row h) (λ other. hold_row_cmp other h) holds
+
+pub section_put : (row : SectionRow) (sections : List SectionRow) → map section_row (with_named (λ other. other.name) row sections) ≡ with_table_row 1 (section_row row) (map section_row sections)
+section_put row sections =
+    let name_of = λ (other : SectionRow). other.name in
+    ap (map section_row) (named_is_put name_of row sections) ∙ map-with_row name_cmp name_of row_cmp (take 1) section_row row (λ other. name_row_cmp other.name row.name) sections

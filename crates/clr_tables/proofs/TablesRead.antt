@@ -11,7 +11,7 @@ use Rattle.clr_rules.specs.Register.{Register}
 use Rattle.clr_rules.specs.declared.point_state.PointState.{PointState}
 use Rattle.clr_tables.specs.RowsRead.{PointRead, Rows, all_read, with_its_position, read_clearance, read_hold, read_point, read_section, read_staff, read_step, read_version, rows_by, rows_of, rows_read}
 use Rattle.clr_tables.specs.TableLaws.{StatesAreThePoints, TablesAreRead, TablesReadAsNoOthers}
-use Rattle.clr_tables.specs.Tables.{clearance_row, hold_row, point_row, section_row, staff_row, state_at, step_row, tables_of}
+use Rattle.clr_tables.specs.Tables.{clearance_row, hold_row, jumper_row, section_row, staff_row, state_at, step_row, tables_of}
 use Rattle.clr_tables.specs.TypedRows.{IsTyped, is_id_or_none, is_typed_employee, is_typed_hold, is_typed_point, is_typed_record, is_typed_section, is_typed_state, is_typed_step}
 use Rattle.clr_tables.specs.declared.table_name.TableName.{TableName}
 use Rattle.clr_tables.specs.declared.table_name.TableName.TheVariants as table
@@ -35,9 +35,9 @@ module _ (R : Register) (known : StatesAreThePoints R) (ordered : ListsAreInOrde
   abbrev typed : PointRow → Bool
   typed p = is_typed_point p && is_id_or_none (PointState.hand (state_at R.states p))
 
-  points_read : all_read read_point (map (λ p. point_row p (state_at R.states p)) (Grid.points R.net))
-      ≡ cond (list_all typed (Grid.points R.net)) (Ok (map said (Grid.points R.net))) (Err table.Point)
-  points_read = all_back read_point (λ p. point_row p (state_at R.states p)) said typed table.Point (λ p. point_reads p (state_at R.states p)) (Grid.points R.net)
+  points_read : all_read read_point (map (λ p. jumper_row p (state_at R.states p)) (Grid.points R.net))
+      ≡ cond (list_all typed (Grid.points R.net)) (Ok (map said (Grid.points R.net))) (Err table.NetworkPoint)
+  points_read = all_back read_point (λ p. jumper_row p (state_at R.states p)) said typed table.NetworkPoint (λ p. point_reads p (state_at R.states p)) (Grid.points R.net)
 
   points_are : map (λ (p : PointRead). p.point) (map said (Grid.points R.net)) ≡ map (with_its_position R.states) (Grid.points R.net)
   points_are = map-map (λ (p : PointRead). p.point) said (Grid.points R.net)
@@ -48,7 +48,7 @@ module _ (R : Register) (known : StatesAreThePoints R) (ordered : ListsAreInOrde
   -- what is read, when each table reads
   abbrev found : Rows
   found = record {
-    version = pos 1;
+    version = pos 2;
     sections = R.net.sections;
     points = map (λ (p : PointRead). p.point) (map said (Grid.points R.net));
     states = map (λ (p : PointRead). p.state) (map said (Grid.points R.net));
@@ -60,7 +60,7 @@ module _ (R : Register) (known : StatesAreThePoints R) (ordered : ListsAreInOrde
 
   found_rows : found ≡ rows_of R
   found_rows i = record {
-    version = pos 1;
+    version = pos 2;
     sections = R.net.sections;
     points = points_are i;
     states = states_are i;
@@ -72,13 +72,13 @@ module _ (R : Register) (known : StatesAreThePoints R) (ordered : ListsAreInOrde
 
   -- the rows, or a fault, by which tables read
   read_by : (a : Bool) → all_read read_section (map section_row (Grid.sections R.net)) ≡ cond a (Ok (Grid.sections R.net)) (Err table.Section)
-      → (b : Bool) → all_read read_point (map (λ p. point_row p (state_at R.states p)) (Grid.points R.net)) ≡ cond b (Ok (map said (Grid.points R.net))) (Err table.Point)
+      → (b : Bool) → all_read read_point (map (λ p. jumper_row p (state_at R.states p)) (Grid.points R.net)) ≡ cond b (Ok (map said (Grid.points R.net))) (Err table.NetworkPoint)
       → (c : Bool) → all_read read_staff (map staff_row R.staff) ≡ cond c (Ok R.staff) (Err table.Staff)
       → (d : Bool) → all_read read_clearance (map clearance_row R.records) ≡ cond d (Ok R.records) (Err table.Clearance)
       → (e : Bool) → all_read read_step (map step_row R.steps) ≡ cond e (Ok R.steps) (Err table.Step)
       → (f : Bool) → all_read read_hold (map hold_row R.holds) ≡ cond f (Ok R.holds) (Err table.Hold)
       → rows_read (tables_of R)
-      ≡ cond a (cond b (cond c (cond d (cond e (cond f (Ok found) (Err table.Hold)) (Err table.Step)) (Err table.Clearance)) (Err table.Staff)) (Err table.Point)) (Err table.Section)
+      ≡ cond a (cond b (cond c (cond d (cond e (cond f (Ok found) (Err table.Hold)) (Err table.Step)) (Err table.Clearance)) (Err table.Staff)) (Err table.NetworkPoint)) (Err table.Section)
   unfolding rows_by read_version
   read_by false g b h c k d l e m f n = rw g refl
   read_by true g false h c k d l e m f n = rw (g, h) refl
@@ -91,7 +91,7 @@ module _ (R : Register) (known : StatesAreThePoints R) (ordered : ListsAreInOrde
   read_is : rows_read (tables_of R)
       ≡ cond (list_all is_typed_section (Grid.sections R.net)) (cond (list_all typed (Grid.points R.net)) (cond (list_all is_typed_employee R.staff)
       (cond (list_all is_typed_record R.records) (cond (list_all is_typed_step R.steps) (cond (list_all is_typed_hold R.holds) (Ok found) (Err table.Hold)) (Err table.Step))
-      (Err table.Clearance)) (Err table.Staff)) (Err table.Point)) (Err table.Section)
+      (Err table.Clearance)) (Err table.Staff)) (Err table.NetworkPoint)) (Err table.Section)
   read_is = read_by
       (list_all is_typed_section (Grid.sections R.net)) (whole read_section section_row is_typed_section table.Section section_reads (Grid.sections R.net))
       (list_all typed (Grid.points R.net)) points_read
@@ -108,7 +108,7 @@ module _ (R : Register) (known : StatesAreThePoints R) (ordered : ListsAreInOrde
   rows_back is = read_is ∙ rw (is.sections, points_typed is, is.staff, is.records, is.steps, is.holds) (ap Ok found_rows)
 
   no_others : (rows : Rows) → (a b c d e f : Bool)
-      → Ok rows ≡ cond a (cond b (cond c (cond d (cond e (cond f (Ok found) (Err table.Hold)) (Err table.Step)) (Err table.Clearance)) (Err table.Staff)) (Err table.Point)) (Err table.Section)
+      → Ok rows ≡ cond a (cond b (cond c (cond d (cond e (cond f (Ok found) (Err table.Hold)) (Err table.Step)) (Err table.Clearance)) (Err table.Staff)) (Err table.NetworkPoint)) (Err table.Section)
       → rows ≡ rows_of R
   no_others rows false b c d e f is = cc
   no_others rows true false c d e f is = cc

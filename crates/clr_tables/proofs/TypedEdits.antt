@@ -9,6 +9,7 @@ use Rattle.std.proofs.lemmas.Cmp.{nat_list_cmp_total}
 use Rattle.std.proofs.lemmas.List.Sums.{AllPass-from_list_all, list_all-from_AllPass}
 use Rattle.clr_net.specs.Name.{is_name, name_cmp}
 use Rattle.clr_net.specs.declared.point.PointRow.{PointRow}
+use Rattle.clr_net.specs.declared.section.SectionRow.{SectionRow}
 use Rattle.clr_order.specs.Step.{Task}
 use Rattle.clr_order.specs.declared.action.Action.{Action}
 use Rattle.clr_order.specs.declared.action.Action.TheVariants as actions
@@ -20,7 +21,7 @@ use Rattle.clr_shelf.proofs.Members.{member-row_of}
 use Rattle.clr_shelf.specs.Rows.{with_row, without_row}
 use Rattle.clr_rules.specs.Answer.{Answer, known_of, answer_by_checks}
 use Rattle.clr_rules.specs.Commands.{checks, edits_of}
-use Rattle.clr_rules.specs.Changes.{done_edits, step_moved, new_steps, phase_after, point_edits, put_steps, undone_edits}
+use Rattle.clr_rules.specs.Changes.{done_edits, jumper_row, new_section, step_moved, new_steps, phase_after, point_edits, put_steps, undone_edits}
 use Rattle.clr_rules.specs.Checks.{too_many_clearances, unsound_order}
 use Rattle.clr_rules.specs.EditLaws.{refusal_of}
 use Rattle.clr_rules.specs.Edits.{after_edit, after_edits}
@@ -30,12 +31,13 @@ use Rattle.clr_rules.specs.Id.{Id, id_cmp, id_cmp_total, is_clearance_number, is
 use Rattle.clr_rules.specs.Moment.{is_moment}
 use Rattle.clr_rules.specs.Records.{greatest_number, is_switch_order, record_key, record_of}
 use Rattle.clr_rules.specs.Register.{Register, first_state}
-use Rattle.clr_net.specs.Grid.{unplaced}
+use Rattle.clr_net.specs.Grid.{Grid, section_names, unplaced}
+use Rattle.clr_net.specs.Names.{has_name}
 use Rattle.clr_rules.specs.StepKey.{step_key, step_key_cmp, step_key_cmp_total}
 use Rattle.clr_rules.specs.Steps.{present_steps, step_at}
 use Rattle.clr_rules.specs.States.{change_state, changed_state, state_key, state_of}
 use Rattle.clr_rules.specs.declared.change.Edit.{Edit}
-use Rattle.clr_rules.specs.declared.change.Edit.TheVariants.{SetPosition, SetHand, PutHold, TakeHold, PutRecord, PutStep}
+use Rattle.clr_rules.specs.declared.change.Edit.TheVariants.{SetPosition, SetHand, PutHold, TakeHold, PutRecord, PutStep, AddSection, AddPoint}
 use Rattle.clr_rules.specs.declared.command.Kind.{Kind}
 use Rattle.clr_rules.specs.declared.command.Kind.TheVariants as kinds
 use Rattle.clr_rules.specs.declared.hold_kind.HoldKind.TheVariants.{Tested}
@@ -46,6 +48,7 @@ use Rattle.clr_rules.specs.declared.record.Record.{Record}
 use Rattle.clr_rules.specs.declared.refusal.Refusal.{Refusal}
 use Rattle.clr_rules.specs.declared.refusal.Refusal.TheVariants.{TooManyClearances}
 use Rattle.clr_rules.specs.declared.step_row.StepRow.{StepRow}
+use Rattle.clr_rules.proofs.edits.Growing.{named_is_put}
 use Rattle.clr_rules.proofs.edits.Passing.{Pass, all_pass, not_refused}
 use Rattle.clr_rules.proofs.edits.PutRows.{by_record, by_step}
 use Rattle.clr_rules.proofs.good.Keeping.{asked}
@@ -55,7 +58,7 @@ use Rattle.clr_rules.proofs.lists.FoundSteps.{present_step}
 use Rattle.clr_rules.proofs.lists.Greatest.{greatest_is_greatest}
 use Rattle.clr_rules.proofs.lists.RoundSteps.{record_id}
 use Rattle.clr_tables.specs.TableLaws.{CommandsKeepTyped, OpeningsAreTyped}
-use Rattle.clr_tables.specs.TypedRows.{IsTyped, is_id_or_none, is_name_or_none, is_typed_hold, is_typed_kind, is_typed_point, is_typed_record, is_typed_state, is_typed_step, is_typed_task}
+use Rattle.clr_tables.specs.TypedRows.{IsTyped, is_id_or_none, is_name_or_none, is_typed_hold, is_typed_kind, is_typed_point, is_typed_record, is_typed_section, is_typed_state, is_typed_step, is_typed_task}
 
 -- ---- edits
 
@@ -67,6 +70,8 @@ IsTypedEdit (PutHold h) = is_typed_hold h ≡ true
 IsTypedEdit (TakeHold h) = Unit {0}
 IsTypedEdit (PutRecord r) = is_typed_record r ≡ true
 IsTypedEdit (PutStep row) = is_typed_step row ≡ true
+IsTypedEdit (AddSection row) = is_typed_section row ≡ true
+IsTypedEdit (AddPoint p) = is_typed_point p ≡ true
 
 abbrev AllTyped : List Edit → Type 0
 AllTyped [] = Unit {0}
@@ -148,6 +153,32 @@ edited_typed (PutStep row) R is typed = record {
   steps = put_typed step_key_cmp step_key step_key_cmp_total is_typed_step row R.steps is typed.steps;
   holds = typed.holds;
 }
+edited_typed (AddSection row) R is typed =
+    let name_of = λ (other : SectionRow). other.name in
+    record {
+      sections =
+          ap (list_all is_typed_section) (named_is_put name_of row (Grid.sections R.net))
+          ∙ put_typed name_cmp name_of nat_list_cmp_total is_typed_section row (Grid.sections R.net) is typed.sections;
+      points = typed.points;
+      states = typed.states;
+      staff = typed.staff;
+      records = typed.records;
+      steps = typed.steps;
+      holds = typed.holds;
+    }
+edited_typed (AddPoint p) R is typed =
+    let name_of = λ (other : PointRow). other.name in
+    record {
+      sections = typed.sections;
+      points =
+          ap (list_all is_typed_point) (named_is_put name_of (unplaced p) (Grid.points R.net))
+          ∙ put_typed name_cmp name_of nat_list_cmp_total is_typed_point (unplaced p) (Grid.points R.net) is typed.points;
+      states = put_typed name_cmp state_key nat_list_cmp_total is_typed_state (first_state (unplaced p)) R.states refl typed.states;
+      staff = typed.staff;
+      records = typed.records;
+      steps = typed.steps;
+      holds = typed.holds;
+    }
 
 edited_all_typed : (edits : List Edit) (R : Register) → AllTyped edits → IsTyped R → IsTyped (after_edits edits R)
 unfolding after_edits
@@ -318,6 +349,15 @@ module _ (R : Register) (typed : IsTyped R) (by : List ℕ) (at : ℕ) (caller :
       let few = (switching_passed R tasks order_passes).steps_fit in
       (rw (id, caller, time) refl, new_typed _ 1 1 tasks id refl (omega arith) is)
   all_typed (kinds.Show c) is passed = tt
+  all_typed (kinds.Jumper point from to lockable remote) is passed = added_typed (has_name (section_names (Grid.sections R.net)) to)
+    where
+      ends : (is_name from ≡ true) × (is_name to ≡ true)
+      ends = and_parts (is_name from) (is_name to) (and_parts (is_name point) (is_name from && is_name to) is).1
+
+      added_typed : (b : Bool) → AllTyped (cond b (AddPoint (jumper_row point from to lockable remote) ∷ [])
+          (AddSection (new_section to) ∷ AddPoint (jumper_row point from to lockable remote) ∷ []))
+      added_typed true = (is, tt)
+      added_typed false = (ends.1, (is, tt))
   -- the record, behind holds that are taken
   all_typed _ is passed = by_record AllTyped tt R _ _ (λ r found. (put_back _ r r.phase found, tt))
 

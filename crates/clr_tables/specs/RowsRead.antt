@@ -22,7 +22,7 @@ use Rattle.clr_rules.specs.declared.hold.Hold.{Hold}
 use Rattle.clr_rules.specs.declared.point_state.PointState.{PointState}
 use Rattle.clr_rules.specs.declared.record.Record.{Record}
 use Rattle.clr_rules.specs.declared.step_row.StepRow.{StepRow}
-use Rattle.clr_tables.specs.Tables.{Tables, Version, state_at, version_one}
+use Rattle.clr_tables.specs.Tables.{Tables, Version, state_at, version_two}
 use Rattle.clr_tables.specs.Words.{action_named, role_worded, state_named}
 use Rattle.clr_tables.specs.declared.table_name.TableName.{TableName}
 use Rattle.clr_tables.specs.declared.table_name.TableName.TheVariants as table
@@ -102,14 +102,14 @@ id_at t place row = do
   ok_or (new_id requester number) t
 
 -- a hand: two NULLs, or a clearance
-abbrev pub id_unless_null : Value → Value → Row → Result (Option Id) TableName
-id_unless_null Null Null row = Ok None
-id_unless_null _ _ row = do
-  c ← id_at table.Point 6 row
+abbrev pub id_unless_null : TableName → Value → Value → Row → Result (Option Id) TableName
+id_unless_null t Null Null row = Ok None
+id_unless_null t _ _ row = do
+  c ← id_at t 6 row
   Ok (Some c)
 
-abbrev pub hand_at : Row → Result (Option Id) TableName
-hand_at row = id_unless_null (column row 6) (column row 7) row
+abbrev pub hand_at : TableName → Row → Result (Option Id) TableName
+hand_at t row = id_unless_null t (column row 6) (column row 7) row
 
 -- ---- rows
 
@@ -124,27 +124,38 @@ pub record PointRead : Type 0 where
   pub point : PointRow
   pub state : PointState
 
-unfoldable pub read_point : Row → Result PointRead TableName
-read_point row = do
-  name ← name_at table.Point 0 row
-  from_end ← name_at table.Point 1 row
-  to_end ← name_at table.Point 2 row
-  lockable ← flag_at table.Point 3 row
-  remote ← flag_at table.Point 4 row
-  position ← position_at table.Point 5 row
-  hand ← hand_at row
+-- the columns of version 1, in the table of this name. No point is a jumper there
+unfoldable pub read_placed : TableName → Row → Result PointRead TableName
+read_placed t row = do
+  name ← name_at t 0 row
+  from_end ← name_at t 1 row
+  to_end ← name_at t 2 row
+  lockable ← flag_at t 3 row
+  remote ← flag_at t 4 row
+  position ← position_at t 5 row
+  hand ← hand_at t row
   Ok (record {
     point = record {
       name = name;
       from_end = from_end;
       to_end = to_end;
-      lockable =
-          lockable;
+      lockable = lockable;
       remote = remote;
       position = position;
+      jumper = false;
     };
     state = record { point = name; position = position; hand = hand };
   })
+
+abbrev pub marked : Bool → PointRead → PointRead
+marked jumper p = record p { point = record (PointRead.point p) { jumper = jumper } }
+
+-- and whether it is a jumper
+unfoldable pub read_point : Row → Result PointRead TableName
+read_point row = do
+  p ← read_placed table.NetworkPoint row
+  jumper ← flag_at table.NetworkPoint 8 row
+  Ok (marked jumper p)
 
 unfoldable pub read_staff : Row → Result StaffRow TableName
 read_staff row = do
@@ -269,4 +280,4 @@ rows_of_version version R = record {
 }
 
 abbrev pub rows_of : Register → Rows
-rows_of R = rows_of_version version_one R
+rows_of R = rows_of_version version_two R

@@ -1,17 +1,22 @@
--- WHAT EDITS DO TO TABLES, of any content. To put a row is to replace the row of its key; all other
+-- WHAT EDITS AND A MOVE TO VERSION 2 DO TO TABLES, of any content. To put a row is to replace the row of its key; all other
 -- rows stay.
-use Rattle.std.specs.Prelude.{ℕ, if◌then◌else◌, List, [], ◌∷◌, map, take, slice_set, Option}
+use Rattle.std.specs.Prelude.{ℕ, false, if◌then◌else◌, List, [], ◌∷◌, ◌++◌, map, take, slice_set}
+use Rattle.std.specs.Prelude.{Option}
 use Rattle.std.specs.Ordering.{is_eq}
 use Rattle.sqlite.specs.Order.{Row, column, row_cmp}
 use Rattle.sqlite.specs.declared.types.Value.TheVariants.{Text}
+use Rattle.clr_net.specs.Grid.{unplaced}
+use Rattle.clr_net.specs.declared.point.PointRow.{PointRow}
 use Rattle.clr_net.specs.declared.point.Position.{Position}
 use Rattle.clr_shelf.specs.Rows.{with_row, without_row}
 use Rattle.clr_rules.specs.Id.{Id}
+use Rattle.clr_rules.specs.Register.{first_state}
 use Rattle.clr_rules.specs.declared.change.Edit.{Edit}
 use Rattle.clr_rules.specs.declared.change.Edit.TheVariants.{SetPosition, SetHand, PutHold}
 use Rattle.clr_rules.specs.declared.change.Edit.TheVariants.{TakeHold, PutRecord, PutStep}
-use Rattle.clr_tables.specs.Tables.{Tables, clearance_row, hand_values, hold_row, position_value}
-use Rattle.clr_tables.specs.Tables.{step_row}
+use Rattle.clr_rules.specs.declared.change.Edit.TheVariants.{AddSection, AddPoint}
+use Rattle.clr_tables.specs.Tables.{Tables, clearance_row, flag_value, hand_values, hold_row}
+use Rattle.clr_tables.specs.Tables.{jumper_row, position_value, section_row, step_row, version_row}
 
 -- a row put into a table whose key is its first columns, so many
 abbrev pub with_table_row : ℕ → Row → List Row → List Row
@@ -34,6 +39,10 @@ abbrev pub handed_row : Option Id → Row → Row
 handed_row hand row = slice_set (slice_set row 6 (column (hand_values hand) 0)) 7
     (column (hand_values hand) 1)
 
+-- the row of an added point: open and in nobody's hand, wherever its row says that it stands
+abbrev pub added_point : PointRow → Row
+added_point p = jumper_row p (first_state (unplaced p))
+
 abbrev pub table_edited : Edit → Tables → Tables
 table_edited (SetPosition point position) t =
     record t { points = changed_point point (placed_row position) t.points }
@@ -44,8 +53,19 @@ table_edited (TakeHold h) t = record t { holds = without_table_row 4 (hold_row h
 table_edited (PutRecord r) t =
     record t { clearances = with_table_row 2 (clearance_row r) t.clearances }
 table_edited (PutStep row) t = record t { steps = with_table_row 4 (step_row row) t.steps }
+table_edited (AddSection row) t =
+    record t { sections = with_table_row 1 (section_row row) t.sections }
+table_edited (AddPoint p) t = record t { points = with_table_row 1 (added_point p) t.points }
 
 -- the edits, one after the other
 unfoldable pub tables_edited : List Edit → Tables → Tables
 tables_edited [] t = t
 tables_edited (edit ∷ edits) t = tables_edited edits (table_edited edit t)
+
+-- TABLES OF VERSION 1 MOVED TO VERSION 2: the version is told anew, and each point gets a column
+-- more, by which it is no jumper
+abbrev pub tables_moved : Tables → Tables
+tables_moved t = record t {
+  meta = with_table_row 1 (version_row 2) t.meta;
+  points = map (λ row. row ++ flag_value false ∷ []) t.points;
+}

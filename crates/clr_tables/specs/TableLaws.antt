@@ -1,5 +1,5 @@
 -- The tables of a register as laws: edits change them as they change the register.
-use Rattle.std.specs.Prelude.{◌≡◌, IsTrue, List, map, Ok}
+use Rattle.std.specs.Prelude.{◌≡◌, IsTrue, List, map, not, Ok}
 use Rattle.std.specs.List.{list_all}
 use Rattle.clr_net.specs.Grid.{Grid, point_names}
 use Rattle.clr_csv.specs.declared.employee.StaffRow.{StaffRow}
@@ -11,8 +11,8 @@ use Rattle.clr_rules.specs.States.{state_key}
 use Rattle.clr_rules.specs.declared.change.Edit.{Edit}
 use Rattle.clr_rules.specs.declared.command.Command.{Command}
 use Rattle.clr_tables.specs.RowsRead.{Rows, rows_of, rows_read}
-use Rattle.clr_tables.specs.TableEdits.{tables_edited}
-use Rattle.clr_tables.specs.Tables.{tables_of}
+use Rattle.clr_tables.specs.TableEdits.{tables_edited, tables_moved}
+use Rattle.clr_tables.specs.Tables.{tables_by, tables_of, version_one}
 use Rattle.clr_tables.specs.TypedRows.{IsTyped, is_typed_command, is_typed_employee, is_typed_point}
 use Rattle.clr_tables.specs.TypedRows.{is_typed_section}
 
@@ -56,6 +56,15 @@ CommandsKeepTyped = (R : Register) (q : Command) → IsTyped R → IsTrue (is_ty
 abbrev pub TablesReadAsNoOthers : Type 0
 TablesReadAsNoOthers = (R : Register) (rows : Rows) → StatesAreThePoints R → ListsAreInOrder R
     → rows_read (tables_of R) ≡ Ok rows → rows ≡ rows_of R
+
+-- no point of the network is a jumper, as in every register that was kept in version 1
+abbrev pub HasNoJumper : Register → Type 0
+HasNoJumper R = IsTrue (list_all (λ p. not p.jumper) (Grid.points R.net))
+
+-- THE TABLES OF VERSION 1, MOVED, are the tables of the register
+abbrev pub TablesAreMoved : Type 0
+TablesAreMoved = (R : Register) → HasNoJumper R
+    → tables_moved (tables_by version_one R) ≡ tables_of R
 
 -- THE TABLES OF THE EDITED REGISTER are the edited tables
 abbrev pub TablesFollowEdits : Type 0

@@ -26,7 +26,8 @@ pub record Tables : Type 0 where
   pub meta : List Row
   -- name; source
   pub sections : List Row
-  -- name; from_end, to_end, lockable, remote, position, hand_requester, hand_number
+  -- name; from_end, to_end, lockable, remote, position, hand_requester, hand_number; in version 2
+  -- jumper
   pub points : List Row
   -- name; role, supervisor
   pub staff : List Row
@@ -74,6 +75,10 @@ point_row p state =
     Text p.name ∷ Text p.from_end ∷ Text p.to_end ∷ flag_value p.lockable ∷ flag_value p.remote
     ∷ position_value state.position ∷ hand_values state.hand
 
+-- the same, with whether it is a jumper
+abbrev pub jumper_row : PointRow → PointState → Row
+jumper_row p state = point_row p state ++ flag_value p.jumper ∷ []
+
 abbrev pub staff_row : StaffRow → Row
 staff_row e = Text e.name ∷ Text (role_word e.role) ∷ name_or_null e.supervisor ∷ []
 
@@ -101,6 +106,9 @@ pub record Version : Type 0 where
 abbrev pub version_one : Version
 version_one = record { number = 1; of_point = point_row }
 
+abbrev pub version_two : Version
+version_two = record { number = 2; of_point = jumper_row }
+
 -- how a point stands. One without a state, which no register that is reached has, stands as before
 -- the first command
 abbrev pub state_at : List PointState → PointRow → PointState
@@ -119,4 +127,4 @@ tables_by version R = record {
 
 -- the tables of a register, in the version that is written today
 abbrev pub tables_of : Register → Tables
-tables_of R = tables_by version_one R
+tables_of R = tables_by version_two R

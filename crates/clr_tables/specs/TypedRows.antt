@@ -17,6 +17,7 @@ use Rattle.clr_rules.specs.declared.command.Kind.TheVariants.{Request, Order, In
 use Rattle.clr_rules.specs.declared.command.Kind.TheVariants.{Report, Grant, Test, Ground, Unground}
 use Rattle.clr_rules.specs.declared.command.Kind.TheVariants.{SignOn, SignOff, Transfer, Release}
 use Rattle.clr_rules.specs.declared.command.Kind.TheVariants.{Cancel, Restore, Amend, Switch, Show}
+use Rattle.clr_rules.specs.declared.command.Kind.TheVariants.{Jumper}
 use Rattle.clr_rules.specs.declared.hold.Hold.{Hold}
 use Rattle.clr_rules.specs.declared.point_state.PointState.{PointState}
 use Rattle.clr_rules.specs.declared.record.Record.{Record}
@@ -80,6 +81,8 @@ is_typed_kind (Restore c tasks) = is_id c && list_all is_typed_task tasks
 is_typed_kind (Amend c n) = is_id c
 is_typed_kind (Switch tasks) = list_all is_typed_task tasks
 is_typed_kind (Show c) = is_id c
+is_typed_kind (Jumper point from to lockable remote) =
+    is_name point && (is_name from && is_name to)
 
 abbrev pub is_typed_command : Command → Bool
 is_typed_command q = is_name q.caller && (is_moment q.moment && is_typed_kind q.kind)

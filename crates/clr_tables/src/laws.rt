@@ -1,7 +1,8 @@
 //! Laws of the definitions: the contract of each function is the law, and its body is empty.
 ghost use Rattle.clr_tables.specs.TableLaws.{CommandsKeepTyped, GoodAreToldByTables};
 ghost use Rattle.clr_tables.specs.TableLaws.{OpeningsAreTyped, SameTablesSameRegister, TablesAreRead};
-ghost use Rattle.clr_tables.specs.TableLaws.{TablesFollowEdits, TablesReadAsNoOthers};
+ghost use Rattle.clr_tables.specs.TableLaws.{TablesAreMoved, TablesFollowEdits};
+ghost use Rattle.clr_tables.specs.TableLaws.{TablesReadAsNoOthers};
 
 /// Registers that have the same tables are the same, where the states are those of the points, the
 /// lists are in order and the network has no positions, as in every good register.
@@ -19,6 +20,11 @@ pub fn tables_follow_edits()
 pub fn tables_are_read()
     ensures rows { TablesAreRead }
     ensures no_others { TablesReadAsNoOthers }
+{}
+
+/// The tables of version 1 of a register without a jumper, moved, are the tables of the register.
+pub fn tables_are_moved()
+    ensures { TablesAreMoved }
 {}
 
 /// In an opening register of rows within their types each value is of its type, and it stays so

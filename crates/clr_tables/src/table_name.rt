@@ -10,13 +10,15 @@ pub enum TableName {
     /// What the tables say of themselves: their version.
     Meta,
     Section,
-    /// The switching points, with their present positions and hands.
+    /// The switching points of version 1, with their present positions and hands.
     Point,
     Staff,
     /// The records of clearances and switch orders.
     Clearance,
     Step,
     Hold,
+    /// The switching points of version 2: as in version 1, and whether each is a jumper.
+    NetworkPoint,
 }
 
 impl TableName {
@@ -32,6 +34,7 @@ impl TableName {
             TableName::Clearance => "clearance",
             TableName::Step => "step",
             TableName::Hold => "hold",
+            TableName::NetworkPoint => "network_point",
         }
     }
 }

@@ -1,8 +1,11 @@
-use Rattle.std.proofs.Common.{◌≡◌, rules}
+use Rattle.std.proofs.Common.{◌≡◌, Err, refl, rules, subst, sym}
+use Rattle.std.specs.Prelude.{MatchResult}
 use Rattle.sqlite.specs.Held.{state}
 use Rattle.sqlite.specs.State.{KeepsCommit}
 use Rattle.clr_load.specs.Cause.{SqlHasCause, fault_of}
-use Rattle.clr_load.specs.Found.{Fails}
+use Rattle.clr_load.specs.Found.{Fails, Finds}
+use Rattle.clr_load.specs.Layout.{has_table}
+use Rattle.clr_load.specs.Stored.{rows_in}
 use Rattle.clr_load.specs.declared.fault.StoreFault.{StoreFault}
 use Rattle.clr_load.proofs.Causes.{list_cause, meta_cause, told_of_database}
 use Rattle.clr_load.proofs.Loading.{listed, query_keeps}
@@ -14,11 +17,13 @@ returns-in_err-rows-clause-step g c clean inside =
     let new = state g.S.Store c.query_all.new.self.conn.now in
     let failed = rw c.select_sql.ensures at (c.in_err-rows.ensures.err clean) in
     let kept : KeepsCommit old new = query_keeps _ _ old new _ failed in
-    let fails : (fault : StoreFault) → fault ≡ fault_of c.in_err-rows.field-0.0 → Fails old new fault = λ fault is. record {
+    let fails : (fault : StoreFault) → fault ≡ fault_of c.in_err-rows.field-0.0 → Fails old new (λ l. has_table l c.args.table) fault = λ fault is. record {
       kept = kept;
-      cause = λ l t has ordered. list_cause l c.args.table old new _ fault has.schema inside is failed;
+      cause = λ l there t has ordered. list_cause l c.args.table there old new _ fault has.schema inside is failed;
     } in
-    search rules
+    let told : c.from_residual.result ≡ Err (fault_of c.in_err-rows.field-0.0) = search rules in
+    subst (λ r. MatchResult r (λ rows. Finds old new (λ l. has_table l c.args.table) (λ l t. rows_in l c.args.table t) rows.items) (Fails old new (λ l. has_table l c.args.table)))
+    (sym told) (fails _ refl)
 
 pub returns-in_err-rows-clause-cause : goal.returns-in_err-rows-clause-cause
 returns-in_err-rows-clause-cause g c clean inside table meta has =

@@ -18,7 +18,7 @@ returns-in_err-rows-clause-rows g c clean t has =
     let late : HasCleanDisk (state g.S.Store end) = search rules in
     let early : HasCleanDisk (state g.S.Store mid) = omega (arith, c.drop-tx-in_err-rows.ensures.survives.clean) in
     let found = rw begun at (c.in_ok-listed.ensures.step early (rw begun refl)) in
-    let same : tables_in c.in_ok-listed.listed ≡ t = (found.found_is has.layout t has.holds has.in_order).0 in
+    let same : tables_in c.in_ok-listed.listed ≡ t = (found.found_is has.layout has.two t has.here.holds has.here.in_order).0 in
     let told : c.from_residual-in_err-rows.result ≡ Err c.in_err-rows.field-0.0 = search rules in
     subst (GivesRows (rows_read t)) (sym told)
     (subst (λ (u : Tables). GivesRows (rows_read u) (Err c.in_err-rows.field-0.0)) same (yields_gives _ (Err c.in_err-rows.field-0.0) c.in_err-rows.ensures))
@@ -39,7 +39,7 @@ returns-in_err-listed-clause-cause g c out clean t has =
     let early : HasCleanDisk (state g.S.Store mid) = omega (arith, c.drop-tx.ensures.survives.clean) in
     let failed = rw begun at (c.in_err-listed.ensures.step early (rw begun refl)) in
     let caused : SqlHasCause (state g.S.Store c.args.conn.now) (state g.S.Store end) c.in_err-listed.field-0.0 =
-    cause_later _ (state g.S.Store mid) _ _ _ c.drop-tx.ensures.survives (begun_cause g.S.Store c.args.conn.now (state g.S.Store mid) _ (failed.cause has.layout t has.holds has.in_order)) in
+    cause_later _ (state g.S.Store mid) _ _ _ c.drop-tx.ensures.survives (begun_cause g.S.Store c.args.conn.now (state g.S.Store mid) _ (failed.cause has.layout has.two t has.here.holds has.here.in_order)) in
     search rules
 
 pub returns-clause-rows : goal.returns-clause-rows
@@ -50,7 +50,7 @@ returns-clause-rows g c clean t has =
     let late : HasCleanDisk (state g.S.Store end) = search rules in
     let early : HasCleanDisk (state g.S.Store mid) = omega (arith, c.drop-tx-2.ensures.survives.clean) in
     let found = rw begun at (c.in_ok-listed.ensures.step early (rw begun refl)) in
-    let same : tables_in c.in_ok-listed.listed ≡ t = (found.found_is has.layout t has.holds has.in_order).0 in
+    let same : tables_in c.in_ok-listed.listed ≡ t = (found.found_is has.layout has.two t has.here.holds has.here.in_order).0 in
     sym (ap rows_read same) ∙ c.in_ok-rows.ensures
 
 pub returns-in_err-rows-clause-was_open : goal.returns-in_err-rows-clause-was_open

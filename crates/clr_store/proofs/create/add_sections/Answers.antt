@@ -25,7 +25,7 @@ loop-section-preserved g c =
           let early : HasCleanDisk mid = omega (arith, c.add_section.ensures.survives.clean) in
           let before = c.loop-section.invariant.changes early inside in
           let step = c.in_ok-add_section.ensures.step clean before.inside in
-          one_more_of old new Section section_row c.args.sections.now c.loop-section.section-index c.section-item.result c.loop-section-test.true c.section-item.is (then_changes old mid new _ _ before step);
+          one_more_of old new Section section_row c.args.sections.now c.loop-section.section-index c.section-item.result refl c.loop-section-test.true c.section-item.is (then_changes old mid new _ _ before step);
     }
 
 pub returns-clause-step : goal.returns-clause-step

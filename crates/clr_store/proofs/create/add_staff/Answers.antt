@@ -25,7 +25,7 @@ loop-employee-preserved g c =
           let early : HasCleanDisk mid = omega (arith, c.add_employee.ensures.survives.clean) in
           let before = c.loop-employee.invariant.changes early inside in
           let step = c.in_ok-add_employee.ensures.step clean before.inside in
-          one_more_of old new Staff staff_row c.args.staff.now c.loop-employee.employee-index c.employee-item.result c.loop-employee-test.true c.employee-item.is (then_changes old mid new _ _ before step);
+          one_more_of old new Staff staff_row c.args.staff.now c.loop-employee.employee-index c.employee-item.result refl c.loop-employee-test.true c.employee-item.is (then_changes old mid new _ _ before step);
     }
 
 pub returns-clause-step : goal.returns-clause-step

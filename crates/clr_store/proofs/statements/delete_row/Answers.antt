@@ -9,8 +9,8 @@ use Rattle.clr_store.proofs.statements.delete_row.Goals as goal
 
 pub returns-clause-step : goal.returns-clause-step
 returns-clause-step g c clean inside =
-    let parts = key_parts (keys_in c.args.table) (bound c.args.key.now) c.requires in
-    removes (state g.S.Store c.args.tx.now.conn.now) (state g.S.Store c.execute.new.self.conn.now) c.args.table (bound c.args.key.now) c.in_ok-execute.field-0 parts.0 parts.1
+    let parts = key_parts (keys_in c.args.table) (bound c.args.key.now) c.requires.keyed in
+    removes (state g.S.Store c.args.tx.now.conn.now) (state g.S.Store c.execute.new.self.conn.now) c.args.table (bound c.args.key.now) c.in_ok-execute.field-0 c.requires.there parts.0 parts.1
     (rw c.delete_sql.ensures at (c.in_ok-execute.ensures.runs clean inside))
 
 pub returns-in_err-execute-clause-fault : goal.returns-in_err-execute-clause-fault

@@ -7,7 +7,7 @@ use Rattle.clr_store.proofs.statements.insert_row.Goals as goal
 
 pub returns-clause-step : goal.returns-clause-step
 returns-clause-step g c clean inside =
-    adds (state g.S.Store c.args.tx.now.conn.now) (state g.S.Store c.execute.new.self.conn.now) c.args.table (bound c.args.row.now) c.in_ok-execute.field-0 c.requires
+    adds (state g.S.Store c.args.tx.now.conn.now) (state g.S.Store c.execute.new.self.conn.now) c.args.table (bound c.args.row.now) c.in_ok-execute.field-0 c.requires.there c.requires.fits
     (rw c.insert_sql.ensures at (c.in_ok-execute.ensures.runs clean inside))
 
 pub returns-in_err-execute-clause-fault : goal.returns-in_err-execute-clause-fault

@@ -19,7 +19,7 @@ returns-clause-made g c clean t has =
     let late : HasCleanDisk (state g.S.Store end) = search rules in
     let early : HasCleanDisk (state g.S.Store mid) = omega (arith, c.commit.ensures.survives.clean) in
     let changes = rw (begun, c.as_slice.ensures.value) at (c.in_ok-make_all.ensures.step early (rw begun refl)) in
-    let made = edited_tables has.layout (state g.S.Store mid).now c.args.change.now.edits.items t has.in_order (changes.tables has.layout t has.holds) in
+    let made = edited_tables has.layout has.two (state g.S.Store mid).now c.args.change.now.edits.items t has.here.in_order (changes.tables has.layout has.two t has.here.holds) in
     subst (λ h. HasTables (state g.S.Store h).now (tables_edited c.args.change.now.edits.items t)) same
     (subst (λ (d : Database). HasTables d (tables_edited c.args.change.now.edits.items t)) (sym (c.in_ok-commit.ensures.ok late).1.now_is) made)
 

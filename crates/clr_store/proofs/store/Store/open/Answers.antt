@@ -5,7 +5,7 @@ use Rattle.clr_store.proofs.Versions.{of_opening, refuses}
 use Rattle.clr_store.proofs.store.Store.open.Goals as goal
 
 pub returns-in-Err-clause-refused : goal.returns-in-Err-clause-refused
-returns-in-Err-clause-refused g c clean t has = refuses (read_version t.meta) c.in-Err.fault (c.in-Err.ensures.version clean t.meta (has_meta _ t has))
+returns-in-Err-clause-refused g c clean t has = refuses (read_version t.meta) c.in-Err.fault (c.in-Err.ensures.version clean t.meta (has_meta has.layout _ t has.here))
 
 pub returns-in-Err-clause-cause : goal.returns-in-Err-clause-cause
 returns-in-Err-clause-cause g c clean out meta has = c.in-Err.ensures.cause out clean meta has
@@ -18,5 +18,5 @@ returns-in-Err-clause-fault g c = of_opening c.in-Err.fault c.in-Err.ensures.fau
 
 pub returns-in-Ok-clause-refused : goal.returns-in-Ok-clause-refused
 returns-in-Ok-clause-refused g c clean t has =
-    let told = c.in-Ok.ensures.version clean t.meta (has_meta _ t has) in
+    let told = c.in-Ok.ensures.version clean t.meta (has_meta has.layout _ t has.here) in
     search rules

@@ -1,0 +1,90 @@
+use Rattle.std.proofs.Common.{◌≡◌, ◌∙◌, IsTrue, Ok, arith, inl, inr, pos, rules, subst, sym}
+use Rattle.sqlite.specs.Effect.{Database}
+use Rattle.sqlite.specs.Held.{state}
+use Rattle.sqlite.specs.State.{HasCleanDisk}
+use Rattle.clr_tables.proofs.Moved.{tables_are_moved}
+use Rattle.clr_tables.specs.RowsRead.{read_version}
+use Rattle.clr_tables.specs.Tables.{tables_by, version_one}
+use Rattle.clr_load.specs.Layout.{OfOne}
+use Rattle.clr_load.specs.Stored.{HasOldTables, HasTables}
+use Rattle.clr_load.proofs.Loading.{has_meta}
+use Rattle.clr_store.proofs.Moving.{leaves_moved, surely_open}
+use Rattle.clr_store.proofs.Versions.{move_unread, old_failed, old_stopped, old_unread, one_is_told}
+use Rattle.clr_store.proofs.store.Store.migrate.Goals as goal
+
+pub returns-in-Err-clause-cause : goal.returns-in-Err-clause-cause
+returns-in-Err-clause-cause g c clean out meta has differs = c.in-Err.ensures.cause out clean meta has
+
+pub returns-in-Err-clause-unread : goal.returns-in-Err-clause-unread
+returns-in-Err-clause-unread g c clean meta has = move_unread (read_version meta) c.in-Err.fault c.in-Err.ensures.fault (c.in-Err.ensures.version clean meta has)
+
+pub returns-in-Err-clause-refused : goal.returns-in-Err-clause-refused
+returns-in-Err-clause-refused g c clean t has = old_unread t c.in-Err.fault c.in-Err.ensures.fault (c.in-Err.ensures.version clean t.meta (has_meta OfOne _ t has))
+
+pub returns-in-Ok-move_tables-clause-moved : goal.returns-in-Ok-move_tables-clause-moved
+returns-in-Ok-move_tables-clause-moved g c clean t has one =
+    let read = state g.S.Store c.read_version.new.conn in
+    let early : HasCleanDisk read = omega (arith, c.move_tables.ensures.crash.clean) in
+    let here : IsTrue read.is_open = surely_open (c.in-Ok-move_tables.ensures.was_open clean) in
+    let same = c.in-Ok.ensures.same early here in (
+      c.in-Ok-move_tables.ensures.saved clean,
+      c.in-Ok-move_tables.ensures.moved clean t (subst (λ (d : Database). HasOldTables d t) (sym same) has),
+    )
+
+pub returns-in-Ok-move_tables-clause-register : goal.returns-in-Ok-move_tables-clause-register
+returns-in-Ok-move_tables-clause-register g c clean R none has =
+    let read = state g.S.Store c.read_version.new.conn in
+    let old = tables_by version_one R in
+    let early : HasCleanDisk read = omega (arith, c.move_tables.ensures.crash.clean) in
+    let here : IsTrue read.is_open = surely_open (c.in-Ok-move_tables.ensures.was_open clean) in
+    let same = c.in-Ok.ensures.same early here in
+    let moved = c.in-Ok-move_tables.ensures.moved clean old (subst (λ (d : Database). HasOldTables d old) (sym same) has) in
+    subst (HasTables (state g.S.Store c.move_tables.new.conn).now) (tables_are_moved R none) moved
+
+pub returns-in-Ok-move_tables-clause-crash_moved : goal.returns-in-Ok-move_tables-clause-crash_moved
+returns-in-Ok-move_tables-clause-crash_moved g c =
+    leaves_moved (state g.S.Store c.args.connection) (state g.S.Store c.read_version.new.conn) (state g.S.Store c.move_tables.new.conn) c.read_version.ensures.survives c.move_tables.ensures.crash
+    c.in-Ok.ensures.same (λ early meta has.
+    let told = c.in-Ok.ensures.version early meta has in
+    search rules)
+
+pub returns-in-Err-move_tables-clause-crash_none : goal.returns-in-Err-move_tables-clause-crash_none
+returns-in-Err-move_tables-clause-crash_none g c =
+    leaves_moved (state g.S.Store c.args.connection) (state g.S.Store c.read_version.new.conn) (state g.S.Store c.move_tables.new.conn) c.read_version.ensures.survives c.move_tables.ensures.crash
+    c.in-Ok.ensures.same (λ early meta has.
+    let told = c.in-Ok.ensures.version early meta has in
+    search rules)
+
+pub returns-in-Err-move_tables-clause-none : goal.returns-in-Err-move_tables-clause-none
+returns-in-Err-move_tables-clause-none g c clean is_open =
+    let early : HasCleanDisk (state g.S.Store c.read_version.new.conn) = omega (arith, c.move_tables.ensures.crash.clean) in
+    c.in-Err-move_tables.ensures.none clean is_open ∙ c.in-Ok.ensures.same early (c.in-Err-move_tables.ensures.open_before clean is_open)
+
+pub returns-in-Err-move_tables-clause-refused : goal.returns-in-Err-move_tables-clause-refused
+returns-in-Err-move_tables-clause-refused g c clean t has =
+    let read = state g.S.Store c.read_version.new.conn in
+    let fault = c.in-Err-move_tables.fault in
+    let early : HasCleanDisk read = omega (arith, c.move_tables.ensures.crash.clean) in
+    let told = c.in-Ok.ensures.version early t.meta (has_meta OfOne _ t has) in
+    let one : read_version t.meta ≡ Ok (pos 1) = search rules in
+    elim (c.in-Err-move_tables.ensures.was_open clean) [
+      | inl here ↦ old_stopped t fault c.in-Err-move_tables.ensures.fault one
+          (c.in-Err-move_tables.ensures.refused clean t (subst (λ (d : Database). HasOldTables d t) (sym (c.in-Ok.ensures.same early here)) has))
+      | inr failed ↦ old_failed t fault failed
+    ]
+
+pub returns-in-2-clause-moved : goal.returns-in-2-clause-moved
+returns-in-2-clause-moved g c clean t has one =
+    let told = c.in-Ok.ensures.version clean t.meta (has_meta OfOne _ t has) in
+    search rules
+
+pub returns-in-2-clause-register : goal.returns-in-2-clause-register
+returns-in-2-clause-register g c clean R none has =
+    let told = c.in-Ok.ensures.version clean (tables_by version_one R).meta (has_meta OfOne _ (tables_by version_one R) has) in
+    let one = one_is_told in
+    search rules
+
+pub returns-in_default-clause-refused : goal.returns-in_default-clause-refused
+returns-in_default-clause-refused g c clean t has =
+    let told = c.in-Ok.ensures.version clean t.meta (has_meta OfOne _ t has) in
+    search rules
