@@ -1,3 +1,4 @@
+pub mod Filling
 pub mod Filled
 pub mod TypedRegisters
 pub mod RowsOpened

@@ -27,11 +27,11 @@ use Rattle.clr_desk.proofs.RowsOpened.{fails_by_database, opened_again}
 use Rattle.clr_desk.proofs.TypedRegisters.{first_typed, run_typed}
 
 -- the version of the tables is the one that is read
-version_is : (S : Register) → read_version (tables_of S).meta ≡ Ok (pos 1)
+version_is : (S : Register) → read_version (tables_of S).meta ≡ Ok (pos 2)
 unfolding read_version
 version_is S = refl
 
-refused_by_database : (fault : StoreFault) → RefusesVersion (Ok (pos 1)) fault → IsOfDatabase fault
+refused_by_database : (fault : StoreFault) → RefusesVersion (Ok (pos 2)) fault → IsOfDatabase fault
 refused_by_database Sql refused = tt
 refused_by_database (WrongVersion n) (is, other) = absurd (other (cc is))
 refused_by_database (BadRow table) refused = absurd (cc refused)

@@ -14,7 +14,6 @@ use Rattle.clr_rules.specs.declared.command.Command.{Command}
 use Rattle.clr_rules.specs.declared.reply.Reply.{Reply}
 use Rattle.clr_rules.proofs.edits.Runs.{runs_go_on}
 use Rattle.clr_rules.proofs.isolation.RunReplies.{others_change_no_reply, own_stand_alone}
-use Rattle.clr_rules.proofs.keeps.EveryKind.{reached_are_good}
 use Rattle.clr_load.specs.Contract.{IsSaved}
 use Rattle.clr_load.specs.Stored.{AreTables, HasTables}
 use Rattle.clr_load.proofs.Reopened.{left_of}
@@ -68,11 +67,11 @@ one_ran R S q (Err fault) is left stays = subst (λ (X : Register). IsRun R [] [
 pub no_reply_changed : (R : Register) (commands : List Command) (told : List Reply) (S : Register) → (IsGood R → IsRun R commands told S)
     → OthersChangeNoReply R commands told S
 no_reply_changed R commands told S ran c inside T others shown =
-    others_change_no_reply R commands told S (ran (reached_are_good R shown.first_reached)) c inside T others shown
+    others_change_no_reply R commands told S (ran shown.first_good) c inside T others shown
 
 pub standing_alone : (R : Register) (commands : List Command) (told : List Reply) (S : Register) → (IsGood R → IsRun R commands told S)
     → OwnStandAlone R commands told
-standing_alone R commands told S ran c inside alone = own_stand_alone R commands told S (ran (reached_are_good R alone.reached)) c inside alone
+standing_alone R commands told S ran c inside alone = own_stand_alone R commands told S (ran alone.good) c inside alone
 
 -- ---- what a crash leaves
 

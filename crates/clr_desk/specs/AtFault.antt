@@ -11,7 +11,7 @@ use Rattle.clr_tables.specs.declared.table_name.TableName.TheVariants as table
 
 -- the table that a list is read from
 abbrev pub table_of_list : ListAtFault → TableName
-table_of_list Points = table.Point
+table_of_list Points = table.NetworkPoint
 table_of_list Clearances = table.Clearance
 table_of_list Steps = table.Step
 table_of_list Holds = table.Hold

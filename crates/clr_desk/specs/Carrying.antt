@@ -34,7 +34,6 @@ pub record CarriesOut {S : Type 0} (g : Ghosts S) (old new : Desk S) (q : Comman
       → OnOk result (new.book.register ≡ after old.book.register q)
   -- a command that is refused or shown, and a fault, leave the register
   pub unchanged : has_accepted result ≡ false → new.book.register ≡ old.book.register
-  pub network : new.book.network ≡ old.book.network
   pub cause : IfErr result IsOfCommand
   -- each value of the command is within its type, as every value of the program is
   pub typed : IsTrue (is_typed_command q)

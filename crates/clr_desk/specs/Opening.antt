@@ -36,11 +36,12 @@ pub record IsRegisterOf (rows : Rows) (R : Register) : Type 0 where
 -- they are too many
 abbrev pub table_of : List SectionRow → NetFault → TableName
 table_of sections NoSections = table.Section
-table_of sections TooLarge = if nat_lt 5000 (length sections) then table.Section else table.Point
+table_of sections TooLarge = if nat_lt 5000 (length sections) then table.Section
+    else table.NetworkPoint
 table_of sections (SectionTwice row) = table.Section
-table_of sections (PointTwice row) = table.Point
-table_of sections (UnknownEnd row) = table.Point
-table_of sections (SameEnds row) = table.Point
+table_of sections (PointTwice row) = table.NetworkPoint
+table_of sections (UnknownEnd row) = table.NetworkPoint
+table_of sections (SameEnds row) = table.NetworkPoint
 table_of sections NoMemoryThere = table.Section
 
 abbrev pub bad_staff : Option StaffFault → Option TableName

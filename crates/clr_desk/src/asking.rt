@@ -1,8 +1,9 @@
 //! What is done for one command before its change is committed: it is answered, and room is made
 //! for its change.
-ghost use Rattle.std.specs.Prelude.{◌≡◌, IfOk};
+ghost use Rattle.std.specs.Prelude.{◌≡◌, true, IfOk};
 ghost use Rattle.clr_book.specs.Decision.{ChangesIfAccepted, answer_of_decision};
 ghost use Rattle.clr_book.specs.Book.{Fits, needs};
+ghost use Rattle.clr_rules.specs.Edits.{fit};
 ghost use Rattle.clr_desk.specs.Asking.{near_answer};
 
 use crate::book::DeskBook;
@@ -18,9 +19,9 @@ pub fn prepare(book: &mut DeskBook, command: &Command) -> Result<Decision, Alloc
     ensures answer { IfOk result
         (λ d. answer_of_decision d ≡ near_answer book.old.register command.now) }
     ensures nothing { IfOk result ChangesIfAccepted }
+    ensures fits { IfOk result (λ d. fit book.new.register.net d.change.edits.items ≡ true) }
     ensures room { IfOk result (λ d. Fits (needs d.change.edits.items) book.new.room) }
     ensures register { book.new.register ≡ book.old.register }
-    ensures network { book.new.network ≡ book.old.network }
 {
     let decision = book.answer(command)?;
     book.reserve(&decision.change)?;

@@ -23,7 +23,7 @@ fn table_of(list: Option<ListAtFault>) -> Option<TableName>
     ensures { result ≡ option_map table_of_list list }
 {
     match list {
-        Some(ListAtFault::Points) => Some(TableName::Point),
+        Some(ListAtFault::Points) => Some(TableName::NetworkPoint),
         Some(ListAtFault::Clearances) => Some(TableName::Clearance),
         Some(ListAtFault::Steps) => Some(TableName::Step),
         Some(ListAtFault::Holds) => Some(TableName::Hold),

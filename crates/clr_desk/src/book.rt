@@ -1,7 +1,7 @@
 //! The book of a desk, and what a desk does with it.
-ghost use Rattle.std.specs.Prelude.{◌≡◌, IfOk};
+ghost use Rattle.std.specs.Prelude.{◌≡◌, true, IfOk};
 ghost use Rattle.clr_book.specs.Book.{Fits, needs};
-ghost use Rattle.clr_rules.specs.Edits.{after_edits};
+ghost use Rattle.clr_rules.specs.Edits.{after_edits, fit};
 ghost use Rattle.clr_rules.specs.Register.{opening};
 ghost use Rattle.clr_rules.specs.Run.{IsReached};
 ghost use Rattle.clr_tables.specs.TypedRows.{IsTyped};
@@ -50,11 +50,11 @@ pub fn staff_of(book: &DeskBook) -> &Staff
     book.staff()
 }
 
-/// Makes a change for which there is room.
+/// Makes a change for which there is room, and which the network takes.
 pub fn apply(book: &mut DeskBook, change: Change)
-    requires { Fits (needs change.edits.items) book.old.room }
-    ensures register { book.new.register ≡ after_edits change.edits.items book.old.register }
-    ensures network { book.new.network ≡ book.old.network }
+    requires room { Fits (needs change.edits.items) book.old.room }
+    requires fits { fit book.old.register.net change.edits.items ≡ true }
+    ensures { book.new.register ≡ after_edits change.edits.items book.old.register }
 {
     book.apply(change);
 }

@@ -268,7 +268,6 @@ impl<S: Alter + Drop> Desk<S> {
             (with_reply commands.items result.replies.items) }
         ensures alone { OwnStandAlone self.old.book.register
             (with_reply commands.items result.replies.items) result.replies.items }
-        ensures network { self.new.book.network ≡ self.old.book.network }
         ensures typed { IsTrue (list_all is_typed_command commands.items) }
         ensures faults { self.new.faults ≡ count_after result.fault self.old.faults }
         ensures cause { IfSome result.fault IsOfCommand }
@@ -322,7 +321,7 @@ fn is_accepted(reply: &Reply) -> bool
     ensures { result ≡ is_accepted reply.now }
 {
     match reply {
-        Reply::Accepted(_) => true,
+        Reply::Accepted(_) | Reply::Added(_) => true,
         Reply::Shown(_) | Reply::Refused(_) => false,
     }
 }

@@ -1,10 +1,10 @@
 //! Opening: the book of the rows that a store has loaded.
 ghost use Rattle.std.specs.Prelude.{◌≡◌, ◌⊎◌, ℕ, List, Option, Some, None, IfErr, IfOk, IsErrAnd};
-ghost use Rattle.std.specs.Prelude.{IsTrue, OnOk, length, map, nat_lt};
+ghost use Rattle.std.specs.Prelude.{IsTrue, OnOk, true, length, map, nat_lt};
 ghost use Rattle.clr_csv.specs.Staff.{IsStaffOf, first_fault as staff_fault};
 ghost use Rattle.clr_net.specs.Network.{IsGridOf, first_fault as network_fault};
-ghost use Rattle.clr_rules.specs.Edits.{after_edits};
-ghost use Rattle.clr_rules.specs.Register.{opening};
+ghost use Rattle.clr_rules.specs.Edits.{after_edits, fit};
+ghost use Rattle.clr_rules.specs.Register.{opening, unplaced_net};
 ghost use Rattle.clr_tables.specs.declared.table_name.TableName.TheVariants as table;
 ghost use Rattle.clr_book.specs.Book.{Shelved};
 ghost use Rattle.clr_load.specs.Contract.{IsSaved, rows_told};
@@ -88,6 +88,7 @@ fn filled_book(
     staff: Staff,
     change: Change,
 ) -> Result<DeskBook, AllocError>
+    requires { fit (unplaced_net network) change.edits.items ≡ true }
     ensures { IfOk result (λ book. book.register ≡ after_edits change.edits.items
         (opening network staff)) }
 {
@@ -127,10 +128,10 @@ fn table_of(fault: NetFault, is_long: bool) -> TableName
         NetFault::TooLarge => if is_long {
             TableName::Section
         } else {
-            TableName::Point
+            TableName::NetworkPoint
         },
         NetFault::PointTwice(_) | NetFault::UnknownEnd(_) | NetFault::SameEnds(_) =>
-            TableName::Point,
+            TableName::NetworkPoint,
     }
 }
 

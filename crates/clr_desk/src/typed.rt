@@ -240,6 +240,16 @@ impl Typed for Kind {
                 clearance.typed();
                 to.typed();
             }
+            Kind::Jumper {
+                point,
+                from,
+                to,
+                ..
+            } => {
+                point.typed();
+                from.typed();
+                to.typed();
+            }
             Kind::Instruct { clearance, .. }
             | Kind::Repeat { clearance, .. }
             | Kind::Report { clearance, .. }

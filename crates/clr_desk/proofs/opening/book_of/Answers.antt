@@ -1,8 +1,16 @@
-use Rattle.std.proofs.Common.{rules}
+use Rattle.std.proofs.Common.{rules, ◌∙◌, ap}
+use Rattle.clr_rules.specs.Edits.{fit}
+use Rattle.clr_rules.specs.Register.{unplaced_net}
 use Rattle.clr_load.specs.Contract.{rows_told}
 use Rattle.clr_desk.specs.Opening.{IsRegisterOf}
+use Rattle.clr_desk.proofs.Filling.{filling_taken}
 use Rattle.clr_desk.proofs.TypedRegisters.{rows_typed}
 use Rattle.clr_desk.proofs.opening.book_of.Goals as goal
+
+pub filled_book-requires : goal.filled_book-requires
+filled_book-requires c =
+    ap (fit (unplaced_net c.in_ok-network.network)) c.in_ok-change.ensures
+    ∙ filling_taken (unplaced_net c.in_ok-network.network) _ _ _ _
 
 pub returns-clause-typed : goal.returns-clause-typed
 returns-clause-typed c =

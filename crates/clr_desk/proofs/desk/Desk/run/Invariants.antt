@@ -22,7 +22,6 @@ invariant-loop-command g l =
       counted : length l.replies.items ≡ l.command-index;
       filled : vec_len l.replies ≡ l.command-index;
       room : length l.fn.commands.items ≤ vec_capacity l.replies;
-      network : l.self.book.network ≡ l.fn.self.book.network;
       faults : l.self.faults ≡ l.fn.self.faults;
       good : IsGood R → IsGood l.self.book.register;
       ran : IsGood R → IsRun R (take l.command-index l.fn.commands.items) l.replies.items l.self.book.register;
