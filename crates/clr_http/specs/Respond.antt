@@ -11,7 +11,7 @@ use Rattle.clr_rules.specs.Steps.{steps_of}
 use Rattle.clr_rules.specs.declared.command.Command.{Command}
 use Rattle.clr_rules.specs.declared.command.Kind.TheVariants.{Show}
 use Rattle.clr_rules.specs.declared.reply.Reply.{Reply}
-use Rattle.clr_rules.specs.declared.reply.Reply.TheVariants.{Accepted, Refused, Shown}
+use Rattle.clr_rules.specs.declared.reply.Reply.TheVariants.{Accepted, Added, Refused, Shown}
 use Rattle.clr_text.specs.FaultText.{fault_text}
 use Rattle.clr_print.specs.Printed.{board_text, order_text}
 use Rattle.clr_text.specs.Reading.{read_command}
@@ -40,6 +40,7 @@ abbrev pub reply_status : Reply → ℕ
 reply_status (Accepted card) = 200
 reply_status (Shown view) = 200
 reply_status (Refused refusal) = 409
+reply_status (Added point) = 200
 
 abbrev pub reply_response : Reply → Content
 reply_response reply = json (reply_status reply) (reply_text reply)

@@ -138,7 +138,7 @@ fn reply_status(reply: &Reply) -> StatusCode
     ensures { result ≡ reply_status reply.now }
 {
     match reply {
-        Reply::Accepted(_) | Reply::Shown(_) => StatusCode::OK,
+        Reply::Accepted(_) | Reply::Shown(_) | Reply::Added(_) => StatusCode::OK,
         Reply::Refused(_) => StatusCode::CONFLICT,
     }
 }

@@ -1,15 +1,20 @@
 -- THE PRINTED TEXTS: a round of an order, of its record and its steps alone, and the board. Each
 -- line ends with a line feed.
-use Rattle.std.specs.Prelude.{ℕ, ◌+◌, ◌-◌, ◌==◌, Bool, not, if◌then◌else◌, ℤ, List, [], ◌∷◌, ◌++◌}
-use Rattle.std.specs.Prelude.{length, replicate, map, filter, Option, None, Some, codes, decimal}
+use Rattle.std.specs.Prelude.{ℕ, ◌-◌, ◌==◌, Bool, not, if◌then◌else◌, ℤ, List, ◌++◌}
+use Rattle.std.specs.Prelude.{length, replicate, filter, Option, None, Some, codes, decimal}
 use Rattle.std.specs.List.{flat_map}
+use Rattle.clr_net.specs.declared.point.PointRow.{PointRow}
+use Rattle.clr_net.specs.declared.point.Position.{Position}
+use Rattle.clr_net.specs.declared.point.Position.TheVariants.{Closed, Opened}
 use Rattle.clr_order.specs.Action.{action_word}
 use Rattle.clr_order.specs.Step.{state_text}
 use Rattle.clr_rules.specs.Id.{Id, id_text}
 use Rattle.clr_rules.specs.Phase.{phase_text}
 use Rattle.clr_rules.specs.Records.{is_closed}
 use Rattle.clr_rules.specs.Register.{Register}
+use Rattle.clr_rules.specs.States.{position_of}
 use Rattle.clr_rules.specs.Steps.{is_some_step}
+use Rattle.clr_rules.specs.declared.point_state.PointState.{PointState}
 use Rattle.clr_rules.specs.declared.record.Record.{Record}
 use Rattle.clr_rules.specs.declared.step_row.StepRow.{StepRow}
 use Rattle.clr_print.specs.Moments.{moment_text}
@@ -86,6 +91,24 @@ count_line count = codes "BOARD " ++ decimal count ++ codes "\n"
 abbrev pub board_of : List Record → ℤ → List ℕ
 board_of standing offset = count_line (length standing) ++ flat_map (board_line offset) standing
 
--- THE BOARD: how many records are not closed, and a line for each
+-- where a point stands: each point of a network has a state
+abbrev pub position_word : Option Position → List ℕ
+position_word None = codes "-"
+position_word (Some Opened) = codes "open"
+position_word (Some Closed) = codes "closed"
+
+-- `JUMPER J1                       L4                       L9                       open`
+unfoldable pub jumper_line : PointRow → Option Position → List ℕ
+jumper_line p position =
+    codes "JUMPER " ++ left_column 24 p.name ++ left_column 24 p.from_end
+    ++ left_column 24 p.to_end ++ position_word position ++ codes "\n"
+
+-- a line for each jumper among the points
+abbrev pub jumper_lines : List PointState → List PointRow → List ℕ
+jumper_lines states points =
+    flat_map (λ p. jumper_line p (position_of states p.name)) (filter (λ p. p.jumper) points)
+
+-- THE BOARD: how many records are not closed, a line for each, and one for each jumper
 abbrev pub board_text : Register → ℤ → List ℕ
-board_text R offset = board_of (filter is_open R.records) offset
+board_text R offset =
+    board_of (filter is_open R.records) offset ++ jumper_lines R.states R.net.points

@@ -1,16 +1,19 @@
 -- Which key a fault names: the first that is missing, or the first whose value does not fit.
-use Rattle.std.proofs.Common.{◌≡◌, ℕ, Bool, true, false, not, List, [], ◌∷◌, Option, None, Some, Result, Ok, Err, is_ok, is_some, ok_or, refl, ◌∙◌, ap, find, if◌then◌else◌}
+use Rattle.std.proofs.Common.{◌≡◌, ℕ, Bool, true, false, not, List, [], ◌∷◌, Option, None, Some, Result, Ok, Err, is_ok, is_some, ok_or, refl, ◌∙◌, ap, cond, drop, filter, find, if◌then◌else◌}
 use Rattle.serde_json.specs.Data.{Data, Members}
 use Rattle.serde_json.specs.Find.{as_object}
 use Rattle.clr_text.specs.Answers.{◌>>=◌}
 use Rattle.clr_text.specs.KeyLaws.{LeastBadValueIsNamed, LeastMissingIsNamed, fits, lacks}
-use Rattle.clr_text.specs.Kinds.{keys_of, kind_in, word_named}
+use Rattle.clr_text.specs.Kinds.{has_key, keys_of, kind_in, states_moment, word_named}
+use Rattle.clr_text.specs.Keys.{every_key}
 use Rattle.clr_text.specs.Reading.{all_keys, command_in, is_key_of, none_missing, no_others, read_command, text_at_do, value_of, values_in, word_in}
-use Rattle.clr_text.specs.Values.{value_at}
+use Rattle.clr_text.specs.Values.{moment_at, name_at, value_at}
+use Rattle.clr_rules.specs.declared.command.Command.{Command}
+use Rattle.clr_rules.specs.declared.command.Kind.{Kind}
 use Rattle.clr_text.specs.declared.fault.TextFault.{TextFault}
 use Rattle.clr_text.specs.declared.fault.TextFault.TheVariants.{BadValue, MissingKey, NotObject, UnknownCommand, UnknownKey}
 use Rattle.clr_text.specs.declared.key.Key.{Key}
-use Rattle.clr_text.specs.declared.key.Key.TheVariants.{At, By, Clear, Clearance, Crew, Dead, Do, Done, Emergency, Notified, Points, Section, Step, Steps, Text, To}
+use Rattle.clr_text.specs.declared.key.Key.TheVariants.{At, By, Clear, Clearance, Crew, Dead, Do, Done, Emergency, From, Lockable, Notified, Point, Points, Remote, Section, Step, Steps, Text, To}
 use Rattle.clr_text.specs.declared.word.Word.{Word}
 use Rattle.clr_text.specs.declared.word.Word.TheVariants as word
 use Rattle.clr_text.proofs.KeysInOrder.{keys_stand_in_order, least_is_first}
@@ -40,86 +43,73 @@ unfolding none_missing
 first_missing [] d e told = cc
 first_missing (key ∷ keys) d e told = missing_step keys d e key (is_some (value_at key d)) refl told (first_missing keys d e)
 
--- the next key is the one whose value does not fit, or else what follows names it
-next_value : {A B : Type 0} (d : Data) (keys : List Key) (e : TextFault) (key : Key) (read : Option A) (f : A → Result B TextFault)
-    → fits d key ≡ is_ok (ok_or read (BadValue key))
-    → ((x : A) → f x ≡ Err e → Names (λ k. not (fits d k)) keys BadValue e)
-    → (ok_or read (BadValue key) >>= f) ≡ Err e → Names (λ k. not (fits d k)) (key ∷ keys) BadValue e
-next_value d keys e key None f is later told = record { key = key; is = cc; first = rw is refl }
-next_value d keys e key (Some x) f is later told = skip (λ k. not (fits d k)) keys BadValue e key (rw is refl) (later x told)
-
--- the text at `do` is one, so that key goes before the others
-next_do : (d : Data) (keys : List Key) (e : TextFault) → fits d Do ≡ true
-    → Names (λ k. not (fits d k)) keys BadValue e → Names (λ k. not (fits d k)) (Do ∷ keys) BadValue e
-next_do d keys e is named = skip (λ k. not (fits d k)) keys BadValue e Do (rw is refl) named
-
 of_kind : {A B : Type 0} (r : Result A TextFault) (g : A → B) (e : TextFault) → (r >>= λ x. Ok (g x)) ≡ Err e → r ≡ Err e
 of_kind (Ok x) g e told = cc
 of_kind (Err fault) g e told = cc
 
--- the keys behind `by`, of each command
-own_keys : Word → List Key
-own_keys word.Request = Do ∷ Section ∷ []
-own_keys word.Order = Clearance ∷ Do ∷ Points ∷ Steps ∷ []
-own_keys word.Instruct = Clearance ∷ Do ∷ Step ∷ []
-own_keys word.Repeat = Clearance ∷ Do ∷ Step ∷ Text ∷ []
-own_keys word.Report = Clearance ∷ Do ∷ Done ∷ Step ∷ []
-own_keys word.Grant = Clearance ∷ Do ∷ []
-own_keys word.Test = Clearance ∷ Dead ∷ Do ∷ Section ∷ []
-own_keys word.Ground = Clearance ∷ Do ∷ Section ∷ []
-own_keys word.Unground = Clearance ∷ Do ∷ Section ∷ []
-own_keys word.SignOn = Clearance ∷ Crew ∷ Do ∷ []
-own_keys word.SignOff = Clearance ∷ Crew ∷ Do ∷ []
-own_keys word.Transfer = Clearance ∷ Do ∷ Emergency ∷ To ∷ []
-own_keys word.Release = Clear ∷ Clearance ∷ Do ∷ Notified ∷ []
-own_keys word.Cancel = Clearance ∷ Do ∷ []
-own_keys word.Restore = Clearance ∷ Do ∷ Steps ∷ []
-own_keys word.Amend = Clearance ∷ Do ∷ Step ∷ []
-own_keys word.Switch = Do ∷ Steps ∷ []
-own_keys word.Show = Clearance ∷ Do ∷ []
+-- the keys of a command behind `by`
+abbrev behind_by : Word → List Key
+behind_by w = filter (has_key w) (drop 2 every_key)
 
--- the first of them whose value does not fit
-kind_first : (w : Word) (d : Data) (e : TextFault) → fits d Do ≡ true → kind_in w d ≡ Err e → Names (λ k. not (fits d k)) (own_keys w) BadValue e
-unfolding kind_in own_keys
-kind_first word.Request d e did told = next_do d (Section ∷ []) e did (next_value d [] e Section _ _ refl (λ _ told. cc) told)
-kind_first word.Order d e did told = next_value d (Do ∷ Points ∷ Steps ∷ []) e Clearance _ _ refl (λ _ told. next_do d (Points ∷ Steps ∷ []) e did (next_value d (Steps ∷ []) e Points _ _ refl (λ _ told. next_value d [] e Steps _ _ refl (λ _ told. cc) told) told)) told
-kind_first word.Instruct d e did told = next_value d (Do ∷ Step ∷ []) e Clearance _ _ refl (λ _ told. next_do d (Step ∷ []) e did (next_value d [] e Step _ _ refl (λ _ told. cc) told)) told
-kind_first word.Repeat d e did told = next_value d (Do ∷ Step ∷ Text ∷ []) e Clearance _ _ refl (λ _ told. next_do d (Step ∷ Text ∷ []) e did (next_value d (Text ∷ []) e Step _ _ refl (λ _ told. next_value d [] e Text _ _ refl (λ _ told. cc) told) told)) told
-kind_first word.Report d e did told = next_value d (Do ∷ Done ∷ Step ∷ []) e Clearance _ _ refl (λ _ told. next_do d (Done ∷ Step ∷ []) e did (next_value d (Step ∷ []) e Done _ _ refl (λ _ told. next_value d [] e Step _ _ refl (λ _ told. cc) told) told)) told
-kind_first word.Grant d e did told = next_value d (Do ∷ []) e Clearance _ _ refl (λ _ told. next_do d [] e did (cc)) told
-kind_first word.Test d e did told = next_value d (Dead ∷ Do ∷ Section ∷ []) e Clearance _ _ refl (λ _ told. next_value d (Do ∷ Section ∷ []) e Dead _ _ refl (λ _ told. next_do d (Section ∷ []) e did (next_value d [] e Section _ _ refl (λ _ told. cc) told)) told) told
-kind_first word.Ground d e did told = next_value d (Do ∷ Section ∷ []) e Clearance _ _ refl (λ _ told. next_do d (Section ∷ []) e did (next_value d [] e Section _ _ refl (λ _ told. cc) told)) told
-kind_first word.Unground d e did told = next_value d (Do ∷ Section ∷ []) e Clearance _ _ refl (λ _ told. next_do d (Section ∷ []) e did (next_value d [] e Section _ _ refl (λ _ told. cc) told)) told
-kind_first word.SignOn d e did told = next_value d (Crew ∷ Do ∷ []) e Clearance _ _ refl (λ _ told. next_value d (Do ∷ []) e Crew _ _ refl (λ _ told. next_do d [] e did (cc)) told) told
-kind_first word.SignOff d e did told = next_value d (Crew ∷ Do ∷ []) e Clearance _ _ refl (λ _ told. next_value d (Do ∷ []) e Crew _ _ refl (λ _ told. next_do d [] e did (cc)) told) told
-kind_first word.Transfer d e did told = next_value d (Do ∷ Emergency ∷ To ∷ []) e Clearance _ _ refl (λ _ told. next_do d (Emergency ∷ To ∷ []) e did (next_value d (To ∷ []) e Emergency _ _ refl (λ _ told. next_value d [] e To _ _ refl (λ _ told. cc) told) told)) told
-kind_first word.Release d e did told = next_value d (Clearance ∷ Do ∷ Notified ∷ []) e Clear _ _ refl (λ _ told. next_value d (Do ∷ Notified ∷ []) e Clearance _ _ refl (λ _ told. next_do d (Notified ∷ []) e did (next_value d [] e Notified _ _ refl (λ _ told. cc) told)) told) told
-kind_first word.Cancel d e did told = next_value d (Do ∷ []) e Clearance _ _ refl (λ _ told. next_do d [] e did (cc)) told
-kind_first word.Restore d e did told = next_value d (Do ∷ Steps ∷ []) e Clearance _ _ refl (λ _ told. next_do d (Steps ∷ []) e did (next_value d [] e Steps _ _ refl (λ _ told. cc) told)) told
-kind_first word.Amend d e did told = next_value d (Do ∷ Step ∷ []) e Clearance _ _ refl (λ _ told. next_do d (Step ∷ []) e did (next_value d [] e Step _ _ refl (λ _ told. cc) told)) told
-kind_first word.Switch d e did told = next_do d (Steps ∷ []) e did (next_value d [] e Steps _ _ refl (λ _ told. cc) told)
-kind_first word.Show d e did told = next_value d (Do ∷ []) e Clearance _ _ refl (λ _ told. next_do d [] e did (cc)) told
+abbrev command : List ℕ → ℕ → Kind → Command
+command by at kind = record { caller = by; moment = at; kind = kind }
 
-values_first : (w : Word) (d : Data) (e : TextFault) → fits d Do ≡ true → values_in w d ≡ Err e → Names (λ k. not (fits d k)) (keys_of w) BadValue e
-unfolding values_in own_keys
-values_first word.Request d e did told = next_value d (By ∷ own_keys word.Request) e At _ _ refl (λ _ told. next_value d (own_keys word.Request) e By _ _ refl (λ _ told. kind_first word.Request d e did (of_kind (kind_in word.Request d) _ e told)) told) told
-values_first word.Order d e did told = next_value d (By ∷ own_keys word.Order) e At _ _ refl (λ _ told. next_value d (own_keys word.Order) e By _ _ refl (λ _ told. kind_first word.Order d e did (of_kind (kind_in word.Order d) _ e told)) told) told
-values_first word.Instruct d e did told = next_value d (By ∷ own_keys word.Instruct) e At _ _ refl (λ _ told. next_value d (own_keys word.Instruct) e By _ _ refl (λ _ told. kind_first word.Instruct d e did (of_kind (kind_in word.Instruct d) _ e told)) told) told
-values_first word.Repeat d e did told = next_value d (By ∷ own_keys word.Repeat) e At _ _ refl (λ _ told. next_value d (own_keys word.Repeat) e By _ _ refl (λ _ told. kind_first word.Repeat d e did (of_kind (kind_in word.Repeat d) _ e told)) told) told
-values_first word.Report d e did told = next_value d (By ∷ own_keys word.Report) e At _ _ refl (λ _ told. next_value d (own_keys word.Report) e By _ _ refl (λ _ told. kind_first word.Report d e did (of_kind (kind_in word.Report d) _ e told)) told) told
-values_first word.Grant d e did told = next_value d (By ∷ own_keys word.Grant) e At _ _ refl (λ _ told. next_value d (own_keys word.Grant) e By _ _ refl (λ _ told. kind_first word.Grant d e did (of_kind (kind_in word.Grant d) _ e told)) told) told
-values_first word.Test d e did told = next_value d (By ∷ own_keys word.Test) e At _ _ refl (λ _ told. next_value d (own_keys word.Test) e By _ _ refl (λ _ told. kind_first word.Test d e did (of_kind (kind_in word.Test d) _ e told)) told) told
-values_first word.Ground d e did told = next_value d (By ∷ own_keys word.Ground) e At _ _ refl (λ _ told. next_value d (own_keys word.Ground) e By _ _ refl (λ _ told. kind_first word.Ground d e did (of_kind (kind_in word.Ground d) _ e told)) told) told
-values_first word.Unground d e did told = next_value d (By ∷ own_keys word.Unground) e At _ _ refl (λ _ told. next_value d (own_keys word.Unground) e By _ _ refl (λ _ told. kind_first word.Unground d e did (of_kind (kind_in word.Unground d) _ e told)) told) told
-values_first word.SignOn d e did told = next_value d (By ∷ own_keys word.SignOn) e At _ _ refl (λ _ told. next_value d (own_keys word.SignOn) e By _ _ refl (λ _ told. kind_first word.SignOn d e did (of_kind (kind_in word.SignOn d) _ e told)) told) told
-values_first word.SignOff d e did told = next_value d (By ∷ own_keys word.SignOff) e At _ _ refl (λ _ told. next_value d (own_keys word.SignOff) e By _ _ refl (λ _ told. kind_first word.SignOff d e did (of_kind (kind_in word.SignOff d) _ e told)) told) told
-values_first word.Transfer d e did told = next_value d (By ∷ own_keys word.Transfer) e At _ _ refl (λ _ told. next_value d (own_keys word.Transfer) e By _ _ refl (λ _ told. kind_first word.Transfer d e did (of_kind (kind_in word.Transfer d) _ e told)) told) told
-values_first word.Release d e did told = next_value d (By ∷ own_keys word.Release) e At _ _ refl (λ _ told. next_value d (own_keys word.Release) e By _ _ refl (λ _ told. kind_first word.Release d e did (of_kind (kind_in word.Release d) _ e told)) told) told
-values_first word.Cancel d e did told = next_value d (By ∷ own_keys word.Cancel) e At _ _ refl (λ _ told. next_value d (own_keys word.Cancel) e By _ _ refl (λ _ told. kind_first word.Cancel d e did (of_kind (kind_in word.Cancel d) _ e told)) told) told
-values_first word.Restore d e did told = next_value d (By ∷ own_keys word.Restore) e At _ _ refl (λ _ told. next_value d (own_keys word.Restore) e By _ _ refl (λ _ told. kind_first word.Restore d e did (of_kind (kind_in word.Restore d) _ e told)) told) told
-values_first word.Amend d e did told = next_value d (By ∷ own_keys word.Amend) e At _ _ refl (λ _ told. next_value d (own_keys word.Amend) e By _ _ refl (λ _ told. kind_first word.Amend d e did (of_kind (kind_in word.Amend d) _ e told)) told) told
-values_first word.Switch d e did told = next_value d (By ∷ own_keys word.Switch) e At _ _ refl (λ _ told. next_value d (own_keys word.Switch) e By _ _ refl (λ _ told. kind_first word.Switch d e did (of_kind (kind_in word.Switch d) _ e told)) told) told
-values_first word.Show d e did told = next_value d (own_keys word.Show) e By _ _ refl (λ _ told. kind_first word.Show d e did (of_kind (kind_in word.Show d) _ e told)) told
+module _ (d : Data) (e : TextFault) (did : fits d Do ≡ true) where
+  -- a fault names the first of the keys whose value does not fit
+  abbrev NamesBad : List Key → Type 0
+  NamesBad keys = Names (λ k. not (fits d k)) keys BadValue e
+
+  -- the next key is the one whose value does not fit, or else what follows names it
+  next_value : {A B : Type 0} {keys : List Key} (key : Key) (read : Option A) (f : A → Result B TextFault)
+      → fits d key ≡ is_ok (ok_or read (BadValue key))
+      → ((x : A) → f x ≡ Err e → NamesBad keys) → (ok_or read (BadValue key) >>= f) ≡ Err e → NamesBad (key ∷ keys)
+  next_value key None f is later told = record { key = key; is = cc; first = rw is refl }
+  next_value {keys = keys} key (Some x) f is later told =
+      skip (λ k. not (fits d k)) keys BadValue e key (rw is refl) (later x told)
+
+  -- the text at `do` is one, so that key goes before the others
+  next_do : {B : Type 0} {keys : List Key} {r : Result B TextFault} → (r ≡ Err e → NamesBad keys) → r ≡ Err e → NamesBad (Do ∷ keys)
+  next_do {keys = keys} later told = skip (λ k. not (fits d k)) keys BadValue e Do (rw did refl) (later told)
+
+  end : {B : Type 0} {x : B} → Ok x ≡ Err e → NamesBad []
+  end told = cc
+
+  -- of the keys behind `by` the first whose value does not fit
+  kind_first : (w : Word) → kind_in w d ≡ Err e → NamesBad (behind_by w)
+  unfolding kind_in every_key
+  kind_first word.Request = next_do (next_value Section _ _ refl (λ _. end))
+  kind_first word.Order = next_value Clearance _ _ refl (λ _. next_do (next_value Points _ _ refl (λ _. next_value Steps _ _ refl (λ _. end))))
+  kind_first word.Instruct = next_value Clearance _ _ refl (λ _. next_do (next_value Step _ _ refl (λ _. end)))
+  kind_first word.Repeat = next_value Clearance _ _ refl (λ _. next_do (next_value Step _ _ refl (λ _. next_value Text _ _ refl (λ _. end))))
+  kind_first word.Report = next_value Clearance _ _ refl (λ _. next_do (next_value Done _ _ refl (λ _. next_value Step _ _ refl (λ _. end))))
+  kind_first word.Grant = next_value Clearance _ _ refl (λ _. next_do end)
+  kind_first word.Test = next_value Clearance _ _ refl (λ _. next_value Dead _ _ refl (λ _. next_do (next_value Section _ _ refl (λ _. end))))
+  kind_first word.Ground = next_value Clearance _ _ refl (λ _. next_do (next_value Section _ _ refl (λ _. end)))
+  kind_first word.Unground = next_value Clearance _ _ refl (λ _. next_do (next_value Section _ _ refl (λ _. end)))
+  kind_first word.SignOn = next_value Clearance _ _ refl (λ _. next_value Crew _ _ refl (λ _. next_do end))
+  kind_first word.SignOff = next_value Clearance _ _ refl (λ _. next_value Crew _ _ refl (λ _. next_do end))
+  kind_first word.Transfer = next_value Clearance _ _ refl (λ _. next_do (next_value Emergency _ _ refl (λ _. next_value To _ _ refl (λ _. end))))
+  kind_first word.Release = next_value Clear _ _ refl (λ _. next_value Clearance _ _ refl (λ _. next_do (next_value Notified _ _ refl (λ _. end))))
+  kind_first word.Cancel = next_value Clearance _ _ refl (λ _. next_do end)
+  kind_first word.Restore = next_value Clearance _ _ refl (λ _. next_do (next_value Steps _ _ refl (λ _. end)))
+  kind_first word.Amend = next_value Clearance _ _ refl (λ _. next_do (next_value Step _ _ refl (λ _. end)))
+  kind_first word.Switch = next_do (next_value Steps _ _ refl (λ _. end))
+  kind_first word.Show = next_value Clearance _ _ refl (λ _. next_do end)
+  kind_first word.Jumper = next_do (next_value From _ _ refl (λ _. next_value Lockable _ _ refl (λ _. next_value Point _ _ refl (λ _. next_value Remote _ _ refl (λ _. next_value To _ _ refl (λ _. end))))))
+
+  by_first : (w : Word) (at : ℕ) → (name_at By d >>= λ by. kind_in w d >>= λ kind. Ok (command by at kind)) ≡ Err e
+      → NamesBad (By ∷ behind_by w)
+  by_first w at = next_value By _ _ refl (λ by told. kind_first w (of_kind (kind_in w d) _ e told))
+
+  moment_first : (w : Word) (states : Bool)
+      → ((if states then moment_at d else Ok 0) >>= λ at. name_at By d >>= λ by. kind_in w d >>= λ kind. Ok (command by at kind)) ≡ Err e
+      → NamesBad (cond states (At ∷ By ∷ behind_by w) (By ∷ behind_by w))
+  moment_first w true = next_value At _ _ refl (λ at. by_first w at)
+  moment_first w false = by_first w 0
+
+  values_first : (w : Word) → values_in w d ≡ Err e → NamesBad (keys_of w)
+  unfolding values_in keys_of every_key
+  values_first w = moment_first w (states_moment w)
 
 -- the fault of an object that names a command
 data IsFault (d : Data) (w : Word) (e : TextFault) : Type 0 where
@@ -135,18 +125,18 @@ text_is_one d (Err fault) w is named = cc
 
 values_fault : (d : Data) (w : Word) (e : TextFault) (found : Result Bool TextFault) → fits d Do ≡ true → none_missing (keys_of w) d ≡ found
     → (found >>= λ all. values_in w d) ≡ Err e → IsFault d w e
-values_fault d w e (Ok all) did is told = bad (values_first w d e did told)
+values_fault d w e (Ok all) did is told = bad (values_first d e did w told)
 values_fault d w e (Err fault) did is told = missing (first_missing (keys_of w) d e (is ∙ cc))
 
 keys_fault : (d : Data) (w : Word) (e : TextFault) (known : Bool) → fits d Do ≡ true
-    → ((if known then Ok (keys_of w) else Err UnknownKey) >>= λ keys. none_missing keys d >>= λ all. values_in w d) ≡ Err e → IsFault d w e
+    → ((if known then Ok true else Err UnknownKey) >>= λ known. none_missing (keys_of w) d >>= λ all. values_in w d) ≡ Err e → IsFault d w e
 keys_fault d w e true did told = values_fault d w e (none_missing (keys_of w) d) did refl told
 keys_fault d w e false did told = unknown cc
 
 object_fault : (d : Data) (w : Word) (e : TextFault) (members : Option Members) → fits d Do ≡ true
-    → (ok_or members NotObject >>= λ members. no_others (keys_of w) members >>= λ keys. none_missing keys d >>= λ all. values_in w d) ≡ Err e → IsFault d w e
+    → (ok_or members NotObject >>= λ members. no_others w members >>= λ known. none_missing (keys_of w) d >>= λ all. values_in w d) ≡ Err e → IsFault d w e
 object_fault d w e None did told = no_object cc
-object_fault d w e (Some members) did told = keys_fault d w e (all_keys (is_key_of (keys_of w)) members) did told
+object_fault d w e (Some members) did told = keys_fault d w e (all_keys (is_key_of w) members) did told
 
 fault_of : (bytes : List ℕ) (d : Data) (w : Word) (e : TextFault) → value_of bytes ≡ Some d → word_in d ≡ Ok w → read_command bytes ≡ Err e → IsFault d w e
 unfolding read_command command_in

@@ -1,6 +1,7 @@
 -- Keys in the order of their bytes: the first that passes a test is the least that does.
 use Rattle.std.proofs.Common.{◌≡◌, zero, suc, Bool, true, false, List, [], ◌∷◌, Some, refl, subst, inl, inr, find, Contains, arith}
 use Rattle.std.proofs.lemmas.Bool.{and_parts}
+use Rattle.std.proofs.lemmas.Cmp.{nat_list_cmp_total, tied_itself}
 use Rattle.std.proofs.lemmas.List.Elements.{Contains-append_cases, Contains-append_right, Contains-append_left}
 use Rattle.std.specs.List.{list_all}
 use Rattle.std.specs.Cmp.Lexicographic.{slice_cmp}
@@ -8,31 +9,15 @@ use Rattle.std.specs.Ordering.{is_le, is_lt, nat_cmp}
 use Rattle.std.specs.declared.cmp.Ordering.{Ordering}
 use Rattle.std.specs.declared.cmp.Ordering.TheVariants.{Less, Equal, Greater}
 use Rattle.clr_shelf.specs.Rows.{in_key_order}
+use Rattle.clr_shelf.proofs.KeyOrder.{in_key_order-filter}
 use Rattle.clr_text.specs.KeyLaws.{IsLeast, KeysStandInOrder}
-use Rattle.clr_text.specs.Keys.{key_text}
+use Rattle.clr_text.specs.Keys.{every_key, key_text}
+use Rattle.clr_text.specs.Kinds.{has_key, keys_of}
 use Rattle.clr_text.specs.declared.key.Key.{Key}
-use Rattle.clr_text.specs.declared.key.Key.TheVariants.{At, By, Clear, Clearance, Crew, Dead, Do, Done, Emergency, Notified, Points, Section, Step, Steps, Text, To}
-use Rattle.clr_text.specs.declared.word.Word.TheVariants as word
 
 pub keys_stand_in_order : KeysStandInOrder
-keys_stand_in_order word.Request = refl
-keys_stand_in_order word.Order = refl
-keys_stand_in_order word.Instruct = refl
-keys_stand_in_order word.Repeat = refl
-keys_stand_in_order word.Report = refl
-keys_stand_in_order word.Grant = refl
-keys_stand_in_order word.Test = refl
-keys_stand_in_order word.Ground = refl
-keys_stand_in_order word.Unground = refl
-keys_stand_in_order word.SignOn = refl
-keys_stand_in_order word.SignOff = refl
-keys_stand_in_order word.Transfer = refl
-keys_stand_in_order word.Release = refl
-keys_stand_in_order word.Cancel = refl
-keys_stand_in_order word.Restore = refl
-keys_stand_in_order word.Amend = refl
-keys_stand_in_order word.Switch = refl
-keys_stand_in_order word.Show = refl
+unfolding keys_of every_key
+keys_stand_in_order w = in_key_order-filter (slice_cmp nat_cmp) key_text nat_list_cmp_total (has_key w) every_key refl
 
 -- a key is not after another
 abbrev not_after : Key → Key → Bool
@@ -42,22 +27,7 @@ abbrev before : Key → Key → Bool
 before key other = is_lt (slice_cmp nat_cmp (key_text key) (key_text other))
 
 not_after_itself : (key : Key) → not_after key key ≡ true
-not_after_itself At = refl
-not_after_itself By = refl
-not_after_itself Clear = refl
-not_after_itself Clearance = refl
-not_after_itself Crew = refl
-not_after_itself Dead = refl
-not_after_itself Do = refl
-not_after_itself Done = refl
-not_after_itself Emergency = refl
-not_after_itself Notified = refl
-not_after_itself Points = refl
-not_after_itself Section = refl
-not_after_itself Step = refl
-not_after_itself Steps = refl
-not_after_itself Text = refl
-not_after_itself To = refl
+not_after_itself key = rw (tied_itself nat_list_cmp_total (key_text key)) refl
 
 le_from_lt : (o : Ordering) → is_lt o ≡ true → is_le o ≡ true
 le_from_lt Less below = refl

@@ -3,13 +3,14 @@ use Rattle.std.proofs.Common.{◌≡◌, ◌∙◌, ℕ, Bool, true, false, List
 use Rattle.std.specs.Prelude.{if◌then◌else◌, filter}
 use Rattle.std.proofs.lemmas.Bool.{false≢true}
 use Rattle.clr_rules.specs.Agreement.{Agree}
+use Rattle.clr_rules.specs.Good.{IsGood}
 use Rattle.clr_rules.specs.Answer.{Answer, answer}
 use Rattle.clr_rules.specs.Isolation.{LeftAlone, NothingIsTakenAway, OwnCommandsAlone, SameShownSameAnswers}
 use Rattle.clr_rules.specs.declared.command.Command.{Command}
 use Rattle.clr_rules.specs.Id.{Id}
 use Rattle.clr_rules.specs.Register.{Register}
 use Rattle.clr_rules.specs.declared.reply.Reply.{Reply}
-use Rattle.clr_rules.specs.Run.{IsReached, after, after_all, replies}
+use Rattle.clr_rules.specs.Run.{after, after_all, replies}
 use Rattle.clr_rules.specs.RunHeadline.{own_replies}
 use Rattle.clr_rules.specs.Shown.{is_own_command, own_answers}
 use Rattle.clr_rules.proofs.isolation.RunReplies.{own_replies_are}
@@ -81,16 +82,16 @@ same_bytes law c inside R T lines others shown =
     subst (λ (X : Register). Agree c inside X (after_all T (commands_in others))) (sym (after_lines_are R lines)) end.1 in
     (texts, subst (λ (X : Register). Agree c inside (after_lines R lines) X) (sym (after_lines_are T others)) first)
 
-nothing_at : (told : Result Command TextFault) (R : Register) (earlier : List (List ℕ)) (c : Id) → NothingIsTakenAway → IsReached R
+nothing_at : (told : Result Command TextFault) (R : Register) (earlier : List (List ℕ)) (c : Id) → NothingIsTakenAway → IsGood R
     → is_others_reading c (after_all R (commands_in earlier)) told ≡ true
     → LeftAlone c (after_all R (commands_in earlier)) (register_behind (after_all R (commands_in earlier)) told)
-nothing_at (Ok q) R earlier c law reached others = law R (commands_in earlier) c q reached others
-nothing_at (Err fault) R earlier c law reached others = absurd (false≢true others)
+nothing_at (Ok q) R earlier c law good others = law R (commands_in earlier) c q good others
+nothing_at (Err fault) R earlier c law good others = absurd (false≢true others)
 
 pub others_lines_take_nothing : NothingIsTakenAway → OthersLinesTakeNothing
-others_lines_take_nothing law R earlier c line reached =
+others_lines_take_nothing law R earlier c line good =
     subst (λ (X : Register). is_others_reading c X (read_command line) ≡ true → LeftAlone c X (register_behind X (read_command line)))
-    (sym (after_lines_are R earlier)) (nothing_at (read_command line) R earlier c law reached)
+    (sym (after_lines_are R earlier)) (nothing_at (read_command line) R earlier c law good)
 
 -- ---- own lines alone
 

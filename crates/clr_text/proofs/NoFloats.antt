@@ -8,7 +8,7 @@ use Rattle.clr_rules.specs.declared.point_state.PointState.{PointState}
 use Rattle.clr_rules.specs.declared.refusal.Refusal.{Refusal}
 use Rattle.clr_rules.specs.declared.refusal.Refusal.TheVariants as refusals
 use Rattle.clr_rules.specs.declared.reply.Reply.{Reply}
-use Rattle.clr_rules.specs.declared.reply.Reply.TheVariants.{Accepted, Refused, Shown}
+use Rattle.clr_rules.specs.declared.reply.Reply.TheVariants.{Accepted, Added, Refused, Shown}
 use Rattle.clr_text.specs.FaultText.{fault_data}
 use Rattle.clr_text.specs.Json.{hold_data, id_data, name_data, optional_data, point_data, step_data}
 use Rattle.clr_text.specs.RefusalText.{refusal_data}
@@ -65,6 +65,10 @@ in_refusal refusals.CrewsOn = refl
 in_refusal refusals.CrewState = refl
 in_refusal refusals.BadTransfer = refl
 in_refusal refusals.NotAttested = refl
+in_refusal refusals.PointExists = refl
+in_refusal (refusals.CrossesFence by) = refl
+in_refusal refusals.NetworkFull = refl
+in_refusal refusals.SameEnds = refl
 
 pub in_reply : (reply : Reply) → has_float (reply_data reply) ≡ false
 in_reply (Accepted card) = refl
@@ -77,6 +81,7 @@ in_reply (Shown v) =
     let work = in_optional name_data (λ name. refl) v.work in
     rw (crews, fence, holds, points, steps, work) refl
 in_reply (Refused refusal) = in_refusal refusal
+in_reply (Added point) = refl
 
 pub in_fault : (fault : TextFault) → has_float (fault_data fault) ≡ false
 in_fault faults.NotJson = refl

@@ -14,8 +14,9 @@ use Rattle.clr_text.specs.Values.{steps_at, text_at, value_at}
 use Rattle.clr_text.specs.declared.fault.TextFault.TheVariants.{BadValue, MissingKey}
 use Rattle.clr_text.specs.declared.key.Key.{Key}
 use Rattle.clr_text.specs.declared.key.Key.TheVariants.{At, By, Clear, Clearance, Crew, Dead, Do}
-use Rattle.clr_text.specs.declared.key.Key.TheVariants.{Done, Emergency, Notified, Points, Section}
-use Rattle.clr_text.specs.declared.key.Key.TheVariants.{Step, Steps, Text, To}
+use Rattle.clr_text.specs.declared.key.Key.TheVariants.{Done, Emergency, From, Lockable, Notified}
+use Rattle.clr_text.specs.declared.key.Key.TheVariants.{Point, Points, Remote, Section, Step, Steps}
+use Rattle.clr_text.specs.declared.key.Key.TheVariants.{Text, To}
 use Rattle.clr_text.specs.declared.word.Word.{Word}
 
 -- THE KEYS OF EACH COMMAND stand in the order of their bytes, and none stands twice
@@ -37,8 +38,12 @@ fits d Dead = is_ok (flag_at Dead d)
 fits d Do = is_ok (text_at_do d)
 fits d Done = is_ok (flag_at Done d)
 fits d Emergency = is_ok (flag_at Emergency d)
+fits d From = is_ok (name_at From d)
+fits d Lockable = is_ok (flag_at Lockable d)
 fits d Notified = is_ok (flag_at Notified d)
+fits d Point = is_ok (name_at Point d)
 fits d Points = is_ok (points_at d)
+fits d Remote = is_ok (flag_at Remote d)
 fits d Section = is_ok (name_at Section d)
 fits d Step = is_ok (step_at d)
 fits d Steps = is_ok (steps_at d)

@@ -1,41 +1,71 @@
--- The eighteen commands: the word of each, its keys, and what it asks for.
-use Rattle.std.specs.Prelude.{ℕ, List, [], ◌∷◌, codes, find, Option, Result, Ok}
+-- The nineteen commands: the word of each, its keys, and what it asks for.
+use Rattle.std.specs.Prelude.{ℕ, Bool, true, false, List, [], ◌∷◌, codes, filter, find, Option}
+use Rattle.std.specs.Prelude.{Result, Ok}
+use Rattle.std.specs.List.{list_any}
 use Rattle.std.specs.Str.{bytes_eq}
 use Rattle.serde_json.specs.Data.{Data}
 use Rattle.clr_rules.specs.declared.command.Kind.{Kind}
 use Rattle.clr_rules.specs.declared.command.Kind.TheVariants as kind
 use Rattle.clr_text.specs.Answers.{◌>>=◌}
+use Rattle.clr_text.specs.Keys.{every_key, key_text}
 use Rattle.clr_text.specs.Values.{clearance_at, flag_at, name_at, points_at, step_at, steps_at}
 use Rattle.clr_text.specs.Values.{text_at}
 use Rattle.clr_text.specs.declared.fault.TextFault.{TextFault}
 use Rattle.clr_text.specs.declared.key.Key.{Key}
 use Rattle.clr_text.specs.declared.key.Key.TheVariants.{At, By, Clear, Clearance, Crew, Dead, Do}
-use Rattle.clr_text.specs.declared.key.Key.TheVariants.{Done, Emergency, Notified, Points, Section}
-use Rattle.clr_text.specs.declared.key.Key.TheVariants.{Step, Steps, Text, To}
+use Rattle.clr_text.specs.declared.key.Key.TheVariants.{Done, Emergency, From, Lockable, Notified}
+use Rattle.clr_text.specs.declared.key.Key.TheVariants.{Point, Points, Remote, Section, Step, Steps}
+use Rattle.clr_text.specs.declared.key.Key.TheVariants.{Text, To}
 use Rattle.clr_text.specs.declared.word.Word.{Word}
 use Rattle.clr_text.specs.declared.word.Word.TheVariants as word
 
--- THE KEYS of each command, in the order of their bytes: no other may stand, and none may be
--- missing
-abbrev pub keys_of : Word → List Key
-keys_of word.Request = At ∷ By ∷ Do ∷ Section ∷ []
-keys_of word.Order = At ∷ By ∷ Clearance ∷ Do ∷ Points ∷ Steps ∷ []
-keys_of word.Instruct = At ∷ By ∷ Clearance ∷ Do ∷ Step ∷ []
-keys_of word.Repeat = At ∷ By ∷ Clearance ∷ Do ∷ Step ∷ Text ∷ []
-keys_of word.Report = At ∷ By ∷ Clearance ∷ Do ∷ Done ∷ Step ∷ []
-keys_of word.Grant = At ∷ By ∷ Clearance ∷ Do ∷ []
-keys_of word.Test = At ∷ By ∷ Clearance ∷ Dead ∷ Do ∷ Section ∷ []
-keys_of word.Ground = At ∷ By ∷ Clearance ∷ Do ∷ Section ∷ []
-keys_of word.Unground = At ∷ By ∷ Clearance ∷ Do ∷ Section ∷ []
-keys_of word.SignOn = At ∷ By ∷ Clearance ∷ Crew ∷ Do ∷ []
-keys_of word.SignOff = At ∷ By ∷ Clearance ∷ Crew ∷ Do ∷ []
-keys_of word.Transfer = At ∷ By ∷ Clearance ∷ Do ∷ Emergency ∷ To ∷ []
-keys_of word.Release = At ∷ By ∷ Clear ∷ Clearance ∷ Do ∷ Notified ∷ []
-keys_of word.Cancel = At ∷ By ∷ Clearance ∷ Do ∷ []
-keys_of word.Restore = At ∷ By ∷ Clearance ∷ Do ∷ Steps ∷ []
-keys_of word.Amend = At ∷ By ∷ Clearance ∷ Do ∷ Step ∷ []
-keys_of word.Switch = At ∷ By ∷ Do ∷ Steps ∷ []
-keys_of word.Show = By ∷ Clearance ∷ Do ∷ []
+-- THE KEYS that are a command's own, beside those that it has in common with others
+abbrev pub own_keys : Word → List Key
+own_keys word.Request = Section ∷ []
+own_keys word.Order = Points ∷ Steps ∷ []
+own_keys word.Instruct = Step ∷ []
+own_keys word.Repeat = Step ∷ Text ∷ []
+own_keys word.Report = Done ∷ Step ∷ []
+own_keys word.Grant = []
+own_keys word.Test = Dead ∷ Section ∷ []
+own_keys word.Ground = Section ∷ []
+own_keys word.Unground = Section ∷ []
+own_keys word.SignOn = Crew ∷ []
+own_keys word.SignOff = Crew ∷ []
+own_keys word.Transfer = Emergency ∷ To ∷ []
+own_keys word.Release = Clear ∷ Notified ∷ []
+own_keys word.Cancel = []
+own_keys word.Restore = Steps ∷ []
+own_keys word.Amend = Step ∷ []
+own_keys word.Switch = Steps ∷ []
+own_keys word.Show = []
+own_keys word.Jumper = From ∷ Lockable ∷ Point ∷ Remote ∷ To ∷ []
+
+-- a command states its moment
+abbrev pub states_moment : Word → Bool
+states_moment word.Show = false
+states_moment word.Jumper = false
+states_moment _ = true
+
+-- a command names a clearance: those that make a new one do not, nor does one about the network
+abbrev pub names_clearance : Word → Bool
+names_clearance word.Request = false
+names_clearance word.Switch = false
+names_clearance word.Jumper = false
+names_clearance _ = true
+
+-- a command has a key: `by` and `do` each has, `at` where it states its moment, `clearance` where
+-- it names one, and its own
+abbrev pub has_key : Word → Key → Bool
+has_key w At = states_moment w
+has_key w By = true
+has_key w Clearance = names_clearance w
+has_key w Do = true
+has_key w key = list_any (λ own. bytes_eq (key_text own) (key_text key)) (own_keys w)
+
+-- the keys of a command, in the order of their bytes: no other may stand, and none may be missing
+unfoldable pub keys_of : Word → List Key
+keys_of w = filter (has_key w) every_key
 
 -- the word of each command, as it is written
 abbrev pub word_text : Word → List ℕ
@@ -57,13 +87,14 @@ word_text word.Restore = codes "restore"
 word_text word.Amend = codes "amend"
 word_text word.Switch = codes "switch"
 word_text word.Show = codes "show"
+word_text word.Jumper = codes "jumper"
 
 abbrev pub all_words : List Word
 all_words =
     word.Request ∷ word.Order ∷ word.Instruct ∷ word.Repeat ∷ word.Report ∷ word.Grant ∷ word.Test
     ∷ word.Ground ∷ word.Unground
     ∷ word.SignOn ∷ word.SignOff ∷ word.Transfer ∷ word.Release ∷ word.Cancel ∷ word.Restore
-    ∷ word.Amend ∷ word.Switch ∷ word.Show ∷ []
+    ∷ word.Amend ∷ word.Switch ∷ word.Show ∷ word.Jumper ∷ []
 
 -- the word that a text is
 abbrev pub word_named : List ℕ → Option Word
@@ -144,3 +175,10 @@ kind_in word.Switch d = do
 kind_in word.Show d = do
   clearance ← clearance_at d
   Ok (kind.Show clearance)
+kind_in word.Jumper d = do
+  from ← name_at From d
+  lockable ← flag_at Lockable d
+  point ← name_at Point d
+  remote ← flag_at Remote d
+  to ← name_at To d
+  Ok (kind.Jumper point from to lockable remote)

@@ -2,11 +2,11 @@
 -- byte.
 use Rattle.std.specs.Prelude.{◌≡◌, ℕ, Bool, true, List, map, filter, Err}
 use Rattle.clr_rules.specs.Agreement.{Agree}
+use Rattle.clr_rules.specs.Good.{IsGood}
 use Rattle.clr_rules.specs.Isolation.{LeftAlone, ShowTheSame, ShowsOwnAlone}
 use Rattle.clr_rules.specs.Id.{Id}
 use Rattle.clr_rules.specs.Register.{Register}
 use Rattle.clr_rules.specs.declared.reply.Reply.{Reply}
-use Rattle.clr_rules.specs.Run.{IsReached}
 use Rattle.clr_rules.specs.RunHeadline.{IsRun, own_replies}
 use Rattle.clr_text.specs.Lines.{after_line, after_lines, commands_in, is_others_line, is_own_line}
 use Rattle.clr_text.specs.Lines.{line_replies, line_reply, own_line_replies}
@@ -50,7 +50,7 @@ SameShownSameBytes = (c : Id) (inside : List ℕ → Bool) (R T : Register)
 -- open
 abbrev pub OthersLinesTakeNothing : Type 0
 OthersLinesTakeNothing = (R : Register) (earlier : List (List ℕ)) (c : Id) (line : List ℕ)
-    → IsReached R → is_others_line c (after_lines R earlier) line ≡ true
+    → IsGood R → is_others_line c (after_lines R earlier) line ≡ true
     → LeftAlone c (after_lines R earlier) (after_line (after_lines R earlier) line)
 
 -- THE CONSEQUENCE: where no line of others marks the set, a clearance's own lines are answered

@@ -9,8 +9,8 @@ use Rattle.serde_json.specs.Find.{as_object, as_str}
 use Rattle.serde_json.specs.Read.{read}
 use Rattle.clr_rules.specs.declared.command.Command.{Command}
 use Rattle.clr_text.specs.Answers.{◌>>=◌}
-use Rattle.clr_text.specs.Keys.{key_text}
-use Rattle.clr_text.specs.Kinds.{keys_of, kind_in, word_named}
+use Rattle.clr_text.specs.Keys.{every_key, key_text}
+use Rattle.clr_text.specs.Kinds.{has_key, keys_of, kind_in, states_moment, word_named}
 use Rattle.clr_text.specs.Values.{moment_at, name_at, value_at}
 use Rattle.clr_text.specs.declared.fault.TextFault.{TextFault}
 use Rattle.clr_text.specs.declared.fault.TextFault.TheVariants.{BadValue, MissingKey, NotJson}
@@ -19,7 +19,6 @@ use Rattle.clr_text.specs.declared.fault.TextFault.TheVariants.{UnknownKey}
 use Rattle.clr_text.specs.declared.key.Key.{Key}
 use Rattle.clr_text.specs.declared.key.Key.TheVariants.{By, Do}
 use Rattle.clr_text.specs.declared.word.Word.{Word}
-use Rattle.clr_text.specs.declared.word.Word.TheVariants as word
 
 -- the value of a text: UTF-8, and one JSON value with blanks round it. Of a key that stands twice
 -- the last value stays
@@ -34,18 +33,18 @@ text_at_do d = ok_or (value_at Do d) (MissingKey Do) >>= λ v. ok_or (as_str v) 
 abbrev pub word_in : Data → Result Word TextFault
 word_in d = text_at_do d >>= λ text. ok_or (word_named text) UnknownCommand
 
--- the text is one of these keys
-abbrev pub is_key_of : List Key → List ℕ → Bool
-is_key_of keys text = list_any (λ key. bytes_eq text (key_text key)) keys
+-- the text is a key of the command
+abbrev pub is_key_of : Word → List ℕ → Bool
+is_key_of w text = list_any (λ key. has_key w key && bytes_eq text (key_text key)) every_key
 
 -- each key of an object passes a test
 abbrev pub all_keys : (List ℕ → Bool) → Members → Bool
 all_keys test no_members = true
 all_keys test (member key d others) = test key && all_keys test others
 
--- the keys, unless the object has others
-abbrev pub no_others : List Key → Members → Result (List Key) TextFault
-no_others keys members = if all_keys (is_key_of keys) members then Ok keys else Err UnknownKey
+-- the object has keys of the command alone
+abbrev pub no_others : Word → Members → Result Bool TextFault
+no_others w members = if all_keys (is_key_of w) members then Ok true else Err UnknownKey
 
 -- the first of the keys that the object lacks
 unfoldable pub none_missing : List Key → Data → Result Bool TextFault
@@ -53,10 +52,9 @@ none_missing [] d = Ok true
 none_missing (key ∷ keys) d = if is_some (value_at key d) then none_missing keys d
     else Err (MissingKey key)
 
--- the moment of a command: `show` has none, and stands at 0
+-- the moment of a command: one that states none stands at 0
 abbrev pub moment_of : Word → Data → Result ℕ TextFault
-moment_of word.Show d = Ok 0
-moment_of _ d = moment_at d
+moment_of w d = if states_moment w then moment_at d else Ok 0
 
 -- the command of the values, or the first key whose value does not fit
 unfoldable pub values_in : Word → Data → Result Command TextFault
@@ -72,8 +70,8 @@ unfoldable pub command_in : Data → Result Command TextFault
 command_in d = do
   members ← ok_or (as_object d) NotObject
   w ← word_in d
-  keys ← no_others (keys_of w) members
-  all ← none_missing keys d
+  known ← no_others w members
+  all ← none_missing (keys_of w) d
   values_in w d
 
 unfoldable pub read_command : List ℕ → Result Command TextFault

@@ -16,7 +16,9 @@ use Rattle.clr_rules.specs.declared.refusal.Refusal.TheVariants.{RepeatDiffers, 
 use Rattle.clr_rules.specs.declared.refusal.Refusal.TheVariants.{StepsLeft, OutsideFence, NotTested}
 use Rattle.clr_rules.specs.declared.refusal.Refusal.TheVariants.{Grounded, NotGrounded, CrewsOn}
 use Rattle.clr_rules.specs.declared.refusal.Refusal.TheVariants.{CrewState, BadTransfer}
-use Rattle.clr_rules.specs.declared.refusal.Refusal.TheVariants.{NotAttested}
+use Rattle.clr_rules.specs.declared.refusal.Refusal.TheVariants.{NotAttested, PointExists}
+use Rattle.clr_rules.specs.declared.refusal.Refusal.TheVariants.{CrossesFence, NetworkFull}
+use Rattle.clr_rules.specs.declared.refusal.Refusal.TheVariants.{SameEnds}
 use Rattle.clr_text.specs.Json.{id_data, member_if, name_data, whole_data}
 
 -- the name of a refusal, in capitals
@@ -52,11 +54,16 @@ refusal_name CrewsOn = codes "CREWS_ON"
 refusal_name CrewState = codes "CREW_STATE"
 refusal_name BadTransfer = codes "BAD_TRANSFER"
 refusal_name NotAttested = codes "NOT_ATTESTED"
+refusal_name PointExists = codes "POINT_EXISTS"
+refusal_name (CrossesFence by) = codes "CROSSES_FENCE"
+refusal_name NetworkFull = codes "NETWORK_FULL"
+refusal_name SameEnds = codes "SAME_ENDS"
 
 -- the clearance that a refusal names, if it names one
 abbrev pub by_of : Refusal → Option Data
 by_of (InHand by) = Some (id_data by)
 by_of (Held by kind) = Some (id_data by)
+by_of (CrossesFence by) = Some (id_data by)
 by_of _ = None
 
 -- the kind of hold

@@ -6,7 +6,7 @@ use Rattle.serde_json.specs.Written.{compact_text}
 use Rattle.clr_rules.specs.Phase.{phase_text}
 use Rattle.clr_rules.specs.declared.reply.Card.{Card}
 use Rattle.clr_rules.specs.declared.reply.Reply.{Reply}
-use Rattle.clr_rules.specs.declared.reply.Reply.TheVariants.{Accepted, Refused, Shown}
+use Rattle.clr_rules.specs.declared.reply.Reply.TheVariants.{Accepted, Added, Refused, Shown}
 use Rattle.clr_rules.specs.declared.reply.View.{View}
 use Rattle.clr_text.specs.Json.{hold_data, id_data, list_data, name_data, optional_data, point_data}
 use Rattle.clr_text.specs.Json.{step_data, whole_data}
@@ -39,6 +39,9 @@ reply_data (Shown v) = object
     (member (codes "reply") (string (codes "shown"))
     (member (codes "view") (view_data v) no_members))
 reply_data (Refused refusal) = refusal_data refusal
+reply_data (Added point) =
+    object (member (codes "point") (name_data point)
+    (member (codes "reply") (string (codes "added")) no_members))
 
 abbrev pub reply_text : Reply → List ℕ
 reply_text reply = compact_text (reply_data reply)

@@ -35,7 +35,7 @@ whole d = option_and_then as_u64 (as_number d)
 abbrev pub moment_at : Data → Result ℕ TextFault
 moment_at = at_key (λ d. option_and_then new_moment (whole d)) At
 
--- `by`, `section`, `crew`, `to`: the text of a name
+-- `by`, `section`, `crew`, `to`, `from`, `point`: the text of a name
 abbrev pub name_at : Key → Data → Result (List ℕ) TextFault
 name_at = at_key (λ d. option_and_then (λ text. result_ok (read_name text)) (as_str d))
 
@@ -50,7 +50,7 @@ if_step_number n = if nat_le n 65535 then Some n else None
 abbrev pub step_at : Data → Result ℕ TextFault
 step_at = at_key (λ d. option_and_then if_step_number (whole d)) StepKey
 
--- `done`, `dead`, `emergency`, `notified`, `clear`: true or false
+-- `done`, `dead`, `emergency`, `notified`, `clear`, `lockable`, `remote`: true or false
 abbrev pub flag_at : Key → Data → Result Bool TextFault
 flag_at = at_key as_bool
 

@@ -35,6 +35,7 @@ pub(crate) fn kind_in(alloc: Global, word: Word, value: &Value) -> Result<Kind, 
         Word::Amend => amend(value),
         Word::Switch => switch(alloc, value),
         Word::Show => show(value),
+        Word::Jumper => jumper(value),
     }
 }
 
@@ -223,4 +224,22 @@ fn show(value: &Value) -> Result<Kind, TextFault>
 {
     let clearance = clearance_at(value)?;
     Ok(Kind::Show { clearance })
+}
+
+#[tactic(auto, unfolding(crate::specs::Kinds::kind_in))]
+fn jumper(value: &Value) -> Result<Kind, TextFault>
+    ensures { Gives result (kind_in word.Jumper (view value.now)) }
+{
+    let from = name_at(value, Key::From)?;
+    let lockable = flag_at(value, Key::Lockable)?;
+    let point = name_at(value, Key::Point)?;
+    let remote = flag_at(value, Key::Remote)?;
+    let to = name_at(value, Key::To)?;
+    Ok(Kind::Jumper {
+        point,
+        from,
+        to,
+        lockable,
+        remote,
+    })
 }

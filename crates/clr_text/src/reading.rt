@@ -5,6 +5,7 @@ ghost use Rattle.std.specs.List.{list_all};
 ghost use Rattle.std.specs.Option.{ok_or};
 ghost use Rattle.serde_json.specs.View.{members_view, view};
 ghost use Rattle.clr_text.specs.Answers.{Gives, GivesAs};
+ghost use Rattle.clr_text.specs.Kinds.{keys_of};
 ghost use Rattle.clr_text.specs.Reading.{all_keys, command_in, is_key_of, moment_of, none_missing};
 ghost use Rattle.clr_text.specs.Reading.{read_command, text_at_do, value_of, values_in, word_in};
 
@@ -23,7 +24,7 @@ use std::alloc::Global;
 /// Blanks may stand round it and in it; of a key that stands twice the last value counts. A number
 /// that is written with a point or an exponent, `-0`, and one beyond 64 bits are no whole numbers;
 /// one too large for a float is no JSON, and so is a value that nests deeper than 127 levels.
-/// `show` states no moment; its command has 0.
+/// `show` and `jumper` state no moment; their commands have 0.
 #[tactic(auto, unfolding(crate::specs::Reading::read_command))]
 pub fn command_of(alloc: Global, bytes: &[u8]) -> Result<Command, TextFault>
     ensures { Gives result (read_command bytes.now) }
@@ -57,11 +58,10 @@ fn command_in(alloc: Global, value: &Value) -> Result<Command, TextFault>
         return Err(TextFault::NotObject);
     };
     let word = word_in(value)?;
-    let keys = word.keys();
-    if !has_no_others(keys, members) {
+    if !has_no_others(word, members) {
         return Err(TextFault::UnknownKey);
     }
-    none_missing(keys, value)?;
+    none_missing(word, value)?;
     values_in(alloc, word, value)
 }
 
@@ -85,34 +85,37 @@ fn text_at_do(value: &Value) -> Result<&str, TextFault>
     }
 }
 
-/// Whether a text is one of these keys.
-fn is_key_of(keys: &[Key], text: &str) -> bool
-    ensures { result ≡ is_key_of keys.now text.now }
+/// Whether an object has the keys of a command alone.
+fn has_no_others(word: Word, members: &Map<String, Value>) -> bool
+    ensures { result ≡ all_keys (is_key_of word) (members_view members.now.entries) }
 {
-    keys.iter().any(|key| text == key.text())
-}
-
-/// Whether an object has these keys alone.
-fn has_no_others(keys: &[Key], members: &Map<String, Value>) -> bool
-    ensures { result ≡ all_keys (is_key_of keys.now) (members_view members.now.entries) }
-{
-    all_known(keys, members)
+    all_known(word, members)
 }
 
 /// The same, of the keys as the map lists them.
-fn all_known(known: &[Key], members: &Map<String, Value>) -> bool
-    ensures { result ≡ list_all (λ key. is_key_of known.now (string_bytes key)) (keys members.now) }
+fn all_known(word: Word, members: &Map<String, Value>) -> bool
+    ensures { result
+        ≡ list_all (λ key. is_key_of word (string_bytes key)) (keys members.now) }
 {
-    members.keys().all(|text| is_key_of(known, text.as_str()))
+    members.keys().all(|text| is_known(word, text.as_str()))
 }
 
-/// Looks for the first of the keys that an object lacks.
-#[tactic(auto, unfolding(crate::specs::Reading::none_missing))]
-fn none_missing(keys: &[Key], value: &Value) -> Result<bool, TextFault>
-    ensures { Gives result (none_missing keys.now (view value.now)) }
+/// Whether a text is one of a command's keys.
+fn is_known(word: Word, text: &str) -> bool
+    ensures { result ≡ is_key_of word text.now }
 {
-    for key in keys {
-        if value.get(key.text()).is_none() {
+    Key::all()
+        .iter()
+        .any(|key| word.has(*key) && text == key.text())
+}
+
+/// Looks for the first of a command's keys that an object lacks.
+#[tactic(auto, unfolding(crate::specs::Kinds::keys_of, crate::specs::Reading::none_missing))]
+fn none_missing(word: Word, value: &Value) -> Result<bool, TextFault>
+    ensures { Gives result (none_missing (keys_of word) (view value.now)) }
+{
+    for key in Key::all() {
+        if word.has(*key) && value.get(key.text()).is_none() {
             return Err(TextFault::MissingKey(*key));
         }
     }
@@ -134,12 +137,12 @@ fn values_in(alloc: Global, word: Word, value: &Value) -> Result<Command, TextFa
     })
 }
 
-/// The moment of a command: `show` has none, and stands at 0.
+/// The moment of a command: one that states none stands at 0.
 fn moment_of(word: Word, value: &Value) -> Result<Moment, TextFault>
     ensures { Gives result (moment_of word (view value.now)) }
 {
-    if word == Word::Show {
-        return Moment::new(0).ok_or(TextFault::BadValue(Key::At));
+    if word.states_moment() {
+        return moment_at(value);
     }
-    moment_at(value)
+    Moment::new(0).ok_or(TextFault::BadValue(Key::At))
 }

@@ -24,6 +24,7 @@ pub(crate) fn refusal_value(alloc: Global, refusal: &Refusal) -> Result<Value, A
         Refusal::StepsWrong(point) => of_point(alloc, number, name, *point),
         Refusal::UnknownPoint(point) => of_point(alloc, number, name, *point),
         Refusal::InHand(by) => of_clearance(alloc, number, name, *by),
+        Refusal::CrossesFence(by) => of_clearance(alloc, number, name, *by),
         Refusal::Held(by, kind) => of_hold(alloc, number, name, *by, *kind),
         Refusal::UnknownCaller
         | Refusal::WrongRole
@@ -50,6 +51,9 @@ pub(crate) fn refusal_value(alloc: Global, refusal: &Refusal) -> Result<Value, A
         | Refusal::CrewState
         | Refusal::BadTransfer
         | Refusal::NotAttested => bare(alloc, number, name),
+        Refusal::PointExists | Refusal::NetworkFull | Refusal::SameEnds => bare(
+            alloc, number, name,
+        ),
     }
 }
 
@@ -147,5 +151,9 @@ fn refusal_name(refusal: Refusal) -> &'static str
         Refusal::CrewState => "CREW_STATE",
         Refusal::BadTransfer => "BAD_TRANSFER",
         Refusal::NotAttested => "NOT_ATTESTED",
+        Refusal::PointExists => "POINT_EXISTS",
+        Refusal::CrossesFence(_) => "CROSSES_FENCE",
+        Refusal::NetworkFull => "NETWORK_FULL",
+        Refusal::SameEnds => "SAME_ENDS",
     }
 }

@@ -5,6 +5,7 @@ ghost use Rattle.clr_text.specs.Replies.{card_data, reply_data, reply_text, view
 
 use crate::json::{ToJson, list_value, optional_value};
 use crate::refusal_text::refusal_value;
+use clr_net::Name;
 use clr_rules::{Card, Reply, View};
 use serde_json::{Value, json};
 use std::alloc::{AllocError, Global};
@@ -25,6 +26,7 @@ fn reply_value(alloc: Global, reply: &Reply) -> Result<Value, AllocError>
         Reply::Accepted(card) => accepted(alloc, card),
         Reply::Shown(view) => shown(alloc, view),
         Reply::Refused(refusal) => refusal_value(alloc, refusal),
+        Reply::Added(point) => added(alloc, point),
     }
 }
 
@@ -40,6 +42,13 @@ fn shown(alloc: Global, shown: &View) -> Result<Value, AllocError>
 {
     let shown = view_value(alloc, shown)?;
     json!(in alloc; {"reply": "shown", "view": shown})
+}
+
+fn added(alloc: Global, point: &Name) -> Result<Value, AllocError>
+    ensures { IfOk result (λ value. view value ≡ reply_data (Reply.Added point.now)) }
+{
+    let point = point.to_json(alloc)?;
+    json!(in alloc; {"point": point, "reply": "added"})
 }
 
 fn card_value(alloc: Global, card: &Card) -> Result<Value, AllocError>

@@ -1,10 +1,14 @@
 //! The words that name the commands.
 ghost use Rattle.std.specs.Prelude.{◌≡◌};
-ghost use Rattle.clr_text.specs.Kinds.{keys_of, word_named, word_text};
+ghost use Rattle.std.specs.List.{list_any};
+ghost use Rattle.std.specs.Str.{bytes_eq};
+ghost use Rattle.clr_text.specs.Keys.{key_text};
+ghost use Rattle.clr_text.specs.Kinds.{has_key, own_keys, states_moment, word_named};
+ghost use Rattle.clr_text.specs.Kinds.{word_text};
 
 use crate::key::Key;
 
-/// The word at `do`, which says which of the eighteen commands it is.
+/// The word at `do`, which says which of the nineteen commands it is.
 #[derive(Clone, Copy, Debug, PartialEq, Eq)]
 pub(crate) enum Word {
     Request,
@@ -25,11 +29,12 @@ pub(crate) enum Word {
     Amend,
     Switch,
     Show,
+    Jumper,
 }
 
 impl Word {
     /// All words, in the order in which they are declared.
-    const ALL: [Word; 18] = [
+    const ALL: [Word; 19] = [
         Word::Request,
         Word::Order,
         Word::Instruct,
@@ -48,6 +53,7 @@ impl Word {
         Word::Amend,
         Word::Switch,
         Word::Show,
+        Word::Jumper,
     ];
 
     /// The word that a text is.
@@ -80,76 +86,54 @@ impl Word {
             Word::Amend => "amend",
             Word::Switch => "switch",
             Word::Show => "show",
+            Word::Jumper => "jumper",
         }
     }
 
-    /// The keys of the command, in the order of their bytes.
-    pub(crate) fn keys(self) -> &'static [Key]
-        ensures { result.now ≡ keys_of self }
+    /// The keys that are the command's own, beside those that it has in common with others.
+    fn own_keys(self) -> &'static [Key]
+        ensures { result.now ≡ own_keys self }
     {
         match self {
-            Word::Request => &[Key::At, Key::By, Key::Do, Key::Section],
-            Word::Order => &[
-                Key::At,
-                Key::By,
-                Key::Clearance,
-                Key::Do,
-                Key::Points,
-                Key::Steps,
-            ],
-            Word::Repeat => &[
-                Key::At,
-                Key::By,
-                Key::Clearance,
-                Key::Do,
-                Key::Step,
-                Key::Text,
-            ],
-            Word::Report => &[
-                Key::At,
-                Key::By,
-                Key::Clearance,
-                Key::Do,
-                Key::Done,
-                Key::Step,
-            ],
-            Word::Grant | Word::Cancel => &[Key::At, Key::By, Key::Clearance, Key::Do],
-            Word::Test => &[
-                Key::At,
-                Key::By,
-                Key::Clearance,
-                Key::Dead,
-                Key::Do,
-                Key::Section,
-            ],
-            Word::Ground | Word::Unground => &[
-                Key::At,
-                Key::By,
-                Key::Clearance,
-                Key::Do,
-                Key::Section,
-            ],
-            Word::SignOn | Word::SignOff => &[Key::At, Key::By, Key::Clearance, Key::Crew, Key::Do],
-            Word::Transfer => &[
-                Key::At,
-                Key::By,
-                Key::Clearance,
-                Key::Do,
-                Key::Emergency,
-                Key::To,
-            ],
-            Word::Release => &[
-                Key::At,
-                Key::By,
-                Key::Clear,
-                Key::Clearance,
-                Key::Do,
-                Key::Notified,
-            ],
-            Word::Restore => &[Key::At, Key::By, Key::Clearance, Key::Do, Key::Steps],
-            Word::Instruct | Word::Amend => &[Key::At, Key::By, Key::Clearance, Key::Do, Key::Step],
-            Word::Switch => &[Key::At, Key::By, Key::Do, Key::Steps],
-            Word::Show => &[Key::By, Key::Clearance, Key::Do],
+            Word::Request | Word::Ground | Word::Unground => &[Key::Section],
+            Word::Order => &[Key::Points, Key::Steps],
+            Word::Instruct | Word::Amend => &[Key::Step],
+            Word::Repeat => &[Key::Step, Key::Text],
+            Word::Report => &[Key::Done, Key::Step],
+            Word::Test => &[Key::Dead, Key::Section],
+            Word::SignOn | Word::SignOff => &[Key::Crew],
+            Word::Transfer => &[Key::Emergency, Key::To],
+            Word::Release => &[Key::Clear, Key::Notified],
+            Word::Restore | Word::Switch => &[Key::Steps],
+            Word::Grant | Word::Cancel | Word::Show => &[],
+            Word::Jumper => &[Key::From, Key::Lockable, Key::Point, Key::Remote, Key::To],
+        }
+    }
+
+    /// Whether the command states its moment: `show` and `jumper` do not.
+    pub(crate) fn states_moment(self) -> bool
+        ensures { result ≡ states_moment self }
+    {
+        !matches!(self, Word::Show | Word::Jumper)
+    }
+
+    /// Whether a key is the command's own.
+    fn has_own(self, key: Key) -> bool
+        ensures { result ≡ list_any (λ own. bytes_eq (key_text own) (key_text key)) (own_keys self) }
+    {
+        self.own_keys().iter().any(|own| own.text() == key.text())
+    }
+
+    /// Whether the command has a key.
+    pub(crate) fn has(self, key: Key) -> bool
+        ensures { result ≡ has_key self key }
+    {
+        match key {
+            Key::At => self.states_moment(),
+            Key::By | Key::Do => true,
+            // Those that make a new clearance name none, and a jumper is about none.
+            Key::Clearance => !matches!(self, Word::Request | Word::Switch | Word::Jumper),
+            _ => self.has_own(key),
         }
     }
 }

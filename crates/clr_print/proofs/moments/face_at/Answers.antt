@@ -1,5 +1,5 @@
 use Rattle.std.proofs.Common.{◌≡◌, ℕ, ℤ, pos, ◌<◌, ◌∙◌, ◌+ℤ◌, ◌*ℤ◌, ap, arith, rules, FitsSigned, to_z, of_z, to_z-of_z, w8, w16, unsigned_abs}
-use Rattle.jiff.specs.Types.{Date, DateTime, Time}
+use Rattle.jiff.specs.Types.{Date, Time}
 use Rattle.jiff.specs.Words.{civil_nanos, nanos_of_seconds}
 use Rattle.jiff.proofs.SpanFacts.{signed_arith}
 use Rattle.clr_print.specs.Moments.{face_at, local_seconds}

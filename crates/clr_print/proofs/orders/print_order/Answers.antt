@@ -1,6 +1,5 @@
-use Rattle.std.proofs.Common.{◌≡◌, ◌∙◌, ap, sym, List, ℕ, ℤ, ◌==◌, Option, Some, Bor, filter, map, FitsSigned, w16, to_z-of_z}
+use Rattle.std.proofs.Common.{◌≡◌, ◌∙◌, ap, List, ℤ, ◌==◌, Option, Some, Bor, map, FitsSigned, w16, to_z-of_z}
 use Rattle.std.proofs.lemmas.Result.{IfOk-weaker}
-use Rattle.clr_rules.specs.Records.{record_of}
 use Rattle.clr_rules.specs.Steps.{steps_of}
 use Rattle.clr_rules.specs.declared.record.Record.{Record}
 use Rattle.clr_rules.specs.declared.step_row.StepRow.{StepRow}

@@ -1,4 +1,4 @@
-use Rattle.std.proofs.Common.{◌≡◌, ◌∙◌, sym, ap, List, ℕ, ◌++◌, Some, false, string_bytes, codes}
+use Rattle.std.proofs.Common.{◌≡◌, ◌∙◌, sym, ap, List, ℕ, ◌++◌, Some, false, codes}
 use Rattle.clr_rules.specs.declared.step_row.StepRow.{StepRow}
 use Rattle.std.proofs.Common.{Bor, map, length, ◌==◌}
 use Rattle.std.specs.List.{flat_map}
