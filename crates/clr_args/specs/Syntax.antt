@@ -65,6 +65,10 @@ serve =
     (number_rule (codes "port") 65535))
     (number_rule (codes "count") 1000000)
 
+-- `migrate DB`
+abbrev pub migrate : App
+migrate = with_rule (new_app (codes "migrate")) (required_rule (codes "DB"))
+
 -- `gridclear` alone: it has a version, and asks for a subcommand
 abbrev pub top : App
 top = record {
@@ -76,6 +80,6 @@ top = record {
 -- the program with its subcommands
 abbrev pub gridclear : App
 gridclear =
-    with_subcommand (with_subcommand
+    with_subcommand (with_subcommand (with_subcommand
     (with_subcommand (with_subcommand (with_subcommand (with_subcommand top fence.top) init.top)
-    run.top) order.top) board.top) serve.top
+    run.top) order.top) board.top) serve.top) migrate.top

@@ -7,6 +7,7 @@ mod arguments;
 mod board;
 mod fence;
 mod init;
+mod migrate;
 mod order;
 mod run;
 mod serve;
@@ -47,7 +48,9 @@ pub fn command<'a>(alloc: Global) -> Result<Command<'a>, AllocError>
     let board = board::command(alloc)?;
     let with_board = with_order.subcommand(board)?;
     let serve = serve::command(alloc)?;
-    let command = with_board.subcommand(serve)?;
+    let with_serve = with_board.subcommand(serve)?;
+    let migrate = migrate::command(alloc)?;
+    let command = with_serve.subcommand(migrate)?;
     Ok(command)
 }
 

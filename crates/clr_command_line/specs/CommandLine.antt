@@ -14,12 +14,13 @@ use Rattle.clr_commands.specs.Fence.{FencesAt}
 use Rattle.clr_commands.specs.Init.{InitsAt, MakesAt}
 use Rattle.clr_command_line.specs.Outcome.{ComesTo, IsAnswer, IsHelpOrUnread, IsNoAnswer, IsServer}
 use Rattle.clr_command_line.specs.Outcome.{TellsOwnFault, answer_of}
+use Rattle.clr_commands.specs.Migrate.{MigratesAt}
 use Rattle.clr_commands.specs.Run.{RunsAsked, RunsAtPath, RunsNamed}
 use Rattle.clr_commands.specs.Stored.{BoardAt, OrdersAt}
 use Rattle.clr_args.specs.Asked.{word_in}
 use Rattle.clr_args.specs.Syntax.{gridclear}
 use Rattle.clr_csv.specs.Streams.{Sends, Stream}
-use Rattle.clr_edge.specs.Database.{IsMadeAt, ReadsAt}
+use Rattle.clr_edge.specs.Database.{IsMadeAt, IsMovedAt, ReadsAt}
 use Rattle.clr_edge.specs.Fault.{told_line}
 use Rattle.clr_edge.specs.declared.fault.Fault.{Fault}
 use Rattle.clr_edge.specs.declared.fault.Fault.TheVariants.{Memory}
@@ -43,17 +44,19 @@ pub record IsNoSubcommand (name : Text) : Type 0 where
   pub order : name ≢ codes "order"
   pub board : name ≢ codes "board"
   pub serve : name ≢ codes "serve"
+  pub migrate : name ≢ codes "migrate"
 
 -- What a command line runs over: what stands in the file at a path, the register in the database at
 -- a path, and what standard input gives, where they are known; that the opening register was made in
--- the database at a path; that the database at a path was opened, and only read; and that the input
--- was answered over it, and this was printed.
+-- the database at a path; that the database at a path was opened, and only read, or its tables were
+-- moved; and that the input was answered over it, and this was printed.
 pub record Around : Type 1 where
   pub bytes_at : List ℕ → Option (List ℕ)
   pub register_at : List ℕ → Option Register
   pub input : Option (List ℕ)
   pub IsMade : List ℕ → Register → Type 0
   pub IsRead : List ℕ → Type 0
+  pub IsMoved : List ℕ → Type 0
   pub IsRun : List ℕ → Printed → Type 0
 
 -- the same, where `is_at` says what the database at a path showed as it was opened
@@ -65,6 +68,7 @@ around g bytes_at register_at is_at input = record {
   input = input;
   IsMade = λ path. IsMadeAt g (is_at path);
   IsRead = λ path. ReadsAt g (is_at path);
+  IsMoved = λ path. IsMovedAt g (is_at path);
   IsRun = λ path. RunsAtPath g (is_at path) input;
 }
 
@@ -86,6 +90,9 @@ pub record AnswersTo (world : Around) (name : Text) (rows : List Row)
       BoardAt (λ text. string_bytes text) world.register_at rows told
       × OnOk told (world.IsRead (word_in rows (codes "DB")))) result
   pub serve : name ≡ codes "serve" → IsServer rows result
+  pub migrate : name ≡ codes "migrate" → IsWhole (λ told.
+      MigratesAt (λ text. string_bytes text) world.register_at rows told
+      × OnOk told (world.IsMoved (word_in rows (codes "DB")))) result
   pub others : IsNoSubcommand name → IsNoAnswer result
 
 -- the same of the subcommand that words name; words that name none have no answer

@@ -19,6 +19,7 @@ use clr_args::syntax;
 use clr_commands::board::board;
 use clr_commands::fence::fence;
 use clr_commands::init::init;
+use clr_commands::migrate::migrate;
 use clr_commands::order::order;
 use clr_commands::replies::Printed;
 use clr_commands::run::run;
@@ -173,6 +174,7 @@ where
             let args = ServeArgs::of_words(rt.alloc(), matches)?;
             Ok(Outcome::Serve(args))
         }
+        "migrate" => whole(migrate(rt, matches)),
         _ => {
             let text = format!(in rt.alloc(); "error: there is no subcommand {name}\n")?;
             Ok(Outcome::Unread(text))

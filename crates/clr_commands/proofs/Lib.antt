@@ -4,6 +4,7 @@ pub mod Databases
 pub mod Faults
 pub mod Found
 pub mod MadeRegisters
+pub mod Migrates
 pub mod OfNoReader
 pub mod PointsNamed
 pub mod ReadFiles

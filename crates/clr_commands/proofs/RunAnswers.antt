@@ -9,7 +9,7 @@ use Rattle.clr_csv.specs.StaffRows.{staff_of}
 use Rattle.clr_csv.specs.declared.employee.StaffRow.{StaffRow}
 use Rattle.clr_rules.specs.Good.{IsGood}
 use Rattle.clr_rules.specs.Register.{Register}
-use Rattle.clr_edge.specs.Files.{told_of}
+use Rattle.clr_edge.specs.Files.{HasCause, told_of}
 use Rattle.clr_rules.specs.declared.reply.Reply.{Reply}
 use Rattle.clr_commands.specs.Replies.{AnswersInput, AnswersOver}
 use Rattle.sqlite.specs.Held.{Held, state}
@@ -23,6 +23,8 @@ use Rattle.clr_edge.specs.Fault.{of_store}
 use Rattle.clr_load.specs.declared.fault.StoreFault.{StoreFault}
 use Rattle.clr_load.specs.declared.fault.StoreFault.TheVariants as store
 use Rattle.clr_edge.specs.declared.fault.InputFault.TheVariants.{ReadFailed, TooLong}
+use Rattle.clr_edge.specs.declared.fault.ImportFile.{ImportFile}
+use Rattle.clr_commands.specs.Faults.{IsOfSubcommand}
 use Rattle.clr_edge.specs.declared.fault.ImportFile.TheVariants.{Sections, Points, Staff}
 use Rattle.clr_commands.specs.declared.replies.Printed.{Printed}
 
@@ -179,3 +181,19 @@ run_left {T} g before opened last after R S input (Ok printed) read good is_regi
   answers = subst (λ (h : Held T). AnswersOver (state g opened) (state g h) R S bytes printed) (sym same) answers;
 }
 run_left g before opened last after R S input (Err fault) read good is_register same answered = tt
+
+-- a fault of the input is of no file,
+pub input_has_cause : {T : Type 0} (file : ImportFile) (fault : Fault) (result : Result T Fault) (before after : ℕ) → IsOfInput fault
+    → IsErrAnd result (λ cause. cause ≡ fault) → HasCause file result before after
+input_has_cause file fault (Ok value) before after is passed = absurd passed
+input_has_cause file fault (Err cause) before after (inl memory) passed = λ e. absurd (cc (e, passed, memory))
+input_has_cause file fault (Err cause) before after (inr (inl failed)) passed = λ e. absurd (cc (e, passed, failed))
+input_has_cause file fault (Err cause) before after (inr (inr long)) passed = λ e. absurd (cc (e, passed, long))
+
+-- and one that a subcommand tells
+pub input_of_subcommand : {T : Type 0} (fault : Fault) (result : Result T Fault) → IsOfInput fault → IsErrAnd result (λ cause. cause ≡ fault)
+    → IfErr result IsOfSubcommand
+input_of_subcommand fault (Ok value) is passed = absurd passed
+input_of_subcommand fault (Err cause) (inl memory) passed = (λ e. cc (e, passed, memory), λ e. cc (e, passed, memory))
+input_of_subcommand fault (Err cause) (inr (inl failed)) passed = (λ e. cc (e, passed, failed), λ e. cc (e, passed, failed))
+input_of_subcommand fault (Err cause) (inr (inr long)) passed = (λ e. cc (e, passed, long), λ e. cc (e, passed, long))

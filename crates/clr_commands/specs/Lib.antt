@@ -2,6 +2,7 @@ pub mod Faults
 pub mod Fence
 pub mod Init
 pub mod Lines
+pub mod Migrate
 pub mod Order
 pub mod Replies
 pub mod Run

@@ -4,6 +4,7 @@
 pub mod board;
 pub mod fence;
 pub mod init;
+pub mod migrate;
 pub mod order;
 pub mod replies;
 pub mod run;

@@ -24,13 +24,14 @@ use clap::ArgMatches;
 use clr_args::words::{option_of, words_of};
 use clr_csv::{CountedRead, Staff, StaffRow, read_whole};
 use clr_desk::Desk;
-use clr_edge::database::{Databases, close, desk_over};
+use clr_edge::database::{Databases, close, desk_over, in_memory};
 use clr_edge::fault::{Fault, ImportFile, InputFault};
 use clr_edge::files::{Source, points_from, sections_from, staff_from};
 use clr_edge::paths::Opens;
+use clr_memory::MemoryFile;
 use clr_net::{Network, PointRow, SectionRow};
 use clr_store::StoreFault;
-use sqlite::{Alter, Connection, MemStore};
+use sqlite::{Alter, Connection, FileStore};
 use std::alloc::Global;
 
 /// The most bytes of standard input.
@@ -242,7 +243,7 @@ pub fn desk_in_memory(
     sections: Vec<SectionRow>,
     points: Vec<PointRow>,
     staff: Vec<StaffRow>,
-) -> Result<Desk<MemStore>, Fault>
+) -> Result<Desk<FileStore<MemoryFile>>, Fault>
     ensures opens { IfOk result (λ desk.
         IsOpeningOf sections.items points.items staff.items desk.book.register) }
     ensures reached { IfOk result (λ desk. IsReached desk.book.register) }
@@ -255,7 +256,7 @@ pub fn desk_in_memory(
 {
     let network = Network::build(alloc, sections, points)?;
     let staff = Staff::build(alloc, staff)?;
-    let connection = Connection::open_in_memory(alloc)?;
+    let connection = in_memory(alloc)?;
     match Desk::create(alloc, connection, network, staff) {
         Ok(desk) => Ok(desk),
         Err((fault, _)) => Err(Fault::from(fault)),

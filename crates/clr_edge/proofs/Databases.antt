@@ -1,11 +1,17 @@
 -- Faults of databases that are known to have a register.
 use Rattle.std.proofs.Common.{◌≡◌, ◌↔◌, ◌∙◌, ◌⊎◌, IsTrue, None, Option, Some, ⊎_elim, arith, inl, inr, refl, subst, sym, ℤ, Result, Ok, Err}
 use Rattle.std.proofs.lemmas.Option.{none-some}
-use Rattle.std.specs.Prelude.{OnOk, pos}
+use Rattle.std.specs.Prelude.{IfErr, IfSome, IsErrAnd, OnOk, pos}
+use Rattle.sqlite.specs.Effect.{Database}
+use Rattle.sqlite.specs.Files.{over_files}
+use Rattle.sqlite.specs.Held.{Held, state}
 use Rattle.sqlite.specs.State.{HasCleanDisk, State, Survives}
 use Rattle.sqlite_disk.specs.Disk.{MoreFaults}
+use Rattle.sqlite_disk.specs.declared.Disk as disk
+use Rattle.sqlite_store.specs.declared.store.FileStore.{FileStore}
 use Rattle.sqlite_trees.specs.Tree.{Trees}
 use Rattle.clr_tables.specs.declared.table_name.TableName.{TableName}
+use Rattle.clr_tables.specs.declared.table_name.TableName.TheVariants as tables
 use Rattle.clr_book.specs.Book.{Shelved}
 use Rattle.clr_desk.specs.AtFault.{table_at_fault}
 use Rattle.clr_desk.specs.Opening.{OpensAs}
@@ -20,13 +26,14 @@ use Rattle.sqlite.specs.declared.error.ErrorCode.TheVariants as code
 use Rattle.clr_load.specs.Cause.{SqlHasCause, fault_of}
 use Rattle.clr_load.proofs.Causes.{able_or_failed, has_cause}
 use Rattle.clr_store.specs.Contract.{RefusesVersion}
+use Rattle.clr_store.specs.Moving.{RefusesToMove}
 use Rattle.clr_load.specs.declared.fault.StoreFault.{StoreFault}
 use Rattle.clr_load.specs.declared.fault.StoreFault.TheVariants as store
 use Rattle.clr_tables.specs.RowsRead.{read_version, rows_read}
 use Rattle.clr_tables.specs.Tables.{Tables, tables_of}
 use Rattle.clr_edge.specs.Fault.{of_desk, of_store}
 use Rattle.clr_edge.specs.declared.fault.Fault.{Fault}
-use Rattle.clr_edge.specs.Database.{IsOfLine, IsOfUnfit, RefusesTables}
+use Rattle.clr_edge.specs.Database.{IsMoved, IsOfLine, IsOfUnfit, IsUnmovedAt, IsUnopened, RefusesTables}
 
 -- a fault of the desk's commands is told as one of a line
 pub IsOfLine-of_command : (fault : DeskFault) → IsOfCommand fault → IsOfLine (of_desk fault)
@@ -42,11 +49,11 @@ IsOfCommand-shut Open fault (inl open_then) is = is open_then
 IsOfCommand-shut Open fault (inr refused) is = refused
 
 -- the tables of a register are of the version that is read
-pub read_version-tables_of : (R : Register) → read_version (tables_of R).meta ≡ Ok (pos 1)
+pub read_version-tables_of : (R : Register) → read_version (tables_of R).meta ≡ Ok (pos 2)
 unfolding read_version
 read_version-tables_of R = refl
 
-refused_line : (fault : StoreFault) → RefusesVersion (Ok (pos 1)) fault → IsOfLine (of_store fault)
+refused_line : (fault : StoreFault) → RefusesVersion (Ok (pos 2)) fault → IsOfLine (of_store fault)
 refused_line store.Sql is = inr refl
 refused_line (store.WrongVersion n) (is, other) = absurd (other (cc is))
 refused_line (store.BadRow table) is = absurd (cc is)
@@ -55,6 +62,23 @@ refused_line store.NoMemory is = inl refl
 -- so only the database itself refuses them
 pub IsOfLine-of_version : (R : Register) (fault : StoreFault) → RefusesVersion (read_version (tables_of R).meta) fault → IsOfLine (of_store fault)
 IsOfLine-of_version R fault refused = refused_line fault (subst (λ read. RefusesVersion read fault) (read_version-tables_of R) refused)
+
+moved_line : (fault : StoreFault) → RefusesToMove (Ok (pos 2)) fault → IsOfLine (of_store fault)
+moved_line store.Sql is = inr refl
+moved_line (store.WrongVersion n) (is, one, two) = absurd (two (cc is))
+moved_line (store.BadRow tables.Meta) is = absurd (cc is)
+moved_line (store.BadRow tables.Point) is = absurd (cc is)
+moved_line (store.BadRow tables.Section) is = absurd is
+moved_line (store.BadRow tables.NetworkPoint) is = absurd is
+moved_line (store.BadRow tables.Staff) is = absurd is
+moved_line (store.BadRow tables.Clearance) is = absurd is
+moved_line (store.BadRow tables.Step) is = absurd is
+moved_line (store.BadRow tables.Hold) is = absurd is
+moved_line store.NoMemory is = inl refl
+
+-- and only the database itself refuses to move them
+pub IsOfLine-of_move : (R : Register) (fault : StoreFault) → RefusesToMove (read_version (tables_of R).meta) fault → IsOfLine (of_store fault)
+IsOfLine-of_move R fault refused = moved_line fault (subst (λ read. RefusesToMove read fault) (read_version-tables_of R) refused)
 
 -- what two calls leave that commit nothing
 pub survives_on : (s t u : State) → Survives s t (λ _. ⊥) → Survives t u (λ _. ⊥) → Survives s u (λ _. ⊥)
@@ -93,6 +117,30 @@ line_of_error _ = inr refl
 pub was_clean : (s t : State) (Commits : Trees → Type 0) → Survives s t Commits → HasCleanDisk t → HasCleanDisk s
 was_clean s t Commits survives clean = omega (arith, survives.clean, clean)
 
+-- what is known of a fault, whatever is known of the register
+pub IfSome-line : {T A : Type 0} (o : Option A) (result : Result T Fault) → IfErr result IsOfLine → IfSome o (λ _. IfErr result IsOfLine)
+IfSome-line None result line = tt
+IfSome-line (Some a) result line = line
+
+-- what follows of the register that is known
+pub IfSome-then : {A : Type 0} (o : Option A) (P : A → Type 0) (Q : Type 0) → ((a : A) → P a → Q) → IfSome o P → IfSome o (λ _. Q)
+IfSome-then None P Q from is = tt
+IfSome-then (Some a) P Q from is = from a is
+
+-- a fault that was told, and one that is passed on
+pub IfErr-was : {T : Type 0} (told : Result T Fault) (fault : Fault) (P : Fault → Type 0) → told ≡ Err fault → IfErr told P → P fault
+IfErr-was {T} told fault P was holds = let Q : Result T Fault → Type 0 = λ r. IfErr r P in subst Q was holds
+
+pub IfErr-passed : {T : Type 0} (result : Result T Fault) (fault : Fault) (P : Fault → Type 0) → IsErrAnd result (λ cause. cause ≡ fault) → P fault
+    → IfErr result P
+IfErr-passed (Ok value) fault P is holds = absurd is
+IfErr-passed (Err cause) fault P is holds = subst P (sym is) holds
+
+-- a database that is not opened is told as one of a line
+pub IsOfLine-unopened : (IsShut : Type 0) (fault : Fault) → IsUnopened IsShut fault → IsOfLine fault
+IsOfLine-unopened IsShut fault (inl memory) = inl memory
+IsOfLine-unopened IsShut fault (inr (sql, shut)) = inr sql
+
 -- a fault of the store, told by the desk
 pub of_desk-of_store : (cause : StoreFault) → of_desk (desk_of_store cause) ≡ of_store cause
 of_desk-of_store store.Sql = refl
@@ -110,6 +158,14 @@ RefusesVersion-of_command read store.NoMemory is = tt
 pub OnOk-any : {T : Type 0} (result : Result T Fault) (P : Type 0) → P → OnOk result P
 OnOk-any (Ok value) P holds = holds
 OnOk-any (Err fault) P holds = tt
+
+-- why a move is told as a fault behind the closing: the tables were not moved, or they were, and the
+-- closing failed
+pub IsUnmovedAt-closing : {T D : Type 0} (g : disk.Ghosts D) (IsAt : Database → Type 0) (IsShut : Type 0) (closed : Result T Fault)
+    (before after : Held (FileStore D g)) → IsAt (state over_files before).now → IsMoved over_files before after
+    → IfErr closed IsOfLine → IfErr closed (IsUnmovedAt g IsAt IsShut)
+IsUnmovedAt-closing g IsAt IsShut (Ok value) before after at moved line = tt
+IsUnmovedAt-closing g IsAt IsShut (Err fault) before after at moved line = inr (before, after, at, inr (line, moved))
 
 pub OnOk-was : {T : Type 0} (result : Result T Fault) (value : T) (P : Type 0) → result ≡ Ok value → OnOk result P → P
 OnOk-was {T} result value P was holds = let Q : Result T Fault → Type 0 = λ r. OnOk r P in subst Q was holds

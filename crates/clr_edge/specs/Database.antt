@@ -1,8 +1,9 @@
 -- Registers that databases have, and faults of the databases themselves.
-use Rattle.std.specs.Prelude.{◌≡◌, ◌⊎◌, false, IsTrue, Some, Ok, Err}
+use Rattle.std.specs.Prelude.{◌≡◌, ◌≢◌, ◌⊎◌, false, IsTrue, List, Some, Ok, Err, pos}
 use Rattle.sqlite.specs.Effect.{Database}
 use Rattle.sqlite.specs.Files.{over_files}
 use Rattle.sqlite.specs.Held.{Held, state}
+use Rattle.sqlite.specs.Order.{Row}
 use Rattle.sqlite.specs.State.{HasCleanDisk, Survives}
 use Rattle.sqlite_disk.specs.declared.Disk as disk
 use Rattle.sqlite_store.specs.declared.store.FileStore.{FileStore}
@@ -11,12 +12,15 @@ use Rattle.clr_rules.specs.Good.{IsGood}
 use Rattle.clr_rules.specs.Register.{Register}
 use Rattle.clr_load.specs.Cause.{SqlHasCause}
 use Rattle.clr_load.specs.Contract.{IsSaved}
-use Rattle.clr_load.specs.Stored.{AreTables, HasTables}
+use Rattle.clr_load.specs.Stored.{AreTables, HasMeta, HasOldTables, HasTables}
 use Rattle.clr_load.specs.declared.fault.StoreFault.{StoreFault}
 use Rattle.clr_load.specs.declared.fault.StoreFault.TheVariants.{BadRow, Sql}
 use Rattle.clr_store.specs.Contract.{RefusesVersion}
+use Rattle.clr_store.specs.Moving.{LeavesMoved, RefusesMove, RefusesToMove}
 use Rattle.clr_tables.specs.RowsRead.{read_version, rows_read}
-use Rattle.clr_tables.specs.Tables.{Tables, tables_of}
+use Rattle.clr_tables.specs.TableEdits.{tables_moved}
+use Rattle.clr_tables.specs.TableLaws.{HasNoJumper}
+use Rattle.clr_tables.specs.Tables.{Tables, tables_by, tables_of, version_one}
 use Rattle.clr_tables.specs.TypedRows.{IsTyped}
 use Rattle.clr_tables.specs.declared.table_name.TableName.{TableName}
 use Rattle.clr_book.specs.Book.{Shelved}
@@ -47,9 +51,11 @@ pub record HasRegister {S : Type 0} (g : Ghosts S) (R : Register) (connection : 
   pub tables : HasTables (state g connection).now (tables_of R)
   pub clean : (after : Held S) → HasCleanDisk (state g after)
 
--- a database was read, and not changed: its tables are the same where the disk is clean and the
--- connection open, and a crash leaves what it left before
+-- a database of version 2 was read, and not changed: its tables are the same where the disk is clean
+-- and the connection open, and a crash leaves what it left before
 pub record IsOnlyRead {S : Type 0} (g : Ghosts S) (before after : Held S) : Type 0 where
+  pub version : HasCleanDisk (state g after) → (meta : List Row)
+      → HasMeta (state g before).now meta → read_version meta ≡ Ok (pos 2)
   pub same : HasCleanDisk (state g after) → IsTrue (state g after).is_open
       → (state g after).now ≡ (state g before).now
   pub survives : Survives (state g before) (state g after) (λ _. ⊥)
@@ -93,7 +99,7 @@ abbrev pub RefusesUnfit : Tables → StoreFault → Type 0
 RefusesUnfit t cause = (book : Shelved)
     × OpensAs (λ (b : Shelved). b.register) (rows_read t) (Ok book) × IsOfUnfit book.register cause
 
--- why tables are not opened: the database refuses them, their version does not read or is not 1,
+-- why tables are not opened: the database refuses them, their version does not read or is not 2,
 -- their rows give no register, or one that is not good
 abbrev pub RefusesTables : Tables → StoreFault → Type 0
 RefusesTables t cause = RefusesVersion (read_version t.meta) cause
@@ -101,12 +107,65 @@ RefusesTables t cause = RefusesVersion (read_version t.meta) cause
     ⊎ RefusesUnfit t cause
 
 -- the fault that is told of a database that is not opened. Of tables that are there it is theirs,
--- and `Sql` has a cause
+-- another version is told as what it is, and `Sql` has a cause
 pub record IsRefused {S : Type 0} (g : Ghosts S) (before : Held S) (told : Fault) (after : Held S)
     : Type 0 where
   pub fault : StoreFault
   pub told_is : told ≡ of_store fault
   pub refuses : HasCleanDisk (state g after) → (t : Tables) → HasTables (state g before).now t
       → RefusesTables t fault
+  pub version : HasCleanDisk (state g after) → before.in_transaction ≡ false → (meta : List Row)
+      → HasMeta (state g before).now meta → read_version meta ≢ Ok (pos 2)
+      → RefusesVersion (read_version meta) fault
+      × SqlHasCause (state g before) (state g after) fault
   pub cause : HasCleanDisk (state g after) → before.in_transaction ≡ false → (t : Tables)
       → HasTables (state g before).now t → SqlHasCause (state g before) (state g after) fault
+
+-- THE TABLES ARE OF VERSION 2: those of version 1 were moved, and those of version 2 are as before,
+-- where the disk is clean. A crash leaves the tables that were moved, or what it left before
+pub record IsMoved {S : Type 0} (g : Ghosts S) (before after : Held S) : Type 0 where
+  pub version : HasCleanDisk (state g after) → (meta : List Row)
+      → HasMeta (state g before).now meta
+      → (read_version meta ≡ Ok (pos 1)) ⊎ (read_version meta ≡ Ok (pos 2))
+  pub moved : HasCleanDisk (state g after) → (t : Tables) → HasOldTables (state g before).now t
+      → read_version t.meta ≡ Ok (pos 1)
+      → IsSaved (state g after) × HasTables (state g after).now (tables_moved t)
+  pub register : HasCleanDisk (state g after) → (R : Register) → HasNoJumper R
+      → HasOldTables (state g before).now (tables_by version_one R)
+      → HasTables (state g after).now (tables_of R)
+  pub same : HasCleanDisk (state g after) → IsTrue (state g after).is_open → (meta : List Row)
+      → HasMeta (state g before).now meta → read_version meta ≡ Ok (pos 2)
+      → (state g after).now ≡ (state g before).now
+  pub survives : Survives (state g before) (state g after) (LeavesMoved (state g before).now)
+
+-- they were not moved: where the disk is clean and the connection open, the database is as before.
+-- Of tables that are there the fault that is told is theirs
+pub record IsUnmoved {S : Type 0} (g : Ghosts S) (before : Held S) (told : Fault) (after : Held S)
+    : Type 0 where
+  pub fault : StoreFault
+  pub told_is : told ≡ of_store fault
+  pub unread : HasCleanDisk (state g after) → (meta : List Row)
+      → HasMeta (state g before).now meta → RefusesToMove (read_version meta) fault
+  pub refuses : HasCleanDisk (state g after) → (t : Tables) → HasOldTables (state g before).now t
+      → RefusesMove t fault
+  pub cause : HasCleanDisk (state g after) → before.in_transaction ≡ false → (meta : List Row)
+      → HasMeta (state g before).now meta → read_version meta ≢ Ok (pos 1)
+      → SqlHasCause (state g before) (state g after) fault
+  pub same : HasCleanDisk (state g after) → IsTrue (state g after).is_open
+      → (state g after).now ≡ (state g before).now
+  pub survives : Survives (state g before) (state g after) (LeavesMoved (state g before).now)
+
+-- they were moved in a database that was opened at a path
+abbrev pub IsMovedAt : {D : Type 0} → disk.Ghosts D → (Database → Type 0) → Type 0
+IsMovedAt {D} g IsAt = (before : Held (FileStore D g)) × (after : Held (FileStore D g))
+    × IsAt (state over_files before).now × IsMoved over_files before after
+
+-- why no move is told: the database at the path was not opened, its tables were not moved, or they
+-- were, and the database was not closed
+abbrev pub IsUnmovedAt : {D : Type 0} → disk.Ghosts D → (Database → Type 0) → Type 0 → Fault
+    → Type 0
+IsUnmovedAt {D} g IsAt IsShut fault = IsUnopened IsShut fault
+    ⊎ ((before : Held (FileStore D g)) × (after : Held (FileStore D g))
+    × IsAt (state over_files before).now
+    × (IsUnmoved over_files before fault after
+    ⊎ (IsOfLine fault × IsMoved over_files before after)))

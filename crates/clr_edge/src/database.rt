@@ -7,13 +7,15 @@ ghost use Rattle.sqlite.specs.Held.{state};
 ghost use Rattle.sqlite.specs.State.{Survives};
 ghost use Rattle.clr_rules.specs.Good.{IsGood};
 ghost use Rattle.clr_rules.specs.Register.{Register, opening};
-ghost use Rattle.clr_edge.specs.Database.{HasRegister, IsMade, IsMadeAt, IsOfLine, IsOfUnfit};
-ghost use Rattle.clr_edge.specs.Database.{IsOnlyRead, IsRefused, IsUnmade, IsUnopened};
+ghost use Rattle.clr_edge.specs.Database.{HasRegister, IsMade, IsMadeAt, IsMoved, IsMovedAt};
+ghost use Rattle.clr_edge.specs.Database.{IsOfLine, IsOfUnfit, IsOnlyRead, IsRefused, IsUnmade};
+ghost use Rattle.clr_edge.specs.Database.{IsUnmoved, IsUnmovedAt, IsUnopened};
 
 use crate::fault::Fault;
 use crate::machine::Machine;
 use clr_csv::Staff;
 use clr_desk::Desk;
+use clr_memory::{MemoryFile, database_in_memory};
 use clr_net::Network;
 use clr_store::{Back, Store, StoreFault};
 use sqlite::{Alter, Connection, Error, FileFrom, FileStore, Start};
@@ -91,6 +93,16 @@ fn fault_of(error: Error) -> Fault
     Fault::from(StoreFault::from(error))
 }
 
+/// Opens an empty database in memory.
+pub fn in_memory(alloc: Global) -> Result<Connection<FileStore<MemoryFile>>, Fault>
+    ensures { IfErr result IsOfLine }
+{
+    match database_in_memory(alloc) {
+        Ok(connection) => Ok(connection),
+        Err(error) => Err(fault_of(error)),
+    }
+}
+
 /// Refuses a file that is not there, cannot be looked at or is empty: it has no database.
 fn expect_bytes<R: Files>(files: &R, path: &str) -> Result<(), Fault>
     ensures { IfErr result IsOfLine }
@@ -153,6 +165,39 @@ fn register_made<S: Alter + Drop>(
     match Desk::create(alloc, connection, network, staff) {
         Ok(desk) => (Ok(()), desk.end().end()),
         Err((fault, connection)) => (Err(Fault::from(fault)), connection),
+    }
+}
+
+/// Brings the tables of the register in the database at a path to the version that is read, and
+/// closes it. Tables of that version stay as they are.
+///
+/// Of the rows only the points are looked at. Whether they are those of a good register is asked
+/// at each opening of a desk (`desk_over`).
+pub fn move_register<D: Databases>(databases: &D, path: &str) -> Result<(), Fault>
+    ensures moved { OnOk result
+        (IsMovedAt D.Medium.Disk (D.is_at databases.now path.now)) }
+    ensures unmoved { IfErr result (IsUnmovedAt D.Medium.Disk
+        (D.is_at databases.now path.now) (D.is_shut databases.now path.now)) }
+    ensures known { IfSome (D.register_at databases.now path.now) (λ _. IfErr result IsOfLine) }
+{
+    let connection = databases.stored(path)?;
+    let (moved, connection) = register_moved(connection);
+    let closed = close(connection);
+    moved?;
+    closed
+}
+
+/// Brings the tables of a register to the version that is read.
+fn register_moved<S: Alter + Drop>(connection: Connection<S>) -> (Result<(), Fault>, Connection<S>)
+    ensures moved { OnOk result.0 (IsMoved S.Store connection result.1) }
+    ensures unmoved { IfErr result.0 (λ fault.
+        IsUnmoved S.Store connection fault result.1) }
+    ensures known { (R : Register) → HasRegister S.Store R connection
+        → IfErr result.0 IsOfLine }
+{
+    match Store::migrate(connection) {
+        Ok(store) => (Ok(()), store.end()),
+        Err(Back { fault, connection }) => (Err(Fault::from(fault)), connection),
     }
 }
 

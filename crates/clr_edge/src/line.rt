@@ -60,7 +60,7 @@ fn push_detail(line: &mut Line, detail: Detail)
 /// The name that a table has in the database.
 fn table_word(table: TableName) -> &'static str
     ensures text { result.now ≡ table_text table }
-    ensures short { length result.now ≤ 9 }
+    ensures short { length result.now ≤ 13 }
 {
     table.text()
 }

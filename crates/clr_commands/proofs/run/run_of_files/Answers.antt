@@ -1,5 +1,5 @@
 use Rattle.clr_commands.proofs.ReadFiles.{WaitsFor-read}
-use Rattle.clr_commands.proofs.RunAnswers.{RunsFiles-fault, RunsFiles-over, RunsOver-answered, RunsOver-unread, answered_input, passed_cause, passed_input}
+use Rattle.clr_commands.proofs.RunAnswers.{RunsFiles-fault, RunsFiles-over, RunsOver-answered, RunsOver-unread, answered_input, input_has_cause, input_of_subcommand, passed_cause, passed_input}
 use Rattle.clr_edge.specs.declared.fault.ImportFile.TheVariants.{Sections, Points, Staff}
 use Rattle.std.proofs.Common.{Ok}
 use Rattle.clr_commands.proofs.run.run_of_files.Goals as goal
@@ -41,3 +41,16 @@ returns-in_err-printed-clause-staff_waits g c = WaitsFor-read Sections Staff _ _
 
 pub returns-in_err-printed-clause-staff_waits_too : goal.returns-in_err-printed-clause-staff_waits_too
 returns-in_err-printed-clause-staff_waits_too g c = WaitsFor-read Points Staff _ _ _ _ _ _ c.in_ok-points.ensures.rows
+
+-- the fault is of the input, and of no file
+pub returns-in_err-printed-clause-sections_cause : goal.returns-in_err-printed-clause-sections_cause
+returns-in_err-printed-clause-sections_cause g c = input_has_cause Sections _ _ _ _ c.in_err-printed.ensures.others c.from_residual-in_err-printed.ensures.1
+
+pub returns-in_err-printed-clause-points_cause : goal.returns-in_err-printed-clause-points_cause
+returns-in_err-printed-clause-points_cause g c = input_has_cause Points _ _ _ _ c.in_err-printed.ensures.others c.from_residual-in_err-printed.ensures.1
+
+pub returns-in_err-printed-clause-staff_cause : goal.returns-in_err-printed-clause-staff_cause
+returns-in_err-printed-clause-staff_cause g c = input_has_cause Staff _ _ _ _ c.in_err-printed.ensures.others c.from_residual-in_err-printed.ensures.1
+
+pub returns-in_err-printed-clause-faults : goal.returns-in_err-printed-clause-faults
+returns-in_err-printed-clause-faults g c = input_of_subcommand _ _ c.in_err-printed.ensures.others c.from_residual-in_err-printed.ensures.1

@@ -48,7 +48,8 @@ returns-in-Err-clause-told g c =
       fault = c.in-Err.field-0.fault;
       told_is = c.from.ensures;
       refuses = λ clean t has. inl (c.in-Err.ensures.refused clean t has);
-      cause = λ clean out t has. c.in-Err.ensures.cause clean out t.meta (has_meta _ t has);
+      version = λ clean out meta has other. (c.in-Err.ensures.unread clean meta has, c.in-Err.ensures.cause clean out meta has);
+      cause = λ clean out t has. c.in-Err.ensures.cause clean out t.meta (has_meta has.layout _ t has.here);
     }
 
 pub returns-in-Err-open-clause-told : goal.returns-in-Err-open-clause-told
@@ -65,6 +66,9 @@ returns-in-Err-open-clause-told g c =
           (sym (c.in-Ok.ensures.opened (was_clean _ _ _ c.in-Err-open.ensures.survives_too clean) was_open)) has)).0))
           (λ shut. inl (RefusesVersion-of_command _ fault (subst (λ told. IsOfCommand told) is shut)))
           (c.in-Err-open.ensures.shut clean);
+      version = λ clean_back out meta has other.
+          let clean = subst (λ h. HasCleanDisk (state g.S.Store h)) c.end.ensures.connection clean_back in
+          absurd (other (c.in-Ok.ensures.version (was_clean _ _ _ c.in-Err-open.ensures.survives_too clean) meta has));
       cause = λ clean_back out t has.
           let clean = subst (λ h. HasCleanDisk (state g.S.Store h)) c.end.ensures.connection clean_back in
           subst (λ h. SqlHasCause before (state g.S.Store h) fault) (sym c.end.ensures.connection)
@@ -76,6 +80,7 @@ returns-in-Err-open-clause-told g c =
 -- the tables are only read
 pub returns-in-Ok-expect_good-clause-read : goal.returns-in-Ok-expect_good-clause-read
 returns-in-Ok-expect_good-clause-read g c = record {
+  version = λ clean meta has. c.in-Ok.ensures.version (was_clean _ _ _ c.in-Ok-open.ensures.survives clean) meta has;
   same = λ clean shown.
       c.in-Ok-open.ensures.same clean shown
       ∙ c.in-Ok.ensures.opened (was_clean _ _ _ c.in-Ok-open.ensures.survives clean) (c.in-Ok-open.ensures.was_open clean);
@@ -107,6 +112,8 @@ returns-in-Err-expect_good-clause-told g c =
           (c.in-Ok-open.ensures.opened clean t (subst (λ db. HasTables db t)
           (sym (c.in-Ok.ensures.opened (was_clean _ _ _ c.in-Ok-open.ensures.survives clean) (c.in-Ok-open.ensures.was_open clean))) has))
           c.in-Err-expect_good.ensures.fault;
+      version = λ clean out meta has other.
+          absurd (other (c.in-Ok.ensures.version (was_clean _ _ _ c.in-Ok-open.ensures.survives clean) meta has));
       cause = λ clean out t has. SqlHasCause-unfit c.in-Ok-open.desk.book.register c.in-Err-expect_good.cause (state g.S.Store c.args.connection) (state g.S.Store c.in-Ok-open.desk.store) c.in-Err-expect_good.ensures.fault;
     })
 

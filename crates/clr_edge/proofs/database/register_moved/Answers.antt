@@ -1,0 +1,37 @@
+use Rattle.std.proofs.Common.{subst, sym}
+use Rattle.sqlite.specs.Held.{Held, state}
+use Rattle.clr_load.proofs.Loading.{has_meta}
+use Rattle.clr_tables.specs.Tables.{tables_of}
+use Rattle.clr_edge.specs.Database.{IsMoved, IsOfLine}
+use Rattle.clr_edge.proofs.Databases.{IsOfLine-of_move}
+use Rattle.clr_edge.proofs.database.register_moved.Goals as goal
+
+-- the store whose tables were moved, whose connection is given back
+pub returns-in-Ok-clause-moved : goal.returns-in-Ok-clause-moved
+returns-in-Ok-clause-moved g c =
+    let moved : IsMoved g.S.Store c.args.connection c.in-Ok.store = record {
+      version = c.in-Ok.ensures.version;
+      moved = c.in-Ok.ensures.moved;
+      register = c.in-Ok.ensures.register;
+      same = c.in-Ok.ensures.opened;
+      survives = c.in-Ok.ensures.crash_moved;
+    } in
+    subst (λ (after : Held g.row.S.Denot). IsMoved g.S.Store c.args.connection after) (sym c.end.ensures.connection) moved
+
+pub returns-in-Err-clause-unmoved : goal.returns-in-Err-clause-unmoved
+returns-in-Err-clause-unmoved g c = record {
+  fault = c.in-Err.field-0.fault;
+  told_is = c.from.ensures;
+  unread = c.in-Err.ensures.unread;
+  refuses = c.in-Err.ensures.refused;
+  cause = c.in-Err.ensures.cause;
+  same = c.in-Err.ensures.none;
+  survives = c.in-Err.ensures.crash_none;
+}
+
+-- tables of a register are of the version that is read
+pub returns-in-Err-clause-known : goal.returns-in-Err-clause-known
+returns-in-Err-clause-known g c R known =
+    subst (λ fault. IsOfLine fault) (sym c.from.ensures)
+    (IsOfLine-of_move R _ (c.in-Err.ensures.unread
+    (known.clean c.in-Err.field-0.connection) (tables_of R).meta (has_meta known.tables.layout _ (tables_of R) known.tables.here)))
