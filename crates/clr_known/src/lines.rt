@@ -148,6 +148,7 @@ fn each_subcommand(rt: HostRuntime) -> Result<(), Fail> {
             "",
             Ok("serving 127.0.0.1:8080\n"),
         ),
+        ("gridclear migrate jones.db", "", Ok("version 2\n")),
         // Only the database at this path has a register, so there is nothing to make or to open.
         (
             "gridclear init sections.csv points.csv staff.csv --db jones.db",
@@ -170,6 +171,7 @@ fn each_subcommand(rt: HostRuntime) -> Result<(), Fail> {
             Err("fault: clearance NoSuch\n"),
         ),
         ("gridclear board none.db", "", Err("fault: store Sql\n")),
+        ("gridclear migrate none.db", "", Err("fault: store Sql\n")),
         (
             "gridclear serve jones.db --port 1 --count 1",
             "",

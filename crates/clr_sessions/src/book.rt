@@ -1,6 +1,6 @@
-//! The commands of a session, answered by a book step by step: what the command may look at, the
-//! decision, room for its change, the change.
-use clr_book::{Book, Command, Decision, Hold, PointState, Record, StepRow, decide};
+//! The commands of a session, answered by a book step by step: the decision, room for its change, the
+//! change.
+use clr_book::{Book, Command, Hold, PointState, Record, StepRow};
 use clr_csv::{Counted, Staff, read_points, read_sections, read_staff};
 use clr_net::Network;
 use clr_shelf::{ListShelf, Shelf, SortedShelf};
@@ -96,19 +96,9 @@ fn carry_out<P: Shelf<PointState>, C: Shelf<Record>, T: Shelf<StepRow>, H: Shelf
     book: &mut Book<P, C, T, H>,
     command: &Command,
 ) -> Result<String, AllocError> {
-    let decision = decision_of(book, command)?;
+    let decision = book.answer(command)?;
     book.reserve(&decision.change)?;
     let text = reply_text(alloc, &decision.reply)?;
     book.apply(decision.change);
     Ok(text)
-}
-
-/// What the book decides, of the rows that the command may look at.
-fn decision_of<P: Shelf<PointState>, C: Shelf<Record>, T: Shelf<StepRow>, H: Shelf<Hold>>(
-    book: &Book<P, C, T, H>,
-    command: &Command,
-) -> Result<Decision, AllocError> {
-    let near = book.near(command)?;
-    let decision = decide(&near, command)?;
-    Ok(decision)
 }

@@ -7,6 +7,8 @@ mod crashes;
 #[cfg(test)]
 mod making;
 #[cfg(test)]
+mod moving;
+#[cfg(test)]
 mod running;
 #[cfg(test)]
 mod trial;

@@ -153,14 +153,19 @@ fn grant_with_a_step_left(rt: HostRuntime) -> Result<(), Fail> {
 /// The order of JONES/1 in the middle of a chain.
 const IN_CHAIN: &str = r#"{"at":100,"by":"JONES","do":"request","section":"C2500"}
 {"at":101,"by":"OPS","clearance":"JONES/1","do":"order","points":["P2500"],"steps":["OPEN P2500","BLOCK P2500","TAG P2500"]}
+{"by":"OPS","do":"jumper","from":"C0001","lockable":true,"point":"J1","remote":false,"to":"X1"}
+{"by":"OPS","do":"jumper","from":"C0001","lockable":true,"point":"J1","remote":false,"to":"C5000"}
 "#;
 
 const SOURCE_INSIDE: &str =
     r#"{"card":{"clearance":"JONES/1","done":0,"holder":"JONES","phase":"Requested","round":0,"steps":0},"reply":"accepted"}
 {"number":12,"refusal":"SOURCE_INSIDE","reply":"refused","section":"C0001"}
+{"number":34,"refusal":"NETWORK_FULL","reply":"refused"}
+{"point":"J1","reply":"added"}
 "#;
 
-/// The fence of C2500 that is cut at P2500 alone goes back to the source.
+/// The fence of C2500 that is cut at P2500 alone goes back to the source. There is no room for a
+/// section more, and some for a point.
 #[test]
 fn source_at_the_end_of_a_long_chain(rt: HostRuntime) -> Result<(), Fail> {
     let run = Run {
@@ -168,6 +173,22 @@ fn source_at_the_end_of_a_long_chain(rt: HostRuntime) -> Result<(), Fail> {
         replies: SOURCE_INSIDE,
     };
     at_new_desk(&rt, rt.alloc(), chain(rt.alloc(), 5000, 4999)??, &run)
+}
+
+const ONE_POINT_MORE: &str =
+    r#"{"by":"OPS","do":"jumper","from":"C0001","lockable":true,"point":"J1","remote":false,"to":"C0003"}
+"#;
+
+const FULL: &str = r#"{"number":34,"refusal":"NETWORK_FULL","reply":"refused"}
+"#;
+
+#[test]
+fn ten_thousand_points(rt: HostRuntime) -> Result<(), Fail> {
+    let run = Run {
+        commands: ONE_POINT_MORE,
+        replies: FULL,
+    };
+    at_new_desk(&rt, rt.alloc(), chain(rt.alloc(), 5000, 10000)??, &run)
 }
 
 const FOR_JONES: &str = r#"{"at":100,"by":"JONES","do":"request","section":"L2"}

@@ -24,6 +24,8 @@ mod shelves;
 #[cfg(test)]
 mod store;
 #[cfg(test)]
+mod versions;
+#[cfg(test)]
 mod worked;
 #[cfg(test)]
 mod writers;

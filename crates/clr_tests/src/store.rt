@@ -76,8 +76,8 @@ fn versions_that_are_not_opened(rt: HostRuntime) -> Result<(), Fail> {
 fn rows_that_do_not_read(rt: HostRuntime) -> Result<(), Fail> {
     let cases = [
         (
-            "UPDATE point SET hand_requester = 'JONES' WHERE name = 'S3'",
-            StoreFault::BadRow(TableName::Point),
+            "UPDATE network_point SET hand_requester = 'JONES' WHERE name = 'S3'",
+            StoreFault::BadRow(TableName::NetworkPoint),
         ),
         (
             "UPDATE section SET source = 2 WHERE name = 'L2'",

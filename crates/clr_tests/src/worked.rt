@@ -45,6 +45,7 @@ pub fn chain(alloc: Global, sections: u16, points: u16) -> Result<Result<Network
             lockable: true,
             remote: false,
             position: Position::Closed,
+            jumper: false,
         })?;
     }
     Ok(Network::build(alloc, section_rows, point_rows))

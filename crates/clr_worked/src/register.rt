@@ -131,11 +131,16 @@ pub fn run_over(
     }
 }
 
+/// The rows of the database that two files hold, or why they are not read.
+pub fn read_over(alloc: Global, held: &Held) -> Result<Result<Rows, StoreFault>, Fail> {
+    let (told, _behind) = over_files(alloc, held, Part::Log, u64::MAX, Reading)?;
+    Ok(told?)
+}
+
 /// The rows of the database that two files hold, or none where it is refused as `Sql`, as one
 /// without tables is.
 pub fn rows_over(alloc: Global, held: &Held) -> Result<Option<Rows>, Fail> {
-    let (told, _behind) = over_files(alloc, held, Part::Log, u64::MAX, Reading)?;
-    match told? {
+    match read_over(alloc, held)? {
         Ok(rows) => Ok(Some(rows)),
         Err(StoreFault::Sql) => Ok(None),
         Err(fault) => Err(fault.into()),
