@@ -2,6 +2,7 @@
 before the C library, folders for its files, the tables that it leaves, and a shift with its replies. It needs gcc and
 sqlite3 (Debian's packages of these names). GRIDCLEAR names another program than tools/gridclear."""
 import collections
+import lzma
 import os
 import shutil
 import socket
@@ -17,6 +18,8 @@ FILES = [os.path.join(EXAMPLES, name) for name in ("sections.csv", "points.csv",
 IMPORTED = "sections 5 points 5 staff 6\n"
 NO_REGISTER = "fault: store Sql\n"
 NO_OUTPUT = "fault: output WriteFailed\n"
+MOVED = "version 2\n"
+OLD = os.path.join(TOP, "tools", "try", "version-1.db.xz")  # a register of version 1
 ALLOWED = 60  # seconds for one run of a program
 
 Ended = collections.namedtuple("Ended", "status, output, errors")
@@ -81,6 +84,13 @@ class Bench:
             os.mkdir(path)
         return path
 
+    def old(self):
+        """A new folder with the register of version 1."""
+        path = self.new()
+        with lzma.open(OLD) as packed, open(os.path.join(path, "room.db"), "wb") as file:
+            file.write(packed.read())
+        return path
+
     def run(self, folder, words, lines=(), env=None):
         done = subprocess.run([self.program, *words], cwd=folder, env=env, input="".join(lines), capture_output=True,
                               text=True, timeout=ALLOWED, check=False)
@@ -99,6 +109,9 @@ class Bench:
         return tuple(sorted(line for line in lines[1:] if line.startswith(("CREATE", "INSERT"))))
 
 
+JUMPER = '{"by":"OPS","do":"jumper","from":"L3","lockable":true,"point":"J9","remote":false,"to":"X9"}\n'
+
+
 class Shift:
     """Commands over an opening register: their replies, and the tables after each number of them."""
 
@@ -107,6 +120,8 @@ class Shift:
         self.opening = opening
         with open(os.path.join(EXAMPLES, "shift.jsonl"), encoding="ascii") as file:
             self.lines = file.readlines()
+        # and a jumper to a new section, laid while JONES/1 is Ordered
+        self.lines.insert(5, JUMPER)
         whole = bench.run(bench.new(opening), ["run", "--db", "room.db"], self.lines)
         expect(whole.status == 0, f"run: {whole}")
         self.replies = whole.output.splitlines(keepends=True)

@@ -1,4 +1,4 @@
-// The board: every clearance and switch order that is not closed.
+// The board: every clearance and switch order that is not closed, and the jumpers.
 
 import { el, panel, table } from "./elements.js";
 import { shortTime, wholeTime } from "./moments.js";
@@ -46,6 +46,15 @@ function boardRow(row, staff, chosen) {
     el("td", { class: "moment", title: wholeTime(row.last) }, shortTime(row.last)));
 }
 
+function jumperRow({ point, from, to, position }) {
+  return el("tr", {}, el("th", { scope: "row" }, point), [from, to, position].map((text) => el("td", {}, text)));
+}
+
+function recordsTable(staff, chosen) {
+  if (!room.board.length) return el("p", {}, "Nothing is open: no clearance and no switch order.");
+  return table(["Name", "Phase", "Section", "Steps", "Work", "Holder", "Last moment"], room.board.map((row) => boardRow(row, staff, chosen)), { class: "wide" });
+}
+
 export class BoardPage {
   #desk; #rows = el("div", { class: "sheet" });
   title = "Board";
@@ -61,10 +70,11 @@ export class BoardPage {
     const { staff } = this.#desk.network;
     const chosen = this.#desk.chosen();
     const views = room.board.map((row) => viewOf(row.id)).map((view) => [view?.card, view?.fence.length, stepsWords(view), workWords(view)]);
-    panel(this.#rows, [room.read === null, room.board.map((row) => row.line), views, chosen], () => {
+    const lines = [...room.board, ...room.jumpers].map((row) => row.line);
+    panel(this.#rows, [room.read === null, lines, views, chosen], () => {
       if (room.read === null) return el("p", {}, "The board was not read yet.");
-      if (!room.board.length) return el("p", {}, "Nothing is open: no clearance and no switch order.");
-      return table(["Name", "Phase", "Section", "Steps", "Work", "Holder", "Last moment"], room.board.map((row) => boardRow(row, staff, chosen)), { class: "wide" });
+      const jumpers = room.jumpers.length ? table(["Jumper", "From", "To", "Position"], room.jumpers.map(jumperRow)) : null;
+      return [recordsTable(staff, chosen), jumpers];
     });
   }
 }

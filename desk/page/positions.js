@@ -1,6 +1,6 @@
 // What is known of each point: its position and where that is known from, whose hand it is in, and its holds.
-// The register tells a point's position in the views of clearances whose fence it touches, and by the steps that were
-// done; of the others the page has the files alone, and says so.
+// The register tells a point's position in the views of clearances whose fence it touches, by the steps that were done,
+// and of a jumper on the board; of the others the page has the files alone, and says so.
 
 const MOVES = { OPEN: "open", CLOSE: "closed", LEAVE: "open" };
 const AT_POINTS = ["HeldOpen", "Block", "Control", "Tag"];
@@ -35,6 +35,11 @@ function addView(known, view) {
   }
 }
 
+function addJumper(known, { point, position }) {
+  const state = known.get(point);
+  if (state) Object.assign(state, { position, from: "view" });
+}
+
 // Where no view tells a point's position: what the done steps agree on. Records that end differently do not tell it,
 // since their order among each other is not known.
 function settle(state) {
@@ -47,6 +52,7 @@ function settle(state) {
 export function pointStates(network, room) {
   const known = new Map([...network.points.values()].map((point) => [point.name, blank(point)]));
   for (const [id, view] of [...room.closed, ...room.views]) addSteps(known, id, view);
+  for (const jumper of room.jumpers) addJumper(known, jumper);
   for (const view of room.views.values()) addView(known, view);
   for (const state of known.values()) settle(state);
   return known;
@@ -71,11 +77,13 @@ export function sourceOf(state, lookedThrough) {
 
 // What the register names and the page's files lack, or the other way round: then they are not the register's files.
 export function strangeNames(network, room) {
-  const names = [...room.views.values()].flatMap((view) => [
-    ...view.points.map((row) => row.point).filter((name) => !network.points.has(name)).map((name) => `no point ${name} in them`),
-    ...view.fence.filter((name) => !network.sections.has(name)).map((name) => `no section ${name} in them`),
-  ]);
-  const work = room.board.map((row) => row.work).filter((name) => name !== "-" && !network.sections.has(name));
-  const unknown = room.unknownCaller ? [`the register does not know ${room.unknownCaller}`] : [];
-  return [...new Set([...unknown, ...work.map((name) => `no section ${name} in them`), ...names])];
+  const views = [...room.views.values()];
+  const jumpers = new Set(room.jumpers.map((row) => row.point));
+  const points = new Set([...jumpers, ...views.flatMap((view) => view.points.map((row) => row.point))]);
+  const sections = new Set([...room.board.map((row) => row.work).filter((name) => name !== "-"), ...views.flatMap((view) => view.fence)]);
+  return [
+    ...(room.unknownCaller ? [`the register does not know ${room.unknownCaller}`] : []),
+    ...[...sections].filter((name) => !network.sections.has(name)).map((name) => `no section ${name} in them`),
+    ...[...points].filter((name) => !network.points.has(name)).map((name) => `no ${jumpers.has(name) ? "jumper" : "point"} ${name} in them`),
+  ];
 }

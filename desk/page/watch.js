@@ -11,7 +11,8 @@ const ALL_AGAIN = 10;     // turns after which each view is asked for again
 const LOOK_THROUGH = 300; // closed records that are asked for without being told to
 
 export const room = {
-  board: [],            // lines of the board: id, phase, work, last, holder, line
+  board: [],            // the board's lines of records: id, phase, work, last, holder, line
+  jumpers: [],          // its lines of jumpers: point, from, to, position, line
   read: null,           // when it was answered
   turns: 0,             // how many boards were answered
   views: new Map(),     // what stands on the board: id to view
@@ -37,15 +38,30 @@ function tell() {
   for (const listener of listeners) listener();
 }
 
-function parseBoard(text) {
-  return text.split("\n").slice(1).filter(Boolean).map((line) => ({
+function recordIn(line) {
+  return {
     id: line.slice(0, 29).trim(),
     phase: line.slice(30, 39).trim(),
     work: line.slice(40, 64).trim(),
     last: secondsOfPrinted(line.slice(65, 91)),
     holder: line.slice(92).trim(),
     line,
-  }));
+  };
+}
+
+function jumperIn(line) {
+  const [, point, from, to, position] = line.split(/ +/);
+  return { point, from, to, position, line };
+}
+
+// The records, and behind them the jumpers: a record's name has a `/` before its first blank.
+function parseBoard(text) {
+  const lines = text.split("\n").slice(1).filter(Boolean);
+  const isJumper = (line) => line.startsWith("JUMPER ");
+  return {
+    board: lines.filter((line) => !isJumper(line)).map(recordIn),
+    jumpers: lines.filter(isJumper).map(jumperIn),
+  };
 }
 
 export function boardLine(id) {
@@ -58,7 +74,7 @@ export function viewOf(id) {
 
 function keepBoard(text) {
   const before = new Map(room.board.map((row) => [row.id, row.line]));
-  room.board = parseBoard(text);
+  Object.assign(room, parseBoard(text));
   room.read = now();
   room.turns += 1;
   const standing = new Set(room.board.map((row) => row.id));

@@ -32,6 +32,10 @@ const REFUSALS = {
   CREW_STATE: ["The crew is on already, or is not on.", "Look at the crews."],
   BAD_TRANSFER: ["The one who is named is not in the staff, may not be in charge, or is the holder.", "Name another of the role charge."],
   NOT_ATTESTED: ["It was not attested that all employees are notified and clear.", "Notify all employees, see that all are clear, and say so."],
+  POINT_EXISTS: ["The network has a point of this name.", "Give the jumper another name."],
+  CROSSES_FENCE: ["The jumper would have exactly one end in the fence of a clearance that stands: it would be a way in.", "Lay it when that clearance is closed, or between two sections of its fence."],
+  NETWORK_FULL: ["There would be more than 10,000 points or 5,000 sections.", "Nothing is ever taken out: a larger network is a new register."],
+  SAME_ENDS: ["Both ends are one section.", "Name two sections."],
 };
 
 const FAULTS = {

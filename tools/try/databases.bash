@@ -103,10 +103,10 @@ written 'BadRow section' 'a name of a million bytes' "UPDATE section SET name = 
 written 'BadRow section' 'a name of 25 bytes' "UPDATE section SET name = 'ABCDEFGHIJKLMNOPQRSTUVWXY' WHERE name = 'G'"
 written 'BadRow section' 'an empty name' "UPDATE section SET name = '' WHERE name = 'G'"
 written 'BadRow section' 'a mark that is neither 0 nor 1' "UPDATE section SET source = 2 WHERE name = 'G'"
-written 'BadRow point' 'an end of a million bytes' "UPDATE point SET to_end = $huge WHERE name = 'S2'"
-written 'BadRow point' 'a position beyond its type' "UPDATE point SET position = 9223372036854775807 WHERE name = 'S2'"
-written 'BadRow point' 'half a hand' "UPDATE point SET hand_requester = 'JONES' WHERE name = 'S2'"
-written 'BadRow point' "a hand's number beyond its type" "UPDATE point SET hand_requester = 'JONES', hand_number = 65537"
+written 'BadRow network_point' 'an end of a million bytes' "UPDATE network_point SET to_end = $huge WHERE name = 'S2'"
+written 'BadRow network_point' 'a position beyond its type' "UPDATE network_point SET position = 9223372036854775807 WHERE name = 'S2'"
+written 'BadRow network_point' 'half a hand' "UPDATE network_point SET hand_requester = 'JONES' WHERE name = 'S2'"
+written 'BadRow network_point' "a hand's number beyond its type" "UPDATE network_point SET hand_requester = 'JONES', hand_number = 65537"
 written 'BadRow staff' 'a role of a million bytes' "UPDATE staff SET role = $huge WHERE name = 'OPS'"
 written 'BadRow staff' 'a supervisor of a million bytes' "UPDATE staff SET supervisor = $huge WHERE name = 'JONES'"
 written 'BadRow clearance' 'a number beyond its type' 'UPDATE clearance SET number = 65537'
@@ -123,7 +123,7 @@ written 'BadRow hold' 'a place of a million bytes' "INSERT INTO hold VALUES ('Ta
 
 # Locked by SQLite: whoever has it open, reading or writing, has it alone. What it holds is not touched, and when it is
 # let go it opens.
-for lock in 'SELECT count(*) FROM point' 'BEGIN IMMEDIATE' 'BEGIN EXCLUSIVE'; do
+for lock in 'SELECT count(*) FROM network_point' 'BEGIN IMMEDIATE' 'BEGIN EXCLUSIVE'; do
   cp "$work/ordered.db" "$place/room.db"
   mkfifo "$place/locked" "$place/done"
   python3 - "$place" "$lock" <<'END' &

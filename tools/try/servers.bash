@@ -45,6 +45,24 @@ try 'a server of no register' 1 '' "$no_store" serve "$work/none.db" --port "$po
 try 'a server without a count' 2 '' '~--count' serve "$work/room.db" --port "$port"
 try 'a port that is none' 2 '' '~65536' serve "$work/room.db" --port 65536 --count 1
 
+# A jumper is laid: its reply, and its line on the board.
+jumper='{"by":"OPS","do":"jumper","from":"L1","lockable":true,"point":"J1","remote":false,"to":"X1"}'
+laid='JUMPER J1                       L1                       X1                       open'
+: >"$work/errors"
+new_register "$work/jumper.db"
+serving jumper 2
+ask 'POST /command HTTP/1.1' "Content-Length: ${#jumper}" "$jumper" >"$work/output"
+judge 'a jumper over HTTP' 0 'HTTP/1.1 200 OK
+Content-Type: application/json
+Content-Length: 30
+Connection: close
+
+{"point":"J1","reply":"added"}' '' $?
+ask 'GET /board HTTP/1.1' '' >"$work/output"
+judge 'its line over HTTP' 0 "~BOARD 0$feed$laid$feed" '' $?
+served 'a server that was told of a jumper' ''
+try 'the board behind a jumper' 0 "BOARD 0$feed$laid$feed" '' board "$work/jumper.db"
+
 # failing HOW.. : connections that fail, one after the other, while a first one holds the server up, so that each has
 # failed before its turn comes:
 #   cut     sends the first bytes of a request, and is reset: its request is not read

@@ -1,6 +1,6 @@
 # Databases whose rows read, but give a register that no commands lead to: each is refused by the name of the first
-# table, in the order point, clearance, step, hold, whose rows do not fit the others. Read by tools/try-program, behind
-# databases.bash.
+# table, in the order network_point, clearance, step, hold, whose rows do not fit the others. Read by tools/try-program,
+# behind databases.bash.
 
 # after COUNT PATH: the register that the first commands of the shift leave.
 after() {
@@ -24,16 +24,16 @@ unfit() {
   all_refuse "BadRow $table" "$title"
 }
 of_jones="requester = 'JONES' AND number = 1"
-unfit given point 'a point in the hand of a clearance that is not there' \
-  "UPDATE point SET hand_requester = 'KIM', hand_number = 1 WHERE name = 'S3'"
-unfit granted point 'a point in hand without a step that is given out' \
-  "UPDATE point SET hand_requester = 'JONES', hand_number = 1 WHERE name = 'S2'"
+unfit given network_point 'a point in the hand of a clearance that is not there' \
+  "UPDATE network_point SET hand_requester = 'KIM', hand_number = 1 WHERE name = 'S3'"
+unfit granted network_point 'a point in hand without a step that is given out' \
+  "UPDATE network_point SET hand_requester = 'JONES', hand_number = 1 WHERE name = 'S2'"
 unfit granted clearance 'a gap in the numbers' "INSERT INTO clearance VALUES ('KIM', 2, 'KIM', 'L3', 'Requested', 100)"
 unfit granted clearance 'a clearance without a work section' "UPDATE clearance SET work = NULL WHERE $of_jones"
 unfit granted clearance 'a work section that is not in the network' "UPDATE clearance SET work = 'ZZ' WHERE $of_jones"
 unfit granted clearance 'a switch order with a work section' "UPDATE clearance SET work = 'L2' WHERE requester = 'OPS'"
 unfit given step 'a step given out whose point is in nobody'"'"'s hand' \
-  'UPDATE point SET hand_requester = NULL, hand_number = NULL'
+  'UPDATE network_point SET hand_requester = NULL, hand_number = NULL'
 unfit given step 'a step given out before its turn' "UPDATE step SET state = 'Waiting', reader = NULL WHERE ordinal = 1"
 unfit given step 'steps of a clearance that is only asked for' "UPDATE clearance SET phase = 'Requested'"
 unfit granted step 'a granted clearance with a step that waits' \
@@ -45,7 +45,7 @@ unfit restoring step 'a granted clearance with restoring steps' "UPDATE clearanc
 unfit granted hold 'a granted clearance without a HeldOpen' "DELETE FROM hold WHERE kind = 'HeldOpen' AND place = 'S2'"
 unfit granted hold 'a granted clearance without a Block' "DELETE FROM hold WHERE kind = 'Block' AND place = 'S3'"
 unfit granted hold 'a held point that is closed, so that its fence is live' \
-  "UPDATE point SET position = 1 WHERE name = 'S2'"
+  "UPDATE network_point SET position = 1 WHERE name = 'S2'"
 unfit granted hold 'a hold without its clearance' "INSERT INTO hold VALUES ('Tag', 'S2', 'KIM', 1)"
 unfit granted hold 'a crew without a ground' "DELETE FROM hold WHERE kind = 'Ground'"
 unfit granted hold 'a test outside the fence' "INSERT INTO hold VALUES ('Tested', 'L3', 'JONES', 1)"
