@@ -1,12 +1,16 @@
 -- Runs as laws: what commands may add, one reply a command, and a run that goes on where another
 -- ended.
-use Rattle.std.specs.Prelude.{◌≡◌, true, false, List, ◌++◌, length, map, Contains}
+use Rattle.std.specs.Prelude.{◌≡◌, true, false, not, List, ◌++◌, length, map, Contains}
+use Rattle.std.specs.List.{list_all}
 use Rattle.std.proofs.Common.{◌⊎◌}
 use Rattle.clr_csv.specs.Staff.{IsStaff}
 use Rattle.clr_csv.specs.declared.employee.StaffRow.{StaffRow}
 use Rattle.clr_net.specs.Grid.{Grid, IsNetwork, point_names}
 use Rattle.clr_net.specs.declared.point.PointRow.{PointRow}
 use Rattle.clr_net.specs.declared.section.SectionRow.{SectionRow}
+use Rattle.clr_rules.specs.Answer.{Answer, answer}
+use Rattle.clr_rules.specs.Command.{is_jumper}
+use Rattle.clr_rules.specs.EditLaws.{adds_nothing}
 use Rattle.clr_rules.specs.Good.{ListsAreInOrder}
 use Rattle.clr_rules.specs.Prelude.{Command, Register, state_key}
 use Rattle.clr_rules.specs.Register.{opening, unplaced_net}
@@ -38,6 +42,17 @@ pub record OnlyAdds (g : Grid) (staff : List StaffRow) (R : Register) : Type 0 w
 abbrev pub RunsOnlyAdd : Type 0
 RunsOnlyAdd = (g : Grid) (staff : List StaffRow) → IsNetwork g → (commands : List Command)
     → OnlyAdds g staff (after_all (opening g staff) commands)
+
+-- no command but a jumper adds to the network,
+abbrev pub OnlyJumpersAdd : Type 0
+OnlyJumpersAdd = (R : Register) (q : Command) → is_jumper q.kind ≡ false
+    → adds_nothing (Answer.edits (answer R q)) ≡ true
+
+-- so a run without jumpers keeps it
+abbrev pub RunsWithoutJumpersKeepTheNetwork : Type 0
+RunsWithoutJumpersKeepTheNetwork = (R : Register) (commands : List Command)
+    → list_all (λ q. not (is_jumper q.kind)) commands ≡ true
+    → Register.net (after_all R commands) ≡ R.net
 
 -- each command has one reply
 abbrev pub CommandsAreReplied : Type 0

@@ -90,6 +90,20 @@ pub not_false : (b : Bool) → not b ≡ true → b ≡ false
 not_false true h = absurd cc
 not_false false h = refl
 
+-- edits that add nothing keep the network, whatever the lists are,
+edited-net : (edit : Edit) (R : Register) → adds edit ≡ false → Register.net (after_edit edit R) ≡ R.net
+edited-net (AddSection row) R plain = absurd cc
+edited-net (AddPoint p) R plain = absurd cc
+edited-net _ R plain = refl
+
+pub edited_all-net : (R : Register) (edits : List Edit) → adds_nothing edits ≡ true → Register.net (after_edits edits R) ≡ R.net
+unfolding after_edits
+edited_all-net R [] plain = refl
+edited_all-net R (edit ∷ edits) plain =
+    let (one, others) = and_parts (not (adds edit)) (adds_nothing edits) plain in
+    edited_all-net (after_edit edit R) edits others ∙ edited-net edit R (not_false (adds edit) one)
+
+-- and with lists in order the staff and the points
 pub edited_all-network : (R : Register) (edits : List Edit) → adds_nothing edits ≡ true → ListsAreInOrder R → KeepsNetwork R (after_edits edits R)
 unfolding after_edits
 edited_all-network R [] plain h = record { same_net = refl; same_staff = refl; same_points = refl }
@@ -98,7 +112,7 @@ edited_all-network R (edit ∷ edits) plain h =
     let first = edited-network edit R (not_false (adds edit) one) h in
     let rest = edited_all-network (after_edit edit R) edits others (edited-in_order edit R h) in
     record {
-      same_net = rest.same_net ∙ first.same_net;
+      same_net = edited_all-net R (edit ∷ edits) plain;
       same_staff = rest.same_staff ∙ first.same_staff;
       same_points = rest.same_points ∙ first.same_points;
     }

@@ -1,5 +1,7 @@
--- No command but a jumper adds to the network.
-use Rattle.std.proofs.Common.{◌≡◌, ℕ, Bool, true, false, cond, List, [], ◌∷◌, ◌++◌, map, Some, None, Option, refl}
+-- No command but a jumper adds to the network, and a run without jumpers keeps it.
+use Rattle.std.proofs.Common.{◌≡◌, ℕ, Bool, true, false, cond, List, [], ◌∷◌, ◌++◌, map, not, Some, None, Option, refl, ◌∙◌}
+use Rattle.std.specs.List.{list_all}
+use Rattle.std.proofs.lemmas.Bool.{and_parts, not-true}
 use Rattle.clr_order.specs.declared.action.Action.{Action}
 use Rattle.clr_order.specs.declared.action.Action.TheVariants as actions
 use Rattle.clr_rules.specs.Answer.{Answer, answer, answer_by_checks, answer_with, first_refusal, known_of}
@@ -9,7 +11,9 @@ use Rattle.clr_rules.specs.Command.{is_jumper}
 use Rattle.clr_rules.specs.EditLaws.{adds_nothing}
 use Rattle.clr_rules.specs.Prelude.{Edit, PutHold, TakeHold, PutRecord, PutStep, Command, Kind, Tested, Record, Refusal, StepRow, Id, Register, hold_of, places_of}
 use Rattle.clr_rules.specs.Records.{is_switch_order}
+use Rattle.clr_rules.specs.Run.{after, after_all}
 use Rattle.clr_rules.specs.declared.command.Kind.TheVariants as kinds
+use Rattle.clr_rules.proofs.edits.EditedLists.{edited_all-net}
 use Rattle.clr_rules.proofs.edits.PutRows.{by_record, by_step}
 
 abbrev Plain : List Edit → Type 0
@@ -69,3 +73,11 @@ answers_with_plain k R q no_jumper = at (first_refusal (checks k R q.caller q.mo
 
 pub answers_plain : (R : Register) (q : Command) → is_jumper q.kind ≡ false → Plain (Answer.edits (answer R q))
 answers_plain R q no_jumper = answers_with_plain (known_of R q) R q no_jumper
+
+pub plain_runs_keep_network : (R : Register) (commands : List Command) → list_all (λ q. not (is_jumper q.kind)) commands ≡ true
+    → Register.net (after_all R commands) ≡ R.net
+unfolding after_all
+plain_runs_keep_network R [] plain = refl
+plain_runs_keep_network R (q ∷ commands) plain =
+    let (one, others) = and_parts (not (is_jumper q.kind)) (list_all (λ q. not (is_jumper q.kind)) commands) plain in
+    plain_runs_keep_network (after R q) commands others ∙ edited_all-net R (Answer.edits (answer R q)) (answers_plain R q (not-true (is_jumper q.kind) one))

@@ -1,8 +1,9 @@
 //! Laws of runs: what commands may add, one reply a command, and what every reached register has.
 ghost use Rattle.clr_rules.specs.BoundLaws.{ReachedRegistersAreBounded};
-ghost use Rattle.clr_rules.specs.RunLaws.{CommandsAreReplied, OpeningRegistersAreReached};
-ghost use Rattle.clr_rules.specs.RunLaws.{ReachedGoOn, ReachedListsAreInOrder, RunsGoOn};
-ghost use Rattle.clr_rules.specs.RunLaws.{RunsOnlyAdd};
+ghost use Rattle.clr_rules.specs.RunLaws.{CommandsAreReplied, OnlyJumpersAdd};
+ghost use Rattle.clr_rules.specs.RunLaws.{OpeningRegistersAreReached, ReachedGoOn};
+ghost use Rattle.clr_rules.specs.RunLaws.{ReachedListsAreInOrder, RunsGoOn, RunsOnlyAdd};
+ghost use Rattle.clr_rules.specs.RunLaws.{RunsWithoutJumpersKeepTheNetwork};
 
 /// In a reached register each list is in key order, one row a key.
 pub fn reached_lists_are_in_order()
@@ -13,6 +14,12 @@ pub fn reached_lists_are_in_order()
 /// sections without a source; each point has a state, and no other name has one.
 pub fn runs_only_add()
     ensures { RunsOnlyAdd }
+{}
+
+/// No command but a jumper adds to the network, so a run without jumpers keeps it.
+pub fn only_jumpers_add()
+    ensures command { OnlyJumpersAdd }
+    ensures run { RunsWithoutJumpersKeepTheNetwork }
 {}
 
 /// Each command of a run has one reply. A run goes on where another ended, and what it makes of a
