@@ -5,9 +5,9 @@ use Rattle.clr_rules.specs.Commands.{Known}
 use Rattle.clr_rules.specs.Command.{is_jumper, named_clearance}
 use Rattle.clr_rules.specs.Prelude.{Edit, Command, Kind, Id, same_id, Register, after_edits}
 use Rattle.clr_rules.specs.Footprint.{all_spare}
-use Rattle.clr_rules.specs.Good.{HandMatchesStep, IsGoodAsSaid, ListsAreInOrder, PointsAreKnown}
+use Rattle.clr_rules.specs.Good.{HandMatchesStep, IsGoodAsSaid, ListsAreInOrder}
 use Rattle.clr_rules.specs.GoodByPhase.{outlook_of}
-use Rattle.clr_rules.specs.Isolation.{HeldStayOpen, is_others}
+use Rattle.clr_rules.specs.Isolation.{HeldStayOpen, PointsAreKnownToJumper, is_others}
 use Rattle.clr_rules.specs.Run.{after}
 use Rattle.clr_rules.specs.declared.command.Kind.TheVariants.{Report}
 
@@ -16,10 +16,10 @@ is_report (Report c n done) = true
 is_report _ = false
 
 -- THE EDITS OF A COMMAND OF OTHERS spare a clearance: those of a report where the hands match the
--- steps, those of a jumper where only points of the network have states,
+-- steps, those of a jumper where points are those of the network,
 abbrev pub OthersEditsSpare : Type 0
 OthersEditsSpare =
-    (R : Register) (c : Id) (q : Command) → HandMatchesStep R → PointsAreKnown R
+    (R : Register) (c : Id) (q : Command) → HandMatchesStep R → PointsAreKnownToJumper R q
     → is_others c R q ≡ true
     → all_spare c R (Answer.edits (answer R q)) ≡ true
 
@@ -45,19 +45,19 @@ subject_of R q = reply_clearance (Known.greatest (known_of R q)) q.caller (named
 abbrev pub OneOutlookChanges : Type 0
 OneOutlookChanges =
     (R : Register) (c : Id) (q : Command) → ListsAreInOrder R → HandMatchesStep R
-    → PointsAreKnown R → same_id c (subject_of R q) ≡ false
+    → PointsAreKnownToJumper R q → same_id c (subject_of R q) ≡ false
     → outlook_of (after R q) c ≡ outlook_of R c
 
 -- in a word, after a command about another,
 abbrev pub OthersKeepOutlook : Type 0
 OthersKeepOutlook =
     (R : Register) (c : Id) (q : Command) → ListsAreInOrder R → HandMatchesStep R
-    → PointsAreKnown R → is_others c R q ≡ true
+    → PointsAreKnownToJumper R q → is_others c R q ≡ true
     → outlook_of (after R q) c ≡ outlook_of R c
 
 -- and the points that it holds are open then
 abbrev pub OthersKeepHeldOpen : Type 0
 OthersKeepHeldOpen =
-    (R : Register) (c : Id) (q : Command) → IsGoodAsSaid R → PointsAreKnown R
+    (R : Register) (c : Id) (q : Command) → IsGoodAsSaid R → PointsAreKnownToJumper R q
     → is_others c R q ≡ true
     → HeldStayOpen c (after R q)

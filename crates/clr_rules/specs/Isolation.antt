@@ -36,11 +36,16 @@ is_about_another c R caller None = not (same_name c.requester caller) || has_rec
 abbrev pub is_others : Id → Register → Command → Bool
 is_others c R q = is_jumper q.kind || is_about_another c R q.caller (named_clearance q.kind)
 
+-- POINTS ARE KNOWN TO A JUMPER: where a command is one, the register's points are those of its
+-- network. Of every other command this says nothing
+abbrev pub PointsAreKnownToJumper : Register → Command → Type 0
+PointsAreKnownToJumper R q = is_jumper q.kind ≡ true → PointsAreKnown R
+
 -- FRAME: a command about another clearance leaves the record, the steps and the holds of a
 -- clearance as they are, clears no hand of it, and closes no point that it holds open
 abbrev pub OthersSpare : Type 0
 OthersSpare =
-    (R : Register) (c : Id) (q : Command) → IsGoodAsSaid R → PointsAreKnown R
+    (R : Register) (c : Id) (q : Command) → IsGoodAsSaid R → PointsAreKnownToJumper R q
     → is_others c R q ≡ true
     → Frame c R (after R q)
 
@@ -65,12 +70,11 @@ OwnStep =
     → is_own_command c q ≡ true → asked_row R q.kind ≡ asked_row S q.kind
     → (answer R q ≡ answer S q) × Agree c inside (after R q) (after S q)
 
--- STEP, other commands: where only points of the networks have states and steps, they agree again
--- after one on each side with the same marks
+-- STEP, other commands: they agree again after one on each side with the same marks
 abbrev pub OthersStep : Type 0
 OthersStep =
     (c : Id) (inside : List ℕ → Bool) (R S : Register) (q p : Command)
-    → AreAlike c inside R S (q ∷ []) → PointsAreKnown R → PointsAreKnown S
+    → AreAlike c inside R S (q ∷ []) → PointsAreKnownToJumper R q → PointsAreKnownToJumper S p
     → is_own_command c q ≡ false → is_own_command c p ≡ false
     → marks_of R.net inside (Answer.edits (answer R q))
     ≡ marks_of S.net inside (Answer.edits (answer S p))
@@ -80,10 +84,10 @@ OthersStep =
 abbrev pub LoneStep : Type 0
 LoneStep = (c : Id) (inside : List ℕ → Bool) (R S : Register) (q : Command)
     → is_own_command c q ≡ false
-    → (AreAlike c inside R S (q ∷ []) → PointsAreKnown R → marks_of R.net inside (Answer.edits (answer R q)) ≡ []
-    → Agree c inside (after R q) S)
-    × (AreAlike c inside R S [] → PointsAreKnown S → marks_of S.net inside (Answer.edits (answer S q)) ≡ []
-    → Agree c inside R (after S q))
+    → (AreAlike c inside R S (q ∷ []) → PointsAreKnownToJumper R q
+    → marks_of R.net inside (Answer.edits (answer R q)) ≡ [] → Agree c inside (after R q) S)
+    × (AreAlike c inside R S [] → PointsAreKnownToJumper S q
+    → marks_of S.net inside (Answer.edits (answer S q)) ≡ [] → Agree c inside R (after S q))
 
 -- what the headline asks for: two good registers agree near a clearance whose requester is no
 -- operator, on a set that covers the run of the first, and two lists of commands show it the same

@@ -179,7 +179,7 @@ module _ (c : Id) (inside : List ℕ → Bool) (R : Register) (commands : List C
         → items ≡ with_marks marks (items_shown c inside (after S p) rest) → EndAlike S (p ∷ rest)
     unfolding after_all
     past_others S p rest later near is [] none same =
-        let end = later (after S p) (second_on c inside R S near p (second_step c inside R S [] (alike c inside R S [] near covered) near.second_good.besides.points_known p is none)) same in
+        let end = later (after S p) (second_on c inside R S near p (second_step c inside R S [] (alike c inside R S [] near covered) p (λ _. near.second_good.besides.points_known) is none)) same in
         (end.0 ∙ sym (answered_others c S p rest is), end.1)
     past_others S p rest later near is (edit ∷ edits) are same = meets.at_marks S p rest near is edit edits are same
 
@@ -240,7 +240,7 @@ module _ (c : Id) (inside : List ℕ → Bool) where
       at_own = λ S p others near p_is same. absurd (own_is_no_marks _ _ _ _ _ _ (sym same));
       at_marks = λ S p others near p_is edit edits p_are same.
           let agree = others_step c inside R S q p (alike c inside R S (q ∷ []) near (covers_one c inside R q rest covered))
-          near.first_good.besides.points_known near.second_good.besides.points_known is p_is
+          (λ _. near.first_good.besides.points_known) (λ _. near.second_good.besides.points_known) is p_is
           (are ∙ same_marks mark edit marks edits _ _ same ∙ sym p_are) in
           let end = later (after R q) (after S p) others (both_on c inside R S near q p agree) (covers_after c inside R q rest covered)
           (same_after_marks mark edit marks edits _ _ same) in
@@ -252,7 +252,7 @@ module _ (c : Id) (inside : List ℕ → Bool) where
         → with_marks marks (items_shown c inside (after R q) rest) ≡ items_shown c inside S others → EndAlike c inside R (q ∷ rest) S others
     unfolding after_all
     of_others S others near is [] none same =
-        let agree = first_step c inside R S (q ∷ []) (alike c inside R S (q ∷ []) near (covers_one c inside R q rest covered)) near.first_good.besides.points_known q is none in
+        let agree = first_step c inside R S (q ∷ []) (alike c inside R S (q ∷ []) near (covers_one c inside R q rest covered)) q (λ _. near.first_good.besides.points_known) is none in
         let end = later (after R q) S others (first_on c inside R S near q agree) (covers_after c inside R q rest covered) same in
         (answered_others c R q rest is ∙ end.0, end.1)
     of_others S others near is (edit ∷ edits) are same =

@@ -23,7 +23,7 @@ use Rattle.clr_rules.specs.FrameLaws.{is_report, subject_of}
 use Rattle.clr_rules.specs.Good.{HandMatchesStep, IsGood, IsGoodAsSaid, ListsAreInOrder, PointsAreKnown}
 use Rattle.clr_rules.specs.GoodByPhase.{of_round, outlook_of}
 use Rattle.clr_rules.specs.Id.{same_id_equiv}
-use Rattle.clr_rules.specs.Isolation.{HeldStayOpen, LeftAlone, is_about_another, is_others}
+use Rattle.clr_rules.specs.Isolation.{HeldStayOpen, LeftAlone, PointsAreKnownToJumper, is_about_another, is_others}
 use Rattle.clr_rules.specs.Records.{is_fenced, is_switch_order}
 use Rattle.clr_rules.specs.Run.{after}
 use Rattle.clr_rules.specs.States.{hand_in, is_hand}
@@ -217,18 +217,18 @@ concerned_is_another c R by greatest None is others = not_from_false _ (new_is_a
 concerned_is_another c R by greatest (Some d) is others = others
 
 settled_spares : (c : Id) (R : Register) (q : Command) (found : Option Refusal) → first_refusal (checks (known_of R q) R q.caller q.moment q.kind) ≡ found
-    → (is_report q.kind ≡ true → HandMatchesStep R) → (is_jumper q.kind ≡ true → PointsAreKnown R) → (is_jumper q.kind ≡ false → not (same_id c (subject_of R q)) ≡ true)
+    → (is_report q.kind ≡ true → HandMatchesStep R) → PointsAreKnownToJumper R q → (is_jumper q.kind ≡ false → not (same_id c (subject_of R q)) ≡ true)
     → all_spare c R (Answer.edits (answer_by_checks (known_of R q) R q found)) ≡ true
 settled_spares c R q None passed matches known others = all_edits_spare c R (known_of R q) q.caller q.moment q.kind matches known others passed
 settled_spares c R q (Some refusal) passed matches known others = refl
 
-answers_spare : (R : Register) (c : Id) (q : Command) → (is_report q.kind ≡ true → HandMatchesStep R) → (is_jumper q.kind ≡ true → PointsAreKnown R)
+answers_spare : (R : Register) (c : Id) (q : Command) → (is_report q.kind ≡ true → HandMatchesStep R) → PointsAreKnownToJumper R q
     → (is_jumper q.kind ≡ false → not (same_id c (subject_of R q)) ≡ true)
     → all_spare c R (Answer.edits (answer R q)) ≡ true
 answers_spare R c q matches known others =
     settled_spares c R q (first_refusal (checks (known_of R q) R q.caller q.moment q.kind)) refl matches known others
 
-pub others_edits_spare : (R : Register) (c : Id) (q : Command) → (is_report q.kind ≡ true → HandMatchesStep R) → (is_jumper q.kind ≡ true → PointsAreKnown R)
+pub others_edits_spare : (R : Register) (c : Id) (q : Command) → (is_report q.kind ≡ true → HandMatchesStep R) → PointsAreKnownToJumper R q
     → is_others c R q ≡ true
     → all_spare c R (Answer.edits (answer R q)) ≡ true
 others_edits_spare R c q matches known others = answers_spare R c q matches known (λ plain.
@@ -237,29 +237,21 @@ others_edits_spare R c q matches known others = answers_spare R c q matches know
 
 -- ---- what is left alone
 
--- where no check applies, the outlook of every clearance stays but that of the one that the command is about
-pub edits_keep_others : (R : Register) (k : Known) (by : List ℕ) (at : ℕ) (kind : Kind) → ListsAreInOrder R → HandMatchesStep R → PointsAreKnown R
-    → first_refusal (checks k R by at kind) ≡ None → (c : Id) → same_id c (reply_clearance k.greatest by (named_clearance kind)) ≡ false
-    → outlook_of (after_edits (edits_of k.greatest R by at kind) R) c ≡ outlook_of R c
-edits_keep_others R k by at kind ordered matches known passed c differs =
-    sparing_edits_keep_outlook c R (edits_of k.greatest R by at kind) ordered
-    (all_edits_spare c R k by at kind (λ _. matches) (λ _. known) (λ _. not_from_false _ differs) passed)
-
-pub one_outlook_changes : (R : Register) (c : Id) (q : Command) → ListsAreInOrder R → HandMatchesStep R → PointsAreKnown R → same_id c (subject_of R q) ≡ false
+pub one_outlook_changes : (R : Register) (c : Id) (q : Command) → ListsAreInOrder R → HandMatchesStep R → PointsAreKnownToJumper R q → same_id c (subject_of R q) ≡ false
     → outlook_of (after R q) c ≡ outlook_of R c
 one_outlook_changes R c q ordered matches known differs =
-    sparing_edits_keep_outlook c R (Answer.edits (answer R q)) ordered (answers_spare R c q (λ _. matches) (λ _. known) (λ _. not_from_false _ differs))
+    sparing_edits_keep_outlook c R (Answer.edits (answer R q)) ordered (answers_spare R c q (λ _. matches) known (λ _. not_from_false _ differs))
 
-pub others_keep_outlook : (R : Register) (c : Id) (q : Command) → ListsAreInOrder R → HandMatchesStep R → PointsAreKnown R → is_others c R q ≡ true
+pub others_keep_outlook : (R : Register) (c : Id) (q : Command) → ListsAreInOrder R → HandMatchesStep R → PointsAreKnownToJumper R q → is_others c R q ≡ true
     → outlook_of (after R q) c ≡ outlook_of R c
 others_keep_outlook R c q ordered matches known others =
-    sparing_edits_keep_outlook c R (Answer.edits (answer R q)) ordered (others_edits_spare R c q (λ _. matches) (λ _. known) others)
+    sparing_edits_keep_outlook c R (Answer.edits (answer R q)) ordered (others_edits_spare R c q (λ _. matches) known others)
 
-pub others_spare : (R : Register) (c : Id) (q : Command) → IsGoodAsSaid R → PointsAreKnown R → is_others c R q ≡ true → Frame c R (after R q)
+pub others_spare : (R : Register) (c : Id) (q : Command) → IsGoodAsSaid R → PointsAreKnownToJumper R q → is_others c R q ≡ true → Frame c R (after R q)
 others_spare R c q good known others =
-    sparing_edits_leave_alone c R (Answer.edits (answer R q)) good.in_order (others_edits_spare R c q (λ _. good.hand_matches_step) (λ _. known) others)
+    sparing_edits_leave_alone c R (Answer.edits (answer R q)) good.in_order (others_edits_spare R c q (λ _. good.hand_matches_step) known others)
 
-pub others_keep_held_open : (R : Register) (c : Id) (q : Command) → IsGoodAsSaid R → PointsAreKnown R → is_others c R q ≡ true → HeldStayOpen c (after R q)
+pub others_keep_held_open : (R : Register) (c : Id) (q : Command) → IsGoodAsSaid R → PointsAreKnownToJumper R q → is_others c R q ≡ true → HeldStayOpen c (after R q)
 others_keep_held_open R c q good known others p held =
     let frame = others_spare R c q good known others in
     let held_before : has_hold R.holds c HeldOpen p ≡ true =
@@ -287,12 +279,12 @@ others_keep_fence R c q good others = at (is_jumper q.kind) refl
   where
     at : (b : Bool) → is_jumper q.kind ≡ b → clearance_fence (after R q) c ≡ clearance_fence R c
     at true is = jumpers_keep_fences R q c good is
-    at false is = fence_kept c R (after R q) (others_spare R c q good.said good.besides.points_known others)
+    at false is = fence_kept c R (after R q) (others_spare R c q good.said (λ _. good.besides.points_known) others)
         (edited_all-network R (Answer.edits (answer R q)) (answers_plain R q is) good.said.in_order).same_net
 
 pub others_left_alone : (R : Register) (c : Id) (q : Command) → IsGood R → is_others c R q ≡ true → LeftAlone c R (after R q)
 others_left_alone R c q good others = record {
-  frame = others_spare R c q good.said good.besides.points_known others;
-  held_open = others_keep_held_open R c q good.said good.besides.points_known others;
+  frame = others_spare R c q good.said (λ _. good.besides.points_known) others;
+  held_open = others_keep_held_open R c q good.said (λ _. good.besides.points_known) others;
   same_fence = others_keep_fence R c q good others;
 }

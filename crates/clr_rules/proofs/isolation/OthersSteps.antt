@@ -31,7 +31,7 @@ use Rattle.clr_rules.specs.Edits.{fit}
 use Rattle.clr_rules.specs.Prelude.{Edit, SetPosition, SetHand, PutHold, TakeHold, PutRecord, PutStep, AddSection, AddPoint, Command, Kind, Record, Refusal, Id, same_id, Register, after_edits}
 use Rattle.clr_rules.specs.Footprint.{spares}
 use Rattle.clr_rules.specs.Good.{HandMatchesStep, IsGoodAsSaid, ListsAreInOrder, PointsAreKnown, has_record, is_operators}
-use Rattle.clr_rules.specs.Isolation.{AreAlike, is_about_another, is_others}
+use Rattle.clr_rules.specs.Isolation.{AreAlike, PointsAreKnownToJumper, is_about_another, is_others}
 use Rattle.clr_rules.specs.Run.{after}
 use Rattle.clr_rules.specs.Shown.{is_own_command, is_own_kind, marks_of}
 use Rattle.clr_rules.specs.StepLaws.{AreOfOthers}
@@ -101,14 +101,14 @@ spared_is_not_about c R (PutStep row) spared = not-true (same_id c row.id) spare
 spared_is_not_about c R (AddSection row) spared = refl
 spared_is_not_about c R (AddPoint p) spared = refl
 
-module _ (c : Id) (R : Register) (q : Command) (matches : HandMatchesStep R) (known : PointsAreKnown R) (no_operator : is_operators R c.requester ≡ false)
+module _ (c : Id) (R : Register) (q : Command) (matches : HandMatchesStep R) (known : PointsAreKnownToJumper R q) (no_operator : is_operators R c.requester ≡ false)
     (others : is_own_command c q ≡ false) (passed : first_refusal (checks (known_of R q) R q.caller q.moment q.kind) ≡ None) where
   -- a record of the requester that is put was there: the command is about it
   put_was_there : (r : Record) → Contains (Answer.edits (answer R q)) (PutRecord r) → same_name c.requester r.id.requester ≡ true → has_record R.records r.id ≡ true
   put_was_there r there own = has_record_there c R no_operator (known_of R q) q.caller q.moment r.id own q.kind (named_clearance q.kind) refl others passed
       (or_parts (is_jumper q.kind) (is_about_another r.id R q.caller (named_clearance q.kind)) (false_from_ne_true (is_others r.id R q) (λ another.
       both_ways (same_id r.id r.id) (not-true (same_id r.id r.id)
-      (list_all-contains (spares r.id R) (Answer.edits (answer R q)) (PutRecord r) (others_edits_spare R r.id q (λ _. matches) (λ _. known) another) there)) (own_id r.id)))).1
+      (list_all-contains (spares r.id R) (Answer.edits (answer R q)) (PutRecord r) (others_edits_spare R r.id q (λ _. matches) known another) there)) (own_id r.id)))).1
 
   known_put : (r : Record) → Contains (Answer.edits (answer R q)) (PutRecord r) → is_new_of R.records c.requester (PutRecord r) ≡ false
   known_put r there = false_from_ne_true (is_new_of R.records c.requester (PutRecord r)) (λ new.
@@ -122,7 +122,7 @@ module _ (c : Id) (R : Register) (q : Command) (matches : HandMatchesStep R) (kn
   accepted_of_others : AreOfOthers c R q
   accepted_of_others =
       let another = about_another c R no_operator (known_of R q) q.caller q.moment q.kind (named_clearance q.kind) refl others passed in
-      let all = others_edits_spare R c q (λ _. matches) (λ _. known) (or_right (is_jumper q.kind) _ another) in
+      let all = others_edits_spare R c q (λ _. matches) known (or_right (is_jumper q.kind) _ another) in
       record {
         of_others = All-weaker (Contains (Answer.edits (answer R q))) (λ edit. is_about c edit ≡ false)
             (λ edit there. spared_is_not_about c R edit (list_all-contains (spares c R) (Answer.edits (answer R q)) edit all there))
@@ -137,7 +137,7 @@ refused_of_others c R q none = record {
   no_new_number = rw none (All-nil (λ edit. is_new_of R.records c.requester edit ≡ false));
 }
 
-pub others_edits : (R : Register) (c : Id) (q : Command) → HandMatchesStep R → PointsAreKnown R → is_operators R c.requester ≡ false → is_own_command c q ≡ false
+pub others_edits : (R : Register) (c : Id) (q : Command) → HandMatchesStep R → PointsAreKnownToJumper R q → is_operators R c.requester ≡ false → is_own_command c q ≡ false
     → AreOfOthers c R q
 others_edits R c q matches known no_operator others = by (first_refusal (checks (known_of R q) R q.caller q.moment q.kind)) refl
   where
@@ -148,7 +148,7 @@ others_edits R c q matches known no_operator others = by (first_refusal (checks 
 -- ---- what they change
 
 -- what an answer adds is marked where it concerns what stands near a clearance
-module _ (R : Register) (good : IsGoodAsSaid R) (points : PointsAreKnown R) (c : Id) (inside : List ℕ → Bool) where
+module _ (R : Register) (good : IsGoodAsSaid R) (c : Id) (inside : List ℕ → Bool) where
   added_by_marks : (p : PointRow) → IsFree R p.name → (b : Bool)
       → fit R.net (cond b (AddPoint p ∷ []) (AddSection (new_section p.to_end) ∷ AddPoint p ∷ [])) ≡ true
       → ChangesByMarks R c inside (cond b (AddPoint p ∷ []) (AddSection (new_section p.to_end) ∷ AddPoint p ∷ []))
@@ -159,27 +159,27 @@ module _ (R : Register) (good : IsGoodAsSaid R) (points : PointsAreKnown R) (c :
       additions_change_by_marks.both R good.network good.in_order row
       (and_parts (fits_section R.net row) (fits_point (with_section row R.net) p && true) fits).0 p free c inside
 
-  jumper_by_marks : (point from to : List ℕ) (lockable remote : Bool) (by : List ℕ) (at : ℕ) (found : Option Refusal)
+  jumper_by_marks : PointsAreKnown R → (point from to : List ℕ) (lockable remote : Bool) (by : List ℕ) (at : ℕ) (found : Option Refusal)
       → refusal_of R (asked by at (Jumper point from to lockable remote)) ≡ found
       → ChangesByMarks R c inside (Answer.edits (answer_by_checks (known_of R (asked by at (Jumper point from to lockable remote))) R
       (asked by at (Jumper point from to lockable remote)) found))
-  jumper_by_marks point from to lockable remote by at None passed =
+  jumper_by_marks points point from to lockable remote by at None passed =
       let p = jumper_row point from to lockable remote in
       let k = known_of R (asked by at (Jumper point from to lockable remote)) in
       let can = jumper_can k R by at point from to lockable remote (all_pass (checks k R by at (Jumper point from to lockable remote)) passed) in
       added_by_marks p (added_points_are_free R good points p.name can.new) (has_name (section_names (Grid.sections R.net)) to) (added_edits_fit R good.network p can)
-  jumper_by_marks point from to lockable remote by at (Some refusal) is = no_marks R c inside
+  jumper_by_marks points point from to lockable remote by at (Some refusal) is = no_marks R c inside
 
-  jumpers_change_by_marks : (by : List ℕ) (at : ℕ) (kind : Kind) → is_jumper kind ≡ true → ChangesByMarks R c inside (Answer.edits (answer R (asked by at kind)))
-  jumpers_change_by_marks by at (Jumper point from to lockable remote) is =
-      jumper_by_marks point from to lockable remote by at (refusal_of R (asked by at (Jumper point from to lockable remote))) refl
-  jumpers_change_by_marks by at _ is = cc is
+  jumpers_change_by_marks : PointsAreKnown R → (by : List ℕ) (at : ℕ) (kind : Kind) → is_jumper kind ≡ true → ChangesByMarks R c inside (Answer.edits (answer R (asked by at kind)))
+  jumpers_change_by_marks points by at (Jumper point from to lockable remote) is =
+      jumper_by_marks points point from to lockable remote by at (refusal_of R (asked by at (Jumper point from to lockable remote))) refl
+  jumpers_change_by_marks points by at _ is = cc is
 
-  answers_change_by_marks : (q : Command) → AreOfOthers c R q → ChangesByMarks R c inside (Answer.edits (answer R q))
-  answers_change_by_marks q of = split (is_jumper q.kind) refl
+  answers_change_by_marks : (q : Command) → PointsAreKnownToJumper R q → AreOfOthers c R q → ChangesByMarks R c inside (Answer.edits (answer R q))
+  answers_change_by_marks q known of = split (is_jumper q.kind) refl
     where
       split : (b : Bool) → is_jumper q.kind ≡ b → ChangesByMarks R c inside (Answer.edits (answer R q))
-      split true is = jumpers_change_by_marks q.caller q.moment q.kind is
+      split true is = jumpers_change_by_marks (known is) q.caller q.moment q.kind is
       split false is = others_change_by_marks R good.in_order c inside (Answer.edits (answer R q)) (answers_plain R q is) of.of_others
 
 -- ---- the steps
@@ -189,52 +189,52 @@ same_staff : (R S : Register) (c : Id) (inside : List ℕ → Bool) → Agree c 
 same_staff R S c inside agree = ap (λ (P : Register). P.staff) agree.near
 
 module _ (c : Id) (inside : List ℕ → Bool) (R S : Register) (commands : List Command) (alike : AreAlike c inside R S commands) where
-  in_first : PointsAreKnown R → (q : Command) → is_own_command c q ≡ false → AreOfOthers c R q
-  in_first known q others = others_edits R c q alike.first_good.hand_matches_step known alike.no_operator others
+  in_first : (q : Command) → PointsAreKnownToJumper R q → is_own_command c q ≡ false → AreOfOthers c R q
+  in_first q known others = others_edits R c q alike.first_good.hand_matches_step known alike.no_operator others
 
-  in_second : PointsAreKnown S → (q : Command) → is_own_command c q ≡ false → AreOfOthers c S q
-  in_second known q others = others_edits S c q alike.second_good.hand_matches_step known
+  in_second : (q : Command) → PointsAreKnownToJumper S q → is_own_command c q ≡ false → AreOfOthers c S q
+  in_second q known others = others_edits S c q alike.second_good.hand_matches_step known
       (ap (λ (staff : List StaffRow). has_role is_operator (employee staff c.requester)) (sym (same_staff R S c inside alike.agree)) ∙ alike.no_operator) others
 
   -- one command of others on each side, with the same marks
-  pub both_step : PointsAreKnown R → PointsAreKnown S → (q p : Command) → is_own_command c q ≡ false → is_own_command c p ≡ false
+  pub both_step : (q p : Command) → PointsAreKnownToJumper R q → PointsAreKnownToJumper S p → is_own_command c q ≡ false → is_own_command c p ≡ false
       → marks_of R.net inside (Answer.edits (answer R q)) ≡ marks_of S.net inside (Answer.edits (answer S p)) → Agree c inside (after R q) (after S p)
-  both_step first_known second_known q p q_others p_others marks =
-      let left = in_first first_known q q_others in
-      let right = in_second second_known p p_others in
+  both_step q p first_known second_known q_others p_others marks =
+      let left = in_first q first_known q_others in
+      let right = in_second p second_known p_others in
       same_marks_agree R S alike.first_good.in_order alike.second_good.in_order c inside (Answer.edits (answer R q)) (Answer.edits (answer S p))
       left.of_others left.no_new_number right.of_others right.no_new_number
-      (answers_change_by_marks R alike.first_good first_known c inside q left)
-      (answers_change_by_marks S alike.second_good second_known c inside p right) marks alike.agree
+      (answers_change_by_marks R alike.first_good c inside q first_known left)
+      (answers_change_by_marks S alike.second_good c inside p second_known right) marks alike.agree
 
   -- one on one side, without marks
-  pub first_step : PointsAreKnown R → (q : Command) → is_own_command c q ≡ false → marks_of R.net inside (Answer.edits (answer R q)) ≡ [] → Agree c inside (after R q) S
+  pub first_step : (q : Command) → PointsAreKnownToJumper R q → is_own_command c q ≡ false → marks_of R.net inside (Answer.edits (answer R q)) ≡ [] → Agree c inside (after R q) S
   unfolding after_edits
-  first_step known q others none =
-      let left = in_first known q others in
+  first_step q known others none =
+      let left = in_first q known others in
       same_marks_agree R S alike.first_good.in_order alike.second_good.in_order c inside (Answer.edits (answer R q)) []
       left.of_others left.no_new_number (All-nil (λ edit. is_about c edit ≡ false)) (All-nil (λ edit. is_new_of S.records c.requester edit ≡ false))
-      (answers_change_by_marks R alike.first_good known c inside q left) (no_marks S c inside) none alike.agree
+      (answers_change_by_marks R alike.first_good c inside q known left) (no_marks S c inside) none alike.agree
 
-  pub second_step : PointsAreKnown S → (q : Command) → is_own_command c q ≡ false → marks_of S.net inside (Answer.edits (answer S q)) ≡ [] → Agree c inside R (after S q)
+  pub second_step : (q : Command) → PointsAreKnownToJumper S q → is_own_command c q ≡ false → marks_of S.net inside (Answer.edits (answer S q)) ≡ [] → Agree c inside R (after S q)
   unfolding after_edits
-  second_step known q others none =
-      let right = in_second known q others in
+  second_step q known others none =
+      let right = in_second q known others in
       same_marks_agree R S alike.first_good.in_order alike.second_good.in_order c inside [] (Answer.edits (answer S q))
       (All-nil (λ edit. is_about c edit ≡ false)) (All-nil (λ edit. is_new_of R.records c.requester edit ≡ false)) right.of_others right.no_new_number
-      (no_marks R c inside) (answers_change_by_marks S alike.second_good known c inside q right) (sym none) alike.agree
+      (no_marks R c inside) (answers_change_by_marks S alike.second_good c inside q known right) (sym none) alike.agree
 
-pub others_step : (c : Id) (inside : List ℕ → Bool) (R S : Register) (q p : Command) → AreAlike c inside R S (q ∷ []) → PointsAreKnown R → PointsAreKnown S
+pub others_step : (c : Id) (inside : List ℕ → Bool) (R S : Register) (q p : Command) → AreAlike c inside R S (q ∷ []) → PointsAreKnownToJumper R q → PointsAreKnownToJumper S p
     → is_own_command c q ≡ false → is_own_command c p ≡ false
     → marks_of R.net inside (Answer.edits (answer R q)) ≡ marks_of S.net inside (Answer.edits (answer S p))
     → Agree c inside (after R q) (after S p)
-others_step c inside R S q p alike first_known second_known = both_step c inside R S (q ∷ []) alike first_known second_known q p
+others_step c inside R S q p alike = both_step c inside R S (q ∷ []) alike q p
 
 pub lone_step : (c : Id) (inside : List ℕ → Bool) (R S : Register) (q : Command) → is_own_command c q ≡ false
-    → (AreAlike c inside R S (q ∷ []) → PointsAreKnown R → marks_of R.net inside (Answer.edits (answer R q)) ≡ [] → Agree c inside (after R q) S)
-    × (AreAlike c inside R S [] → PointsAreKnown S → marks_of S.net inside (Answer.edits (answer S q)) ≡ [] → Agree c inside R (after S q))
+    → (AreAlike c inside R S (q ∷ []) → PointsAreKnownToJumper R q → marks_of R.net inside (Answer.edits (answer R q)) ≡ [] → Agree c inside (after R q) S)
+    × (AreAlike c inside R S [] → PointsAreKnownToJumper S q → marks_of S.net inside (Answer.edits (answer S q)) ≡ [] → Agree c inside R (after S q))
 lone_step c inside R S q others =
-    (λ alike known. first_step c inside R S (q ∷ []) alike known q others, λ alike known. second_step c inside R S [] alike known q others)
+    (λ alike known. first_step c inside R S (q ∷ []) alike q known others, λ alike known. second_step c inside R S [] alike q known others)
 
 -- registers that agree and answer alike agree again
 pub same_answers_agree : (R S : Register) (c : Id) (inside : List ℕ → Bool) (q : Command) → is_jumper q.kind ≡ false → ListsAreInOrder R → ListsAreInOrder S

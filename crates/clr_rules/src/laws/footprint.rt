@@ -14,8 +14,8 @@ pub fn sparing_edits_leave_alone()
 {}
 
 /// The edits of a command of others spare a clearance: those of a report where the hands match the
-/// steps, those of a jumper where only points of the network have states, those of any other
-/// command in every register.
+/// steps, those of a jumper where points are those of the network, those of any other command in
+/// every register.
 pub fn edits_of_others_spare()
     ensures matched { OthersEditsSpare }
     ensures anywhere { OthersEditsSpareAnywhere }
