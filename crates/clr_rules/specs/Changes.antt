@@ -109,8 +109,8 @@ abbrev pub new_section : List ℕ → SectionRow
 new_section name = record { name = name; source = false }
 
 -- a point that is in no file, and open
-abbrev pub jumper_row : List ℕ → List ℕ → List ℕ → Bool → Bool → PointRow
-jumper_row point from to lockable remote = record {
+abbrev pub new_jumper : List ℕ → List ℕ → List ℕ → Bool → Bool → PointRow
+new_jumper point from to lockable remote = record {
   name = point;
   from_end = from;
   to_end = to;

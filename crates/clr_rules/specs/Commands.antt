@@ -6,7 +6,7 @@ use Rattle.std.specs.Prelude.{Some, ◌++◌}
 use Rattle.clr_csv.specs.declared.employee.Role.{Role}
 use Rattle.clr_order.specs.declared.step.StepState.TheVariants.{Instructed, Repeated}
 use Rattle.clr_order.specs.declared.action.Action.TheVariants as actions
-use Rattle.clr_rules.specs.Changes.{added_edits, cancelled_phase, done_edits, jumper_row}
+use Rattle.clr_rules.specs.Changes.{added_edits, cancelled_phase, done_edits, new_jumper}
 use Rattle.clr_rules.specs.Changes.{new_record, new_steps, put_steps, step_moved, undone_edits}
 use Rattle.clr_rules.specs.Changes.{with_record, with_step}
 use Rattle.clr_rules.specs.Checks.{bad_transfer, crew_is_off, crew_is_on, crews_on, crews_on_work}
@@ -162,4 +162,4 @@ edits_of greatest R by at (kinds.Switch tasks) =
     ∷ put_steps (new_steps (record { requester = by; number = greatest + 1 }) 1 1 tasks)
 edits_of greatest R by at (kinds.Show c) = []
 edits_of greatest R by at (kinds.Jumper point from to lockable remote) =
-    added_edits R (jumper_row point from to lockable remote)
+    added_edits R (new_jumper point from to lockable remote)

@@ -12,7 +12,7 @@ use Rattle.clr_net.specs.declared.section.SectionRow.{SectionRow}
 use Rattle.clr_net.proofs.BuildFacts.{names_permuted}
 use Rattle.clr_net.proofs.Grown.{sections_are_added}
 use Rattle.clr_net.proofs.Walks.{same_itself}
-use Rattle.clr_rules.specs.Changes.{added_edits, jumper_row, new_section}
+use Rattle.clr_rules.specs.Changes.{added_edits, new_jumper, new_section}
 use Rattle.clr_rules.specs.Checks.{has_room}
 use Rattle.clr_rules.specs.Commands.{Known, checks}
 use Rattle.clr_rules.specs.Edits.{fit}
@@ -62,7 +62,7 @@ added_edits_fit R net p can =
 
 -- a jumper that no check refuses
 pub jumper_can : (k : Known) (R : Register) (by : List ℕ) (at : ℕ) (point from to : List ℕ) (lockable remote : Bool)
-    → Pass (checks k R by at (Jumper point from to lockable remote)) → CanBeAdded R.net (jumper_row point from to lockable remote)
+    → Pass (checks k R by at (Jumper point from to lockable remote)) → CanBeAdded R.net (new_jumper point from to lockable remote)
 jumper_can k R by at point from to lockable remote passed =
     let (_, (_, (section_passes, (point_passes, (_, (room_passes, (ends_pass, _))))))) = passed in record {
       known = not_refused_true (has_name (section_names (Grid.sections R.net)) from) UnknownSection section_passes;

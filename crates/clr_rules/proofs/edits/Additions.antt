@@ -10,7 +10,7 @@ use Rattle.clr_net.proofs.Grown.{points_are_added, sections_are_added}
 use Rattle.clr_net.proofs.KeptRows.{first_or_later}
 use Rattle.clr_csv.specs.declared.employee.StaffRow.{StaffRow}
 use Rattle.clr_rules.specs.Answer.{Answer, answer, answer_by_checks, first_refusal, known_of}
-use Rattle.clr_rules.specs.Changes.{jumper_row}
+use Rattle.clr_rules.specs.Changes.{new_jumper}
 use Rattle.clr_rules.specs.Commands.{checks, edits_of}
 use Rattle.clr_rules.specs.Command.{is_jumper}
 use Rattle.clr_rules.specs.EditLaws.{adds, adds_nothing}
@@ -74,7 +74,7 @@ jumper_settled : (R : Register) (q : Command) (point from to : List ℕ) (lockab
 jumper_settled R q point from to lockable remote is = at (first_refusal (checks (known_of R q) R q.caller q.moment q.kind))
   where
     made : AllByRecursion IsJumpers (edits_of (known_of R q).greatest R q.caller q.moment q.kind)
-    made = rw is (by_added (AllByRecursion IsJumpers) R (jumper_row point from to lockable remote) (refl, tt) (refl, (refl, tt)))
+    made = rw is (by_added (AllByRecursion IsJumpers) R (new_jumper point from to lockable remote) (refl, tt) (refl, (refl, tt)))
 
     at : (found : Option Refusal) → AllByRecursion IsJumpers (Answer.edits (answer_by_checks (known_of R q) R q found))
     at None = made

@@ -14,7 +14,7 @@ use Rattle.clr_shelf.proofs.KeyOrder.{in_key_order-filter, in_key_order-first, i
 use Rattle.clr_shelf.specs.Rows.{in_key_order}
 use Rattle.clr_rules.specs.Answer.{Answer, answer, first_refusal, known_of, answer_by_checks}
 use Rattle.clr_rules.specs.Commands.{Known, checks, edits_of}
-use Rattle.clr_rules.specs.Changes.{done_edits, edits_by, jumper_row, new_record, new_steps, point_edits, put_steps, undone_edits}
+use Rattle.clr_rules.specs.Changes.{done_edits, edits_by, new_jumper, new_record, new_steps, point_edits, put_steps, undone_edits}
 use Rattle.clr_rules.specs.EditOrder.{are_in_order, edit_cmp}
 use Rattle.clr_rules.specs.Good.{ListsAreInOrder}
 use Rattle.clr_rules.specs.Prelude.{Edit, PutHold, TakeHold, PutRecord, PutStep, Command, Kind, Hold, HoldKind, Tested, Ordered, Restoring, Switching, Record, Refusal, StepRow, Id}
@@ -142,7 +142,7 @@ edits_in_order k R by at (kinds.Switch tasks) ordered =
     round_in_order (new_record k by at None Switching) (record { requester = by; number = k + 1 }) 1 tasks
 edits_in_order k R by at (kinds.Show c) ordered = refl
 edits_in_order k R by at (kinds.Jumper point from to lockable remote) ordered =
-    by_added (λ edits. are_in_order edits ≡ true) R (jumper_row point from to lockable remote) refl refl
+    by_added (λ edits. are_in_order edits ≡ true) R (new_jumper point from to lockable remote) refl refl
 -- a hold of the clearance, if one, and then its record
 edits_in_order k R by at _ ordered = by_found {X = Record} (record_of R.records _) _ (λ r. refl)
 

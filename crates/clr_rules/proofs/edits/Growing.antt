@@ -12,7 +12,7 @@ use Rattle.clr_net.proofs.Grown.{points_are_added, sections_are_added}
 use Rattle.clr_shelf.specs.Rows.{with_row}
 use Rattle.clr_rules.specs.AdditionLaws.{AnswersFit, FittingEditsKeepNetworks, PositionsAreNoPart}
 use Rattle.clr_rules.specs.Answer.{Answer, answer, answer_by_checks, known_of}
-use Rattle.clr_rules.specs.Changes.{jumper_row}
+use Rattle.clr_rules.specs.Changes.{new_jumper}
 use Rattle.clr_rules.specs.Commands.{checks}
 use Rattle.clr_rules.specs.EditLaws.{adds, adds_nothing, refusal_of}
 use Rattle.clr_rules.specs.Edits.{fit, fits_edit, net_after, states_after}
@@ -124,7 +124,7 @@ module _ (R : Register) (net : IsNetwork R.net) (by : List ℕ) (at : ℕ) (poin
 
   jumper_settled : (found : Option Refusal) → refusal_of R jumper ≡ found → fit R.net (Answer.edits (answer_by_checks (known_of R jumper) R jumper found)) ≡ true
   unfolding fit
-  jumper_settled None passed = added_edits_fit R net (jumper_row point from to lockable remote)
+  jumper_settled None passed = added_edits_fit R net (new_jumper point from to lockable remote)
       (jumper_can (known_of R jumper) R by at point from to lockable remote (all_pass (checks (known_of R jumper) R by at (Jumper point from to lockable remote)) passed))
   jumper_settled (Some refusal) is = refl
 

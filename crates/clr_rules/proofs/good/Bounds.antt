@@ -12,7 +12,7 @@ use Rattle.clr_shelf.proofs.Members.{member-row_of}
 use Rattle.clr_rules.specs.Answer.{Answer, known_of, answer_by_checks}
 use Rattle.clr_rules.specs.Commands.{checks, edits_of}
 use Rattle.clr_rules.specs.BoundLaws.{IsBounded}
-use Rattle.clr_rules.specs.Changes.{jumper_row, new_steps, put_steps}
+use Rattle.clr_rules.specs.Changes.{new_jumper, new_steps, put_steps}
 use Rattle.clr_rules.specs.Checks.{too_many_clearances}
 use Rattle.clr_rules.specs.EditLaws.{refusal_of}
 use Rattle.clr_rules.specs.Prelude.{Edit, PutRecord, PutStep, Command, Kind, Tested, Record, Refusal, StepRow, Id, id_cmp, id_cmp_total, Register, greatest_number, record_key, record_of, step_key}
@@ -84,7 +84,7 @@ module _ (R : Register) (bounded : IsBounded R) (by : List ℕ) (at : ℕ) where
       let (_, (_, (number_passes, _))) = passed in
       (next_number number_passes, new_put _ 1 tasks (inl refl))
   all_in_bounds (kinds.Show c) passed = tt
-  all_in_bounds (kinds.Jumper point from to lockable remote) passed = by_added PutInBounds R (jumper_row point from to lockable remote) tt tt
+  all_in_bounds (kinds.Jumper point from to lockable remote) passed = by_added PutInBounds R (new_jumper point from to lockable remote) tt tt
   -- one record is put
   all_in_bounds _ passed = by_record PutInBounds tt R _ _ (λ r found. (of_record _ r found, tt))
 

@@ -13,7 +13,7 @@ use Rattle.clr_shelf.proofs.Keys.{equal}
 use Rattle.clr_shelf.specs.Rows.{with_row}
 use Rattle.clr_rules.specs.Answer.{Answer, known_of, answer_by_checks}
 use Rattle.clr_rules.specs.Commands.{Known, checks, edits_of}
-use Rattle.clr_rules.specs.Changes.{done_edits, jumper_row, step_moved, new_steps, phase_after, point_edits, put_steps, undone_edits}
+use Rattle.clr_rules.specs.Changes.{done_edits, new_jumper, step_moved, new_steps, phase_after, point_edits, put_steps, undone_edits}
 use Rattle.clr_rules.specs.Checks.{not_attested}
 use Rattle.clr_rules.specs.EditLaws.{is_hold, refusal_of}
 use Rattle.clr_rules.specs.Prelude.{Edit, PutHold, TakeHold, PutRecord, PutStep, Command, Kind, Hold, Tag, Tested, Phase, Requested, Ordered, Granted, Released, Restoring, Switching, Closed, Record, Refusal, StepRow, Id}
@@ -152,7 +152,7 @@ module _ (R : Register) (k : Known) (by : List ℕ) (at : ℕ) where
       (same_phase R (kinds.Transfer c to emergency) r c found to at, tt))
   all_came (kinds.Show c) passed = tt
   all_came (kinds.Jumper point from to lockable remote) passed =
-      by_added (AllPutSuch (CameSo R (kinds.Jumper point from to lockable remote)) AnyStep) R (jumper_row point from to lockable remote) tt tt
+      by_added (AllPutSuch (CameSo R (kinds.Jumper point from to lockable remote)) AnyStep) R (new_jumper point from to lockable remote) tt tt
   -- the phase and the holder stay
   all_came kind passed = by_record (AllPutSuch (CameSo R kind) AnyStep) tt R _ _ (λ r found. (same_phase R kind r _ found r.holder at, tt))
 
@@ -301,7 +301,7 @@ module _ (R : Register) (good : IsGoodByPhase R) (c : Id) (p : List ℕ) (k : Kn
   leaves_or_untags (kinds.Switch tasks) passed = inl (tt, steps_leave c Tag p (new_steps _ 1 1 tasks))
   leaves_or_untags (kinds.Show d) passed = inl tt
   leaves_or_untags (kinds.Jumper point from to lockable remote) passed =
-      inl (by_added (AllLeave c Tag p) R (jumper_row point from to lockable remote) (tt, tt) (tt, (tt, tt)))
+      inl (by_added (AllLeave c Tag p) R (new_jumper point from to lockable remote) (tt, tt) (tt, (tt, tt)))
   -- the record alone
   leaves_or_untags _ passed = inl (by_record (AllLeave c Tag p) tt R _ _ (λ r found. (tt, tt)))
 

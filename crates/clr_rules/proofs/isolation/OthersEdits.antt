@@ -12,7 +12,7 @@ use Rattle.clr_order.specs.declared.action.Action.{Action}
 use Rattle.clr_order.specs.declared.action.Action.TheVariants as actions
 use Rattle.clr_rules.specs.Answer.{Answer, answer, reply_clearance, first_refusal, known_of, requester_for, answer_by_checks}
 use Rattle.clr_rules.specs.Commands.{Known, checks, edits_of}
-use Rattle.clr_rules.specs.Changes.{added_edits, done_edits, edits_by, jumper_row, new_section, new_steps, point_edits, put_steps, undone_edits, with_record, with_step}
+use Rattle.clr_rules.specs.Changes.{added_edits, done_edits, edits_by, new_jumper, new_section, new_steps, point_edits, put_steps, undone_edits, with_record, with_step}
 use Rattle.clr_rules.specs.Checks.{other_hand, refuse, where_some}
 use Rattle.clr_rules.specs.Command.{is_jumper, named_clearance}
 use Rattle.clr_rules.specs.Prelude.{Edit, SetPosition, SetHand, TakeHold, PutRecord, PutStep, AddSection, AddPoint, Command, PointState, state_of, Kind, HeldOpen, Tested, Record, Refusal, StepRow, Id, same_id, Register, hand_of, has_in_hand, greatest_number, record_of}
@@ -197,7 +197,7 @@ module _ (c : Id) (R : Register) (k : Known) (by : List ℕ) (at : ℕ) where
   jumper_spares : (kind : Kind) → is_jumper kind ≡ true → PointsAreKnown R → first_refusal (checks k R by at kind) ≡ None
       → all_spare c R (edits_of k.greatest R by at kind) ≡ true
   jumper_spares (kinds.Jumper point from to lockable remote) is known passed =
-      added_spare c R (jumper_row point from to lockable remote) known
+      added_spare c R (new_jumper point from to lockable remote) known
       (jumper_can k R by at point from to lockable remote (all_pass (checks k R by at (kinds.Jumper point from to lockable remote)) passed)).new
   jumper_spares _ is known passed = cc is
 

@@ -22,7 +22,7 @@ use Rattle.clr_rules.specs.Agreement.{Agree}
 use Rattle.clr_rules.specs.AgreementLaws.{ChangesByMarks, is_about, is_new_of}
 use Rattle.clr_rules.specs.Answer.{Answer, answer, first_refusal, known_of, answer_by_checks}
 use Rattle.clr_rules.specs.AdditionLaws.{IsFree}
-use Rattle.clr_rules.specs.Changes.{jumper_row, new_section}
+use Rattle.clr_rules.specs.Changes.{new_jumper, new_section}
 use Rattle.clr_rules.specs.Commands.{Known, checks}
 use Rattle.clr_rules.specs.Checks.{employee, has_role, is_operator, refuse, where_some}
 use Rattle.clr_rules.specs.Command.{is_jumper, named_clearance}
@@ -164,7 +164,7 @@ module _ (R : Register) (good : IsGoodAsSaid R) (c : Id) (inside : List ℕ → 
       → ChangesByMarks R c inside (Answer.edits (answer_by_checks (known_of R (asked by at (Jumper point from to lockable remote))) R
       (asked by at (Jumper point from to lockable remote)) found))
   jumper_by_marks points point from to lockable remote by at None passed =
-      let p = jumper_row point from to lockable remote in
+      let p = new_jumper point from to lockable remote in
       let k = known_of R (asked by at (Jumper point from to lockable remote)) in
       let can = jumper_can k R by at point from to lockable remote (all_pass (checks k R by at (Jumper point from to lockable remote)) passed) in
       added_by_marks p (added_points_are_free R good points p.name can.new) (has_name (section_names (Grid.sections R.net)) to) (added_edits_fit R good.network p can)

@@ -11,7 +11,7 @@ use Rattle.clr_net.specs.declared.section.SectionRow.{SectionRow}
 use Rattle.clr_order.proofs.Finds.{all_fail, option_map-none}
 use Rattle.clr_shelf.proofs.Members.{member-row_of}
 use Rattle.clr_rules.specs.Answer.{Answer, answer_by_checks, known_of}
-use Rattle.clr_rules.specs.Changes.{jumper_row, new_section}
+use Rattle.clr_rules.specs.Changes.{new_jumper, new_section}
 use Rattle.clr_rules.specs.Checks.{crosses_fence}
 use Rattle.clr_rules.specs.Commands.{checks, edits_of}
 use Rattle.clr_rules.specs.Command.{is_jumper}
@@ -100,7 +100,7 @@ module _ (point from to : List ℕ) (lockable remote : Bool) where
   jumper_grown : (R : Register) (by : List ℕ) (at : ℕ) → IsGoodByPhase R → Pass (checks (known_of R (asked by at jumper)) R by at jumper)
       → GrewWell R (after_edits (edits_of (known_of R (asked by at jumper)).greatest R by at jumper) R)
   jumper_grown R by at good passed =
-      let p = jumper_row point from to lockable remote in
+      let p = new_jumper point from to lockable remote in
       let (_, (_, (_, (_, (fence_passes, _))))) = passed in
       both_grown R good p (crosses_no_fence R from to (not_crossed (crossed_by R from to) fence_passes)) (has_name (section_names (Grid.sections R.net)) to)
       (added_edits_fit R good.network p (jumper_can (known_of R (asked by at jumper)) R by at point from to lockable remote passed))
