@@ -3,7 +3,7 @@ use Rattle.std.proofs.Common.{◌≡◌, ℕ, Bool, true, false, List, [], ◌�
 use Rattle.std.proofs.lemmas.Bool.{and_parts}
 use Rattle.std.specs.List.{list_all}
 use Rattle.clr_rules.specs.Answer.{Answer, answer_with, card_of, reply_clearance, first_refusal, answer_by_checks, reply_of, reply_after}
-use Rattle.clr_rules.specs.Changes.{added_edits, jumper_row}
+use Rattle.clr_rules.specs.Changes.{added_edits, new_jumper}
 use Rattle.clr_rules.specs.Commands.{Known, checks}
 use Rattle.clr_rules.specs.Commands.{edits_of}
 use Rattle.clr_rules.specs.Command.{is_jumper, named_clearance}
@@ -70,7 +70,7 @@ asked k R q c reply is passes tells =
 -- a jumper is told its point
 pub laid : (k : Known) (R : Register) (q : Command) (point from to : List ℕ) (lockable remote : Bool) → q.kind ≡ Jumper point from to lockable remote
     → first_refusal (checks k R q.caller q.moment q.kind) ≡ None
-    → answer_with k R q ≡ answer_of (Added point) (added_edits R (jumper_row point from to lockable remote))
+    → answer_with k R q ≡ answer_of (Added point) (added_edits R (new_jumper point from to lockable remote))
 laid k R q point from to lockable remote is passes =
     ap (answer_by_checks k R q) passes
     ∙ ap (λ kind. answer_of (reply_after k (after_edits (edits_of k.greatest R q.caller q.moment kind) R) q.caller kind) (edits_of k.greatest R q.caller q.moment kind)) is

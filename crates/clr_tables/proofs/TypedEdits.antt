@@ -21,7 +21,7 @@ use Rattle.clr_shelf.proofs.Members.{member-row_of}
 use Rattle.clr_shelf.specs.Rows.{with_row, without_row}
 use Rattle.clr_rules.specs.Answer.{Answer, known_of, answer_by_checks}
 use Rattle.clr_rules.specs.Commands.{checks, edits_of}
-use Rattle.clr_rules.specs.Changes.{done_edits, jumper_row, new_section, step_moved, new_steps, phase_after, point_edits, put_steps, undone_edits}
+use Rattle.clr_rules.specs.Changes.{done_edits, new_jumper, new_section, step_moved, new_steps, phase_after, point_edits, put_steps, undone_edits}
 use Rattle.clr_rules.specs.Checks.{too_many_clearances, unsound_order}
 use Rattle.clr_rules.specs.EditLaws.{refusal_of}
 use Rattle.clr_rules.specs.Edits.{after_edit, after_edits}
@@ -354,8 +354,8 @@ module _ (R : Register) (typed : IsTyped R) (by : List ℕ) (at : ℕ) (caller :
       ends : (is_name from ≡ true) × (is_name to ≡ true)
       ends = and_parts (is_name from) (is_name to) (and_parts (is_name point) (is_name from && is_name to) is).1
 
-      added_typed : (b : Bool) → AllTyped (cond b (AddPoint (jumper_row point from to lockable remote) ∷ [])
-          (AddSection (new_section to) ∷ AddPoint (jumper_row point from to lockable remote) ∷ []))
+      added_typed : (b : Bool) → AllTyped (cond b (AddPoint (new_jumper point from to lockable remote) ∷ [])
+          (AddSection (new_section to) ∷ AddPoint (new_jumper point from to lockable remote) ∷ []))
       added_typed true = (is, tt)
       added_typed false = (ends.1, (is, tt))
   -- the record, behind holds that are taken

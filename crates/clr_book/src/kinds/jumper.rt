@@ -1,6 +1,6 @@
 //! An operator joins two sections by a switching point that is in no file: the project's own.
 ghost use Rattle.std.specs.Prelude.{◌≡◌, IfOk};
-ghost use Rattle.clr_rules.specs.Changes.{added_edits, jumper_row, new_section};
+ghost use Rattle.clr_rules.specs.Changes.{added_edits, new_jumper, new_section};
 ghost use Rattle.clr_rules.specs.declared.command.Kind.TheVariants as kinds;
 ghost use Rattle.clr_rules.specs.declared.reply.Reply.TheVariants.{Added};
 ghost use Rattle.clr_book.specs.Decision.{ChangesIfAccepted, answer_of_decision, near_refusal};
@@ -43,7 +43,7 @@ pub(crate) fn refusal_of(near: &Near, by: Name, at: Moment, laid: Jumper) -> Opt
 
 /// The point's row, which is open and in no file.
 fn row_of(laid: Jumper) -> PointRow
-    ensures { result ≡ jumper_row laid.point laid.from laid.to laid.lockable laid.remote }
+    ensures { result ≡ new_jumper laid.point laid.from laid.to laid.lockable laid.remote }
 {
     PointRow {
         name: laid.point,
@@ -84,7 +84,7 @@ pub(crate) fn added(near: &Near, laid: Jumper) -> Result<Decision, AllocError>
     ensures answer { IfOk result (λ d. answer_of_decision d ≡ record {
       reply = Added laid.point;
       edits = added_edits near.now.rows
-          (jumper_row laid.point laid.from laid.to laid.lockable laid.remote);
+          (new_jumper laid.point laid.from laid.to laid.lockable laid.remote);
     }) }
     ensures something { IfOk result ChangesIfAccepted }
 {
