@@ -16,7 +16,7 @@ use Rattle.clr_rules.specs.Changes.{added_edits, done_edits, edits_by, new_jumpe
 use Rattle.clr_rules.specs.Checks.{other_hand, refuse, where_some}
 use Rattle.clr_rules.specs.Command.{is_jumper, named_clearance}
 use Rattle.clr_rules.specs.Prelude.{Edit, SetPosition, SetHand, TakeHold, PutRecord, PutStep, AddSection, AddPoint, Command, PointState, state_of, Kind, HeldOpen, Tested, Record, Refusal, StepRow, Id, same_id, Register, hand_of, has_in_hand, greatest_number, record_of}
-use Rattle.clr_rules.specs.Prelude.{is_running, points_of, present_steps, steps_in, step_at, has_hold, hold_of, places_of, after_edits}
+use Rattle.clr_rules.specs.Prelude.{is_running, points_of, present_steps, steps_in, step_at, has_hold, hold_of, places_of}
 use Rattle.clr_rules.specs.Fences.{clearance_fence, found_fence, work_fence}
 use Rattle.clr_rules.specs.Footprint.{Frame, all_spare, both_or_neither, spares}
 use Rattle.clr_rules.specs.FrameLaws.{is_report, subject_of}
