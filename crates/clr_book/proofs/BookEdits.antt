@@ -1,10 +1,11 @@
 -- One turn of a loop over edits, and of one over points.
-use Rattle.std.proofs.Common.{◌≡◌, ◌<◌, ℕ, ◌+◌, true, List, [], ◌∷◌, ◌++◌, length, drop, get_or, refl, sym, ◌∙◌, ap}
+use Rattle.std.proofs.Common.{◌≡◌, ◌<◌, ℕ, ◌+◌, true, false, not, List, [], ◌∷◌, ◌++◌, length, drop, get_or, refl, sym, ◌∙◌, ap}
 use Rattle.std.proofs.lemmas.List.{append_assoc, drop_more}
 use Rattle.std.proofs.lemmas.Bool.{and_parts}
 use Rattle.clr_net.specs.Grid.{Grid, IsNetwork}
 use Rattle.clr_net.specs.Name.{name_cmp}
 use Rattle.clr_shelf.specs.Rows.{in_key_order, with_row}
+use Rattle.clr_rules.specs.EditLaws.{adds, adds_nothing}
 use Rattle.clr_rules.specs.Edits.{after_edit, after_edits, fit, fits_edit, net_after}
 use Rattle.clr_rules.specs.Answer.{Answer, answer_with}
 use Rattle.clr_rules.specs.Near.{Near, near_of}
@@ -13,12 +14,15 @@ use Rattle.clr_rules.specs.Command.{is_jumper}
 use Rattle.clr_rules.specs.declared.command.Command.{Command}
 use Rattle.clr_rules.specs.declared.command.Kind.{Kind}
 use Rattle.clr_rules.specs.declared.command.Kind.TheVariants.{Jumper}
+use Rattle.clr_rules.specs.declared.change.Edit.TheVariants.{AddPoint, AddSection}
+use Rattle.clr_rules.proofs.edits.EditedLists.{not_false}
 use Rattle.clr_rules.proofs.edits.Growing.{answers_fit, plain_fit}
 use Rattle.clr_rules.proofs.edits.PlainEdits.{answers_with_plain}
 use Rattle.clr_rules.specs.States.{state_key}
 use Rattle.clr_rules.specs.declared.change.Edit.{Edit}
 use Rattle.clr_rules.specs.declared.point_state.PointState.{PointState}
 use Rattle.clr_book.specs.Book.{Fits, Shelved, need_of, needs}
+use Rattle.clr_book.specs.Growth.{network_after, network_after_all}
 use Rattle.clr_book.proofs.BookRooms.{room_left}
 use Rattle.clr_book.proofs.StateFacts.{front_lower, with_row-end}
 
@@ -57,6 +61,29 @@ answers_taken R net q = at q.kind refl
 pub edits_end : (R : Register) → after_edits [] R ≡ R
 unfolding after_edits
 edits_end R = refl
+
+-- what an edit and those after it add to the network
+pub network_step : (edit : Edit) (rest : List Edit) (before after : Grid) → after ≡ network_after edit before
+    → network_after_all rest after ≡ network_after_all (edit ∷ rest) before
+unfolding network_after_all
+network_step edit rest before after made = ap (network_after_all rest) made
+
+pub network_end : (g : Grid) → network_after_all [] g ≡ g
+unfolding network_after_all
+network_end g = refl
+
+plain_network_after : (edit : Edit) (g : Grid) → adds edit ≡ false → network_after edit g ≡ g
+plain_network_after (AddSection row) g plain = absurd cc
+plain_network_after (AddPoint p) g plain = absurd cc
+plain_network_after _ g plain = refl
+
+-- edits that add nothing leave the network
+pub plain_network : (edits : List Edit) (g : Grid) → adds_nothing edits ≡ true → network_after_all edits g ≡ g
+unfolding network_after_all
+plain_network [] g plain = refl
+plain_network (edit ∷ edits) g plain =
+    let (one, others) = and_parts (not (adds edit)) (adds_nothing edits) plain in
+    ap (network_after_all edits) (plain_network_after edit g (not_false (adds edit) one)) ∙ plain_network edits g others
 
 -- a state is put behind those of lower points
 pub state_step : (front back : List PointState) (state : PointState) → in_key_order name_cmp state_key (front ++ state ∷ back) ≡ true

@@ -4,6 +4,7 @@ pub mod Orders
 pub mod Card
 pub mod Decision
 pub mod Effect
+pub mod Growth
 -- The definitions of the register's rules, passed on: whoever stands on clr_book names them here.
 pub use Rattle.clr_rules.specs.Agreement
 pub use Rattle.clr_rules.specs.Answer

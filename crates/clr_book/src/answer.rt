@@ -1,11 +1,12 @@
 //! The book's answer to a command.
-ghost use Rattle.std.specs.Prelude.{◌≡◌, false, true, IfOk, OnErr};
+ghost use Rattle.std.specs.Prelude.{◌≡◌, false, true, IfOk, OnErr, OnOk};
 ghost use Rattle.clr_rules.specs.Answer.{Answer, answer, answer_with};
 ghost use Rattle.clr_rules.specs.Edits.{after_edits, fit};
 ghost use Rattle.clr_rules.specs.Good.{IsGood};
 ghost use Rattle.clr_rules.specs.Near.{Near, near_of};
 ghost use Rattle.clr_rules.specs.Run.{after};
 ghost use Rattle.clr_book.specs.Decision.{ChangesIfAccepted, answer_of_decision, is_accepted};
+ghost use Rattle.clr_book.specs.Growth.{network_after_all};
 
 use crate::book::Book;
 use crate::decision::Decision;
@@ -47,9 +48,16 @@ impl<P: Shelf<PointState>, C: Shelf<Record>, T: Shelf<StepRow>, H: Shelf<Hold>> 
         ensures whole { IsGood self.old.register → IfOk result (λ reply.
             (Answer.reply (answer self.old.register command.now) ≡ reply)
             × (after self.old.register command.now ≡ self.new.register)) }
+        ensures network { let near = near_of self.old.register command.now in
+            let told = answer_with (Near.known near) (Near.rows near) command.now in
+            OnOk result (network_after_all (Answer.edits told) self.old.network
+            ≡ self.new.network) }
         ensures nothing { IfOk result (λ reply.
             is_accepted reply ≡ false → self.new.register ≡ self.old.register) }
+        ensures nothing_added { IfOk result (λ reply.
+            is_accepted reply ≡ false → self.new.network ≡ self.old.network) }
         ensures refused { OnErr result (self.new.register ≡ self.old.register) }
+        ensures refused_network { OnErr result (self.new.network ≡ self.old.network) }
     {
         let decision = self.answer(command)?;
         self.reserve(&decision.change)?;

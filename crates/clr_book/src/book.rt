@@ -1,5 +1,6 @@
 //! The book: the network, the staff, and the rows of the register on four shelves.
 ghost use Rattle.std.specs.Prelude.{◌≡◌, ◌<◌, [], true, IfOk, IsOk, OnOk, map, option_copied};
+ghost use Rattle.clr_net.specs.Additions.{with_point, with_section};
 ghost use Rattle.clr_rules.specs.Edits.{after_edit, after_edits, fit, fits_edit};
 ghost use Rattle.clr_rules.specs.Good.{ListsAreInOrder};
 ghost use Rattle.clr_rules.specs.Records.{record_of};
@@ -9,6 +10,7 @@ ghost use Rattle.clr_rules.specs.States.{state_of};
 ghost use Rattle.clr_rules.specs.Steps.{steps_of};
 ghost use Rattle.clr_rules.specs.declared.change.Edit.TheVariants.{AddPoint, AddSection};
 ghost use Rattle.clr_book.specs.Book.{Fits, Room, Shelved, need_of, needs};
+ghost use Rattle.clr_book.specs.Growth.{network_after, network_after_all};
 
 pub(crate) mod room;
 pub(crate) mod rows;
@@ -171,11 +173,13 @@ impl<P: Shelf<PointState>, C: Shelf<Record>, T: Shelf<StepRow>, H: Shelf<Hold>> 
     }
 
     /// Makes a change, in the room that `reserve` made for it. What it adds has to fit the network,
-    /// as it does in each change that `answer` gives.
+    /// as it does in each change that `answer` gives. The network has what is added, and no other
+    /// row of it changes.
     pub fn apply(&mut self, change: Change)
         requires room { Fits (needs change.edits.items) self.old.room }
         requires fits { fit self.old.register.net change.edits.items ≡ true }
-        ensures { self.new.register ≡ after_edits change.edits.items self.old.register }
+        ensures register { self.new.register ≡ after_edits change.edits.items self.old.register }
+        ensures network { self.new.network ≡ network_after_all change.edits.items self.old.network }
     {
         for edit in &change.edits {
             self.make(edit);
@@ -187,6 +191,7 @@ impl<P: Shelf<PointState>, C: Shelf<Record>, T: Shelf<StepRow>, H: Shelf<Hold>> 
         requires room { Fits (need_of edit.now (needs [])) self.old.room }
         requires fits { fits_edit self.old.register.net edit.now ≡ true }
         ensures register { self.new.register ≡ after_edit edit.now self.old.register }
+        ensures network { self.new.network ≡ network_after edit.now self.old.network }
         ensures room { Fits self.old.room (need_of edit.now self.new.room) }
     {
         match *edit {
@@ -211,6 +216,7 @@ impl<P: Shelf<PointState>, C: Shelf<Record>, T: Shelf<StepRow>, H: Shelf<Hold>> 
     fn add_section(&mut self, section: SectionRow)
         requires { fits_edit self.old.register.net (AddSection section) ≡ true }
         ensures register { self.new.register ≡ after_edit (AddSection section) self.old.register }
+        ensures network { self.new.network ≡ with_section section self.old.network }
         ensures room { self.new.room ≡ self.old.room }
     {
         self.network.add_section(section);
@@ -221,6 +227,7 @@ impl<P: Shelf<PointState>, C: Shelf<Record>, T: Shelf<StepRow>, H: Shelf<Hold>> 
         requires room { 0 < Room.states self.old.room }
         requires fits { fits_edit self.old.register.net (AddPoint point) ≡ true }
         ensures register { self.new.register ≡ after_edit (AddPoint point) self.old.register }
+        ensures network { self.new.network ≡ with_point point self.old.network }
         ensures room { Fits self.old.room (need_of (AddPoint point) self.new.room) }
     {
         let state = PointState {
