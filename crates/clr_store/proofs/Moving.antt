@@ -1,6 +1,6 @@
 -- What the statements of a move make of the tables: version 1 becomes version 2.
-use Rattle.std.proofs.Common.{◌≡◌, ◌∙◌, ◌⊎◌, inl, inr, pos, IsTrue, arith, ℕ, List, [], ◌∷◌, ◌++◌, map, drop, take, Bool, true, false, not, ◌&&◌, if◌then◌else◌, None, Ok, Result, refl, sym, ap, subst, append-nil}
-use Rattle.std.specs.Prelude.{MatchResult, codes, filter, is_ok}
+use Rattle.std.proofs.Common.{◌≡◌, ◌∙◌, ◌⊎◌, inl, inr, pos, IsTrue, arith, ℕ, List, [], ◌∷◌, ◌++◌, map, drop, take, Bool, true, false, not, ◌&&◌, if◌then◌else◌, None, Ok, Err, Result, refl, sym, ap, subst, append-nil}
+use Rattle.std.specs.Prelude.{MatchResult, OnOk, codes, filter, is_ok}
 use Rattle.std.specs.List.{list_all}
 use Rattle.std.specs.List.Sorted.{IsPermutation}
 use Rattle.std.specs.Ordering.{is_lt}
@@ -43,6 +43,7 @@ use Rattle.clr_tables.specs.declared.table_name.TableName.{TableName}
 use Rattle.clr_tables.specs.declared.table_name.TableName.TheVariants.{Meta, Section, Point, Staff, Clearance, Step, Hold, NetworkPoint}
 use Rattle.clr_store.specs.Change.{Changes, Makes, is_same, with_rows}
 use Rattle.clr_store.specs.Moving.{AreMoved, IsMoving, LeavesMoved, MovesTables, moved_points, rows_moving}
+use Rattle.clr_load.specs.Cause.{SqlHasCause}
 use Rattle.clr_load.specs.Contract.{old_points}
 use Rattle.clr_load.specs.Found.{Finds}
 use Rattle.clr_load.specs.Layout.{AsMoved, Layout, OfOne, has_table, is_one, place_in, tree_in}
@@ -51,6 +52,7 @@ use Rattle.clr_load.specs.Sql.{copy_sql, create_sql, empty_sql}
 use Rattle.clr_load.specs.Stored.{HasEachRow, HasMeta, HasOldTables, HasRows, HasTables, Holds, IsInOrder, Keeps, bodies, fits_columns, is_of_kind, rows_in}
 use Rattle.clr_load.specs.declared.fault.StoreFault.{StoreFault}
 use Rattle.clr_load.proofs.AllRead.{same_value}
+use Rattle.clr_load.proofs.Causes.{has_cause, then_cause}
 use Rattle.clr_load.proofs.Columns.{both_true, cast_fits, fits_length, values_all, values_from}
 use Rattle.clr_load.proofs.Reopened.{left_of}
 use Rattle.clr_load.proofs.Texts.{copied, copy_is, copying, create_is, create_text, created_is, defines, empty_is}
@@ -341,6 +343,18 @@ points_read old new t found = record {
     here : HasOldTables old.now t → Holds OfOne new.now t
     here has = (found.found_is OfOne refl t has.holds has.in_order).1
 
+-- what was read is what the tables have
+pub points_read_are : (old new : State) (t : Tables) → Finds old new is_one (λ l t. is_ok (old_points t)) true → HasOldTables old.now t → IsTrue (is_ok (old_points t))
+points_read_are old new t found has = sym (found.found_is OfOne refl t has.holds has.in_order).0
+
+-- so nothing is said of points that do not read
+pub never_unread : {Said : Type 0} (t : Tables) → IsTrue (is_ok (old_points t)) → is_ok (old_points t) ≡ false → Said
+never_unread t read unread = absurd (let both = sym read ∙ unread in cc)
+
+pub on_ok : {X : Type 0} (r : Result X StoreFault) (P : Type 0) → P → OnOk r P
+on_ok (Ok x) P holds = holds
+on_ok (Err fault) P holds = tt
+
 pub moves_points : {X : Type 0} (old a b c new : State) (t : Tables) (r : Result X StoreFault) → Finds old a is_one (λ l t. is_ok (old_points t)) true
     → Makes a b (λ db. Holds OfOne db t) (IsMoving t.points [] t) → Makes b c (IsMoving t.points [] t) (IsMoving t.points (moved_points t.points) t)
     → MatchResult r (λ _. Makes c new (IsMoving t.points (moved_points t.points) t) (IsMoving [] (moved_points t.points) t)) (λ _. KeepsCommit c new)
@@ -369,7 +383,7 @@ move_crash g old first mid end one two ended moved =
     let inside = survives_then (state g (record old { in_transaction = true })) (state g first) (state g mid) (λ _. ⊥) (λ _. ⊥) (λ _. ⊥) (λ _ _ none. none) (λ _ _ none. none) one two in
     crash_leaves g old mid end _ inside ended (λ clean.
     let it = moved clean in
-    (it.0, λ t has. left_of (state g mid).now (tables_moved t) (it.1 t has)))
+    (it.0, λ t has. ((it.1 t has).0, left_of (state g mid).now (tables_moved t) (it.1 t has).1)))
 
 -- a call that did not fail was made on an open connection
 pub surely_open : {here : Type 0} → here ⊎ ⊥ → here
@@ -387,6 +401,14 @@ leaves_none old new P s = record {
   closes = s.closes;
   crash = λ clean db may. elim (s.crash clean db may) [ inl before ↦ inl before | inr none ↦ absurd none ];
 }
+
+-- `Sql` that the later of two calls tells, of a connection that the first left open, has a cause in
+-- both
+pub opened_cause : {One Two : Trees → Type 0} (s t u : State) (fault : StoreFault) → Survives s t One → Survives t u Two → HasCleanDisk u
+    → (IsTrue t.is_open → SqlHasCause t u fault) → SqlHasCause s u fault
+opened_cause {One} s t u fault first later clean cause =
+    let between : HasCleanDisk t = omega (arith, later.clean, clean) in
+    then_cause s t u One fault first between later.counts (has_cause t u fault (λ sql able. subst (SqlHasCause t u) sql (cause able.is_open) able))
 
 pub leaves_moved : (old read new : State) → Survives old read (λ _. ⊥) → Survives read new (λ trees. IsTrue read.is_open × AreMoved read.now trees)
     → (HasCleanDisk read → IsTrue read.is_open → read.now ≡ old.now) → (HasCleanDisk read → (meta : List Row) → HasMeta old.now meta → read_version meta ≡ Ok (pos 1))

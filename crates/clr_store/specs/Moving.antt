@@ -1,5 +1,6 @@
 -- What the statements of a move from version 1 make of the tables.
 use Rattle.std.specs.Prelude.{false, ℤ, pos, ◌≡◌, ◌≢◌, ⊤, List, [], ◌∷◌, ◌++◌, map, Result, Ok, Err}
+use Rattle.std.specs.Prelude.{IsTrue, is_ok}
 use Rattle.sqlite.specs.Effect.{Database}
 use Rattle.sqlite.specs.Order.{Row}
 use Rattle.sqlite.specs.Tree.{Trees}
@@ -35,15 +36,18 @@ rows_moving olds news t NetworkPoint = news
 abbrev pub IsMoving : List Row → List Row → Tables → Database → Type 0
 IsMoving olds news t db = Keeps AsMoved db (rows_moving olds news t)
 
--- whatever tables of version 1 there were, they are now moved
+-- whatever tables of version 1 there were, each of their points reads, and they are now moved
 abbrev pub MovesTables : Database → Database → Type 0
-MovesTables before after = (t : Tables) → HasOldTables before t → HasTables after (tables_moved t)
+MovesTables before after = (t : Tables) → HasOldTables before t
+    → IsTrue (is_ok (old_points t)) × HasTables after (tables_moved t)
 
--- the trees have the tables that were moved
+-- the trees have the tables that were moved, of which each point reads
 abbrev pub AreMoved : Database → Trees → Type 0
-AreMoved before trees = (t : Tables) → HasOldTables before t → AreTables trees (tables_moved t)
+AreMoved before trees = (t : Tables) → HasOldTables before t
+    → IsTrue (is_ok (old_points t)) × AreTables trees (tables_moved t)
 
--- A MOVE LEAVES OTHER TREES only of tables that tell version 1, and then with all of them moved
+-- A MOVE LEAVES OTHER TREES only of tables that tell version 1 and of which each point reads, and
+-- then with all of them moved
 pub record LeavesMoved (before : Database) (trees : Trees) : Type 0 where
   pub told : (meta : List Row) → HasMeta before meta → read_version meta ≡ Ok (pos 1)
   pub moved : AreMoved before trees

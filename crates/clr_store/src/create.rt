@@ -129,8 +129,8 @@ fn add_sections<S: Alter>(
 fn add_point<S: Alter>(tx: &mut Transaction<'_, S>, point: &PointRow) -> Result<(), StoreFault>
     ensures same_reference { tx.new.conn.ghost_name ≡ tx.old.conn.ghost_name }
     ensures step { Steps (state S.Store tx.old.conn.now) (state S.Store tx.new.conn.now)
-        (with_rows TableName.NetworkPoint (λ rows. jumper_row point.now (first_state point.now) ∷ rows))
-        result }
+        (with_rows TableName.NetworkPoint
+        (λ rows. jumper_row point.now (first_state point.now) ∷ rows)) result }
     ensures fault { IfErr result IsOfDatabase }
     ensures survives { Survives (state S.Store tx.old.conn.now) (state S.Store tx.new.conn.now)
         (λ _. ⊥) }

@@ -1,11 +1,13 @@
 //! Tables of version 1 moved to version 2, in one transaction.
-ghost use Rattle.std.specs.Prelude.{◌≡◌, ◌⊎◌, [], false, IfErr, IsErrAnd, IsTrue, OnErr, OnOk};
+ghost use Rattle.std.specs.Prelude.{◌≡◌, ◌⊎◌, [], false, is_ok, IfErr, IsErrAnd, IsTrue, OnErr};
+ghost use Rattle.std.specs.Prelude.{OnOk};
 ghost use Rattle.sqlite.specs.Held.{state};
 ghost use Rattle.sqlite.specs.State.{HasCleanDisk, Survives};
 ghost use Rattle.clr_tables.specs.TableEdits.{tables_moved, with_table_row};
 ghost use Rattle.clr_tables.specs.Tables.{Tables, version_row};
 ghost use Rattle.clr_store.specs.Change.{Steps, StepsTo, with_rows};
 ghost use Rattle.clr_store.specs.Moving.{AreMoved, IsMoving, MovesTables, moved_points};
+ghost use Rattle.clr_load.specs.Cause.{SqlHasCause};
 ghost use Rattle.clr_load.specs.Contract.{IsSaved, RefusesPoints, old_points};
 ghost use Rattle.clr_load.specs.Fault.{IsOfDatabase, IsOfPoints};
 ghost use Rattle.clr_load.specs.Layout.{OfOne};
@@ -82,7 +84,16 @@ fn move_points<S: Alter>(tx: &mut Transaction<'_, S>) -> Result<(), StoreFault>
     ensures step { (t : Tables) → StepsTo (state S.Store tx.old.conn.now)
         (state S.Store tx.new.conn.now) (λ db. HasOldTables db t)
         (IsMoving [] (moved_points t.points) t) result }
+    ensures read { HasCleanDisk (state S.Store tx.new.conn.now)
+        → IsTrue (state S.Store tx.old.conn.now).in_transaction → (t : Tables)
+        → HasOldTables (state S.Store tx.old.conn.now).now t
+        → OnOk result (IsTrue (is_ok (old_points t))) }
     ensures fault { IfErr result IsOfPoints }
+    ensures cause { HasCleanDisk (state S.Store tx.new.conn.now)
+        → IsTrue (state S.Store tx.old.conn.now).in_transaction → (t : Tables)
+        → HasOldTables (state S.Store tx.old.conn.now).now t → is_ok (old_points t) ≡ false
+        → IfErr result (SqlHasCause (state S.Store tx.old.conn.now)
+        (state S.Store tx.new.conn.now)) }
     ensures was_open { HasCleanDisk (state S.Store tx.new.conn.now)
         → IsTrue (state S.Store tx.old.conn.now).in_transaction
         → IsTrue (state S.Store tx.old.conn.now).is_open ⊎ IsErrAnd result IsOfDatabase }
@@ -107,6 +118,10 @@ pub(crate) fn move_tables<S: Alter>(conn: &mut Connection<S>) -> Result<(), Stor
     ensures saved { HasCleanDisk (state S.Store conn.new) → OnOk result
         (IsSaved (state S.Store conn.new)) }
     ensures fault { IfErr result IsOfPoints }
+    ensures cause { conn.old.in_transaction ≡ false → HasCleanDisk (state S.Store conn.new)
+        → (t : Tables) → HasOldTables (state S.Store conn.old).now t
+        → is_ok (old_points t) ≡ false
+        → IfErr result (SqlHasCause (state S.Store conn.old) (state S.Store conn.new)) }
     ensures was_open { HasCleanDisk (state S.Store conn.new)
         → IsTrue (state S.Store conn.old).is_open ⊎ IsErrAnd result IsOfDatabase }
     ensures open_before { HasCleanDisk (state S.Store conn.new)

@@ -1,6 +1,6 @@
 //! The store: the register of a database, over a connection to it.
-ghost use Rattle.std.specs.Prelude.{◌≡◌, ◌≢◌, ◌⊎◌, false, true, pos, List, IsTrue, IfErr, IfOk};
-ghost use Rattle.std.specs.Prelude.{IsErrAnd, MatchResult, Ok, OnErr, OnOk};
+ghost use Rattle.std.specs.Prelude.{◌≡◌, ◌≢◌, ◌⊎◌, false, true, is_ok, pos, List, IsTrue, IfErr};
+ghost use Rattle.std.specs.Prelude.{IfOk, IsErrAnd, MatchResult, Ok, OnErr, OnOk};
 ghost use Rattle.sqlite.specs.Held.{state};
 ghost use Rattle.sqlite.specs.Order.{Row};
 ghost use Rattle.sqlite.specs.State.{HasCleanDisk, Survives};
@@ -15,7 +15,7 @@ ghost use Rattle.clr_load.specs.Schema.{no_schema};
 ghost use Rattle.clr_load.specs.Stored.{AreTables, HasMeta, HasOldTables, HasTables};
 ghost use Rattle.clr_load.specs.Cause.{SqlHasCause};
 ghost use Rattle.clr_load.specs.Fault.{IsOfDatabase};
-ghost use Rattle.clr_load.specs.Contract.{GivesBack, GivesRows, IsSaved};
+ghost use Rattle.clr_load.specs.Contract.{GivesBack, GivesRows, IsSaved, old_points};
 ghost use Rattle.clr_load.specs.declared.fault.StoreFault.TheVariants.{Sql};
 ghost use Rattle.clr_store.specs.Contract.{AreEdited, IsOfOpening, MakesEdits, RefusesVersion};
 ghost use Rattle.clr_store.specs.Moving.{IsOfMove, LeavesMoved, RefusesMove, RefusesToMove};
@@ -168,7 +168,7 @@ impl<S: Alter + Drop> Store<S> {
             → (state S.Store store).now ≡ (state S.Store connection).now) }
         ensures moved { IfOk result (λ store. HasCleanDisk (state S.Store store) → (t : Tables)
             → HasOldTables (state S.Store connection).now t → read_version t.meta ≡ Ok (pos 1)
-            → IsSaved (state S.Store store)
+            → IsTrue (is_ok (old_points t)) × IsSaved (state S.Store store)
             × HasTables (state S.Store store).now (tables_moved t)) }
         ensures register { IfOk result (λ store. HasCleanDisk (state S.Store store)
             → (R : Register) → HasNoJumper R
@@ -193,6 +193,11 @@ impl<S: Alter + Drop> Store<S> {
             → connection.in_transaction ≡ false → (meta : List Row)
             → HasMeta (state S.Store connection).now meta → read_version meta ≢ Ok (pos 1)
             → SqlHasCause (state S.Store connection) (state S.Store back.connection) back.fault) }
+        ensures points_cause { IfErr result (λ back.
+            HasCleanDisk (state S.Store back.connection) → connection.in_transaction ≡ false
+            → (t : Tables) → HasOldTables (state S.Store connection).now t
+            → is_ok (old_points t) ≡ false → SqlHasCause (state S.Store connection)
+            (state S.Store back.connection) back.fault) }
         ensures unread { IfErr result (λ back. HasCleanDisk (state S.Store back.connection)
             → (meta : List Row) → HasMeta (state S.Store connection).now meta
             → RefusesToMove (read_version meta) back.fault) }
@@ -236,10 +241,9 @@ impl<S: Alter + Drop> Store<S> {
     /// Reads all rows of the tables, in one transaction that changes nothing.
     ///
     /// `BadRow` names the first table, of meta, section, network_point, staff, clearance, step
-    /// and hold,
-    /// with a row that reads no value of its type. `Sql` where the database refuses or fails,
-    /// `NoMemory` where memory runs out. `WrongVersion` never comes: `open` has asked for the
-    /// version, and the rows tell it.
+    /// and hold, with a row that reads no value of its type. `Sql` where the database refuses or
+    /// fails, `NoMemory` where memory runs out. `WrongVersion` never comes: `open` has asked for
+    /// the version, and the rows tell it.
     pub fn load(&mut self) -> Result<Rows, StoreFault>
         ensures rows { HasCleanDisk (state S.Store self.new) → (t : Tables)
             → HasTables (state S.Store self.old).now t → GivesRows (rows_read t) result }

@@ -4,11 +4,13 @@ use Rattle.sqlite.specs.Held.{state}
 use Rattle.sqlite.specs.State.{HasCleanDisk, Survives}
 use Rattle.clr_tables.specs.TableEdits.{tables_moved}
 use Rattle.clr_store.specs.Moving.{AreMoved}
+use Rattle.clr_load.specs.Cause.{SqlHasCause}
 use Rattle.clr_load.specs.Contract.{RefusesPoints, old_points}
 use Rattle.clr_load.specs.Stored.{HasTables}
+use Rattle.clr_load.proofs.Causes.{begun_cause, cause_later}
 use Rattle.clr_load.proofs.Loading.{then_kept}
 use Rattle.clr_store.proofs.Creating.{no_tables}
-use Rattle.clr_store.proofs.Moving.{move_crash, surely_open, told_anew}
+use Rattle.clr_store.proofs.Moving.{move_crash, never_unread, surely_open, told_anew}
 use Rattle.clr_store.proofs.Versions.{database_of_points, database_stops, points_of_error}
 use Rattle.clr_store.proofs.migrate.move_tables.Goals as goal
 
@@ -24,9 +26,10 @@ returns-clause-moved g c clean t has =
     let middle : HasCleanDisk (state g.S.Store mid) = omega (arith, c.commit.ensures.survives.clean) in
     let early : HasCleanDisk (state g.S.Store first) = omega (arith, c.set_version.ensures.survives.clean) in
     let made = rw begun at (c.in_ok-move_points.ensures.step t early (rw begun refl)) in
+    let read = rw begun at (c.in_ok-move_points.ensures.read early (rw begun refl)) in
     let told = told_anew (state g.S.Store old).now (state g.S.Store first) (state g.S.Store mid) t has (made.makes has) (c.in_ok-set_version.ensures.step middle made.inside) in
-    subst (λ h. HasTables (state g.S.Store h).now (tables_moved t)) same
-    (subst (λ (d : Database). HasTables d (tables_moved t)) (sym (c.in_ok-commit.ensures.ok late).1.now_is) told)
+    let moved = subst (λ (d : Database). HasTables d (tables_moved t)) (sym (c.in_ok-commit.ensures.ok late).1.now_is) told in
+    (read t has, subst (λ h. HasTables (state g.S.Store h).now (tables_moved t)) same moved)
 
 pub returns-clause-crash : goal.returns-clause-crash
 returns-clause-crash g c =
@@ -44,7 +47,10 @@ returns-clause-crash g c =
       here,
       λ t has.
           let made = rw begun at (c.in_ok-move_points.ensures.step t early (rw begun refl)) in
-          told_anew (state g.S.Store old).now (state g.S.Store first) (state g.S.Store mid) t has (made.makes has) (c.in_ok-set_version.ensures.step clean made.inside),
+          let read = rw begun at (c.in_ok-move_points.ensures.read early (rw begun refl)) in (
+            read t has,
+            told_anew (state g.S.Store old).now (state g.S.Store first) (state g.S.Store mid) t has (made.makes has) (c.in_ok-set_version.ensures.step clean made.inside),
+          ),
     )))
 
 pub returns-in_err-commit-clause-crash : goal.returns-in_err-commit-clause-crash
@@ -63,7 +69,10 @@ returns-in_err-commit-clause-crash g c =
       here,
       λ t has.
           let made = rw begun at (c.in_ok-move_points.ensures.step t early (rw begun refl)) in
-          told_anew (state g.S.Store old).now (state g.S.Store first) (state g.S.Store mid) t has (made.makes has) (c.in_ok-set_version.ensures.step clean made.inside),
+          let read = rw begun at (c.in_ok-move_points.ensures.read early (rw begun refl)) in (
+            read t has,
+            told_anew (state g.S.Store old).now (state g.S.Store first) (state g.S.Store mid) t has (made.makes has) (c.in_ok-set_version.ensures.step clean made.inside),
+          ),
     )))
 
 pub returns-in_err-commit-clause-fault : goal.returns-in_err-commit-clause-fault
@@ -168,3 +177,35 @@ returns-in_err-commit-clause-open_before g c clean is_open =
 
 pub returns-clause-open_before : goal.returns-clause-open_before
 returns-clause-open_before g c clean is_open = surely_open (returns-clause-was_open g c clean)
+
+-- ---- with a point that does not read
+pub returns-in_err-move_points-clause-cause : goal.returns-in_err-move_points-clause-cause
+returns-in_err-move_points-clause-cause g c out clean t has unread =
+    let old = c.args.conn.now in
+    let mid = c.move_points.new.tx.conn.now in
+    let end = c.drop-tx.new.self.0 in
+    let begun = c.transaction-tx.ensures.begun in
+    let late : HasCleanDisk (state g.S.Store end) = search rules in
+    let early : HasCleanDisk (state g.S.Store mid) = omega (arith, c.drop-tx.ensures.survives.clean) in
+    let failed = rw begun at (c.in_err-move_points.ensures.cause early (rw begun refl)) in
+    let caused : SqlHasCause (state g.S.Store old) (state g.S.Store end) c.in_err-move_points.field-0.0 =
+    cause_later _ (state g.S.Store mid) _ _ _ c.drop-tx.ensures.survives (begun_cause g.S.Store old (state g.S.Store mid) _ (failed t has unread)) in
+    search rules
+
+pub returns-in_err-set_version-clause-cause : goal.returns-in_err-set_version-clause-cause
+returns-in_err-set_version-clause-cause g c out clean t has unread =
+    let begun = c.transaction-tx.ensures.begun in
+    let late : HasCleanDisk (state g.S.Store c.drop-tx-in_err-set_version.new.self.0) = search rules in
+    let middle : HasCleanDisk (state g.S.Store c.set_version.new.tx.conn.now) = omega (arith, c.drop-tx-in_err-set_version.ensures.survives.clean) in
+    let early : HasCleanDisk (state g.S.Store c.move_points.new.tx.conn.now) = omega (arith, c.set_version.ensures.survives.clean) in
+    let read = rw begun at (c.in_ok-move_points.ensures.read early (rw begun refl)) in
+    never_unread t (read t has) unread
+
+pub returns-in_err-commit-clause-cause : goal.returns-in_err-commit-clause-cause
+returns-in_err-commit-clause-cause g c out clean t has unread =
+    let begun = c.transaction-tx.ensures.begun in
+    let late : HasCleanDisk (state g.S.Store c.commit.new.self.0) = search rules in
+    let middle : HasCleanDisk (state g.S.Store c.set_version.new.tx.conn.now) = omega (arith, c.commit.ensures.survives.clean) in
+    let early : HasCleanDisk (state g.S.Store c.move_points.new.tx.conn.now) = omega (arith, c.set_version.ensures.survives.clean) in
+    let read = rw begun at (c.in_ok-move_points.ensures.read early (rw begun refl)) in
+    never_unread t (read t has) unread

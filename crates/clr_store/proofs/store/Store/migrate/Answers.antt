@@ -8,12 +8,23 @@ use Rattle.clr_tables.specs.Tables.{tables_by, version_one}
 use Rattle.clr_load.specs.Layout.{OfOne}
 use Rattle.clr_load.specs.Stored.{HasOldTables, HasTables}
 use Rattle.clr_load.proofs.Loading.{has_meta}
-use Rattle.clr_store.proofs.Moving.{leaves_moved, surely_open}
+use Rattle.clr_store.proofs.Moving.{leaves_moved, opened_cause, surely_open}
 use Rattle.clr_store.proofs.Versions.{move_unread, old_failed, old_stopped, old_unread, one_is_told}
 use Rattle.clr_store.proofs.store.Store.migrate.Goals as goal
 
 pub returns-in-Err-clause-cause : goal.returns-in-Err-clause-cause
 returns-in-Err-clause-cause g c clean out meta has differs = c.in-Err.ensures.cause out clean meta has
+
+pub returns-in-Err-clause-points_cause : goal.returns-in-Err-clause-points_cause
+returns-in-Err-clause-points_cause g c clean out t has unread = c.in-Err.ensures.cause out clean t.meta (has_meta OfOne _ t has)
+
+pub returns-in-Err-move_tables-clause-points_cause : goal.returns-in-Err-move_tables-clause-points_cause
+returns-in-Err-move_tables-clause-points_cause g c clean out t has unread =
+    let old = state g.S.Store c.args.connection in
+    let read = state g.S.Store c.read_version.new.conn in
+    let early : HasCleanDisk read = omega (arith, c.move_tables.ensures.crash.clean) in
+    opened_cause old read (state g.S.Store c.move_tables.new.conn) c.in-Err-move_tables.fault c.read_version.ensures.survives c.move_tables.ensures.crash clean (λ still.
+    c.in-Err-move_tables.ensures.cause (c.read_version.ensures.mode ∙ out) clean t (subst (λ (d : Database). HasOldTables d t) (sym (c.in-Ok.ensures.same early still)) has) unread)
 
 pub returns-in-Err-clause-unread : goal.returns-in-Err-clause-unread
 returns-in-Err-clause-unread g c clean meta has = move_unread (read_version meta) c.in-Err.fault c.in-Err.ensures.fault (c.in-Err.ensures.version clean meta has)
@@ -26,10 +37,9 @@ returns-in-Ok-move_tables-clause-moved g c clean t has one =
     let read = state g.S.Store c.read_version.new.conn in
     let early : HasCleanDisk read = omega (arith, c.move_tables.ensures.crash.clean) in
     let here : IsTrue read.is_open = surely_open (c.in-Ok-move_tables.ensures.was_open clean) in
-    let same = c.in-Ok.ensures.same early here in (
-      c.in-Ok-move_tables.ensures.saved clean,
-      c.in-Ok-move_tables.ensures.moved clean t (subst (λ (d : Database). HasOldTables d t) (sym same) has),
-    )
+    let same = c.in-Ok.ensures.same early here in
+    let moved = c.in-Ok-move_tables.ensures.moved clean t (subst (λ (d : Database). HasOldTables d t) (sym same) has) in
+    (moved.0, c.in-Ok-move_tables.ensures.saved clean, moved.1)
 
 pub returns-in-Ok-move_tables-clause-register : goal.returns-in-Ok-move_tables-clause-register
 returns-in-Ok-move_tables-clause-register g c clean R none has =
@@ -39,7 +49,7 @@ returns-in-Ok-move_tables-clause-register g c clean R none has =
     let here : IsTrue read.is_open = surely_open (c.in-Ok-move_tables.ensures.was_open clean) in
     let same = c.in-Ok.ensures.same early here in
     let moved = c.in-Ok-move_tables.ensures.moved clean old (subst (λ (d : Database). HasOldTables d old) (sym same) has) in
-    subst (HasTables (state g.S.Store c.move_tables.new.conn).now) (tables_are_moved R none) moved
+    subst (HasTables (state g.S.Store c.move_tables.new.conn).now) (tables_are_moved R none) moved.1
 
 pub returns-in-Ok-move_tables-clause-crash_moved : goal.returns-in-Ok-move_tables-clause-crash_moved
 returns-in-Ok-move_tables-clause-crash_moved g c =
