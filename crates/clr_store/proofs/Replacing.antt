@@ -1,7 +1,7 @@
 -- What UPDATE of all columns of the row of a key makes of a table: that row is put, where there was one.
-use Rattle.std.proofs.Common.{◌≡◌, ◌≤◌, ◌<◌, ◌+◌, ℕ, zero, suc, ℤ, List, [], ◌∷◌, ◌++◌, All, map, drop, take, length, Bool, true, false, cond, get_or, not, ◌&&◌, Ok, Err, Result, Some, None, inl, inr, refl, sym, ap, subst, ◌∙◌, arith}
-use Rattle.std.specs.Prelude.{filter, MatchResult, unwrap_or}
-use Rattle.std.specs.List.{AllByRecursion, list_all, list_any}
+use Rattle.std.proofs.Common.{◌≡◌, ◌≤◌, ◌<◌, ◌+◌, ℕ, zero, suc, List, [], ◌∷◌, ◌++◌, All, map, drop, take, length, Bool, true, false, get_or, not, ◌&&◌, Ok, None, inl, inr, refl, sym, ap, subst, ◌∙◌, arith}
+use Rattle.std.specs.Prelude.{filter, unwrap_or}
+use Rattle.std.specs.List.{AllByRecursion, list_all}
 use Rattle.std.specs.List.Sorted.{IsPermutation}
 use Rattle.std.specs.Cmp.{tied_itself}
 use Rattle.std.specs.Ordering.{is_eq, is_ne}
@@ -34,9 +34,9 @@ use Rattle.sqlite_rules.specs.Edit.{id_in}
 use Rattle.sqlite_rules.specs.Lists.{Has}
 use Rattle.sqlite_rules.proofs.ListLemmas.{all_has, contains_had, has_contained, some_from}
 use Rattle.sqlite_schema.specs.Rules.{agree, clashes, differ, equal, passes}
-use Rattle.sqlite_schema.specs.declared.schema.Constraint.TheVariants.{Unique, ForeignKey}
+use Rattle.sqlite_schema.specs.declared.schema.Constraint.TheVariants.{Unique}
 use Rattle.sqlite_sql.specs.declared.ops.BinaryOp.TheVariants.{Compare}
-use Rattle.sqlite_sql.specs.declared.ops.CompareOp.TheVariants.{Eq, Ne}
+use Rattle.sqlite_sql.specs.declared.ops.CompareOp.TheVariants.{Eq}
 use Rattle.sqlite_trees.proofs.ListLemmas.{map-map}
 use Rattle.sqlite_trees.proofs.TreeLemmas.{IsShaped-put_row}
 use Rattle.sqlite_trees.specs.View.{is_int}
@@ -46,7 +46,7 @@ use Rattle.clr_tables.specs.TableEdits.{with_table_row, without_table_row}
 use Rattle.clr_tables.specs.declared.table_name.TableName.{TableName}
 use Rattle.clr_tables.specs.declared.table_name.TableName.TheVariants.{Meta, Section, Point, Staff, Clearance, Step, Hold, NetworkPoint}
 use Rattle.clr_store.specs.Change.{Changes, after_replace, with_rows}
-use Rattle.clr_load.specs.Layout.{AsMade, AsMoved, Layout, OfOne, has_table, is_two, place_in, tree_in}
+use Rattle.clr_load.specs.Layout.{AsMade, AsMoved, Layout, OfOne, has_table, place_in, tree_in}
 use Rattle.clr_load.specs.Schema.{columns_in, first_columns, keys_in, schema_in, table_in}
 use Rattle.clr_load.specs.Sql.{replace_sql}
 use Rattle.clr_load.specs.Stored.{HasRows, bodies, fits_columns, is_set, rows_in}

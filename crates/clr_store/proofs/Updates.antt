@@ -31,7 +31,6 @@ use Rattle.sqlite_trees.proofs.TreeLemmas.{IsShaped-put_row}
 use Rattle.sqlite_trees.specs.View.{IsShaped}
 use Rattle.sqlite_trees.specs.declared.store.Shape.TheVariants as Shape
 use Rattle.clr_net.specs.declared.point.Position.{Position}
-use Rattle.clr_net.specs.declared.point.Position.TheVariants.{Opened, Closed}
 use Rattle.clr_rules.specs.Id.{Id}
 use Rattle.clr_rules.specs.declared.change.Edit.TheVariants.{SetPosition, SetHand}
 use Rattle.clr_tables.specs.TableEdits.{changed_point, handed_row, placed_row, table_edited}
@@ -45,6 +44,7 @@ use Rattle.clr_load.proofs.Columns.{both_true, cast_fits, values_all, values_fro
 use Rattle.clr_store.proofs.Inside.{changed_to, list_all-permutation, met_is, runs_inside}
 use Rattle.clr_store.proofs.RowLemmas.{put_fresh, removed, shaped-filter}
 use Rattle.clr_store.proofs.Effects.{ids_listed, is_met, one_write, shown_rows, task_on, went, wrote}
+use Rattle.clr_store.proofs.Given.{position_fits}
 use Rattle.clr_load.proofs.AllRead.{same_value}
 use Rattle.clr_load.specs.Sql.{set_hand_sql, set_position_sql}
 use Rattle.clr_load.proofs.Texts.{IsRead, changing, hand_terms, key_tests, position_terms, set_hand_is, set_position_is, updating}
@@ -223,10 +223,6 @@ hand_reads : (point : List ℕ) (v w : Value) (r : Row) → fits_columns point_c
 hand_reads point v w [] fits = absurd cc
 hand_reads point v w (id ∷ row) fits =
     subst (λ (body : Row). eval_all hand_terms ((Text point ∷ v ∷ w ∷ []) ∷ (id ∷ body) ∷ []) ≡ slice_set (slice_set body 6 v) 7 w) (nine row fits) refl
-
-position_fits : (position : Position) → is_of_kind Kind.Integer (position_value position) ≡ true
-position_fits Opened = refl
-position_fits Closed = refl
 
 pub sets_position : (old new : State) (point : List ℕ) (position : Position) (count : ℕ)
     → ExecutesInside 0 set_position_sql (Text point ∷ position_value position ∷ []) old new (Ok count) → Changes old new (table_edited (SetPosition point position))

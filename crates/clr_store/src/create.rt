@@ -15,14 +15,11 @@ ghost use Rattle.clr_load.specs.Stored.{AreTables, HasTables};
 
 use crate::sql::create_sql;
 use crate::statements::insert_row;
-use crate::values::{
-    flag_value, name_or_null, name_value, number_value, position_value, text_value,
-};
+use crate::values::{flag_value, name_or_null, name_value, number_value, point_values, text_value};
 use clr_csv::{Staff, StaffRow};
 use clr_load::StoreFault;
 use clr_net::{Network, PointRow, SectionRow};
 use clr_tables::{TableName, role_word};
-use sqlite::types::ValueRef;
 use sqlite::{Alter, Connection, Transaction};
 use sqlite_schema::schema::Schema;
 
@@ -135,17 +132,7 @@ fn add_point<S: Alter>(tx: &mut Transaction<'_, S>, point: &PointRow) -> Result<
     ensures survives { Survives (state S.Store tx.old.conn.now) (state S.Store tx.new.conn.now)
         (λ _. ⊥) }
 {
-    let row = [
-        name_value(&point.name),
-        name_value(&point.from_end),
-        name_value(&point.to_end),
-        flag_value(point.lockable),
-        flag_value(point.remote),
-        position_value(point.position),
-        ValueRef::Null,
-        ValueRef::Null,
-        flag_value(point.jumper),
-    ];
+    let row = point_values(point, point.position);
     insert_row(tx, TableName::NetworkPoint, &row)
 }
 

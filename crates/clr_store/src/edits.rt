@@ -15,7 +15,7 @@ ghost use Rattle.clr_load.specs.Stored.{fits_columns, has_key};
 
 use crate::statements::{delete_row, insert_row, replace_row};
 use crate::values::{
-    flag_value, name_or_null, name_value, number_value, position_value, text_value,
+    flag_value, name_or_null, name_value, number_value, point_values, position_value, text_value,
 };
 use clr_load::StoreFault;
 use clr_net::{Name, PointRow, Position, SectionRow};
@@ -224,17 +224,7 @@ fn add_point<S: Alter>(tx: &mut Transaction<'_, S>, point: &PointRow) -> Result<
     ensures survives { Survives (state S.Store tx.old.conn.now) (state S.Store tx.new.conn.now)
         (λ _. ⊥) }
 {
-    let row = [
-        name_value(&point.name),
-        name_value(&point.from_end),
-        name_value(&point.to_end),
-        flag_value(point.lockable),
-        flag_value(point.remote),
-        position_value(Position::Opened),
-        ValueRef::Null,
-        ValueRef::Null,
-        flag_value(point.jumper),
-    ];
+    let row = point_values(point, Position::Opened);
     put_row(tx, TableName::NetworkPoint, &row)
 }
 

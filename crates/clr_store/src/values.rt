@@ -1,10 +1,16 @@
 //! What is written in the columns of a row.
-ghost use Rattle.std.specs.Prelude.{◌≡◌, ◌<◌, ◌^◌};
+ghost use Rattle.std.specs.Prelude.{◌≡◌, ◌<◌, ◌^◌, true};
+ghost use Rattle.sqlite.specs.Values.{bound};
 ghost use Rattle.sqlite.specs.declared.types.Value.TheVariants.{Text};
 ghost use Rattle.sqlite_value.specs.Value.{owned};
-ghost use Rattle.clr_tables.specs.Tables.{flag_value, name_or_null, number_value, position_value};
+ghost use Rattle.clr_rules.specs.Register.{first_state};
+ghost use Rattle.clr_load.specs.Schema.{columns_in};
+ghost use Rattle.clr_load.specs.Stored.{fits_columns};
+ghost use Rattle.clr_tables.specs.Tables.{flag_value, jumper_row, name_or_null, number_value};
+ghost use Rattle.clr_tables.specs.Tables.{position_value};
+ghost use Rattle.clr_tables.specs.declared.table_name.TableName.TheVariants.{NetworkPoint};
 
-use clr_net::{Name, Position};
+use clr_net::{Name, PointRow, Position};
 use sqlite::types::ValueRef;
 
 /// A text.
@@ -54,4 +60,23 @@ pub(crate) fn position_value(position: Position) -> ValueRef<'static>
         Position::Opened => 0,
         Position::Closed => 1,
     })
+}
+
+/// The columns of a point in a position, in nobody's hand.
+pub(crate) fn point_values(point: &PointRow, position: Position) -> [ValueRef<'_>; 9]
+    ensures row { bound result ≡ jumper_row point.now
+        (first_state (record point.now { position = position })) }
+    ensures fits { fits_columns (columns_in NetworkPoint) (bound result) ≡ true }
+{
+    [
+        name_value(&point.name),
+        name_value(&point.from_end),
+        name_value(&point.to_end),
+        flag_value(point.lockable),
+        flag_value(point.remote),
+        position_value(position),
+        ValueRef::Null,
+        ValueRef::Null,
+        flag_value(point.jumper),
+    ]
 }

@@ -1,6 +1,4 @@
-use Rattle.clr_store.proofs.Given.{bound_flag}
 use Rattle.clr_store.proofs.edits.add_point.Goals as goal
 
 pub returns-clause-step : goal.returns-clause-step
-returns-clause-step g c clean inside =
-    rw (c.name_value.ensures, c.name_value-2.ensures, c.name_value-3.ensures, c.flag_value.ensures, bound_flag c.args.point.now.lockable, c.flag_value-2.ensures, bound_flag c.args.point.now.remote, c.position_value.ensures, c.flag_value-3.ensures, bound_flag c.args.point.now.jumper) at (c.put_row.ensures.step clean inside)
+returns-clause-step g c clean inside = rw c.point_values-row.ensures.row at (c.put_row.ensures.step clean inside)
