@@ -107,6 +107,7 @@ written 'BadRow network_point' 'an end of a million bytes' "UPDATE network_point
 written 'BadRow network_point' 'a position beyond its type' "UPDATE network_point SET position = 9223372036854775807 WHERE name = 'S2'"
 written 'BadRow network_point' 'half a hand' "UPDATE network_point SET hand_requester = 'JONES' WHERE name = 'S2'"
 written 'BadRow network_point' "a hand's number beyond its type" "UPDATE network_point SET hand_requester = 'JONES', hand_number = 65537"
+written 'BadRow network_point' 'a mark of a jumper that is neither 0 nor 1' "UPDATE network_point SET jumper = 2 WHERE name = 'T1'"
 written 'BadRow staff' 'a role of a million bytes' "UPDATE staff SET role = $huge WHERE name = 'OPS'"
 written 'BadRow staff' 'a supervisor of a million bytes' "UPDATE staff SET supervisor = $huge WHERE name = 'JONES'"
 written 'BadRow clearance' 'a number beyond its type' 'UPDATE clearance SET number = 65537'
