@@ -13,7 +13,7 @@ use Rattle.clr_rules.specs.declared.command.Kind.{Kind}
 use Rattle.clr_text.specs.declared.fault.TextFault.{TextFault}
 use Rattle.clr_text.specs.declared.fault.TextFault.TheVariants.{BadValue, MissingKey, NotObject, UnknownCommand, UnknownKey}
 use Rattle.clr_text.specs.declared.key.Key.{Key}
-use Rattle.clr_text.specs.declared.key.Key.TheVariants.{At, By, Clear, Clearance, Crew, Dead, Do, Done, Emergency, From, Lockable, Notified, Point, Points, Remote, Section, Step, Steps, Text, To}
+use Rattle.clr_text.specs.declared.key.Key.TheVariants.{At, By, Do, Section}
 use Rattle.clr_text.specs.declared.word.Word.{Word}
 use Rattle.clr_text.specs.declared.word.Word.TheVariants as word
 use Rattle.clr_text.proofs.KeysInOrder.{keys_stand_in_order, least_is_first}
@@ -74,28 +74,13 @@ module _ (d : Data) (e : TextFault) (did : fits d Do ≡ true) where
   end : {B : Type 0} {x : B} → Ok x ≡ Err e → NamesBad []
   end told = cc
 
-  -- of the keys behind `by` the first whose value does not fit
+  -- of the keys behind `by` the first whose value does not fit. A command reads its values in the
+  -- order of its keys, so at each key one of the lemmas above fits: the last clause is checked at
+  -- every word but the first's
   kind_first : (w : Word) → kind_in w d ≡ Err e → NamesBad (behind_by w)
   unfolding kind_in every_key
   kind_first word.Request = next_do (next_value Section _ _ refl (λ _. end))
-  kind_first word.Order = next_value Clearance _ _ refl (λ _. next_do (next_value Points _ _ refl (λ _. next_value Steps _ _ refl (λ _. end))))
-  kind_first word.Instruct = next_value Clearance _ _ refl (λ _. next_do (next_value Step _ _ refl (λ _. end)))
-  kind_first word.Repeat = next_value Clearance _ _ refl (λ _. next_do (next_value Step _ _ refl (λ _. next_value Text _ _ refl (λ _. end))))
-  kind_first word.Report = next_value Clearance _ _ refl (λ _. next_do (next_value Done _ _ refl (λ _. next_value Step _ _ refl (λ _. end))))
-  kind_first word.Grant = next_value Clearance _ _ refl (λ _. next_do end)
-  kind_first word.Test = next_value Clearance _ _ refl (λ _. next_value Dead _ _ refl (λ _. next_do (next_value Section _ _ refl (λ _. end))))
-  kind_first word.Ground = next_value Clearance _ _ refl (λ _. next_do (next_value Section _ _ refl (λ _. end)))
-  kind_first word.Unground = next_value Clearance _ _ refl (λ _. next_do (next_value Section _ _ refl (λ _. end)))
-  kind_first word.SignOn = next_value Clearance _ _ refl (λ _. next_value Crew _ _ refl (λ _. next_do end))
-  kind_first word.SignOff = next_value Clearance _ _ refl (λ _. next_value Crew _ _ refl (λ _. next_do end))
-  kind_first word.Transfer = next_value Clearance _ _ refl (λ _. next_do (next_value Emergency _ _ refl (λ _. next_value To _ _ refl (λ _. end))))
-  kind_first word.Release = next_value Clear _ _ refl (λ _. next_value Clearance _ _ refl (λ _. next_do (next_value Notified _ _ refl (λ _. end))))
-  kind_first word.Cancel = next_value Clearance _ _ refl (λ _. next_do end)
-  kind_first word.Restore = next_value Clearance _ _ refl (λ _. next_do (next_value Steps _ _ refl (λ _. end)))
-  kind_first word.Amend = next_value Clearance _ _ refl (λ _. next_do (next_value Step _ _ refl (λ _. end)))
-  kind_first word.Switch = next_do (next_value Steps _ _ refl (λ _. end))
-  kind_first word.Show = next_value Clearance _ _ refl (λ _. next_do end)
-  kind_first word.Jumper = next_do (next_value From _ _ refl (λ _. next_value Lockable _ _ refl (λ _. next_value Point _ _ refl (λ _. next_value Remote _ _ refl (λ _. next_value To _ _ refl (λ _. end))))))
+  kind_first _ = search (next_value, next_do, end) depth 20
 
   by_first : (w : Word) (at : ℕ) → (name_at By d >>= λ by. kind_in w d >>= λ kind. Ok (command by at kind)) ≡ Err e
       → NamesBad (By ∷ behind_by w)

@@ -119,7 +119,8 @@ impl Word {
 
     /// Whether a key is the command's own.
     fn has_own(self, key: Key) -> bool
-        ensures { result ≡ list_any (λ own. bytes_eq (key_text own) (key_text key)) (own_keys self) }
+        ensures { result
+            ≡ list_any (λ own. bytes_eq (key_text own) (key_text key)) (own_keys self) }
     {
         self.own_keys().iter().any(|own| own.text() == key.text())
     }
