@@ -206,40 +206,19 @@ impl Typed for Kind {
     ghost is_typed = { is_typed_kind };
 
     fn typed(&self) {
+        self.clearance().typed();
         match self {
-            Kind::Request { section } => section.typed(),
-            Kind::Order {
-                clearance,
-                points,
-                steps,
-            } => {
-                clearance.typed();
+            Kind::Request { section }
+            | Kind::Test { section, .. }
+            | Kind::Ground { section, .. }
+            | Kind::Unground { section, .. } => section.typed(),
+            Kind::Order { points, steps, .. } => {
                 names_are_typed(points);
                 tasks_are_typed(steps);
             }
-            Kind::Restore { clearance, steps } => {
-                clearance.typed();
-                tasks_are_typed(steps);
-            }
-            Kind::Switch { steps } => tasks_are_typed(steps),
-            Kind::Test {
-                clearance,
-                section,
-                ..
-            }
-            | Kind::Ground { clearance, section }
-            | Kind::Unground { clearance, section } => {
-                clearance.typed();
-                section.typed();
-            }
-            Kind::SignOn { clearance, crew } | Kind::SignOff { clearance, crew } => {
-                clearance.typed();
-                crew.typed();
-            }
-            Kind::Transfer { clearance, to, .. } => {
-                clearance.typed();
-                to.typed();
-            }
+            Kind::Restore { steps, .. } | Kind::Switch { steps } => tasks_are_typed(steps),
+            Kind::SignOn { crew, .. } | Kind::SignOff { crew, .. } => crew.typed(),
+            Kind::Transfer { to, .. } => to.typed(),
             Kind::Jumper {
                 point,
                 from,
@@ -250,14 +229,8 @@ impl Typed for Kind {
                 from.typed();
                 to.typed();
             }
-            Kind::Instruct { clearance, .. }
-            | Kind::Repeat { clearance, .. }
-            | Kind::Report { clearance, .. }
-            | Kind::Grant { clearance }
-            | Kind::Release { clearance, .. }
-            | Kind::Cancel { clearance }
-            | Kind::Amend { clearance, .. }
-            | Kind::Show { clearance } => clearance.typed(),
+            // The others name a clearance, and neither a name nor a list beside it.
+            _ => {}
         }
     }
 }
