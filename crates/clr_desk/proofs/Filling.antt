@@ -1,4 +1,4 @@
--- Every network takes the edits that fill a book: they add nothing.
+-- The edits that fill a book add nothing: every network takes them, and stays as it is.
 use Rattle.std.proofs.Common.{◌≡◌, true, not, List, [], ◌∷◌, ◌++◌, map, refl}
 use Rattle.std.proofs.lemmas.Bool.{and_from, and_parts}
 use Rattle.clr_net.specs.Grid.{Grid}
@@ -11,6 +11,8 @@ use Rattle.clr_rules.specs.declared.point_state.PointState.{PointState}
 use Rattle.clr_rules.specs.declared.record.Record.{Record}
 use Rattle.clr_rules.specs.declared.step_row.StepRow.{StepRow}
 use Rattle.clr_rules.proofs.edits.Growing.{plain_fit}
+use Rattle.clr_book.specs.Growth.{network_after_all}
+use Rattle.clr_book.proofs.BookEdits.{plain_network}
 use Rattle.clr_desk.specs.Filling.{filling, hand_edit}
 
 both_plain : (xs ys : List Edit) → adds_nothing xs ≡ true → adds_nothing ys ≡ true → adds_nothing (xs ++ ys) ≡ true
@@ -35,9 +37,17 @@ steps_plain : (steps : List StepRow) → adds_nothing (map PutStep steps) ≡ tr
 steps_plain [] = refl
 steps_plain (row ∷ steps) = steps_plain steps
 
+filling_plain : (states : List PointState) (holds : List Hold) (records : List Record) (steps : List StepRow)
+    → adds_nothing (filling states holds records steps) ≡ true
+filling_plain states holds records steps =
+    both_plain (map hand_edit states ++ map PutHold holds ++ map PutRecord records) (map PutStep steps)
+    (both_plain (map hand_edit states ++ map PutHold holds) (map PutRecord records)
+    (both_plain (map hand_edit states) (map PutHold holds) (hands_plain states) (holds_plain holds)) (records_plain records)) (steps_plain steps)
+
 pub filling_taken : (g : Grid) (states : List PointState) (holds : List Hold) (records : List Record) (steps : List StepRow)
     → fit g (filling states holds records steps) ≡ true
-filling_taken g states holds records steps = plain_fit (filling states holds records steps) g
-    (both_plain (map hand_edit states ++ map PutHold holds ++ map PutRecord records) (map PutStep steps)
-    (both_plain (map hand_edit states ++ map PutHold holds) (map PutRecord records)
-    (both_plain (map hand_edit states) (map PutHold holds) (hands_plain states) (holds_plain holds)) (records_plain records)) (steps_plain steps))
+filling_taken g states holds records steps = plain_fit (filling states holds records steps) g (filling_plain states holds records steps)
+
+pub filling_keeps : (g : Grid) (states : List PointState) (holds : List Hold) (records : List Record) (steps : List StepRow)
+    → network_after_all (filling states holds records steps) g ≡ g
+filling_keeps g states holds records steps = plain_network (filling states holds records steps) g (filling_plain states holds records steps)

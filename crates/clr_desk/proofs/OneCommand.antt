@@ -1,24 +1,30 @@
 -- One command: what its answer changes in the register, in the tables and in what a crash leaves.
-use Rattle.std.proofs.Common.{◌≡◌, ◌∙◌, List, [], Result, Ok, Err, sym, ap, subst}
+use Rattle.std.proofs.Common.{◌≡◌, ◌∙◌, false, List, [], Result, Ok, Err, sym, ap, subst}
 use Rattle.std.specs.Prelude.{IfOk, OnOk}
 use Rattle.sqlite.specs.Effect.{Database}
 use Rattle.sqlite.specs.State.{State, Survives}
 use Rattle.sqlite.proofs.StateLemmas.{survives_weaker}
+use Rattle.clr_net.specs.Grid.{Grid}
 use Rattle.clr_rules.specs.Answer.{Answer, answer}
+use Rattle.clr_rules.specs.Command.{is_jumper}
 use Rattle.clr_rules.specs.Edits.{after_edits}
 use Rattle.clr_rules.specs.Good.{IsGood}
+use Rattle.clr_rules.specs.Near.{Near, near_of}
 use Rattle.clr_rules.specs.Register.{Register}
 use Rattle.clr_rules.specs.Run.{after}
 use Rattle.clr_rules.specs.declared.change.Edit.{Edit}
 use Rattle.clr_rules.specs.declared.command.Command.{Command}
 use Rattle.clr_rules.specs.declared.reply.Reply.{Reply}
+use Rattle.clr_rules.proofs.edits.PlainEdits.{answers_with_plain}
 use Rattle.clr_rules.proofs.near.NewAnswers.{near_is_enough}
+use Rattle.clr_book.specs.Growth.{network_after_all}
+use Rattle.clr_book.proofs.BookEdits.{plain_network}
 use Rattle.clr_store.specs.Contract.{AreEdited}
 use Rattle.clr_load.specs.Stored.{AreTables, HasTables}
 use Rattle.clr_tables.specs.TableEdits.{tables_edited}
 use Rattle.clr_tables.specs.Tables.{tables_of}
 use Rattle.clr_tables.proofs.TableChanges.{tables_follow_edits}
-use Rattle.clr_desk.specs.Asking.{near_after, near_answer}
+use Rattle.clr_desk.specs.Asking.{near_after, near_answer, near_network}
 use Rattle.clr_desk.specs.Crash.{AreAfter}
 use Rattle.clr_desk.specs.Faults.{IsOfCommand, of_store}
 use Rattle.clr_desk.specs.declared.desk_fault.DeskFault.{DeskFault}
@@ -35,6 +41,17 @@ edited_by_none R edits none = ap (λ es. after_edits es R) none
 -- a command that has no edits changes nothing
 pub nothing_changes : (R : Register) (q : Command) (edits : List Edit) → edits ≡ Answer.edits (near_answer R q) → edits ≡ [] → R ≡ near_after R q
 nothing_changes R q edits is none = sym (edited_by_none R (Answer.edits (near_answer R q)) (sym is ∙ none))
+
+-- nor does it add to a network
+pub nothing_added : (R : Register) (q : Command) (edits : List Edit) (g : Grid) → edits ≡ Answer.edits (near_answer R q) → edits ≡ [] → g ≡ near_network R q g
+unfolding network_after_all
+nothing_added R q edits g is none = ap (λ es. network_after_all es g) (sym none ∙ is)
+
+-- only a jumper does
+pub only_jumpers_add : (R : Register) (q : Command) (g : Grid) → is_jumper q.kind ≡ false → near_network R q g ≡ g
+only_jumpers_add R q g plain =
+    let near = near_of R q in
+    plain_network (Answer.edits (near_answer R q)) g (answers_with_plain near.known near.rows q plain)
 
 -- ---- a good register
 

@@ -1,6 +1,8 @@
 -- A book that is opened: from what the store loads to the register.
 use Rattle.std.proofs.Common.{◌≡◌, ◌∙◌, inl, inr, None, Some, ap, subst, sym, Result, Ok, Err}
 use Rattle.clr_book.specs.Book.{Shelved}
+use Rattle.clr_net.specs.Grid.{Grid}
+use Rattle.clr_net.specs.Network.{IsGridOf}
 use Rattle.clr_rules.specs.Good.{IsGood}
 use Rattle.clr_rules.specs.Register.{Register}
 use Rattle.sqlite.specs.State.{State}
@@ -14,7 +16,7 @@ use Rattle.clr_tables.specs.Tables.{tables_of}
 use Rattle.clr_tables.specs.TypedRows.{IsTyped}
 use Rattle.clr_tables.specs.declared.table_name.TableName.{TableName}
 use Rattle.clr_tables.proofs.TablesRead.{tables_are_read, tables_read_as_no_others}
-use Rattle.clr_desk.specs.Opening.{FailsToOpen, IsRegisterOf, OpensAs, bad_table}
+use Rattle.clr_desk.specs.Opening.{FailsToOpen, HasNetworkOf, IsRegisterOf, OpensAs, bad_table}
 use Rattle.clr_desk.proofs.Filled.{opens_again}
 
 abbrev bad_or : TableName → Result Rows TableName → TableName
@@ -36,6 +38,10 @@ pub loaded : (told : Result Rows TableName) (rows : Rows) (book : Shelved) → t
     → bad_table rows ≡ None → OpensAs (λ (b : Shelved). b.register) told (Ok book)
 loaded told rows book is register none =
     subst (λ (read : Result Rows TableName). OpensAs (λ (b : Shelved). b.register) read (Ok book)) (sym is) (register, none)
+
+pub network_loaded : (told : Result Rows TableName) (rows : Rows) (g : Grid) → told ≡ Ok rows → IsGridOf rows.sections rows.points g
+    → HasNetworkOf told g
+network_loaded told rows g is built = subst (λ (read : Result Rows TableName). HasNetworkOf read g) (sym is) built
 
 -- rows that are loaded are not refused as `Sql`
 pub opened_cause : (rows : Rows) (fault : StoreFault) (old new : State) → FailsToOpen rows fault → SqlHasCause old new fault

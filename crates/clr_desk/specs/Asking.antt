@@ -1,9 +1,11 @@
--- ASKING A BOOK: what it answers to a command, and the register that this leaves.
+-- ASKING A BOOK: what it answers to a command, and the register and the network that this leaves.
+use Rattle.clr_net.specs.Grid.{Grid}
 use Rattle.clr_rules.specs.Answer.{Answer, answer_with}
 use Rattle.clr_rules.specs.Edits.{after_edits}
 use Rattle.clr_rules.specs.Near.{Near, near_of}
 use Rattle.clr_rules.specs.Register.{Register}
 use Rattle.clr_rules.specs.declared.command.Command.{Command}
+use Rattle.clr_book.specs.Growth.{network_after_all}
 
 -- the answer from the near part of the command; of a good register that is the answer of the whole
 -- register
@@ -13,3 +15,7 @@ near_answer R q = answer_with (Near.known (near_of R q)) (Near.rows (near_of R q
 -- the register with the edits of that answer
 abbrev pub near_after : Register → Command → Register
 near_after R q = after_edits (Answer.edits (near_answer R q)) R
+
+-- a network whose rows have positions, with what those edits add
+abbrev pub near_network : Register → Command → Grid → Grid
+near_network R q g = network_after_all (Answer.edits (near_answer R q)) g

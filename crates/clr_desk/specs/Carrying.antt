@@ -1,11 +1,12 @@
--- CARRYING OUT A COMMAND: what it does to the register of a desk, to its tables, and to what a
--- crash leaves.
+-- CARRYING OUT A COMMAND: what it does to the register and the network of a desk, to its tables, and
+-- to what a crash leaves.
 use Rattle.std.specs.Prelude.{◌≡◌, false, IfErr, IfOk, IsTrue, OnErr, OnOk, Result}
 use Rattle.sqlite.specs.Held.{state}
 use Rattle.sqlite.specs.State.{HasCleanDisk, Survives}
 use Rattle.sqlite_trees.specs.declared.store.Store.{Ghosts}
 use Rattle.clr_book.specs.Decision.{is_accepted}
 use Rattle.clr_rules.specs.Answer.{Answer, answer}
+use Rattle.clr_rules.specs.Command.{is_jumper}
 use Rattle.clr_rules.specs.Good.{IsGood}
 use Rattle.clr_rules.specs.Run.{after}
 use Rattle.clr_rules.specs.declared.command.Command.{Command}
@@ -15,7 +16,7 @@ use Rattle.clr_load.specs.Stored.{HasTables}
 use Rattle.clr_tables.specs.Tables.{tables_of}
 use Rattle.clr_tables.specs.TypedRows.{is_typed_command}
 use Rattle.clr_desk.specs.Answering.{has_accepted}
-use Rattle.clr_desk.specs.Asking.{near_after, near_answer}
+use Rattle.clr_desk.specs.Asking.{near_after, near_answer, near_network}
 use Rattle.clr_desk.specs.Crash.{AreAfter}
 use Rattle.clr_desk.specs.Faults.{IsOfCommand}
 use Rattle.clr_desk.specs.declared.desk.Desk.{Desk}
@@ -34,6 +35,12 @@ pub record CarriesOut {S : Type 0} (g : Ghosts S) (old new : Desk S) (q : Comman
       → OnOk result (new.book.register ≡ after old.book.register q)
   -- a command that is refused or shown, and a fault, leave the register
   pub unchanged : has_accepted result ≡ false → new.book.register ≡ old.book.register
+  -- the network has what the command adds, and its other rows as they were, with their positions
+  pub network : OnOk result
+      (new.book.network ≡ near_network old.book.register q old.book.network)
+  pub same_network : has_accepted result ≡ false → new.book.network ≡ old.book.network
+  -- only a jumper adds to it
+  pub plain : is_jumper q.kind ≡ false → new.book.network ≡ old.book.network
   pub cause : IfErr result IsOfCommand
   -- each value of the command is within its type, as every value of the program is
   pub typed : IsTrue (is_typed_command q)

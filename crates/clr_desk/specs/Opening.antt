@@ -32,6 +32,11 @@ pub record IsRegisterOf (rows : Rows) (R : Register) : Type 0 where
   pub filled : R ≡ after_edits (filling rows.states rows.holds rows.records rows.steps)
       (opening grid staff)
 
+-- a network has the sections and the points of what tables read as, with their positions
+abbrev pub HasNetworkOf : Result Rows TableName → Grid → Type 0
+HasNetworkOf (Ok rows) g = IsGridOf rows.sections rows.points g
+HasNetworkOf (Err bad) g = ⊥
+
 -- the table that a fault of the network is in: of a network that is too large the sections, where
 -- they are too many
 abbrev pub table_of : List SectionRow → NetFault → TableName

@@ -14,7 +14,7 @@ use std::alloc::AllocError;
 /// What the book answers to a command. Then there is room in the book for its change, which is not
 /// made yet.
 ///
-/// Where memory runs out the book has the rows that it had.
+/// Where memory runs out the book has the rows that it had, and so has its network.
 pub fn prepare(book: &mut DeskBook, command: &Command) -> Result<Decision, AllocError>
     ensures answer { IfOk result
         (λ d. answer_of_decision d ≡ near_answer book.old.register command.now) }
@@ -22,6 +22,7 @@ pub fn prepare(book: &mut DeskBook, command: &Command) -> Result<Decision, Alloc
     ensures fits { IfOk result (λ d. fit book.new.register.net d.change.edits.items ≡ true) }
     ensures room { IfOk result (λ d. Fits (needs d.change.edits.items) book.new.room) }
     ensures register { book.new.register ≡ book.old.register }
+    ensures network { book.new.network ≡ book.old.network }
 {
     let decision = book.answer(command)?;
     book.reserve(&decision.change)?;

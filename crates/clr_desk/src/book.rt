@@ -1,6 +1,7 @@
 //! The book of a desk, and what a desk does with it.
 ghost use Rattle.std.specs.Prelude.{◌≡◌, true, IfOk};
 ghost use Rattle.clr_book.specs.Book.{Fits, needs};
+ghost use Rattle.clr_book.specs.Growth.{network_after_all};
 ghost use Rattle.clr_rules.specs.Edits.{after_edits, fit};
 ghost use Rattle.clr_rules.specs.Register.{opening};
 ghost use Rattle.clr_rules.specs.Run.{IsReached};
@@ -54,7 +55,8 @@ pub fn staff_of(book: &DeskBook) -> &Staff
 pub fn apply(book: &mut DeskBook, change: Change)
     requires room { Fits (needs change.edits.items) book.old.room }
     requires fits { fit book.old.register.net change.edits.items ≡ true }
-    ensures { book.new.register ≡ after_edits change.edits.items book.old.register }
+    ensures register { book.new.register ≡ after_edits change.edits.items book.old.register }
+    ensures network { book.new.network ≡ network_after_all change.edits.items book.old.network }
 {
     book.apply(change);
 }

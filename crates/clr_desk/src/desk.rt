@@ -21,12 +21,12 @@ ghost use Rattle.clr_tables.specs.RowsRead.{rows_read};
 ghost use Rattle.clr_tables.specs.Tables.{Tables, tables_of};
 ghost use Rattle.clr_tables.specs.TypedRows.{IsTyped, is_typed_command};
 ghost use Rattle.clr_desk.specs.AtFault.{table_at_fault};
-ghost use Rattle.clr_desk.specs.Opening.{OpensAs};
+ghost use Rattle.clr_desk.specs.Opening.{HasNetworkOf, OpensAs};
 ghost use Rattle.clr_desk.specs.Answering.{fault_of, replies_of};
 ghost use Rattle.clr_desk.specs.Carrying.{CarriesOut};
 ghost use Rattle.clr_desk.specs.Faults.{IsOfCommand, count_after, of_store};
 ghost use Rattle.clr_desk.specs.Kept.{Keeps};
-ghost use Rattle.clr_desk.specs.NearRun.{IsNearRun};
+ghost use Rattle.clr_desk.specs.NearRun.{IsNearRun, near_network_all};
 
 use crate::asking::prepare;
 use crate::at_fault::table_in;
@@ -65,6 +65,7 @@ impl<S: Alter + Drop> Desk<S> {
         staff: Staff,
     ) -> Result<Desk<S>, (DeskFault, Connection<S>)>
         ensures register { IfOk result (λ desk. desk.book.register ≡ opening network staff) }
+        ensures network { IfOk result (λ desk. desk.book.network ≡ network) }
         ensures reached { IfOk result (λ desk. IsReached desk.book.register) }
         ensures typed { IfOk result (λ desk. IsTyped desk.book.register) }
         ensures faults { IfOk result (λ desk. desk.faults ≡ 0) }
@@ -105,6 +106,9 @@ impl<S: Alter + Drop> Desk<S> {
         ensures opened { IfOk result (λ desk. HasCleanDisk (state S.Store desk.store) → (t : Tables)
             → HasTables (state S.Store store).now t
             → OpensAs (λ (book : Shelved). book.register) (rows_read t) (Ok desk.book)) }
+        ensures network { IfOk result (λ desk. HasCleanDisk (state S.Store desk.store)
+            → (t : Tables) → HasTables (state S.Store store).now t
+            → HasNetworkOf (rows_read t) desk.book.network) }
         ensures again { IfOk result (λ desk. HasCleanDisk (state S.Store desk.store)
             → (R : Register) → IsGood R → HasTables (state S.Store store).now (tables_of R)
             → desk.book.register ≡ R) }
@@ -258,6 +262,9 @@ impl<S: Alter + Drop> Desk<S> {
         ensures near { IsNearRun self.old.book.register
             (with_reply commands.items result.replies.items) result.replies.items
             self.new.book.register }
+        ensures network { self.new.book.network
+            ≡ near_network_all self.old.book.register
+            (with_reply commands.items result.replies.items) self.old.book.network }
         ensures ends { IfNone result.fault (length result.replies.items ≡ length commands.items) }
         ensures stops { IfSome result.fault
             (λ _. length result.replies.items < length commands.items) }

@@ -7,6 +7,7 @@ ghost use Rattle.clr_rules.specs.Edits.{after_edits, fit};
 ghost use Rattle.clr_rules.specs.Register.{opening, unplaced_net};
 ghost use Rattle.clr_tables.specs.declared.table_name.TableName.TheVariants as table;
 ghost use Rattle.clr_book.specs.Book.{Shelved};
+ghost use Rattle.clr_book.specs.Growth.{network_after_all};
 ghost use Rattle.clr_load.specs.Contract.{IsSaved, rows_told};
 ghost use Rattle.clr_load.specs.Cause.{SqlHasCause};
 ghost use Rattle.clr_load.specs.Fault.{IsOfDatabase};
@@ -18,7 +19,7 @@ ghost use Rattle.sqlite.specs.Held.{state};
 ghost use Rattle.sqlite.specs.State.{HasCleanDisk, Survives};
 ghost use Rattle.clr_desk.specs.Filling.{filling, hand_edit};
 ghost use Rattle.clr_rules.specs.declared.change.Edit.TheVariants.{PutHold, PutRecord, PutStep};
-ghost use Rattle.clr_desk.specs.Opening.{FailsToOpen, IsRegisterOf, OpensAs, bad_table, table_of};
+ghost use Rattle.clr_desk.specs.Opening.{FailsToOpen, HasNetworkOf, IsRegisterOf, OpensAs, bad_table, table_of};
 ghost use Rattle.clr_load.specs.declared.fault.StoreFault.TheVariants.{BadRow, NoMemory};
 
 use crate::book::{DeskBook, apply, opening_book};
@@ -89,8 +90,10 @@ fn filled_book(
     change: Change,
 ) -> Result<DeskBook, AllocError>
     requires { fit (unplaced_net network) change.edits.items ≡ true }
-    ensures { IfOk result (λ book. book.register ≡ after_edits change.edits.items
+    ensures register { IfOk result (λ book. book.register ≡ after_edits change.edits.items
         (opening network staff)) }
+    ensures network { IfOk result
+        (λ book. book.network ≡ network_after_all change.edits.items network) }
 {
     let mut book = opening_book(alloc, network, staff)?;
     book.reserve(&change)?;
@@ -152,6 +155,8 @@ fn built_staff(alloc: Global, rows: Vec<StaffRow>) -> Result<Staff, StoreFault>
 /// The book of loaded rows.
 fn book_of(rows: Rows) -> Result<DeskBook, StoreFault>
     ensures register { IfOk result (λ book. IsRegisterOf (rows_told rows) book.register) }
+    ensures network { IfOk result
+        (λ book. IsGridOf (rows_told rows).sections (rows_told rows).points book.network) }
     ensures typed { IfOk result (λ book. IsTyped book.register) }
     ensures none { IfOk result (λ _. bad_table (rows_told rows) ≡ None) }
     ensures fault { IfErr result (λ fault. FailsToOpen (rows_told rows) fault) }
@@ -173,6 +178,9 @@ pub fn book_in<S: Alter + Drop>(store: &mut Store<S>) -> Result<DeskBook, StoreF
     ensures tables { HasCleanDisk (state S.Store store.new) → (t : Tables)
         → HasTables (state S.Store store.old).now t
         → OpensAs (λ (book : Shelved). book.register) (rows_read t) result }
+    ensures network { HasCleanDisk (state S.Store store.new) → (t : Tables)
+        → HasTables (state S.Store store.old).now t
+        → IfOk result (λ book. HasNetworkOf (rows_read t) book.network) }
     ensures typed { IfOk result (λ book. IsTyped book.register) }
     ensures cause { HasCleanDisk (state S.Store store.new) → (t : Tables)
         → HasTables (state S.Store store.old).now t

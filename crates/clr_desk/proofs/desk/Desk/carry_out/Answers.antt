@@ -6,7 +6,8 @@ use Rattle.clr_rules.specs.Register.{Register}
 use Rattle.clr_load.specs.Stored.{HasTables}
 use Rattle.clr_tables.specs.Tables.{Tables, tables_of}
 use Rattle.clr_book.specs.Decision.{is_accepted}
-use Rattle.clr_desk.proofs.OneCommand.{crash_after, near_after_is_after, near_is_whole, nothing_changes, tables_after}
+use Rattle.clr_book.specs.Growth.{network_after_all}
+use Rattle.clr_desk.proofs.OneCommand.{crash_after, near_after_is_after, near_is_whole, nothing_added, nothing_changes, only_jumpers_add, tables_after}
 use Rattle.clr_desk.proofs.desk.Desk.carry_out.Goals as goal
 
 -- a command that is refused or shown
@@ -26,6 +27,11 @@ returns-then-not-is_accepted-clause-carried g c =
       reply = λ good. told ∙ ap (λ (a : Answer). a.reply) (near_is_whole R q good);
       register = λ good. same ∙ near_after_is_after R q good;
       unchanged = search rules;
+      network = c.prepare.ensures.network
+          ∙ nothing_added R q c.in_ok-decision.decision.change.edits.items c.args.self.now.book.network
+          (ap (λ (a : Answer). a.edits) c.in_ok-decision.ensures.answer) (c.in_ok-decision.ensures.nothing refused);
+      same_network = λ _. c.prepare.ensures.network;
+      plain = λ _. c.prepare.ensures.network;
       cause = search rules;
       typed = c.typed.ensures;
       tables = λ clean good has. subst (λ (S : Register). HasTables db (tables_of S)) (sym c.prepare.ensures.register) has;
@@ -45,6 +51,9 @@ returns-in_err-commit-clause-carried g c = record {
   reply = search rules;
   register = search rules;
   unchanged = search rules;
+  network = search rules;
+  same_network = λ _. c.prepare.ensures.network;
+  plain = λ _. c.prepare.ensures.network;
   cause = search rules;
   typed = c.typed.ensures;
   tables = search rules;
@@ -65,13 +74,17 @@ returns-clause-carried g c =
     let db = (state g.S.Store c.commit.new.self).now in
     let edits = ap (λ (a : Answer). a.edits) c.in_ok-decision.ensures.answer in
     let told = ap (λ (a : Answer). a.reply) c.in_ok-decision.ensures.answer in
-    let changed = c.apply.ensures ∙ (λ i. after_edits (edits i) (c.prepare.ensures.register i)) in
+    let changed = c.apply.ensures.register ∙ (λ i. after_edits (edits i) (c.prepare.ensures.register i)) in
+    let grown = c.apply.ensures.network ∙ (λ i. network_after_all (edits i) (c.prepare.ensures.network i)) in
     record {
       near = told;
       changed = changed;
       reply = λ good. told ∙ ap (λ (a : Answer). a.reply) (near_is_whole R q good);
       register = λ good. changed ∙ near_after_is_after R q good;
       unchanged = search rules;
+      network = grown;
+      same_network = search rules;
+      plain = λ none. grown ∙ only_jumpers_add R q c.args.self.now.book.network none;
       cause = search rules;
       typed = c.typed.ensures;
       tables = λ clean good has.

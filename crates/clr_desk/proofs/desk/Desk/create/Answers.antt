@@ -15,6 +15,10 @@ pub returns-in-Ok-create-clause-register : goal.returns-in-Ok-create-clause-regi
 returns-in-Ok-create-clause-register g c =
     ap (λ (book : Shelved). book.register) c.over.ensures.book ∙ c.in-Ok.ensures.register
 
+pub returns-in-Ok-create-clause-network : goal.returns-in-Ok-create-clause-network
+returns-in-Ok-create-clause-network g c =
+    ap (λ (book : Shelved). book.network) c.over.ensures.book ∙ c.in-Ok.ensures.network
+
 pub returns-in-Ok-create-clause-reached : goal.returns-in-Ok-create-clause-reached
 returns-in-Ok-create-clause-reached g c =
     subst (λ (book : Shelved). IsReached book.register) (sym c.over.ensures.book)

@@ -4,7 +4,7 @@ use Rattle.sqlite.specs.State.{HasCleanDisk}
 use Rattle.clr_book.specs.Book.{Shelved}
 use Rattle.clr_tables.specs.RowsRead.{rows_read}
 use Rattle.clr_tables.specs.Tables.{tables_of}
-use Rattle.clr_desk.specs.Opening.{OpensAs}
+use Rattle.clr_desk.specs.Opening.{HasNetworkOf, OpensAs}
 use Rattle.clr_desk.proofs.RowsOpened.{fails_by_database, opened_again}
 use Rattle.clr_desk.proofs.OneCommand.{of_command}
 use Rattle.clr_desk.proofs.Opened.{shut_or_open}
@@ -15,6 +15,12 @@ returns-in-Ok-clause-opened g c clean t has =
     let early = subst (λ h. HasCleanDisk (state g.S.Store h)) c.over.ensures.store clean in
     subst (λ (b : Shelved). OpensAs (λ (book : Shelved). book.register) (rows_read t) (Ok b)) (sym c.over.ensures.book)
     (c.in-Ok.ensures.tables early t has)
+
+pub returns-in-Ok-clause-network : goal.returns-in-Ok-clause-network
+returns-in-Ok-clause-network g c clean t has =
+    let early = subst (λ h. HasCleanDisk (state g.S.Store h)) c.over.ensures.store clean in
+    subst (λ (b : Shelved). HasNetworkOf (rows_read t) b.network) (sym c.over.ensures.book)
+    (c.in-Ok.ensures.network early t has)
 
 pub returns-in-Ok-clause-again : goal.returns-in-Ok-clause-again
 returns-in-Ok-clause-again g c clean R good has =

@@ -12,7 +12,7 @@ use Rattle.clr_rules.proofs.keeps.EveryKind.{commands_keep_good}
 use Rattle.clr_book.specs.Decision.{is_accepted}
 use Rattle.clr_desk.specs.NearRun.{IsNearRun}
 use Rattle.clr_desk.proofs.Keeping.{keeps_itself, keeps_on, one_keeps}
-use Rattle.clr_desk.proofs.NearRuns.{near_ran_so_far, near_run_of_next, near_run_of_none, none_before}
+use Rattle.clr_desk.proofs.NearRuns.{near_ran_so_far, near_run_of_next, near_run_of_none, network_of_next, network_of_none, network_so_far, none_before}
 use Rattle.std.specs.List.{list_any}
 use Rattle.clr_desk.proofs.RunSteps.{next_left, no_reply_changed, none_taken, ran_so_far, run_of_next, run_of_none, saved_left, standing_alone}
 use Rattle.clr_desk.proofs.desk.Desk.run.Goals as goal
@@ -32,6 +32,13 @@ returns-then-is_err-clause-near g c =
     let none : c.reserve.new.self.items ≡ [] = c.reserve.ensures.items ∙ c.new-replies.ensures.items in
     near_run_of_none c.args.self.now.book.register (with_reply commands c.reserve.new.self.items) c.reserve.new.self.items
     (ap (with_reply commands) none ∙ none_taken commands) none
+
+pub returns-then-is_err-clause-network : goal.returns-then-is_err-clause-network
+returns-then-is_err-clause-network g c =
+    let commands = c.args.commands.items in
+    let none : c.reserve.new.self.items ≡ [] = c.reserve.ensures.items ∙ c.new-replies.ensures.items in
+    network_of_none c.args.self.now.book.register (with_reply commands c.reserve.new.self.items) c.args.self.now.book.network
+    (ap (with_reply commands) none ∙ none_taken commands)
 
 pub returns-then-is_err-clause-unwritten : goal.returns-then-is_err-clause-unwritten
 returns-then-is_err-clause-unwritten g c none clean shown = refl
@@ -75,6 +82,7 @@ loop-command-init g c =
       good = λ good. good;
       ran = λ good. run_of_none c.args.self.now.book.register (take 0 c.args.commands.items) c.reserve.new.self.items (none_taken c.args.commands.items) none;
       near = near_run_of_none c.args.self.now.book.register (take 0 c.args.commands.items) c.reserve.new.self.items (none_taken c.args.commands.items) none;
+      network = network_of_none c.args.self.now.book.register (take 0 c.args.commands.items) c.args.self.now.book.network (none_taken c.args.commands.items);
       keeps = keeps_itself (state g.S.Store c.args.self.now.store) c.args.self.now.book.register;
       unwritten = λ none clean shown. refl;
       clean = λ clean. clean;
@@ -110,6 +118,8 @@ loop-command-preserved g c =
           (c.in-Ok.ensures.carried.reply (inv.good good)) (left good);
       near = near_run_of_next R X Y commands i q c.loop-command.replies.items c.push.new.self.items c.in-Ok.reply within at
           (search rules) inv.near c.in-Ok.ensures.carried.near c.in-Ok.ensures.carried.changed;
+      network = network_of_next R X c.args.self.now.book.network c.loop-command.self.book.network c.answer.new.self.book.network commands i q within at
+          inv.near.register inv.network c.in-Ok.ensures.carried.network;
       keeps = keeps_on (state g.S.Store c.args.self.now.store) mid new R X Y inv.keeps
           (one_keeps g.S.Store c.loop-command.self c.answer.new.self q c.answer.result carried);
       unwritten = λ none clean shown.
@@ -131,6 +141,12 @@ returns-in-Err-clause-near g c =
     subst (λ (S : Register). IsNearRun R (with_reply c.args.commands.items told) told S) (sym (c.in-Err.ensures.carried.unchanged refl))
     (near_ran_so_far R c.loop-command.self.book.register c.args.commands.items told c.loop-command.command-index c.loop-command.invariant.counted
     c.loop-command.invariant.near)
+
+pub returns-in-Err-clause-network : goal.returns-in-Err-clause-network
+returns-in-Err-clause-network g c =
+    c.in-Err.ensures.carried.same_network refl
+    ∙ network_so_far c.args.self.now.book.register c.args.self.now.book.network c.loop-command.self.book.network c.args.commands.items
+    c.loop-command.replies.items c.loop-command.command-index c.loop-command.invariant.counted c.loop-command.invariant.network
 
 pub returns-in-Err-clause-unwritten : goal.returns-in-Err-clause-unwritten
 returns-in-Err-clause-unwritten g c none clean shown =
@@ -192,6 +208,11 @@ pub returns-clause-near : goal.returns-clause-near
 returns-clause-near g c =
     near_ran_so_far c.args.self.now.book.register c.loop-command.self.book.register c.args.commands.items c.loop-command.replies.items
     c.loop-command.command-index c.loop-command.invariant.counted c.loop-command.invariant.near
+
+pub returns-clause-network : goal.returns-clause-network
+returns-clause-network g c =
+    network_so_far c.args.self.now.book.register c.args.self.now.book.network c.loop-command.self.book.network c.args.commands.items
+    c.loop-command.replies.items c.loop-command.command-index c.loop-command.invariant.counted c.loop-command.invariant.network
 
 pub returns-clause-headline : goal.returns-clause-headline
 returns-clause-headline g c =

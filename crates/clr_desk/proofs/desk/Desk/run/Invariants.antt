@@ -2,7 +2,7 @@ use Rattle.std.proofs.Common.{◌≡◌, ◌≤◌, IsTrue, false, length, take,
 use Rattle.std.specs.List.{list_any}
 use Rattle.clr_book.specs.Decision.{is_accepted}
 use Rattle.clr_desk.specs.Kept.{Keeps}
-use Rattle.clr_desk.specs.NearRun.{IsNearRun}
+use Rattle.clr_desk.specs.NearRun.{IsNearRun, near_network_all}
 use Rattle.sqlite.specs.Held.{state}
 use Rattle.sqlite.specs.State.{HasCleanDisk}
 use Rattle.clr_rules.specs.Good.{IsGood}
@@ -12,7 +12,7 @@ use Rattle.clr_load.specs.Stored.{HasTables}
 use Rattle.clr_tables.specs.Tables.{tables_of}
 use Rattle.clr_desk.proofs.desk.Desk.run.Given as goal
 
--- each command before the place has its reply, and left the register that the run has by now, and its tables
+-- each command before the place has its reply, and left the register and the network that the run has by now, and its tables
 abbrev pub invariant-loop-command : goal.invariant-loop-command
 invariant-loop-command g l =
     let R = l.fn.self.book.register in
@@ -26,6 +26,7 @@ invariant-loop-command g l =
       good : IsGood R → IsGood l.self.book.register;
       ran : IsGood R → IsRun R (take l.command-index l.fn.commands.items) l.replies.items l.self.book.register;
       near : IsNearRun R (take l.command-index l.fn.commands.items) l.replies.items l.self.book.register;
+      network : l.self.book.network ≡ near_network_all R (take l.command-index l.fn.commands.items) l.fn.self.book.network;
       keeps : Keeps old R now l.self.book.register;
       unwritten : list_any is_accepted l.replies.items ≡ false → HasCleanDisk now → IsTrue now.is_open → now.now ≡ old.now;
       clean : HasCleanDisk now → HasCleanDisk old;
