@@ -6,7 +6,6 @@ use Rattle.sqlite.specs.Effect.{Database}
 use Rattle.sqlite.specs.Files.{over_files}
 use Rattle.sqlite.specs.Held.{Held, state}
 use Rattle.sqlite.specs.State.{HasCleanDisk, State, Survives}
-use Rattle.sqlite_disk.specs.Disk.{MoreFaults}
 use Rattle.sqlite_disk.specs.declared.Disk as disk
 use Rattle.sqlite_store.specs.declared.store.FileStore.{FileStore}
 use Rattle.sqlite_trees.specs.Tree.{Trees}
@@ -24,7 +23,6 @@ use Rattle.sqlite.specs.declared.error.Error.{Error}
 use Rattle.sqlite.specs.declared.error.Error.TheVariants.{SqliteFailure}
 use Rattle.sqlite.specs.declared.error.ErrorCode.TheVariants as code
 use Rattle.clr_load.specs.Cause.{SqlHasCause, fault_of}
-use Rattle.clr_load.proofs.Causes.{able_or_failed, has_cause}
 use Rattle.clr_store.specs.Contract.{RefusesVersion}
 use Rattle.clr_store.specs.Moving.{RefusesToMove}
 use Rattle.clr_load.specs.declared.fault.StoreFault.{StoreFault}
@@ -96,18 +94,6 @@ survives_on s t u first later =
       crash = λ c db leaves. ⊎_elim (λ between. first.crash (clean c) db between) (λ none. absurd none) (later.crash c db leaves);
     }
 
--- `Sql` that the later of two calls tells, of a connection that the first left open, has a cause
--- in both
-pub opened_cause : (s t u : State) (fault : StoreFault) → Survives s t (λ _. ⊥) → Survives t u (λ _. ⊥) → HasCleanDisk u
-    → (IsTrue t.is_open → SqlHasCause t u fault) → SqlHasCause s u fault
-opened_cause s t u fault first later clean cause =
-    let between : HasCleanDisk t = omega (arith, later.clean, clean) in
-    has_cause s u fault (λ sql able.
-    ⊎_elim
-    (λ still. let more : MoreFaults t.faults u.faults = subst (SqlHasCause t u) sql (cause still.is_open) still in omega (arith, more, first.counts))
-    (λ more. omega (arith, more, later.counts))
-    (able_or_failed s t (λ _. ⊥) first between able))
-
 -- an error of the database is told as one of a line
 pub line_of_error : (e : Error) → IsOfLine (of_store (fault_of e))
 line_of_error (SqliteFailure code.OutOfMemory) = inl refl
@@ -154,6 +140,10 @@ RefusesVersion-of_command read store.Sql is = tt
 RefusesVersion-of_command read (store.WrongVersion n) is = absurd is
 RefusesVersion-of_command read (store.BadRow table) is = absurd is
 RefusesVersion-of_command read store.NoMemory is = tt
+
+pub OnOk-then : {T P Q : Type 0} (result : Result T Fault) → (P → Q) → OnOk result P → OnOk result Q
+OnOk-then (Ok value) from is = from is
+OnOk-then (Err fault) from is = tt
 
 pub OnOk-any : {T : Type 0} (result : Result T Fault) (P : Type 0) → P → OnOk result P
 OnOk-any (Ok value) P holds = holds

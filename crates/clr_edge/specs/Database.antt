@@ -1,17 +1,20 @@
 -- Registers that databases have, and faults of the databases themselves.
-use Rattle.std.specs.Prelude.{◌≡◌, ◌≢◌, ◌⊎◌, false, IsTrue, List, Some, Ok, Err, pos}
+use Rattle.std.specs.Prelude.{◌≡◌, ◌≢◌, ◌⊎◌, false, is_ok, IsTrue, List, Some, Ok, Err, pos}
+use Rattle.sqlite.specs.Closing.{IsCopied}
 use Rattle.sqlite.specs.Effect.{Database}
 use Rattle.sqlite.specs.Files.{over_files}
 use Rattle.sqlite.specs.Held.{Held, state}
 use Rattle.sqlite.specs.Order.{Row}
 use Rattle.sqlite.specs.State.{HasCleanDisk, Survives}
 use Rattle.sqlite_disk.specs.declared.Disk as disk
+use Rattle.sqlite_disk.specs.declared.Files.{Files}
 use Rattle.sqlite_store.specs.declared.store.FileStore.{FileStore}
 use Rattle.sqlite_trees.specs.declared.store.Store.{Ghosts}
+use Rattle.sqlite_wal.specs.Reads.{AreClean}
 use Rattle.clr_rules.specs.Good.{IsGood}
 use Rattle.clr_rules.specs.Register.{Register}
 use Rattle.clr_load.specs.Cause.{SqlHasCause}
-use Rattle.clr_load.specs.Contract.{IsSaved}
+use Rattle.clr_load.specs.Contract.{IsSaved, old_points}
 use Rattle.clr_load.specs.Stored.{AreTables, HasMeta, HasOldTables, HasTables}
 use Rattle.clr_load.specs.declared.fault.StoreFault.{StoreFault}
 use Rattle.clr_load.specs.declared.fault.StoreFault.TheVariants.{BadRow, Sql}
@@ -51,8 +54,8 @@ pub record HasRegister {S : Type 0} (g : Ghosts S) (R : Register) (connection : 
   pub tables : HasTables (state g connection).now (tables_of R)
   pub clean : (after : Held S) → HasCleanDisk (state g after)
 
--- a database of version 2 was read, and not changed: its tables are the same where the disk is clean
--- and the connection open, and a crash leaves what it left before
+-- a database of version 2 was read, and not changed: its tables are the same where the disk is
+-- clean and the connection open, and a crash leaves what it left before
 pub record IsOnlyRead {S : Type 0} (g : Ghosts S) (before after : Held S) : Type 0 where
   pub version : HasCleanDisk (state g after) → (meta : List Row)
       → HasMeta (state g before).now meta → read_version meta ≡ Ok (pos 2)
@@ -82,10 +85,17 @@ pub record IsUnmade {S : Type 0} (g : Ghosts S) (before : Held S) (R : Register)
   pub survives : Survives (state g before) (state g after)
       (λ trees. AreTables trees (tables_of R))
 
--- they were made in a database that was opened at a path
+-- A CONNECTION WAS CLOSED, and these are its files: where they gave back what was written, it was
+-- clean and open, and the database file alone has what it committed last, now and after a crash
+abbrev pub IsLeftInFile : {D : Type 0} → (g : disk.Ghosts D) → Held (FileStore D g) → Type 0
+IsLeftInFile {D} g after = (files : Files D)
+    × (AreClean g files.log files.db → IsCopied after files)
+
+-- they were made in a database that was opened at a path, and closed
 abbrev pub IsMadeAt : {D : Type 0} → disk.Ghosts D → (Database → Type 0) → Register → Type 0
 IsMadeAt {D} g IsAt R = (before : Held (FileStore D g)) × (after : Held (FileStore D g))
     × IsAt (state over_files before).now × IsMade over_files before R after
+    × IsLeftInFile g after
 
 -- the fault of a register that is not good: it names the table of the first list that does not fit
 pub record IsOfUnfit (R : Register) (cause : StoreFault) : Type 0 where
@@ -121,15 +131,17 @@ pub record IsRefused {S : Type 0} (g : Ghosts S) (before : Held S) (told : Fault
   pub cause : HasCleanDisk (state g after) → before.in_transaction ≡ false → (t : Tables)
       → HasTables (state g before).now t → SqlHasCause (state g before) (state g after) fault
 
--- THE TABLES ARE OF VERSION 2: those of version 1 were moved, and those of version 2 are as before,
--- where the disk is clean. A crash leaves the tables that were moved, or what it left before
+-- THE TABLES ARE OF VERSION 2: those of version 1, of which each point reads, were moved, and those
+-- of version 2 are as before, where the disk is clean. A crash leaves the tables that were moved,
+-- or what it left before
 pub record IsMoved {S : Type 0} (g : Ghosts S) (before after : Held S) : Type 0 where
   pub version : HasCleanDisk (state g after) → (meta : List Row)
       → HasMeta (state g before).now meta
       → (read_version meta ≡ Ok (pos 1)) ⊎ (read_version meta ≡ Ok (pos 2))
   pub moved : HasCleanDisk (state g after) → (t : Tables) → HasOldTables (state g before).now t
       → read_version t.meta ≡ Ok (pos 1)
-      → IsSaved (state g after) × HasTables (state g after).now (tables_moved t)
+      → IsTrue (is_ok (old_points t)) × IsSaved (state g after)
+      × HasTables (state g after).now (tables_moved t)
   pub register : HasCleanDisk (state g after) → (R : Register) → HasNoJumper R
       → HasOldTables (state g before).now (tables_by version_one R)
       → HasTables (state g after).now (tables_of R)
@@ -139,7 +151,8 @@ pub record IsMoved {S : Type 0} (g : Ghosts S) (before after : Held S) : Type 0 
   pub survives : Survives (state g before) (state g after) (LeavesMoved (state g before).now)
 
 -- they were not moved: where the disk is clean and the connection open, the database is as before.
--- Of tables that are there the fault that is told is theirs
+-- Of tables that are there the fault that is told is theirs. `Sql` has a cause where the version is
+-- another than 1, and where a point of version 1 does not read
 pub record IsUnmoved {S : Type 0} (g : Ghosts S) (before : Held S) (told : Fault) (after : Held S)
     : Type 0 where
   pub fault : StoreFault
@@ -151,14 +164,17 @@ pub record IsUnmoved {S : Type 0} (g : Ghosts S) (before : Held S) (told : Fault
   pub cause : HasCleanDisk (state g after) → before.in_transaction ≡ false → (meta : List Row)
       → HasMeta (state g before).now meta → read_version meta ≢ Ok (pos 1)
       → SqlHasCause (state g before) (state g after) fault
+  pub points_cause : HasCleanDisk (state g after) → before.in_transaction ≡ false → (t : Tables)
+      → HasOldTables (state g before).now t → is_ok (old_points t) ≡ false
+      → SqlHasCause (state g before) (state g after) fault
   pub same : HasCleanDisk (state g after) → IsTrue (state g after).is_open
       → (state g after).now ≡ (state g before).now
   pub survives : Survives (state g before) (state g after) (LeavesMoved (state g before).now)
 
--- they were moved in a database that was opened at a path
+-- they were moved in a database that was opened at a path, and closed
 abbrev pub IsMovedAt : {D : Type 0} → disk.Ghosts D → (Database → Type 0) → Type 0
 IsMovedAt {D} g IsAt = (before : Held (FileStore D g)) × (after : Held (FileStore D g))
-    × IsAt (state over_files before).now × IsMoved over_files before after
+    × IsAt (state over_files before).now × IsMoved over_files before after × IsLeftInFile g after
 
 -- why no move is told: the database at the path was not opened, its tables were not moved, or they
 -- were, and the database was not closed

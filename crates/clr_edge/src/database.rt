@@ -8,8 +8,8 @@ ghost use Rattle.sqlite.specs.State.{Survives};
 ghost use Rattle.clr_rules.specs.Good.{IsGood};
 ghost use Rattle.clr_rules.specs.Register.{Register, opening};
 ghost use Rattle.clr_edge.specs.Database.{HasRegister, IsMade, IsMadeAt, IsMoved, IsMovedAt};
-ghost use Rattle.clr_edge.specs.Database.{IsOfLine, IsOfUnfit, IsOnlyRead, IsRefused, IsUnmade};
-ghost use Rattle.clr_edge.specs.Database.{IsUnmoved, IsUnmovedAt, IsUnopened};
+ghost use Rattle.clr_edge.specs.Database.{IsLeftInFile, IsOfLine, IsOfUnfit, IsOnlyRead, IsRefused};
+ghost use Rattle.clr_edge.specs.Database.{IsUnmade, IsUnmoved, IsUnmovedAt, IsUnopened};
 
 use crate::fault::Fault;
 use crate::machine::Machine;
@@ -124,9 +124,20 @@ pub fn close_read<F: Disk + Drop>(connection: Connection<FileStore<F>>) {
 pub fn close<F: Disk + Drop>(connection: Connection<FileStore<F>>) -> Result<(), Fault>
     ensures { IfErr result IsOfLine }
 {
-    match connection.close() {
-        Ok(()) => Ok(()),
-        Err(error) => Err(fault_of(error)),
+    close_file(connection)
+}
+
+/// Closes a database, of which everything is in its file then, and nothing in the log.
+fn close_file<F: Disk + Drop>(connection: Connection<FileStore<F>>) -> Result<(), Fault>
+    ensures left { OnOk result (IsLeftInFile F.Disk connection) }
+    ensures fault { IfErr result IsOfLine }
+{
+    match connection.close_files() {
+        Ok(_files) => Ok(()),
+        Err((error, store)) => {
+            drop(store.close());
+            Err(fault_of(error))
+        }
     }
 }
 
@@ -145,7 +156,7 @@ pub fn store_register<D: Databases>(
 {
     let connection = databases.database(path)?;
     let (made, connection) = register_made(alloc, connection, network, staff);
-    let closed = close(connection);
+    let closed = close_file(connection);
     made?;
     closed
 }
@@ -182,7 +193,7 @@ pub fn move_register<D: Databases>(databases: &D, path: &str) -> Result<(), Faul
 {
     let connection = databases.stored(path)?;
     let (moved, connection) = register_moved(connection);
-    let closed = close(connection);
+    let closed = close_file(connection);
     moved?;
     closed
 }

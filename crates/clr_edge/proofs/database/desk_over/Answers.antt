@@ -6,12 +6,13 @@ use Rattle.clr_rules.specs.Register.{Register}
 use Rattle.clr_load.specs.Cause.{SqlHasCause}
 use Rattle.clr_load.specs.Stored.{HasTables}
 use Rattle.clr_load.proofs.Loading.{has_meta}
+use Rattle.clr_store.proofs.Moving.{opened_cause}
 use Rattle.clr_tables.specs.Tables.{tables_of}
 use Rattle.clr_edge.specs.Database.{IsOfLine, IsRefused}
 use Rattle.clr_edge.specs.Fault.{of_desk}
 use Rattle.clr_edge.proofs.Databases.{IsOfCommand-shut, IsOfLine-of_command, IsOfLine-of_version, IsOfLine-unfit}
 use Rattle.clr_edge.proofs.Databases.{RefusesTables-unfit, RefusesVersion-of_command, SqlHasCause-unfit}
-use Rattle.clr_edge.proofs.Databases.{of_desk-of_store, opened_cause, survives_on, was_clean}
+use Rattle.clr_edge.proofs.Databases.{of_desk-of_store, survives_on, was_clean}
 use Rattle.clr_desk.specs.Faults.{IsOfCommand}
 use Rattle.clr_edge.proofs.database.desk_over.Goals as goal
 

@@ -25,6 +25,7 @@ returns-in-Err-clause-unmoved g c = record {
   unread = c.in-Err.ensures.unread;
   refuses = c.in-Err.ensures.refused;
   cause = c.in-Err.ensures.cause;
+  points_cause = c.in-Err.ensures.points_cause;
   same = c.in-Err.ensures.none;
   survives = c.in-Err.ensures.crash_none;
 }
