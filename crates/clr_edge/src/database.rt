@@ -18,6 +18,7 @@ use clr_desk::Desk;
 use clr_memory::{MemoryFile, database_in_memory};
 use clr_net::Network;
 use clr_store::{Back, Store, StoreFault};
+use clr_watch::{Watched, WatchedDatabase, open_watched};
 use sqlite::{Alter, Connection, Error, FileFrom, FileStore, Start};
 use sqlite_disk::Disk;
 use std::alloc::Global;
@@ -59,7 +60,7 @@ pub trait Databases {
 impl<'a, S: Start + Copy> Databases for Machine<'a, S> {
     ghost use Rattle.std.specs.Prelude.{None};
 
-    type Medium = FileFrom<S>;
+    type Medium = Watched<'a, FileFrom<S>>;
 
     ghost register_at = { λ _ _. None };
 
@@ -67,21 +68,24 @@ impl<'a, S: Start + Copy> Databases for Machine<'a, S> {
 
     ghost is_shut = { λ _ _. ⊤ };
 
-    fn database(&self, path: &str) -> Result<Connection<FileStore<FileFrom<S>>>, Fault>
+    fn database(&self, path: &str) -> Result<WatchedDatabase<'a, S>, Fault>
         ensures at { IfOk result (λ _. ⊤) }
         ensures fault { IfErr result (IsUnopened ⊤) }
     {
-        match Connection::open_from(self.rt, path, false, self.files) {
+        match open_watched(self.rt, path, self.files, self.watch) {
             Ok(connection) => Ok(connection),
-            Err((error, _)) => Err(fault_of(error)),
+            Err(error) => Err(fault_of(error)),
         }
     }
 
-    fn stored(&self, path: &str) -> Result<Connection<FileStore<FileFrom<S>>>, Fault>
+    fn stored(&self, path: &str) -> Result<WatchedDatabase<'a, S>, Fault>
         ensures at { IfOk result (λ _. ⊤) }
         ensures fault { IfErr result (IsUnopened ⊤) }
     {
-        expect_bytes(self.rt, path)?;
+        let size = expect_bytes(self.rt, path)?;
+        if let Some(watch) = self.watch {
+            watch.begin(size);
+        }
         self.database(path)
     }
 }
@@ -103,12 +107,13 @@ pub fn in_memory(alloc: Global) -> Result<Connection<FileStore<MemoryFile>>, Fau
     }
 }
 
-/// Refuses a file that is not there, cannot be looked at or is empty: it has no database.
-fn expect_bytes<R: Files>(files: &R, path: &str) -> Result<(), Fault>
+/// How many bytes a file has. Refuses one that is not there, cannot be looked at or is empty: it has
+/// no database.
+fn expect_bytes<R: Files>(files: &R, path: &str) -> Result<u64, Fault>
     ensures { IfErr result IsOfLine }
 {
     match fs::metadata(files, path) {
-        Ok(metadata) if metadata.len() > 0 => Ok(()),
+        Ok(metadata) if metadata.len() > 0 => Ok(metadata.len()),
         Err(error) if error.kind() == io::ErrorKind::OutOfMemory => Err(Fault::Memory),
         _ => Err(Fault::Store(StoreFault::Sql)),
     }

@@ -74,6 +74,9 @@ impl<'a, S: Start> Loopback for Machine<'a, S> {
         ensures fault { IfErr result (λ fault. (fault ≡ Fault.Memory)
             ⊎ ((fault ≡ Fault.Listen) × ⊤)) }
     {
+        if let Some(watch) = self.watch {
+            watch.end();
+        }
         match TcpListener::bind(self.rt, local_address(port)) {
             Ok(listener) => Ok(listener),
             Err(error) => match error.kind() {

@@ -2,6 +2,7 @@
 ghost use Rattle.std.specs.Prelude.{◌≡◌, [], true};
 
 use crate::paths::{AtPath, Opens, Paths};
+use clr_watch::Watch;
 use sqlite::Start;
 use std::alloc::Global;
 
@@ -12,15 +13,34 @@ pub struct Machine<'a, S: Start> {
     pub(crate) rt: &'a HostRuntime,
     /// What the database files hold, which is for contracts alone.
     pub(crate) files: S,
+    /// What tells of the opening of a database, if it is told.
+    pub(crate) watch: Option<&'a Watch>,
 }
 
 impl<'a, S: Start> Machine<'a, S> {
-    /// The machine of a runtime.
+    /// The machine of a runtime. No opening of a database is told.
     pub fn new(rt: &'a HostRuntime, files: S) -> Machine<'a, S>
         ensures runtime { result.rt ≡ rt.entry }
         ensures files { result.files ≡ files }
     {
-        Machine { rt, files }
+        Machine {
+            rt,
+            files,
+            watch: None,
+        }
+    }
+
+    /// The same, where a watch tells of each opening of a database by `stored`. It ends when the
+    /// machine listens; what else is behind an opening is to end it.
+    pub fn watched(rt: &'a HostRuntime, files: S, watch: &'a Watch) -> Machine<'a, S>
+        ensures runtime { result.rt ≡ rt.entry }
+        ensures files { result.files ≡ files }
+    {
+        Machine {
+            rt,
+            files,
+            watch: Some(watch),
+        }
     }
 }
 
