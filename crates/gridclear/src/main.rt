@@ -10,6 +10,7 @@ use crate::input::StandardInput;
 use clr_command_line::command_line::command_line;
 use clr_csv::Counted;
 use clr_edge::machine::{AnyFiles, Machine};
+use clr_watch::{Behind, Watch};
 use std::process::ExitCode;
 use std::{env, io};
 
@@ -21,11 +22,12 @@ fn main(rt: HostRuntime) -> ExitCode {
 fn program(rt: &HostRuntime) -> ExitCode
     ensures { exit_status result ≤ 2 }
 {
-    let machine = Machine::new(rt, AnyFiles);
+    let watch = Watch::new(rt);
+    let machine = Machine::watched(rt, AnyFiles, &watch);
     let words = words_of(rt);
-    let mut input = Counted::new(StandardInput::new(rt.stdin()));
-    let mut output = Counted::new(rt.stdout());
-    let mut errors = Counted::new(rt.stderr());
+    let mut input = Counted::new(Behind::new(StandardInput::new(rt.stdin()), &watch));
+    let mut output = Counted::new(Behind::new(rt.stdout(), &watch));
+    let mut errors = Counted::new(Behind::new(rt.stderr(), &watch));
     let status = command_line(&machine, &words, &mut input, &mut output, &mut errors);
     exit_code(status)
 }
