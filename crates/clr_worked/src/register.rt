@@ -7,7 +7,7 @@ use clr_net::Network;
 use clr_rules::Command;
 use clr_store::{Rows, Store, StoreFault};
 use sqlite::{Alter, Connection, MemStore};
-use std::alloc::Global;
+use std::alloc::{AllocError, Global};
 use std::test::Fail;
 
 /// A desk over new tables of a network and the worked staff.
@@ -147,12 +147,13 @@ pub fn rows_over(alloc: Global, held: &Held) -> Result<Option<Rows>, Fail> {
     }
 }
 
-/// The two files of the worked register before its first command.
+/// The two files of the worked register before its first command. It can be made, so that any fault
+/// comes of refused memory.
 pub fn new_register(alloc: Global) -> Result<Held, Fail> {
     let nothing = Held::nothing(alloc);
     let (fault, behind) = make_over(alloc, &nothing, Part::Log, u64::MAX)?;
     match fault {
         None => Ok(behind.synced()),
-        Some(fault) => Err(fault.into()),
+        Some(_fault) => Err(AllocError.into()),
     }
 }

@@ -2,7 +2,7 @@
 use clr_store::StoreFault;
 use sqlite::{Alter, Connection, FileStore, Files, Options};
 use sqlite_disk::{Crash, Disk, Fuse, Memory};
-use std::alloc::Global;
+use std::alloc::{AllocError, Global};
 use std::test::Fail;
 
 /// A file in memory that passes so many calls on, and then fails each.
@@ -87,7 +87,9 @@ pub trait Work {
 }
 
 /// Does some work over the database of two files, of which one stops after so many calls, where a
-/// connection can be opened.
+/// connection can be opened. Where none stops it can be, but for refused memory, which ends the
+/// test: a file in memory that is refused a growth fails as a disk does, so that this is told as
+/// `Sql`.
 pub fn over_files<W: Work + Drop>(
     alloc: Global,
     held: &Held,
@@ -97,7 +99,11 @@ pub fn over_files<W: Work + Drop>(
 ) -> Result<(Result<W::Told, StoreFault>, Behind), Fail> {
     let files = files_of(alloc, held, part, calls)?;
     let (told, files) = in_files(alloc, files, work);
-    Ok((told, left_behind(alloc, files)?))
+    let behind = left_behind(alloc, files)?;
+    if told.is_err() && calls == u64::MAX {
+        return Err(AllocError.into());
+    }
+    Ok((told, behind))
 }
 
 /// Does some work over the database of two files, where a connection can be opened.

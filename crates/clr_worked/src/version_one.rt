@@ -2,7 +2,7 @@
 use crate::stopping::{Behind, Held, Part, Work, over_files};
 use clr_store::{Store, StoreFault};
 use sqlite::{Alter, Connection};
-use std::alloc::Global;
+use std::alloc::{AllocError, Global};
 use std::test::Fail;
 
 /// The tables of version 1, without a row.
@@ -79,14 +79,14 @@ impl Work for Moving {
     }
 }
 
-/// What two files hold once somebody else has carried out these statements over them.
+/// What two files hold once somebody else has carried out these statements over them. The statements
+/// are right, so that any fault comes of refused memory.
 pub fn written(alloc: Global, held: &Held, statements: &str) -> Result<Held, Fail> {
     let writing = Writing { statements };
     let (told, behind) = over_files(alloc, held, Part::Log, u64::MAX, writing)?;
-    match told? {
-        None => Ok(behind.synced()),
-        // the statements are right: it was memory that was refused
-        Some(_) => Err("out of memory".into()),
+    match told {
+        Ok(None) => Ok(behind.synced()),
+        _ => Err(AllocError.into()),
     }
 }
 
