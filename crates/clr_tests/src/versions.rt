@@ -1,11 +1,12 @@
 //! Tables of version 1, which somebody else has made by their statements, and their move to version
 //! 2.
+use clr_desk::DeskFault;
 use clr_rules::Command;
 use clr_store::StoreFault;
 use clr_tables::TableName;
 use clr_text::{command_of, reply_text};
 use clr_worked::{Held, Part, are_same, move_over, old_register, read_over, run_over, written};
-use std::alloc::Global;
+use std::alloc::{AllocError, Global};
 use std::fmt::Write;
 use std::process::Abort;
 use std::test::Fail;
@@ -50,11 +51,13 @@ fn not_moved(alloc: Global, held: &Held) -> Result<StoreFault, Fail> {
     }
 }
 
-/// What two files hold once their tables are moved.
+/// What two files hold once their tables are moved. Where these files are refused a growth, that is
+/// told as `Sql`.
 fn moved(alloc: Global, held: &Held) -> Result<Held, Fail> {
     let (fault, behind) = move_over(alloc, held, Part::Log, u64::MAX)?;
     match fault {
         None => Ok(behind.seen()),
+        Some(StoreFault::Sql) => Err(AllocError.into()),
         Some(fault) => Err(fault.into()),
     }
 }
@@ -67,8 +70,11 @@ fn replies(alloc: Global, held: &Held, lines: &str) -> Result<String, Fail> {
     }
     let (run, _behind) = run_over(alloc, held, Part::Log, u64::MAX, commands)?;
     let run = run?;
-    if let Some(fault) = run.fault {
-        return Err(fault.into());
+    match run.fault {
+        None => {}
+        // these files are refused a growth
+        Some(DeskFault::Store(StoreFault::Sql)) => return Err(AllocError.into()),
+        Some(fault) => return Err(fault.into()),
     }
     let mut texts = String::new(alloc);
     for reply in &run.replies {
