@@ -14,6 +14,8 @@ mod fakes;
 #[cfg(test)]
 mod frozen;
 #[cfg(test)]
+mod growing;
+#[cfg(test)]
 mod hostile;
 #[cfg(test)]
 mod http;
