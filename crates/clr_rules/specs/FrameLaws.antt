@@ -15,15 +15,20 @@ abbrev pub is_report : Kind → Bool
 is_report (Report c n done) = true
 is_report _ = false
 
+-- HANDS MATCH TO A REPORT: where a command is one, the hands of the register match its steps. Of
+-- every other command this says nothing
+abbrev pub HandsMatchToReport : Register → Command → Type 0
+HandsMatchToReport R q = is_report q.kind ≡ true → HandMatchesStep R
+
 -- THE EDITS OF A COMMAND OF OTHERS spare a clearance: those of a report where the hands match the
 -- steps, those of a jumper where points are those of the network,
 abbrev pub OthersEditsSpare : Type 0
 OthersEditsSpare =
-    (R : Register) (c : Id) (q : Command) → HandMatchesStep R → PointsAreKnownToJumper R q
+    (R : Register) (c : Id) (q : Command) → HandsMatchToReport R q → PointsAreKnownToJumper R q
     → is_others c R q ≡ true
     → all_spare c R (Answer.edits (answer R q)) ≡ true
 
--- and those of any other command in every register
+-- and so those of any other command in every register
 abbrev pub OthersEditsSpareAnywhere : Type 0
 OthersEditsSpareAnywhere =
     (R : Register) (c : Id) (q : Command) → is_report q.kind ≡ false → is_jumper q.kind ≡ false
@@ -44,14 +49,14 @@ subject_of R q = reply_clearance (Known.greatest (known_of R q)) q.caller (named
 -- so after a command it stays of every clearance but the one that the command is about,
 abbrev pub OneOutlookChanges : Type 0
 OneOutlookChanges =
-    (R : Register) (c : Id) (q : Command) → ListsAreInOrder R → HandMatchesStep R
+    (R : Register) (c : Id) (q : Command) → ListsAreInOrder R → HandsMatchToReport R q
     → PointsAreKnownToJumper R q → same_id c (subject_of R q) ≡ false
     → outlook_of (after R q) c ≡ outlook_of R c
 
 -- in a word, after a command about another,
 abbrev pub OthersKeepOutlook : Type 0
 OthersKeepOutlook =
-    (R : Register) (c : Id) (q : Command) → ListsAreInOrder R → HandMatchesStep R
+    (R : Register) (c : Id) (q : Command) → ListsAreInOrder R → HandsMatchToReport R q
     → PointsAreKnownToJumper R q → is_others c R q ≡ true
     → outlook_of (after R q) c ≡ outlook_of R c
 

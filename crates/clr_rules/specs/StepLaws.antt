@@ -4,7 +4,8 @@ use Rattle.clr_rules.specs.Agreement.{Agree}
 use Rattle.clr_rules.specs.AgreementLaws.{is_about, is_new_of}
 use Rattle.clr_rules.specs.Answer.{Answer, answer}
 use Rattle.clr_rules.specs.Command.{is_jumper}
-use Rattle.clr_rules.specs.Good.{HandMatchesStep, ListsAreInOrder, is_operators}
+use Rattle.clr_rules.specs.FrameLaws.{HandsMatchToReport}
+use Rattle.clr_rules.specs.Good.{ListsAreInOrder, is_operators}
 use Rattle.clr_rules.specs.Prelude.{Command, Id, Register, record_of}
 use Rattle.clr_rules.specs.Isolation.{AreAlike, PointsAreKnownToJumper}
 use Rattle.clr_rules.specs.Near.{near_of}
@@ -21,7 +22,7 @@ pub record AreOfOthers (c : Id) (R : Register) (q : Command) : Type 0 where
 
 abbrev pub OthersEditsAreOfOthers : Type 0
 OthersEditsAreOfOthers =
-    (R : Register) (c : Id) (q : Command) → HandMatchesStep R → PointsAreKnownToJumper R q
+    (R : Register) (c : Id) (q : Command) → HandsMatchToReport R q → PointsAreKnownToJumper R q
     → is_operators R c.requester ≡ false
     → is_own_command c q ≡ false → AreOfOthers c R q
 

@@ -19,7 +19,7 @@ use Rattle.clr_rules.specs.Prelude.{Edit, SetPosition, SetHand, TakeHold, PutRec
 use Rattle.clr_rules.specs.Prelude.{is_running, points_of, present_steps, steps_in, step_at, has_hold, hold_of, places_of}
 use Rattle.clr_rules.specs.Fences.{clearance_fence, found_fence, work_fence}
 use Rattle.clr_rules.specs.Footprint.{Frame, all_spare, both_or_neither, spares}
-use Rattle.clr_rules.specs.FrameLaws.{is_report, subject_of}
+use Rattle.clr_rules.specs.FrameLaws.{HandsMatchToReport, is_report, subject_of}
 use Rattle.clr_rules.specs.Good.{HandMatchesStep, IsGood, IsGoodAsSaid, ListsAreInOrder, PointsAreKnown}
 use Rattle.clr_rules.specs.GoodByPhase.{of_round, outlook_of}
 use Rattle.clr_rules.specs.Id.{same_id_equiv}
@@ -217,18 +217,18 @@ concerned_is_another c R by greatest None is others = not_from_false _ (new_is_a
 concerned_is_another c R by greatest (Some d) is others = others
 
 settled_spares : (c : Id) (R : Register) (q : Command) (found : Option Refusal) → first_refusal (checks (known_of R q) R q.caller q.moment q.kind) ≡ found
-    → (is_report q.kind ≡ true → HandMatchesStep R) → PointsAreKnownToJumper R q → (is_jumper q.kind ≡ false → not (same_id c (subject_of R q)) ≡ true)
+    → HandsMatchToReport R q → PointsAreKnownToJumper R q → (is_jumper q.kind ≡ false → not (same_id c (subject_of R q)) ≡ true)
     → all_spare c R (Answer.edits (answer_by_checks (known_of R q) R q found)) ≡ true
 settled_spares c R q None passed matches known others = all_edits_spare c R (known_of R q) q.caller q.moment q.kind matches known others passed
 settled_spares c R q (Some refusal) passed matches known others = refl
 
-answers_spare : (R : Register) (c : Id) (q : Command) → (is_report q.kind ≡ true → HandMatchesStep R) → PointsAreKnownToJumper R q
+answers_spare : (R : Register) (c : Id) (q : Command) → HandsMatchToReport R q → PointsAreKnownToJumper R q
     → (is_jumper q.kind ≡ false → not (same_id c (subject_of R q)) ≡ true)
     → all_spare c R (Answer.edits (answer R q)) ≡ true
 answers_spare R c q matches known others =
     settled_spares c R q (first_refusal (checks (known_of R q) R q.caller q.moment q.kind)) refl matches known others
 
-pub others_edits_spare : (R : Register) (c : Id) (q : Command) → (is_report q.kind ≡ true → HandMatchesStep R) → PointsAreKnownToJumper R q
+pub others_edits_spare : (R : Register) (c : Id) (q : Command) → HandsMatchToReport R q → PointsAreKnownToJumper R q
     → is_others c R q ≡ true
     → all_spare c R (Answer.edits (answer R q)) ≡ true
 others_edits_spare R c q matches known others = answers_spare R c q matches known (λ plain.
@@ -237,15 +237,15 @@ others_edits_spare R c q matches known others = answers_spare R c q matches know
 
 -- ---- what is left alone
 
-pub one_outlook_changes : (R : Register) (c : Id) (q : Command) → ListsAreInOrder R → HandMatchesStep R → PointsAreKnownToJumper R q → same_id c (subject_of R q) ≡ false
+pub one_outlook_changes : (R : Register) (c : Id) (q : Command) → ListsAreInOrder R → HandsMatchToReport R q → PointsAreKnownToJumper R q → same_id c (subject_of R q) ≡ false
     → outlook_of (after R q) c ≡ outlook_of R c
 one_outlook_changes R c q ordered matches known differs =
-    sparing_edits_keep_outlook c R (Answer.edits (answer R q)) ordered (answers_spare R c q (λ _. matches) known (λ _. not_from_false _ differs))
+    sparing_edits_keep_outlook c R (Answer.edits (answer R q)) ordered (answers_spare R c q matches known (λ _. not_from_false _ differs))
 
-pub others_keep_outlook : (R : Register) (c : Id) (q : Command) → ListsAreInOrder R → HandMatchesStep R → PointsAreKnownToJumper R q → is_others c R q ≡ true
+pub others_keep_outlook : (R : Register) (c : Id) (q : Command) → ListsAreInOrder R → HandsMatchToReport R q → PointsAreKnownToJumper R q → is_others c R q ≡ true
     → outlook_of (after R q) c ≡ outlook_of R c
 others_keep_outlook R c q ordered matches known others =
-    sparing_edits_keep_outlook c R (Answer.edits (answer R q)) ordered (others_edits_spare R c q (λ _. matches) known others)
+    sparing_edits_keep_outlook c R (Answer.edits (answer R q)) ordered (others_edits_spare R c q matches known others)
 
 pub others_spare : (R : Register) (c : Id) (q : Command) → IsGoodAsSaid R → PointsAreKnownToJumper R q → is_others c R q ≡ true → Frame c R (after R q)
 others_spare R c q good known others =

@@ -30,7 +30,8 @@ use Rattle.clr_rules.specs.EditLaws.{refusal_of}
 use Rattle.clr_rules.specs.Edits.{fit}
 use Rattle.clr_rules.specs.Prelude.{Edit, SetPosition, SetHand, PutHold, TakeHold, PutRecord, PutStep, AddSection, AddPoint, Command, Kind, Record, Refusal, Id, same_id, Register, after_edits}
 use Rattle.clr_rules.specs.Footprint.{spares}
-use Rattle.clr_rules.specs.Good.{HandMatchesStep, IsGoodAsSaid, ListsAreInOrder, PointsAreKnown, has_record, is_operators}
+use Rattle.clr_rules.specs.FrameLaws.{HandsMatchToReport}
+use Rattle.clr_rules.specs.Good.{IsGoodAsSaid, ListsAreInOrder, PointsAreKnown, has_record, is_operators}
 use Rattle.clr_rules.specs.Isolation.{AreAlike, PointsAreKnownToJumper, is_about_another, is_others}
 use Rattle.clr_rules.specs.Run.{after}
 use Rattle.clr_rules.specs.Shown.{is_own_command, is_own_kind, marks_of}
@@ -101,14 +102,14 @@ spared_is_not_about c R (PutStep row) spared = not-true (same_id c row.id) spare
 spared_is_not_about c R (AddSection row) spared = refl
 spared_is_not_about c R (AddPoint p) spared = refl
 
-module _ (c : Id) (R : Register) (q : Command) (matches : HandMatchesStep R) (known : PointsAreKnownToJumper R q) (no_operator : is_operators R c.requester ≡ false)
+module _ (c : Id) (R : Register) (q : Command) (matches : HandsMatchToReport R q) (known : PointsAreKnownToJumper R q) (no_operator : is_operators R c.requester ≡ false)
     (others : is_own_command c q ≡ false) (passed : first_refusal (checks (known_of R q) R q.caller q.moment q.kind) ≡ None) where
   -- a record of the requester that is put was there: the command is about it
   put_was_there : (r : Record) → Contains (Answer.edits (answer R q)) (PutRecord r) → same_name c.requester r.id.requester ≡ true → has_record R.records r.id ≡ true
   put_was_there r there own = has_record_there c R no_operator (known_of R q) q.caller q.moment r.id own q.kind (named_clearance q.kind) refl others passed
       (or_parts (is_jumper q.kind) (is_about_another r.id R q.caller (named_clearance q.kind)) (false_from_ne_true (is_others r.id R q) (λ another.
       both_ways (same_id r.id r.id) (not-true (same_id r.id r.id)
-      (list_all-contains (spares r.id R) (Answer.edits (answer R q)) (PutRecord r) (others_edits_spare R r.id q (λ _. matches) known another) there)) (own_id r.id)))).1
+      (list_all-contains (spares r.id R) (Answer.edits (answer R q)) (PutRecord r) (others_edits_spare R r.id q matches known another) there)) (own_id r.id)))).1
 
   known_put : (r : Record) → Contains (Answer.edits (answer R q)) (PutRecord r) → is_new_of R.records c.requester (PutRecord r) ≡ false
   known_put r there = false_from_ne_true (is_new_of R.records c.requester (PutRecord r)) (λ new.
@@ -122,7 +123,7 @@ module _ (c : Id) (R : Register) (q : Command) (matches : HandMatchesStep R) (kn
   accepted_of_others : AreOfOthers c R q
   accepted_of_others =
       let another = about_another c R no_operator (known_of R q) q.caller q.moment q.kind (named_clearance q.kind) refl others passed in
-      let all = others_edits_spare R c q (λ _. matches) known (or_right (is_jumper q.kind) _ another) in
+      let all = others_edits_spare R c q matches known (or_right (is_jumper q.kind) _ another) in
       record {
         of_others = All-weaker (Contains (Answer.edits (answer R q))) (λ edit. is_about c edit ≡ false)
             (λ edit there. spared_is_not_about c R edit (list_all-contains (spares c R) (Answer.edits (answer R q)) edit all there))
@@ -137,7 +138,7 @@ refused_of_others c R q none = record {
   no_new_number = rw none (All-nil (λ edit. is_new_of R.records c.requester edit ≡ false));
 }
 
-pub others_edits : (R : Register) (c : Id) (q : Command) → HandMatchesStep R → PointsAreKnownToJumper R q → is_operators R c.requester ≡ false → is_own_command c q ≡ false
+pub others_edits : (R : Register) (c : Id) (q : Command) → HandsMatchToReport R q → PointsAreKnownToJumper R q → is_operators R c.requester ≡ false → is_own_command c q ≡ false
     → AreOfOthers c R q
 others_edits R c q matches known no_operator others = by (first_refusal (checks (known_of R q) R q.caller q.moment q.kind)) refl
   where
@@ -190,10 +191,10 @@ same_staff R S c inside agree = ap (λ (P : Register). P.staff) agree.near
 
 module _ (c : Id) (inside : List ℕ → Bool) (R S : Register) (commands : List Command) (alike : AreAlike c inside R S commands) where
   in_first : (q : Command) → PointsAreKnownToJumper R q → is_own_command c q ≡ false → AreOfOthers c R q
-  in_first q known others = others_edits R c q alike.first_good.hand_matches_step known alike.no_operator others
+  in_first q known others = others_edits R c q (λ _. alike.first_good.hand_matches_step) known alike.no_operator others
 
   in_second : (q : Command) → PointsAreKnownToJumper S q → is_own_command c q ≡ false → AreOfOthers c S q
-  in_second q known others = others_edits S c q alike.second_good.hand_matches_step known
+  in_second q known others = others_edits S c q (λ _. alike.second_good.hand_matches_step) known
       (ap (λ (staff : List StaffRow). has_role is_operator (employee staff c.requester)) (sym (same_staff R S c inside alike.agree)) ∙ alike.no_operator) others
 
   -- one command of others on each side, with the same marks

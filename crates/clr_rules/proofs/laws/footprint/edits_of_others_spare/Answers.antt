@@ -2,7 +2,7 @@ use Rattle.clr_rules.proofs.isolation.OthersEdits.{others_edits_spare}
 use Rattle.clr_rules.proofs.laws.footprint.edits_of_others_spare.Goals as goal
 
 pub returns-clause-matched : goal.returns-clause-matched
-returns-clause-matched c = λ R id q matches known others. others_edits_spare R id q (λ _. matches) known others
+returns-clause-matched c = others_edits_spare
 
 pub returns-clause-anywhere : goal.returns-clause-anywhere
 returns-clause-anywhere c = λ R id q no_report no_jumper others.
