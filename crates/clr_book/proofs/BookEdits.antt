@@ -1,6 +1,6 @@
 -- One turn of a loop over edits, and of one over points.
-use Rattle.std.proofs.Common.{◌≡◌, ◌<◌, ℕ, ◌+◌, true, false, not, List, [], ◌∷◌, ◌++◌, length, drop, get_or, refl, sym, ◌∙◌, ap}
-use Rattle.std.proofs.lemmas.List.{append_assoc, drop_more}
+use Rattle.std.proofs.Common.{◌≡◌, true, false, not, List, [], ◌∷◌, ◌++◌, refl, ◌∙◌, ap}
+use Rattle.std.proofs.lemmas.List.{append_assoc}
 use Rattle.std.proofs.lemmas.Bool.{and_parts}
 use Rattle.clr_net.specs.Grid.{Grid, IsNetwork}
 use Rattle.clr_net.specs.Name.{name_cmp}
@@ -25,11 +25,6 @@ use Rattle.clr_book.specs.Book.{Fits, Shelved, need_of, needs}
 use Rattle.clr_book.specs.Growth.{network_after, network_after_all}
 use Rattle.clr_book.proofs.BookRooms.{room_left}
 use Rattle.clr_book.proofs.StateFacts.{front_lower, with_row-end}
-
--- what is left of a list at a place begins with the item there
-pub drop_step : {X : Type 0} (xs ys : List X) (i : ℕ) (x : X) → xs ≡ ys → x ≡ get_or xs i x → i < length xs → drop i ys ≡ x ∷ drop (i + 1) ys
-drop_step xs ys i x same is inside =
-    ap (drop i) (sym same) ∙ drop_more xs i x inside ∙ ap (λ y. y ∷ drop (i + 1) xs) (sym is) ∙ ap (λ zs. x ∷ drop (i + 1) zs) same
 
 -- an edit is made, in the room for it and for those after it, of a network that takes them
 pub edit_step : (edit : Edit) (rest : List Edit) (before after : Shelved) → Fits (needs (edit ∷ rest)) before.room → Fits before.room (need_of edit after.room)
@@ -57,10 +52,6 @@ answers_taken R net q = at q.kind refl
     at _ is =
         let near = near_of R q in
         plain_fit (Answer.edits (answer_with near.known near.rows q)) R.net (answers_with_plain near.known near.rows q (ap is_jumper is))
-
-pub edits_end : (R : Register) → after_edits [] R ≡ R
-unfolding after_edits
-edits_end R = refl
 
 -- what an edit and those after it add to the network
 pub network_step : (edit : Edit) (rest : List Edit) (before after : Grid) → after ≡ network_after edit before

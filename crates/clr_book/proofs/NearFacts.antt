@@ -1,6 +1,5 @@
 -- What is lent, and the definitions.
 use Rattle.std.proofs.Common.{◌≡◌, ◌∙◌, ◌==◌, ◌&&◌, ◌||◌, ℕ, zero, suc, Bool, true, false, Some, ◌++◌, List, [], ◌∷◌, map, filter, length, refl, sym, ap}
-use Rattle.std.proofs.lemmas.Bool.{and_parts}
 use Rattle.std.proofs.lemmas.List.Folds.{list_any-append}
 use Rattle.clr_net.specs.Fence.{FenceRows, fence_of, in_fence, leads, reaches, touches}
 use Rattle.clr_net.specs.Grid.{Grid, point_names, section_names, unplaced}
@@ -9,23 +8,20 @@ use Rattle.clr_net.specs.Names.{has_name}
 use Rattle.clr_net.specs.declared.point.PointRow.{PointRow}
 use Rattle.clr_net.specs.declared.section.SectionRow.{SectionRow}
 use Rattle.clr_rules.specs.Commands.{Known}
-use Rattle.clr_rules.specs.Answer.{fence_for, known_of}
 use Rattle.clr_rules.specs.GoodByPhase.{of_round}
 use Rattle.clr_rules.specs.Id.{Id, same_id}
 use Rattle.clr_order.specs.Step.{task, task_points}
 use Rattle.clr_order.specs.declared.step.Step.{Step}
 use Rattle.clr_rules.specs.Fences.{touching_names}
-use Rattle.clr_rules.specs.Near.{Near, is_beside, switched_points, switched_in}
+use Rattle.clr_rules.specs.Near.{Near, switched_in}
 use Rattle.clr_rules.specs.Records.{is_switch_order, record_of}
-use Rattle.clr_rules.specs.declared.command.Command.{Command}
 use Rattle.clr_rules.specs.declared.record.Record.{Record}
 use Rattle.clr_rules.specs.Register.{Register, unplaced_net}
 use Rattle.clr_rules.specs.Steps.{points_of, steps_in, steps_of}
 use Rattle.clr_rules.specs.declared.step_row.StepRow.{StepRow}
 use Rattle.clr_rules.proofs.lists.NamedRows.{list_any-map}
-use Rattle.clr_rules.proofs.lists.Filters.{filter-kept}
 use Rattle.clr_rules.proofs.good.Opening.{unplaced_names}
-use Rattle.clr_book.proofs.OrderPositions.{touching_unplaced}
+use Rattle.clr_answer.proofs.OrderPositions.{touching_unplaced}
 use Rattle.clr_rules.proofs.lists.RoundSteps.{of_round_is}
 
 -- whether a walk leads to a section does not hang on positions
@@ -62,10 +58,6 @@ pub names_shown : {X : Type 0} (shows : X → SectionRow) (items : List X) → m
 names_shown shows [] = refl
 names_shown shows (item ∷ items) = ap (λ names. (shows item).name ∷ names) (names_shown shows items)
 
-pub unplaced_shown : {X : Type 0} (shows : X → PointRow) (items : List X) → map (λ item. unplaced (shows item)) items ≡ map unplaced (map shows items)
-unplaced_shown shows [] = refl
-unplaced_shown shows (item ∷ items) = ap (λ points. unplaced (shows item) ∷ points) (unplaced_shown shows items)
-
 -- rows that are kept by what they show
 pub filter_shown : {X Y : Type 0} (shows : X → Y) (test : Y → Bool) (items : List X) → map shows (filter (λ item. test (shows item)) items) ≡ filter test (map shows items)
 filter_shown shows test [] = refl
@@ -95,18 +87,8 @@ pub switched_found : (R : Register) (c : Id) (r : Record) (steps : List StepRow)
 unfolding steps_of
 switched_found R c r steps found switches rows = rw (found, switches) (ap points_of rows)
 
--- a clearance's record is among those of its requester
-pub own_of_requester : (c : Id) (records : List Record) → filter (λ r. same_id c r.id) (filter (λ r. same_name c.requester r.id.requester) records) ≡ filter (λ r. same_id c r.id) records
-own_of_requester c records =
-    filter-kept (λ (r : Record). same_id c r.id) (λ r. same_name c.requester r.id.requester) records (λ r there own. (and_parts (same_name c.requester r.id.requester) (c.number == r.id.number) own).0)
-
 pub has_name-append : (first rest : List (List ℕ)) (p : List ℕ) → has_name (first ++ rest) p ≡ (has_name first p || has_name rest p)
 has_name-append first rest p = list_any-append (same_name p) first rest
-
--- the points near a command, by their names
-pub beside_lent : (R : Register) (q : Command) (names fence : List (List ℕ)) → names ≡ touching_names R.net (has_name fence) ++ switched_points R q.kind → fence ≡ fence_for R q.kind
-    → has_name names ≡ is_beside R (known_of R q) q.kind
-beside_lent R q names fence are fenced = rw (are, fenced) (λ i p. has_name-append (touching_names R.net (has_name (fence_for R q.kind))) (switched_points R q.kind) p i)
 
 -- what is lent is a register with what is known of it, if each of its parts is
 pub lent_whole : (near : Near) (known : Known) (R : Register)

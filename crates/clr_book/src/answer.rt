@@ -5,12 +5,11 @@ ghost use Rattle.clr_rules.specs.Edits.{after_edits, fit};
 ghost use Rattle.clr_rules.specs.Good.{IsGood};
 ghost use Rattle.clr_rules.specs.Near.{Near, near_of};
 ghost use Rattle.clr_rules.specs.Run.{after};
-ghost use Rattle.clr_book.specs.Decision.{ChangesIfAccepted, answer_of_decision, is_accepted};
+ghost use Rattle.clr_answer.specs.Decision.{ChangesIfAccepted, answer_of_decision, is_accepted};
 ghost use Rattle.clr_book.specs.Growth.{network_after_all};
 
 use crate::book::Book;
-use crate::decision::Decision;
-use crate::kinds::decide;
+use clr_answer::{Decision, decide};
 use clr_rules::{Command, Hold, PointState, Record, Reply, StepRow};
 use clr_shelf::Shelf;
 use std::alloc::AllocError;

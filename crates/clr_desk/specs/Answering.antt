@@ -1,7 +1,7 @@
 -- WHAT CAME OF A CALL: whether it accepted its command, its reply and its fault.
 use Rattle.std.specs.Prelude.{Bool, false, List, [], ◌∷◌, Option, None, Some, Result, Ok, Err}
 use Rattle.clr_rules.specs.declared.reply.Reply.{Reply}
-use Rattle.clr_book.specs.Decision.{is_accepted}
+use Rattle.clr_answer.specs.Decision.{is_accepted}
 use Rattle.clr_desk.specs.declared.desk_fault.DeskFault.{DeskFault}
 
 -- whether a call accepted its command: it was not refused or shown, and met no fault

@@ -4,7 +4,7 @@ use Rattle.std.specs.Prelude.{◌≡◌, false, IfErr, IfOk, IsTrue, OnErr, OnOk
 use Rattle.sqlite.specs.Held.{state}
 use Rattle.sqlite.specs.State.{HasCleanDisk, Survives}
 use Rattle.sqlite_trees.specs.declared.store.Store.{Ghosts}
-use Rattle.clr_book.specs.Decision.{is_accepted}
+use Rattle.clr_answer.specs.Decision.{is_accepted}
 use Rattle.clr_rules.specs.Answer.{Answer, answer}
 use Rattle.clr_rules.specs.Command.{is_jumper}
 use Rattle.clr_rules.specs.Good.{IsGood}

@@ -1,13 +1,13 @@
 //! What is done for one command before its change is committed: it is answered, and room is made
 //! for its change.
 ghost use Rattle.std.specs.Prelude.{◌≡◌, true, IfOk};
-ghost use Rattle.clr_book.specs.Decision.{ChangesIfAccepted, answer_of_decision};
+ghost use Rattle.clr_answer.specs.Decision.{ChangesIfAccepted, answer_of_decision};
 ghost use Rattle.clr_book.specs.Book.{Fits, needs};
 ghost use Rattle.clr_rules.specs.Edits.{fit};
 ghost use Rattle.clr_desk.specs.Asking.{near_answer};
 
 use crate::book::DeskBook;
-use clr_book::Decision;
+use clr_answer::Decision;
 use clr_rules::Command;
 use std::alloc::AllocError;
 

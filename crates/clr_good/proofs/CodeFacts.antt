@@ -24,7 +24,7 @@ use Rattle.clr_rules.specs.Register.{unplaced_net}
 use Rattle.clr_rules.specs.declared.hold.HoldGroup.TheVariants.{AtPoint}
 use Rattle.clr_rules.proofs.lists.RoundSteps.{some_step_there}
 use Rattle.clr_book.proofs.NearFacts.{fence_unplaced, in_fence_unplaced}
-use Rattle.clr_book.proofs.OrderPositions.{fault_unplaced, touching_unplaced}
+use Rattle.clr_answer.proofs.OrderPositions.{fault_unplaced, touching_unplaced}
 use Rattle.clr_good.specs.Steps.{isolates}
 
 -- whether a row of a name is found, is whether the name is among them

@@ -19,7 +19,8 @@ use crate::rounds::{
     some_active,
 };
 use crate::shelves::Shelves;
-use clr_book::{all_rows, each_once, hinders};
+use clr_answer::{each_once, hinders};
+use clr_book::all_rows;
 use clr_net::{Fence, Name};
 use clr_order::{Step, check_isolating};
 use clr_rules::{ClearanceId, Hold, HoldGroup, HoldKind, Phase, PointState, Record, StepRow};

@@ -1,8 +1,9 @@
 //! The commands of a session, answered by a book step by step: the decision, room for its change, the
 //! change.
-use clr_book::{Book, Command, Hold, PointState, Record, StepRow};
+use clr_book::Book;
 use clr_csv::{Counted, Staff, read_points, read_sections, read_staff};
 use clr_net::Network;
+use clr_rules::{Command, Hold, PointState, Record, StepRow};
 use clr_shelf::{ListShelf, Shelf, SortedShelf};
 use clr_text::{command_of, fault_text, reply_text};
 use std::alloc::{AllocError, Global};

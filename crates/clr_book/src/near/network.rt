@@ -11,8 +11,7 @@ ghost use Rattle.clr_rules.specs.Records.{greatest_number};
 
 use crate::book::Book;
 use crate::book::rows::all_rows;
-use crate::near::Near;
-use crate::near::names::is_among;
+use clr_answer::{Near, is_among};
 use clr_net::Name;
 use clr_rules::{ClearanceId, Command, Hold, PointState, Record, StepRow};
 use clr_shelf::Shelf;

@@ -6,7 +6,7 @@ ghost use Rattle.clr_net.specs.Names.{has_name};
 ghost use Rattle.clr_rules.specs.Near.{switched_points, switched_in};
 
 use crate::book::Book;
-use crate::near::names::in_order;
+use clr_answer::in_order;
 use clr_net::Name;
 use clr_order::Step;
 use clr_rules::{ClearanceId, Hold, Kind, PointState, Record, StepRow};

@@ -12,10 +12,10 @@ ghost use Rattle.clr_rules.specs.declared.hold.Hold.{Hold};
 ghost use Rattle.clr_rules.specs.declared.hold.HoldGroup.TheVariants as group;
 
 use crate::book::Book;
-use crate::near::Near;
 use crate::near::fence::FenceNames;
 use crate::near::groups::rows_in;
-use crate::near::names::{in_order, rows_named};
+use crate::near::named::rows_named;
+use clr_answer::{Near, in_order};
 use clr_net::{Name, SectionRow};
 use clr_rules::{ClearanceId, Command, Hold, HoldGroup, Kind, PointState, Record, StepRow};
 use clr_shelf::Shelf;

@@ -4,7 +4,8 @@ use Rattle.clr_net.specs.declared.point.PointRow.{PointRow}
 use Rattle.clr_shelf.specs.Rows.{in_key_order}
 use Rattle.clr_rules.specs.Register.{first_state}
 use Rattle.clr_rules.specs.States.{state_key}
-use Rattle.clr_book.proofs.BookEdits.{drop_step, state_step}
+use Rattle.clr_answer.proofs.RowLoops.{drop_step}
+use Rattle.clr_book.proofs.BookEdits.{state_step}
 use Rattle.clr_book.proofs.states.opening_states.Goals as goal
 
 pub loop-point-preserved : goal.loop-point-preserved

@@ -5,7 +5,8 @@ use Rattle.clr_rules.specs.Good.{IsGood}
 use Rattle.clr_rules.specs.Run.{after}
 use Rattle.clr_rules.proofs.keeps.EveryKind.{commands_keep_good}
 use Rattle.clr_book.specs.Growth.{network_after_all}
-use Rattle.clr_book.proofs.BookEdits.{edits_end, network_end}
+use Rattle.clr_answer.proofs.DecisionFacts.{edits_end}
+use Rattle.clr_book.proofs.BookEdits.{network_end}
 use Rattle.clr_book.proofs.book.Book.answer_and_apply.Goals as goal
 
 pub returns-clause-good : goal.returns-clause-good

@@ -4,7 +4,9 @@ use Rattle.clr_rules.specs.Edits.{after_edits, fit}
 use Rattle.clr_rules.specs.declared.change.Edit.{Edit}
 use Rattle.clr_book.specs.Book.{Fits, needs}
 use Rattle.clr_book.specs.Growth.{network_after_all}
-use Rattle.clr_book.proofs.BookEdits.{drop_step, edit_step, edits_end, first_taken, network_end, network_step}
+use Rattle.clr_answer.proofs.RowLoops.{drop_step}
+use Rattle.clr_book.proofs.BookEdits.{edit_step, first_taken, network_end, network_step}
+use Rattle.clr_answer.proofs.DecisionFacts.{edits_end}
 use Rattle.clr_book.proofs.book.Book.apply.Goals as goal
 
 pub make-requires-clause-fits : goal.make-requires-clause-fits

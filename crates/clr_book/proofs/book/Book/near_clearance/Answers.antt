@@ -18,9 +18,9 @@ use Rattle.clr_net.specs.Grid.{unplaced}
 use Rattle.clr_rules.specs.States.{state_key}
 use Rattle.clr_shelf.proofs.KeyOrder.{in_key_order-filter}
 use Rattle.clr_book.specs.Book.{Shelved}
-use Rattle.clr_book.proofs.NearFacts.{lent_whole, unplaced_shown}
-use Rattle.clr_book.proofs.OrderPositions.{unplaced_kept}
-use Rattle.clr_book.proofs.SortedRows.{rising-filter}
+use Rattle.clr_book.proofs.NearFacts.{lent_whole}
+use Rattle.clr_answer.proofs.OrderPositions.{unplaced_kept, unplaced_shown}
+use Rattle.clr_answer.proofs.SortedRows.{rising-filter}
 use Rattle.clr_book.proofs.book.Book.near_clearance.Goals as goal
 
 pub returns : goal.returns

@@ -10,7 +10,8 @@ use Rattle.clr_rules.specs.declared.hold.Hold.{Hold}
 use Rattle.clr_rules.specs.declared.point_state.PointState.{PointState}
 use Rattle.clr_book.specs.Book.{Shelved}
 use Rattle.clr_book.proofs.FenceNames.{none_rise}
-use Rattle.clr_book.proofs.NearFacts.{lent_whole, unplaced_shown}
+use Rattle.clr_book.proofs.NearFacts.{lent_whole}
+use Rattle.clr_answer.proofs.OrderPositions.{unplaced_shown}
 use Rattle.clr_book.proofs.book.Book.network_near.Goals as goal
 
 pub returns : goal.returns

@@ -5,7 +5,7 @@ use Rattle.std.proofs.lemmas.Fn.{always_returns_same}
 use Rattle.std.proofs.lemmas.List.{map-append, take_all, take_more}
 use Rattle.std.proofs.lemmas.List.Sorted.{IsPermutation-map, IsPermutation-trans, ranks_by}
 use Rattle.std.proofs.lemmas.Option.{get_or_from_slice_get, slice_get_within}
-use Rattle.clr_book.proofs.SortedRows.{same_from_sorted, sorted-map}
+use Rattle.clr_answer.proofs.SortedRows.{same_from_sorted, sorted-map}
 use Rattle.clr_book.proofs.book.rows.all_rows.Goals as goal
 
 pub loop-place-preserved : goal.loop-place-preserved

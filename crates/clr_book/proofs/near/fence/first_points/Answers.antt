@@ -2,7 +2,7 @@ use Rattle.std.proofs.Common.{◌≡◌, ◌∙◌, ◌+◌, ◌++◌, [], ◌�
 use Rattle.std.proofs.Common.{List, Vec, ap, drop, refl, rules, map, filter, ◌==◌}
 use Rattle.clr_net.specs.declared.name.Name.{Name}
 use Rattle.clr_rules.specs.declared.step_row.StepRow.{StepRow}
-use Rattle.clr_book.proofs.RowLoops.{kept_more, passed_over}
+use Rattle.clr_answer.proofs.RowLoops.{kept_more, passed_over}
 use Rattle.clr_book.proofs.near.fence.first_points.Goals as goal
 use Rattle.clr_book.proofs.near.fence.first_points.Goals.{then-row-eq1+in_ok-push, else-row-eq1}
 

@@ -7,7 +7,7 @@ use Rattle.std.proofs.lemmas.List.{drop_all, drop_more, map-append}
 use Rattle.std.proofs.lemmas.List.Sorted.{IsPermutation-map, IsPermutation-refl, IsPermutation-trans, ranks_by}
 use Rattle.clr_shelf.proofs.KeyOrder.{in_key_order-filter}
 use Rattle.clr_book.proofs.Grouped.{group_more, groups_done, rising-rest}
-use Rattle.clr_book.proofs.SortedRows.{same_from_sorted, sorted-map}
+use Rattle.clr_answer.proofs.SortedRows.{same_from_sorted, sorted-map}
 use Rattle.clr_book.proofs.near.groups.rows_in.Goals as goal
 
 pub loop-group-init : goal.loop-group-init

@@ -5,7 +5,7 @@ use Rattle.clr_rules.specs.Edits.{after_edits}
 use Rattle.clr_rules.specs.Register.{Register}
 use Rattle.clr_load.specs.Stored.{HasTables}
 use Rattle.clr_tables.specs.Tables.{Tables, tables_of}
-use Rattle.clr_book.specs.Decision.{is_accepted}
+use Rattle.clr_answer.specs.Decision.{is_accepted}
 use Rattle.clr_book.specs.Growth.{network_after_all}
 use Rattle.clr_desk.proofs.OneCommand.{crash_after, near_after_is_after, near_is_whole, nothing_added, nothing_changes, only_jumpers_add, tables_after}
 use Rattle.clr_desk.proofs.desk.Desk.carry_out.Goals as goal

@@ -9,7 +9,7 @@ use Rattle.clr_rules.specs.declared.command.Command.{Command}
 use Rattle.clr_rules.specs.declared.reply.Reply.{Reply}
 use Rattle.clr_rules.proofs.isolation.RunReplies.{others_take_nothing}
 use Rattle.clr_rules.proofs.keeps.EveryKind.{commands_keep_good}
-use Rattle.clr_book.specs.Decision.{is_accepted}
+use Rattle.clr_answer.specs.Decision.{is_accepted}
 use Rattle.clr_desk.specs.NearRun.{IsNearRun}
 use Rattle.clr_desk.proofs.Keeping.{keeps_itself, keeps_on, one_keeps}
 use Rattle.clr_desk.proofs.NearRuns.{near_ran_so_far, near_run_of_next, near_run_of_none, network_of_next, network_of_none, network_so_far, none_before}

@@ -1,6 +1,6 @@
 use Rattle.std.proofs.Common.{◌≡◌, ◌≤◌, IsTrue, false, length, take, vec_len, vec_capacity}
 use Rattle.std.specs.List.{list_any}
-use Rattle.clr_book.specs.Decision.{is_accepted}
+use Rattle.clr_answer.specs.Decision.{is_accepted}
 use Rattle.clr_desk.specs.Kept.{Keeps}
 use Rattle.clr_desk.specs.NearRun.{IsNearRun, near_network_all}
 use Rattle.sqlite.specs.Held.{state}

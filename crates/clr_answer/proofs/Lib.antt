@@ -1,0 +1,13 @@
+pub mod CardFacts
+pub mod DecisionFacts
+pub mod FirstChecks
+pub mod LentRows
+pub mod NameLists
+pub mod NewSteps
+pub mod OnceFacts
+pub mod OrderPositions
+pub mod Phases
+pub mod PutSteps
+pub mod RowLoops
+pub mod SortedRows
+pub mod StepCounts

@@ -1,0 +1,7 @@
+use Rattle.std.proofs.Common.{◌≡◌, map, drop}
+use Rattle.clr_rules.specs.Steps.{is_some_step, steps_in}
+use Rattle.clr_answer.proofs.checks.steps.has_round.Given as goal
+
+abbrev pub invariant-loop-row : goal.invariant-loop-row
+invariant-loop-row l =
+    is_some_step (steps_in (map (λ row. row.now) (drop l.row-index l.row-items)) l.id l.round) ≡ is_some_step (steps_in l.near.rows.steps l.id l.round)

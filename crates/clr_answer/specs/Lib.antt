@@ -1,0 +1,5 @@
+pub mod Begins
+pub mod Card
+pub mod Decision
+pub mod Effect
+pub mod Orders

@@ -1,0 +1,51 @@
+//! The holder signs a crew on: 29 CFR 1910.269(m)(2)(iv).
+ghost use Rattle.std.specs.Prelude.{◌≡◌, IfOk, None};
+ghost use Rattle.clr_rules.specs.declared.command.Kind.TheVariants as kinds;
+ghost use Rattle.clr_answer.specs.Begins.{asked_edits, asked_refusal};
+ghost use Rattle.clr_answer.specs.Effect.{IsOf, edits_in};
+
+use crate::checks::begins::{Ask, by_holder};
+use crate::checks::callers::RoleTest;
+use crate::checks::clearances::{PhaseTest, record};
+use crate::checks::work::{crew_is_on, work_not_grounded, work_not_tested};
+use crate::effect::Effect;
+use crate::near::Near;
+use clr_net::Name;
+use clr_rules::{Edit, Hold, HoldKind, Record, Refusal};
+use std::alloc::AllocError;
+
+pub(crate) fn refusal_of(near: &Near, asked: Ask, crew: Name) -> Option<Refusal>
+    ensures { result ≡ asked_refusal near.now asked (kinds.SignOn asked.id crew) }
+{
+    let own = [
+        work_not_tested(near, asked.id),
+        work_not_grounded(near, asked.id),
+        crew_is_on(near, asked.id, crew),
+    ];
+    by_holder(near, &asked, RoleTest::Charge, PhaseTest::Granted, &own)
+}
+
+pub(crate) fn effect(near: &Near, asked: Ask, crew: Name) -> Result<Effect, AllocError>
+    requires { asked_refusal near.now asked (kinds.SignOn asked.id crew) ≡ None }
+    ensures edits { IfOk result
+        (λ effect. asked_edits near.now asked (kinds.SignOn asked.id crew) ≡ edits_in effect) }
+    ensures of { IfOk result (IsOf asked.id) }
+{
+    let Ask { at, id, .. } = asked;
+    let Some(found) = record(near, id) else {
+        unreachable!()
+    };
+    let clearance = Record { last: at, ..*found };
+    let steps = Vec::new(near.alloc);
+    let hold = Hold {
+        kind: HoldKind::Crew,
+        place: crew,
+        id,
+    };
+    let lead = vec![in near.alloc; Edit::PutHold(hold)]?;
+    Ok(Effect {
+        lead,
+        clearance,
+        steps,
+    })
+}

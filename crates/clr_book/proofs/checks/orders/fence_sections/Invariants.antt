@@ -1,9 +1,0 @@
-use Rattle.std.proofs.Common.{◌≡◌, ◌++◌, map, filter, drop}
-use Rattle.clr_net.specs.Names.{has_name}
-use Rattle.clr_book.proofs.checks.orders.fence_sections.Given as goal
-
--- the rows so far, and those that are left, are all
-abbrev pub invariant-loop-row : goal.invariant-loop-row
-invariant-loop-row l =
-    map (λ row. row.now) l.kept.items ++ filter (λ row. has_name l.fn.fence row.name) (map (λ row. row.now) (drop l.row-index l.fn.rows))
-    ≡ filter (λ row. has_name l.fn.fence row.name) (map (λ row. row.now) l.fn.rows)

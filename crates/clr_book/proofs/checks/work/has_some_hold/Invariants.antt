@@ -1,7 +1,0 @@
-use Rattle.std.proofs.Common.{◌≡◌, map, drop}
-use Rattle.clr_rules.specs.Holds.{has_some_hold}
-use Rattle.clr_book.proofs.checks.work.has_some_hold.Given as goal
-
-abbrev pub invariant-loop-hold : goal.invariant-loop-hold
-invariant-loop-hold l =
-    has_some_hold (map (λ row. row.now) (drop l.hold-index l.hold-items)) l.id l.kind ≡ has_some_hold l.near.rows.holds l.id l.kind
