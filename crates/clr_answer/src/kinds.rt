@@ -1,10 +1,11 @@
 //! The answer to each kind of command: its checks, then what it changes.
-ghost use Rattle.std.specs.Prelude.{◌≡◌, false, IfOk, None};
+ghost use Rattle.std.specs.Prelude.{◌≡◌, ◌+◌, false, IfOk, None, Some};
 ghost use Rattle.clr_rules.specs.Answer.{answer, answer_with, reply_clearance};
 ghost use Rattle.clr_rules.specs.Command.{named_clearance};
 ghost use Rattle.clr_rules.specs.Good.{IsGoodAsSaid, OnlySwitchOrdersSwitch};
 ghost use Rattle.clr_rules.specs.Near.{near_of};
 ghost use Rattle.clr_rules.specs.Register.{Register};
+ghost use Rattle.clr_answer.specs.Begins.{asked_edits, asked_refusal};
 ghost use Rattle.clr_answer.specs.Decision.{ChangesIfAccepted, answer_of_decision, has_no_record};
 ghost use Rattle.clr_answer.specs.Decision.{near_edits, near_refusal};
 ghost use Rattle.clr_answer.specs.Effect.{IsOf, edits_in};
@@ -37,7 +38,8 @@ use crate::decision::{Decision, accept, refused, shown};
 use crate::effect::Effect;
 use crate::kinds::jumper::Jumper;
 use crate::near::Near;
-use clr_rules::{ClearanceId, Command, Kind, Refusal};
+use clr_net::Name;
+use clr_rules::{Command, Kind, Moment, Refusal};
 use std::alloc::AllocError;
 
 /// What a command is answered, and what it changes. Of a good register the near part is enough.
@@ -105,72 +107,64 @@ fn refusal_of(near: &Near, command: &Command) -> Result<Option<Refusal>, AllocEr
         ≡ near_refusal near.now command.now.caller command.now.moment command.now.kind) }
 {
     let (by, at) = (command.caller, command.moment);
-    let ask = |id: ClearanceId| Ask { by, at, id };
-    let refusal = match &command.kind {
-        Kind::Request { section } => request::refusal_of(near, by, at, *section),
-        Kind::Order {
-            clearance,
-            points,
-            steps,
-        } => { order::refusal_of(near, ask(*clearance), points.as_slice(), steps)? }
-        Kind::Instruct { clearance, step } => instruct::refusal_of(near, ask(*clearance), *step),
-        Kind::Repeat {
-            clearance,
-            step,
-            text,
-        } => { repeat::refusal_of(near, ask(*clearance), *step, text)? }
-        Kind::Report {
-            clearance,
-            step,
-            ..
-        } => report::refusal_of(near, ask(*clearance), *step),
-        Kind::Grant { clearance } => grant::refusal_of(near, ask(*clearance)),
-        Kind::Test {
-            clearance,
-            section,
-            dead,
-        } => { test::refusal_of(near, ask(*clearance), *section, *dead) }
-        Kind::Ground { clearance, section } => ground::refusal_of(near, ask(*clearance), *section),
-        Kind::Unground { clearance, section } => unground::refusal_of(
+    match command.kind.clearance() {
+        Some(id) => asked_refusal(near, Ask { by, at, id }, &command.kind),
+        None => Ok(new_refusal(near, by, at, &command.kind)),
+    }
+}
+
+/// The same of a command that names a clearance.
+fn asked_refusal(near: &Near, asked: Ask, kind: &Kind) -> Result<Option<Refusal>, AllocError>
+    requires { named_clearance kind.now ≡ Some asked.id }
+    ensures { IfOk result (λ refusal. refusal ≡ asked_refusal near.now asked kind.now) }
+{
+    let refusal = match kind {
+        Kind::Order { points, steps, .. } => order::refusal_of(
             near,
-            ask(*clearance),
-            *section,
-        ),
-        Kind::SignOn { clearance, crew } => sign_on::refusal_of(near, ask(*clearance), *crew),
-        Kind::SignOff { clearance, crew } => sign_off::refusal_of(near, ask(*clearance), *crew),
-        Kind::Transfer {
-            clearance,
-            to,
-            emergency,
-        } => { transfer::refusal_of(near, ask(*clearance), *to, *emergency) }
+            asked,
+            points.as_slice(),
+            steps,
+        )?,
+        Kind::Instruct { step, .. } => instruct::refusal_of(near, asked, *step),
+        Kind::Repeat { step, text, .. } => repeat::refusal_of(near, asked, *step, text)?,
+        Kind::Report { step, .. } => report::refusal_of(near, asked, *step),
+        Kind::Grant { .. } => grant::refusal_of(near, asked),
+        Kind::Test { section, dead, .. } => test::refusal_of(near, asked, *section, *dead),
+        Kind::Ground { section, .. } => ground::refusal_of(near, asked, *section),
+        Kind::Unground { section, .. } => unground::refusal_of(near, asked, *section),
+        Kind::SignOn { crew, .. } => sign_on::refusal_of(near, asked, *crew),
+        Kind::SignOff { crew, .. } => sign_off::refusal_of(near, asked, *crew),
+        Kind::Transfer { to, emergency, .. } => transfer::refusal_of(near, asked, *to, *emergency),
         Kind::Release {
-            clearance,
             notified,
             clear,
-        } => { release::refusal_of(near, ask(*clearance), *notified, *clear) }
-        Kind::Cancel { clearance } => cancel::refusal_of(near, ask(*clearance)),
-        Kind::Restore { clearance, steps } => restore::refusal_of(near, ask(*clearance), steps)?,
-        Kind::Amend { clearance, step } => amend::refusal_of(near, ask(*clearance), *step),
+            ..
+        } => release::refusal_of(near, asked, *notified, *clear),
+        Kind::Cancel { .. } => cancel::refusal_of(near, asked),
+        Kind::Restore { steps, .. } => restore::refusal_of(near, asked, steps)?,
+        Kind::Amend { step, .. } => amend::refusal_of(near, asked, *step),
+        Kind::Show { .. } => show::refusal_of(near, asked),
+        Kind::Request { .. } | Kind::Switch { .. } | Kind::Jumper { .. } => unreachable!(),
+    };
+    Ok(refusal)
+}
+
+/// The same of a command that names none.
+fn new_refusal(near: &Near, by: Name, at: Moment, kind: &Kind) -> Option<Refusal>
+    requires { named_clearance kind.now ≡ None }
+    ensures { result ≡ near_refusal near.now by at kind.now }
+{
+    match kind {
+        Kind::Request { section } => request::refusal_of(near, by, at, *section),
         Kind::Switch { steps } => switch::refusal_of(near, by, at, steps),
-        Kind::Show { clearance } => show::refusal_of(near, ask(*clearance)),
         Kind::Jumper {
             point,
             from,
             to,
-            lockable,
-            remote,
-        } => {
-            let laid = Jumper {
-                point: *point,
-                from: *from,
-                to: *to,
-                lockable: *lockable,
-                remote: *remote,
-            };
-            jumper::refusal_of(near, by, at, laid)
-        }
-    };
-    Ok(refusal)
+            ..
+        } => jumper::refusal_of(near, by, at, *point, *from, *to),
+        _ => unreachable!(),
+    }
 }
 
 /// What a command changes that no check refuses.
@@ -186,50 +180,56 @@ fn effect_of(near: &Near, command: &Command) -> Result<Effect, AllocError>
         (named_clearance command.now.kind))) }
 {
     let (by, at) = (command.caller, command.moment);
-    let ask = |id: ClearanceId| Ask { by, at, id };
-    let effect = match &command.kind {
-        Kind::Request { section } => request::effect(near, by, at, *section),
-        Kind::Order {
-            clearance,
-            points,
-            steps,
-        } => { order::effect(near, ask(*clearance), points.as_slice(), steps)? }
-        Kind::Instruct { clearance, step } => instruct::effect(near, ask(*clearance), *step)?,
-        Kind::Repeat {
-            clearance,
-            step,
-            text,
-        } => { repeat::effect(near, ask(*clearance), *step, text)? }
-        Kind::Report {
-            clearance,
-            step,
-            done,
-        } => { report::effect(near, ask(*clearance), *step, *done)? }
-        Kind::Grant { clearance } => grant::effect(near, ask(*clearance)),
-        Kind::Test {
-            clearance,
-            section,
-            dead,
-        } => { test::effect(near, ask(*clearance), *section, *dead)? }
-        Kind::Ground { clearance, section } => ground::effect(near, ask(*clearance), *section)?,
-        Kind::Unground { clearance, section } => unground::effect(near, ask(*clearance), *section)?,
-        Kind::SignOn { clearance, crew } => sign_on::effect(near, ask(*clearance), *crew)?,
-        Kind::SignOff { clearance, crew } => sign_off::effect(near, ask(*clearance), *crew)?,
-        Kind::Transfer {
-            clearance,
-            to,
-            emergency,
-        } => { transfer::effect(near, ask(*clearance), *to, *emergency) }
+    match command.kind.clearance() {
+        Some(id) => asked_effect(near, Ask { by, at, id }, &command.kind),
+        None => new_effect(near, by, at, &command.kind),
+    }
+}
+
+/// The same of a command that names a clearance.
+fn asked_effect(near: &Near, asked: Ask, kind: &Kind) -> Result<Effect, AllocError>
+    requires named { named_clearance kind.now ≡ Some asked.id }
+    requires passes { asked_refusal near.now asked kind.now ≡ None }
+    requires changes { has_no_record kind.now ≡ false }
+    ensures edits { IfOk result (λ effect. asked_edits near.now asked kind.now ≡ edits_in effect) }
+    ensures of { IfOk result (IsOf asked.id) }
+{
+    match kind {
+        Kind::Order { points, steps, .. } => order::effect(near, asked, points.as_slice(), steps),
+        Kind::Instruct { step, .. } => instruct::effect(near, asked, *step),
+        Kind::Repeat { step, text, .. } => repeat::effect(near, asked, *step, text),
+        Kind::Report { step, done, .. } => report::effect(near, asked, *step, *done),
+        Kind::Grant { .. } => Ok(grant::effect(near, asked)),
+        Kind::Test { section, dead, .. } => test::effect(near, asked, *section, *dead),
+        Kind::Ground { section, .. } => ground::effect(near, asked, *section),
+        Kind::Unground { section, .. } => unground::effect(near, asked, *section),
+        Kind::SignOn { crew, .. } => sign_on::effect(near, asked, *crew),
+        Kind::SignOff { crew, .. } => sign_off::effect(near, asked, *crew),
+        Kind::Transfer { to, emergency, .. } => Ok(transfer::effect(near, asked, *to, *emergency)),
         Kind::Release {
-            clearance,
             notified,
             clear,
-        } => { release::effect(near, ask(*clearance), *notified, *clear)? }
-        Kind::Cancel { clearance } => cancel::effect(near, ask(*clearance)),
-        Kind::Restore { clearance, steps } => restore::effect(near, ask(*clearance), steps)?,
-        Kind::Amend { clearance, step } => amend::effect(near, ask(*clearance), *step)?,
-        Kind::Switch { steps } => switch::effect(near, by, at, steps)?,
-        Kind::Show { .. } | Kind::Jumper { .. } => unreachable!(),
-    };
-    Ok(effect)
+            ..
+        } => release::effect(near, asked, *notified, *clear),
+        Kind::Cancel { .. } => Ok(cancel::effect(near, asked)),
+        Kind::Restore { steps, .. } => restore::effect(near, asked, steps),
+        Kind::Amend { step, .. } => amend::effect(near, asked, *step),
+        _ => unreachable!(),
+    }
+}
+
+/// The same of a command that names none.
+fn new_effect(near: &Near, by: Name, at: Moment, kind: &Kind) -> Result<Effect, AllocError>
+    requires named { named_clearance kind.now ≡ None }
+    requires passes { near_refusal near.now by at kind.now ≡ None }
+    requires changes { has_no_record kind.now ≡ false }
+    ensures edits { IfOk result (λ effect. near_edits near.now by at kind.now ≡ edits_in effect) }
+    ensures of { IfOk result
+        (IsOf (record { requester = by; number = near.now.known.greatest + 1 })) }
+{
+    match kind {
+        Kind::Request { section } => Ok(request::effect(near, by, at, *section)),
+        Kind::Switch { steps } => switch::effect(near, by, at, steps),
+        _ => unreachable!(),
+    }
 }

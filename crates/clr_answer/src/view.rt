@@ -134,8 +134,7 @@ fn in_kind_order(alloc: Global, holds: &[Hold]) -> Result<Vec<Hold>, AllocError>
         HoldKind::Ground,
         HoldKind::Crew,
     ];
-    let all = of_kinds(alloc, &kinds, holds)?;
-    Ok(all)
+    of_kinds(alloc, &kinds, holds)
 }
 
 /// The card of a record.

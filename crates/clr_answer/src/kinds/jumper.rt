@@ -1,5 +1,5 @@
 //! An operator joins two sections by a switching point that is in no file: the project's own.
-ghost use Rattle.std.specs.Prelude.{◌≡◌, IfOk};
+ghost use Rattle.std.specs.Prelude.{◌≡◌, Bool, IfOk};
 ghost use Rattle.clr_rules.specs.Changes.{added_edits, new_jumper, new_section};
 ghost use Rattle.clr_rules.specs.declared.command.Kind.TheVariants as kinds;
 ghost use Rattle.clr_rules.specs.declared.reply.Reply.TheVariants.{Added};
@@ -26,18 +26,25 @@ pub(crate) struct Jumper {
     pub(crate) remote: bool,
 }
 
-pub(crate) fn refusal_of(near: &Near, by: Name, at: Moment, laid: Jumper) -> Option<Refusal>
-    ensures { result ≡ near_refusal near.now by at
-        (kinds.Jumper laid.point laid.from laid.to laid.lockable laid.remote) }
+pub(crate) fn refusal_of(
+    near: &Near,
+    by: Name,
+    at: Moment,
+    point: Name,
+    from: Name,
+    to: Name,
+) -> Option<Refusal>
+    ensures { (lockable remote : Bool) → result
+        ≡ near_refusal near.now by at (kinds.Jumper point from to lockable remote) }
 {
     first_of(&[
         unknown_caller(near, by),
         wrong_role(near, by, RoleTest::Operator),
-        unknown_section(near, laid.from),
-        point_exists(near, laid.point),
+        unknown_section(near, from),
+        point_exists(near, point),
         crosses_fence(near),
-        network_full(near, laid.to),
-        same_ends(laid.from, laid.to),
+        network_full(near, to),
+        same_ends(from, to),
     ])
 }
 
@@ -88,10 +95,10 @@ pub(crate) fn added(near: &Near, laid: Jumper) -> Result<Decision, AllocError>
     }) }
     ensures something { IfOk result ChangesIfAccepted }
 {
-    let reply = Reply::Added(laid.point);
+    let point = laid.point;
     let edits = added_edits(near, row_of(laid))?;
     Ok(Decision {
-        reply,
+        reply: Reply::Added(point),
         change: Change { edits },
     })
 }

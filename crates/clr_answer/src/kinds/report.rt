@@ -163,9 +163,8 @@ pub(crate) fn effect(near: &Near, asked: Ask, number: u16, done: bool) -> Result
         unreachable!()
     };
     if done {
-        let effect = done_effect(near, at, found, row)?;
-        return Ok(effect);
+        done_effect(near, at, found, row)
+    } else {
+        undone_effect(near.alloc, at, found, row)
     }
-    let effect = undone_effect(near.alloc, at, found, row)?;
-    Ok(effect)
 }

@@ -34,6 +34,5 @@ pub(crate) fn view(near: &Near, asked: Ask) -> Result<View, AllocError>
     let Some(found) = record(near, asked.id) else {
         unreachable!()
     };
-    let view = view_of(near, found)?;
-    Ok(view)
+    view_of(near, found)
 }
