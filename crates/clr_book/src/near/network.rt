@@ -36,20 +36,23 @@ impl<P: Shelf<PointState>, C: Shelf<Record>, T: Shelf<StepRow>, H: Shelf<Hold>> 
         }) }
     {
         let records = self.records()?;
-        let near = Near {
+        let crossed = self.crossed_by(&records, from, to)?;
+        let sections = each_row(self.alloc, self.network.sections())?;
+        let points = each_row(self.alloc, self.network.points())?;
+        let steps = self.first_rounds()?;
+        Ok(Near {
             alloc: self.alloc,
             greatest: self.greatest_for(command),
             fence: Vec::new(self.alloc),
-            crossed: self.crossed_by(&records, from, to)?,
-            sections: each_row(self.alloc, self.network.sections())?,
-            points: each_row(self.alloc, self.network.points())?,
+            crossed,
+            sections,
+            points,
             staff: &self.staff,
             states: Vec::new(self.alloc),
-            steps: self.first_rounds()?,
-            holds: Vec::new(self.alloc),
             records,
-        };
-        Ok(near)
+            steps,
+            holds: Vec::new(self.alloc),
+        })
     }
 
     /// The first of these clearances whose fence a point between these sections would cross. A

@@ -26,12 +26,10 @@ impl<P: Shelf<PointState>, C: Shelf<Record>, T: Shelf<StepRow>, H: Shelf<Hold>> 
     pub fn near(&self, command: &Command) -> Result<Near<'_>, AllocError>
         ensures { IfOk result (λ near. near ≡ near_of self.now.register command.now) }
     {
-        if let Kind::Jumper { from, to, .. } = &command.kind {
-            let near = self.network_near(command, *from, *to)?;
-            return Ok(near);
+        match &command.kind {
+            Kind::Jumper { from, to, .. } => self.network_near(command, *from, *to),
+            _ => self.near_clearance(command),
         }
-        let near = self.near_clearance(command)?;
-        Ok(near)
     }
 
     /// What a command looks at that is no jumper.
@@ -69,8 +67,7 @@ impl<P: Shelf<PointState>, C: Shelf<Record>, T: Shelf<StepRow>, H: Shelf<Hold>> 
             || is_asked kind.now row.name) self.now.register.net.sections) }
     {
         let listed = listed_sections(self.alloc, kind, fence)?;
-        let found = rows_named(self.alloc, self.network.sections(), &listed)?;
-        Ok(found)
+        rows_named(self.alloc, self.network.sections(), &listed)
     }
 
     /// The positions of these points, and whose order is at work on them.

@@ -20,20 +20,20 @@ returns g c =
     lent_whole _ (record { greatest = _; fence = []; crossed = crossed_by R c.args.from c.args.to }) (network_part R)
     c.greatest_for.ensures.value
     c.new.ensures.items
-    (c.in_ok-crossed_by.ensures ∙ ap (λ rows. option_map (λ (r : Record). r.id) (crossed_record R.net R.steps rows c.args.from c.args.to))
+    (c.in_ok-crossed.ensures ∙ ap (λ rows. option_map (λ (r : Record). r.id) (crossed_record R.net R.steps rows c.args.from c.args.to))
     (ap (map (λ (row : Bor Record). row.now)) c.deref.ensures.value ∙ c.in_ok-records.ensures))
-    (c.in_ok-each_row.ensures ∙ c.sections.ensures.rows ∙ ap (λ (v : Shelved). v.register.net.sections) c.self.view_is)
-    (unplaced_shown (λ (row : Bor PointRow). row.now) c.in_ok-each_row-2.field-0.items
-    ∙ ap (map unplaced) (c.in_ok-each_row-2.ensures ∙ c.points.ensures.rows)
+    (c.in_ok-sections.ensures ∙ c.sections.ensures.rows ∙ ap (λ (v : Shelved). v.register.net.sections) c.self.view_is)
+    (unplaced_shown (λ (row : Bor PointRow). row.now) c.in_ok-points.points.items
+    ∙ ap (map unplaced) (c.in_ok-points.ensures ∙ c.points.ensures.rows)
     ∙ ap (λ (v : Shelved). v.register.net.points) c.self.view_is)
     (ap (λ (v : Shelved). v.register.staff) c.self.view_is)
     (ap (map (λ (row : Bor PointState). row.now)) c.new-2.ensures.items)
     c.in_ok-records.ensures
-    c.in_ok-first_rounds.ensures
+    c.in_ok-steps.ensures
     (ap (map (λ (row : Bor Hold). row.now)) c.new-3.ensures.items)
 
-pub invariant_of-near : goal.invariant_of-near
-invariant_of-near g c =
+pub invariant_of-result : goal.invariant_of-result
+invariant_of-result g c =
     let R = c.args.self.now.register in
     let lists : ListsAreInOrder R = subst (λ (v : Shelved). ListsAreInOrder v.register) c.self.view_is (record {
       states = g.met.P.Shelf.in_order c.self.inside.states;
@@ -42,8 +42,8 @@ invariant_of-near g c =
       holds = g.met.H.Shelf.in_order c.self.inside.holds;
     }) in (
       c.greatest_for.ensures.range,
-      rw (c.in_ok-each_row.ensures, c.sections.ensures.rows) c.sections.ensures.network.sections_rise,
-      rw (c.in_ok-each_row-2.ensures, c.points.ensures.rows) c.points.ensures.network.points_rise,
+      rw (c.in_ok-sections.ensures, c.sections.ensures.rows) c.sections.ensures.network.sections_rise,
+      rw (c.in_ok-points.ensures, c.points.ensures.rows) c.points.ensures.network.points_rise,
       rw c.new.ensures.items none_rise,
       rw c.new-2.ensures.items refl,
       rw c.in_ok-records.ensures lists.records,
