@@ -12,7 +12,7 @@ pub fn command<'a>(alloc: Global) -> Result<Command<'a>, AllocError>
     ensures { IfOk result (λ c. app_of c ≡ board) }
 {
     let command = Command::new(alloc, "board")
-        .about("Prints the clearances and switch orders that are not closed")
+        .about("Prints the clearances and switch orders that are not closed, and the jumpers")
         .arg(required(alloc, "DB", "The database of the register"))?
         .arg(offset(alloc))?;
     Ok(command)
