@@ -3,7 +3,7 @@ ghost use Rattle.std.specs.Prelude.{◌≡◌, ◌⊎◌, ℕ, List, Option, IfE
 ghost use Rattle.std.specs.Prelude.{OnOk, ⊤};
 ghost use Rattle.sqlite.specs.Effect.{Database};
 ghost use Rattle.sqlite.specs.Files.{over_files};
-ghost use Rattle.sqlite.specs.Held.{state};
+ghost use Rattle.sqlite.specs.Held.{IsNew, state};
 ghost use Rattle.sqlite.specs.State.{Survives};
 ghost use Rattle.clr_rules.specs.Good.{IsGood};
 ghost use Rattle.clr_rules.specs.Register.{Register, opening};
@@ -21,7 +21,7 @@ use clr_store::{Back, Store, StoreFault};
 use clr_watch::{Watched, WatchedDatabase, open_watched};
 use sqlite::{Alter, Connection, Error, FileFrom, FileStore, Start};
 use sqlite_disk::Disk;
-use std::alloc::Global;
+use std::alloc::{AllocError, Global};
 use std::rt::Files;
 use std::{fs, io};
 
@@ -97,13 +97,14 @@ fn fault_of(error: Error) -> Fault
     Fault::from(StoreFault::from(error))
 }
 
-/// Opens an empty database in memory.
-pub fn in_memory(alloc: Global) -> Result<Connection<FileStore<MemoryFile>>, Fault>
-    ensures { IfErr result IsOfLine }
+/// Opens an empty database in memory. Its files fail where they are refused a growth, and else
+/// never: so any failure of theirs is told as out of memory.
+pub fn in_memory(alloc: Global) -> Result<Connection<FileStore<MemoryFile>>, AllocError>
+    ensures { IfOk result IsNew }
 {
     match database_in_memory(alloc) {
         Ok(connection) => Ok(connection),
-        Err(error) => Err(fault_of(error)),
+        Err(_) => Err(AllocError),
     }
 }
 
@@ -125,15 +126,8 @@ pub fn close_read<F: Disk + Drop>(connection: Connection<FileStore<F>>) {
     let _closed = close(connection);
 }
 
-/// Closes a database.
-pub fn close<F: Disk + Drop>(connection: Connection<FileStore<F>>) -> Result<(), Fault>
-    ensures { IfErr result IsOfLine }
-{
-    close_file(connection)
-}
-
 /// Closes a database, of which everything is in its file then, and nothing in the log.
-fn close_file<F: Disk + Drop>(connection: Connection<FileStore<F>>) -> Result<(), Fault>
+pub fn close<F: Disk + Drop>(connection: Connection<FileStore<F>>) -> Result<(), Fault>
     ensures left { OnOk result (IsLeftInFile F.Disk connection) }
     ensures fault { IfErr result IsOfLine }
 {
@@ -161,7 +155,7 @@ pub fn store_register<D: Databases>(
 {
     let connection = databases.database(path)?;
     let (made, connection) = register_made(alloc, connection, network, staff);
-    let closed = close_file(connection);
+    let closed = close(connection);
     made?;
     closed
 }
@@ -198,7 +192,7 @@ pub fn move_register<D: Databases>(databases: &D, path: &str) -> Result<(), Faul
 {
     let connection = databases.stored(path)?;
     let (moved, connection) = register_moved(connection);
-    let closed = close_file(connection);
+    let closed = close(connection);
     moved?;
     closed
 }

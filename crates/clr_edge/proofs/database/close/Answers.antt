@@ -1,4 +1,4 @@
-use Rattle.clr_edge.proofs.database.close_file.Goals as goal
+use Rattle.clr_edge.proofs.database.close.Goals as goal
 
 -- the files that were given back
 pub returns-in-Ok-clause-left : goal.returns-in-Ok-clause-left

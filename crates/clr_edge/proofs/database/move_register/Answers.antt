@@ -29,19 +29,19 @@ returns-in_err-moved-clause-known g c =
 -- they were moved, and the database was closed, or not
 pub returns-clause-moved : goal.returns-clause-moved
 returns-clause-moved g c =
-    OnOk-then c.close_file-closed.result (λ left. (
+    OnOk-then c.close-closed.result (λ left. (
       c.in_ok-connection.connection,
       c.register_moved-moved.result.1,
       c.in_ok-connection.ensures.at,
       OnOk-was c.register_moved-moved.result.0 _ _ c.in_ok-moved.was c.register_moved-moved.ensures.moved,
       left,
-    )) c.close_file-closed.ensures.left
+    )) c.close-closed.ensures.left
 
 pub returns-clause-unmoved : goal.returns-clause-unmoved
 returns-clause-unmoved g c =
     IsUnmovedAt-closing g.D.Medium.Disk (g.D.Databases.is_at c.args.databases.now c.args.path.now) (g.D.Databases.is_shut c.args.databases.now c.args.path.now)
-    c.close_file-closed.result c.in_ok-connection.connection c.register_moved-moved.result.1 c.in_ok-connection.ensures.at
-    (OnOk-was c.register_moved-moved.result.0 _ _ c.in_ok-moved.was c.register_moved-moved.ensures.moved) c.close_file-closed.ensures.fault
+    c.close-closed.result c.in_ok-connection.connection c.register_moved-moved.result.1 c.in_ok-connection.ensures.at
+    (OnOk-was c.register_moved-moved.result.0 _ _ c.in_ok-moved.was c.register_moved-moved.ensures.moved) c.close-closed.ensures.fault
 
 pub returns-clause-known : goal.returns-clause-known
-returns-clause-known g c = IfSome-line _ _ c.close_file-closed.ensures.fault
+returns-clause-known g c = IfSome-line _ _ c.close-closed.ensures.fault
