@@ -1,6 +1,6 @@
 -- Registers that databases are known to have.
-use Rattle.std.proofs.Common.{◌≡◌, ◌∙◌, ◌⊎◌, ◌<◌, ◌≤◌, ap, inl, inr, refl, subst, sym, ℕ, List, [], Option, Result, Ok, Err, length}
-use Rattle.std.specs.Prelude.{Some, None, IfErr, IfOk, IfSome, IsErrAnd, IsErrOf, IsSome, OnOk, String, string_bytes}
+use Rattle.std.proofs.Common.{◌≡◌, ◌∙◌, ◌<◌, ◌≤◌, ap, inl, inr, refl, subst, sym, ℕ, List, [], Option, Result, Ok, Err, length}
+use Rattle.std.specs.Prelude.{Some, None, IfErr, IfOk, IfSome, IsErrOf, IsOk, IsSome, OnOk, String, string_bytes}
 use Rattle.std.proofs.lemmas.Bool.{false≢true}
 use Rattle.std.specs.declared.alloc.Global.{Global}
 use Rattle.clr_rules.specs.Register.{Register}
@@ -14,7 +14,7 @@ use Rattle.sqlite.specs.Held.{Held, state}
 use Rattle.sqlite_disk.specs.declared.Disk as disk
 use Rattle.sqlite_store.specs.declared.store.FileStore.{FileStore}
 use Rattle.clr_commands.specs.Stored.{TellsStored}
-use Rattle.clr_edge.specs.Database.{IsOfLine}
+use Rattle.clr_edge.specs.Database.{IsLeftInFile, IsOfLine}
 use Rattle.clr_edge.specs.declared.fault.Fault.{Fault}
 use Rattle.clr_edge.specs.declared.fault.Fault.TheVariants.{Input, Memory}
 use Rattle.clr_edge.specs.declared.fault.InputFault.TheVariants.{TooLong}
@@ -29,6 +29,11 @@ IfSome-from (Some a) P Q from is = from a is
 pub OnOk-from : {T : Type 0} (told : Result T Fault) (P Q : Type 0) → (P → Q) → OnOk told P → OnOk told Q
 OnOk-from (Ok value) P Q from is = from is
 OnOk-from (Err fault) P Q from is = tt
+
+-- what is known of an answer that there is
+pub OnOk-of : {T : Type 0} (told : Result T Fault) (P : Type 0) → IsOk told → OnOk told P → P
+OnOk-of (Ok value) P ok is = is
+OnOk-of (Err fault) P ok is = absurd (false≢true ok)
 
 -- an answer that only want of memory may come in place of
 pub TellsStored-gives : {T : Type 0} (view : T → List ℕ) (gave expected : Result (List ℕ) Fault) (told : Result T Fault)
@@ -95,11 +100,14 @@ pub RunsAtPath-closed : {D : Type 0} (g : disk.Ghosts D) (IsAt : Database → Ty
     → IsAt (state over_files before).now
     → IfOk printed (λ run. RunsIn over_files before after input run)
     → IfOk printed (λ run. IfOk result (λ told. IsClosed run told))
-    → IfErr printed (λ _. result ≡ printed) → IfOk result (λ told. RunsAtPath g IsAt input told)
-RunsAtPath-closed g IsAt input before after (Ok run) (Ok told) at runs closes same = (run, closes, before, after, at, runs)
-RunsAtPath-closed g IsAt input before after (Ok run) (Err fault) at runs closes same = tt
-RunsAtPath-closed g IsAt input before after (Err fault) (Ok told) at runs closes same = absurd (cc same)
-RunsAtPath-closed g IsAt input before after (Err fault) (Err other) at runs closes same = tt
+    → IfErr printed (λ _. result ≡ printed)
+    → (closed : Result (Unit {0}) Fault) → IfOk result (λ told. told.fault ≡ None → IsOk closed)
+    → OnOk closed (IsLeftInFile g after) → IfOk result (λ told. RunsAtPath g IsAt input told)
+RunsAtPath-closed g IsAt input before after (Ok run) (Ok told) at runs closes same closed well left =
+    (run, closes, before, after, at, runs, λ none. OnOk-of closed (IsLeftInFile g after) (well none) left)
+RunsAtPath-closed g IsAt input before after (Ok run) (Err fault) at runs closes same closed well left = tt
+RunsAtPath-closed g IsAt input before after (Err fault) (Ok told) at runs closes same closed well left = absurd (cc same)
+RunsAtPath-closed g IsAt input before after (Err fault) (Err other) at runs closes same closed well left = tt
 
 -- a run of a database, by the words
 pub RunsOn-database : (bytes_at : List ℕ → Option (List ℕ)) (register_at : List ℕ → Option Register) (db : Option (List ℕ)) (files : List (List ℕ))

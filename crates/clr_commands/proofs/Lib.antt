@@ -11,5 +11,6 @@ pub mod ReadFiles
 pub mod RunAnswers
 pub mod RunOfInput
 pub mod Serving
+pub mod ToldInMemory
 pub mod Unanswered
 pub mod Unserved

@@ -1,6 +1,6 @@
 -- What `run` prints, from what its parts tell.
 use Rattle.std.proofs.Common.{◌≡◌, ◌∙◌, ◌⊎◌, ◌<◌, ◌≤◌, ap, inl, inr, subst, sym, ℕ, List, length, Result, Ok, Err}
-use Rattle.std.specs.Prelude.{IfErr, IfOk, IfSome, IsErrAnd, IsErrOf, OnOk, Option, Some, None}
+use Rattle.std.specs.Prelude.{◌≢◌, IfErr, IfOk, IfSome, IsErrAnd, IsErrOf, OnOk, Option, Some, None}
 use Rattle.clr_net.specs.declared.section.SectionRow.{SectionRow}
 use Rattle.clr_net.specs.declared.point.PointRow.{PointRow}
 use Rattle.clr_csv.specs.Points.{points_of}
@@ -18,7 +18,7 @@ use Rattle.sqlite_trees.specs.declared.store.Store.{Ghosts}
 use Rattle.clr_edge.specs.Database.{HasRegister, IsOnlyRead}
 use Rattle.clr_commands.specs.Run.{InputWaits, IsOfInput, IsOpeningOf, IsRunOf, IsRunOfFiles, IsRunOver, RunsFiles, RunsIn, RunsOver, rows_fault}
 use Rattle.clr_edge.specs.declared.fault.Fault.{Fault}
-use Rattle.clr_edge.specs.declared.fault.Fault.TheVariants.{Input}
+use Rattle.clr_edge.specs.declared.fault.Fault.TheVariants.{Input, Store}
 use Rattle.clr_edge.specs.Fault.{of_store}
 use Rattle.clr_load.specs.declared.fault.StoreFault.{StoreFault}
 use Rattle.clr_load.specs.declared.fault.StoreFault.TheVariants as store
@@ -76,12 +76,15 @@ runs_files : (sections : List SectionRow) (points : List PointRow) (employees : 
     (result : Result Printed Fault)
     → told_of Sections (sections_of s) ≡ Ok sections → told_of Points (points_of p) ≡ Ok points → told_of Staff (staff_of e) ≡ Ok employees
     → rows_fault sections points employees ≡ Ok tt → IsOpeningOf sections points employees R
-    → RunsOver R input result → RunsFiles s p e input result
-runs_files sections points employees R s p e input (Ok printed) first second third none opens runs =
-    files_run sections points employees s p e input (Ok printed) first second third
-    (rows_run sections points employees R input (Ok printed) none opens runs)
-runs_files sections points employees R s p e input (Err fault) first second third none opens runs =
-    λ one two three failed refused. files_run sections points employees s p e input (Err fault) first second third
+    → RunsOver R input result → IfOk result (λ printed. printed.fault ≢ Some (Store store.Sql))
+    → RunsFiles s p e input result
+runs_files sections points employees R s p e input (Ok printed) first second third none opens runs never = (
+  files_run sections points employees s p e input (Ok printed) first second third
+      (rows_run sections points employees R input (Ok printed) none opens runs),
+  never,
+)
+runs_files sections points employees R s p e input (Err fault) first second third none opens runs never =
+    λ one two three failed. files_run sections points employees s p e input (Err fault) first second third
     (rows_run sections points employees R input (Err fault) none opens (runs (λ memory. one (inl memory)) failed))
 
 -- the three files begin a register, over which the input is answered
@@ -92,14 +95,15 @@ pub RunsFiles-over : (sections : List SectionRow) (points : List PointRow) (empl
     → IfSome e (λ file. told_of Staff (staff_of file) ≡ Ok employees)
     → rows_fault sections points employees ≡ Ok tt → IsOpeningOf sections points employees R
     → IfSome input (λ bytes. RunsOver R bytes result)
+    → IfOk result (λ printed. printed.fault ≢ Some (Store store.Sql))
     → IfSome s (λ section_file. IfSome p (λ point_file. IfSome e (λ staff_file. IfSome input (λ bytes.
     RunsFiles section_file point_file staff_file bytes result))))
-RunsFiles-over sections points employees R None p e input result first second third none opens runs = tt
-RunsFiles-over sections points employees R (Some s) None e input result first second third none opens runs = tt
-RunsFiles-over sections points employees R (Some s) (Some p) None input result first second third none opens runs = tt
-RunsFiles-over sections points employees R (Some s) (Some p) (Some e) None result first second third none opens runs = tt
-RunsFiles-over sections points employees R (Some s) (Some p) (Some e) (Some input) result first second third none opens runs =
-    runs_files sections points employees R s p e input result first second third none opens runs
+RunsFiles-over sections points employees R None p e input result first second third none opens runs never = tt
+RunsFiles-over sections points employees R (Some s) None e input result first second third none opens runs never = tt
+RunsFiles-over sections points employees R (Some s) (Some p) None input result first second third none opens runs never = tt
+RunsFiles-over sections points employees R (Some s) (Some p) (Some e) None result first second third none opens runs never = tt
+RunsFiles-over sections points employees R (Some s) (Some p) (Some e) (Some input) result first second third none opens runs never =
+    runs_files sections points employees R s p e input result first second third none opens runs never
 
 -- the same where the input is not answered
 pub RunsFiles-fault : (sections : List SectionRow) (points : List PointRow) (employees : List StaffRow) (R : Register)
@@ -115,7 +119,7 @@ RunsFiles-fault sections points employees R s p e input fault (Ok printed) first
 RunsFiles-fault sections points employees R s p e input fault (Err cause) first second third none opens runs is =
     let P : Fault → Type 0 = λ f. IfSome s (λ section_file. IfSome p (λ point_file. IfSome e (λ staff_file. IfSome input (λ bytes.
     RunsFiles section_file point_file staff_file bytes (Err f))))) in
-    subst P (sym is) (RunsFiles-over sections points employees R s p e input (Err fault) first second third none opens runs)
+    subst P (sym is) (RunsFiles-over sections points employees R s p e input (Err fault) first second third none opens runs tt)
 
 -- a fault that is passed on has the cause that it had
 pub passed_cause : {T U : Type 0} (P : Type 0) (fault wanted : Fault) (result : Result U Fault)

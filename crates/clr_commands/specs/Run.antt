@@ -21,7 +21,7 @@ use Rattle.clr_edge.specs.Files.{IsUnread, told_of}
 use Rattle.clr_rules.specs.declared.reply.Reply.{Reply}
 use Rattle.clr_load.specs.declared.fault.StoreFault.TheVariants.{Sql}
 use Rattle.clr_commands.specs.Replies.{AnswersInput, AnswersOver}
-use Rattle.clr_edge.specs.Database.{HasRegister, IsOfLine, IsOnlyRead}
+use Rattle.clr_edge.specs.Database.{HasRegister, IsLeftInFile, IsOfLine, IsOnlyRead}
 use Rattle.sqlite.specs.Effect.{Database}
 use Rattle.sqlite.specs.Files.{over_files}
 use Rattle.sqlite.specs.Held.{Held, state}
@@ -80,14 +80,21 @@ IsRunOfFiles section_file point_file staff_file input =
     After (told_of Staff (staff_of staff_file)) (λ employees.
     IsRunOf sections points employees input)))
 
--- the same, as a call answers it; only out of memory, a file or an input that goes unread, or a
--- database in memory that refuses the opening register, may come in its place
+-- A DATABASE IN MEMORY fails where it is refused a growth, and else never: so its failure is told as
+-- what it is
+abbrev pub told_in_memory : Fault → Fault
+told_in_memory (Store Sql) = Memory
+told_in_memory fault = fault
+
+-- the same, as a call answers it; only out of memory, or a file or an input that goes unread, may
+-- come in its place. No fault of a database is told, since no database is named
 abbrev pub RunsFiles : List ℕ → List ℕ → List ℕ → List ℕ → Result Printed Fault → Type 0
 RunsFiles section_file point_file staff_file input (Ok printed) =
     IsRunOfFiles section_file point_file staff_file input (Ok printed)
+    × (printed.fault ≢ Some (Store Sql))
 RunsFiles section_file point_file staff_file input (Err fault) =
     (IsUnread Sections fault → ⊥) → (IsUnread Points fault → ⊥) → (IsUnread Staff fault → ⊥)
-    → fault ≢ Input ReadFailed → fault ≢ Store Sql
+    → fault ≢ Input ReadFailed
     → IsRunOfFiles section_file point_file staff_file input (Err fault)
 
 -- the same of the files at three paths
@@ -138,12 +145,14 @@ pub record RunsIn {T : Type 0} (g : Ghosts T) (before after : Held T) (input : O
   pub is_input : IfSome input (λ known. bytes ≡ known)
   pub answers : AnswersOver (state g opened) (state g after) register left bytes printed
 
--- the same of a database that was opened at a path, and closed behind the run
+-- the same of a database that was opened at a path, and closed behind the run. Where no fault is
+-- told, its file has all that the run left
 abbrev pub RunsAtPath : {D : Type 0} → disk.Ghosts D → (Database → Type 0) → Option (List ℕ)
     → Printed → Type 0
 RunsAtPath {D} g IsAt input told = (printed : Printed) × IsClosed printed told
     × (before : Held (FileStore D g)) × (after : Held (FileStore D g))
     × IsAt (state over_files before).now × RunsIn over_files before after input printed
+    × (told.fault ≡ None → IsLeftInFile g after)
 
 -- the same of the database that the words name, if they name one: `IsRun` says it of a path
 abbrev pub RunsNamed : (List ℕ → Printed → Type 0) → List Row → Result (Option Printed) Fault

@@ -22,7 +22,8 @@ use Rattle.clr_http.specs.declared.serve.HttpFault.{HttpFault}
 use Rattle.clr_http.specs.declared.serve.HttpFault.TheVariants.{NoMemory, ReadFailed, WriteFailed}
 use Rattle.clr_http.specs.declared.serve.Served.{Served}
 use Rattle.clr_csv.specs.Streams.{IsCut, Sends, Stream, WentOut}
-use Rattle.clr_edge.specs.Database.{HasRegister, IsOfLine, IsOfStore, IsRefused, IsUnopened}
+use Rattle.clr_edge.specs.Database.{HasRegister, IsLeftInFile, IsOfLine, IsOfStore, IsRefused}
+use Rattle.clr_edge.specs.Database.{IsUnopened}
 use Rattle.clr_edge.specs.declared.fault.Fault.{Fault}
 use Rattle.clr_edge.specs.declared.fault.Fault.TheVariants.{Listen, Memory, Output}
 
@@ -143,10 +144,11 @@ abbrev pub ServesRegister : {S : Type 0} → Ghosts S → Held S → Held S → 
 ServesRegister g before after = (R : Register) → HasRegister g R before
     → (Q : Register) × GoesOn g R after Q
 
--- the same of a database that was opened at a path
+-- the same of a database that was opened at a path, and closed: its file has all that was left
 abbrev pub ServesAt : {D : Type 0} → disk.Ghosts D → (Database → Type 0) → Type 0
 ServesAt {D} g IsAt = (before : Held (FileStore D g)) × (after : Held (FileStore D g))
     × IsAt (state over_files before).now × ServesRegister over_files before after
+    × IsLeftInFile g after
 
 -- WHY A SERVER ENDED over a database that was opened: its tables were refused, or the server did
 -- not begin, and the database was not changed; or it was served, and could not be closed

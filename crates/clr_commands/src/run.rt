@@ -1,7 +1,7 @@
 //! The subcommand `run`: the commands of standard input, run as one list over a register in memory
 //! or over a stored one.
 ghost use Rattle.std.specs.Prelude.{◌≡◌, ◌≢◌, ◌⊎◌, ◌<◌, ◌≤◌, ℕ, Err, IfErr, IfOk, IfSome, IsErrOf};
-ghost use Rattle.std.specs.Prelude.{List, Ok, OnErr, OnOk, length};
+ghost use Rattle.std.specs.Prelude.{IsOk, List, None, Ok, OnErr, OnOk, length, option_map};
 ghost use Rattle.sqlite.specs.Held.{state};
 ghost use Rattle.sqlite.specs.State.{Survives};
 ghost use Rattle.clap.specs.Words.{found_of, rows_of};
@@ -15,6 +15,7 @@ ghost use Rattle.clr_commands.specs.Faults.{IsOfSubcommand, StopsAsSubcommand};
 ghost use Rattle.clr_commands.specs.Replies.{AnswersOver};
 ghost use Rattle.clr_commands.specs.Run.{InputWaits, InputWaitsAsked, IsClosed, IsOfInput};
 ghost use Rattle.clr_commands.specs.Run.{IsOpeningOf, RunsAsked, RunsAt, RunsFiles, RunsStored};
+ghost use Rattle.clr_commands.specs.Run.{told_in_memory};
 ghost use Rattle.clr_commands.specs.Run.{RunsAtPath, RunsIn, RunsNamed, RunsStoredAt, rows_fault};
 ghost use Rattle.clr_commands.specs.Stored.{UnansweredAt, UnansweredNamed};
 ghost use Rattle.clr_edge.specs.Database.{HasRegister, IsOfLine, IsRefused};
@@ -129,6 +130,7 @@ fn printed_behind(
     ensures printed { IfOk printed (λ before. IfOk result (IsClosed before)) }
     ensures whole { OnOk printed (IfErr result (λ _. ⊥)) }
     ensures fault { IfErr printed (λ _. result ≡ printed) }
+    ensures closed { IfOk result (λ told. told.fault ≡ None → IsOk closed) }
     ensures stops { IfOk printed StopsAsSubcommand → IfOk result StopsAsSubcommand }
 {
     match (printed, closed) {
@@ -233,7 +235,22 @@ pub fn run_of_files<S: Source, P: Source, E: Source, I: CountedRead>(
     let staff = staff_from(alloc, staff)?;
     let mut desk = desk_in_memory(alloc, sections, points, staff)?;
     let printed = run_over(alloc, &mut desk, input)?;
-    Ok(printed)
+    Ok(told_in_memory(printed))
+}
+
+/// What is printed of a run over a database in memory, of which a failure is that memory ran out.
+fn told_in_memory(printed: Printed) -> Printed
+    ensures text { result.text ≡ printed.text }
+    ensures fault { result.fault ≡ option_map told_in_memory printed.fault }
+    ensures stops { StopsAsSubcommand printed → StopsAsSubcommand result }
+{
+    match printed.fault {
+        Some(Fault::Store(StoreFault::Sql)) => Printed {
+            text: printed.text,
+            fault: Some(Fault::Memory),
+        },
+        _ => printed,
+    }
 }
 
 /// A desk over a database in memory, with the register of these rows before the first command, if
@@ -250,7 +267,6 @@ pub fn desk_in_memory(
     ensures faultless { OnOk result
         (rows_fault sections.items points.items staff.items ≡ Ok tt) }
     ensures fault { IfErr result (λ fault. fault ≢ Fault.Memory
-        → fault ≢ Fault.Store StoreFault.Sql
         → rows_fault sections.items points.items staff.items ≡ Err fault) }
     ensures faults { IfErr result IsOfSubcommand }
 {
@@ -259,7 +275,7 @@ pub fn desk_in_memory(
     let connection = in_memory(alloc)?;
     match Desk::create(alloc, connection, network, staff) {
         Ok(desk) => Ok(desk),
-        Err((fault, _)) => Err(Fault::from(fault)),
+        Err(_) => Err(Fault::Memory),
     }
 }
 

@@ -18,6 +18,7 @@ pub returns-clause-left : goal.returns-clause-left
 returns-clause-left g c =
     RunsAtPath-closed g.D.Medium.Disk (g.D.Databases.is_at c.args.databases.now c.args.path.now) _ c.in_ok-connection.connection c.run_connected-printed.result.1 c.run_connected-printed.result.0 c.printed_behind.result
     c.in_ok-connection.ensures.at c.run_connected-printed.ensures.left c.printed_behind.ensures.printed c.printed_behind.ensures.fault
+    c.close-closed.result c.printed_behind.ensures.closed c.close-closed.ensures.left
 
 pub returns-clause-cause : goal.returns-clause-cause
 returns-clause-cause g c =

@@ -1,15 +1,25 @@
 use Rattle.clr_commands.proofs.ReadFiles.{WaitsFor-read}
 use Rattle.clr_commands.proofs.RunAnswers.{RunsFiles-fault, RunsFiles-over, RunsOver-answered, RunsOver-unread, answered_input, input_has_cause, input_of_subcommand, passed_cause, passed_input}
 use Rattle.clr_edge.specs.declared.fault.ImportFile.TheVariants.{Sections, Points, Staff}
+use Rattle.clr_commands.proofs.ToldInMemory.{never_sql, told_input, told_short}
 use Rattle.std.proofs.Common.{Ok}
 use Rattle.clr_commands.proofs.run.run_of_files.Goals as goal
 
 -- the files begin a register, and the input is answered over it
 pub returns-clause-answer : goal.returns-clause-answer
-returns-clause-answer g c = RunsFiles-over _ _ _ _ _ _ _ _ (Ok c.in_ok-printed.printed) c.in_ok-sections.ensures.rows c.in_ok-points.ensures.rows c.in_ok-staff.ensures.rows
+returns-clause-answer g c =
+    let printed = c.in_ok-printed.printed in
+    let told = c.told_in_memory.result in
+    RunsFiles-over _ _ _ _ _ _ _ _ (Ok told) c.in_ok-sections.ensures.rows c.in_ok-points.ensures.rows c.in_ok-staff.ensures.rows
     c.in_ok-desk.ensures.faultless c.in_ok-desk.ensures.opens
-    (RunsOver-answered _ _ (Ok c.in_ok-printed.printed) (answered_input _ _ _ _ _ (Ok c.in_ok-printed.printed) c.in_ok-printed.ensures.answer)
-    c.in_ok-printed.ensures.short c.in_ok-printed.ensures.long tt)
+    (RunsOver-answered _ _ (Ok told)
+    (told_input _ _ printed told c.told_in_memory.ensures.text c.told_in_memory.ensures.fault
+    (answered_input _ _ _ _ _ (Ok printed) c.in_ok-printed.ensures.answer))
+    c.in_ok-printed.ensures.short (told_short _ told) tt)
+    (never_sql _ _ c.told_in_memory.ensures.fault)
+
+pub returns-clause-stops : goal.returns-clause-stops
+returns-clause-stops g c = c.told_in_memory.ensures.stops c.in_ok-printed.ensures.stops
 
 -- the input was not read, or is too long
 pub returns-in_err-printed-clause-answer : goal.returns-in_err-printed-clause-answer

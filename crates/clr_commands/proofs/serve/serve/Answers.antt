@@ -3,7 +3,7 @@ use Rattle.std.specs.Prelude.{IfSome, string_bytes}
 use Rattle.sqlite.specs.Files.{over_files}
 use Rattle.sqlite.specs.Held.{state}
 use Rattle.clr_edge.specs.Database.{HasRegister, IsUnopened}
-use Rattle.clr_edge.proofs.Databases.{OnOk-any, OnOk-was}
+use Rattle.clr_edge.proofs.Databases.{OnOk-any, OnOk-then, OnOk-was}
 use Rattle.clr_commands.proofs.Databases.{IfSome-from}
 use Rattle.clr_commands.proofs.Serving.{IfSome-all, IsOfServing-failed, IsOfServing-line, IsServing-closed}
 use Rattle.clr_commands.proofs.Faults.{served_failed, served_output}
@@ -24,22 +24,23 @@ returns-in_err-served-clause-known g c =
 pub returns-clause-told : goal.returns-clause-told
 returns-clause-told g c =
     IsServing-closed (g.R.Loopback.refuses c.args.rt.now) c.args.args.now.port c.args.args.now.count c.serve_over-served.result.0
-    c.close-closed.result c.in_ok-served.field-0 _ _ _ _ c.in_ok-served.was c.serve_over-served.ensures.told c.close-closed.ensures
+    c.close-closed.result c.in_ok-served.field-0 _ _ _ _ c.in_ok-served.was c.serve_over-served.ensures.told c.close-closed.ensures.fault
 
 pub returns-clause-known : goal.returns-clause-known
-returns-clause-known g c = IfSome-all _ _ (λ _. IsOfServing-line c.close-closed.result c.close-closed.ensures)
+returns-clause-known g c = IfSome-all _ _ (λ _. IsOfServing-line c.close-closed.result c.close-closed.ensures.fault)
 
 -- the database is the one at the path
 pub returns-clause-served : goal.returns-clause-served
 returns-clause-served g c =
     let at = subst (λ (path : List ℕ). g.R.Databases.is_at c.args.rt.now path (state over_files c.in_ok-connection.connection).now)
     c.as_str.ensures.value c.in_ok-connection.ensures.at in
-    OnOk-any c.close-closed.result _ (
+    OnOk-then c.close-closed.result (λ left. (
       c.in_ok-connection.connection,
       c.serve_over-served.result.1,
       at,
       OnOk-was c.serve_over-served.result.0 c.in_ok-served.field-0 _ c.in_ok-served.was c.serve_over-served.ensures.served,
-    )
+      left,
+    )) c.close-closed.ensures.left
 
 -- the output is at fault only where it failed
 pub returns-clause-faults : goal.returns-clause-faults
@@ -82,5 +83,5 @@ returns-clause-refused g c =
     c.as_str.ensures.value c.in_ok-connection.ensures.at in
     unserved_closed g.R.Medium.Disk (g.R.Databases.is_at c.args.rt.now (string_bytes c.args.args.now.path))
     (g.R.Databases.is_shut c.args.rt.now (string_bytes c.args.args.now.path)) c.close-closed.result c.in_ok-connection.connection
-    c.serve_over-served.result.1 at c.close-closed.ensures
+    c.serve_over-served.result.1 at c.close-closed.ensures.fault
     (OnOk-was c.serve_over-served.result.0 c.in_ok-served.field-0 _ c.in_ok-served.was c.serve_over-served.ensures.served)
