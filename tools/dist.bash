@@ -29,10 +29,11 @@ sums_of_sources() {
   )
 }
 
-# Whether dist/ was made from the sources of this tree.
+# Whether dist/ was made from the sources of this tree. Both lists are read whole: a pipe that closes early has xargs
+# complain behind the last line of .ci/run.
 dist_is_of_tree() {
   [ -f "$top/dist/SOURCES" ] && [ -f "$top/dist/gridclear.xz" ] &&
-    cmp -s <(grep -E '  (crates\.txt|.*\.(rt|antt))$' "$top/dist/SOURCES") <(sums_of_sources)
+    [ "$(grep -E '  (crates\.txt|.*\.(rt|antt))$' "$top/dist/SOURCES")" = "$(sums_of_sources)" ]
 }
 
 # The sum of the program that dist/ says it holds, and the kit that built it.
