@@ -1,6 +1,6 @@
 -- HOW COMMANDS BEGIN: which roles, phases and states the tests of the checks let through.
 use Rattle.std.specs.Prelude.{Bool, List, Option}
-use Rattle.clr_csv.specs.declared.employee.Role.{Role}
+use Rattle.clr_staff.specs.declared.employee.Role.{Role}
 use Rattle.clr_order.specs.declared.step.StepState.{StepState}
 use Rattle.clr_rules.specs.Checks.{is_charge, is_charge_or_operator, is_field, is_operator}
 use Rattle.clr_rules.specs.Records.{is_cancellable, is_granted, is_ordered, is_released}

@@ -1,5 +1,5 @@
 //! What a command looks at: rows of the book, and what is known of it beside them.
-use clr_csv::Staff;
+use clr_staff::Staff;
 use clr_net::{Name, PointRow, SectionRow};
 use clr_rules::{ClearanceId, Hold, PointState, Record, StepRow};
 use std::alloc::Global;

@@ -5,7 +5,7 @@ use Rattle.std.proofs.lemmas.Bool.{and_parts}
 use Rattle.clr_net.specs.Grid.{Grid, IsNetwork}
 use Rattle.clr_net.specs.Name.{name_cmp}
 use Rattle.clr_shelf.specs.Rows.{in_key_order, with_row}
-use Rattle.clr_rules.specs.EditLaws.{adds, adds_nothing}
+use Rattle.clr_rules.specs.laws.Edits.{adds, adds_nothing}
 use Rattle.clr_rules.specs.Edits.{after_edit, after_edits, fit, fits_edit, net_after}
 use Rattle.clr_rules.specs.Answer.{Answer, answer_with}
 use Rattle.clr_rules.specs.Near.{Near, near_of}

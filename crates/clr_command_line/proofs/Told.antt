@@ -7,7 +7,7 @@ use Rattle.clap.specs.Words.{Text, fault_of}
 use Rattle.clr_command_line.specs.CommandLine.{AnswersWords, Around, MayAnswer, TellsNoWords}
 use Rattle.clr_command_line.specs.Outcome.{HasServed, IsFaulted, IsTold, Tells, TellsOwnFault}
 use Rattle.clr_commands.proofs.Faults.{line_plain, memory_plain, store_plain}
-use Rattle.clr_csv.specs.Streams.{Stream}
+use Rattle.clr_stream.specs.Streams.{Stream}
 use Rattle.clr_commands.specs.Serve.{FailsServing}
 use Rattle.clr_args.specs.Syntax.{gridclear}
 use Rattle.clr_edge.specs.declared.fault.Fault.{Fault}

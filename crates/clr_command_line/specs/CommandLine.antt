@@ -19,7 +19,7 @@ use Rattle.clr_commands.specs.Run.{RunsAsked, RunsAtPath, RunsNamed}
 use Rattle.clr_commands.specs.Stored.{BoardAt, OrdersAt}
 use Rattle.clr_args.specs.Asked.{word_in}
 use Rattle.clr_args.specs.Syntax.{gridclear}
-use Rattle.clr_csv.specs.Streams.{Sends, Stream}
+use Rattle.clr_stream.specs.Streams.{Sends, Stream}
 use Rattle.clr_edge.specs.Database.{IsMadeAt, IsMovedAt, ReadsAt}
 use Rattle.clr_edge.specs.Fault.{told_line}
 use Rattle.clr_edge.specs.declared.fault.Fault.{Fault}

@@ -11,7 +11,7 @@ use Rattle.clr_commands.specs.declared.replies.Printed.{Printed}
 use Rattle.clr_edge.specs.Fault.{told_line}
 use Rattle.clr_commands.specs.Faults.{IsOfSubcommand}
 use Rattle.clr_commands.specs.Serve.{FailsServing, Serves, ServesAsked}
-use Rattle.clr_csv.specs.Streams.{HasFailed, IsCut, Sends, Stream, WentOut}
+use Rattle.clr_stream.specs.Streams.{HasFailed, IsCut, Sends, Stream, WentOut}
 
 -- The status, and the two writers before and after. An answer goes out whole and alone, or its
 -- writing is a fault, for which the output has failed; after any other outcome nothing went to the

@@ -24,7 +24,7 @@ use clr_commands::order::order;
 use clr_commands::replies::Printed;
 use clr_commands::run::run;
 use clr_commands::serve::ServeArgs;
-use clr_csv::{CountedFlush, CountedRead};
+use clr_stream::{CountedFlush, CountedRead};
 use clr_edge::database::Databases;
 use clr_edge::fault::Fault;
 use clr_edge::loopback::Loopback;

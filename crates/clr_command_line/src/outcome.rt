@@ -2,10 +2,10 @@
 ghost use Rattle.std.specs.Prelude.{◌≡◌};
 ghost use Rattle.clr_command_line.specs.Outcome.{Tells};
 ghost use Rattle.clr_edge.specs.Fault.{told_line};
-ghost use Rattle.clr_csv.specs.Streams.{Sends};
+ghost use Rattle.clr_stream.specs.Streams.{Sends};
 
 use clr_commands::serve::{ServeArgs, serve};
-use clr_csv::CountedFlush;
+use clr_stream::CountedFlush;
 use clr_edge::database::Databases;
 use clr_edge::fault::Fault;
 use clr_edge::line::line_of;

@@ -4,7 +4,7 @@ use Rattle.std.specs.Prelude.{IfErr, IfOk, OnErr, OnOk}
 use Rattle.std.specs.Io.KnownBytes.{Appends}
 use Rattle.std.specs.declared.io.ErrorKind.{ErrorKind}
 use Rattle.clr_commands.specs.Serve.{TakesFirst, TakesNext, TellsConnection, TellsFirst, TellsNext, accept_fault}
-use Rattle.clr_csv.specs.Streams.{AppendsFront, Stream}
+use Rattle.clr_stream.specs.Streams.{AppendsFront, Stream}
 use Rattle.clr_edge.specs.declared.fault.Fault.{Fault}
 
 -- before the first connection nothing is told

@@ -5,11 +5,11 @@ use Rattle.clr_net.specs.declared.name.NameFault.{NameFault}
 use Rattle.clr_net.specs.declared.name.NameFault.TheVariants as name
 use Rattle.clr_net.specs.declared.net_fault.NetFault.{NetFault}
 use Rattle.clr_net.specs.declared.net_fault.NetFault.TheVariants as net
-use Rattle.clr_csv.specs.Streams.{Stream}
+use Rattle.clr_stream.specs.Streams.{Stream}
 use Rattle.clr_csv.specs.declared.fault.CsvFault.{CsvFault}
 use Rattle.clr_csv.specs.declared.fault.CsvFault.TheVariants as csv
-use Rattle.clr_csv.specs.declared.staff_fault.StaffFault.{StaffFault}
-use Rattle.clr_csv.specs.declared.staff_fault.StaffFault.TheVariants as staff
+use Rattle.clr_staff.specs.declared.staff_fault.StaffFault.{StaffFault}
+use Rattle.clr_staff.specs.declared.staff_fault.StaffFault.TheVariants as staff
 use Rattle.clr_load.specs.declared.fault.StoreFault.{StoreFault}
 use Rattle.clr_load.specs.declared.fault.StoreFault.TheVariants as store
 use Rattle.clr_desk.specs.declared.desk_fault.DeskFault.{DeskFault}

@@ -6,10 +6,10 @@ use Rattle.clr_net.specs.declared.point.PointRow.{PointRow}
 use Rattle.clr_csv.specs.Points.{points_of}
 use Rattle.clr_csv.specs.Sections.{sections_of}
 use Rattle.clr_csv.specs.StaffRows.{staff_of}
-use Rattle.clr_csv.specs.declared.employee.StaffRow.{StaffRow}
+use Rattle.clr_staff.specs.declared.employee.StaffRow.{StaffRow}
 use Rattle.clr_csv.specs.declared.fault.CsvFault.{CsvFault}
 use Rattle.clr_rules.specs.Register.{Register}
-use Rattle.clr_edge.specs.Answers.{◌>>=◌}
+use Rattle.clr_result.specs.Results.{◌>>=◌}
 use Rattle.clr_edge.specs.Files.{told_of}
 use Rattle.clr_edge.specs.declared.fault.Fault.{Fault}
 use Rattle.clr_edge.specs.declared.fault.ImportFile.TheVariants.{Sections, Points, Staff}

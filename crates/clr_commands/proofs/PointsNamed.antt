@@ -4,7 +4,8 @@ use Rattle.std.specs.Prelude.{IsErrAnd}
 use Rattle.std.proofs.lemmas.List.{append-nil}
 use Rattle.clr_net.specs.Grid.{Grid}
 use Rattle.clr_edge.specs.declared.fault.Fault.{Fault}
-use Rattle.clr_edge.specs.Answers.{◌>>=◌, Gives}
+use Rattle.clr_result.specs.Results.{◌>>=◌}
+use Rattle.clr_edge.specs.Answers.{Gives}
 use Rattle.clr_commands.specs.Fence.{point_named, points_named}
 
 -- these names, and then those of the other words

@@ -6,7 +6,7 @@ use Rattle.clr_net.specs.declared.point.PointRow.{PointRow}
 use Rattle.clr_csv.specs.Points.{points_of}
 use Rattle.clr_csv.specs.Sections.{sections_of}
 use Rattle.clr_csv.specs.StaffRows.{staff_of}
-use Rattle.clr_csv.specs.declared.employee.StaffRow.{StaffRow}
+use Rattle.clr_staff.specs.declared.employee.StaffRow.{StaffRow}
 use Rattle.clr_rules.specs.Good.{IsGood}
 use Rattle.clr_rules.specs.Register.{Register}
 use Rattle.clr_edge.specs.Files.{HasCause, told_of}

@@ -11,7 +11,7 @@ use Rattle.clr_load.specs.declared.fault.StoreFault.{StoreFault}
 use Rattle.clr_load.specs.declared.fault.StoreFault.TheVariants as store
 use Rattle.clr_tables.specs.Tables.{tables_of}
 use Rattle.clr_desk.specs.Kept.{Keeps}
-use Rattle.clr_csv.specs.Streams.{Stream}
+use Rattle.clr_stream.specs.Streams.{Stream}
 use Rattle.clr_edge.specs.Database.{HasRegister, IsOfLine, IsOfStore, IsOnlyRead}
 use Rattle.clr_edge.specs.Fault.{of_store}
 use Rattle.clr_edge.specs.declared.fault.Fault.{Fault}

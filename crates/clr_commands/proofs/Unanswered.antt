@@ -7,7 +7,7 @@ use Rattle.sqlite.specs.Held.{Held, state}
 use Rattle.sqlite.specs.State.{Survives}
 use Rattle.sqlite_disk.specs.declared.Disk as disk
 use Rattle.sqlite_store.specs.declared.store.FileStore.{FileStore}
-use Rattle.clr_csv.specs.Streams.{Stream}
+use Rattle.clr_stream.specs.Streams.{Stream}
 use Rattle.clr_edge.specs.Database.{IsRefused}
 use Rattle.clr_edge.specs.declared.fault.Fault.{Fault}
 use Rattle.clr_commands.specs.Serve.{IsOfServer, ServesNot}

@@ -1,6 +1,6 @@
 -- Which faults a subcommand may answer.
 use Rattle.std.specs.Prelude.{◌≡◌, ◌≢◌, IfSome}
-use Rattle.clr_csv.specs.Streams.{HasFailed, Stream}
+use Rattle.clr_stream.specs.Streams.{HasFailed, Stream}
 use Rattle.clr_edge.specs.declared.fault.Fault.{Fault}
 use Rattle.clr_edge.specs.declared.fault.Fault.TheVariants.{Listen, Output}
 use Rattle.clr_commands.specs.declared.replies.Printed.{Printed}

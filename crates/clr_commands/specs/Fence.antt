@@ -13,7 +13,8 @@ use Rattle.clr_net.specs.declared.point.PointRow.{PointRow}
 use Rattle.clr_net.specs.declared.net_fault.NetFault.{NetFault}
 use Rattle.clr_net.specs.declared.name.NameFault.{NameFault}
 use Rattle.clap.specs.Words.{Row}
-use Rattle.clr_edge.specs.Answers.{◌>>=◌, After}
+use Rattle.clr_result.specs.Results.{◌>>=◌}
+use Rattle.clr_edge.specs.Answers.{After}
 use Rattle.clr_args.specs.Asked.{word_in, words_in}
 use Rattle.clr_edge.specs.Fault.{of_name, of_network}
 use Rattle.clr_edge.specs.Files.{IsUnread, told_of}

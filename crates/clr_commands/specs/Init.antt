@@ -6,13 +6,14 @@ use Rattle.clr_net.specs.declared.section.SectionRow.{SectionRow}
 use Rattle.clr_net.specs.declared.point.PointRow.{PointRow}
 use Rattle.clr_csv.specs.Points.{points_of}
 use Rattle.clr_csv.specs.Sections.{sections_of}
-use Rattle.clr_csv.specs.Staff as staff
+use Rattle.clr_staff.specs.Staff as staff
 use Rattle.clr_csv.specs.StaffRows.{staff_of}
-use Rattle.clr_csv.specs.declared.employee.StaffRow.{StaffRow}
+use Rattle.clr_staff.specs.declared.employee.StaffRow.{StaffRow}
 use Rattle.clr_csv.specs.declared.fault.CsvFault.{CsvFault}
 use Rattle.clap.specs.Words.{Row, first_of}
 use Rattle.clr_rules.specs.Register.{Register}
-use Rattle.clr_edge.specs.Answers.{◌>>=◌, unless}
+use Rattle.clr_result.specs.Results.{◌>>=◌}
+use Rattle.clr_edge.specs.Answers.{unless}
 use Rattle.clr_args.specs.Asked.{word_in}
 use Rattle.clr_edge.specs.Fault.{of_network, of_staff}
 use Rattle.clr_edge.specs.Files.{IsUnread, told_of}

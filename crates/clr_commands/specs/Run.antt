@@ -9,9 +9,9 @@ use Rattle.clr_net.specs.declared.section.SectionRow.{SectionRow}
 use Rattle.clr_net.specs.declared.point.PointRow.{PointRow}
 use Rattle.clr_csv.specs.Points.{points_of}
 use Rattle.clr_csv.specs.Sections.{sections_of}
-use Rattle.clr_csv.specs.Staff as staff
+use Rattle.clr_staff.specs.Staff as staff
 use Rattle.clr_csv.specs.StaffRows.{staff_of}
-use Rattle.clr_csv.specs.declared.employee.StaffRow.{StaffRow}
+use Rattle.clr_staff.specs.declared.employee.StaffRow.{StaffRow}
 use Rattle.clr_rules.specs.Good.{IsGood}
 use Rattle.clr_rules.specs.Register.{Register, opening}
 use Rattle.clr_edge.specs.Answers.{After, unless}

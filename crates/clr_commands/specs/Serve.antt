@@ -21,7 +21,7 @@ use Rattle.std.specs.declared.io.ErrorKind.TheVariants.{OutOfMemory}
 use Rattle.clr_http.specs.declared.serve.HttpFault.{HttpFault}
 use Rattle.clr_http.specs.declared.serve.HttpFault.TheVariants.{NoMemory, ReadFailed, WriteFailed}
 use Rattle.clr_http.specs.declared.serve.Served.{Served}
-use Rattle.clr_csv.specs.Streams.{IsCut, Sends, Stream, WentOut}
+use Rattle.clr_stream.specs.Streams.{IsCut, Sends, Stream, WentOut}
 use Rattle.clr_edge.specs.Database.{HasRegister, IsLeftInFile, IsOfLine, IsOfStore, IsRefused}
 use Rattle.clr_edge.specs.Database.{IsUnopened}
 use Rattle.clr_edge.specs.declared.fault.Fault.{Fault}

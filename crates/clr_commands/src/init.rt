@@ -12,7 +12,7 @@ ghost use Rattle.clr_edge.specs.Database.{IsMadeAt, IsOfLine};
 
 use clap::ArgMatches;
 use clr_args::words::{option_of, word_of};
-use clr_csv::{Staff, StaffRow};
+use clr_staff::{Staff, StaffRow};
 use clr_edge::database::{Databases, store_register};
 use clr_edge::fault::{Fault, ImportFile};
 use clr_edge::files::{Source, points_from, sections_from, staff_from};

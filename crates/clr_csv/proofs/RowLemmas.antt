@@ -10,7 +10,8 @@ use Rattle.clr_csv.specs.declared.columns.ColumnFault.{ColumnFault}
 use Rattle.clr_csv.specs.declared.columns.ColumnFault.TheVariants as column
 use Rattle.clr_csv.specs.declared.fault.CsvFault.{CsvFault}
 use Rattle.clr_csv.specs.declared.fault.CsvFault.TheVariants.{FieldCount, Header, NotText, ReadFailed}
-use Rattle.clr_csv.specs.Rows.{◌>>=◌, Fields, as_many_as, in_row, is_ascii, is_text, row_of, rows_from, rows_in, same_fields, text_in, under_header}
+use Rattle.clr_result.specs.Results.{◌>>=◌}
+use Rattle.clr_csv.specs.Rows.{Fields, as_many_as, in_row, is_ascii, is_text, row_of, rows_from, rows_in, same_fields, text_in, under_header}
 use Rattle.clr_csv.specs.Table.{BeginsWithoutText}
 
 -- these rows, and then those that the rest reads as

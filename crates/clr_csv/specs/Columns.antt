@@ -8,8 +8,8 @@ use Rattle.clr_net.specs.NameText.{read_name}
 use Rattle.clr_net.specs.declared.name.NameFault.{NameFault}
 use Rattle.clr_net.specs.declared.point.Position.{Position}
 use Rattle.clr_net.specs.declared.point.Position.TheVariants.{Opened, Closed}
-use Rattle.clr_csv.specs.declared.employee.Role.{Role}
-use Rattle.clr_csv.specs.declared.employee.Role.TheVariants.{Operator, Field, Charge}
+use Rattle.clr_staff.specs.declared.employee.Role.{Role}
+use Rattle.clr_staff.specs.declared.employee.Role.TheVariants.{Operator, Field, Charge}
 use Rattle.clr_csv.specs.declared.columns.ColumnFault.{ColumnFault}
 use Rattle.clr_csv.specs.declared.columns.ColumnFault.TheVariants as column
 use Rattle.clr_csv.specs.declared.fault.CsvFault.{CsvFault}

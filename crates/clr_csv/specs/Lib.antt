@@ -1,13 +1,7 @@
-pub mod Failures
-pub mod Streams
-pub mod Counted
 pub mod Answers
-pub mod Whole
 pub mod Rows
 pub mod Table
 pub mod Columns
 pub mod Sections
 pub mod Points
 pub mod StaffRows
-pub mod Staff
-pub mod Laws

@@ -1,25 +1,20 @@
 -- The rows of a file, or its first fault, as a function of the file's bytes.
-use Rattle.std.specs.Prelude.{ℕ, ◌+◌, ◌==◌, nat_lt, Bool, if◌then◌else◌, List, [], ◌∷◌, length}
-use Rattle.std.specs.Prelude.{Result, Ok, Err}
+use Rattle.std.specs.Prelude.{ℕ, ◌+◌, ◌==◌, nat_le, nat_lt, Bool, if◌then◌else◌, List, [], ◌∷◌}
+use Rattle.std.specs.Prelude.{length, Result, Ok, Err}
 use Rattle.std.specs.List.{list_all}
 use Rattle.std.specs.Cmp.Lexicographic.{pointwise}
 use Rattle.std.specs.Str.{is_utf8}
 use Rattle.csv.specs.Reading.{default_config, records, strip_bom}
+use Rattle.clr_result.specs.Results.{◌>>=◌}
 use Rattle.clr_csv.specs.declared.columns.ColumnFault.{ColumnFault}
 use Rattle.clr_csv.specs.declared.fault.CsvFault.{CsvFault}
 use Rattle.clr_csv.specs.declared.fault.CsvFault.TheVariants.{Header, NotText, FieldCount}
+use Rattle.clr_csv.specs.declared.fault.CsvFault.TheVariants.{TooLong}
 use Rattle.clr_csv.specs.Columns.{fault_in}
-use Rattle.clr_csv.specs.Whole.{within_limit}
 
 -- the fields of a record, each a text of bytes
 abbrev pub Fields : Type 0
 Fields = List (List ℕ)
-
--- the next step of a value; a fault ends the reading
-infixl 10 ◌>>=◌
-abbrev pub ◌>>=◌ : {A B E : Type 0} → Result A E → (A → Result B E) → Result B E
-Ok value >>= next = next value
-Err fault >>= next = Err fault
 
 -- two records have the same fields
 abbrev pub same_fields : Fields → Fields → Bool
@@ -75,6 +70,10 @@ unfoldable pub rows_in : {A : Type 0} → Fields → (Fields → Result A Column
 rows_in header columns table = do
   rows ← under_header header table
   rows_from (row_of header columns) 1 rows
+
+-- the bytes of a file, unless they are more than 4 MiB
+abbrev pub within_limit : List ℕ → Result (List ℕ) CsvFault
+within_limit bytes = if nat_le (length bytes) 4194304 then Ok bytes else Err TooLong
 
 -- what a file reads as: a byte order mark at its start is skipped
 unfoldable pub rows_of : {A : Type 0} → Fields → (Fields → Result A ColumnFault) → List ℕ

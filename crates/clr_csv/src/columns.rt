@@ -4,9 +4,9 @@ ghost use Rattle.csv.specs.Records.{fields_of};
 ghost use Rattle.clr_csv.specs.Columns.{fault_in, field_in, name_in, name_or_none_in, position_in};
 ghost use Rattle.clr_csv.specs.Columns.{role_in, yes_no_in};
 
-use crate::employee::Role;
 use crate::fault::CsvFault;
 use clr_net::{Name, Position};
+use clr_staff::Role;
 use csv::StringRecord;
 
 /// Why a column of a row does not read. Columns count from 1.

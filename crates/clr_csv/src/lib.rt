@@ -1,27 +1,18 @@
-//! The three files that a register begins with, read into rows; the staff; and readers that count
-//! their failures.
+//! The three CSV files that a register begins with, read into rows.
 #![tactic(auto)]
 
 mod columns;
-mod counted;
-mod employee;
 mod fault;
-pub mod laws;
 mod points;
 mod rows;
 mod sections;
-mod staff;
-mod staff_fault;
 mod staff_rows;
 mod table;
-mod whole;
 
-pub use counted::{Counted, CountedFlush, CountedRead, CountedWrite};
-pub use employee::{Role, StaffRow};
+pub use clr_staff::{MAX_STAFF, Role, Staff, StaffFault, StaffRow};
+pub use clr_stream::{Counted, CountedFlush, CountedRead, CountedWrite};
 pub use fault::CsvFault;
 pub use points::read_points;
+pub use rows::MAX_FILE_BYTES;
 pub use sections::read_sections;
-pub use staff::{MAX_STAFF, Staff};
-pub use staff_fault::StaffFault;
 pub use staff_rows::read_staff;
-pub use whole::{MAX_FILE_BYTES, read_whole, write_whole};

@@ -1,15 +1,15 @@
 //! The file of the switching points.
 ghost use Rattle.std.specs.Prelude.{◌≡◌, ◌≢◌, Err, IfSome, IsErrOf};
 ghost use Rattle.clr_csv.specs.Answers.{GivesUnlessFailed};
-ghost use Rattle.clr_csv.specs.Failures.{Rose};
+ghost use Rattle.clr_stream.specs.Failures.{Rose};
 ghost use Rattle.clr_csv.specs.Points.{point_header, point_in, points_of};
-ghost use Rattle.clr_csv.specs.Whole.{TakesAtMost};
+ghost use Rattle.clr_stream.specs.Whole.{TakesAtMost};
 
 use crate::columns::{ColumnFault, name_in, position_in, yes_no_in};
-use crate::counted::CountedRead;
 use crate::fault::CsvFault;
 use crate::rows::{FileRow, read_rows};
 use clr_net::PointRow;
+use clr_stream::CountedRead;
 use csv::StringRecord;
 use std::alloc::Global;
 

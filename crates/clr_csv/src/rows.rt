@@ -4,18 +4,21 @@ ghost use Rattle.std.specs.Prelude.{length, map, true};
 ghost use Rattle.csv.specs.Reading.{default_config, records, strip_bom};
 ghost use Rattle.csv.specs.Records.{fields_of};
 ghost use Rattle.clr_csv.specs.Answers.{Gives, GivesUnlessFailed};
-ghost use Rattle.clr_csv.specs.Failures.{Rose};
+ghost use Rattle.clr_stream.specs.Failures.{Rose};
 ghost use Rattle.clr_csv.specs.Rows.{is_ascii, is_text, row_of, rows_from, rows_in, rows_of};
+ghost use Rattle.clr_csv.specs.Rows.{within_limit};
 ghost use Rattle.clr_csv.specs.Rows.{same_fields, under_header};
-ghost use Rattle.clr_csv.specs.Whole.{TakesAtMost};
+ghost use Rattle.clr_stream.specs.Whole.{TakesAtMost};
 
 use crate::columns::ColumnFault;
-use crate::counted::CountedRead;
 use crate::fault::CsvFault;
 use crate::table::Table;
-use crate::whole::{MAX_FILE_BYTES, read_whole};
+use clr_stream::{CountedRead, ReadFault, read_whole};
 use csv::StringRecord;
 use std::alloc::Global;
+
+/// The most bytes that a file has.
+pub const MAX_FILE_BYTES: usize = 4_194_304;
 
 /// A kind of row, of which a file holds one to each record under its header.
 pub(crate) trait FileRow: Sized + Drop {
@@ -107,6 +110,24 @@ fn rows_in<T: FileRow>(alloc: Global, bytes: &[u8]) -> Result<Vec<T>, CsvFault>
     Ok(rows)
 }
 
+/// Reads a file to its end.
+fn read_file<R: CountedRead>(alloc: Global, reader: &mut R) -> Result<Vec<u8>, CsvFault>
+    ensures bytes { IfSome (R.remaining reader.old) (λ bytes.
+        GivesUnlessFailed (λ read. read.items) (within_limit bytes) result) }
+    ensures bounded { TakesAtMost 4194305 (R.remaining reader.old) (R.remaining reader.new) }
+    ensures cause { IsErrOf result CsvFault.ReadFailed
+        → Rose (R.failure_count reader.old) (R.failure_count reader.new) }
+    ensures others { result ≢ Err CsvFault.ReadFailed
+        → R.failure_count reader.new ≡ R.failure_count reader.old }
+{
+    match read_whole(alloc, reader, MAX_FILE_BYTES) {
+        Ok(bytes) => Ok(bytes),
+        Err(ReadFault::ReadFailed) => Err(CsvFault::ReadFailed),
+        Err(ReadFault::TooLong) => Err(CsvFault::TooLong),
+        Err(ReadFault::NoMemory) => Err(CsvFault::NoMemory),
+    }
+}
+
 /// Reads a file to its end, and then its rows.
 #[tactic(auto, unfolding(crate::specs::Rows::rows_of))]
 pub(crate) fn read_rows<T: FileRow, R: CountedRead>(
@@ -121,7 +142,7 @@ pub(crate) fn read_rows<T: FileRow, R: CountedRead>(
     ensures others { result ≢ Err CsvFault.ReadFailed
         → R.failure_count reader.new ≡ R.failure_count reader.old }
 {
-    let bytes = read_whole(alloc, reader, MAX_FILE_BYTES)?;
+    let bytes = read_file(alloc, reader)?;
     let rows = rows_in(alloc, bytes.as_slice())?;
     Ok(rows)
 }

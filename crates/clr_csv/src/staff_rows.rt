@@ -1,15 +1,15 @@
 //! The file of the staff.
 ghost use Rattle.std.specs.Prelude.{◌≡◌, ◌≢◌, Err, IfSome, IsErrOf};
 ghost use Rattle.clr_csv.specs.Answers.{GivesUnlessFailed};
-ghost use Rattle.clr_csv.specs.Failures.{Rose};
+ghost use Rattle.clr_stream.specs.Failures.{Rose};
 ghost use Rattle.clr_csv.specs.StaffRows.{staff_header, staff_row_in, staff_of};
-ghost use Rattle.clr_csv.specs.Whole.{TakesAtMost};
+ghost use Rattle.clr_stream.specs.Whole.{TakesAtMost};
 
 use crate::columns::{ColumnFault, name_in, name_or_none_in, role_in};
-use crate::counted::CountedRead;
-use crate::employee::StaffRow;
 use crate::fault::CsvFault;
 use crate::rows::{FileRow, read_rows};
+use clr_staff::StaffRow;
+use clr_stream::CountedRead;
 use csv::StringRecord;
 use std::alloc::Global;
 

@@ -13,9 +13,9 @@ use Rattle.std.proofs.lemmas.List.{length-map}
 use Rattle.std.proofs.lemmas.List.Elements.{All-map}
 use Rattle.std.proofs.lemmas.List.Sorted.{IsPermutation-refl}
 use Rattle.std.proofs.lemmas.Map.Keys.{sorted_head, sorted_tail}
-use Rattle.clr_csv.specs.declared.employee.StaffRow.{StaffRow}
-use Rattle.clr_csv.specs.declared.staff_fault.StaffFault.{StaffFault}
-use Rattle.clr_csv.proofs.StaffFacts.{staff_has_no_fault}
+use Rattle.clr_staff.specs.declared.employee.StaffRow.{StaffRow}
+use Rattle.clr_staff.specs.declared.staff_fault.StaffFault.{StaffFault}
+use Rattle.clr_staff.proofs.StaffFacts.{staff_has_no_fault}
 use Rattle.clr_net.proofs.BuildFacts.{network_has_no_fault}
 use Rattle.clr_net.specs.Grid.{Grid, IsNetwork, has_ends, has_one_section, point_names, section_names, unplaced}
 use Rattle.clr_net.specs.Name.{name_cmp}

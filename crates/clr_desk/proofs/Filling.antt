@@ -2,7 +2,7 @@
 use Rattle.std.proofs.Common.{◌≡◌, true, not, List, [], ◌∷◌, ◌++◌, map, refl}
 use Rattle.std.proofs.lemmas.Bool.{and_from, and_parts}
 use Rattle.clr_net.specs.Grid.{Grid}
-use Rattle.clr_rules.specs.EditLaws.{adds, adds_nothing}
+use Rattle.clr_rules.specs.laws.Edits.{adds, adds_nothing}
 use Rattle.clr_rules.specs.Edits.{fit}
 use Rattle.clr_rules.specs.declared.change.Edit.{Edit}
 use Rattle.clr_rules.specs.declared.change.Edit.TheVariants.{PutHold, PutRecord, PutStep}

@@ -1,9 +1,9 @@
 -- OPENING A DESK: the register of loaded rows, and the table that is at fault where they have none.
 use Rattle.std.specs.Prelude.{◌≡◌, ◌⊎◌, nat_lt, if◌then◌else◌, List, length, Option, None, Some}
 use Rattle.std.specs.Prelude.{Result, Ok, Err, ⊤}
-use Rattle.clr_csv.specs.Staff.{IsStaffOf, first_fault as staff_fault}
-use Rattle.clr_csv.specs.declared.employee.StaffRow.{StaffRow}
-use Rattle.clr_csv.specs.declared.staff_fault.StaffFault.{StaffFault}
+use Rattle.clr_staff.specs.Staff.{IsStaffOf, first_fault as staff_fault}
+use Rattle.clr_staff.specs.declared.employee.StaffRow.{StaffRow}
+use Rattle.clr_staff.specs.declared.staff_fault.StaffFault.{StaffFault}
 use Rattle.clr_net.specs.Grid.{Grid}
 use Rattle.clr_net.specs.Network.{IsGridOf, first_fault as network_fault}
 use Rattle.clr_net.specs.declared.net_fault.NetFault.{NetFault}

@@ -1,7 +1,7 @@
 -- VALUES WITHIN THEIR TYPES, where a value is of several lists: networks, staffs, loaded rows.
 use Rattle.std.specs.Prelude.{Bool, ◌&&◌, List}
 use Rattle.std.specs.List.{list_all}
-use Rattle.clr_csv.specs.declared.employee.StaffRow.{StaffRow}
+use Rattle.clr_staff.specs.declared.employee.StaffRow.{StaffRow}
 use Rattle.clr_net.specs.Grid.{Grid}
 use Rattle.clr_net.specs.Name.{is_name}
 use Rattle.clr_order.specs.declared.step.Step.{Step}

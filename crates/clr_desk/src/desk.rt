@@ -36,7 +36,7 @@ use crate::opening::book_in;
 use crate::run::Run;
 use crate::typed::{Typed, all_typed};
 use clr_answer::Decision;
-use clr_csv::Staff;
+use clr_staff::Staff;
 use clr_net::Network;
 use clr_rules::{Command, Reply};
 use clr_store::{Back, Store};

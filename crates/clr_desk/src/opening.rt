@@ -1,7 +1,7 @@
 //! Opening: the book of the rows that a store has loaded.
 ghost use Rattle.std.specs.Prelude.{◌≡◌, ◌⊎◌, ℕ, List, Option, Some, None, IfErr, IfOk, IsErrAnd};
 ghost use Rattle.std.specs.Prelude.{IsTrue, OnOk, true, length, map, nat_lt};
-ghost use Rattle.clr_csv.specs.Staff.{IsStaffOf, first_fault as staff_fault};
+ghost use Rattle.clr_staff.specs.Staff.{IsStaffOf, first_fault as staff_fault};
 ghost use Rattle.clr_net.specs.Network.{IsGridOf, first_fault as network_fault};
 ghost use Rattle.clr_rules.specs.Edits.{after_edits, fit};
 ghost use Rattle.clr_rules.specs.Register.{opening, unplaced_net};
@@ -24,7 +24,7 @@ ghost use Rattle.clr_load.specs.declared.fault.StoreFault.TheVariants.{BadRow, N
 
 use crate::book::{DeskBook, apply, opening_book};
 use crate::typed::Typed;
-use clr_csv::{Staff, StaffFault, StaffRow};
+use clr_staff::{Staff, StaffFault, StaffRow};
 use clr_net::{MAX_SECTIONS, NetFault, Network, PointRow, SectionRow};
 use clr_rules::{Change, Edit, Hold, PointState, Record, StepRow};
 use clr_store::{Rows, Store, StoreFault};

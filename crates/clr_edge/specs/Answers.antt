@@ -3,12 +3,6 @@ use Rattle.std.specs.Prelude.{◌≡◌, ◌≢◌, Option, Some, None, Result, 
 use Rattle.clr_edge.specs.declared.fault.Fault.{Fault}
 use Rattle.clr_edge.specs.declared.fault.Fault.TheVariants.{Memory}
 
--- the next step of an answer; a fault ends it
-infixl 10 ◌>>=◌
-abbrev pub ◌>>=◌ : {A B : Type 0} → Result A Fault → (A → Result B Fault) → Result B Fault
-Ok value >>= next = next value
-Err fault >>= next = Err fault
-
 -- the answer that is told, as `view` shows it; only want of memory may come in its place
 abbrev pub Gives : {A T : Type 0} → (T → A) → Result A Fault → Result T Fault → Type 0
 Gives view told (Ok value) = told ≡ Ok (view value)

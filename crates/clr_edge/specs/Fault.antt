@@ -8,8 +8,10 @@ use Rattle.clr_net.specs.declared.net_fault.NetFault.{NetFault}
 use Rattle.clr_net.specs.declared.net_fault.NetFault.TheVariants as net
 use Rattle.clr_csv.specs.declared.fault.CsvFault.{CsvFault}
 use Rattle.clr_csv.specs.declared.fault.CsvFault.TheVariants as csv
-use Rattle.clr_csv.specs.declared.staff_fault.StaffFault.{StaffFault}
-use Rattle.clr_csv.specs.declared.staff_fault.StaffFault.TheVariants as staff
+use Rattle.clr_staff.specs.declared.staff_fault.StaffFault.{StaffFault}
+use Rattle.clr_staff.specs.declared.staff_fault.StaffFault.TheVariants as staff
+use Rattle.clr_stream.specs.declared.fault.ReadFault.{ReadFault}
+use Rattle.clr_stream.specs.declared.fault.ReadFault.TheVariants as read
 use Rattle.clr_tables.specs.TableText.{table_text}
 use Rattle.clr_load.specs.declared.fault.StoreFault.{StoreFault}
 use Rattle.clr_load.specs.declared.fault.StoreFault.TheVariants as store
@@ -166,10 +168,10 @@ abbrev pub of_file : ImportFile → CsvFault → Fault
 of_file file csv.NoMemory = fault.Memory
 of_file file cause = fault.File file cause
 
-abbrev pub of_input : CsvFault → Fault
-of_input csv.NoMemory = fault.Memory
-of_input csv.TooLong = fault.Input input.TooLong
-of_input cause = fault.Input input.ReadFailed
+abbrev pub of_input : ReadFault → Fault
+of_input read.ReadFailed = fault.Input input.ReadFailed
+of_input read.TooLong = fault.Input input.TooLong
+of_input read.NoMemory = fault.Memory
 
 abbrev pub of_network : NetFault → Fault
 of_network net.NoMemory = fault.Memory

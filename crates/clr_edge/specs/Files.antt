@@ -1,7 +1,7 @@
 -- The rows that files give, one file after the other.
 use Rattle.std.specs.Prelude.{◌≡◌, ◌≢◌, ◌⊎◌, ℕ, List, Option, Result, Ok, Err, IfSome, IsErrOf}
 use Rattle.std.specs.Prelude.{OnErr}
-use Rattle.clr_csv.specs.Failures.{Rose}
+use Rattle.clr_stream.specs.Failures.{Rose}
 use Rattle.clr_csv.specs.declared.fault.CsvFault.{CsvFault}
 use Rattle.clr_csv.specs.declared.fault.CsvFault.TheVariants.{ReadFailed}
 use Rattle.clr_edge.specs.declared.fault.ImportFile.{ImportFile}

@@ -13,12 +13,11 @@ ghost use Rattle.clr_edge.specs.Database.{IsUnmade, IsUnmoved, IsUnmovedAt, IsUn
 
 use crate::fault::Fault;
 use crate::machine::Machine;
-use clr_csv::Staff;
 use clr_desk::Desk;
-use clr_memory::{MemoryFile, database_in_memory};
+use clr_disk::{MemoryFile, Watched, WatchedDatabase, database_in_memory, open_watched};
 use clr_net::Network;
+use clr_staff::Staff;
 use clr_store::{Back, Store, StoreFault};
-use clr_watch::{Watched, WatchedDatabase, open_watched};
 use sqlite::{Alter, Connection, Error, FileFrom, FileStore, Start};
 use sqlite_disk::Disk;
 use std::alloc::{AllocError, Global};

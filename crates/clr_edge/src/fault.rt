@@ -6,10 +6,12 @@ ghost use Rattle.clr_edge.specs.Fault.{network_fault_detail, network_fault_name}
 ghost use Rattle.clr_edge.specs.Fault.{staff_fault_detail, staff_fault_name, store_fault_detail};
 ghost use Rattle.clr_edge.specs.Fault.{store_fault_name};
 
-use clr_csv::{CsvFault, StaffFault};
+use clr_csv::CsvFault;
 use clr_desk::DeskFault;
 use clr_net::{Name, NameFault, NetFault};
+use clr_staff::StaffFault;
 use clr_store::StoreFault;
+use clr_stream::ReadFault;
 use clr_tables::TableName;
 use std::alloc::{AllocError, AllocFailed};
 
@@ -176,13 +178,13 @@ impl Fault {
     }
 
     /// Why standard input gives no bytes.
-    pub fn of_input(cause: CsvFault) -> Fault
+    pub fn of_input(cause: ReadFault) -> Fault
         ensures { result ≡ of_input cause }
     {
         match cause {
-            CsvFault::NoMemory => Fault::Memory,
-            CsvFault::TooLong => Fault::Input(InputFault::TooLong),
-            _ => Fault::Input(InputFault::ReadFailed),
+            ReadFault::ReadFailed => Fault::Input(InputFault::ReadFailed),
+            ReadFault::TooLong => Fault::Input(InputFault::TooLong),
+            ReadFault::NoMemory => Fault::Memory,
         }
     }
 }

@@ -1,7 +1,7 @@
 //! The files that a network and its staff are read from, each opened when its turn comes.
 ghost use Rattle.std.specs.Prelude.{◌≡◌, ◌≢◌, ◌⊎◌, Err, IfErr, IfSome, IsErrOf};
 ghost use Rattle.clr_csv.specs.Answers.{GivesUnlessFailed};
-ghost use Rattle.clr_csv.specs.Failures.{Rose};
+ghost use Rattle.clr_stream.specs.Failures.{Rose};
 ghost use Rattle.clr_csv.specs.Points.{points_of};
 ghost use Rattle.clr_csv.specs.Sections.{sections_of};
 ghost use Rattle.clr_csv.specs.StaffRows.{staff_of};
@@ -9,8 +9,10 @@ ghost use Rattle.clr_edge.specs.Fault.{IsOfFile};
 ghost use Rattle.clr_edge.specs.Files.{GivesRows, told_of};
 
 use crate::fault::{Fault, ImportFile};
-use clr_csv::{Counted, CountedRead, CsvFault, StaffRow, read_points, read_sections, read_staff};
+use clr_csv::{CsvFault, read_points, read_sections, read_staff};
 use clr_net::{PointRow, SectionRow};
+use clr_staff::StaffRow;
+use clr_stream::{Counted, CountedRead};
 use std::alloc::Global;
 use std::io::Read;
 

@@ -2,7 +2,7 @@
 ghost use Rattle.std.specs.Prelude.{◌≡◌, [], true};
 
 use crate::paths::{AtPath, Opens, Paths};
-use clr_watch::Watch;
+use clr_disk::Watch;
 use sqlite::Start;
 use std::alloc::Global;
 

@@ -1,9 +1,9 @@
 //! Texts that go out whole to a writer.
 ghost use Rattle.std.specs.Prelude.{◌≡◌, IfErr, OnErr, OnOk};
-ghost use Rattle.clr_csv.specs.Streams.{IsCut, WentOut};
+ghost use Rattle.clr_stream.specs.Streams.{IsCut, WentOut};
 
 use crate::fault::Fault;
-use clr_csv::{CountedFlush, write_whole};
+use clr_stream::{CountedFlush, write_whole};
 
 /// Writes a text whole, and flushes it.
 pub fn write_out<W: CountedFlush>(text: &str, writer: &mut W) -> Result<(), Fault>

@@ -2,7 +2,8 @@
 ghost use Rattle.std.specs.Prelude.{◌≡◌, ◌⊎◌, ℕ, List, Option, Err, Ok};
 
 use crate::files::Source;
-use clr_csv::{CountedRead, CsvFault};
+use clr_csv::CsvFault;
+use clr_stream::CountedRead;
 use std::io::Read;
 use std::rt::Files;
 use std::{fs, io};
@@ -61,7 +62,7 @@ pub struct AtPath<'a, R: Files> {
 }
 
 impl<'a, R: Files> AtPath<'a, R> {
-    ghost use Rattle.clr_csv.specs.Failures.{count_after};
+    ghost use Rattle.clr_stream.specs.Failures.{count_after};
 
     /// Adds a failure to the count, if this was one.
     fn count<T>(&mut self, answer: &io::Result<T>)
@@ -79,7 +80,7 @@ impl<'a, R: Files> Read for AtPath<'a, R> {
     ghost use Rattle.std.specs.Prelude.{None};
     ghost use Rattle.std.specs.Io.{ReadsAtMost};
     ghost use Rattle.std.specs.Io.KnownBytes.{ReadConsumes};
-    ghost use Rattle.clr_csv.specs.Failures.{count_after};
+    ghost use Rattle.clr_stream.specs.Failures.{count_after};
 
     ghost remaining = { λ _. None };
 

@@ -9,7 +9,7 @@ ghost use Rattle.clr_good.specs.Clearances.{numbers_fit, record_fits, work_fits}
 
 use crate::shelves::Shelves;
 use clr_book::all_rows;
-use clr_csv::Role;
+use clr_staff::Role;
 use clr_net::Name;
 use clr_rules::{ClearanceId, Hold, Phase, PointState, Record, StepRow};
 use clr_shelf::Shelf;

@@ -1,8 +1,8 @@
 -- What went out to a connection, by what was read and how it was answered.
 use Rattle.std.proofs.Common.{◌≡◌, ℕ, List, Option, Some, ap, arith, inl, inr, refl, sym, subst}
 use Rattle.std.specs.Prelude.{◌≢◌, ◌⊎◌, Result, Ok, Err}
-use Rattle.clr_csv.specs.Failures.{Rose, one_more}
-use Rattle.clr_csv.specs.Streams.{Stream}
+use Rattle.clr_stream.specs.Failures.{Rose, one_more}
+use Rattle.clr_stream.specs.Streams.{Stream}
 use Rattle.clr_http.proofs.Turns.{IsLeft, turn_leaves}
 use Rattle.clr_http.specs.Registrar.{Accounts, AccountsFor, CountsFault, IsTurn, Keeper}
 use Rattle.clr_http.specs.Request.{IsNo503, IsRefusedHead, asks, refusal_of, refused}

@@ -4,8 +4,8 @@ use Rattle.std.proofs.lemmas.List.{get_or-map, length-map, map-append, take_all,
 use Rattle.std.specs.Prelude.{Ok, unwrap_or}
 use Rattle.std.specs.Io.KnownBytes.{Appends}
 use Rattle.httparse.proofs.GrammarLemmas.{request_unique}
-use Rattle.clr_csv.specs.Failures.{one_more}
-use Rattle.clr_csv.specs.Streams.{Stream}
+use Rattle.clr_stream.specs.Failures.{one_more}
+use Rattle.clr_stream.specs.Streams.{Stream}
 use Rattle.clr_rules.specs.Register.{Register}
 use Rattle.clr_http.specs.Head.{HasHead}
 use Rattle.clr_http.specs.Registrar.{IsTurn, Keeper}

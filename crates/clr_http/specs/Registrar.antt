@@ -1,7 +1,7 @@
 -- One who keeps a register and counts its faults, and what one turn of the service comes to.
 use Rattle.std.specs.Prelude.{◌≡◌, ◌≢◌, ◌⊎◌, ℕ, Option, None, Some, Result, Ok, Err}
 use Rattle.std.specs.declared.alloc.AllocError.{AllocError}
-use Rattle.clr_csv.specs.Failures.{one_more}
+use Rattle.clr_stream.specs.Failures.{one_more}
 use Rattle.clr_rules.specs.Register.{Register}
 use Rattle.clr_http.specs.Respond.{Outcome}
 use Rattle.clr_http.specs.Response.{Content, content_of, fault_response, status_of}

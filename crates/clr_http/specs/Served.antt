@@ -1,7 +1,7 @@
 -- WHAT SERVING ONE CONNECTION COMES TO: what went out, and the register after it.
 use Rattle.std.specs.Prelude.{◌≡◌, ◌≢◌, ◌⊎◌, ℕ, List, Option, Some, Result, Ok, Err}
-use Rattle.clr_csv.specs.Failures.{Rose}
-use Rattle.clr_csv.specs.Streams.{Stream, WroteAll, WrotePart}
+use Rattle.clr_stream.specs.Failures.{Rose}
+use Rattle.clr_stream.specs.Streams.{Stream, WroteAll, WrotePart}
 use Rattle.clr_http.specs.Registrar.{Accounts, CountsFault, IsTurn, Keeper}
 use Rattle.clr_http.specs.Request.{IsRefusedHead, refused}
 use Rattle.clr_http.specs.Respond.{Outcome}

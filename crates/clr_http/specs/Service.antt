@@ -1,7 +1,7 @@
 -- THE SERVICE: requests one after the other, each answered at the register that the earlier ones
 -- left.
 use Rattle.std.specs.Prelude.{◌≡◌, ◌⊎◌, ℕ, List, [], ◌∷◌, Some, All}
-use Rattle.clr_csv.specs.Failures.{one_more}
+use Rattle.clr_stream.specs.Failures.{one_more}
 use Rattle.clr_rules.specs.Register.{Register}
 use Rattle.clr_http.specs.Head.{HasHead}
 use Rattle.clr_http.specs.Registrar.{Keeper}

@@ -2,7 +2,7 @@
 ghost use Rattle.std.specs.Prelude.{◌≡◌, ◌≢◌, ℕ, List, [], Option, Some, Ok, Err, IfErr, IfOk};
 ghost use Rattle.std.specs.Io.KnownBytes.{IsAtEnd};
 ghost use Rattle.httparse.specs.Grammar.{RequestHead};
-ghost use Rattle.clr_csv.specs.Failures.{Rose};
+ghost use Rattle.clr_stream.specs.Failures.{Rose};
 ghost use Rattle.clr_rules.specs.Good.{IsGood};
 ghost use Rattle.clr_rules.specs.Run.{IsReached};
 ghost use Rattle.clr_http.specs.Head.{BeginsWith, HasHead};
@@ -17,7 +17,7 @@ use crate::registrar::Registrar;
 use crate::request::{ReadFault, Request, read_request};
 use crate::respond::response_to;
 use crate::response::{Response, unavailable_text};
-use clr_csv::{CountedRead, CountedWrite, write_whole};
+use clr_stream::{CountedRead, CountedWrite, write_whole};
 use http::StatusCode;
 use std::alloc::{AllocError, AllocFailed, Global};
 use thiserror::Error;

@@ -7,7 +7,7 @@ ghost use Rattle.clr_http.specs.Service.{AnsweredOnce, HaveHeads, IsExchange, Re
 
 use crate::registrar::Registrar;
 use crate::serve::{HttpFault, serve_one};
-use clr_csv::Counted;
+use clr_stream::Counted;
 use std::alloc::Global;
 
 /// An input has one response, and leaves one register: a law, with nothing to do.

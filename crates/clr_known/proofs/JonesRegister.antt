@@ -5,7 +5,7 @@ use Rattle.std.proofs.lemmas.List.{take_all}
 use Rattle.clr_rules.specs.Register.{Register}
 use Rattle.clr_rules.specs.Run.{after_all}
 use Rattle.clr_rules.specs.RunHeadline.{IsRun, with_reply}
-use Rattle.clr_rules.specs.Worked.{worked_opening}
+use Rattle.clr_examples.specs.Worked.{worked_opening}
 use Rattle.clr_rules.specs.declared.command.Command.{Command}
 use Rattle.clr_rules.specs.declared.reply.Reply.{Reply}
 use Rattle.clr_text.specs.Lines.{commands_in}

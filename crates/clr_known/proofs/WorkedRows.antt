@@ -10,15 +10,15 @@ use Rattle.csv.specs.Records.{field_at}
 use Rattle.clr_csv.specs.Points.{points_of}
 use Rattle.clr_csv.specs.Rows.{row_of, rows_from, rows_in, rows_of}
 use Rattle.clr_csv.specs.Sections.{sections_of}
-use Rattle.clr_csv.specs.Staff.{IsStaffOf}
+use Rattle.clr_staff.specs.Staff.{IsStaffOf}
 use Rattle.clr_csv.specs.StaffRows.{staff_of}
-use Rattle.clr_csv.specs.declared.employee.Role.TheVariants.{Operator, Field, Charge}
-use Rattle.clr_csv.specs.declared.employee.StaffRow.{StaffRow}
+use Rattle.clr_staff.specs.declared.employee.Role.TheVariants.{Operator, Field, Charge}
+use Rattle.clr_staff.specs.declared.employee.StaffRow.{StaffRow}
 use Rattle.clr_net.specs.Grid.{Grid}
 use Rattle.clr_net.specs.Network.{IsGridOf}
 use Rattle.clr_net.specs.declared.point.PointRow.{PointRow}
 use Rattle.clr_net.specs.declared.section.SectionRow.{SectionRow}
-use Rattle.clr_rules.specs.Worked.{G, H, L1, L2, L3, OPS, REED, DALE, JONES, KIM, BOSS, worked_net, worked_staff}
+use Rattle.clr_examples.specs.Worked.{G, H, L1, L2, L3, OPS, REED, DALE, JONES, KIM, BOSS, worked_net, worked_staff}
 use Rattle.clr_csv.specs.declared.fault.CsvFault.{CsvFault}
 use Rattle.clr_edge.specs.Files.{told_of}
 use Rattle.clr_edge.specs.declared.fault.Fault.{Fault}

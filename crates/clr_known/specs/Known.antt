@@ -5,7 +5,7 @@ use Rattle.std.specs.Borrow.{Bor}
 use Rattle.std.specs.Cmp.Lexicographic.{pointwise}
 use Rattle.clr_rules.specs.Register.{Register}
 use Rattle.clr_rules.specs.Run.{after_all}
-use Rattle.clr_rules.specs.Worked.{worked_opening}
+use Rattle.clr_examples.specs.Worked.{worked_opening}
 use Rattle.clr_text.specs.Lines.{commands_in}
 
 abbrev pub same_path : List ℕ → List ℕ → Bool

@@ -3,7 +3,7 @@ ghost use Rattle.std.specs.Prelude.{◌≡◌, ◌++◌, ◌∷◌, [], IfErr, I
 ghost use Rattle.sqlite.specs.Files.{file_state, over_files};
 ghost use Rattle.sqlite.specs.State.{HasCleanDisk};
 ghost use Rattle.clr_rules.specs.Good.{IsGood};
-ghost use Rattle.clr_rules.specs.Worked.{worked_net, worked_opening, worked_staff};
+ghost use Rattle.clr_examples.specs.Worked.{worked_net, worked_opening, worked_staff};
 ghost use Rattle.clr_rules.specs.declared.command.Command.{Command as AnyCommand};
 ghost use Rattle.clr_load.specs.Contract.{IsSaved};
 ghost use Rattle.clr_load.specs.Stored.{HasTables};
@@ -15,7 +15,8 @@ ghost use Rattle.clr_edge.specs.Database.{HasRegister, IsOfLine};
 ghost use Rattle.clr_known.specs.Known.{jones_lines, jones_register, same_path};
 
 use crate::Known;
-use clr_csv::{Counted, Staff};
+use clr_staff::Staff;
+use clr_stream::Counted;
 use clr_desk::Desk;
 use clr_edge::database::Databases;
 use clr_edge::fault::Fault;

@@ -3,7 +3,7 @@ ghost use Rattle.std.specs.Prelude.{◌≡◌, option_map};
 ghost use Rattle.clr_known.specs.Known.{bytes_among};
 
 use crate::Known;
-use clr_csv::Counted;
+use clr_stream::Counted;
 use clr_edge::paths::Opens;
 use std::io;
 use std::io::Read;

@@ -4,7 +4,7 @@ use crate::databases::{POINTS, SECTIONS, STAFF};
 use crate::exchange::Exchange;
 use crate::files::{Bytes, File};
 use clr_command_line::command_line::command_line;
-use clr_csv::Counted;
+use clr_stream::Counted;
 use std::alloc::Global;
 use std::io;
 use std::process::Abort;

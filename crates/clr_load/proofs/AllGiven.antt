@@ -7,8 +7,8 @@ use Rattle.sqlite_trees.proofs.ListLemmas.{map-map}
 use Rattle.clr_load.specs.Cause.{SqlHasCause}
 use Rattle.clr_net.specs.declared.point.PointRow.{PointRow}
 use Rattle.clr_net.specs.declared.section.SectionRow.{SectionRow}
-use Rattle.clr_csv.specs.Rows.{◌>>=◌}
-use Rattle.clr_csv.specs.declared.employee.StaffRow.{StaffRow}
+use Rattle.clr_result.specs.Results.{◌>>=◌}
+use Rattle.clr_staff.specs.declared.employee.StaffRow.{StaffRow}
 use Rattle.clr_rules.specs.Register.{Register}
 use Rattle.clr_rules.specs.declared.hold.Hold.{Hold}
 use Rattle.clr_rules.specs.declared.point_state.PointState.{PointState}

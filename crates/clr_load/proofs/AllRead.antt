@@ -2,7 +2,7 @@
 use Rattle.std.proofs.Common.{◌≡◌, ◌+◌, ◌<◌, ◌≤◌, ℕ, zero, suc, List, [], ◌∷◌, ◌++◌, take, get_or, length, Result, Ok, Err, refl, sym, ap, ◌∙◌, arith}
 use Rattle.std.proofs.lemmas.List.{take_more}
 use Rattle.sqlite.specs.Order.{Row}
-use Rattle.clr_csv.specs.Rows.{◌>>=◌}
+use Rattle.clr_result.specs.Results.{◌>>=◌}
 use Rattle.clr_tables.specs.RowsRead.{all_read}
 use Rattle.clr_tables.specs.declared.table_name.TableName.{TableName}
 

@@ -12,7 +12,7 @@ use Rattle.sqlite.specs.declared.types.Value.TheVariants.{Null, Int, Real, Text,
 use Rattle.clr_net.specs.Name.{is_name}
 use Rattle.clr_net.specs.NameText.{read_name}
 use Rattle.clr_net.proofs.Names.{name_is_text}
-use Rattle.clr_csv.specs.Rows.{◌>>=◌}
+use Rattle.clr_result.specs.Results.{◌>>=◌}
 use Rattle.clr_tables.proofs.ColumnsRead.{name_is_not_read}
 use Rattle.clr_rules.specs.HoldKind.{all_hold_kinds, hold_kind_named, hold_kind_text}
 use Rattle.clr_rules.specs.Phase.{all_phases, phase_named, phase_text}

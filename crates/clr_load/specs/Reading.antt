@@ -4,7 +4,7 @@ use Rattle.std.specs.Str.{is_utf8}
 use Rattle.sqlite.specs.Order.{Row, column}
 use Rattle.sqlite.specs.declared.types.Value.{Value}
 use Rattle.sqlite.specs.declared.types.Value.TheVariants.{Null}
-use Rattle.clr_csv.specs.Rows.{◌>>=◌}
+use Rattle.clr_result.specs.Results.{◌>>=◌}
 use Rattle.clr_tables.specs.RowsRead.{PointRead as ReadPoint, read_placed, read_point, text_at}
 use Rattle.clr_tables.specs.declared.table_name.TableName.{TableName}
 use Rattle.clr_tables.specs.declared.table_name.TableName.TheVariants.{Point}

@@ -9,10 +9,10 @@ ghost use Rattle.clr_tables.specs.declared.table_name.TableName.TheVariants.{Cle
 ghost use Rattle.clr_tables.specs.declared.table_name.TableName.TheVariants.{Staff, Step};
 ghost use Rattle.clr_load.specs.Reading.{Reads, is_null_at, utf8_at};
 
-use clr_csv::Role;
 use clr_net::{Name, Position};
 use clr_order::{Action, StepState};
 use clr_rules::{ClearanceId, HoldKind, Phase};
+use clr_staff::Role;
 use clr_tables::{TableName, action_named, role_worded, state_named};
 use sqlite::Row;
 use sqlite::types::ValueRef;

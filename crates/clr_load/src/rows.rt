@@ -1,7 +1,7 @@
 //! All rows of the tables, as they are loaded.
-use clr_csv::StaffRow;
 use clr_net::{PointRow, SectionRow};
 use clr_rules::{Hold, PointState, Record, StepRow};
+use clr_staff::StaffRow;
 
 /// All rows of the tables, each list in the order of its key.
 #[derive(Debug, Drop)]

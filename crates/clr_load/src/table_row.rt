@@ -11,10 +11,10 @@ use crate::reading::{
     action_at, flag_at, hand_at, id_at, kind_at, name_at, name_or_none_at, number_at,
     number_within, phase_at, position_at, role_at, state_at,
 };
-use clr_csv::StaffRow;
 use clr_net::{PointRow, SectionRow};
 use clr_order::Step;
 use clr_rules::{Hold, Moment, PointState, Record, StepRow};
+use clr_staff::StaffRow;
 use clr_tables::TableName;
 use sqlite::Row;
 use std::alloc::Global;

@@ -7,5 +7,3 @@ pub mod isolation
 pub mod live
 pub mod IdTexts
 pub mod TextInPlace
-pub mod ManyRequests
-pub mod ReachedExamples

@@ -9,10 +9,10 @@ use Rattle.std.specs.Str.{bytes_eq}
 use Rattle.clr_net.specs.Grid.{Grid, point_names, section_names}
 use Rattle.clr_net.specs.Name.{same_name}
 use Rattle.clr_net.specs.Names.{has_name}
-use Rattle.clr_csv.specs.Staff.{is_named}
-use Rattle.clr_csv.specs.declared.employee.Role.{Role}
-use Rattle.clr_csv.specs.declared.employee.Role.TheVariants.{Operator, Field, Charge}
-use Rattle.clr_csv.specs.declared.employee.StaffRow.{StaffRow}
+use Rattle.clr_staff.specs.Staff.{is_named}
+use Rattle.clr_staff.specs.declared.employee.Role.{Role}
+use Rattle.clr_staff.specs.declared.employee.Role.TheVariants.{Operator, Field, Charge}
+use Rattle.clr_staff.specs.declared.employee.StaffRow.{StaffRow}
 use Rattle.clr_order.specs.Isolating.{isolating_fault}
 use Rattle.clr_order.specs.Restoring.{restoring_fault}
 use Rattle.clr_order.specs.Step.{Task, task}

@@ -3,7 +3,7 @@
 -- Changes.
 use Rattle.std.specs.Prelude.{ℕ, Bool, if◌then◌else◌, ◌+◌, List, [], ◌∷◌, map, Option, None}
 use Rattle.std.specs.Prelude.{Some, ◌++◌}
-use Rattle.clr_csv.specs.declared.employee.Role.{Role}
+use Rattle.clr_staff.specs.declared.employee.Role.{Role}
 use Rattle.clr_order.specs.declared.step.StepState.TheVariants.{Instructed, Repeated}
 use Rattle.clr_order.specs.declared.action.Action.TheVariants as actions
 use Rattle.clr_rules.specs.Changes.{added_edits, cancelled_phase, done_edits, new_jumper}

@@ -10,7 +10,7 @@ use Rattle.clr_net.specs.Name.{name_cmp, same_name}
 use Rattle.clr_net.specs.Names.{has_name}
 use Rattle.clr_net.specs.declared.point.PointRow.{PointRow}
 use Rattle.clr_net.specs.declared.point.Position.TheVariants.{Opened}
-use Rattle.clr_csv.specs.Staff.{IsStaff}
+use Rattle.clr_staff.specs.Staff.{IsStaff}
 use Rattle.clr_order.specs.Action.{is_switching}
 use Rattle.clr_order.specs.Isolating.{IsSoundOrder}
 use Rattle.clr_order.specs.Needed.{Undoes}

@@ -8,7 +8,7 @@ use Rattle.clr_net.specs.Grid.{Grid, IsNetwork, section_names}
 use Rattle.clr_net.specs.Name.{same_name}
 use Rattle.clr_net.specs.Names.{has_name}
 use Rattle.clr_net.specs.declared.point.Position.TheVariants.{Opened}
-use Rattle.clr_csv.specs.Staff.{IsStaff}
+use Rattle.clr_staff.specs.Staff.{IsStaff}
 use Rattle.clr_order.specs.Action.{is_switching}
 use Rattle.clr_order.specs.Isolating.{IsSoundOrder}
 use Rattle.clr_order.specs.Needed.{undoes}

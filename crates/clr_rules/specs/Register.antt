@@ -3,7 +3,7 @@
 use Rattle.std.specs.Prelude.{List, [], map, None}
 use Rattle.clr_net.specs.Grid.{Grid, unplaced}
 use Rattle.clr_net.specs.declared.point.PointRow.{PointRow}
-use Rattle.clr_csv.specs.declared.employee.StaffRow.{StaffRow}
+use Rattle.clr_staff.specs.declared.employee.StaffRow.{StaffRow}
 use Rattle.clr_rules.specs.declared.hold.Hold.{Hold}
 use Rattle.clr_rules.specs.declared.point_state.PointState.{PointState}
 use Rattle.clr_rules.specs.declared.record.Record.{Record}

@@ -4,8 +4,6 @@
 mod change;
 mod clearance_id;
 mod command;
-#[tactic(auto, unfolding(clr_net::specs::Additions::with_named, clr_net::specs::Fence::in_fence, clr_net::specs::Fence::reaches, clr_shelf::specs::Rows::row_of, clr_shelf::specs::Rows::with_row, clr_shelf::specs::Rows::without_row, crate::specs::Changes::new_steps, crate::specs::Edits::after_edits, crate::specs::Fences::crossed_record, crate::specs::Fences::touching_names, crate::specs::Holds::has_any_hold, crate::specs::Holds::has_some_hold, crate::specs::Holds::held_among, crate::specs::Holds::hindering_hold, crate::specs::Holds::holds_of, crate::specs::Holds::first_of_each, crate::specs::Holds::places_of, crate::specs::Live::is_live, crate::specs::Records::greatest_number, crate::specs::Run::after_all, crate::specs::Run::replies, crate::specs::Shown::covers, crate::specs::Shown::own_answers, crate::specs::Shown::items_shown, crate::specs::Steps::steps_in, crate::specs::Steps::steps_of))]
-pub mod examples;
 mod hold;
 mod hold_kind;
 mod items;

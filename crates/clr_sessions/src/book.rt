@@ -1,7 +1,9 @@
 //! The commands of a session, answered by a book step by step: the decision, room for its change, the
 //! change.
 use clr_book::Book;
-use clr_csv::{Counted, Staff, read_points, read_sections, read_staff};
+use clr_csv::{read_points, read_sections, read_staff};
+use clr_staff::Staff;
+use clr_stream::Counted;
 use clr_net::Network;
 use clr_rules::{Command, Hold, PointState, Record, StepRow};
 use clr_shelf::{ListShelf, Shelf, SortedShelf};

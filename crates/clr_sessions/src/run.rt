@@ -1,7 +1,7 @@
 //! A command line is run, and what it gave is compared with what must come.
 use crate::line::{Stream, Told};
 use clr_command_line::command_line::command_line_over;
-use clr_csv::Counted;
+use clr_stream::Counted;
 use clr_edge::machine::{AnyFiles, Machine};
 use clr_edge::paths::Paths;
 use std::alloc::{AllocError, Global};

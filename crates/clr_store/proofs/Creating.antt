@@ -25,8 +25,8 @@ use Rattle.sqlite_value.proofs.OrderLemmas.{value_cmp-Text}
 use Rattle.clr_net.specs.Grid.{Grid, IsNetwork, point_names, unplaced}
 use Rattle.clr_net.specs.Name.{name_cmp}
 use Rattle.clr_net.specs.declared.point.PointRow.{PointRow}
-use Rattle.clr_csv.specs.Staff.{IsStaff}
-use Rattle.clr_csv.specs.declared.employee.StaffRow.{StaffRow}
+use Rattle.clr_staff.specs.Staff.{IsStaff}
+use Rattle.clr_staff.specs.declared.employee.StaffRow.{StaffRow}
 use Rattle.clr_shelf.proofs.Lists.{Contains-cases, Contains-here, Contains-later}
 use Rattle.clr_shelf.proofs.Members.{row_of-member}
 use Rattle.clr_shelf.specs.Rows.{in_key_order}

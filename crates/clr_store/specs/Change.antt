@@ -9,7 +9,7 @@ use Rattle.sqlite.specs.Order.{Row}
 use Rattle.sqlite.specs.State.{State, HasCleanDisk, KeepsCommit}
 use Rattle.clr_net.specs.declared.section.SectionRow.{SectionRow}
 use Rattle.clr_net.specs.declared.point.PointRow.{PointRow}
-use Rattle.clr_csv.specs.declared.employee.StaffRow.{StaffRow}
+use Rattle.clr_staff.specs.declared.employee.StaffRow.{StaffRow}
 use Rattle.clr_rules.specs.Register.{first_state}
 use Rattle.clr_tables.specs.TableEdits.{with_table_row, without_table_row}
 use Rattle.clr_tables.specs.Tables.{Tables, jumper_row, section_row, staff_row, version_row}

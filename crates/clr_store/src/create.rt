@@ -16,7 +16,7 @@ ghost use Rattle.clr_load.specs.Stored.{AreTables, HasTables};
 use crate::sql::create_sql;
 use crate::statements::insert_row;
 use crate::values::{flag_value, name_or_null, name_value, number_value, point_values, text_value};
-use clr_csv::{Staff, StaffRow};
+use clr_staff::{Staff, StaffRow};
 use clr_load::StoreFault;
 use clr_net::{Network, PointRow, SectionRow};
 use clr_tables::{TableName, role_word};

@@ -23,7 +23,7 @@ ghost use Rattle.clr_store.specs.Moving.{IsOfMove, LeavesMoved, RefusesMove, Ref
 use crate::create::make_register;
 use crate::edits::make_all;
 use crate::migrate::move_tables;
-use clr_csv::Staff;
+use clr_staff::Staff;
 use clr_load::{Rows, StoreFault, load_rows, read_version};
 use clr_net::Network;
 use clr_rules::Change;

@@ -6,8 +6,8 @@ use Rattle.clr_net.specs.NameText.{bad_byte, read_name}
 use Rattle.clr_net.proofs.Names.{is_name_from, name_has_none, name_parts}
 use Rattle.clr_net.specs.declared.point.Position.{Position}
 use Rattle.clr_net.specs.declared.point.Position.TheVariants.{Opened, Closed}
-use Rattle.clr_csv.specs.declared.employee.Role.{Role}
-use Rattle.clr_csv.specs.declared.employee.Role.TheVariants.{Operator, Field, Charge}
+use Rattle.clr_staff.specs.declared.employee.Role.{Role}
+use Rattle.clr_staff.specs.declared.employee.Role.TheVariants.{Operator, Field, Charge}
 use Rattle.clr_order.specs.declared.action.Action.{Action}
 use Rattle.clr_order.specs.declared.action.Action.TheVariants as actions
 use Rattle.clr_order.specs.declared.step.StepState.{StepState}

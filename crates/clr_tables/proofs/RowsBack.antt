@@ -7,8 +7,8 @@ use Rattle.clr_net.specs.NameText.{read_name}
 use Rattle.clr_net.specs.declared.point.PointRow.{PointRow}
 use Rattle.clr_net.specs.declared.point.Position.{Position}
 use Rattle.clr_net.specs.declared.section.SectionRow.{SectionRow}
-use Rattle.clr_csv.specs.Rows.{◌>>=◌}
-use Rattle.clr_csv.specs.declared.employee.StaffRow.{StaffRow}
+use Rattle.clr_result.specs.Results.{◌>>=◌}
+use Rattle.clr_staff.specs.declared.employee.StaffRow.{StaffRow}
 use Rattle.clr_rules.specs.HoldKind.{hold_kind_named, hold_kind_text}
 use Rattle.clr_rules.specs.Id.{Id, is_clearance_number, is_id}
 use Rattle.clr_rules.specs.Moment.{is_moment}

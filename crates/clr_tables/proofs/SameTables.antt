@@ -9,8 +9,8 @@ use Rattle.clr_net.specs.declared.point.PointRow.{PointRow}
 use Rattle.clr_net.specs.declared.point.Position.{Position}
 use Rattle.clr_net.specs.declared.point.Position.TheVariants.{Opened, Closed}
 use Rattle.clr_net.specs.declared.section.SectionRow.{SectionRow}
-use Rattle.clr_csv.specs.declared.employee.Role.TheVariants.{Operator}
-use Rattle.clr_csv.specs.declared.employee.StaffRow.{StaffRow}
+use Rattle.clr_staff.specs.declared.employee.Role.TheVariants.{Operator}
+use Rattle.clr_staff.specs.declared.employee.StaffRow.{StaffRow}
 use Rattle.clr_order.specs.declared.action.Action.TheVariants.{Open}
 use Rattle.clr_order.specs.declared.step.StepState.TheVariants.{Waiting}
 use Rattle.clr_rules.specs.Good.{ListsAreInOrder, NetworkIsUnplaced}

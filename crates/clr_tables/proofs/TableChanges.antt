@@ -19,7 +19,7 @@ use Rattle.clr_net.specs.declared.point.PointRow.{PointRow}
 use Rattle.clr_net.specs.declared.point.Position.{Position}
 use Rattle.clr_shelf.proofs.Reading.{row_of-with, row_of-with_row}
 use Rattle.clr_shelf.specs.Rows.{with_row}
-use Rattle.clr_rules.specs.EditLaws.{adds, changed_where}
+use Rattle.clr_rules.specs.laws.Edits.{adds, changed_where}
 use Rattle.clr_rules.specs.Edits.{after_edit, after_edits}
 use Rattle.clr_rules.specs.Good.{ListsAreInOrder}
 use Rattle.clr_rules.specs.Id.{Id}

@@ -23,7 +23,7 @@ use Rattle.clr_rules.specs.Answer.{Answer, known_of, answer_by_checks}
 use Rattle.clr_rules.specs.Commands.{checks, edits_of}
 use Rattle.clr_rules.specs.Changes.{done_edits, new_jumper, new_section, step_moved, new_steps, phase_after, point_edits, put_steps, undone_edits}
 use Rattle.clr_rules.specs.Checks.{too_many_clearances, unsound_order}
-use Rattle.clr_rules.specs.EditLaws.{refusal_of}
+use Rattle.clr_rules.specs.laws.Edits.{refusal_of}
 use Rattle.clr_rules.specs.Edits.{after_edit, after_edits}
 use Rattle.clr_rules.specs.Hold.{hold_cmp, hold_cmp_total}
 use Rattle.clr_rules.specs.Holds.{hold_key, hold_of, places_of}

@@ -2,7 +2,7 @@
 use Rattle.std.specs.Prelude.{◌≡◌, IsTrue, List, map, not, Ok}
 use Rattle.std.specs.List.{list_all}
 use Rattle.clr_net.specs.Grid.{Grid, point_names}
-use Rattle.clr_csv.specs.declared.employee.StaffRow.{StaffRow}
+use Rattle.clr_staff.specs.declared.employee.StaffRow.{StaffRow}
 use Rattle.clr_rules.specs.Edits.{after_edits}
 use Rattle.clr_rules.specs.Good.{IsGood, ListsAreInOrder, NetworkIsUnplaced}
 use Rattle.clr_rules.specs.Register.{Register, opening}

@@ -6,7 +6,7 @@ use Rattle.clr_net.specs.Grid.{Grid}
 use Rattle.clr_net.specs.Name.{is_name}
 use Rattle.clr_net.specs.declared.point.PointRow.{PointRow}
 use Rattle.clr_net.specs.declared.section.SectionRow.{SectionRow}
-use Rattle.clr_csv.specs.declared.employee.StaffRow.{StaffRow}
+use Rattle.clr_staff.specs.declared.employee.StaffRow.{StaffRow}
 use Rattle.clr_order.specs.Step.{Task}
 use Rattle.clr_rules.specs.Id.{Id, is_id}
 use Rattle.clr_rules.specs.Moment.{is_moment}

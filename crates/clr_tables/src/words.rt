@@ -3,8 +3,8 @@ ghost use Rattle.std.specs.Prelude.{◌≡◌};
 ghost use Rattle.clr_tables.specs.Words.{action_name, action_named, role_word, role_worded};
 ghost use Rattle.clr_tables.specs.Words.{state_name, state_named};
 
-use clr_csv::Role;
 use clr_order::{Action, StepState};
+use clr_staff::Role;
 
 /// All actions, in the order in which they are declared.
 const ACTIONS: [Action; 9] = [

@@ -4,7 +4,7 @@
 use crate::at_desk::{AtDesk, at_new_desk};
 use crate::fakes::{FailsAt, Narrow};
 use crate::worked::{REQUEST, RESPONSE};
-use clr_csv::{Counted, CountedRead, CountedWrite};
+use clr_stream::{Counted, CountedRead, CountedWrite};
 use clr_desk::Desk;
 use clr_http::{HttpFault, Registrar, Served, serve_one};
 use clr_rules::{ClearanceId, Command, Reply};

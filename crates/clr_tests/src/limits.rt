@@ -2,7 +2,7 @@
 ghost use Rattle.std.specs.Prelude.{◌<◌};
 
 use crate::worked::{chain, numbered};
-use clr_csv::{Role, Staff, StaffFault, StaffRow};
+use clr_staff::{Role, Staff, StaffFault, StaffRow};
 use clr_net::{Name, NetFault, Network};
 use std::alloc::Global;
 use std::test::Fail;

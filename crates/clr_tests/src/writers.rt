@@ -1,6 +1,6 @@
 //! Bytes written to writers that count: full, interrupted, or broken in mid-stream.
 use crate::fakes::Narrow;
-use clr_csv::{Counted, CountedFlush, CountedWrite, write_whole};
+use clr_stream::{Counted, CountedFlush, CountedWrite, write_whole};
 use std::alloc::{AllocError, Global};
 use std::io;
 use std::test::Fail;

@@ -3,13 +3,6 @@ use Rattle.std.specs.Prelude.{◌≡◌, Result, Ok, Err, ⊤}
 use Rattle.clr_text.specs.declared.fault.TextFault.{TextFault}
 use Rattle.clr_text.specs.declared.fault.TextFault.TheVariants as fault
 
--- the first fault, or what the value leads to
-infixl 10 ◌>>=◌
-abbrev pub ◌>>=◌ : {A B : Type 0} → Result A TextFault → (A → Result B TextFault)
-    → Result B TextFault
-(Ok x) >>= f = f x
-(Err e) >>= f = Err e
-
 -- the fault is the one that is told; only want of memory may come in its place, or in the place of
 -- a value
 abbrev pub Fails : {A : Type 0} → TextFault → Result A TextFault → Type 0

@@ -6,7 +6,7 @@ use Rattle.std.specs.Str.{bytes_eq}
 use Rattle.serde_json.specs.Data.{Data}
 use Rattle.clr_rules.specs.declared.command.Kind.{Kind}
 use Rattle.clr_rules.specs.declared.command.Kind.TheVariants as kind
-use Rattle.clr_text.specs.Answers.{◌>>=◌}
+use Rattle.clr_result.specs.Results.{◌>>=◌}
 use Rattle.clr_text.specs.Keys.{every_key, key_text}
 use Rattle.clr_text.specs.Values.{clearance_at, flag_at, name_at, points_at, step_at, steps_at}
 use Rattle.clr_text.specs.Values.{text_at}

@@ -1,5 +1,7 @@
 //! The worked network and staff as the texts of their files.
-use clr_csv::{Counted, Staff, read_points, read_sections, read_staff};
+use clr_csv::{read_points, read_sections, read_staff};
+use clr_staff::Staff;
+use clr_stream::Counted;
 use clr_net::Network;
 use std::alloc::Global;
 use std::test::Fail;

@@ -5,7 +5,7 @@ ghost use Rattle.clr_answer.specs.Begins.{role_fits};
 
 use crate::checks::refuse;
 use crate::near::Near;
-use clr_csv::Role;
+use clr_staff::Role;
 use clr_net::Name;
 use clr_rules::Refusal;
 

@@ -10,7 +10,7 @@ ghost use Rattle.clr_answer.specs.Begins.{phase_fits};
 use crate::checks::refuse;
 use crate::checks::rows::find_row;
 use crate::near::Near;
-use clr_csv::Role;
+use clr_staff::Role;
 use clr_net::Name;
 use clr_rules::{ClearanceId, MAX_CLEARANCE_NUMBER, Moment, Phase, Record, Refusal};
 

@@ -11,7 +11,7 @@ use Rattle.clr_shelf.proofs.KeyOrder.{in_key_order-with_row, in_key_order-withou
 use Rattle.clr_shelf.proofs.Members.{Contains-with_other, Contains-with_row, Contains-without_other, member-with_row, member-without_row, row_of-member}
 use Rattle.clr_shelf.proofs.Reading.{row_of-tied, row_of-with, row_of-with_row, row_of-without, row_of-without_row}
 use Rattle.clr_shelf.specs.Rows.{in_key_order, row_of, with_row, without_row}
-use Rattle.clr_rules.specs.EditLaws.{HasRowPut, HasRowTaken, changed_where, is_hold}
+use Rattle.clr_rules.specs.laws.Edits.{HasRowPut, HasRowTaken, changed_where, is_hold}
 use Rattle.clr_rules.specs.Prelude.{Hold, HoldKind, PointState, Record, Id, id_cmp, id_cmp_total, same_id, state_key, state_of, record_key, record_of, hold_cmp, hold_cmp_total, has_hold, hold_key, hold_of}
 use Rattle.clr_rules.specs.Id.{same_id_ties}
 use Rattle.clr_rules.specs.States.{change_state}

@@ -5,7 +5,7 @@ use Rattle.std.proofs.lemmas.Cmp.{nat_list_cmp_total}
 use Rattle.clr_net.specs.Grid.{unplaced}
 use Rattle.clr_net.specs.Name.{name_cmp}
 use Rattle.clr_shelf.proofs.KeyOrder.{in_key_order-with_row, in_key_order-without_row}
-use Rattle.clr_rules.specs.EditLaws.{KeepsNetwork, adds, adds_nothing}
+use Rattle.clr_rules.specs.laws.Edits.{KeepsNetwork, adds, adds_nothing}
 use Rattle.clr_rules.specs.Register.{first_state}
 use Rattle.clr_rules.specs.States.{state_key}
 use Rattle.clr_rules.specs.Prelude.{Edit, SetPosition, SetHand, PutHold, TakeHold, PutRecord, PutStep, AddSection, AddPoint, id_cmp, id_cmp_total, Register, record_key, step_key, step_key_cmp, step_key_cmp_total, hold_cmp, hold_cmp_total, hold_key, after_edit}

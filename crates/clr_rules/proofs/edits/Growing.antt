@@ -10,11 +10,11 @@ use Rattle.clr_net.specs.Names.{has_name}
 use Rattle.clr_net.specs.declared.point.PointRow.{PointRow}
 use Rattle.clr_net.proofs.Grown.{points_are_added, sections_are_added}
 use Rattle.clr_shelf.specs.Rows.{with_row}
-use Rattle.clr_rules.specs.AdditionLaws.{AnswersFit, FittingEditsKeepNetworks, PositionsAreNoPart}
+use Rattle.clr_rules.specs.laws.Additions.{AnswersFit, FittingEditsKeepNetworks, PositionsAreNoPart}
 use Rattle.clr_rules.specs.Answer.{Answer, answer, answer_by_checks, known_of}
 use Rattle.clr_rules.specs.Changes.{new_jumper}
 use Rattle.clr_rules.specs.Commands.{checks}
-use Rattle.clr_rules.specs.EditLaws.{adds, adds_nothing, refusal_of}
+use Rattle.clr_rules.specs.laws.Edits.{adds, adds_nothing, refusal_of}
 use Rattle.clr_rules.specs.Edits.{fit, fits_edit, net_after, states_after}
 use Rattle.clr_rules.specs.Prelude.{Edit, AddSection, AddPoint, Command, Kind, PointState, Refusal, Register, state_key, after_edit, after_edits}
 use Rattle.clr_rules.specs.Register.{first_state, unplaced_net}

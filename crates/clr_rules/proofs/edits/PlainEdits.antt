@@ -8,7 +8,7 @@ use Rattle.clr_rules.specs.Answer.{Answer, answer, answer_by_checks, answer_with
 use Rattle.clr_rules.specs.Changes.{done_edits, new_steps, point_edits, put_steps, undone_edits}
 use Rattle.clr_rules.specs.Commands.{Known, checks, edits_of}
 use Rattle.clr_rules.specs.Command.{is_jumper}
-use Rattle.clr_rules.specs.EditLaws.{adds_nothing}
+use Rattle.clr_rules.specs.laws.Edits.{adds_nothing}
 use Rattle.clr_rules.specs.Prelude.{Edit, PutHold, TakeHold, PutRecord, PutStep, Command, Kind, Tested, Record, Refusal, StepRow, Id, Register, hold_of, places_of}
 use Rattle.clr_rules.specs.Records.{is_switch_order}
 use Rattle.clr_rules.specs.Run.{after, after_all}

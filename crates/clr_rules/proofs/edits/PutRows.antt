@@ -9,7 +9,7 @@ use Rattle.clr_net.specs.declared.point.PointRow.{PointRow}
 use Rattle.clr_order.specs.declared.action.Action.{Action}
 use Rattle.clr_order.specs.declared.action.Action.TheVariants as actions
 use Rattle.clr_rules.specs.Changes.{added_edits, edits_by, new_section, point_edits, put_steps, with_record, with_step}
-use Rattle.clr_rules.specs.EditLaws.{is_hold}
+use Rattle.clr_rules.specs.laws.Edits.{is_hold}
 use Rattle.clr_rules.specs.Prelude.{Edit, PutHold, TakeHold, PutRecord, PutStep, AddSection, AddPoint, HoldKind, Tested, Record, StepRow, Id, same_id, Register, record_of, present_steps, step_at, has_hold, hold_of, after_edit, after_edits}
 use Rattle.clr_rules.proofs.edits.EditReading.{has_hold-put, has_hold-taken, record_of-put}
 

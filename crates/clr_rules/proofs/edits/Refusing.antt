@@ -6,7 +6,7 @@ use Rattle.clr_rules.specs.Answer.{Answer, answer, reply_clearance, first_refusa
 use Rattle.clr_rules.specs.Commands.{Known, checks, edits_of}
 use Rattle.clr_rules.specs.Changes.{new_steps, put_steps}
 use Rattle.clr_rules.specs.Command.{is_jumper, named_clearance}
-use Rattle.clr_rules.specs.EditLaws.{refusal_of}
+use Rattle.clr_rules.specs.laws.Edits.{refusal_of}
 use Rattle.clr_rules.specs.Prelude.{Edit, PutRecord, Command, Kind, Record, Refusal, Reply, Id, id_cmp, id_cmp_total, Register, record_key, record_of, after_edit, after_edits}
 use Rattle.clr_rules.specs.Good.{has_record}
 use Rattle.clr_rules.specs.Run.{after}

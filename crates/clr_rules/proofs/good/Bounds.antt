@@ -5,16 +5,16 @@ use Rattle.std.specs.List.{AllByRecursion}
 use Rattle.std.proofs.lemmas.Bool.{eqb-false}
 use Rattle.std.proofs.lemmas.List.Elements.{All-contains, All-nil}
 use Rattle.clr_net.specs.Grid.{Grid}
-use Rattle.clr_csv.specs.declared.employee.StaffRow.{StaffRow}
+use Rattle.clr_staff.specs.declared.employee.StaffRow.{StaffRow}
 use Rattle.clr_order.specs.Step.{Task}
 use Rattle.clr_shelf.proofs.Groups.{All-with_row}
 use Rattle.clr_shelf.proofs.Members.{member-row_of}
 use Rattle.clr_rules.specs.Answer.{Answer, known_of, answer_by_checks}
 use Rattle.clr_rules.specs.Commands.{checks, edits_of}
-use Rattle.clr_rules.specs.BoundLaws.{IsBounded}
+use Rattle.clr_rules.specs.laws.Bounds.{IsBounded}
 use Rattle.clr_rules.specs.Changes.{new_jumper, new_steps, put_steps}
 use Rattle.clr_rules.specs.Checks.{too_many_clearances}
-use Rattle.clr_rules.specs.EditLaws.{refusal_of}
+use Rattle.clr_rules.specs.laws.Edits.{refusal_of}
 use Rattle.clr_rules.specs.Prelude.{Edit, PutRecord, PutStep, Command, Kind, Tested, Record, Refusal, StepRow, Id, id_cmp, id_cmp_total, Register, greatest_number, record_key, record_of, step_key}
 use Rattle.clr_rules.specs.Prelude.{step_key_cmp, step_key_cmp_total, present_steps, step_at, places_of, after_edit, after_edits}
 use Rattle.clr_rules.proofs.good.Keeping.{asked}

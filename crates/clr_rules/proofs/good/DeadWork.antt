@@ -14,7 +14,7 @@ use Rattle.clr_rules.specs.Prelude.{HeldOpen, Ground, Crew, Phase, Requested, Cl
 use Rattle.clr_rules.specs.Prelude.{points_of, steps_in, has_hold}
 use Rattle.clr_rules.specs.Live.{IsLive, is_live}
 use Rattle.clr_rules.specs.Records.{is_fenced}
-use Rattle.clr_rules.specs.WorkLaws.{IsSafeWork}
+use Rattle.clr_rules.specs.laws.Work.{IsSafeWork}
 use Rattle.clr_rules.proofs.live.FenceCuts.{named_from_in_fence}
 use Rattle.clr_rules.proofs.live.LiveSections.{live_is_closed_walks}
 

@@ -4,11 +4,11 @@ use Rattle.std.specs.List.{range_with_len}
 use Rattle.clr_net.specs.Grid.{Grid, point_names, section_names}
 use Rattle.clr_net.specs.Names.{has_name}
 use Rattle.clr_net.specs.declared.point.Position.TheVariants.{Opened}
-use Rattle.clr_csv.specs.declared.employee.StaffRow.{StaffRow}
+use Rattle.clr_staff.specs.declared.employee.StaffRow.{StaffRow}
 use Rattle.clr_rules.specs.Answer.{Answer, known_of, answer_by_checks}
 use Rattle.clr_rules.specs.Commands.{checks, edits_of}
 use Rattle.clr_rules.specs.Checks.{employee, has_role, is_operator}
-use Rattle.clr_rules.specs.EditLaws.{adds_nothing, KeepsNetwork, refusal_of}
+use Rattle.clr_rules.specs.laws.Edits.{adds_nothing, KeepsNetwork, refusal_of}
 use Rattle.clr_rules.specs.Prelude.{Edit, Command, Kind, HoldKind, HeldOpen, Record, Refusal, Id, same_id, Register, has_in_hand, position_of, record_of, steps_of, is_point_kind, has_hold, after_edits}
 use Rattle.clr_rules.specs.Good.{is_closing_at, is_known_work, is_operators, IsGood}
 use Rattle.clr_rules.specs.GoodByPhase.{IsGoodByPhase, IsInPlace, outlook_of}

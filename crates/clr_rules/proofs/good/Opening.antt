@@ -15,8 +15,8 @@ use Rattle.clr_net.specs.Name.{name_cmp}
 use Rattle.clr_net.specs.Names.{has_name}
 use Rattle.clr_net.specs.declared.point.PointRow.{PointRow}
 use Rattle.clr_net.proofs.ListFacts.{map-map}
-use Rattle.clr_csv.specs.Staff.{IsStaff}
-use Rattle.clr_csv.specs.declared.employee.StaffRow.{StaffRow}
+use Rattle.clr_staff.specs.Staff.{IsStaff}
+use Rattle.clr_staff.specs.declared.employee.StaffRow.{StaffRow}
 use Rattle.clr_shelf.specs.Rows.{in_key_order, row_of}
 use Rattle.clr_rules.specs.Good.{IsGood, ListsAreInOrder, has_record, is_active_at, is_closing_at, is_known_work}
 use Rattle.clr_rules.specs.Prelude.{Hold, HoldKind, Record, StepRow, Id, has_in_hand, state_key, state_of, record_of, is_waiting, steps_in, steps_of, has_hold}

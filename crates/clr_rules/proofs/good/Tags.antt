@@ -15,7 +15,7 @@ use Rattle.clr_rules.specs.Answer.{Answer, known_of, answer_by_checks}
 use Rattle.clr_rules.specs.Commands.{Known, checks, edits_of}
 use Rattle.clr_rules.specs.Changes.{done_edits, new_jumper, step_moved, new_steps, phase_after, point_edits, put_steps, undone_edits}
 use Rattle.clr_rules.specs.Checks.{not_attested}
-use Rattle.clr_rules.specs.EditLaws.{is_hold, refusal_of}
+use Rattle.clr_rules.specs.laws.Edits.{is_hold, refusal_of}
 use Rattle.clr_rules.specs.Prelude.{Edit, PutHold, TakeHold, PutRecord, PutStep, Command, Kind, Hold, Tag, Tested, Phase, Requested, Ordered, Granted, Released, Restoring, Switching, Closed, Record, Refusal, StepRow, Id}
 use Rattle.clr_rules.specs.Prelude.{Register, record_of, is_running, is_granted, is_ordered, step_key, step_key_cmp, all_done, present_steps, step_at, steps_of, hold_cmp, has_any_hold, has_hold, hold_of, places_of, after_edits}
 use Rattle.clr_rules.specs.GoodByPhase.{InPhase, IsGoodByPhase, of_round, outlook_of}
@@ -23,7 +23,7 @@ use Rattle.clr_rules.specs.Hold.{same_hold}
 use Rattle.clr_rules.proofs.good.Keeping.{asked}
 use Rattle.clr_rules.specs.Records.{ends_with_steps, is_released, is_switch_order}
 use Rattle.clr_rules.specs.Run.{after}
-use Rattle.clr_rules.specs.TagLaws.{IsUntag, OnlyReleasedAreRestored, ReleasedAreGivenBack, TagsAreUntagged}
+use Rattle.clr_rules.specs.laws.Tags.{IsUntag, OnlyReleasedAreRestored, ReleasedAreGivenBack, TagsAreUntagged}
 use Rattle.clr_rules.specs.declared.command.Kind.TheVariants as kinds
 use Rattle.clr_rules.specs.declared.refusal.Refusal.TheVariants.{NotAttested}
 use Rattle.clr_rules.proofs.good.GoodToPhases.{to_phases}

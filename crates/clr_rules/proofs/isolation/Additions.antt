@@ -19,9 +19,9 @@ use Rattle.clr_net.proofs.Walks.{one_name, same_itself, some_from}
 use Rattle.clr_shelf.proofs.Groups.{filter-with_far, filter-with_inside}
 use Rattle.clr_shelf.proofs.Keys.{equal, same_text}
 use Rattle.clr_shelf.specs.Rows.{with_row}
-use Rattle.clr_rules.specs.AdditionLaws.{AddedPointsAreFree, AdditionsChangeByMarks, IsFree}
+use Rattle.clr_rules.specs.laws.Additions.{AddedPointsAreFree, AdditionsChangeByMarks, IsFree}
 use Rattle.clr_rules.specs.Agreement.{part_near}
-use Rattle.clr_rules.specs.AgreementLaws.{ChangesByMarks}
+use Rattle.clr_rules.specs.laws.Agreement.{ChangesByMarks}
 use Rattle.clr_rules.specs.Edits.{fits_edit}
 use Rattle.clr_rules.specs.Fences.{touching_names}
 use Rattle.clr_rules.specs.Good.{ListsAreInOrder}

@@ -9,9 +9,9 @@ use Rattle.clr_net.specs.Names.{has_name}
 use Rattle.clr_net.specs.declared.point.PointRow.{PointRow}
 use Rattle.clr_shelf.proofs.Groups.{filter-with_inside, filter-without_row}
 use Rattle.clr_shelf.specs.Rows.{in_key_order, with_row, without_row}
-use Rattle.clr_rules.specs.EditLaws.{adds_nothing}
+use Rattle.clr_rules.specs.laws.Edits.{adds_nothing}
 use Rattle.clr_rules.specs.Agreement.{Agree, part_near}
-use Rattle.clr_rules.specs.AgreementLaws.{ChangesByMarks, LeavesAlone, concerning, concerns, is_about, is_new_of}
+use Rattle.clr_rules.specs.laws.Agreement.{ChangesByMarks, LeavesAlone, concerning, concerns, is_about, is_new_of}
 use Rattle.clr_rules.specs.Prelude.{Edit, SetPosition, SetHand, PutHold, TakeHold, PutRecord, PutStep, AddSection, AddPoint, Hold, Record, Id, id_cmp, same_id, Register, greatest_number, record_key, hold_cmp, hold_cmp_total, hold_key, holds_of, after_edit}
 use Rattle.clr_rules.specs.Prelude.{after_edits}
 use Rattle.clr_rules.specs.Fences.{touching_names}

@@ -14,7 +14,7 @@ use Rattle.clr_net.proofs.Walks.{one_name, same_itself}
 use Rattle.clr_shelf.proofs.Reading.{row_of-with_other}
 use Rattle.clr_shelf.specs.Rows.{row_of}
 use Rattle.clr_net.specs.declared.section.SectionRow.{SectionRow}
-use Rattle.clr_csv.specs.declared.employee.StaffRow.{StaffRow}
+use Rattle.clr_staff.specs.declared.employee.StaffRow.{StaffRow}
 use Rattle.clr_rules.proofs.edits.PlainEdits.{answers_plain}
 use Rattle.clr_rules.specs.Agreement.{Agree}
 use Rattle.clr_rules.specs.Answer.{Answer, answer}

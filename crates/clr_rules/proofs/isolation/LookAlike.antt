@@ -16,7 +16,7 @@ use Rattle.clr_net.specs.Names.{has_name}
 use Rattle.clr_net.specs.declared.point.PointRow.{PointRow}
 use Rattle.clr_net.specs.declared.section.SectionRow.{SectionRow}
 use Rattle.clr_net.proofs.Walks.{one_name}
-use Rattle.clr_csv.specs.declared.employee.StaffRow.{StaffRow}
+use Rattle.clr_staff.specs.declared.employee.StaffRow.{StaffRow}
 use Rattle.clr_shelf.proofs.Lists.{filter-filter_wider}
 use Rattle.clr_rules.specs.Agreement.{Agree, extent_near, part_near}
 use Rattle.clr_rules.specs.Answer.{crossed_for, fence_for, known_of, requester_for}
@@ -28,7 +28,7 @@ use Rattle.clr_rules.specs.Holds.{is_near_hold}
 use Rattle.clr_rules.specs.Prelude.{Command, Kind, Hold, PointState, Record, StepRow, Id, same_id, Register, greatest_number, record_of}
 use Rattle.clr_rules.specs.Isolation.{AreAlike}
 use Rattle.clr_rules.specs.Near.{is_asked, is_beside, near_of, near_part, part, switched_points, switched_by}
-use Rattle.clr_rules.specs.NearLaws.{is_order}
+use Rattle.clr_rules.specs.laws.Near.{is_order}
 use Rattle.clr_rules.specs.Shown.{asked_row, covers, fence_to_come, found_phase_requested, includes, is_own_command, is_own_kind}
 use Rattle.clr_rules.specs.declared.command.Kind.TheVariants.{Request, Order, Switch}
 use Rattle.clr_rules.proofs.lists.Filters.{filter-no_member, itself_says, there_mapped}

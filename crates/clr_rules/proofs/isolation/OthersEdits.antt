@@ -19,7 +19,7 @@ use Rattle.clr_rules.specs.Prelude.{Edit, SetPosition, SetHand, TakeHold, PutRec
 use Rattle.clr_rules.specs.Prelude.{is_running, points_of, present_steps, steps_in, step_at, has_hold, hold_of, places_of}
 use Rattle.clr_rules.specs.Fences.{clearance_fence, found_fence, work_fence}
 use Rattle.clr_rules.specs.Footprint.{Frame, all_spare, both_or_neither, spares}
-use Rattle.clr_rules.specs.FrameLaws.{HandsMatchToReport, is_report, subject_of}
+use Rattle.clr_rules.specs.laws.Frame.{HandsMatchToReport, is_report, subject_of}
 use Rattle.clr_rules.specs.Good.{HandMatchesStep, IsGood, IsGoodAsSaid, ListsAreInOrder, PointsAreKnown}
 use Rattle.clr_rules.specs.GoodByPhase.{of_round, outlook_of}
 use Rattle.clr_rules.specs.Id.{same_id_equiv}

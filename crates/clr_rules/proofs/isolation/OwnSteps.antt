@@ -8,8 +8,8 @@ use Rattle.clr_rules.specs.Commands.{by_operator}
 use Rattle.clr_rules.specs.Fences.{order_fence}
 use Rattle.clr_rules.specs.Prelude.{Command, Kind, Refusal, Id, Register, record_of}
 use Rattle.clr_rules.specs.Isolation.{AreAlike, OwnStep}
-use Rattle.clr_rules.specs.NearLaws.{is_order}
-use Rattle.clr_rules.specs.OwnLaws.{SameOwn}
+use Rattle.clr_rules.specs.laws.Near.{is_order}
+use Rattle.clr_rules.specs.laws.Own.{SameOwn}
 use Rattle.clr_rules.specs.Records.{is_requested}
 use Rattle.clr_rules.specs.Shown.{asked_row, found_phase_requested, is_own_command, is_own_kind}
 use Rattle.clr_rules.specs.Command.{is_jumper, named_clearance}

@@ -13,10 +13,10 @@ use Rattle.clr_shelf.proofs.Keys.{equal, same_text}
 use Rattle.clr_shelf.proofs.Members.{member-row_of}
 use Rattle.clr_shelf.specs.Rows.{in_key_order}
 use Rattle.std.proofs.lemmas.Bool.{and_parts}
-use Rattle.clr_rules.specs.EditLaws.{adds, adds_nothing}
+use Rattle.clr_rules.specs.laws.Edits.{adds, adds_nothing}
 use Rattle.clr_rules.proofs.edits.EditedLists.{not_false}
 use Rattle.clr_rules.specs.Agreement.{part_near}
-use Rattle.clr_rules.specs.AgreementLaws.{concerning, concerns, is_about}
+use Rattle.clr_rules.specs.laws.Agreement.{concerning, concerns, is_about}
 use Rattle.clr_rules.specs.Prelude.{Edit, SetPosition, SetHand, PutHold, TakeHold, PutRecord, PutStep, AddSection, AddPoint, Hold, PointState, Record, StepRow, Id, id_cmp, id_cmp_total, same_id, Register, state_key, state_of, record_key, step_key}
 use Rattle.clr_rules.specs.Prelude.{step_key_cmp, step_key_cmp_total, hold_cmp, hold_cmp_total, hold_key, after_edit, after_edits}
 use Rattle.clr_rules.specs.Fences.{touching_names}

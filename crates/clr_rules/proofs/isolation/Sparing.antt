@@ -18,7 +18,7 @@ use Rattle.clr_net.specs.declared.point.PointRow.{PointRow}
 use Rattle.clr_shelf.proofs.Keys.{same_text}
 use Rattle.clr_shelf.proofs.Reading.{row_of-with}
 use Rattle.clr_rules.specs.States.{state_key}
-use Rattle.clr_rules.specs.EditLaws.{changed_where}
+use Rattle.clr_rules.specs.laws.Edits.{changed_where}
 use Rattle.clr_rules.specs.Prelude.{Edit, SetPosition, SetHand, PutHold, TakeHold, PutRecord, PutStep, AddSection, AddPoint, Hold, HoldKind, HeldOpen, PointState, Record, StepRow, Id, id_cmp, same_id, Register, has_in_hand, position_of, state_of, record_key}
 use Rattle.clr_rules.specs.Prelude.{record_of, step_key, step_key_cmp, step_key_cmp_total, steps_of, hold_cmp, hold_cmp_total, has_hold, hold_key, hold_of, holds_of, after_edit, after_edits}
 use Rattle.clr_rules.specs.Footprint.{Frame, all_spare, both_or_neither, is_shut, spares}

@@ -15,7 +15,7 @@ use Rattle.clr_rules.specs.Changes.{new_jumper, new_section}
 use Rattle.clr_rules.specs.Checks.{crosses_fence}
 use Rattle.clr_rules.specs.Commands.{checks, edits_of}
 use Rattle.clr_rules.specs.Command.{is_jumper}
-use Rattle.clr_rules.specs.EditLaws.{refusal_of}
+use Rattle.clr_rules.specs.laws.Edits.{refusal_of}
 use Rattle.clr_rules.specs.Edits.{fit}
 use Rattle.clr_rules.specs.Fences.{CrossesNoFence, clearance_fence, crossed_by, crossed_record, crosses, found_fence, record_fence}
 use Rattle.clr_rules.specs.Good.{IsGood}

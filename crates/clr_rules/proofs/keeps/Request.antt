@@ -4,9 +4,9 @@ use Rattle.std.specs.Option.{is_some}
 use Rattle.std.proofs.lemmas.Bool.{false≢true}
 use Rattle.clr_net.specs.Grid.{Grid, section_names}
 use Rattle.clr_net.specs.Names.{has_name}
-use Rattle.clr_csv.specs.declared.employee.Role.{Role}
-use Rattle.clr_csv.specs.declared.employee.Role.TheVariants.{Operator}
-use Rattle.clr_csv.specs.declared.employee.StaffRow.{StaffRow}
+use Rattle.clr_staff.specs.declared.employee.Role.{Role}
+use Rattle.clr_staff.specs.declared.employee.Role.TheVariants.{Operator}
+use Rattle.clr_staff.specs.declared.employee.StaffRow.{StaffRow}
 use Rattle.clr_rules.specs.Changes.{new_record}
 use Rattle.clr_rules.specs.Checks.{employee, has_role, is_charge, is_operator, refuse, unknown_caller, wrong_role}
 use Rattle.clr_rules.specs.Prelude.{PutRecord, Requested, Record, Id, Register, greatest_number, record_of, after_edits}

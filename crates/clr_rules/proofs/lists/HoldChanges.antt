@@ -8,7 +8,7 @@ use Rattle.clr_net.specs.Name.{same_name}
 use Rattle.clr_net.proofs.Walks.{one_name, same_itself, same_tests}
 use Rattle.clr_shelf.proofs.Keys.{equal, same_number}
 use Rattle.clr_shelf.specs.Rows.{with_row, without_row}
-use Rattle.clr_rules.specs.EditLaws.{is_hold}
+use Rattle.clr_rules.specs.laws.Edits.{is_hold}
 use Rattle.clr_rules.specs.Prelude.{Hold, HoldKind, HeldOpen, Id, same_id, hold_cmp, hold_cmp_total, has_hold, hold_key, hold_of, same_kind}
 use Rattle.clr_rules.specs.Hold.{same_hold}
 use Rattle.clr_rules.specs.HoldKind.{all_hold_kinds, kind_cmp, kind_cmp_total, kind_place}

@@ -12,7 +12,7 @@ use Rattle.clr_shelf.proofs.Keys.{below_not_above}
 use Rattle.clr_shelf.proofs.Lists.{Contains-cases, Contains-here, Contains-later, list_all-contains}
 use Rattle.clr_shelf.proofs.Members.{member-row_of, row_of-member}
 use Rattle.clr_shelf.specs.Rows.{in_key_order}
-use Rattle.clr_rules.specs.AdditionLaws.{IsLeastCrossed, LeastCrossedIsNamed}
+use Rattle.clr_rules.specs.laws.Additions.{IsLeastCrossed, LeastCrossedIsNamed}
 use Rattle.clr_rules.specs.Fences.{crossed_record, crosses, found_fence, record_fence}
 use Rattle.clr_rules.specs.Good.{ListsAreInOrder}
 use Rattle.clr_rules.specs.Prelude.{Record, Id, id_cmp, id_cmp_total, Register, record_key, record_of}

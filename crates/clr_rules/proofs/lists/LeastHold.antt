@@ -12,7 +12,7 @@ use Rattle.std.proofs.lemmas.List.MinMax.{ranks_by}
 use Rattle.std.proofs.lemmas.Option.{same_Some}
 use Rattle.clr_shelf.proofs.Lists.{Contains-here, Contains-later}
 use Rattle.clr_rules.specs.HoldKind.{kind_cmp, kind_cmp_total}
-use Rattle.clr_rules.specs.HoldLaws.{LeastHoldIsNamed, NoneIsNamedWhereNoneHinders}
+use Rattle.clr_rules.specs.laws.Holds.{LeastHoldIsNamed, NoneIsNamedWhereNoneHinders}
 use Rattle.clr_rules.specs.Holds.{earlier_hold, first_hold, hindering_hold, hinders, stands_before}
 use Rattle.clr_rules.specs.Prelude.{Hold, id_cmp, id_cmp_total}
 use Rattle.clr_rules.proofs.lists.Filters.{kept_there}

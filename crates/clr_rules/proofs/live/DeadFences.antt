@@ -13,7 +13,7 @@ use Rattle.clr_order.specs.Step.{Task}
 use Rattle.clr_rules.specs.Fences.{work_fence}
 use Rattle.clr_rules.specs.Prelude.{PointState, first_of_each}
 use Rattle.clr_rules.specs.Live.{is_closed_point, is_live}
-use Rattle.clr_rules.specs.LiveLaws.{CarriesOn}
+use Rattle.clr_rules.specs.laws.Live.{CarriesOn}
 use Rattle.clr_rules.proofs.live.FenceCuts.{has_name-once, in_fence_alike, in_fence_from_named}
 use Rattle.clr_rules.proofs.live.LiveSections.{live_is_least}
 use Rattle.clr_rules.proofs.lists.NamedRows.{Contains-filter}

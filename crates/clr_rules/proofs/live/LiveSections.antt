@@ -10,7 +10,7 @@ use Rattle.clr_net.specs.declared.point.PointRow.{PointRow}
 use Rattle.clr_net.specs.declared.section.SectionRow.{SectionRow}
 use Rattle.clr_net.proofs.Walks.{any_from, fence_is_closed, fence_is_least, fence_is_walks, same_tests, some_from}
 use Rattle.clr_rules.specs.Live.{ClosedWalk, IsLive, feeds, is_closed_point, is_live, open_points}
-use Rattle.clr_rules.specs.LiveLaws.{CarriesOn}
+use Rattle.clr_rules.specs.laws.Live.{CarriesOn}
 use Rattle.clr_rules.specs.Live.ClosedWalk.{at_source, over_closed}
 use Rattle.clr_rules.specs.declared.point_state.PointState.{PointState}
 use Rattle.clr_rules.proofs.lists.NamedRows.{has_name-filter, has_name-row}

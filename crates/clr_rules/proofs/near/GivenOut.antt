@@ -22,7 +22,7 @@ use Rattle.clr_rules.specs.Prelude.{Command, Hold, HeldOpen, Phase, Ordered, Res
 use Rattle.clr_rules.specs.Prelude.{is_done, is_some_step, is_waiting, points_of, present_steps, step_at, steps_in, steps_of, tasks_of, is_point_kind, has_hold, same_kind}
 use Rattle.clr_rules.specs.Holds.{first_hold, hindering_hold, hinders, is_near_hold}
 use Rattle.clr_rules.specs.Near.{is_beside, near_part, part_beside, switched_in}
-use Rattle.clr_rules.specs.OwnLaws.{SameOwn}
+use Rattle.clr_rules.specs.laws.Own.{SameOwn}
 use Rattle.clr_rules.specs.Records.{is_closed, is_in_switching}
 use Rattle.clr_rules.specs.States.{hand_in}
 use Rattle.clr_rules.specs.Steps.{is_close}

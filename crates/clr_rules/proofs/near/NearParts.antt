@@ -15,9 +15,9 @@ use Rattle.clr_rules.specs.Command.{named_clearance}
 use Rattle.clr_rules.specs.Fences.{clearance_fence, touching_names}
 use Rattle.clr_rules.specs.Prelude.{Command, Kind, Hold, PointState, Record, StepRow, Id, Register, record_of, is_point_kind}
 use Rattle.clr_rules.specs.Holds.{is_near_hold, is_own}
-use Rattle.clr_rules.specs.MarkLaws.{HasEndIn}
+use Rattle.clr_rules.specs.laws.Marks.{HasEndIn}
 use Rattle.clr_rules.specs.Near.{is_asked, is_beside, near_of, part_beside, switched_points, switched_in}
-use Rattle.clr_rules.specs.NearLaws.{HasAskedRow, HasNearRows, HasSwitchRows, InFence, InOrderFence, IsNearHold, IsNearPoint, IsStepPoint, IsSwitchPoint, is_order}
+use Rattle.clr_rules.specs.laws.Near.{HasAskedRow, HasNearRows, HasSwitchRows, InFence, InOrderFence, IsNearHold, IsNearPoint, IsStepPoint, IsSwitchPoint, is_order}
 use Rattle.clr_rules.specs.declared.command.Kind.TheVariants.{Request, Order, Switch}
 use Rattle.clr_rules.proofs.lists.Filters.{Says, fails, filter-nothing, is_kept, name_says, or_says, says_as, says_like}
 use Rattle.clr_rules.proofs.near.NearNamed.{near_named, no_jumper, none_crossed}

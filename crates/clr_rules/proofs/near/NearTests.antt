@@ -10,7 +10,7 @@ use Rattle.clr_order.specs.Step.{Task, task}
 use Rattle.clr_rules.specs.Fences.{clearance_fence, found_fence, found_order_fence, order_fence, record_fence, work_fence}
 use Rattle.clr_rules.specs.Prelude.{HoldKind, Crew, Record, StepRow, Id, same_id, Register, record_of, points_of, steps_in, steps_of, is_crew}
 use Rattle.clr_rules.specs.Near.{switched_by, switched_in}
-use Rattle.clr_rules.specs.NearLaws.{InFence, InOrderFence, IsStepPoint, IsSwitchPoint, IsWithin}
+use Rattle.clr_rules.specs.laws.Near.{InFence, InOrderFence, IsStepPoint, IsSwitchPoint, IsWithin}
 use Rattle.clr_rules.specs.Records.{is_fenced}
 use Rattle.clr_rules.proofs.live.FenceCuts.{named_in_fence}
 use Rattle.clr_rules.proofs.lists.Filters.{Says, and_says, itself_says, kept_there, mapped_from, name_says, says_as, says_like, there_mapped}

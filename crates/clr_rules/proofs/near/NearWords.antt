@@ -10,7 +10,7 @@ use Rattle.clr_rules.specs.Fences.{touching_names}
 use Rattle.clr_net.specs.Fence.{touches}
 use Rattle.clr_rules.specs.Prelude.{Edit, SetPosition, SetHand, PutHold, TakeHold, AddSection, AddPoint, Hold, Id, is_crew, is_point_kind, is_section_kind}
 use Rattle.clr_rules.specs.Holds.{is_near_hold, is_own}
-use Rattle.clr_rules.specs.MarkLaws.{HasEndIn, IsEditAmong, StandsAmong}
+use Rattle.clr_rules.specs.laws.Marks.{HasEndIn, IsEditAmong, StandsAmong}
 use Rattle.clr_rules.specs.Shown.{is_mark}
 use Rattle.clr_rules.proofs.lists.Filters.{Says, and_says, itself_says, kept_there, mapped_from, name_says, or_says, there_mapped}
 use Rattle.clr_rules.proofs.lists.NamedRows.{Contains-filter}

@@ -8,7 +8,7 @@ use Rattle.clr_shelf.proofs.Lists.{filter-filter_wider}
 use Rattle.clr_rules.specs.Command.{is_jumper}
 use Rattle.clr_rules.specs.Fences.{crossed_by, crossed_record, crosses, record_fence, work_fence}
 use Rattle.clr_rules.specs.Near.{near_of, near_part, network_part, part_beside}
-use Rattle.clr_rules.specs.NearLaws.{HasNetworkRows, HasNoOtherRows, IsPartOf}
+use Rattle.clr_rules.specs.laws.Near.{HasNetworkRows, HasNoOtherRows, IsPartOf}
 use Rattle.clr_rules.specs.Prelude.{Command, Record, StepRow, Id, same_id, Register, points_of, steps_in}
 use Rattle.clr_rules.specs.Records.{is_fenced}
 use Rattle.clr_rules.specs.Steps.{is_of_round}

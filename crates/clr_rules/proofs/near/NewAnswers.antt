@@ -24,7 +24,7 @@ use Rattle.clr_rules.specs.Prelude.{Command, Kind, Hold, Record, Refusal, StepRo
 use Rattle.clr_rules.specs.Good.{IsGoodAsSaid, OnlySwitchOrdersSwitch, has_record}
 use Rattle.clr_rules.specs.Holds.{is_near_hold}
 use Rattle.clr_rules.specs.Near.{Near, is_beside, near_of, near_part}
-use Rattle.clr_rules.specs.OwnLaws.{SameOwn}
+use Rattle.clr_rules.specs.laws.Own.{SameOwn}
 use Rattle.clr_rules.specs.Refusals.{order_refusal}
 use Rattle.clr_rules.specs.declared.command.Kind.TheVariants.{Request, Switch, Jumper}
 use Rattle.clr_rules.specs.declared.refusal.Refusal.TheVariants.{UnknownSection}

@@ -18,7 +18,7 @@ use Rattle.clr_rules.specs.Prelude.{Command, Kind, Hold, HoldKind, Phase, Reques
 use Rattle.clr_rules.specs.Prelude.{has_hold, holds_of}
 use Rattle.clr_rules.specs.Holds.{is_near_hold}
 use Rattle.clr_rules.specs.Near.{is_beside, near_part}
-use Rattle.clr_rules.specs.OwnLaws.{SameOwn}
+use Rattle.clr_rules.specs.laws.Own.{SameOwn}
 use Rattle.clr_rules.specs.Records.{is_requested}
 use Rattle.clr_rules.specs.Refusals.{order_refusal}
 use Rattle.clr_rules.specs.Command.{named_clearance}

@@ -15,8 +15,8 @@ use Rattle.clr_net.specs.Fence.{touches}
 use Rattle.clr_rules.specs.Good.{IsGoodAsSaid, ListsAreInOrder}
 use Rattle.clr_rules.specs.Holds.{in_kind_order, is_near_hold, is_own}
 use Rattle.clr_rules.specs.Near.{is_beside, near_part, part_beside}
-use Rattle.clr_rules.specs.NearLaws.{is_order}
-use Rattle.clr_rules.specs.OwnLaws.{SameOwn, is_instruct}
+use Rattle.clr_rules.specs.laws.Near.{is_order}
+use Rattle.clr_rules.specs.laws.Own.{SameOwn, is_instruct}
 use Rattle.clr_rules.specs.declared.command.Kind.TheVariants.{Show}
 use Rattle.clr_rules.specs.declared.reply.Reply.TheVariants.{Accepted, Shown}
 use Rattle.clr_rules.proofs.isolation.Agreement.{touching_named}

@@ -11,7 +11,7 @@ use Rattle.clr_rules.specs.Command.{named_clearance}
 use Rattle.clr_rules.specs.Prelude.{Edit, PutHold, TakeHold, PutRecord, PutStep, Kind, Tested, Phase, Released, Closed, Record, StepRow, Id, same_id, Register, record_of, is_ordered, step_key, step_key_cmp}
 use Rattle.clr_rules.specs.Prelude.{step_key_cmp_total, all_done, present_steps, step_at, steps_of, has_any_hold, hold_of, holds_of, after_edit, after_edits}
 use Rattle.clr_rules.specs.Good.{ListsAreInOrder}
-use Rattle.clr_rules.specs.OwnLaws.{SameOwn}
+use Rattle.clr_rules.specs.laws.Own.{SameOwn}
 use Rattle.clr_rules.specs.Records.{ends_with_steps, is_switch_order}
 use Rattle.clr_rules.specs.StepKey.{same_step_key}
 use Rattle.clr_rules.specs.declared.command.Kind.TheVariants as kinds

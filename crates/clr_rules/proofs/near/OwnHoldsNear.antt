@@ -18,9 +18,9 @@ use Rattle.clr_rules.specs.Good.{IsGoodAsSaid, IsSoundFor}
 use Rattle.clr_rules.specs.Prelude.{Command, Hold, HoldKind, Tested, Ground, Crew, Phase, Requested, Switching, Closed, Record, StepRow, Id, same_id, Register}
 use Rattle.clr_rules.specs.Prelude.{record_of, is_standing, points_of, steps_in, tasks_of, is_crew, is_point_kind, is_section_kind, has_hold, holds_of, first_of_each}
 use Rattle.clr_rules.specs.Holds.{is_near_hold, is_own}
-use Rattle.clr_rules.specs.MarkLaws.{HasEndIn}
+use Rattle.clr_rules.specs.laws.Marks.{HasEndIn}
 use Rattle.clr_rules.specs.Near.{is_beside, near_part, part_beside}
-use Rattle.clr_rules.specs.NearLaws.{is_order}
+use Rattle.clr_rules.specs.laws.Near.{is_order}
 use Rattle.clr_rules.specs.Records.{is_fenced}
 use Rattle.clr_rules.proofs.live.FenceCuts.{has_name-once, in_fence_alike, known_in_fence}
 use Rattle.clr_rules.proofs.lists.HoldMembers.{hold_had}

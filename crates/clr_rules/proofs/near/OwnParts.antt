@@ -7,8 +7,8 @@ use Rattle.clr_rules.specs.Command.{named_clearance}
 use Rattle.clr_rules.specs.Good.{IsGoodAsSaid}
 use Rattle.clr_rules.specs.Prelude.{Command, StepRow, Id, same_id, Register, steps_of, holds_of}
 use Rattle.clr_rules.specs.Near.{near_part}
-use Rattle.clr_rules.specs.NearLaws.{is_order}
-use Rattle.clr_rules.specs.OwnLaws.{SameOwn}
+use Rattle.clr_rules.specs.laws.Near.{is_order}
+use Rattle.clr_rules.specs.laws.Own.{SameOwn}
 use Rattle.clr_rules.proofs.near.NearNamed.{near_named}
 use Rattle.clr_rules.proofs.near.OwnHoldsNear.{own_holds_near}
 use Rattle.clr_rules.proofs.isolation.SameFences.{record_of-own, same_record}

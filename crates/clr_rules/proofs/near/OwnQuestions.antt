@@ -11,7 +11,7 @@ use Rattle.clr_rules.specs.Prelude.{Hold, HoldKind, HeldOpen, Block, Control, Ta
 use Rattle.clr_rules.specs.Prelude.{hold_key, hold_of, holds_of, first_of_each, places_of, same_kind}
 use Rattle.clr_rules.specs.Hold.{same_hold}
 use Rattle.clr_rules.specs.Holds.{held_among}
-use Rattle.clr_rules.specs.OwnLaws.{SameOwn}
+use Rattle.clr_rules.specs.laws.Own.{SameOwn}
 use Rattle.clr_rules.proofs.lists.RoundSteps.{of_round_is, own_id}
 
 -- a search for any in what a wider test keeps

@@ -1,8 +1,8 @@
 //! Laws of edits that add to the network.
-ghost use Rattle.clr_rules.specs.AdditionLaws.{AnswersFit, FittingEditsKeepNetworks};
-ghost use Rattle.clr_rules.specs.AdditionLaws.{AddedPointsAreFree, AdditionsChangeByMarks};
-ghost use Rattle.clr_rules.specs.AdditionLaws.{PositionsAreNoPart};
-ghost use Rattle.clr_rules.specs.AdditionLaws.{LeastCrossedIsNamed};
+ghost use Rattle.clr_rules.specs.laws.Additions.{AnswersFit, FittingEditsKeepNetworks};
+ghost use Rattle.clr_rules.specs.laws.Additions.{AddedPointsAreFree, AdditionsChangeByMarks};
+ghost use Rattle.clr_rules.specs.laws.Additions.{PositionsAreNoPart};
+ghost use Rattle.clr_rules.specs.laws.Additions.{LeastCrossedIsNamed};
 
 /// What is added to a network whose rows have positions is added to that of the register, which has
 /// none, and fits in both or in neither.

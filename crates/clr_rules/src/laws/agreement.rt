@@ -1,9 +1,9 @@
 //! Agreement near a clearance, and what edits do to it.
-ghost use Rattle.clr_rules.specs.AgreementLaws.{AgreeingRegistersMarkAlike, AgreementGoesBothWays};
-ghost use Rattle.clr_rules.specs.AgreementLaws.{AgreementIsHandedOn, AnEditOfOthersKeepsAgreement};
-ghost use Rattle.clr_rules.specs.AgreementLaws.{EachAgreesWithItself, EditsChangeWhatTheyConcern};
-ghost use Rattle.clr_rules.specs.AgreementLaws.{EditsOfOthersKeepAgreement, OthersChangeByMarks};
-ghost use Rattle.clr_rules.specs.AgreementLaws.{SameEditsKeepAgreement, SameMarksKeepAgreement};
+ghost use Rattle.clr_rules.specs.laws.Agreement.{AgreeingRegistersMarkAlike, AgreementGoesBothWays};
+ghost use Rattle.clr_rules.specs.laws.Agreement.{AgreementIsHandedOn, AnEditOfOthersKeepsAgreement};
+ghost use Rattle.clr_rules.specs.laws.Agreement.{EachAgreesWithItself, EditsChangeWhatTheyConcern};
+ghost use Rattle.clr_rules.specs.laws.Agreement.{EditsOfOthersKeepAgreement, OthersChangeByMarks};
+ghost use Rattle.clr_rules.specs.laws.Agreement.{SameEditsKeepAgreement, SameMarksKeepAgreement};
 
 /// Agreement is reflexive, symmetric and transitive.
 pub fn agreement_is_an_equivalence()

@@ -1,11 +1,11 @@
 //! Laws of edits: what each does to the register, what it leaves, and which answers have none.
 ghost use Rattle.clr_rules.specs.EditOrder.{AnswersEditsInOrder};
-ghost use Rattle.clr_rules.specs.EditLaws.{AcceptedPassesChecks, AddedPassesChecks};
-ghost use Rattle.clr_rules.specs.EditLaws.{EditsKeepNetwork, EditsKeepOrder, EditsLeaveTheRest};
-ghost use Rattle.clr_rules.specs.EditLaws.{PutHoldAdds, PutRecordReplaces};
-ghost use Rattle.clr_rules.specs.EditLaws.{PutStepReplaces, PutsKeepOtherRows, RefusedByFirstCheck};
-ghost use Rattle.clr_rules.specs.EditLaws.{RefusedChangesNothing, SetHandSets, SetPositionSets};
-ghost use Rattle.clr_rules.specs.EditLaws.{ShownChangesNothing, TakeHoldTakes};
+ghost use Rattle.clr_rules.specs.laws.Edits.{AcceptedPassesChecks, AddedPassesChecks};
+ghost use Rattle.clr_rules.specs.laws.Edits.{EditsKeepNetwork, EditsKeepOrder, EditsLeaveTheRest};
+ghost use Rattle.clr_rules.specs.laws.Edits.{PutHoldAdds, PutRecordReplaces};
+ghost use Rattle.clr_rules.specs.laws.Edits.{PutStepReplaces, PutsKeepOtherRows, RefusedByFirstCheck};
+ghost use Rattle.clr_rules.specs.laws.Edits.{RefusedChangesNothing, SetHandSets, SetPositionSets};
+ghost use Rattle.clr_rules.specs.laws.Edits.{ShownChangesNothing, TakeHoldTakes};
 
 /// A record or a step that is put replaces that of its key, and all others are read as before.
 pub fn puts_replace()

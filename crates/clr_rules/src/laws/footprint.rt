@@ -1,8 +1,8 @@
 //! Laws of footprints: what edits leave alone.
 ghost use Rattle.clr_rules.specs.Footprint.{SparingEditsLeaveAlone};
-ghost use Rattle.clr_rules.specs.FrameLaws.{OneOutlookChanges, OthersEditsSpare};
-ghost use Rattle.clr_rules.specs.FrameLaws.{OthersEditsSpareAnywhere, OthersKeepHeldOpen};
-ghost use Rattle.clr_rules.specs.FrameLaws.{OthersKeepOutlook, SparingEditsKeepOutlook};
+ghost use Rattle.clr_rules.specs.laws.Frame.{OneOutlookChanges, OthersEditsSpare};
+ghost use Rattle.clr_rules.specs.laws.Frame.{OthersEditsSpareAnywhere, OthersKeepHeldOpen};
+ghost use Rattle.clr_rules.specs.laws.Frame.{OthersKeepOutlook, SparingEditsKeepOutlook};
 ghost use Rattle.clr_rules.specs.Isolation.{OthersSpare};
 
 /// Edits that spare a clearance in the register before them leave its record, its steps and its

@@ -1,5 +1,5 @@
 //! Laws of keeping: commands and runs keep a good register good.
-ghost use Rattle.clr_rules.specs.KeepLaws.{CommandsKeepGood, ReachedRegistersAreGood};
+ghost use Rattle.clr_rules.specs.laws.Keeps.{CommandsKeepGood, ReachedRegistersAreGood};
 
 /// Every command keeps a good register good: it is so of each kind, accepted, shown or refused.
 pub fn commands_keep_good()

@@ -1,6 +1,6 @@
 //! Laws of live sections: what closed points join to a source.
-ghost use Rattle.clr_rules.specs.LiveLaws.{ClosedPointsCarryOn, LiveIsClosedWalks, LiveIsLeast};
-ghost use Rattle.clr_rules.specs.LiveLaws.{LiveIsWalks, SoundOrdersKeepFencesDead, SourcesAreLive};
+ghost use Rattle.clr_rules.specs.laws.Live.{ClosedPointsCarryOn, LiveIsClosedWalks, LiveIsLeast};
+ghost use Rattle.clr_rules.specs.laws.Live.{LiveIsWalks, SoundOrdersKeepFencesDead, SourcesAreLive};
 
 /// Each source of the network is live.
 pub fn sources_are_live()

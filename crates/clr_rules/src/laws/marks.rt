@@ -1,5 +1,5 @@
 //! What a mark is.
-ghost use Rattle.clr_rules.specs.MarkLaws.{MarksConcernTheSet};
+ghost use Rattle.clr_rules.specs.laws.Marks.{MarksConcernTheSet};
 
 /// A mark is an edit that concerns a section inside, or a point with an end inside. A record, a
 /// step and a crew are none.

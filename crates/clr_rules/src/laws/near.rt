@@ -1,11 +1,11 @@
 //! The near part: which rows of the register a command looks at.
-ghost use Rattle.clr_rules.specs.NearLaws.{GreatestIsGreatest, NamedLooksAtItsFence};
-ghost use Rattle.clr_rules.specs.NearLaws.{NearHasNoOtherRows, NearIsInOrder};
-ghost use Rattle.clr_rules.specs.NearLaws.{OrderLooksAtFenceToBe, OrderPointsTouchTheFence};
-ghost use Rattle.clr_rules.specs.NearLaws.{JumperLooksAtTheNetwork, OwnHoldsAreNear};
-ghost use Rattle.clr_rules.specs.NearLaws.{PointsHaveOneRow};
-ghost use Rattle.clr_rules.specs.NearLaws.{RequestLooksAtItsSection, SwitchLooksAtItsPoints};
-ghost use Rattle.clr_rules.specs.NearLaws.{SwitchOrderHasItsPoints};
+ghost use Rattle.clr_rules.specs.laws.Near.{GreatestIsGreatest, NamedLooksAtItsFence};
+ghost use Rattle.clr_rules.specs.laws.Near.{NearHasNoOtherRows, NearIsInOrder};
+ghost use Rattle.clr_rules.specs.laws.Near.{OrderLooksAtFenceToBe, OrderPointsTouchTheFence};
+ghost use Rattle.clr_rules.specs.laws.Near.{JumperLooksAtTheNetwork, OwnHoldsAreNear};
+ghost use Rattle.clr_rules.specs.laws.Near.{PointsHaveOneRow};
+ghost use Rattle.clr_rules.specs.laws.Near.{RequestLooksAtItsSection, SwitchLooksAtItsPoints};
+ghost use Rattle.clr_rules.specs.laws.Near.{SwitchOrderHasItsPoints};
 
 /// A command that names a clearance looks at its record, steps and crews, at the sections of its
 /// fence, at the points that touch the fence with their positions and hands, and at all holds at

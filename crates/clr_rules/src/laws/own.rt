@@ -1,8 +1,8 @@
 //! What a register has of a clearance, and what its commands look at.
 ghost use Rattle.clr_rules.specs.Isolation.{Independence};
-ghost use Rattle.clr_rules.specs.OwnLaws.{AgreeingRegistersHaveTheSame, ChecksLookAtTheOwn};
-ghost use Rattle.clr_rules.specs.OwnLaws.{EditsAreOfTheOwn, NearHasTheOwn, NearIsEnough};
-ghost use Rattle.clr_rules.specs.OwnLaws.{SameEditsKeepTheOwn};
+ghost use Rattle.clr_rules.specs.laws.Own.{AgreeingRegistersHaveTheSame, ChecksLookAtTheOwn};
+ghost use Rattle.clr_rules.specs.laws.Own.{EditsAreOfTheOwn, NearHasTheOwn, NearIsEnough};
+ghost use Rattle.clr_rules.specs.laws.Own.{SameEditsKeepTheOwn};
 
 /// Registers that agree near a clearance have the same staff, record, steps and holds of it, and so
 /// has the near part of a command that names it.

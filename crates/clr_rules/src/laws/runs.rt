@@ -1,9 +1,9 @@
 //! Laws of runs: what commands may add, one reply a command, and what every reached register has.
-ghost use Rattle.clr_rules.specs.BoundLaws.{ReachedRegistersAreBounded};
-ghost use Rattle.clr_rules.specs.RunLaws.{CommandsAreReplied, OnlyJumpersAdd};
-ghost use Rattle.clr_rules.specs.RunLaws.{OpeningRegistersAreReached, ReachedGoOn};
-ghost use Rattle.clr_rules.specs.RunLaws.{ReachedListsAreInOrder, RunsGoOn, RunsOnlyAdd};
-ghost use Rattle.clr_rules.specs.RunLaws.{RunsWithoutJumpersKeepTheNetwork};
+ghost use Rattle.clr_rules.specs.laws.Bounds.{ReachedRegistersAreBounded};
+ghost use Rattle.clr_rules.specs.laws.Runs.{CommandsAreReplied, OnlyJumpersAdd};
+ghost use Rattle.clr_rules.specs.laws.Runs.{OpeningRegistersAreReached, ReachedGoOn};
+ghost use Rattle.clr_rules.specs.laws.Runs.{ReachedListsAreInOrder, RunsGoOn, RunsOnlyAdd};
+ghost use Rattle.clr_rules.specs.laws.Runs.{RunsWithoutJumpersKeepTheNetwork};
 
 /// In a reached register each list is in key order, one row a key.
 pub fn reached_lists_are_in_order()

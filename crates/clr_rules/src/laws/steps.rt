@@ -1,7 +1,7 @@
 //! Agreement near a clearance from command to command: the steps of isolation.
 ghost use Rattle.clr_rules.specs.Isolation.{LoneStep, OthersStep, OwnStep};
-ghost use Rattle.clr_rules.specs.StepLaws.{OthersEditsAreOfOthers, OwnCommandsLookAtTheSame};
-ghost use Rattle.clr_rules.specs.StepLaws.{SameAnswersKeepAgreement};
+ghost use Rattle.clr_rules.specs.laws.Steps.{OthersEditsAreOfOthers, OwnCommandsLookAtTheSame};
+ghost use Rattle.clr_rules.specs.laws.Steps.{SameAnswersKeepAgreement};
 
 /// The edits of a command of others are not about the clearance, and give its requester no new
 /// clearance.

@@ -1,6 +1,6 @@
 //! Laws of tags: who takes one, and what has to be done before.
-ghost use Rattle.clr_rules.specs.TagLaws.{OnlyReleasedAreRestored, ReleasedAreGivenBack};
-ghost use Rattle.clr_rules.specs.TagLaws.{TagsAreUntagged};
+ghost use Rattle.clr_rules.specs.laws.Tags.{OnlyReleasedAreRestored, ReleasedAreGivenBack};
+ghost use Rattle.clr_rules.specs.laws.Tags.{TagsAreUntagged};
 
 /// A tag is taken only by the report of an Untag of its own clearance while that is Restoring; only
 /// a Released clearance becomes Restoring; and a clearance becomes Released only by its release, or

@@ -1,8 +1,8 @@
 //! Laws of work: what those who work on a line rest on.
-ghost use Rattle.clr_rules.specs.WorkLaws.{ClosingsFeedNoGround, CrewsWorkSafely};
-ghost use Rattle.clr_rules.specs.WorkLaws.{GrantedFencesStayDead, GrantedPointsBearAllHolds};
-ghost use Rattle.clr_rules.specs.WorkLaws.{GrantedWorkIsDead, GroundedSectionsAreDead};
-ghost use Rattle.clr_rules.specs.WorkLaws.{NoSourceFeedsGrounds};
+ghost use Rattle.clr_rules.specs.laws.Work.{ClosingsFeedNoGround, CrewsWorkSafely};
+ghost use Rattle.clr_rules.specs.laws.Work.{GrantedFencesStayDead, GrantedPointsBearAllHolds};
+ghost use Rattle.clr_rules.specs.laws.Work.{GrantedWorkIsDead, GroundedSectionsAreDead};
+ghost use Rattle.clr_rules.specs.laws.Work.{NoSourceFeedsGrounds};
 
 /// While a clearance is granted, no section of its fence is live, and its work section is one of
 /// these.

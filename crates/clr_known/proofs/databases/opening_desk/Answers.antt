@@ -1,13 +1,13 @@
 use Rattle.std.proofs.Common.{◌≡◌, subst, List}
 use Rattle.sqlite.specs.Files.{over_files}
 use Rattle.sqlite.specs.Held.{state}
-use Rattle.clr_csv.specs.Staff.{IsStaff}
-use Rattle.clr_csv.specs.declared.employee.StaffRow.{StaffRow}
+use Rattle.clr_staff.specs.Staff.{IsStaff}
+use Rattle.clr_staff.specs.declared.employee.StaffRow.{StaffRow}
 use Rattle.clr_load.specs.Stored.{HasTables}
 use Rattle.clr_net.specs.Grid.{Grid, IsNetwork}
 use Rattle.clr_rules.proofs.good.Opening.{opening_is_good}
 use Rattle.clr_rules.specs.Register.{Register, opening}
-use Rattle.clr_rules.specs.Worked.{worked_net, worked_opening, worked_staff}
+use Rattle.clr_examples.specs.Worked.{worked_net, worked_opening, worked_staff}
 use Rattle.clr_tables.specs.Tables.{tables_of}
 use Rattle.clr_known.proofs.databases.opening_desk.Goals as goal
 

@@ -6,7 +6,7 @@ use Rattle.clr_net.specs.Grid.{Grid}
 use Rattle.clr_net.specs.Network.{IsGridOf}
 use Rattle.clr_net.specs.declared.point.PointRow.{PointRow}
 use Rattle.clr_net.specs.declared.section.SectionRow.{SectionRow}
-use Rattle.clr_rules.specs.Worked.{worked_net}
+use Rattle.clr_examples.specs.Worked.{worked_net}
 use Rattle.clr_known.specs.Known.{point_file, section_file}
 use Rattle.clr_known.proofs.WorkedRows.{file_sections, is_worked_net, points_read, rows_are, sections_read}
 use Rattle.clr_known.proofs.databases.worked_network.Goals as goal

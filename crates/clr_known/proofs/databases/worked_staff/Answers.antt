@@ -1,7 +1,7 @@
 use Rattle.std.proofs.Common.{ap, subst, sym, List}
-use Rattle.clr_csv.specs.Staff.{IsStaffOf}
+use Rattle.clr_staff.specs.Staff.{IsStaffOf}
 use Rattle.clr_csv.specs.StaffRows.{staff_of}
-use Rattle.clr_csv.specs.declared.employee.StaffRow.{StaffRow}
+use Rattle.clr_staff.specs.declared.employee.StaffRow.{StaffRow}
 use Rattle.clr_edge.specs.declared.fault.ImportFile.TheVariants.{Staff}
 use Rattle.clr_known.specs.Known.{staff_file}
 use Rattle.clr_known.proofs.WorkedRows.{file_staff, is_worked_staff, rows_are, staff_read}

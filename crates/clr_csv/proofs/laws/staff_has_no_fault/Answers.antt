@@ -1,5 +1,0 @@
-use Rattle.clr_csv.proofs.StaffFacts.{staff_has_no_fault}
-use Rattle.clr_csv.proofs.laws.staff_has_no_fault.Goals as goal
-
-pub returns : goal.returns
-returns c = staff_has_no_fault

@@ -1,0 +1,68 @@
+//! The watch over the opening of a database.
+//!
+//! Of what a cell holds, and of a terminal, no clause speaks: what is told, and when, the clauses of
+//! `Opening` say.
+ghost use Rattle.std.specs.Prelude.{◌≡◌, ◌<◌, ◌/◌, ◌^◌};
+ghost use Rattle.std.specs.Duration.{as_nanos};
+
+use crate::opening::Opening;
+use clr_stream::Counted;
+use std::cell::Cell;
+use std::io::IsTerminal;
+use std::time::{Duration, Instant};
+
+/// The watch over an opening. Where standard error is a terminal, it tells there how far an opening
+/// has come that takes more than a second, until it ends.
+#[derive(Drop)]
+pub struct Watch {
+    rt: HostRuntime,
+    opening: Cell<Option<(Opening, Instant)>>,
+}
+
+impl Watch {
+    /// A watch that has nothing to tell of.
+    pub fn new(rt: &HostRuntime) -> Watch {
+        Watch {
+            rt: *rt,
+            opening: Cell::new(None),
+        }
+    }
+
+    /// The opening of a file of so many bytes begins.
+    pub fn begin(&self, size: u64) {
+        let Some(opening) = Opening::begun(self.rt.stderr().is_terminal(), size) else {
+            return;
+        };
+        if let Ok(since) = Instant::now(&self.rt) {
+            self.opening.set(Some((opening, since)));
+        }
+    }
+
+    /// So many bytes were read. Where no opening is under way nothing is told.
+    pub fn read(&self, bytes: usize) {
+        let Some((opening, since)) = self.opening.get() else {
+            return;
+        };
+        if let Ok(spent) = since.elapsed(&self.rt) {
+            let millis = millis_of(spent);
+            let mut errors = Counted::new(self.rt.stderr());
+            let opening = opening.read_on(bytes, millis, &mut errors);
+            self.opening.set(Some((opening, since)));
+        }
+    }
+
+    /// The opening has ended, or the program goes on to what is behind it.
+    pub fn end(&self) {
+        if let Some((opening, _)) = self.opening.replace(None) {
+            let mut errors = Counted::new(self.rt.stderr());
+            opening.end(&mut errors);
+        }
+    }
+}
+
+/// The whole milliseconds of a time, up to 2^64 - 1.
+fn millis_of(time: Duration) -> u64
+    ensures { as_nanos time / 1000000 < 2 ^ 64 → result ≡ as_nanos time / 1000000 }
+{
+    u64::try_from(time.as_millis()).unwrap_or(u64::MAX)
+}

@@ -1,0 +1,2 @@
+pub mod ManyRequests
+pub mod ReachedExamples

@@ -1,0 +1,20 @@
+use Rattle.std.proofs.Common.{Bool, List, length, ap}
+use Rattle.std.specs.Prelude.{◌==◌}
+use mathlib.Core.Bool.{true≢false}
+use Rattle.clr_net.specs.Fence.{in_fence, reaches}
+use Rattle.clr_shelf.specs.Rows.{row_of, with_row, without_row}
+use Rattle.clr_rules.specs.Shown.{Item, covers, own_answers, items_shown}
+use Rattle.clr_rules.specs.Changes.{new_steps}
+use Rattle.clr_rules.specs.Prelude.{greatest_number, steps_in, steps_of, has_any_hold, has_some_hold, holds_of, first_of_each, places_of, after_edits}
+use Rattle.clr_rules.specs.Fences.{touching_names}
+use Rattle.clr_rules.specs.Holds.{held_among, hindering_hold}
+use Rattle.clr_rules.specs.Run.{after_all}
+use Rattle.clr_examples.proofs.isolation.marks.Goals as goal
+
+-- the switch order at S3 leaves two marks beside the 49 own commands
+is_seen : List Item → Bool
+is_seen items = length items == 51
+
+pub returns-clause-another_shown : goal.returns-clause-another_shown
+unfolding in_fence reaches row_of with_row without_row new_steps holds_of places_of has_some_hold has_any_hold hindering_hold held_among first_of_each steps_in steps_of greatest_number touching_names after_edits after_all items_shown own_answers covers is_seen
+returns-clause-another_shown c same = true≢false (ap is_seen same)

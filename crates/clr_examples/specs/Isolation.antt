@@ -1,0 +1,298 @@
+-- EXAMPLES OF ISOLATION: JONES/1 lives its whole life in two registers. One has the worked network,
+-- and OPS switches S4 there while JONES has the clearance; two has little more than L2, and nothing
+-- else is done there. The fence of JONES/1 is L2 in both.
+use Rattle.std.specs.Prelude.{◌≡◌, ℕ, Bool, true, false, List, [], ◌∷◌, ◌++◌, length, map, filter}
+use Rattle.std.specs.Prelude.{codes, Some, None}
+use Rattle.clr_staff.specs.declared.employee.Role.TheVariants.{Operator, Charge, Field}
+use Rattle.clr_staff.specs.declared.employee.StaffRow.{StaffRow}
+use Rattle.clr_net.specs.Grid.{Grid}
+use Rattle.clr_net.specs.Name.{same_name}
+use Rattle.clr_net.specs.Names.{has_name}
+use Rattle.clr_net.specs.declared.point.Position.{Position}
+use Rattle.clr_net.specs.declared.point.Position.TheVariants.{Opened, Closed as Shut}
+use Rattle.clr_order.specs.Step.{Task}
+use Rattle.clr_order.specs.declared.action.Action.TheVariants as actions
+use Rattle.clr_order.specs.declared.step.StepState.TheVariants.{Waiting}
+use Rattle.clr_rules.specs.Agreement.{Agree, part_near}
+use Rattle.clr_rules.specs.Good.{is_operators}
+use Rattle.clr_rules.specs.Prelude.{SetPosition, SetHand, Command, Tag, Closed, StepRow, Register}
+use Rattle.clr_rules.specs.Prelude.{steps_of, has_hold}
+use Rattle.clr_rules.specs.Register.{opening}
+use Rattle.clr_rules.specs.Run.{IsReached, after_all}
+use Rattle.clr_rules.specs.Shown.{covers, marks, own, own_answers, items_shown}
+use Rattle.clr_examples.specs.Worked.{BOSS, DALE, JONES, KIM, L1, L2, L3, OPS, REED, S2, S3, S4}
+use Rattle.clr_examples.specs.Worked.{Saying, T1, does, from_moment, isolating_l2_and_l3, jones_1}
+use Rattle.clr_examples.specs.Worked.{jones_works_and_releases, kim_1, kim_asks, l2_asked, l2_granted}
+use Rattle.clr_examples.specs.Worked.{l2_is_restored, ops_1, said_at, says, step_runs, worked_opening}
+use Rattle.clr_examples.specs.Worked.{worked_staff}
+use Rattle.clr_examples.specs.WorkedRows.{done_step, jones_record}
+use Rattle.clr_rules.specs.declared.command.Kind.TheVariants.{Request, Order, Switch}
+
+-- THE TWO REGISTERS
+
+-- a network with L2, the points that lead to it, and the sections that they lead from: L1 is a
+-- source here
+abbrev pub two_net : Bool → Position → Grid
+two_net s3_is_lockable s2_stands = record {
+  sections =
+      record { name = L1; source = true } ∷ record { name = L2; source = false }
+      ∷ record { name = L3; source = false } ∷ [];
+  points =
+      record {
+        name = S2;
+        from_end = L1;
+        to_end = L2;
+        lockable = true;
+        remote = false;
+        position = s2_stands;
+        jumper = false;
+      }
+      ∷ record {
+        name = S3;
+        from_end = L2;
+        to_end = L3;
+        lockable = s3_is_lockable;
+        remote = false;
+        position = Shut;
+        jumper = false;
+      }
+      ∷ [];
+}
+
+abbrev pub register_one : Register
+register_one = worked_opening
+
+abbrev pub register_two : Register
+register_two = opening (two_net true Shut) worked_staff
+
+abbrev pub in_l2 : List ℕ → Bool
+in_l2 = has_name (L2 ∷ [])
+
+-- THE TWO LISTS
+
+-- in register two, from moment 100 on: the 49 commands about JONES/1
+abbrev pub list_two : List Command
+list_two = from_moment 100 (l2_granted ++ jones_works_and_releases ++ l2_is_restored)
+
+-- OPS's switch order at a point, and its step
+abbrev pub ops_switches : List ℕ → List ℕ → List Saying
+ops_switches point text = says OPS (Switch (does actions.Open point ∷ [])) ∷ step_runs ops_1 1 text
+
+-- in register one the same, at the same moments; and after the grant these four commands of OPS
+abbrev pub list_one : List ℕ → List ℕ → List Command
+list_one point text =
+    from_moment 100 l2_granted ++ from_moment 120 (ops_switches point text)
+    ++ from_moment 121 (jones_works_and_releases ++ l2_is_restored)
+
+abbrev pub with_s4_switched : List Command
+with_s4_switched = list_one S4 (codes "OPEN S4")
+
+abbrev pub with_s3_switched : List Command
+with_s3_switched = list_one S3 (codes "OPEN S3")
+
+-- WHAT ISOLATION ASKS
+
+-- the registers agree near JONES/1 on L2, although one of them has five sections and the other
+-- three
+abbrev pub TheRegistersAgree : Type 0
+TheRegistersAgree = Agree jones_1 in_l2 register_one register_two
+
+-- both are reached: they are the opening registers of two networks and a staff
+abbrev pub BothAreReached : Type 0
+BothAreReached = IsReached register_one × IsReached register_two
+
+-- and JONES is no operator
+abbrev pub JonesIsNoOperator : Type 0
+JonesIsNoOperator = is_operators register_one JONES ≡ false
+
+-- L2 covers the run in register one
+abbrev pub L2CoversTheRun : Type 0
+L2CoversTheRun = covers jones_1 in_l2 register_one with_s4_switched ≡ true
+
+-- both lists show JONES/1 the same: its own 49 commands, and no mark
+abbrev pub TheListsShowTheSame : Type 0
+TheListsShowTheSame =
+    items_shown jones_1 in_l2 register_one with_s4_switched
+    ≡ items_shown jones_1 in_l2 register_two list_two
+
+-- the first of them is JONES's request, with the row of the section that it asks for
+abbrev pub RequestsShowTheirSection : Type 0
+RequestsShowTheirSection = items_shown jones_1 in_l2 register_one (from_moment 100 l2_asked)
+    ≡ own (said_at 100 (says JONES (Request L2))) (Some (record { name = L2; source = false })) ∷ []
+
+abbrev pub FortyNineAreShown : Type 0
+FortyNineAreShown = length (items_shown jones_1 in_l2 register_one with_s4_switched) ≡ 49
+
+-- AND WHAT IT GIVES
+
+-- JONES/1 has the same replies and the same edits
+abbrev pub TheAnswersAreTheSame : Type 0
+TheAnswersAreTheSame =
+    own_answers jones_1 register_one with_s4_switched ≡ own_answers jones_1 register_two list_two
+
+-- what stands near JONES/1 in the end: nothing is held, S2 and S3 are closed, and all twelve steps
+-- are done
+abbrev pub near_in_the_end : Register
+near_in_the_end = record {
+  net = record {
+    sections = record { name = L2; source = false } ∷ [];
+    points = record {
+      name = S2;
+      from_end = L1;
+      to_end = L2;
+      lockable = true;
+      remote = false;
+      position = Opened;
+      jumper = false;
+    }
+        ∷ record {
+          name = S3;
+          from_end = L2;
+          to_end = L3;
+          lockable = true;
+          remote = false;
+          position = Opened;
+          jumper = false;
+        } ∷ [];
+  };
+  staff = worked_staff;
+  states = record { point = S2; position = Shut; hand = None }
+      ∷ record { point = S3; position = Shut; hand = None } ∷ [];
+  records = jones_record Closed 148 ∷ [];
+  steps = done_step jones_1 1 1 (does actions.Open S2)
+      ∷ done_step jones_1 1 2 (does actions.Open S3) ∷ done_step jones_1 1 3 (does actions.Block S2)
+      ∷ done_step jones_1 1 4 (does actions.Block S3) ∷ done_step jones_1 1 5 (does actions.Tag S2)
+      ∷ done_step jones_1 1 6 (does actions.Tag S3)
+      ∷ done_step jones_1 2 1 (does actions.Untag S2)
+      ∷ done_step jones_1 2 2 (does actions.Unblock S2)
+      ∷ done_step jones_1 2 3 (does actions.Close S2)
+      ∷ done_step jones_1 2 4 (does actions.Untag S3)
+      ∷ done_step jones_1 2 5 (does actions.Unblock S3)
+      ∷ done_step jones_1 2 6 (does actions.Close S3) ∷ [];
+  holds = [];
+}
+
+abbrev pub OneEndsSo : Type 0
+OneEndsSo = part_near (after_all register_one with_s4_switched) jones_1 in_l2 ≡ near_in_the_end
+
+abbrev pub TwoEndsSo : Type 0
+TwoEndsSo = part_near (after_all register_two list_two) jones_1 in_l2 ≡ near_in_the_end
+
+-- and so the registers agree again
+abbrev pub TheRegistersStillAgree : Type 0
+TheRegistersStillAgree =
+    Agree jones_1 in_l2 (after_all register_one with_s4_switched) (after_all register_two list_two)
+
+-- WHERE THEY DO NOT AGREE
+
+-- S3, which has an end in L2, cannot be locked in the second register
+abbrev pub AnotherPointDisagrees : Type 0
+AnotherPointDisagrees =
+    Agree jones_1 in_l2 register_one (opening (two_net false Shut) worked_staff) → ⊥
+
+-- S2 stands open there
+abbrev pub AnotherPositionDisagrees : Type 0
+AnotherPositionDisagrees =
+    Agree jones_1 in_l2 register_one (opening (two_net true Opened) worked_staff) → ⊥
+
+-- JONES has no supervisor there
+abbrev pub another_staff : List StaffRow
+another_staff =
+    record { name = BOSS; role = Charge; supervisor = None }
+    ∷ record { name = DALE; role = Field; supervisor = None }
+    ∷ record { name = JONES; role = Charge; supervisor = None }
+    ∷ record { name = KIM; role = Charge; supervisor = None }
+    ∷ record { name = OPS; role = Operator; supervisor = None }
+    ∷ record { name = REED; role = Field; supervisor = None }
+    ∷ []
+
+abbrev pub AnotherStaffDisagrees : Type 0
+AnotherStaffDisagrees =
+    Agree jones_1 in_l2 register_one (opening (two_net true Shut) another_staff) → ⊥
+
+-- JONES has asked for a clearance there already
+abbrev pub AnotherNumberDisagrees : Type 0
+AnotherNumberDisagrees =
+    Agree jones_1 in_l2 register_one (after_all register_two (from_moment 100 l2_asked)) → ⊥
+
+-- A NEIGHBOUR'S ORDER: after the grant KIM/1 is asked for, on L3, and ordered at S4, T1 and S3; its
+-- six steps at S4 and T1 run, and no step at S3 is given out
+
+-- the steps of KIM/1 at S3
+abbrev pub steps_at_s3 : List StepRow → List StepRow
+steps_at_s3 steps = filter (λ row. same_name S3 row.step.point) (steps_of steps kim_1)
+
+abbrev pub s4_and_t1_first : List Task
+s4_and_t1_first =
+    does actions.Open S4 ∷ does actions.Block S4 ∷ does actions.Control S4 ∷ does actions.Tag S4
+    ∷ does actions.Open T1 ∷ does actions.Tag T1
+    ∷ does actions.Open S3 ∷ does actions.Block S3 ∷ does actions.Tag S3 ∷ []
+
+abbrev pub kim_switches_outside : List Saying
+kim_switches_outside =
+    kim_asks ++ says OPS (Order kim_1 (S4 ∷ T1 ∷ S3 ∷ []) s4_and_t1_first)
+    ∷ step_runs kim_1 1 (codes "OPEN S4") ++ step_runs kim_1 2 (codes "BLOCK S4")
+    ++ step_runs kim_1 3 (codes "CONTROL S4") ++ step_runs kim_1 4 (codes "TAG S4")
+    ++ step_runs kim_1 5 (codes "OPEN T1") ++ step_runs kim_1 6 (codes "TAG T1")
+
+abbrev pub with_kim : List Command
+with_kim =
+    from_moment 100 l2_granted ++ from_moment 300 kim_switches_outside
+    ++ from_moment 121 (jones_works_and_releases ++ l2_is_restored)
+
+-- L2 covers this run too, it shows JONES/1 the same, and gives JONES/1 the same answers
+abbrev pub L2CoversKimsRun : Type 0
+L2CoversKimsRun = covers jones_1 in_l2 register_one with_kim ≡ true
+
+abbrev pub KimLeavesNoMark : Type 0
+KimLeavesNoMark =
+    items_shown jones_1 in_l2 register_one with_kim
+    ≡ items_shown jones_1 in_l2 register_two list_two
+
+abbrev pub KimChangesNoAnswer : Type 0
+KimChangesNoAnswer =
+    own_answers jones_1 register_one with_kim ≡ own_answers jones_1 register_two list_two
+
+-- though KIM/1's sixth step is done, and the seventh waits
+abbrev pub KimsTagHangs : Type 0
+KimsTagHangs = has_hold (Register.holds (after_all register_one with_kim)) kim_1 Tag T1 ≡ true
+
+abbrev pub KimLeavesS3 : Type 0
+KimLeavesS3 =
+    map (λ (row : StepRow). row.step.state)
+    (steps_at_s3 (Register.steps (after_all register_one with_kim)))
+    ≡ Waiting ∷ Waiting ∷ Waiting ∷ []
+
+-- WHERE THE SET DOES NOT COVER
+
+-- an order at S2, S4 and T1 makes a fence of L2 and L3
+abbrev pub wide_list : List Command
+wide_list =
+    from_moment 100 (l2_asked ++ says OPS (Order jones_1 (S2 ∷ S4 ∷ T1 ∷ []) isolating_l2_and_l3)
+    ∷ [])
+
+abbrev pub L2DoesNotCoverL3 : Type 0
+L2DoesNotCoverL3 = covers jones_1 in_l2 register_one wide_list ≡ false
+
+abbrev pub BothSectionsCover : Type 0
+BothSectionsCover = covers jones_1 (has_name (L2 ∷ L3 ∷ [])) register_one wide_list ≡ true
+
+-- WHERE THE LISTS DO NOT SHOW THE SAME
+
+-- OPS switches S3 in place of S4, and S3 has an end in L2
+abbrev pub AnotherSwitchIsSeen : Type 0
+AnotherSwitchIsSeen =
+    items_shown jones_1 in_l2 register_one with_s3_switched
+    ≡ items_shown jones_1 in_l2 register_two list_two → ⊥
+
+-- the marks of that switch order: S3 is taken in hand; then it is open, and in nobody's hand
+abbrev pub ItsMarksAreSeen : Type 0
+ItsMarksAreSeen =
+    items_shown jones_1 in_l2 register_one (from_moment 100 (ops_switches S3 (codes "OPEN S3"))) ≡
+    marks (SetHand S3 (Some ops_1)) [] ∷ marks (SetPosition S3 Opened) (SetHand S3 None ∷ []) ∷ []
+
+-- of S4 nothing is seen
+abbrev pub NoMarkIsSeen : Type 0
+NoMarkIsSeen =
+    items_shown jones_1 in_l2 register_one (from_moment 100 (ops_switches S4 (codes "OPEN S4")))
+    ≡ []

@@ -1,0 +1,16 @@
+pub mod Worked
+pub mod WorkedRows
+pub mod Changes
+pub mod FirstChecks
+pub mod Isolation
+pub mod Jumpers
+pub mod Live
+pub mod NearParts
+pub mod Neighbours
+pub mod Orders
+pub mod Others
+pub mod Phases
+pub mod Refusals
+pub mod Runs
+pub mod Sequence
+pub mod Sight

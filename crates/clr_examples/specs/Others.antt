@@ -1,0 +1,203 @@
+-- EXAMPLES OF WHAT DOES NOT SERVE AND WHAT DOES NOT HINDER: another's test, ground and crew;
+-- another section; another employee; a hand of one's own.
+use Rattle.std.specs.Prelude.{◌≡◌, ℕ, false, true, List, [], ◌∷◌, ◌++◌, codes, Some, None, map}
+use Rattle.std.specs.Prelude.{Option}
+use Rattle.clr_net.specs.declared.point.Position.TheVariants.{Closed as Shut}
+use Rattle.clr_order.specs.declared.action.Action.TheVariants as actions
+use Rattle.clr_rules.specs.Answer.{Answer, answer}
+use Rattle.clr_rules.specs.Prelude.{SetHand, PutHold, TakeHold, PutRecord, Hold, HoldKind, HeldOpen}
+use Rattle.clr_rules.specs.Prelude.{Block, Control, Tag, Tested, Ground, Crew, Requested, Released}
+use Rattle.clr_rules.specs.Prelude.{Closed, Register, hold_of, after_edits}
+use Rattle.clr_examples.specs.Changes.{both_tested}
+use Rattle.clr_examples.specs.Phases.{refusal_in, refused_after}
+use Rattle.clr_examples.specs.Sequence.{tells}
+use Rattle.clr_rules.specs.Holds.{hindering_hold}
+use Rattle.clr_rules.specs.Register.{opening}
+use Rattle.clr_rules.specs.Run.{after_all}
+use Rattle.clr_examples.specs.Worked.{BOSS, C1, JONES, KIM, L2, L3, OPS, REED, S2, S3, Saying, ZZ}
+use Rattle.clr_examples.specs.Worked.{accepted, answer_after, c1_is_on, kim_is_ordered, refused, does}
+use Rattle.clr_examples.specs.Worked.{from_moment, isolating_l2, jones_1, kim_1, l2_granted, ops_1}
+use Rattle.clr_examples.specs.Worked.{register_after, s2_opened, said_at, says, step_runs}
+use Rattle.clr_examples.specs.Worked.{worked_staff}
+use Rattle.clr_examples.specs.WorkedRows.{kim_card, kim_record}
+use Rattle.clr_rules.specs.declared.command.Kind.TheVariants.{Request, Order, Instruct, Grant, Test}
+use Rattle.clr_rules.specs.declared.command.Kind.TheVariants.{Ground as LayGround, Unground, SignOn}
+use Rattle.clr_rules.specs.declared.command.Kind.TheVariants.{SignOff, Transfer, Release, Cancel}
+use Rattle.clr_rules.specs.declared.command.Kind.TheVariants.{Restore, Switch}
+use Rattle.clr_rules.specs.declared.refusal.Refusal.TheVariants.{NotHolder, NotTested, Grounded}
+use Rattle.clr_rules.specs.declared.refusal.Refusal.TheVariants.{NotGrounded, CrewsOn, CrewState}
+use Rattle.clr_rules.specs.declared.refusal.Refusal.TheVariants.{BadTransfer, Held}
+
+-- KIM has a clearance on L2 as well, at the same points
+abbrev pub kim_beside : List Saying
+kim_beside =
+    says KIM (Request L2) ∷ says OPS (Order kim_1 (S2 ∷ S3 ∷ []) isolating_l2)
+    ∷ step_runs kim_1 1 (codes "OPEN S2")
+    ++ step_runs kim_1 2 (codes "OPEN S3") ++ step_runs kim_1 3 (codes "BLOCK S2")
+    ++ step_runs kim_1 4 (codes "BLOCK S3")
+    ++ step_runs kim_1 5 (codes "TAG S2") ++ step_runs kim_1 6 (codes "TAG S3")
+    ++ says OPS (Grant kim_1) ∷ []
+
+-- JONES has tested and grounded L2, and the crew C1 works there
+abbrev pub beside_a_crew : List Saying
+beside_a_crew = c1_is_on ++ kim_beside
+
+pub record AnothersHoldsDoNotServe : Type 0 where
+  pub test : tells beside_a_crew (says KIM (LayGround kim_1 L2)) NotTested
+  pub ground : tells (beside_a_crew ++ says KIM (Test kim_1 L2 true)
+      ∷ []) (says KIM (SignOn kim_1 C1)) NotGrounded
+  pub taken_ground : tells beside_a_crew (says KIM (Unground kim_1 L2)) NotGrounded
+  pub crew : tells beside_a_crew (says KIM (SignOff kim_1 C1)) CrewState
+
+-- and they do not hinder what is KIM's own
+pub record AnothersHoldsDoNotHinder : Type 0 where
+  pub second_ground : refused_after (beside_a_crew ++ says KIM (Test kim_1 L2 true)
+      ∷ []) (says KIM (LayGround kim_1 L2)) ≡ None
+  pub release : refused_after beside_a_crew (says KIM (Release kim_1 true true)) ≡ None
+  pub unground : refused_after (beside_a_crew ++ says KIM (Test kim_1 L2 true)
+      ∷ says KIM (LayGround kim_1 L2) ∷ []) (says KIM (Unground kim_1 L2)) ≡ None
+  pub same_crew : refused_after (beside_a_crew ++ says KIM (Test kim_1 L2 true)
+      ∷ says KIM (LayGround kim_1 L2) ∷ []) (says KIM (SignOn kim_1 C1)) ≡ None
+  -- JONES holds S2 open, and KIM's order, which holds nothing, is closed where it is given up
+  pub cancel : answer_after (s2_opened ++ kim_is_ordered) (says KIM (Cancel kim_1))
+      ≡ accepted (kim_card Closed 1 0 9) (PutRecord (kim_record Closed 107) ∷ [])
+  -- a release takes KIM's own test alone
+  pub tests : answer_after (beside_a_crew ++ says KIM (Test kim_1 L2 true)
+      ∷ []) (says KIM (Release kim_1 true true)) ≡ accepted (kim_card Released 1 6 6)
+      (TakeHold (hold_of kim_1 Tested L2)
+      ∷ PutRecord (record (kim_record Released 146) { work = Some L2 }) ∷ [])
+
+-- KIM's fence has L2 and the work section L3, both tested; L2 is grounded
+abbrev pub l2_beside_the_work : List Saying
+l2_beside_the_work = both_tested ++ says KIM (LayGround kim_1 L2) ∷ []
+
+-- and L3 too, and a crew is on
+abbrev pub both_grounded : List Saying
+both_grounded =
+    l2_beside_the_work ++ says KIM (LayGround kim_1 L3) ∷ says KIM (SignOn kim_1 C1) ∷ []
+
+pub record WorkSectionsCount : Type 0 where
+  pub ground : tells l2_beside_the_work (says KIM (SignOn kim_1 C1)) NotGrounded
+  pub test : tells (l2_beside_the_work ++ says KIM (Test kim_1 L3 false)
+      ∷ []) (says KIM (SignOn kim_1 C1)) NotTested
+  pub crews : tells both_grounded (says KIM (Unground kim_1 L3)) CrewsOn
+  pub elsewhere : refused_after both_grounded (says KIM (Unground kim_1 L2)) ≡ None
+  -- any ground keeps the clearance from being released
+  pub release : tells l2_beside_the_work (says KIM (Release kim_1 true true)) Grounded
+
+-- WHO MAY HOLD A CLEARANCE, and who may hand it on
+pub record WhoMayHold : Type 0 where
+  pub stranger : tells l2_granted (says JONES (Transfer jones_1 ZZ false)) BadTransfer
+  pub operator : tells l2_granted (says JONES (Transfer jones_1 OPS false)) BadTransfer
+  pub field : tells l2_granted (says JONES (Transfer jones_1 REED false)) BadTransfer
+  pub supervisor : refused_after l2_granted (says JONES (Transfer jones_1 BOSS false)) ≡ None
+  -- the holder may name an emergency too
+  pub holder_in_emergency : refused_after l2_granted (says JONES (Transfer jones_1 KIM true)) ≡ None
+  -- BOSS is the supervisor of JONES, who asked, and not of KIM, who holds the clearance now
+  pub of_the_requester : tells (l2_granted ++ says JONES (Transfer jones_1 KIM false)
+      ∷ []) (says BOSS (Transfer jones_1 BOSS true)) NotHolder
+
+-- REGISTERS THAT NO COMMANDS MAKE show what a check says by itself
+
+-- JONES/1 has S3 in hand already: a hand of its own does not hinder
+abbrev pub OwnHandsDoNotHinder : Type 0
+OwnHandsDoNotHinder =
+    refusal_in
+    (Answer.reply
+    (answer (after_edits (SetHand S3 (Some jones_1) ∷ []) (register_after s2_opened))
+    (said_at 200 (says OPS (Instruct jones_1 2))))) ≡ None
+
+-- S2 bears a tag of JONES/1, and is held open by KIM/1: the lesser clearance is named, although its
+-- hold is of a later kind
+abbrev pub LesserClearancesAreNamed : Type 0
+LesserClearancesAreNamed =
+    answer (after_edits (PutHold (hold_of jones_1 Tag S2) ∷ PutHold (hold_of kim_1 HeldOpen S2)
+    ∷ []) (register_after (says OPS (Switch (does actions.Close S2 ∷ [])) ∷ [])))
+    (said_at 200 (says OPS (Instruct ops_1 1))) ≡ refused (Held jones_1 Tag)
+
+-- of one clearance's holds at a point the first is named: HeldOpen, then Block, then Control, then
+-- Tag
+abbrev pub first_at_s2 : List HoldKind → Option Hold
+first_at_s2 kinds = hindering_hold (map (λ kind. hold_of jones_1 kind S2) kinds) kim_1 S2
+
+pub record KindsStandInOrder : Type 0 where
+  pub held_open : first_at_s2 (Block ∷ HeldOpen ∷ []) ≡ Some (hold_of jones_1 HeldOpen S2)
+  pub block : first_at_s2 (Control ∷ Tag ∷ Block ∷ []) ≡ Some (hold_of jones_1 Block S2)
+  pub control : first_at_s2 (Tag ∷ Control ∷ []) ≡ Some (hold_of jones_1 Control S2)
+  pub none : first_at_s2 (Tested ∷ Ground ∷ Crew ∷ []) ≡ None
+  -- a clearance's own HeldOpen does not keep it from closing the point, and its own tag does
+  pub own_tag : hindering_hold (hold_of jones_1 HeldOpen S2 ∷ hold_of jones_1 Tag S2
+      ∷ []) jones_1 S2 ≡ Some (hold_of jones_1 Tag S2)
+  pub own_held_open : hindering_hold (hold_of jones_1 HeldOpen S2 ∷ []) jones_1 S2 ≡ None
+
+-- a holder whom the staff lacks has no supervisor
+abbrev pub StrangersHaveNoSupervisor : Type 0
+StrangersHaveNoSupervisor =
+    answer (after_edits
+    (PutRecord (record {
+      id = jones_1;
+      holder = ZZ;
+      work = Some L2;
+      phase = Requested;
+      last = 100;
+    }) ∷ []) (register_after []))
+    (said_at 200 (says BOSS (Transfer jones_1 BOSS true))) ≡ refused NotHolder
+
+-- ONE NAME FOR TWO: a section A and a point A, which joins the section to M; the point P joins M to
+-- the source G
+abbrev pub A : List ℕ
+A = codes "A"
+
+abbrev pub M : List ℕ
+M = codes "M"
+
+abbrev pub P : List ℕ
+P = codes "P"
+
+abbrev pub one_name_opening : Register
+one_name_opening = opening (record {
+  sections =
+      record { name = A; source = false } ∷ record { name = codes "G"; source = true }
+      ∷ record { name = M; source = false } ∷ [];
+  points = record {
+    name = A;
+    from_end = M;
+    to_end = A;
+    lockable = false;
+    remote = false;
+    position = Shut;
+    jumper = false;
+  }
+      ∷ record {
+        name = P;
+        from_end = codes "G";
+        to_end = M;
+        lockable = false;
+        remote = false;
+        position = Shut;
+        jumper = false;
+      } ∷ [];
+}) worked_staff
+
+-- KIM has a clearance on M, cut at P: the section A lies in its fence, and KIM tests it. JONES has
+-- one on A, cut at the point A, and restores it
+abbrev pub two_of_one_name : List Saying
+two_of_one_name =
+    says KIM (Request M)
+    ∷ says OPS (Order kim_1 (P ∷ []) (does actions.Open P ∷ does actions.Tag P ∷ []))
+    ∷ step_runs kim_1 1 (codes "OPEN P")
+    ++ step_runs kim_1 2 (codes "TAG P") ++ says OPS (Grant kim_1) ∷ says KIM (Test kim_1 A true)
+    ∷ says JONES (Request A)
+    ∷ says OPS (Order jones_1 (A ∷ []) (does actions.Open A ∷ does actions.Tag A ∷ []))
+    ∷ step_runs jones_1 1 (codes "OPEN A")
+    ++ step_runs jones_1 2 (codes "TAG A") ++ says OPS (Grant jones_1)
+    ∷ says JONES (Release jones_1 true true)
+    ∷ says OPS (Restore jones_1 (does actions.Untag A ∷ does actions.Close A ∷ []))
+    ∷ step_runs jones_1 1 (codes "UNTAG A")
+
+-- KIM's test at the section A does not keep the point A from being closed
+abbrev pub HoldsGoByKind : Type 0
+HoldsGoByKind =
+    refusal_in (Answer.reply
+    (answer (after_all one_name_opening (from_moment 100 two_of_one_name))
+    (said_at 200 (says OPS (Instruct jones_1 2))))) ≡ None

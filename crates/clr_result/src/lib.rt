@@ -1,0 +1,2 @@
+//! How the result of a call follows from its definition.
+#![tactic(auto)]

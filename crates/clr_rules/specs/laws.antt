@@ -1,0 +1,17 @@
+pub mod Additions
+pub mod Agreement
+pub mod Bounds
+pub mod Edits
+pub mod Frame
+pub mod Good
+pub mod Holds
+pub mod Keeps
+pub mod Live
+pub mod Marks
+pub mod Near
+pub mod Opening
+pub mod Own
+pub mod Runs
+pub mod Steps
+pub mod Tags
+pub mod Work

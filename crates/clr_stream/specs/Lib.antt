@@ -1,0 +1,4 @@
+pub mod Counted
+pub mod Failures
+pub mod Streams
+pub mod Whole

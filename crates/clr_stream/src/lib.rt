@@ -1,0 +1,10 @@
+//! Readers and writers that count their failures.
+#![tactic(auto)]
+
+mod counted;
+mod fault;
+mod whole;
+
+pub use counted::{Counted, CountedFlush, CountedRead, CountedWrite};
+pub use fault::ReadFault;
+pub use whole::{read_whole, write_whole};
