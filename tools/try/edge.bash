@@ -1,0 +1,100 @@
+# What no clause can say of the program's edge: which sockets the kernel has for it, which files it opens, and that what
+# only reads leaves the database as it was. Read by tools/try-program.
+
+# listeners PORT: the addresses at which the kernel has somebody listen on this port, of IPv4 and IPv6, in its own
+# spelling: 0100007F is 127.0.0.1.
+listeners() {
+  awk -v port="$(printf ':%04X' "$1")" 'FNR > 1 && $4 == "0A" && substr($2, length($2) - 4) == port { print $2 }' \
+    /proc/net/tcp /proc/net/tcp6 2>/dev/null
+}
+
+cp "$work/ordered.db" "$work/seen.db"
+serving seen 1
+expect 'a server listens on 127.0.0.1 alone' test "$(listeners "$port")" = "$(printf '0100007F:%04X' "$port")"
+ask 'GET /board HTTP/1.1' '' >"$work/output"
+: >"$work/errors"
+judge 'the board of that server' 0 "~BOARD 1$feed" '' $?
+served 'a server that was looked at' ''
+expect 'a server that has ended listens nowhere' test -z "$(listeners "$port")"
+
+# leaves COMMAND..: COMMAND, after which the database is the same bytes, beside a log of its head alone: each opening
+# writes a new one.
+leaves() {
+  cp "$edge/room.db" "$work/before.db"
+  "$@"
+  expect "$2: the database is unchanged" cmp "$edge/room.db" "$work/before.db"
+  expect "$2: no change is in the log" test "$(wc -c <"$edge/room.db-wal")" -eq 41
+}
+
+# Of a register that was closed: what only reads leaves the database byte for byte. Of one whose server was killed: the
+# log is folded in, and the tables are as before.
+edge=$work/edge
+mkdir "$edge"
+cp "$work/ordered.db" "$edge/room.db"
+board=$(bounded board "$edge/room.db")
+leaves try 'the board of a closed register' 0 "$board$feed" '' board "$edge/room.db"
+leaves try 'an order of it' 0 '~ORDER JONES/1 ROUND 1' '' order "$edge/room.db" JONES/1 1
+leaves try 'an order of a round that is not there' 1 '' "fault: clearance NoSuch$feed" \
+  order "$edge/room.db" JONES/1 2
+printf '%s\n' '{"by":"JONES","clearance":"JONES/1","do":"show"}' '{' >"$work/asks"
+with_input "$work/asks" leaves try 'a run that changes nothing' 0 '~"reply":"shown"' '' run --db "$edge/room.db"
+leaves try 'a register made over it' 1 '' "$no_store" init "${three[@]}" --db "$edge/room.db"
+leaves try 'a move of it' 0 "version 2$feed" '' migrate "$edge/room.db"
+leaves try 'a port that cannot be had' 2 '' '~65536' serve "$edge/room.db" --port 65536 --count 1
+
+# tables_at PATH: all rows of all tables, by SQLite itself, of a copy of the database and its log.
+tables_at() {
+  cp "$1" "$edge/copy.db"
+  [ -f "$1-wal" ] && cp "$1-wal" "$edge/copy.db-wal"
+  python3 - "$edge/copy.db" <<'END'
+import sqlite3, sys
+print("\n".join(sqlite3.connect(sys.argv[1]).iterdump()))
+END
+  rm -f "$edge"/copy.db*
+}
+cp "$work/killed.db" "$edge/room.db"
+cp "$work/killed.db-wal" "$edge/room.db-wal"
+tables_at "$edge/room.db" >"$work/tables"
+try 'the board of a killed server' 0 "~BOARD 1$feed" '' board "$edge/room.db"
+expect 'its tables are as the killed server left them' test "$(tables_at "$edge/room.db")" = "$(cat "$work/tables")"
+
+# opens TITLE PATH.. -- WORD..: the program opens these files and folders, each once, in this sequence, but for the C
+# library; it removes, renames and cuts none by name, and has no socket unless it serves.
+opens() {
+  local title=$1 wanted=()
+  shift
+  while [ "$1" != -- ]; do
+    wanted+=("$1")
+    shift
+  done
+  shift
+  timeout 60 strace -f -qq -o "$work/calls" -e trace=%file,%network "$program" "$@" <"$work/input" >/dev/null 2>&1
+  grep -v ' = -1 ' "$work/calls" |
+    sed -nE 's/^[0-9]+ +(open|openat|openat2|creat)\((AT_FDCWD, )?"([^"]*)".*/\3/p' |
+    grep -vE '^/(etc/ld\.so|lib|usr/lib)' >"$work/opened"
+  expect "$title: opens what was named" diff <(printf '%s\n' "${wanted[@]}") "$work/opened"
+  expect "$title: removes, renames and cuts nothing" \
+    test -z "$(grep -E '^[0-9]+ +(unlink|rename|truncate|link|symlink|mkdir|rmdir|mknod)' "$work/calls")"
+  expect "$title: has no socket" test -z "$(grep -E '^[0-9]+ +(socket|bind|listen|connect)' "$work/calls")"
+}
+
+if ! command -v strace >/dev/null || ! strace -qq -o /dev/null true 2>/dev/null; then
+  left_out 'which files a subcommand opens' 'strace is not installed, or may not trace'
+else
+  rm -f "$edge"/*
+  cp "$work/ordered.db" "$edge/room.db"
+  bounded board "$edge/room.db" >/dev/null
+  register=("$edge/room.db" "$edge/room.db-wal" "$edge")
+  opens 'a board' "${register[@]}" -- board "$edge/room.db"
+  opens 'an order' "${register[@]}" -- order "$edge/room.db" JONES/1 1
+  opens 'an order of nothing' "${register[@]}" -- order "$edge/room.db" JONES/9 1
+  opens 'a move' "${register[@]}" -- migrate "$edge/room.db"
+  with_input "$work/asks" opens 'a run over a database' "${register[@]}" -- run --db "$edge/room.db"
+  opens 'a fence' "${three[@]:0:2}" -- fence "${three[@]:0:2}" L2 S2 S3
+  opens 'an import' "${three[@]}" -- init "${three[@]}"
+  with_input "$work/asks" opens 'a run over files' "${three[@]}" -- run "${three[@]}"
+  # the file is made, so that nobody else's is taken, and then opened
+  opens 'a register that is made' "${three[@]}" "$edge/made.db" "$edge/made.db" "$edge/made.db-wal" "$edge" -- \
+    init "${three[@]}" --db "$edge/made.db"
+  opens 'a register made over one' "${three[@]}" "${register[@]}" -- init "${three[@]}" --db "$edge/room.db"
+fi
