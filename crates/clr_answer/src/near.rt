@@ -1,7 +1,7 @@
 //! What a command looks at: rows of the book, and what is known of it beside them.
-use clr_staff::Staff;
 use clr_net::{Name, PointRow, SectionRow};
 use clr_rules::{ClearanceId, Hold, PointState, Record, StepRow};
+use clr_staff::Staff;
 use std::alloc::Global;
 use std::marker::Model;
 

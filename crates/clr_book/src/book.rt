@@ -18,10 +18,10 @@ pub(crate) mod rows;
 use crate::book::room::puts_of;
 use crate::book::rows::all_rows;
 use crate::states::{opening_states, set_hand, set_position};
-use clr_staff::Staff;
 use clr_net::{Name, Network, PointRow, Position, SectionRow};
 use clr_rules::{Change, ClearanceId, Edit, Hold, PointState, Record, StepRow};
 use clr_shelf::Shelf;
+use clr_staff::Staff;
 use std::alloc::{AllocError, Global};
 use std::marker::Model;
 

@@ -5,12 +5,12 @@ ghost use Rattle.clr_edge.specs.Fault.{told_line};
 ghost use Rattle.clr_stream.specs.Streams.{Sends};
 
 use clr_commands::serve::{ServeArgs, serve};
-use clr_stream::CountedFlush;
 use clr_edge::database::Databases;
 use clr_edge::fault::Fault;
 use clr_edge::line::line_of;
 use clr_edge::loopback::Loopback;
 use clr_edge::output::write_out;
+use clr_stream::CountedFlush;
 
 /// What words result in that meet no fault.
 #[derive(Debug, Drop)]

@@ -12,12 +12,12 @@ ghost use Rattle.clr_edge.specs.Database.{IsMadeAt, IsOfLine};
 
 use clap::ArgMatches;
 use clr_args::words::{option_of, word_of};
-use clr_staff::{Staff, StaffRow};
 use clr_edge::database::{Databases, store_register};
 use clr_edge::fault::{Fault, ImportFile};
 use clr_edge::files::{Source, points_from, sections_from, staff_from};
 use clr_edge::paths::Opens;
 use clr_net::{Network, PointRow, SectionRow};
+use clr_staff::{Staff, StaffRow};
 use std::alloc::{AllocError, Global};
 
 /// What `init SECTIONS POINTS STAFF [--db FILE]` prints.

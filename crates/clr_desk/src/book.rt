@@ -9,10 +9,10 @@ ghost use Rattle.clr_tables.specs.TypedRows.{IsTyped};
 
 use crate::typed::Typed;
 use clr_book::Book;
-use clr_staff::Staff;
 use clr_net::Network;
 use clr_rules::{Change, Hold, PointState, Record, StepRow};
 use clr_shelf::SortedShelf;
+use clr_staff::Staff;
 use std::alloc::{AllocError, Global};
 
 /// The book of a desk.

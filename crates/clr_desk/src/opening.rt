@@ -24,9 +24,9 @@ ghost use Rattle.clr_load.specs.declared.fault.StoreFault.TheVariants.{BadRow, N
 
 use crate::book::{DeskBook, apply, opening_book};
 use crate::typed::Typed;
-use clr_staff::{Staff, StaffFault, StaffRow};
 use clr_net::{MAX_SECTIONS, NetFault, Network, PointRow, SectionRow};
 use clr_rules::{Change, Edit, Hold, PointState, Record, StepRow};
+use clr_staff::{Staff, StaffFault, StaffRow};
 use clr_store::{Rows, Store, StoreFault};
 use clr_tables::TableName;
 use sqlite::Alter;

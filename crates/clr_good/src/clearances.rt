@@ -9,10 +9,10 @@ ghost use Rattle.clr_good.specs.Clearances.{numbers_fit, record_fits, work_fits}
 
 use crate::shelves::Shelves;
 use clr_book::all_rows;
-use clr_staff::Role;
 use clr_net::Name;
 use clr_rules::{ClearanceId, Hold, Phase, PointState, Record, StepRow};
 use clr_shelf::Shelf;
+use clr_staff::Role;
 use std::alloc::AllocError;
 
 impl<'a, P: Shelf<PointState>, C: Shelf<Record>, T: Shelf<StepRow>, H: Shelf<Hold>> Shelves<

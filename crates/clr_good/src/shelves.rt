@@ -3,10 +3,10 @@ ghost use Rattle.std.specs.Prelude.{◌≡◌};
 ghost use Rattle.clr_good.specs.Whole.{IsKept};
 
 use clr_book::Book;
-use clr_staff::Staff;
 use clr_net::Network;
 use clr_rules::{Hold, PointState, Record, StepRow};
 use clr_shelf::Shelf;
+use clr_staff::Staff;
 use std::alloc::Global;
 use std::marker::Model;
 

@@ -15,15 +15,15 @@ ghost use Rattle.clr_edge.specs.Database.{HasRegister, IsOfLine};
 ghost use Rattle.clr_known.specs.Known.{jones_lines, jones_register, same_path};
 
 use crate::Known;
-use clr_staff::Staff;
-use clr_stream::Counted;
 use clr_desk::Desk;
 use clr_edge::database::Databases;
 use clr_edge::fault::Fault;
 use clr_edge::files::{points_from, sections_from, staff_from};
 use clr_net::Network;
 use clr_rules::Command;
+use clr_staff::Staff;
 use clr_store::StoreFault;
+use clr_stream::Counted;
 use clr_text::{TextFault, command_of};
 use sqlite::{Connection, FileStore, Options};
 use sqlite_disk::{Files, Memory};

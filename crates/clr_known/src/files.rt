@@ -3,8 +3,8 @@ ghost use Rattle.std.specs.Prelude.{◌≡◌, option_map};
 ghost use Rattle.clr_known.specs.Known.{bytes_among};
 
 use crate::Known;
-use clr_stream::Counted;
 use clr_edge::paths::Opens;
+use clr_stream::Counted;
 use std::io;
 use std::io::Read;
 

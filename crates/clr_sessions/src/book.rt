@@ -2,11 +2,11 @@
 //! change.
 use clr_book::Book;
 use clr_csv::{read_points, read_sections, read_staff};
-use clr_staff::Staff;
-use clr_stream::Counted;
 use clr_net::Network;
 use clr_rules::{Command, Hold, PointState, Record, StepRow};
 use clr_shelf::{ListShelf, Shelf, SortedShelf};
+use clr_staff::Staff;
+use clr_stream::Counted;
 use clr_text::{command_of, fault_text, reply_text};
 use std::alloc::{AllocError, Global};
 use std::fs;

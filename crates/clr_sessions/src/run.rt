@@ -1,9 +1,9 @@
 //! A command line is run, and what it gave is compared with what must come.
 use crate::line::{Stream, Told};
 use clr_command_line::command_line::command_line_over;
-use clr_stream::Counted;
 use clr_edge::machine::{AnyFiles, Machine};
 use clr_edge::paths::Paths;
+use clr_stream::Counted;
 use std::alloc::{AllocError, Global};
 use std::fmt;
 

@@ -23,10 +23,10 @@ ghost use Rattle.clr_store.specs.Moving.{IsOfMove, LeavesMoved, RefusesMove, Ref
 use crate::create::make_register;
 use crate::edits::make_all;
 use crate::migrate::move_tables;
-use clr_staff::Staff;
 use clr_load::{Rows, StoreFault, load_rows, read_version};
 use clr_net::Network;
 use clr_rules::Change;
+use clr_staff::Staff;
 use sqlite::{Alter, Connection};
 use std::marker::Model;
 

@@ -4,10 +4,10 @@ ghost use Rattle.std.specs.Prelude.{◌≡◌, ◌⊎◌, IfErr, IfOk, ⊤};
 
 use crate::worked::{REQUEST, RESPONSE};
 use clr_commands::serve::serve_connections;
-use clr_stream::Counted;
 use clr_edge::fault::Fault;
 use clr_edge::loopback::{Connection, Loopback, local_address};
 use clr_edge::machine::{AnyFiles, Machine};
+use clr_stream::Counted;
 use clr_worked::{network, new_desk};
 use std::alloc::Global;
 use std::cell::Cell;

@@ -4,11 +4,11 @@
 use crate::at_desk::{AtDesk, at_new_desk};
 use crate::fakes::{FailsAt, Narrow};
 use crate::worked::{REQUEST, RESPONSE};
-use clr_stream::{Counted, CountedRead, CountedWrite};
 use clr_desk::Desk;
 use clr_http::{HttpFault, Registrar, Served, serve_one};
 use clr_rules::{ClearanceId, Command, Reply};
 use clr_store::Rows;
+use clr_stream::{Counted, CountedRead, CountedWrite};
 use clr_worked::{are_same, network};
 use sqlite::Alter;
 use std::alloc::{AllocError, Global};

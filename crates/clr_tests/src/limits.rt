@@ -2,8 +2,8 @@
 ghost use Rattle.std.specs.Prelude.{◌<◌};
 
 use crate::worked::{chain, numbered};
-use clr_staff::{Role, Staff, StaffFault, StaffRow};
 use clr_net::{Name, NetFault, Network};
+use clr_staff::{Role, Staff, StaffFault, StaffRow};
 use std::alloc::Global;
 use std::test::Fail;
 

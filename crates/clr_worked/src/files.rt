@@ -1,8 +1,8 @@
 //! The worked network and staff as the texts of their files.
 use clr_csv::{read_points, read_sections, read_staff};
+use clr_net::Network;
 use clr_staff::Staff;
 use clr_stream::Counted;
-use clr_net::Network;
 use std::alloc::Global;
 use std::test::Fail;
 

@@ -1,10 +1,10 @@
 //! The worked register: its tables made in memory or in two files, and a desk over them.
 use crate::files::{network, staff};
 use crate::stopping::{Behind, Held, Part, Work, over_files};
-use clr_staff::Staff;
 use clr_desk::{Desk, DeskFault, Run};
 use clr_net::Network;
 use clr_rules::Command;
+use clr_staff::Staff;
 use clr_store::{Rows, Store, StoreFault};
 use sqlite::{Alter, Connection, MemStore};
 use std::alloc::{AllocError, Global};

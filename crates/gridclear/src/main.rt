@@ -8,9 +8,9 @@ mod input;
 
 use crate::input::StandardInput;
 use clr_command_line::command_line::command_line;
-use clr_stream::Counted;
-use clr_edge::machine::{AnyFiles, Machine};
 use clr_disk::{Behind, Watch};
+use clr_edge::machine::{AnyFiles, Machine};
+use clr_stream::Counted;
 use std::process::ExitCode;
 use std::{env, io};
 

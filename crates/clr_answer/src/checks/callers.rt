@@ -5,9 +5,9 @@ ghost use Rattle.clr_answer.specs.Begins.{role_fits};
 
 use crate::checks::refuse;
 use crate::near::Near;
-use clr_staff::Role;
 use clr_net::Name;
 use clr_rules::Refusal;
+use clr_staff::Role;
 
 /// Whether the caller is not among the staff.
 pub(crate) fn unknown_caller(near: &Near, by: Name) -> Option<Refusal>

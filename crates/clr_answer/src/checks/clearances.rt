@@ -10,9 +10,9 @@ ghost use Rattle.clr_answer.specs.Begins.{phase_fits};
 use crate::checks::refuse;
 use crate::checks::rows::find_row;
 use crate::near::Near;
-use clr_staff::Role;
 use clr_net::Name;
 use clr_rules::{ClearanceId, MAX_CLEARANCE_NUMBER, Moment, Phase, Record, Refusal};
+use clr_staff::Role;
 
 /// The record of a clearance.
 pub(crate) fn record<'a>(near: &Near<'a>, id: ClearanceId) -> Option<&'a Record>
