@@ -5,7 +5,12 @@ use Rattle.clr_shelf.proofs.KeyOrder.{in_key_order-with_row}
 use Rattle.clr_shelf.specs.Rows.{in_key_order, with_row}
 use Rattle.clr_rules.specs.Answer.{answer}
 use Rattle.clr_rules.specs.Changes.{new_record}
-use Rattle.clr_rules.specs.Prelude.{Requested, Record, id_cmp, id_cmp_total, Register, greatest_number, record_key, after_edits}
+use Rattle.clr_rules.specs.declared.phase.Phase.TheVariants.{Requested}
+use Rattle.clr_rules.specs.declared.record.Record.{Record}
+use Rattle.clr_rules.specs.Id.{id_cmp, id_cmp_total}
+use Rattle.clr_rules.specs.Register.{Register}
+use Rattle.clr_rules.specs.Records.{greatest_number, record_key}
+use Rattle.clr_rules.specs.Edits.{after_edits}
 use Rattle.clr_examples.specs.Refusals.{NumbersEnd, jones_requests, times}
 use Rattle.clr_rules.specs.Records.{greater_of}
 use Rattle.clr_rules.specs.Run.{after, after_all}

@@ -5,10 +5,14 @@ use Rattle.clr_net.specs.declared.point.Position.TheVariants.{Opened, Closed as 
 use Rattle.clr_order.specs.declared.step.StepState.TheVariants.{Waiting, Instructed, Repeated, Done}
 use Rattle.clr_order.specs.declared.action.Action.TheVariants as actions
 use Rattle.clr_rules.specs.Answer.{Answer}
-use Rattle.clr_rules.specs.Prelude.{SetPosition, SetHand, PutHold, TakeHold, PutRecord, PutStep}
-use Rattle.clr_rules.specs.Prelude.{HeldOpen, Block, Control, Tag, Tested, Ground, Crew, Requested}
-use Rattle.clr_rules.specs.Prelude.{Ordered, Granted, Released, Restoring, Switching, Closed}
-use Rattle.clr_rules.specs.Prelude.{Record, hold_of}
+use Rattle.clr_rules.specs.declared.change.Edit.TheVariants.{SetPosition, SetHand, PutHold}
+use Rattle.clr_rules.specs.declared.change.Edit.TheVariants.{TakeHold, PutRecord, PutStep}
+use Rattle.clr_rules.specs.declared.hold_kind.HoldKind.TheVariants.{HeldOpen, Block, Control, Tag}
+use Rattle.clr_rules.specs.declared.hold_kind.HoldKind.TheVariants.{Tested, Ground, Crew}
+use Rattle.clr_rules.specs.declared.phase.Phase.TheVariants.{Requested, Ordered, Granted, Released}
+use Rattle.clr_rules.specs.declared.phase.Phase.TheVariants.{Restoring, Switching, Closed}
+use Rattle.clr_rules.specs.declared.record.Record.{Record}
+use Rattle.clr_rules.specs.Holds.{hold_of}
 use Rattle.clr_examples.specs.Worked.{BOSS, C1, DALE, JONES, KIM, L2, L3, OPS, REED, S2, S3, S4}
 use Rattle.clr_examples.specs.Worked.{Saying, T1, accepted, answer_after, c1_is_off, c1_is_on, does}
 use Rattle.clr_examples.specs.Worked.{isolating_l2, isolating_l3, jones_1, kim_1, kim_asks}

@@ -15,8 +15,14 @@ use Rattle.clr_order.specs.declared.action.Action.TheVariants as actions
 use Rattle.clr_order.specs.declared.step.StepState.TheVariants.{Waiting}
 use Rattle.clr_rules.specs.Agreement.{Agree, part_near}
 use Rattle.clr_rules.specs.Good.{is_operators}
-use Rattle.clr_rules.specs.Prelude.{SetPosition, SetHand, Command, Tag, Closed, StepRow, Register}
-use Rattle.clr_rules.specs.Prelude.{steps_of, has_hold}
+use Rattle.clr_rules.specs.declared.change.Edit.TheVariants.{SetPosition, SetHand}
+use Rattle.clr_rules.specs.declared.command.Command.{Command}
+use Rattle.clr_rules.specs.declared.hold_kind.HoldKind.TheVariants.{Tag}
+use Rattle.clr_rules.specs.declared.phase.Phase.TheVariants.{Closed}
+use Rattle.clr_rules.specs.declared.step_row.StepRow.{StepRow}
+use Rattle.clr_rules.specs.Register.{Register}
+use Rattle.clr_rules.specs.Steps.{steps_of}
+use Rattle.clr_rules.specs.Holds.{has_hold}
 use Rattle.clr_rules.specs.Register.{opening}
 use Rattle.clr_rules.specs.Run.{IsReached, after_all}
 use Rattle.clr_rules.specs.Shown.{covers, marks, own, own_answers, items_shown}

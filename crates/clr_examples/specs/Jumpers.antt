@@ -8,8 +8,11 @@ use Rattle.clr_order.specs.declared.action.Action.TheVariants as actions
 use Rattle.clr_rules.specs.Answer.{Answer}
 use Rattle.clr_rules.specs.Fences.{clearance_fence}
 use Rattle.clr_rules.specs.Near.{near_of}
-use Rattle.clr_rules.specs.Prelude.{Edit, AddSection, AddPoint, Ordered, Restoring}
-use Rattle.clr_rules.specs.Prelude.{Refusal, position_of}
+use Rattle.clr_rules.specs.declared.change.Edit.{Edit}
+use Rattle.clr_rules.specs.declared.change.Edit.TheVariants.{AddSection, AddPoint}
+use Rattle.clr_rules.specs.declared.phase.Phase.TheVariants.{Ordered, Restoring}
+use Rattle.clr_rules.specs.declared.refusal.Refusal.{Refusal}
+use Rattle.clr_rules.specs.States.{position_of}
 use Rattle.clr_rules.specs.Register.{unplaced_net}
 use Rattle.clr_examples.specs.Worked.{JONES, KIM, L1, L2, L3, OPS, S2, S3, S4, Saying, T1, ZZ}
 use Rattle.clr_examples.specs.Worked.{answer_after, does, isolating_l2_and_l3, jones_1, kim_1}

@@ -3,8 +3,10 @@
 use Rattle.std.specs.Prelude.{◌≡◌, ℕ, true, false, List, [], ◌∷◌, ◌++◌, codes, None}
 use Rattle.clr_net.specs.declared.point.Position.TheVariants.{Opened, Closed as Shut}
 use Rattle.clr_order.specs.declared.action.Action.TheVariants as actions
-use Rattle.clr_rules.specs.Prelude.{HeldOpen, Block, Tag, Tested, Ground, Crew, Requested, Granted}
-use Rattle.clr_rules.specs.Prelude.{hold_of}
+use Rattle.clr_rules.specs.declared.hold_kind.HoldKind.TheVariants.{HeldOpen, Block, Tag, Tested}
+use Rattle.clr_rules.specs.declared.hold_kind.HoldKind.TheVariants.{Ground, Crew}
+use Rattle.clr_rules.specs.declared.phase.Phase.TheVariants.{Requested, Granted}
+use Rattle.clr_rules.specs.Holds.{hold_of}
 use Rattle.clr_rules.specs.Near.{near_of}
 use Rattle.clr_examples.specs.Worked.{C1, H, KIM, L1, L2, L3, OPS, S2, S3, S4, Saying, T1, c1_is_on}
 use Rattle.clr_examples.specs.Worked.{does, isolating_l3, jones_1, kim_1, kim_asks, kim_is_granted}

@@ -4,8 +4,11 @@
 use Rattle.std.specs.Prelude.{◌≡◌, true, List, [], ◌∷◌, ◌++◌, codes, Some, None}
 use Rattle.clr_order.specs.declared.step.StepState.TheVariants.{Instructed}
 use Rattle.clr_order.specs.declared.action.Action.TheVariants as actions
-use Rattle.clr_rules.specs.Prelude.{SetHand, PutHold, TakeHold, PutRecord, PutStep, HeldOpen}
-use Rattle.clr_rules.specs.Prelude.{Tested, Ground, Granted, Released, Switching, hold_of}
+use Rattle.clr_rules.specs.declared.change.Edit.TheVariants.{SetHand, PutHold, TakeHold, PutRecord}
+use Rattle.clr_rules.specs.declared.change.Edit.TheVariants.{PutStep}
+use Rattle.clr_rules.specs.declared.hold_kind.HoldKind.TheVariants.{HeldOpen, Tested, Ground}
+use Rattle.clr_rules.specs.declared.phase.Phase.TheVariants.{Granted, Released, Switching}
+use Rattle.clr_rules.specs.Holds.{hold_of}
 use Rattle.clr_examples.specs.Worked.{C1, JONES, KIM, L2, L3, OPS, S2, S3, Saying, accepted}
 use Rattle.clr_examples.specs.Worked.{answer_after, does, jones_1, kim_1, kim_has_both, l2_granted}
 use Rattle.clr_examples.specs.Worked.{l2_released, ops_1, refused, restoring_l2, says, step_runs}

@@ -5,9 +5,15 @@ use Rattle.std.specs.Prelude.{Option}
 use Rattle.clr_net.specs.declared.point.Position.TheVariants.{Closed as Shut}
 use Rattle.clr_order.specs.declared.action.Action.TheVariants as actions
 use Rattle.clr_rules.specs.Answer.{Answer, answer}
-use Rattle.clr_rules.specs.Prelude.{SetHand, PutHold, TakeHold, PutRecord, Hold, HoldKind, HeldOpen}
-use Rattle.clr_rules.specs.Prelude.{Block, Control, Tag, Tested, Ground, Crew, Requested, Released}
-use Rattle.clr_rules.specs.Prelude.{Closed, Register, hold_of, after_edits}
+use Rattle.clr_rules.specs.declared.change.Edit.TheVariants.{SetHand, PutHold, TakeHold, PutRecord}
+use Rattle.clr_rules.specs.declared.hold.Hold.{Hold}
+use Rattle.clr_rules.specs.declared.hold_kind.HoldKind.{HoldKind}
+use Rattle.clr_rules.specs.declared.hold_kind.HoldKind.TheVariants.{HeldOpen, Block, Control, Tag}
+use Rattle.clr_rules.specs.declared.hold_kind.HoldKind.TheVariants.{Tested, Ground, Crew}
+use Rattle.clr_rules.specs.declared.phase.Phase.TheVariants.{Requested, Released, Closed}
+use Rattle.clr_rules.specs.Register.{Register}
+use Rattle.clr_rules.specs.Holds.{hold_of}
+use Rattle.clr_rules.specs.Edits.{after_edits}
 use Rattle.clr_examples.specs.Changes.{both_tested}
 use Rattle.clr_examples.specs.Phases.{refusal_in, refused_after}
 use Rattle.clr_examples.specs.Sequence.{tells}

@@ -8,7 +8,9 @@ use Rattle.clr_examples.specs.Worked.{c1_is_on, does, isolating_l2, jones_1, kim
 use Rattle.clr_examples.specs.Worked.{l2_granted, l2_grounded, l2_isolated, l2_ordered, l2_released}
 use Rattle.clr_examples.specs.Worked.{l2_restoring, l2_tested, ops_1, restoring_l2, s2_opened}
 use Rattle.clr_examples.specs.Worked.{s3_unblocked, says, step_is_repeated, step_runs}
-use Rattle.clr_rules.specs.Prelude.{Kind, Refusal, Reply}
+use Rattle.clr_rules.specs.declared.command.Kind.{Kind}
+use Rattle.clr_rules.specs.declared.refusal.Refusal.{Refusal}
+use Rattle.clr_rules.specs.declared.reply.Reply.{Reply}
 use Rattle.clr_rules.specs.declared.command.Kind.TheVariants.{Request, Order, Instruct, Repeat}
 use Rattle.clr_rules.specs.declared.command.Kind.TheVariants.{Report, Grant, Test, Ground, Unground}
 use Rattle.clr_rules.specs.declared.command.Kind.TheVariants.{SignOn, SignOff, Transfer, Release}

@@ -3,7 +3,9 @@
 use Rattle.std.specs.Prelude.{◌≡◌, ℕ, zero, suc, false, true, List, [], ◌∷◌, ◌++◌, replicate, codes}
 use Rattle.clr_order.specs.declared.action.Action.TheVariants as actions
 use Rattle.clr_rules.specs.Answer.{answer}
-use Rattle.clr_rules.specs.Prelude.{Command, HeldOpen, Register}
+use Rattle.clr_rules.specs.declared.command.Command.{Command}
+use Rattle.clr_rules.specs.declared.hold_kind.HoldKind.TheVariants.{HeldOpen}
+use Rattle.clr_rules.specs.Register.{Register}
 use Rattle.clr_rules.specs.Register.{opening}
 use Rattle.clr_rules.specs.Run.{after_all}
 use Rattle.clr_examples.specs.Worked.{C1, DALE, H, JONES, BOSS, KIM, L1, L2, L3, OPS, REED, S1, S2, S3}

@@ -6,9 +6,16 @@ use Rattle.clr_net.specs.declared.point.Position.TheVariants.{Opened, Closed as 
 use Rattle.clr_order.specs.declared.step.StepState.TheVariants.{Done}
 use Rattle.clr_order.specs.declared.action.Action.TheVariants as actions
 use Rattle.clr_rules.specs.Fences.{clearance_fence}
-use Rattle.clr_rules.specs.Prelude.{HeldOpen, Block, Tag, Tested, Ground as Grounding, Phase}
-use Rattle.clr_rules.specs.Prelude.{Requested, Ordered, Granted, Released, Restoring, Switching}
-use Rattle.clr_rules.specs.Prelude.{Closed, Reply, Id, Register, hand_of, hold_of}
+use Rattle.clr_rules.specs.declared.hold_kind.HoldKind.TheVariants.{HeldOpen, Block, Tag, Tested}
+use Rattle.clr_rules.specs.declared.hold_kind.HoldKind.TheVariants.{Ground as Grounding}
+use Rattle.clr_rules.specs.declared.phase.Phase.{Phase}
+use Rattle.clr_rules.specs.declared.phase.Phase.TheVariants.{Requested, Ordered, Granted, Released}
+use Rattle.clr_rules.specs.declared.phase.Phase.TheVariants.{Restoring, Switching, Closed}
+use Rattle.clr_rules.specs.declared.reply.Reply.{Reply}
+use Rattle.clr_rules.specs.Id.{Id}
+use Rattle.clr_rules.specs.Register.{Register}
+use Rattle.clr_rules.specs.States.{hand_of}
+use Rattle.clr_rules.specs.Holds.{hold_of}
 use Rattle.clr_rules.specs.Run.{replies}
 use Rattle.clr_examples.specs.Worked.{BOSS, C1, DALE, G, H, JONES, KIM, L1, L2, L3, OPS, REED, S1, S2}
 use Rattle.clr_examples.specs.Worked.{S3, S4, Saying, T1, ZZ, does, from_moment, jones_1, kim_1}

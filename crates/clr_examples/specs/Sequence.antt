@@ -3,7 +3,10 @@
 use Rattle.std.specs.Prelude.{◌≡◌, ℕ, false, true, List, [], ◌∷◌, ◌++◌, codes, Some}
 use Rattle.clr_order.specs.declared.action.Action.TheVariants as actions
 use Rattle.clr_rules.specs.Answer.{answer}
-use Rattle.clr_rules.specs.Prelude.{HeldOpen, Requested, Refusal, Register}
+use Rattle.clr_rules.specs.declared.hold_kind.HoldKind.TheVariants.{HeldOpen}
+use Rattle.clr_rules.specs.declared.phase.Phase.TheVariants.{Requested}
+use Rattle.clr_rules.specs.declared.refusal.Refusal.{Refusal}
+use Rattle.clr_rules.specs.Register.{Register}
 use Rattle.clr_examples.specs.Worked.{C1, JONES, KIM, L2, L3, OPS, REED, S2, S3, Saying, ZZ}
 use Rattle.clr_examples.specs.Worked.{answer_after, c1_is_off, c1_is_on, does, jones_1, kim_1}
 use Rattle.clr_examples.specs.Worked.{l2_asked, l2_granted, l2_grounded, l2_ordered, l2_released}

@@ -7,9 +7,15 @@ use Rattle.clr_net.specs.declared.point.Position.TheVariants.{Opened, Closed as 
 use Rattle.clr_order.specs.declared.step.StepState.TheVariants.{Waiting}
 use Rattle.clr_order.specs.declared.action.Action.TheVariants as actions
 use Rattle.clr_rules.specs.Agreement.{part_near}
-use Rattle.clr_rules.specs.Prelude.{SetPosition, SetHand, PutHold, TakeHold, PutRecord, PutStep}
-use Rattle.clr_rules.specs.Prelude.{HeldOpen, Block, Tag, Tested, Ground, Crew, Ordered, Granted}
-use Rattle.clr_rules.specs.Prelude.{Closed, Id, Register, hold_of, after_edits}
+use Rattle.clr_rules.specs.declared.change.Edit.TheVariants.{SetPosition, SetHand, PutHold}
+use Rattle.clr_rules.specs.declared.change.Edit.TheVariants.{TakeHold, PutRecord, PutStep}
+use Rattle.clr_rules.specs.declared.hold_kind.HoldKind.TheVariants.{HeldOpen, Block, Tag, Tested}
+use Rattle.clr_rules.specs.declared.hold_kind.HoldKind.TheVariants.{Ground, Crew}
+use Rattle.clr_rules.specs.declared.phase.Phase.TheVariants.{Ordered, Granted, Closed}
+use Rattle.clr_rules.specs.Id.{Id}
+use Rattle.clr_rules.specs.Register.{Register}
+use Rattle.clr_rules.specs.Holds.{hold_of}
+use Rattle.clr_rules.specs.Edits.{after_edits}
 use Rattle.clr_examples.specs.Isolation.{in_l2, register_one, with_s4_switched}
 use Rattle.clr_examples.specs.NearParts.{both_at_work}
 use Rattle.clr_rules.specs.Near.{Near, near_of}

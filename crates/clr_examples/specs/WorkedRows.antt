@@ -4,7 +4,10 @@ use Rattle.clr_order.specs.Step.{Task}
 use Rattle.clr_order.specs.declared.step.Step.{Step}
 use Rattle.clr_order.specs.declared.step.StepState.{StepState}
 use Rattle.clr_order.specs.declared.step.StepState.TheVariants.{Done}
-use Rattle.clr_rules.specs.Prelude.{Phase, Record, StepRow, Id}
+use Rattle.clr_rules.specs.declared.phase.Phase.{Phase}
+use Rattle.clr_rules.specs.declared.record.Record.{Record}
+use Rattle.clr_rules.specs.declared.step_row.StepRow.{StepRow}
+use Rattle.clr_rules.specs.Id.{Id}
 use Rattle.clr_examples.specs.Worked.{JONES, KIM, L2, L3, OPS, REED, jones_1, kim_1, ops_1}
 use Rattle.clr_rules.specs.declared.reply.Card.{Card}
 
