@@ -6,3 +6,4 @@ pub mod Requests
 pub mod Turns
 pub mod Connections
 pub mod Exchanges
+pub mod RequestRuns

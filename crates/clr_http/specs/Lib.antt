@@ -7,3 +7,5 @@ pub mod Respond
 pub mod Registrar
 pub mod Served
 pub mod Service
+pub mod Asked
+pub mod RequestLaws

@@ -6,6 +6,7 @@ ghost use Rattle.clr_stream.specs.Failures.{Rose};
 ghost use Rattle.clr_rules.specs.Good.{IsGood};
 ghost use Rattle.clr_rules.specs.Run.{IsReached};
 ghost use Rattle.clr_http.specs.Head.{BeginsWith, HasHead};
+ghost use Rattle.clr_http.specs.RequestLaws.{ComesNext};
 ghost use Rattle.clr_http.specs.Respond.{respond_to};
 ghost use Rattle.clr_http.specs.Response.{content_of, response_bytes};
 ghost use Rattle.clr_http.specs.Served.{IsConnection, IsRefusal, IsServed, IsWritten};
@@ -106,6 +107,8 @@ pub fn serve_one<D: Registrar, R: CountedRead, W: CountedWrite>(
         → Rose (R.failure_count reader.old) (R.failure_count reader.new)
         × (writer.new ≡ writer.old) × (desk.new ≡ desk.old) }
     ensures unmade { result ≡ Err HttpFault.NoMemory → writer.new ≡ writer.old }
+    ensures follows { IsGood (D.keeper desk.old).register
+        → ComesNext (D.keeper desk.old).register (D.keeper desk.new).register }
     ensures good { IsGood (D.keeper desk.old).register → IsGood (D.keeper desk.new).register }
     ensures reached { IsReached (D.keeper desk.old).register
         → IsReached (D.keeper desk.new).register }

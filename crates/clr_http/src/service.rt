@@ -3,10 +3,19 @@ ghost use Rattle.std.specs.Prelude.{◌≡◌, ◌<◌, ◌-◌, ◌^◌, IfOk, 
 ghost use Rattle.clr_rules.specs.Good.{IsGood};
 ghost use Rattle.clr_rules.specs.Run.{IsReached};
 ghost use Rattle.clr_http.specs.Head.{HasHead};
+ghost use Rattle.clr_http.specs.RequestLaws.{AskedOnce, ComesAfter, ComesNext};
+ghost use Rattle.clr_http.specs.RequestLaws.{CommandsAreAnswered, HasRun};
+ghost use Rattle.clr_http.specs.RequestLaws.{OnlyCommandsChange, OthersRequestsTakeNothing};
+ghost use Rattle.clr_http.specs.RequestLaws.{OwnRequestsAlone, RequestsAreRuns};
+ghost use Rattle.clr_http.specs.RequestLaws.{SameShownSameResponses};
 ghost use Rattle.clr_http.specs.Service.{AnsweredOnce, HaveHeads, IsExchange, RespondsAll};
 
 use crate::registrar::Registrar;
 use crate::serve::{HttpFault, serve_one};
+use clr_rules::laws::headline::{
+    nothing_is_taken_away, own_commands_stand_alone, same_shown_same_answers,
+};
+use clr_rules::laws::run_headline::headline_holds_of_runs;
 use clr_stream::Counted;
 use std::alloc::Global;
 
@@ -14,6 +23,28 @@ use std::alloc::Global;
 pub fn inputs_are_answered_once()
     ensures { AnsweredOnce }
 {}
+
+/// Requests are answered as a run of the commands that they ask. Each asks one command or none,
+/// whatever the register; one that asks none changes nothing.
+pub fn requests_are_runs()
+    ensures runs { RequestsAreRuns }
+    ensures once { AskedOnce }
+    ensures commands { CommandsAreAnswered }
+    ensures others { OnlyCommandsChange }
+{}
+
+/// The headline over HTTP: two lists of requests that show a clearance the same get its own
+/// requests the same bytes; a request about another clearance takes nothing away from it; and
+/// where others leave no mark, its own requests get the bytes that they get alone.
+pub fn headline_holds_of_requests()
+    ensures same { SameShownSameResponses }
+    ensures nothing { OthersRequestsTakeNothing }
+    ensures alone { OwnRequestsAlone }
+{
+    same_shown_same_answers();
+    nothing_is_taken_away();
+    own_commands_stand_alone();
+}
 
 /// Serves requests that lie in memory, each as a connection of its own, one after the other. Gives
 /// the bytes that go out to each. Where the desk counts no fault they are what the definitions
@@ -30,10 +61,20 @@ pub fn serve_all<D: Registrar>(
         → IfOk result (λ responses. RespondsAll (D.keeper desk.old).register
         (map (λ request. request.items) requests.now)
         (map (λ response. response.items) responses.items) (D.keeper desk.new).register) }
+    ensures run { IsGood (D.keeper desk.old).register
+        → HaveHeads (map (λ request. request.items) requests.now)
+        → (D.keeper desk.old).faults < 2 ^ 64 - 1
+        → (D.keeper desk.new).faults ≡ (D.keeper desk.old).faults
+        → IfOk result (λ responses. HasRun (D.keeper desk.old).register
+        (map (λ request. request.items) requests.now)
+        (map (λ response. response.items) responses.items) (D.keeper desk.new).register) }
+    ensures follows { IsGood (D.keeper desk.old).register
+        → ComesAfter (D.keeper desk.old).register (D.keeper desk.new).register }
     ensures reached { IsReached (D.keeper desk.old).register
         → IsReached (D.keeper desk.new).register }
     ensures led { D.leads_to desk.old desk.new }
 {
+    headline_holds_of_runs();
     let mut responses = Vec::new(alloc);
     for request in requests {
         let response = response_bytes(alloc, desk, request.as_slice())?;
@@ -51,6 +92,8 @@ fn response_bytes<D: Registrar>(
     ensures exchange { IsGood (D.keeper desk.old).register → HasHead (Some request.now)
         → IfOk result (λ response. IsExchange (D.keeper desk.old) (D.keeper desk.new)
         request.now response.items) }
+    ensures follows { IsGood (D.keeper desk.old).register
+        → ComesNext (D.keeper desk.old).register (D.keeper desk.new).register }
     ensures good { IsGood (D.keeper desk.old).register → IsGood (D.keeper desk.new).register }
     ensures reached { IsReached (D.keeper desk.old).register
         → IsReached (D.keeper desk.new).register }

@@ -2,6 +2,7 @@ use Rattle.std.proofs.Common.{◌≡◌, ◌∙◌, Some, ap, refl, rules, subst
 use Rattle.std.specs.Prelude.{Err, IfSome, IsSomeAnd}
 use Rattle.clr_rules.proofs.keeps.EveryKind.{reached_are_good}
 use Rattle.clr_http.proofs.Connections.{answered_served, asks_unrefused, connection, empty_connection, of_kind, refusal_accounts, refused_served, served_as, unmade_connection, unmade_served, unread_connection}
+use Rattle.clr_http.proofs.RequestRuns.{by_one, none_more}
 use Rattle.clr_http.proofs.Turns.{stays_good, stays_reached, turn_leaves}
 use Rattle.clr_http.specs.Request.{IsNo503, IsRefusedHead, asks, reading, refused, request_read}
 use Rattle.clr_http.specs.Respond.{target_outcome, unchanged, reading_outcome, respond_to}
@@ -115,3 +116,20 @@ returns-in_err-response-in-Some-Asks-clause-always g c =
 pub returns-in_ok-response-in-Some-Asks-clause-always : goal.returns-in_ok-response-in-Some-Asks-clause-always
 returns-in_ok-response-in-Some-Asks-clause-always g c =
     connection _ _ _ _ _ _ c.in_ok-response-in-Some-Asks.ensures.accounts c.send-in-Some-Asks.ensures.fixed c.send-in-Some-Asks.ensures.written
+
+pub returns-in_err-read_request-clause-follows : goal.returns-in_err-read_request-clause-follows
+returns-in_err-read_request-clause-follows g c good = none_more _
+
+pub returns-in-None-clause-follows : goal.returns-in-None-clause-follows
+returns-in-None-clause-follows g c good = none_more _
+
+pub returns-in-Some-Refused-clause-follows : goal.returns-in-Some-Refused-clause-follows
+returns-in-Some-Refused-clause-follows g c good = none_more _
+
+pub returns-in_err-response-in-Some-Asks-clause-follows : goal.returns-in_err-response-in-Some-Asks-clause-follows
+returns-in_err-response-in-Some-Asks-clause-follows g c good =
+    by_one _ _ c.in-Some-Asks.asked c.as_slice.result.now (c.in_err-response-in-Some-Asks.ensures.turn good)
+
+pub returns-in_ok-response-in-Some-Asks-clause-follows : goal.returns-in_ok-response-in-Some-Asks-clause-follows
+returns-in_ok-response-in-Some-Asks-clause-follows g c good =
+    by_one _ _ c.in-Some-Asks.asked c.as_slice.result.now (turn_leaves _ _ _ _ (c.in_ok-response-in-Some-Asks.ensures.turn good))

@@ -2,6 +2,7 @@ use Rattle.std.proofs.Common.{◌<◌, ◌-◌, ◌^◌, map, take}
 use Rattle.clr_rules.specs.Good.{IsGood}
 use Rattle.clr_rules.specs.Run.{IsReached}
 use Rattle.clr_http.proofs.Exchanges.{IsFar}
+use Rattle.clr_http.specs.RequestLaws.{ComesAfter}
 use Rattle.clr_http.specs.Service.{HaveHeads}
 use Rattle.clr_http.proofs.service.serve_all.Given as goal
 
@@ -14,5 +15,6 @@ invariant-loop-request g l = record {
       → (g.D.Registrar.keeper l.fn.desk).faults < 2 ^ 64 - 1
       → IsFar (g.D.Registrar.keeper l.fn.desk) (g.D.Registrar.keeper l.desk)
       (take l.request-index (map (λ request. request.items) l.requests)) (map (λ response. response.items) l.responses.items);
+  follows : IsGood (g.D.Registrar.keeper l.fn.desk).register → ComesAfter (g.D.Registrar.keeper l.fn.desk).register (g.D.Registrar.keeper l.desk).register;
   led : g.D.Registrar.leads_to l.fn.desk l.desk;
 }
