@@ -2,6 +2,7 @@ pub mod lists
 pub mod edits
 pub mod good
 pub mod keeps
+pub mod staffed
 pub mod near
 pub mod isolation
 pub mod live

@@ -30,5 +30,6 @@ pub mod Footprint
 pub mod Isolation
 pub mod GoodByPhase
 pub mod RunHeadline
+pub mod Staffed
 pub mod EditOrder
 pub mod laws

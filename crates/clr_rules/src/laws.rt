@@ -14,6 +14,7 @@ pub mod opening;
 pub mod own;
 pub mod run_headline;
 pub mod runs;
+pub mod staffed;
 pub mod steps;
 pub mod tags;
 pub mod work;

@@ -1,0 +1,3 @@
+pub mod EveryKind
+pub mod PutPeople
+pub mod Puts
