@@ -3,6 +3,7 @@ pub mod edits
 pub mod good
 pub mod keeps
 pub mod staffed
+pub mod way_back
 pub mod near
 pub mod isolation
 pub mod live

@@ -31,5 +31,6 @@ pub mod Isolation
 pub mod GoodByPhase
 pub mod RunHeadline
 pub mod Staffed
+pub mod WayBack
 pub mod EditOrder
 pub mod laws

@@ -17,4 +17,5 @@ pub mod runs;
 pub mod staffed;
 pub mod steps;
 pub mod tags;
+pub mod way_back;
 pub mod work;

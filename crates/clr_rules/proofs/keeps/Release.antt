@@ -23,11 +23,11 @@ use Rattle.clr_rules.proofs.edits.PutRecords.{put_changes, outlook_with, quiet}
 use Rattle.clr_rules.proofs.lists.RoundSteps.{one_id, own_id, record_id}
 
 -- the holds without those of a kind at some places
-taken_all : Id → List (List ℕ) → List Hold → List Hold
+pub taken_all : Id → List (List ℕ) → List Hold → List Hold
 taken_all c [] holds = holds
 taken_all c (place ∷ places) holds = taken_all c places (without_row hold_cmp hold_key (hold_of c Tested place) holds)
 
-takes_edited : (c : Id) (places : List (List ℕ)) (rest : List Edit) (R : Register)
+pub takes_edited : (c : Id) (places : List (List ℕ)) (rest : List Edit) (R : Register)
     → after_edits (map (λ place. TakeHold (hold_of c Tested place)) places ++ rest) R ≡ after_edits rest (record R { holds = taken_all c places R.holds })
 unfolding after_edits taken_all
 takes_edited c [] rest R = refl

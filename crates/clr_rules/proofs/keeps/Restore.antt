@@ -54,12 +54,12 @@ restoring_passed R c tasks passed =
 -- ---- the held points
 
 module _ (holds : List Hold) (c : Id) where
-  held_names : (points : List (List ℕ)) → held_points (map (held_at holds c) points) ≡ points
+  pub held_names : (points : List (List ℕ)) → held_points (map (held_at holds c) points) ≡ points
   held_names [] = refl
   held_names (p ∷ points) = ap (λ (points : List (List ℕ)). p ∷ points) (held_names points)
 
   -- a point is held, where it is held open and is among the points
-  held_named : (points : List (List ℕ)) (p : List ℕ) → has_name (held_points (held_among holds c points)) p ≡ (has_hold holds c HeldOpen p && has_name points p)
+  pub held_named : (points : List (List ℕ)) (p : List ℕ) → has_name (held_points (held_among holds c points)) p ≡ (has_hold holds c HeldOpen p && has_name points p)
   unfolding held_among
   held_named points p =
       ap (λ (names : List (List ℕ)). has_name names p) (held_names (filter (has_hold holds c HeldOpen) (first_of_each points)))
@@ -85,7 +85,7 @@ some_new c round n [] some = absurd (omega arith)
 some_new c round n (t ∷ tasks) some = some_step_there (record { id = c; round = round; ordinal = n; step = waiting_step t }) (new_steps c round (n + 1) tasks)
 
 -- a Released record has a work section, and is as that phase wants it
-released : (g : Grid) (phase : Phase) (work : Option (List ℕ)) (v : Outlook) → is_released phase ≡ true → InPhase g phase work v
+pub released : (g : Grid) (phase : Phase) (work : Option (List ℕ)) (v : Outlook) → is_released phase ≡ true → InPhase g phase work v
     → (w : List ℕ) × (work ≡ Some w) × InReleased g w v
 released g Released (Some w) v is h = (w, refl, h)
 released g Released None v is h = absurd h
@@ -109,7 +109,7 @@ module _ (R : Register) (r : Record) (at : ℕ) (tasks : List Task) (good : IsGo
   none_beside kind p at_point free = false_from_ne_true (has_hold R.holds r.id kind p) (λ held. both_ways (has_hold R.holds r.id HeldOpen p) free (beside kind p at_point held))
 
   -- a step stands at a held point, and so at one of the first round
-  each_held : (t : Task) → Contains tasks t → (has_hold R.holds r.id HeldOpen t.point ≡ true) × (has_name (points_of (steps_in R.steps r.id 1)) t.point ≡ true)
+  pub each_held : (t : Task) → Contains tasks t → (has_hold R.holds r.id HeldOpen t.point ≡ true) × (has_name (points_of (steps_in R.steps r.id 1)) t.point ≡ true)
   each_held t there = and_parts (has_hold R.holds r.id HeldOpen t.point) (has_name (points_of (steps_in R.steps r.id 1)) t.point)
       (sym (held_named R.holds r.id (points_of (steps_in R.steps r.id 1)) t.point)
       ∙ All-contains (λ (t : Task). has_name (held_points (held_among R.holds r.id (points_of (steps_in R.steps r.id 1)))) t.point ≡ true) tasks t restores.nowhere_else there)
@@ -140,7 +140,7 @@ module _ (R : Register) (r : Record) (at : ℕ) (tasks : List Task) (good : IsGo
           (subst (λ (rows : List StepRow). has_name (points_of rows) p ≡ true) (of_round_is R.steps r.id 1) (at_points p held)))))
       by false free = rw (free, none_beside Tag p refl free, none_beside Control p refl free, none_beside Block p refl free, nothing_there p free) refl
 
-  ready : IsReady R r.id 2 tasks
+  pub ready : IsReady R r.id 2 tasks
   ready = record {
     rests = each_rests (steps_of R.steps r.id) h.none_active;
     none_yet = sym (of_round_is R.steps r.id 2) ∙ h.one_round;

@@ -56,17 +56,17 @@ use Rattle.clr_rules.proofs.staffed.PutPeople.{IsOwnReport, PutWell, StepPutWell
 -- ---- a Restoring record has a step left
 
 -- the edits of a step that is reported done, as they are put
-abbrev done_list : Bool → Id → Action → List ℕ → Record → StepRow → List Edit
+abbrev pub done_list : Bool → Id → Action → List ℕ → Record → StepRow → List Edit
 done_list switching d a p s row = point_edits switching d a p ++ PutRecord s ∷ PutStep row ∷ []
 
-done_steps : (switching : Bool) (d : Id) (a : Action) (p : List ℕ) (s : Record) (row : StepRow) (R : Register)
+pub done_steps : (switching : Bool) (d : Id) (a : Action) (p : List ℕ) (s : Record) (row : StepRow) (R : Register)
     → Register.steps (after_edits (done_list switching d a p s row) R) ≡ put_step row R.steps
 unfolding after_edits
 done_steps true d actions.Open p s row R = refl
 done_steps false d actions.Open p s row R = refl
 done_steps switching d _ p s row R = refl
 
-done_records : (switching : Bool) (d : Id) (a : Action) (p : List ℕ) (s : Record) (row : StepRow) (R : Register)
+pub done_records : (switching : Bool) (d : Id) (a : Action) (p : List ℕ) (s : Record) (row : StepRow) (R : Register)
     → Register.records (after_edits (done_list switching d a p s row) R) ≡ with_row id_cmp record_key s R.records
 unfolding after_edits
 done_records true d actions.Open p s row R = refl
@@ -178,7 +178,7 @@ restored R ordered k by at c kind passed d tasks is some same = cc is
 
 -- ---- a Released record holds some point open
 
-some_found : {X : Type 0} (p : X → Bool) (xs : List X) → list_any p xs ≡ true → (x : X) × Contains xs x × (p x ≡ true)
+pub some_found : {X : Type 0} (p : X → Bool) (xs : List X) → list_any p xs ≡ true → (x : X) × Contains xs x × (p x ≡ true)
 some_found {X = X} p xs h = at (find p xs) refl
   where
     at : (o : Option X) → find p xs ≡ o → (x : X) × Contains xs x × (p x ≡ true)

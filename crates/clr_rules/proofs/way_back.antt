@@ -1,0 +1,12 @@
+pub mod Accepting
+pub mod Cancelling
+pub mod ComingBack
+pub mod EachPhase
+pub mod Granted
+pub mod InWork
+pub mod Releasing
+pub mod Restoring
+pub mod Rows
+pub mod Running
+pub mod Staying
+pub mod Undoing

@@ -1,0 +1,187 @@
+-- THE WAY BACK: commands by which the staff closes a record that is not Closed, without closing or
+-- opening a point. Each is asked at the last moment of the record that it is about.
+use Rattle.std.specs.Prelude.{◌≡◌, ℕ, Bool, true, false, not, ◌&&◌, if◌then◌else◌, List, [], ◌∷◌}
+use Rattle.std.specs.Prelude.{◌++◌, map, find, Option, None, Some, ◌⊎◌, zero, suc}
+use Rattle.clr_net.specs.Name.{same_name}
+use Rattle.clr_net.specs.Names.{has_name}
+use Rattle.clr_order.specs.Needed.{undoing}
+use Rattle.clr_order.specs.Step.{Task, task}
+use Rattle.clr_order.specs.Texts.{step_text}
+use Rattle.clr_order.specs.declared.action.Action.{Action}
+use Rattle.clr_order.specs.declared.action.Action.TheVariants as actions
+use Rattle.clr_order.specs.declared.held.Held.{Held}
+use Rattle.clr_order.specs.declared.step.StepState.TheVariants.{Waiting}
+use Rattle.clr_staff.specs.declared.employee.Role.{Role}
+use Rattle.clr_staff.specs.declared.employee.StaffRow.{StaffRow}
+use Rattle.clr_rules.specs.Answer.{Answer, answer}
+use Rattle.clr_rules.specs.Changes.{step_moved}
+use Rattle.clr_rules.specs.Checks.{is_field, is_operator}
+use Rattle.clr_rules.specs.Holds.{held_among}
+use Rattle.clr_rules.specs.Prelude.{Command, Kind, HoldKind, Ground, Crew, Phase, Requested, Ordered}
+use Rattle.clr_rules.specs.Prelude.{Granted, Released, Restoring, Switching, Closed, Record, Reply}
+use Rattle.clr_rules.specs.Prelude.{StepRow, Id, same_id, Register, hand_of, position_of, record_of}
+use Rattle.clr_rules.specs.Prelude.{is_active, is_done, points_of, steps_in, steps_of, has_hold}
+use Rattle.clr_rules.specs.Prelude.{places_of}
+use Rattle.clr_rules.specs.Records.{is_closed}
+use Rattle.clr_rules.specs.Run.{IsReached, after, after_all}
+use Rattle.clr_rules.specs.Staffed.{first_of_role, has_some_role}
+use Rattle.clr_rules.specs.Steps.{is_close, some_active}
+use Rattle.clr_rules.specs.declared.command.Kind.TheVariants as kinds
+use Rattle.clr_rules.specs.declared.reply.Reply.TheVariants.{Accepted}
+
+-- ---- the moves
+
+abbrev pub ask : Record → List ℕ → Kind → Command
+ask r by kind = record { caller = by; moment = r.last; kind = kind }
+
+abbrev pub name_in : Option StaffRow → List ℕ
+name_in None = []
+name_in (Some row) = row.name
+
+-- the first employee whose role fits; of nobody the empty name, which no employee has
+abbrev pub one_of_role : Register → (Role → Bool) → List ℕ
+one_of_role R fits = name_in (first_of_role R.staff fits)
+
+-- A STEP THAT IS GIVEN OUT COMES BACK: a field employee repeats it, and reports it done or not
+abbrev pub reported_back : Register → Record → StepRow → Bool → List Command
+reported_back R r row done =
+    ask r (one_of_role R is_field) (kinds.Repeat r.id row.ordinal (step_text (task row.step)))
+    ∷ ask r (one_of_role R is_field) (kinds.Report r.id row.ordinal done) ∷ []
+
+-- where a record has a step, which is given out, it is reported not done
+abbrev pub reported_undone : Register → Option Record → Option StepRow → List Command
+reported_undone R None found = []
+reported_undone R (Some r) None = []
+reported_undone R (Some r) (Some row) = reported_back R r row false
+
+-- a record without a step that is given out is cancelled by its holder
+abbrev pub cancelled : Register → Record → Option StepRow → List Command
+cancelled R r None = ask r r.holder (kinds.Cancel r.id) ∷ []
+cancelled R r (Some row) = reported_back R r row false
+
+-- the holder signs off the crews, takes the grounds, and releases the clearance
+abbrev pub given_up : Record → List (List ℕ) → List (List ℕ) → List Command
+given_up r (crew ∷ crews) grounds = ask r r.holder (kinds.SignOff r.id crew) ∷ []
+given_up r [] (section ∷ grounds) = ask r r.holder (kinds.Unground r.id section) ∷ []
+given_up r [] [] = ask r r.holder (kinds.Release r.id true true) ∷ []
+
+-- the steps that undo what is held at points, and leave each of them open
+abbrev pub at_held_point : Held → List Action → List Task
+at_held_point h actions = map (λ action. record { action = action; point = h.point }) actions
+
+unfoldable pub undoing_steps : List Held → List Task
+undoing_steps [] = []
+undoing_steps (h ∷ held) = at_held_point h (undoing h actions.Leave) ++ undoing_steps held
+
+abbrev pub restored : Register → Record → List Command
+restored R r =
+    ask r (one_of_role R is_operator) (kinds.Restore r.id
+    (undoing_steps (held_among R.holds r.id (points_of (steps_in R.steps r.id 1))))) ∷ []
+
+-- the step of a clearance at a point that is given out
+abbrev pub given_out_at : List StepRow → Id → List ℕ → Option StepRow
+given_out_at steps d p =
+    find (λ row. is_active row.step.state && same_name p row.step.point) (steps_of steps d)
+
+-- a step is given out, once no other clearance has its point in hand
+abbrev pub given_out : Register → Record → StepRow → Option Id → List Command
+given_out R r row None = ask r (one_of_role R is_operator) (kinds.Instruct r.id row.ordinal) ∷ []
+given_out R r row (Some d) =
+    if same_id r.id d
+    then ask r (one_of_role R is_operator) (kinds.Instruct r.id row.ordinal) ∷ []
+    else reported_undone R (record_of R.records d) (given_out_at R.steps d row.step.point)
+
+-- a step that waits: a Close becomes a Leave first
+abbrev pub begun : Register → Record → StepRow → Bool → List Command
+begun R r row true = ask r (one_of_role R is_operator) (kinds.Amend r.id row.ordinal) ∷ []
+begun R r row false = given_out R r row (hand_of R.states row.step.point)
+
+-- the first step that is left of a restoring order: it is done, but a Close never is
+abbrev pub stepped : Register → Record → Option StepRow → List Command
+stepped R r None = []
+stepped R r (Some row) =
+    if is_active row.step.state then reported_back R r row (not (is_close row.step.action))
+    else begun R r row (is_close row.step.action)
+
+-- the next commands, by the phase of the record
+abbrev pub moves_in : Register → Record → Phase → List Command
+moves_in R r Requested =
+    cancelled R r (find (λ row. is_active row.step.state) (steps_of R.steps r.id))
+moves_in R r Ordered =
+    cancelled R r (find (λ row. is_active row.step.state) (steps_of R.steps r.id))
+moves_in R r Switching =
+    cancelled R r (find (λ row. is_active row.step.state) (steps_of R.steps r.id))
+moves_in R r Granted =
+    given_up r (places_of R.holds r.id Crew) (places_of R.holds r.id Ground)
+moves_in R r Released = restored R r
+moves_in R r Restoring =
+    stepped R r (find (λ row. not (is_done row.step.state)) (steps_in R.steps r.id 2))
+moves_in R r Closed = []
+
+abbrev pub moves_of : Register → Option Record → List Command
+moves_of R None = []
+moves_of R (Some r) = moves_in R r r.phase
+
+abbrev pub next_moves : Register → Id → List Command
+next_moves R c = moves_of R (record_of R.records c)
+
+-- so many moves on the way, each from the register that the earlier ones left
+unfoldable pub moves : ℕ → Register → Id → List Command
+moves zero R c = []
+moves (suc n) R c = next_moves R c ++ moves n (after_all R (next_moves R c)) c
+
+-- ---- what they come to
+
+abbrev pub is_accepted : Reply → Bool
+is_accepted (Accepted card) = true
+is_accepted _ = false
+
+-- each of the commands is accepted, one after the other
+unfoldable pub AllAccepted : Register → List Command → Type 0
+AllAccepted R [] = Unit {0}
+AllAccepted R (q ∷ commands) =
+    (is_accepted (Answer.reply (answer R q)) ≡ true) × AllAccepted (after R q) commands
+
+-- a step is as it was, or it was given out at one of these points, and waits again
+abbrev pub IsBack : (List ℕ → Bool) → StepRow → StepRow → Type 0
+IsBack among row now = (now ≡ row)
+    ⊎ ((is_active row.step.state ≡ true) × (among row.step.point ≡ true)
+    × (now ≡ step_moved Waiting None row))
+
+unfoldable pub AllBack : (List ℕ → Bool) → List StepRow → List StepRow → Type 0
+AllBack among [] [] = Unit {0}
+AllBack among (row ∷ rows) (now ∷ nows) = IsBack among row now × AllBack among rows nows
+AllBack among _ _ = ⊥
+
+-- of another clearance the record and the holds stay, and the steps but for those that are given
+-- out at these points, which wait again
+pub record StaysBut (among : List ℕ → Bool) (R S : Register) (d : Id) : Type 0 where
+  pub same_record : record_of S.records d ≡ record_of R.records d
+  pub same_holds : (kind : HoldKind) (place : List ℕ)
+      → has_hold S.holds d kind place ≡ has_hold R.holds d kind place
+  pub steps : AllBack among (steps_of R.steps d) (steps_of S.steps d)
+
+-- the points of a clearance: those of its steps
+abbrev pub is_point_of : Register → Id → List ℕ → Bool
+is_point_of R c = has_name (points_of (steps_of R.steps c))
+
+-- COMMANDS CLOSE A RECORD ALONE: all are accepted, and the record is Closed after them; no point is
+-- closed or opened; every other record stays as it is, but for steps that are given out at points
+-- of this one
+pub record ClosesAlone (R : Register) (c : Id) (commands : List Command) : Type 0 where
+  pub accepted : AllAccepted R commands
+  pub now : Record
+  pub recorded : record_of (Register.records (after_all R commands)) c ≡ Some now
+  pub closed : is_closed now.phase ≡ true
+  pub positions : (p : List ℕ)
+      → position_of (Register.states (after_all R commands)) p ≡ position_of R.states p
+  pub others : (d : Id) → same_id d c ≡ false
+      → StaysBut (is_point_of R c) R (after_all R commands) d
+
+-- THERE IS A WAY BACK from every register that is reached, for every record: enough moves close it,
+-- where the staff has a field employee, or no step of the record is given out
+abbrev pub ThereIsAWayBack : Type 0
+ThereIsAWayBack =
+    (R : Register) → IsReached R → (c : Id) (r : Record) → record_of R.records c ≡ Some r
+    → (has_some_role R.staff is_field ≡ true) ⊎ (some_active (steps_of R.steps c) ≡ false)
+    → (n : ℕ) × ClosesAlone R c (moves n R c)
