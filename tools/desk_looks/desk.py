@@ -1,0 +1,80 @@
+"""tools/desk over a register, and what the program and the tables say."""
+
+import json
+import os
+import shutil
+import sqlite3
+import subprocess
+import tempfile
+
+from desk_looks.browser import LONG, Differs, direct, wait_until
+
+TOP = os.path.dirname(os.path.dirname(os.path.dirname(os.path.realpath(__file__))))
+GRIDCLEAR = os.environ.get("GRIDCLEAR", os.path.join(TOP, "tools", "gridclear"))
+DESK = os.environ.get("DESK", os.path.join(TOP, "tools", "desk"))
+FILES = ("sections.csv", "points.csv", "staff.csv")
+EXAMPLES = [os.path.join(TOP, "examples", name) for name in FILES]
+
+
+class Desk:
+    """tools/desk over a register."""
+
+    def __init__(self, work, name, files, ports):
+        self.folder, self.files, self.ports = os.path.join(work, name), files, ports
+        self.base = os.path.join(work, f"{name}.db")
+        self.address = f"http://127.0.0.1:{ports[0]}/"
+        self.process, self.starts = None, 0
+        gridclear("init", *files, "--db", self.base)
+
+    def start(self):
+        self.starts += 1
+        environment = dict(os.environ, GRIDCLEAR=GRIDCLEAR, DESK_FOLDER=self.run_folder())
+        words = [DESK, self.base, *self.files, *map(str, self.ports)]
+        self.process = subprocess.Popen(words, env=environment, stdout=subprocess.DEVNULL, stderr=subprocess.DEVNULL)
+        wait_until(self.answers, "the desk's board")
+
+    def run_folder(self):
+        return f"{self.folder}-{self.starts}"
+
+    def answers(self):
+        try:
+            return direct.open(f"{self.address}board", timeout=5).status == 200
+        except OSError:
+            if self.process.poll() is not None:
+                raise Differs("tools/desk ended by itself") from None
+            return False
+
+    def register(self):
+        with open(os.path.join(self.run_folder(), "desk", "run", "register.pid"), encoding="utf-8") as file:
+            return int(file.read())
+
+    def stop(self):
+        if self.process and self.process.poll() is None:
+            self.process.terminate()
+            self.process.wait(LONG)
+
+    def sent(self):
+        """The commands that reached the register, in their order: those that the proxy could not pass on did not."""
+        with open(f"{self.base}.commands.log", encoding="utf-8") as file:
+            entries = [json.loads(line) for line in file]
+        return [entry["command"] for entry in entries if entry["status"] != 502]
+
+
+def gridclear(*words, text=None):
+    done = subprocess.run([GRIDCLEAR, *words], input=text, capture_output=True, text=True, check=False)
+    if done.returncode != 0:
+        raise Differs(f"gridclear {words[0]} ended with status {done.returncode}: {done.stderr.strip()}")
+    return done.stdout
+
+
+def tables(path):
+    """All rows of all tables, read in a copy, since reading folds the log into the file."""
+    with tempfile.TemporaryDirectory() as folder:
+        for end in ("", "-wal"):
+            if os.path.exists(path + end):
+                shutil.copy(path + end, os.path.join(folder, "copy.db" + end))
+        base = sqlite3.connect(os.path.join(folder, "copy.db"))
+        names = [row[0] for row in base.execute("SELECT name FROM sqlite_master WHERE type = 'table' ORDER BY name")]
+        found = {name: sorted(base.execute(f'SELECT * FROM "{name}"').fetchall(), key=repr) for name in names}
+        base.close()
+        return found

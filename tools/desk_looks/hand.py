@@ -1,0 +1,98 @@
+"""An operator's acts at the page, for the looks."""
+
+import os
+
+from desk_looks.browser import ENTER, LONG, TAB, Differs, say, wait_until
+
+
+class Hand:
+    """What an operator does at the page."""
+
+    def __init__(self, browser, desk, pictures):
+        self.browser, self.desk, self.pictures, self.number = browser, desk, pictures, 0
+
+    def path(self, name):
+        return os.path.join(self.pictures, f"{name}.png")
+
+    def picture(self, name):
+        self.browser.picture(self.path(name))
+
+    def open(self, page="board"):
+        self.browser.go("about:blank")
+        self.browser.go(f"{self.desk.address}#/{page}")
+        wait_until(lambda: self.browser.script("return document.body.dataset.ready === 'yes'"), "the page")
+        self.number = 0
+
+    def speak(self, name):
+        self.browser.click(f'#caller option[value="{name}"]')
+        wait_until(lambda: self.browser.script("return document.getElementById('caller').value") == name, f"speaking as {name}")
+
+    def turn(self, page):
+        self.browser.script("location.hash = arguments[0]", f"#/{page}")
+
+    def press(self, name):
+        self.browser.settled(f'main [data-name="{name}"]')
+        self.browser.click(f'main [data-name="{name}"]')
+
+    def answer(self, value):
+        self.browser.click(f'dialog [data-answer="{value}"]')
+
+    def newest(self):
+        return self.browser.script("""const one = document.querySelector('#replies li[data-number]');
+            return one ? [Number(one.dataset.number), one.dataset.kind, one.textContent] : [0, '', '']""")
+
+    def reply(self, kind, *texts, seconds=LONG):
+        """The next reply is of this kind, and has these texts."""
+        wait_until(lambda: self.newest()[0] > self.number, f"a reply that is {kind} {texts}", seconds)
+        return self.same_reply(kind, *texts)
+
+    def same_reply(self, kind, *texts):
+        self.number, found, text = self.newest()
+        if found != kind or any(part not in text for part in texts):
+            raise Differs(f"to be {kind} {texts}, was {found}: {text}")
+
+    def found(self, *texts):
+        """The reply that was lost now says what the page found."""
+        wait_until(lambda: self.newest()[1] == "found", "what was found after a lost reply")
+        self.same_reply("found", *texts)
+
+    def shows(self, text, css="main"):
+        look = "const node = document.querySelector(arguments[0]); return node?.innerText ?? node?.textContent ?? ''"
+        wait_until(lambda: text in self.browser.script(look, css), f"{css} to show {text}")
+
+    def step(self, clearance, text):
+        """A step's three commands by REED, with the mouse."""
+        self.turn(f"clearance/{clearance}")
+        self.speak("OPS")
+        self.press("instruct")
+        self.reply("accepted", "instruct", clearance)
+        self.press("as REED")
+        self.browser.type('main [data-name="repeat-text"]', text)
+        self.press("repeat")
+        self.reply("accepted", "repeat", text)
+        self.press("done")
+        self.reply("accepted", "done")
+
+    def tab_to(self, name):
+        self.browser.settled(f'main [data-name="{name}"]')
+        for count in range(1, 60):
+            self.browser.keys(TAB)
+            if self.browser.script("return document.activeElement.dataset.name") == name:
+                return count
+        raise Differs(f"60 times Tab do not lead to {name}")
+
+    def step_by_keys(self, text):
+        """The same with the keyboard alone, from the heading of the page on."""
+        self.browser.script("document.querySelector('main h2').focus()")
+        count = self.tab_to("instruct")
+        self.browser.keys(ENTER)
+        self.reply("accepted", "instruct")
+        count += self.tab_to("as REED")
+        self.browser.keys(ENTER)
+        count += self.tab_to("repeat-text")
+        self.browser.keys(text.lower() + ENTER)
+        self.reply("accepted", "repeat", text)
+        count += self.tab_to("done")
+        self.browser.keys(ENTER)
+        self.reply("accepted", "done")
+        say(f"  a step's three commands by keyboard alone: {count + len(text) + 4} keys")

@@ -1,0 +1,303 @@
+"""A whole life of JONES/1 beside switch orders, through the page alone; then the tables behind it."""
+
+import contextlib
+import os
+import signal
+import time
+
+from desk_looks.browser import ENTER, Differs, free_ports, say, wait_until
+from desk_looks.desk import EXAMPLES, Desk, gridclear, tables
+from desk_looks.labels import look_at_labels
+
+
+def compare(desk, work):
+    """The tables behind the page are those of `run` over the same commands."""
+    second = os.path.join(work, "second.db")
+    gridclear("init", *desk.files, "--db", second)
+    lines = desk.sent()
+    gridclear("run", "--db", second, text="".join(f"{line}\n" for line in lines))
+    own, other = tables(desk.base), tables(second)
+    for name in sorted(own.keys() | other.keys()):
+        if own.get(name) != other.get(name):
+            raise Differs(f"table {name}: {own.get(name)} behind the page, {other.get(name)} by run")
+    if len(own.get("clearance", [])) < 4 or len(own.get("step", [])) < 14:
+        raise Differs("the tables have too few rows to say anything")
+    say(f"  {len(lines)} commands; the {len(own)} tables are those of run, {sum(map(len, own.values()))} rows")
+
+
+def ask_and_order(hand):
+    say("the request, and the isolating order by list and diagram")
+    hand.speak("JONES")
+    hand.turn("request")
+    hand.browser.type('main [data-name="section"]', "l2")
+    hand.press("request")
+    hand.reply("accepted", "JONES/1", "Requested")
+    hand.press("as OPS")
+    hand.press("pick S2")
+    hand.browser.script("""document.querySelector('.net .point[data-name="S3"]').dispatchEvent(new MouseEvent('click'))""")
+    hand.shows("TAG S3", "main .steplist")
+    hand.picture("order")
+    hand.press("order")
+    hand.reply("accepted", "order JONES/1: points S2, S3, 6 steps", "Ordered")
+
+
+def isolate(hand):
+    say("the steps, a refused grant, a reload in the middle")
+    hand.step_by_keys("OPEN S2")
+    hand.press("as OPS")
+    hand.press("grant")
+    hand.reply("refused", "STEPS_LEFT, number 23", "What to do")
+    hand.press("instruct")
+    hand.reply("accepted", "instruct step 2")
+    hand.browser.own("POST", "/refresh", {})
+    wait_until(lambda: hand.browser.script("return document.body.dataset.ready === 'yes'"), "the page again")
+    hand.number = 0
+    hand.shows("given out, not yet repeated")
+    hand.press("as REED")
+    hand.browser.type('main [data-name="repeat-text"]', "OPEN S2")
+    hand.press("repeat")
+    hand.shows("The repeat differs", "dialog")
+    hand.answer("send")
+    hand.reply("refused", "REPEAT_DIFFERS")
+    hand.browser.type('main [data-name="repeat-text"]', "\ue009a\ue000OPEN S3")
+    hand.press("repeat")
+    hand.reply("accepted", "repeat")
+    hand.press("done")
+    hand.reply("accepted", "done")
+    not_done(hand, "BLOCK S2")
+    for text in ("BLOCK S2", "BLOCK S3"):
+        hand.step("JONES/1", text)
+
+
+def not_done(hand, text):
+    hand.press("as OPS")
+    hand.press("instruct")
+    hand.reply("accepted", "instruct")
+    hand.press("as DALE")
+    hand.browser.type('main [data-name="repeat-text"]', text + ENTER)
+    hand.reply("accepted", "DALE", text)
+    hand.press("not-done")
+    hand.reply("accepted", "not done")
+
+
+def switch(hand):
+    say("switch orders beside it: a close that is held, and one that runs")
+    hand.speak("OPS")
+    hand.turn("switch")
+    hand.press("pick S2")
+    hand.press("CLOSE S2")
+    hand.press("switch")
+    hand.reply("accepted", "OPS/1")
+    hand.press("instruct")
+    hand.reply("refused", "HELD, number 20", "in the way: JONES/1")
+    hand.turn("clearance/JONES/1")
+    hand.shows("TAG S2", "main .readout")
+    time.sleep(0.5)
+    hand.picture("step")
+    hand.turn("clearance/OPS/1")
+    hand.press("cancel")
+    hand.answer("yes")
+    hand.reply("accepted", "OPS/1 is Closed")
+    hand.turn("switch")
+    hand.press("pick S4")
+    hand.press("OPEN S4")
+    hand.press("switch")
+    hand.reply("accepted", "OPS/2")
+    hand.step("OPS/2", "OPEN S4")
+
+
+def lose_a_reply(hand):
+    say("the register killed under a command, which is looked up and given again by hand")
+    hand.turn("clearance/JONES/1")
+    hand.speak("OPS")
+    hand.shows("TAG S2", "main .readout")
+    os.kill(hand.desk.register(), signal.SIGTERM)
+    wait_until(lambda: "does not answer" in hand.browser.script("return document.getElementById('contact').textContent"), "the word that nothing answers")
+    hand.shows("Its last answer came at", "#contact")
+    hand.press("instruct")
+    hand.reply("lost", "No reply came", "502")
+    hand.picture("silent")
+    hand.found("JONES/1 stands as it did before", "not carried out")
+    hand.browser.click('#replies [data-name$="Give it again"]')
+    hand.reply("accepted", "instruct step 5")
+    hand.press("as REED")
+    hand.browser.type('main [data-name="repeat-text"]', "TAG S2" + ENTER)
+    hand.reply("accepted", "repeat")
+    hand.press("done")
+    hand.reply("accepted", "done")
+    hand.step("JONES/1", "TAG S3")
+
+
+def stop_and_start(hand):
+    say("the desk stopped and started again under the open page")
+    hand.desk.stop()
+    hand.shows("does not answer", "#contact")
+    hand.desk.start()
+    hand.shows("The register answers", "#contact")
+    hand.turn("clearance/JONES/1")
+    hand.speak("OPS")
+    hand.press("grant")
+    hand.reply("accepted", "JONES/1 is Granted")
+
+
+def work_part(hand):
+    say("work, and a register that hangs while a crew is signed on")
+    hand.press("as JONES")
+    hand.press("ground L2")
+    hand.reply("refused", "NOT_TESTED")
+    hand.press("dead L2")
+    hand.reply("accepted", "dead")
+    hand.press("ground L2")
+    hand.reply("accepted", "ground L2")
+    with hanging(hand.desk.register()):
+        hand.browser.type('main [data-name="crew"]', "C1" + ENTER)
+        hand.reply("lost", "504")
+    hand.found("has changed since", "it was carried out")
+    hand.shows("C1 is on")
+    with hanging(hand.desk.register()):
+        hand.browser.type('main [data-name="crew"]', "C2" + ENTER)
+        time.sleep(0.5)
+        hand.browser.own("POST", "/refresh", {})
+        hand.number = 0
+    hand.found("the page was loaded anew", "it was carried out")
+    hand.press("off C2")
+    hand.reply("accepted", "sign crew C2 off")
+
+
+def hand_over(hand):
+    say("the clearance handed over, and taken in an emergency")
+    hand.browser.click('main [data-name="to false"] option[value="BOSS"]')
+    hand.press("transfer false")
+    hand.answer("yes")
+    hand.reply("accepted", "holder BOSS")
+    hand.press("as BOSS")
+    hand.browser.click('main [data-name="to false"] option[value="JONES"]')
+    hand.press("transfer false")
+    hand.answer("yes")
+    hand.reply("accepted", "holder JONES")
+    hand.browser.click('main [data-name="to true"] option[value="KIM"]')
+    hand.press("transfer true")
+    hand.answer("yes")
+    hand.reply("accepted", "emergency", "holder KIM")
+    hand.press("as KIM")
+    hand.browser.click('main [data-name="to false"] option[value="JONES"]')
+    hand.press("transfer false")
+    hand.answer("yes")
+    hand.reply("accepted", "holder JONES")
+    hand.press("as JONES")
+
+
+@contextlib.contextmanager
+def hanging(process):
+    """A program that takes connections, and answers nothing."""
+    os.kill(process, signal.SIGSTOP)
+    try:
+        yield
+    finally:
+        os.kill(process, signal.SIGCONT)
+
+
+def moments(hand):
+    say("moments that are off, and a holder without a supervisor")
+    hand.turn("request")
+    hand.speak("KIM")
+    hand.browser.type('main [data-name="section"]', "L3")
+    set_moment(hand, 600)
+    hand.press("request")
+    hand.shows("after this desk's clock", "dialog")
+    hand.answer("null")
+    hand.reply("unsent", "did not let it be sent")
+    hand.browser.click("#moment-now")
+    set_moment(hand, 90)
+    hand.press("request")
+    hand.reply("accepted", "KIM/1")
+    hand.turn("diagram")
+    hand.browser.click('main [data-name="fence"] option[value="JONES/1"]')
+    hand.turn("board")
+    hand.shows("fence hatched")
+    hand.shows("no supervisor")
+    hand.shows("grounded")
+    hand.picture("board")
+    hand.turn("clearance/KIM/1")
+    hand.press("cancel")
+    hand.answer("yes")
+    hand.shows("The register is ahead of this moment", "dialog")
+    hand.answer("last")
+    hand.reply("accepted", "KIM/1 is Closed")
+
+
+def set_moment(hand, ahead):
+    hand.browser.click("#moment-set")
+    hand.browser.script("""const field = document.getElementById('moment');
+        const time = new Date(Date.now() + arguments[0] * 1000 - new Date().getTimezoneOffset() * 60000);
+        field.value = time.toISOString().slice(0, 19)""", ahead)
+
+
+def give_back(hand):
+    say("giving back and restoring")
+    hand.turn("clearance/JONES/1")
+    hand.speak("JONES")
+    hand.browser.script("window.scrollTo(0, 0)")
+    hand.picture("clearance")
+    release(hand)
+    hand.reply("refused", "CREWS_ON")
+    hand.press("off C1")
+    hand.reply("accepted", "sign crew C1 off")
+    hand.press("ground L2")
+    hand.reply("accepted", "take the ground off L2")
+    release(hand)
+    hand.reply("accepted", "JONES/1 is Released")
+    hand.press("as OPS")
+    for point in ("S2", "S3"):
+        hand.press(f"CLOSE {point}")
+    hand.press("restore")
+    hand.reply("accepted", "Restoring")
+    hand.press("amend 6")
+    hand.answer("yes")
+    hand.reply("accepted", "amend step 6")
+    for text in ("UNTAG S2", "UNBLOCK S2", "CLOSE S2", "UNTAG S3", "UNBLOCK S3", "LEAVE S3"):
+        hand.step("JONES/1", text)
+    hand.shows("It is over; its record stays")
+
+
+def release(hand):
+    hand.press("release")
+    hand.shows("first of two", "dialog")
+    hand.answer("yes")
+    hand.shows("second of two", "dialog")
+    hand.answer("yes")
+
+
+def look_around(hand):
+    say("the other pages: points, my clearances, the printed order, the diagram")
+    hand.turn("points/S4")
+    hand.shows("by the steps done under OPS/2")
+    hand.turn("points/S3")
+    hand.shows("by the steps done under JONES/1")
+    hand.turn("mine")
+    hand.speak("JONES")
+    hand.shows("Closed")
+    hand.turn("clearance/JONES/1")
+    hand.press("print 2")
+    hand.shows("ORDER JONES/1 ROUND 2", "main .paper")
+    hand.browser.on_paper(hand.path("paper"))
+    hand.turn("diagram")
+    hand.shows("S4", "main .net")
+    hand.picture("diagram")
+
+
+PARTS = (ask_and_order, isolate, switch, lose_a_reply, stop_and_start, work_part, hand_over, moments, give_back, look_around,
+         look_at_labels)
+
+
+def whole_life(stage):
+    hand = stage.begin(Desk(stage.work, "desk", EXAMPLES, free_ports(2)))
+    for part in PARTS:
+        part(hand)
+        hand.browser.complain()
+    stage.desk.stop()
+    say("the tables behind the page")
+    compare(stage.desk, stage.work)
+
+
+LOOKS = {"life": whole_life}

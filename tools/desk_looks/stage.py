@@ -1,0 +1,81 @@
+"""What a look stands on: a folder, a register with nginx before it, and windows of Chromium on its page."""
+
+import json
+import os
+import time
+
+from desk_looks.browser import Browser, Differs, free_ports
+from desk_looks.desk import Desk, gridclear
+from desk_looks.hand import Hand
+from desk_looks.network import write_files
+
+
+class Windows:
+    """Browsers, each begun when it is first wanted, and kept for all looks."""
+
+    def __init__(self):
+        self.browsers = []
+
+    def get(self, place):
+        while len(self.browsers) <= place:
+            self.browsers.append(Browser())
+        return self.browsers[place]
+
+    def end(self):
+        for browser in self.browsers:
+            browser.end()
+
+
+class Stage:
+    """One look's: `begin` serves a desk and opens its page in the first window; `network` does so on the made network."""
+
+    def __init__(self, windows, work, pictures):
+        self.windows, self.work, self.pictures = windows, work, pictures
+        self.desk, self.hands = None, []
+        os.mkdir(work)
+        os.chmod(work, 0o755)
+
+    def begin(self, desk, page="board"):
+        self.desk = desk
+        desk.start()
+        return self.window(page)
+
+    def network(self, commands=(), page="board"):
+        """The made network, after these commands, a minute ago; each of them is accepted."""
+        desk = Desk(self.work, "desk", write_files(self.work), free_ports(2))
+        give(desk, commands)
+        return self.begin(desk, page)
+
+    def window(self, page="board"):
+        """A window more, each a browser of its own."""
+        hand = Hand(self.windows.get(len(self.hands)), self.desk, self.pictures)
+        self.hands.append(hand)
+        hand.browser.size(0)
+        hand.open(page)
+        return hand
+
+    def complain(self):
+        for hand in self.hands:
+            hand.browser.complain()
+
+    def picture(self, name):
+        for place, hand in enumerate(self.hands, 1):
+            hand.picture(f"differs-{name}-{place}")
+
+    def end(self):
+        for hand in self.hands:
+            hand.browser.size(0)
+            hand.browser.go("about:blank")
+            hand.browser.complaints()
+        if self.desk:
+            self.desk.stop()
+
+
+def give(desk, commands):
+    """Gives commands to the register itself, before it is served."""
+    moment = int(time.time()) - 60
+    text = "".join(json.dumps(dict(one, at=moment)) + "\n" for one in commands)
+    replies = gridclear("run", "--db", desk.base, text=text) if text else ""
+    for command, reply in zip(commands, replies.splitlines()):
+        if json.loads(reply)["reply"] != "accepted":
+            raise Differs(f"before the look: {command} is {reply}")
