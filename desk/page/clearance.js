@@ -7,7 +7,8 @@ import { shortTime, wholeTime } from "./moments.js";
 import { OrderEditor } from "./order.js";
 import { printedOrders } from "./printed.js";
 import { RestoreEditor } from "./restore.js";
-import { amendControl, instructControl, repeatControl, reportControl, stepsTable } from "./steps.js";
+import { instructControl, readingOf } from "./reading.js";
+import { amendControl, repeatControl, reportControl, stepsFindings, stepsTable } from "./steps.js";
 import { boardLine, choose, lookAt, viewOf } from "./watch.js";
 import { offersOf } from "./who.js";
 import { holdWord, phaseWord } from "./words.js";
@@ -111,7 +112,7 @@ function card(view, line, staff) {
 
 export class ClearancePage {
   #desk; #id; #made = new Map(); #missing = false;
-  #card = el("div"); #next = el("div", { class: "next-body" }); #others = el("div"); #steps = el("div"); #facts = el("div");
+  #card = el("div"); #reading = el("div"); #next = el("div", { class: "next-body" }); #others = el("div"); #steps = el("div"); #facts = el("div");
   #heading = el("h3", { tabindex: -1, id: "next" }, "Next");
   title;
   node;
@@ -124,7 +125,7 @@ export class ClearancePage {
     this.node = el("section", { class: "clearance", "data-id": id },
       el("h2", { tabindex: -1 }, id), this.#card,
       el("div", { class: "columns" },
-        el("div", {}, el("div", { class: "next" }, this.#heading, this.#next, this.#others), this.#steps),
+        el("div", {}, el("div", { class: "next" }, this.#heading, this.#reading, this.#next, this.#others), this.#steps),
         el("div", {}, el("div", { class: "diagram-place small" }), this.#facts)));
     this.update();
     if (!viewOf(id)) lookAt(id).then((answer) => this.#noteMissing(answer));
@@ -150,7 +151,8 @@ export class ClearancePage {
     const line = boardLine(this.#id);
     panel(this.#card, [view.card, view.work, view.crews, line?.last], () => card(view, line, this.#desk.network.staff));
     this.#drawNext(view);
-    panel(this.#steps, view.steps, () => (view.steps.length ? [el("h3", {}, `Steps of round ${view.card.round}`), stepsTable(view)] : []));
+    const found = stepsFindings(view, this.#desk);
+    panel(this.#steps, [view.steps, found], () => (view.steps.length ? [el("h3", {}, `Steps of round ${view.card.round}`), stepsTable(view, found)] : []));
     panel(this.#facts, [view.points, view.holds, view.fence, view.crews, view.card.round, view.card.clearance], () => facts(view));
   }
 
@@ -160,6 +162,8 @@ export class ClearancePage {
     const mine = offers.filter((offer) => caller && offer.names.includes(caller));
     const others = offers.filter((offer) => !mine.includes(offer));
     const keys = mine.map(({ does }) => [does, (SHOWN[does] ?? ((seen) => [seen.card, seen.steps]))(view), caller]);
+    const reading = readingOf(view);
+    panel(this.#reading, [view.card.clearance, reading?.textContent], () => reading);
     panel(this.#next, [keys, offers.length, caller], () => this.#controls(mine, keys, view, offers.length));
     panel(this.#others, [others, caller], () => (others.length ? [el("h4", {}, caller ? "Others may" : "Who may"), othersList(others, this.#desk)] : []));
   }
@@ -180,8 +184,8 @@ export class ClearancePage {
   }
 
   #context(view) {
-    const { network, caller, pick, redraw } = this.#desk;
-    return { view, network, staff: network.staff, caller, pick, redraw, act: (parts) => this.#act(parts) };
+    const { network, caller, pick, redraw, states } = this.#desk;
+    return { view, network, staff: network.staff, caller, pick, redraw, states, desk: this.#desk, act: (parts) => this.#act(parts) };
   }
 
   // After a command that was accepted the heading has the focus, so that a key pressed twice gives no second one.

@@ -1,6 +1,7 @@
 // Giving a command: its moment is looked at, it is sent once, and its reply goes to the replies.
 
 import { ask } from "./ask.js";
+import { noteGiven } from "./given.js";
 import { lost } from "./lost.js";
 import { now, secondsOfField, shortTime, span, wholeTime } from "./moments.js";
 import { postCommand } from "./register.js";
@@ -162,6 +163,7 @@ async function sendKnowing(command, known) {
   addReply(replyOf(command, answer, now()));
   if (momentField) momentField.value = "";
   const accepted = answer.body?.reply === "accepted";
+  if (accepted && command.do === "instruct") noteGiven(command);
   const id = answer.body?.card?.clearance ?? command.clearance;
   if (id) await lookAt(id);
   lookNow();

@@ -4,11 +4,12 @@ import { ask } from "./ask.js";
 import { el, button, choice, field } from "./elements.js";
 import { namesOfRole } from "./network.js";
 
+// Not where a step's controls were a moment ago.
 export function grantControl({ view, act }) {
-  const { clearance, holder, done, steps } = view.card;
+  const { clearance, holder, steps } = view.card;
   return el("div", { class: "offer" },
-    button(`Grant ${clearance} to ${holder}`, () => act({ do: "grant", clearance }), { "data-name": "grant", class: done === steps ? "main" : null }),
-    el("span", { class: "hint" }, `${done} of ${steps} steps are done`));
+    el("p", { class: "step-place" }, `All ${steps} steps are done.`),
+    button(`Grant ${clearance} to ${holder}`, () => act({ do: "grant", clearance }), { "data-name": "grant", class: "main" }));
 }
 
 const NO = [null, "No: do not release"];

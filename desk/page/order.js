@@ -2,6 +2,10 @@
 // steps that are needed at each of them, and the operator may put them into another order.
 
 import { el, button } from "./elements.js";
+import { fenceNotes, offFence } from "./fencing.js";
+import { findingsOfSteps } from "./findings.js";
+import { fenceOf } from "./grid.js";
+import { mayGo, pickedNotes } from "./notes.js";
 import { PointPicker, StepList } from "./picking.js";
 
 const ACTIONS = ["OPEN", "BLOCK", "CONTROL", "TAG"];
@@ -30,17 +34,25 @@ export class OrderEditor {
     this.#network = desk.network;
     this.#desk = desk;
     this.#picker = new PointPicker(desk.network, () => this.#picked());
+    this.#picker.fence = () => (this.#picker.picked.size ? this.#fence().sections : new Set());
     this.#list = new StepList();
     this.node = this.#draw();
     desk.pick(this.#picker);
   }
 
+  #fence() {
+    return fenceOf(this.#network, this.#view.work, this.#picker.picked);
+  }
+
   #draw() {
     const { clearance } = this.#view.card;
+    const picked = () => this.#picker.picked;
     return el("div", { class: "offer editor" },
       el("p", {}, `Isolating order of ${clearance} for work on `, el("strong", {}, this.#view.work),
         ". Pick each point that is to be held open; each way to a source has to be among them, an open point too."),
       this.#picker.node,
+      fenceNotes(this.#network, this.#view.work, picked),
+      pickedNotes(this.#desk, picked, clearance, (name) => offFence(this.#network, this.#fence(), name)),
       el("h3", {}, "Steps"),
       el("div", { class: "answers" },
         button("By action", () => this.#arranged(byAction), { "data-name": "by-action" }),
@@ -60,7 +72,9 @@ export class OrderEditor {
     this.#desk.redraw();
   }
 
-  #send() {
-    return this.#desk.act({ do: "order", clearance: this.#view.card.clearance, points: [...this.#picker.picked], steps: this.#list.steps });
+  async #send() {
+    const found = findingsOfSteps(this.#desk, this.#list.steps, this.#view.card.clearance);
+    if (!(await mayGo(`Before the order of ${this.#view.card.clearance} is given`, found, "Give the order"))) return;
+    await this.#desk.act({ do: "order", clearance: this.#view.card.clearance, points: [...this.#picker.picked], steps: this.#list.steps });
   }
 }

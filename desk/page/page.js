@@ -1,5 +1,6 @@
 // The page: who speaks, what is shown, and whether the register answers.
 
+import { noteBefore } from "./before.js";
 import { BoardPage } from "./board.js";
 import { ClearancePage } from "./clearance.js";
 import { give, isSending, onSending, setCaller, setMomentField, takeUpPending } from "./commands.js";
@@ -9,6 +10,7 @@ import { MinePage } from "./mine.js";
 import { fieldTime, now, shortTime, wholeTime } from "./moments.js";
 import { namesOfRole, readNetwork } from "./network.js";
 import { NetList } from "./netlist.js";
+import { learn } from "./notes.js";
 import { PointsPage } from "./points.js";
 import { pointStates, strangeNames } from "./positions.js";
 import { contact, onContact } from "./register.js";
@@ -102,11 +104,13 @@ function lookAtChosen() {
 
 function drawDiagram() {
   if (!desk.diagram.node.isConnected) return;
-  desk.diagram.update({ states: desk.states(), room, fence: new Set(viewOf(chosen)?.fence ?? []) });
+  desk.diagram.update({ states: desk.states(), room, fence: desk.picking?.fence?.() ?? new Set(viewOf(chosen)?.fence ?? []) });
 }
 
 function update() {
+  noteBefore();
   page?.update();
+  learn();
   drawDiagram();
   lookAtChosen();
   drawStrange();
@@ -178,11 +182,14 @@ function startMoment() {
 }
 
 function makeDesk(network) {
-  const states = () => pointStates(network, room);
+  let known = null;
+  const states = () => known ??= pointStates(network, room);
+  onRoom(() => { known = null; });
   const diagram = network.sections.size > MOST_DRAWN ? new NetList(network)
     : new Diagram(network, (kind, name) => { location.hash = `#/points/${name}`; });
-  const redraw = () => drawDiagram();
-  return { network, diagram, caller: null, chosen: () => chosen, states, redraw, speakAs, act: give, pick: (picking) => { diagram.pick(picking); redraw(); } };
+  const redraw = () => { drawDiagram(); learn(); };
+  const pick = (picking) => { desk.picking = picking; diagram.pick(picking); drawDiagram(); };
+  return { network, diagram, caller: null, chosen: () => chosen, states, redraw, speakAs, act: give, picking: null, pick };
 }
 
 async function start() {

@@ -1,7 +1,11 @@
 // Writing the restoring order of a clearance that was released: at each point that it holds open the page writes the
-// steps that undo what it has there, by the holds that the register shows; CLOSE or LEAVE is the operator's choice.
+// steps that undo what it has there, by the holds that the register shows; CLOSE or LEAVE is the operator's choice. Beside
+// it stand the normal position and the one before the order; nothing is chosen.
 
+import { positionBefore } from "./before.js";
 import { el, button, table } from "./elements.js";
+import { findingsOfSteps } from "./findings.js";
+import { learn, mayGo, orderNotes } from "./notes.js";
 import { StepList } from "./picking.js";
 import { holdWord } from "./words.js";
 
@@ -19,7 +23,7 @@ function undoingAt({ place, kinds }) {
 }
 
 export class RestoreEditor {
-  #view; #desk; #held; #ends = new Map(); #list = new StepList();
+  #view; #desk; #held; #ends = new Map(); #list = new StepList(() => learn());
   node;
 
   constructor(view, desk) {
@@ -33,20 +37,25 @@ export class RestoreEditor {
     const { clearance } = this.#view.card;
     return el("div", { class: "offer editor" },
       el("p", {}, `Restoring order of ${clearance}. Choose at each point what it ends with.`),
-      table(["Point", "Held there", "It ends with"], this.#held.map((held) => this.#row(held)), { class: "ends" }),
-      el("h3", {}, "Steps"), this.#list.node,
+      table(["Point", "Normally", "Before the order", "Held there", "It ends with"], this.#held.map((held) => this.#row(held)), { class: "ends" }),
+      el("h3", {}, "Steps"), this.#list.node, orderNotes(this.#desk, () => this.#list.steps, clearance),
       button(`Give the restoring order of ${clearance}`, () => this.#send(), { class: "main", "data-name": "restore" }));
   }
 
   #row(held) {
     const other = this.#view.holds.filter((hold) => hold.place === held.place && hold.by !== this.#view.card.clearance);
+    const state = this.#desk.states().get(held.place);
+    const normal = state?.point.normal === "open" ? "LEAVE" : "CLOSE";
     const end = (action) => el("label", { class: "radio" },
       el("input", { type: "radio", name: `end-${held.place}`, value: action, "data-name": `${action} ${held.place}`, onchange: () => this.#end(held, action) }),
-      `${action} ${held.place}`);
-    return el("tr", {}, el("th", { scope: "row" }, held.place),
+      `${action} ${held.place}`, state && action === normal ? el("span", { class: "hint" }, ` normally ${state.point.normal}`) : null);
+    const before = state ? positionBefore(state, this.#view.card.clearance) : null;
+    return el("tr", { "data-point": held.place }, el("th", { scope: "row" }, held.place),
+      el("td", { "data-name": "normal" }, state ? el("strong", {}, state.point.normal) : "not in the files"),
+      el("td", { "data-name": "before" }, before ? [el("strong", {}, before.position ?? "not clear"), el("p", { class: "hint" }, before.from)] : "–"),
       el("td", {}, held.kinds.map(holdWord).join(", "),
         other.length ? el("p", { class: "hint" }, `also ${[...new Set(other.map((hold) => hold.by))].join(", ")}`) : null),
-      el("td", {}, end("CLOSE"), end("LEAVE")));
+      el("td", {}, end(normal), end(normal === "CLOSE" ? "LEAVE" : "CLOSE")));
   }
 
   #end(held, action) {
@@ -56,7 +65,10 @@ export class RestoreEditor {
     this.#list.set(steps);
   }
 
-  #send() {
-    return this.#desk.act({ do: "restore", clearance: this.#view.card.clearance, steps: this.#list.steps });
+  async #send() {
+    const { clearance } = this.#view.card;
+    const found = findingsOfSteps(this.#desk, this.#list.steps, clearance);
+    if (!(await mayGo(`Before the restoring order of ${clearance} is given`, found, "Give the restoring order"))) return;
+    await this.#desk.act({ do: "restore", clearance: this.#view.card.clearance, steps: this.#list.steps });
   }
 }

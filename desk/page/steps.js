@@ -1,49 +1,57 @@
-// The steps of a clearance: their table, and the three commands of a step with amend beside them.
+// The steps of a clearance: their table, the repeat and the report of a step, and amend beside them.
 
 import { ask } from "./ask.js";
 import { el, button, field, table } from "./elements.js";
+import { findingsOfSteps } from "./findings.js";
+import { findingsList } from "./notes.js";
 import { stateWord } from "./words.js";
 import { presentStep, waitingCloses } from "./who.js";
 
 const SIGNS = { Waiting: "○", Instructed: "◔", Repeated: "◑", Done: "●" };
 
-export function stepsTable(view) {
+// What is in the way of each step that is not done.
+export function stepsFindings(view, desk) {
+  const left = view.steps.filter((step) => step.state !== "Done").map((step) => step.text);
+  const found = findingsOfSteps(desk, left, view.card.clearance).map((one) => one.found);
+  return view.steps.map((step) => (step.state === "Done" ? [] : found.shift()));
+}
+
+export function stepsTable(view, found) {
   const present = presentStep(view)?.number;
   const rows = view.steps.map((step, place) =>
     el("tr", { class: `step ${step.state}`, "aria-current": place + 1 === present ? "step" : null },
       el("td", { class: "number" }, String(place + 1)),
-      el("td", { class: "text" }, step.text),
+      el("td", {}, el("span", { class: "text" }, step.text), findingsList(found[place])),
       el("td", {}, el("span", { class: "sign", "aria-hidden": "true" }, SIGNS[step.state]), ` ${stateWord(step.state)}`),
       el("td", {}, step.reader ?? "–")));
   return table(["No", "Step", "State", "Reader"], rows, { class: "steps" });
 }
 
-export function instructControl({ view, act }) {
-  const step = presentStep(view);
-  return el("div", { class: "offer" },
-    el("p", { class: "readout" }, "Read out: ", el("strong", {}, step.text)),
-    button(`Instruct step ${step.number}`, () => act({ do: "instruct", clearance: view.card.clearance, step: step.number }),
-      { class: "main", "data-name": "instruct" }));
-}
-
-async function repeatAs(view, step, text, act) {
+// Sends what was heard; where that is not the step's text, only after a question.
+export async function repeatAs(view, step, text, act, by = {}) {
   if (text !== step.text) {
     const answer = await ask("The repeat differs", [
       `The step says: ${step.text}`, `You typed: ${text || "nothing"}`,
     ], [["send", "Send it as typed"], [null, "Correct it"]]);
-    if (answer !== "send") return;
+    if (answer !== "send") return null;
   }
-  await act({ do: "repeat", clearance: view.card.clearance, step: step.number, text });
+  return act({ do: "repeat", clearance: view.card.clearance, step: step.number, text, ...by });
 }
 
-export function repeatControl({ view, act }) {
-  const step = presentStep(view);
+// The field for what was heard, in capitals.
+export function heardInput() {
   const input = el("input", { type: "text", autocomplete: "off", autocapitalize: "characters", spellcheck: "false", "data-name": "repeat-text", size: 24 });
   input.addEventListener("input", () => {
     const place = input.selectionStart;
     input.value = input.value.toUpperCase();
     input.setSelectionRange(place, place);
   });
+  return input;
+}
+
+export function repeatControl({ view, act }) {
+  const step = presentStep(view);
+  const input = heardInput();
   const send = (event) => {
     event.preventDefault();
     repeatAs(view, step, input.value.trim(), act);

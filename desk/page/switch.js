@@ -1,6 +1,8 @@
 // Writing a switch order: points that are opened and closed, and nothing is held.
 
 import { el, button } from "./elements.js";
+import { findingsOfSteps } from "./findings.js";
+import { learn, mayGo, orderNotes, pickedNotes } from "./notes.js";
 import { PointPicker, StepList } from "./picking.js";
 
 export class SwitchEditor {
@@ -10,11 +12,11 @@ export class SwitchEditor {
   constructor(desk) {
     this.#desk = desk;
     this.#picker = new PointPicker(desk.network, (name, on) => this.#picked(name, on));
-    this.#list = new StepList(() => {}, (place) => this.#list.set(this.#list.steps.filter((_, at) => at !== place)));
+    this.#list = new StepList(() => learn(), (place) => this.#list.set(this.#list.steps.filter((_, at) => at !== place)));
     this.node = el("div", { class: "offer editor" },
       el("p", {}, "Pick the points, and say of each whether it is to be opened or closed. A switch order holds nothing."),
-      this.#picker.node, this.#chosen,
-      el("h3", {}, "Steps, in their order"), this.#list.node,
+      this.#picker.node, pickedNotes(desk, () => this.#picker.picked, null), this.#chosen,
+      el("h3", {}, "Steps, in their order"), this.#list.node, orderNotes(desk, () => this.#list.steps, null),
       button("Give the switch order", () => this.#send(), { class: "main", "data-name": "switch" }));
     desk.pick(this.#picker);
   }
@@ -27,6 +29,7 @@ export class SwitchEditor {
   }
 
   async #send() {
+    if (!(await mayGo("Before the switch order is given", findingsOfSteps(this.#desk, this.#list.steps), "Give the switch order"))) return;
     const { accepted, id } = await this.#desk.act({ do: "switch", steps: this.#list.steps });
     if (accepted) location.hash = `#/clearance/${id}`;
   }

@@ -14,12 +14,17 @@ function stepOffers(view, staff) {
   if (!step) return [];
   const fields = namesOfRole(staff, "field");
   const name = `step ${step.number}, ${step.text}`;
-  if (step.state === "Waiting") return [{ does: "instruct", says: `read out ${name}`, names: namesOfRole(staff, "operator") }];
+  if (step.state === "Waiting") return [{ does: "instruct", says: `instruct ${name}`, names: namesOfRole(staff, "operator") }];
   if (step.state === "Instructed") return [{ does: "repeat", says: `repeat ${name}`, names: fields }];
   return [
     { does: "report", says: `report ${name}`, names: [step.reader] },
     { does: "repeat", says: `repeat ${name}, and so take it over`, names: fields.filter((one) => one !== step.reader) },
   ];
+}
+
+// A grant is offered when all steps are done, not before.
+function grantOffers(view, operators) {
+  return presentStep(view) ? [] : [{ does: "grant", says: "grant the clearance", names: operators }];
 }
 
 function handing(view, staff) {
@@ -35,7 +40,7 @@ const OFFERS = {
     { does: "order", says: "write the isolating order", names: operators },
     { does: "cancel", says: "cancel the request", names: [view.card.holder] }, ...handing(view, staff)],
   Ordered: (view, staff, operators) => [
-    ...stepOffers(view, staff), { does: "grant", says: "grant the clearance", names: operators },
+    ...stepOffers(view, staff), ...grantOffers(view, operators),
     { does: "cancel", says: "cancel the order", names: [view.card.holder] }, ...handing(view, staff)],
   Granted: (view, staff) => [
     { does: "work", says: "test, ground, sign crews on and off", names: [view.card.holder] },

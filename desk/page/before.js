@@ -1,0 +1,61 @@
+// The position of a point before an isolating order opened it. The page keeps what the register showed while the order's
+// OPEN was still waiting; without that it goes by the steps of other records, and by the points file.
+
+import { room } from "./watch.js";
+
+const KEPT = "gridclear-before", MOST_KEPT = 200;
+
+const before = readKept(); // "clearance point" to its position
+
+function readKept() {
+  try {
+    return new Map(JSON.parse(localStorage.getItem(KEPT)) ?? []);
+  } catch {
+    return new Map();
+  }
+}
+
+function keep() {
+  try {
+    localStorage.setItem(KEPT, JSON.stringify([...before].slice(-MOST_KEPT)));
+  } catch { /* without storage the file and the records say it */ }
+}
+
+function waitingOpens({ card, steps }) {
+  if (card.phase !== "Ordered") return [];
+  return steps.filter((step) => step.state !== "Done" && step.text.startsWith("OPEN ")).map((step) => step.text.split(" ")[1]);
+}
+
+// A clearance that is over has no order to come, and in a new register its name comes again.
+function dropOver() {
+  if (room.read === null) return false;
+  const present = new Set(room.board.map((row) => row.id));
+  const over = [...before.keys()].filter((key) => !present.has(key.split(" ")[0]));
+  for (const key of over) before.delete(key);
+  return over.length > 0;
+}
+
+// Keeps the positions at which the points are whose OPEN is not done.
+export function noteBefore() {
+  let any = dropOver();
+  for (const view of room.views.values()) {
+    for (const name of waitingOpens(view)) {
+      const row = view.points.find(({ point }) => point === name), key = `${view.card.clearance} ${name}`;
+      if (!row || before.get(key) === row.position) continue;
+      before.set(key, row.position);
+      any = true;
+    }
+  }
+  if (any) keep();
+}
+
+// { position, from }: the position before the order of this clearance, null where it is not clear, and how it is known.
+export function positionBefore(state, clearance) {
+  const seen = before.get(`${clearance} ${state.point.name}`);
+  if (seen) return { position: seen, from: "seen here when it was ordered" };
+  const others = [...state.moved].filter(([id]) => id !== clearance);
+  const ends = new Set(others.map(([, end]) => end));
+  if (!ends.size) return { position: state.point.normal, from: "by the file" };
+  const ids = others.map(([id]) => id).join(", ");
+  return ends.size === 1 ? { position: [...ends][0], from: `by the steps done under ${ids}` } : { position: null, from: `${ids} left it differently` };
+}

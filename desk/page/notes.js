@@ -1,0 +1,54 @@
+// Findings on the page: under a picked point, under the steps of an order, and in the question before something is sent.
+
+import { ask } from "./ask.js";
+import { el, panel } from "./elements.js";
+import { findingsAt, findingsOfSteps } from "./findings.js";
+
+const OWN = "This is what the page finds by what it knows. The register decides.";
+
+// A list of findings; nothing where there are none.
+export function findingsList(found) {
+  if (!found.length) return null;
+  return el("ul", { class: "findings" }, found.map(({ text, asks }) => el("li", { class: asks ? "asks" : null }, asks ? `⚠ ${text}` : text)));
+}
+
+// A part of the page that is looked at again whenever the page learns something.
+export function living(node, look) {
+  node.dataset.living = "yes";
+  node.addEventListener("learn", look);
+  look();
+  return node;
+}
+
+export function learn() {
+  for (const node of document.querySelectorAll("[data-living]")) node.dispatchEvent(new Event("learn"));
+}
+
+// The points that are picked, each with what is in its way.
+export function pickedNotes(desk, picked, own, more = () => []) {
+  const node = el("div", { class: "picked-notes" });
+  return living(node, () => {
+    const known = desk.states();
+    const rows = [...picked()].map((name) => [name, [...more(name), ...findingsAt(desk, name, { own, known })]]).filter(([, found]) => found.length);
+    panel(node, rows, () => (rows.length ? [el("h4", {}, "In the way, by what this page knows"),
+      el("ul", { class: "ways" }, rows.map(([name, found]) => el("li", { "data-at": name }, el("strong", {}, name), findingsList(found))))] : []));
+  });
+}
+
+// The steps of an order that is being written, each with what is to be asked about.
+export function orderNotes(desk, steps, own) {
+  const node = el("div", { class: "order-notes", role: "status" });
+  return living(node, () => {
+    const rows = findingsOfSteps(desk, steps(), own).map(({ text, found }) => [text, found.filter(({ asks }) => asks)]).filter(([, found]) => found.length);
+    panel(node, rows, () => (rows.length ? el("ul", { class: "ways" },
+      rows.map(([text, found]) => el("li", {}, el("span", { class: "text" }, text), findingsList(found)))) : []));
+  });
+}
+
+// Whether it may be sent: asked only where a finding asks. `found` has { text, found } for each step.
+export async function mayGo(title, found, send) {
+  const lines = found.flatMap(({ text, found: own }) => own.filter(({ asks }) => asks).map((one) => `${text}: ${one.text}.`));
+  if (!lines.length) return true;
+  const answer = await ask(title, [...new Set(lines), OWN], [["send", send], [null, "Do not send it"]]);
+  return answer === "send";
+}
