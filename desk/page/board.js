@@ -1,10 +1,13 @@
 // The board: every clearance and switch order that is not closed, and the jumpers.
 
+import { liveUnder, untested } from "./alarm.js";
 import { el, panel, table } from "./elements.js";
 import { shortTime, wholeTime } from "./moments.js";
 import { holdWord, phaseWord, stateWord } from "./words.js";
 import { presentStep } from "./who.js";
 import { room, viewOf } from "./watch.js";
+
+const MOST_NAMED = 3;
 
 // A holder without a supervisor is marked: in an emergency nobody can take the clearance over.
 export function holderCell(holder, work, staff) {
@@ -22,26 +25,29 @@ export function stepsWords(view) {
   return `${done} of ${steps} done${next}`;
 }
 
-// Tests, grounds and crews of the clearance.
+// Alarms, missing tests, tests, grounds and crews of the clearance, each as [class, text].
 function workWords(view) {
-  if (!view) return "";
+  if (!view) return [];
   const own = view.holds.filter((hold) => hold.by === view.card.clearance && (hold.kind === "Tested" || hold.kind === "Ground"));
   const grounded = new Set(own.filter((hold) => hold.kind === "Ground").map((hold) => hold.place));
-  const words = own.filter((hold) => hold.kind === "Ground" || !grounded.has(hold.place))
-    .map((hold) => `${hold.place} ${holdWord(hold.kind)}`);
-  if (view.crews.length) words.push(`crews ${view.crews.join(", ")}`);
-  return words.join("; ");
+  const missing = untested(view);
+  return [
+    ...liveUnder(view.card.clearance).map((section) => ["live", `⚠ ${section} TESTED LIVE`]),
+    ...(missing.length ? [["bad", `${missing.slice(0, MOST_NAMED).join(", ")}${missing.length > MOST_NAMED ? ` and ${missing.length - MOST_NAMED} more` : ""} not tested`]] : []),
+    ...own.filter((hold) => hold.kind === "Ground" || !grounded.has(hold.place)).map((hold) => ["", `${hold.place} ${holdWord(hold.kind)}`]),
+    ...(view.crews.length ? [["", `crews ${view.crews.join(", ")}`]] : []),
+  ];
 }
 
 function boardRow(row, staff, chosen) {
   const view = viewOf(row.id);
   const hatched = row.id === chosen && view?.fence.length;
-  return el("tr", { "data-id": row.id },
+  return el("tr", { "data-id": row.id, class: liveUnder(row.id).length ? "live" : null },
     el("th", { scope: "row" }, el("a", { href: `#/clearance/${row.id}`, "data-name": row.id }, row.id)),
     el("td", {}, el("span", { class: `phase ${row.phase}`, title: phaseWord(row.phase) }, row.phase)),
     el("td", {}, row.work === "-" ? "switch order" : row.work, hatched ? el("span", { class: "chip" }, "fence hatched") : null),
     el("td", {}, stepsWords(view)),
-    el("td", {}, workWords(view)),
+    el("td", {}, workWords(view).map(([kind, text], place) => [place ? "; " : "", el("span", { class: kind || null }, text)]).flat()),
     el("td", {}, holderCell(row.holder, row.work, staff)),
     el("td", { class: "moment", title: wholeTime(row.last) }, shortTime(row.last)));
 }

@@ -1,5 +1,6 @@
 // One clearance or switch order: its card, who may do what next, its steps, its fence, points, holds and crews.
 
+import { liveUnder } from "./alarm.js";
 import { holderCell } from "./board.js";
 import { el, button, choice, panel, table } from "./elements.js";
 import { cancelControl, emergencyControl, grantControl, releaseControl, transferControl } from "./giving.js";
@@ -12,7 +13,7 @@ import { amendControl, repeatControl, reportControl, stepsFindings, stepsTable }
 import { boardLine, choose, lookAt, viewOf } from "./watch.js";
 import { offersOf } from "./who.js";
 import { holdWord, phaseWord } from "./words.js";
-import { workControl } from "./work.js";
+import { sectionState, workControl } from "./work.js";
 
 const CONTROLS = {
   order: (context) => new OrderEditor(context.view, context).node,
@@ -25,28 +26,13 @@ const CONTROLS = {
 const SHOWN = {
   order: () => [],
   restore: (view) => view.holds.filter((hold) => hold.by === view.card.clearance),
-  work: (view) => [view.fence, view.holds, view.crews],
+  work: (view) => [view.fence, view.holds, view.crews, liveUnder(view.card.clearance)],
   transfer: (view) => view.card.holder,
   emergency: (view) => view.card.holder,
   cancel: (view) => view.card.phase,
 };
 
 const MOST_BUTTONS = 4;
-const SETTLE = 300; // milliseconds
-
-// A control that has just come takes no press for a moment: it may have changed under a hand that meant another.
-function settle(node) {
-  node.dataset.fresh = "yes";
-  setTimeout(() => { delete node.dataset.fresh; }, SETTLE);
-  const hold = (event) => {
-    if (!node.dataset.fresh) return;
-    event.preventDefault();
-    event.stopImmediatePropagation();
-  };
-  node.addEventListener("click", hold, true);
-  node.addEventListener("submit", hold, true);
-  return node;
-}
 
 function asControl(names, desk) {
   if (names.length <= MOST_BUTTONS) {
@@ -79,9 +65,10 @@ function pointRow(row, view) {
 }
 
 function sectionRow(name, view) {
-  const holds = view.holds.filter((hold) => hold.place === name && ["Tested", "Ground"].includes(hold.kind));
+  const holds = view.holds.filter((hold) => hold.place === name && ["Tested", "Ground"].includes(hold.kind) && hold.by !== view.card.clearance);
   return el("tr", {}, el("th", { scope: "row" }, name, name === view.work ? el("span", { class: "chip" }, "work section") : null),
-    el("td", {}, holds.length ? holds.map((hold) => el("p", {}, `${holdWord(hold.kind)} by ${hold.by}`)) : "–"));
+    el("td", {}, view.card.phase === "Granted" ? el("p", {}, sectionState(view, name)) : null,
+      holds.map((hold) => el("p", {}, `${holdWord(hold.kind)} by ${hold.by}`))));
 }
 
 function facts(view) {
@@ -153,7 +140,7 @@ export class ClearancePage {
     this.#drawNext(view);
     const found = stepsFindings(view, this.#desk);
     panel(this.#steps, [view.steps, found], () => (view.steps.length ? [el("h3", {}, `Steps of round ${view.card.round}`), stepsTable(view, found)] : []));
-    panel(this.#facts, [view.points, view.holds, view.fence, view.crews, view.card.round, view.card.clearance], () => facts(view));
+    panel(this.#facts, [view.points, view.holds, view.fence, view.crews, view.card, liveUnder(this.#id)], () => facts(view));
   }
 
   #drawNext(view) {
@@ -173,7 +160,7 @@ export class ClearancePage {
     if (!mine.some(({ does }) => does === "order")) this.#desk.pick(null);
     const nodes = mine.map(({ does }, place) => {
       const key = JSON.stringify(keys[place]);
-      const node = this.#made.get(key) ?? settle(CONTROLS[does](this.#context(view)));
+      const node = this.#made.get(key) ?? CONTROLS[does](this.#context(view));
       node.dataset.does = does;
       made.set(key, node);
       return node;

@@ -1,11 +1,15 @@
 // Giving a command: its moment is looked at, it is sent once, and its reply goes to the replies.
 
+import { noteTest } from "./alarm.js";
 import { ask } from "./ask.js";
+import { clockIsMeant, meantNow } from "./clock.js";
+import { dropDraftOf } from "./drafts.js";
 import { noteGiven } from "./given.js";
 import { lost } from "./lost.js";
 import { now, secondsOfField, shortTime, span, wholeTime } from "./moments.js";
 import { postCommand } from "./register.js";
 import { addReply, plainLines, replyOf } from "./replies.js";
+import { asOwn } from "./still.js";
 import { boardLine, lookAt, lookNow, room, viewOf } from "./watch.js";
 import { saidOf } from "./words.js";
 
@@ -42,21 +46,22 @@ function noteSending(value) {
   for (const listener of listeners) listener();
 }
 
-// The moment that the operator has set, else that of the clock.
-function statedMoment() {
+// The moment that the operator has set, or that of the clock; null where the operator does not say which clock.
+async function statedMoment() {
   const set = momentField?.value ? secondsOfField(momentField.value) : null;
-  return set ?? now();
+  if (set !== null) return set;
+  return (await clockIsMeant()) ? meantNow() : null;
 }
 
 // The register's last moment of the clearance is later: by how much, and which moment is to be sent.
 async function notBeforeLast(command, at) {
   const last = command.clearance ? boardLine(command.clearance)?.last ?? null : null;
   if (last === null || last <= at) return { at, asked: false };
-  const far = last - now() > FAR;
+  const far = last - meantNow() > FAR;
   const answer = await ask("The register is ahead of this moment", [
     `The last moment of ${command.clearance} in the register is ${wholeTime(last)}.`,
     `The moment of this command is ${wholeTime(at)}, ${span(last - at)} before it: it would be refused (EARLIER).`,
-    far ? `That last moment is ${span(last - now())} after this desk's clock. Is the clock right, or was a moment mistyped?` : "",
+    far ? `That last moment is ${span(last - meantNow())} after the clock. Is the clock right, or was a moment mistyped?` : "",
   ].filter(Boolean), [
     ["last", `Give it with ${shortTime(last)}`],
     ["same", "Give it as it is"],
@@ -66,18 +71,19 @@ async function notBeforeLast(command, at) {
 }
 
 async function nearTheClock(at) {
-  const off = at - now();
+  const off = at - meantNow();
   if (Math.abs(off) <= FAR) return true;
   const answer = await ask("The moment is far from the clock", [
     `The moment of this command is ${wholeTime(at)}.`,
-    `That is ${span(off)} ${off < 0 ? "before" : "after"} this desk's clock, ${wholeTime(now())}.`,
+    `That is ${span(off)} ${off < 0 ? "before" : "after"} this desk's clock, ${wholeTime(meantNow())}.`,
     "The register takes it as it is, and takes nothing earlier for this clearance afterwards.",
   ], [["yes", "Give it with this moment"], [null, "Do not give it"]]);
   return answer === "yes";
 }
 
 async function momentFor(command) {
-  const stated = statedMoment();
+  const stated = await statedMoment();
+  if (stated === null) return null;
   const found = await notBeforeLast(command, stated);
   if (!found) return null;
   if (!found.asked && !(await nearTheClock(found.at))) return null;
@@ -157,6 +163,7 @@ async function send(command) {
 async function sendKnowing(command, known) {
   const answer = await postCommand(command);
   if (answer.kind === "lost") {
+    noteTest(command, false);
     await lost(command, answer.why, known, () => give(withoutMoment(command)));
     return { accepted: false };
   }
@@ -164,9 +171,13 @@ async function sendKnowing(command, known) {
   if (momentField) momentField.value = "";
   const accepted = answer.body?.reply === "accepted";
   if (accepted && command.do === "instruct") noteGiven(command);
+  if (accepted) {
+    noteTest(command, true);
+    dropDraftOf(command);
+  }
   const id = answer.body?.card?.clearance ?? command.clearance;
-  if (id) await lookAt(id);
-  lookNow();
+  if (id) await asOwn(() => lookAt(id));
+  asOwn(lookNow);
   return { accepted, id };
 }
 

@@ -1,5 +1,7 @@
 // Small makers of page elements, and panels that are drawn anew only when what they show has changed.
 
+import { isCurrent, waits } from "./still.js";
+
 const SVG = "http://www.w3.org/2000/svg";
 
 function dress(node, attributes, children) {
@@ -43,15 +45,31 @@ export function table(heads, rows, attributes = {}) {
 
 const drawn = new WeakMap();
 
+// The control that has the focus in a panel, by its name, with the place of its cursor.
+function focusIn(node) {
+  const focus = document.activeElement;
+  if (!node.contains(focus) || !focus.dataset.name) return null;
+  const text = focus.matches("input[type=text], input:not([type]), textarea");
+  return { name: focus.dataset.name, at: text ? [focus.selectionStart, focus.selectionEnd] : null };
+}
+
 // Draws a panel where its key is another than the one that it was drawn with, so that nothing flickers, and nothing
-// that is being typed is lost. The focus stays on the control of the same name where there is one.
+// that is being typed is lost. The focus stays on the control of the same name where there is one. A list that is under
+// the pointer, or has the focus, waits.
 export function panel(node, key, draw) {
   const text = JSON.stringify(key);
-  if (drawn.get(node) === text) return false;
+  if (drawn.get(node) === text) {
+    isCurrent(node);
+    return false;
+  }
+  if (drawn.has(node) && waits(node, () => panel(node, key, draw))) return false;
   drawn.set(node, text);
-  const focus = node.contains(document.activeElement) ? document.activeElement.dataset.name : undefined;
+  const focus = focusIn(node);
   const content = draw();
   node.replaceChildren(...[content].flat().filter(Boolean));
-  if (focus) node.querySelector(`[data-name="${CSS.escape(focus)}"]`)?.focus();
+  if (!focus) return true;
+  const control = node.querySelector(`[data-name="${CSS.escape(focus.name)}"]`);
+  control?.focus();
+  if (focus.at && control?.setSelectionRange) control.setSelectionRange(...focus.at);
   return true;
 }

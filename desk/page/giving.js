@@ -4,12 +4,20 @@ import { ask } from "./ask.js";
 import { el, button, choice, field } from "./elements.js";
 import { namesOfRole } from "./network.js";
 
+async function grant(view, act) {
+  const { clearance, holder } = view.card;
+  const answer = await ask(`Grant ${clearance} to ${holder}?`, [
+    `From now on ${holder} may test, ground and sign crews on; nobody takes a grant back, but the holder releases it.`,
+  ], [["yes", `Grant ${clearance} to ${holder}`], [null, "Do not grant it"]]);
+  if (answer === "yes") await act({ do: "grant", clearance });
+}
+
 // Not where a step's controls were a moment ago.
 export function grantControl({ view, act }) {
   const { clearance, holder, steps } = view.card;
   return el("div", { class: "offer" },
     el("p", { class: "step-place" }, `All ${steps} steps are done.`),
-    button(`Grant ${clearance} to ${holder}`, () => act({ do: "grant", clearance }), { "data-name": "grant", class: "main" }));
+    button(`Grant ${clearance} to ${holder}`, () => grant(view, act), { "data-name": "grant", class: "main" }));
 }
 
 const NO = [null, "No: do not release"];
@@ -17,6 +25,7 @@ const NO = [null, "No: do not release"];
 async function release(view, act) {
   const { clearance } = view.card;
   const notified = await ask(`Release ${clearance}: first of two`, [
+    "Releasing gives the line back: from then on it may be switched in.",
     `Are all employees who work under ${clearance} notified that it is released?`,
   ], [["yes", "Yes, all are notified"], NO]);
   if (notified !== "yes") return;

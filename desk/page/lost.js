@@ -1,42 +1,30 @@
 // A command whose reply was lost. It may have been carried out, or not, or may still be; it is never sent again by
 // itself. The page waits until the register answers, looks, and says what it found before it offers the command again.
 
+import { dropDraftOf } from "./drafts.js";
 import { el } from "./elements.js";
 import { now, shortTime } from "./moments.js";
+import { judgeNew, judgeRecord } from "./outcome.js";
 import { addReply, changeReply, plainLines } from "./replies.js";
+import { asOwn } from "./still.js";
 import { boardLine, lookAt, lookNow, room, viewOf } from "./watch.js";
-import { cardWords, saidOf, stateWord } from "./words.js";
+import { saidOf } from "./words.js";
 
 const WAIT = 3000;    // between two looks
 const LOOKS = 1200;   // an hour of looks, then the operator has to look
 
 // What is new of this caller: a request or a switch order has no name before it is answered.
-function newRecords(command, known) {
-  const found = room.board.filter((row) => row.id.startsWith(`${command.by}/`) && !known.ids.has(row.id));
-  if (!found.length) {
-    return { stands: false, text: `Nothing new of ${command.by} stands on the board: so far it was not carried out.` };
-  }
-  const words = found.map((row) => `${row.id}, ${row.phase}${row.work === "-" ? "" : `, section ${row.work}`}, last moment ${shortTime(row.last)}`);
-  const stands = found.some((row) => row.last === command.at);
-  return { stands, text: `New on the board since: ${words.join("; ")}. ${stands ? "That is the moment of this command: it was carried out." : "Was that this command?"}` };
+async function newRecords(command, known) {
+  const rows = room.board.filter((row) => row.id.startsWith(`${command.by}/`) && !known.ids.has(row.id));
+  for (const { id } of rows) if (!viewOf(id)) await lookAt(id);
+  return rows.map((row) => ({ row, view: viewOf(row.id) }));
 }
 
-function stepNow(command, view) {
-  const step = command.step ? view.steps[command.step - 1] : null;
-  return step ? ` Step ${command.step} (${step.text}) is ${stateWord(step.state)}.` : "";
-}
-
-function sameRecord(command, known) {
-  const view = viewOf(command.clearance), line = boardLine(command.clearance);
-  if (!view) return { stands: false, text: `${command.clearance} could not be looked at: show it before you go on.` };
-  if (JSON.stringify(view) === known.view) {
-    return { stands: false, text: `${command.clearance} stands as it did before: so far the command was not carried out.${stepNow(command, view)}` };
-  }
-  const stands = line?.last === command.at;
-  const moment = !line ? "It is no longer on the board."
-    : stands ? "Its last moment is that of this command: it was carried out."
-      : "Its last moment is another than that of this command: look at it before you go on.";
-  return { stands, text: `${command.clearance} has changed since: ${cardWords(view.card)}.${stepNow(command, view)} ${moment}` };
+async function judged(command, known) {
+  if (!command.clearance) return judgeNew(command, await newRecords(command, known));
+  await lookAt(command.clearance);
+  const before = known.view ? JSON.parse(known.view) : null;
+  return judgeRecord(command, before, viewOf(command.clearance), boardLine(command.clearance)?.last ?? null);
 }
 
 function pause(milliseconds) {
@@ -62,10 +50,17 @@ export async function lost(command, why, known, again) {
   await tellFound(command, why, known, reply, again);
 }
 
-// What the board and the clearance say now. Where the command stands there, it is not offered again.
+const FOUND = {
+  yes: "So it was carried out.",
+  either: "So it was carried out: this command, or another desk's like it. The register does not say which.",
+  no: "So far it was not carried out.",
+  unknown: "Whether this command was carried out cannot be known from that.",
+};
+
+// What the board and the clearance say now. What was carried out is not offered again.
 async function tellFound(command, why, known, reply, again) {
-  if (command.clearance) await lookAt(command.clearance);
-  const { stands, text } = command.clearance ? sameRecord(command, known) : newRecords(command, known);
+  const { found, text } = await asOwn(() => judged(command, known)), isOver = found === "yes" || found === "either";
+  if (isOver) dropDraftOf(command);
   const look = async () => {
     await lookNow();
     await tellFound(command, why, known, reply, again);
@@ -74,9 +69,9 @@ async function tellFound(command, why, known, reply, again) {
     kind: "found",
     lines: () => [
       el("p", {}, `No reply came: ${why}.`),
-      el("p", { class: "finding" }, el("strong", {}, `The board at ${shortTime(room.read)}: `), text),
-      stands ? null : el("p", {}, "What waits before the register may still be carried out: look once more before you give the command again."),
+      el("p", { class: "finding" }, el("strong", {}, `The board at ${shortTime(room.read)}: `), `${text} ${FOUND[found]}`),
+      isOver ? null : el("p", {}, "What waits before the register may still be carried out: look once more before you give the command again."),
     ].filter(Boolean),
-    actions: stands ? [] : [["Look again", look], ["Give it again", again], ["Leave it", () => {}]],
+    actions: isOver ? [] : [["Look again", look], ["Give it again", again], ["Leave it", () => {}]],
   });
 }

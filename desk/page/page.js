@@ -1,22 +1,26 @@
-// The page: who speaks, what is shown, and whether the register answers.
+// The page: who speaks, and what is shown.
 
+import { noteRoom, onAlarmElsewhere, recallAlarms } from "./alarm.js";
 import { noteBefore } from "./before.js";
 import { BoardPage } from "./board.js";
 import { ClearancePage } from "./clearance.js";
 import { give, isSending, onSending, setCaller, setMomentField, takeUpPending } from "./commands.js";
 import { Diagram, MOST_DRAWN } from "./diagram.js";
 import { choice, el, field, panel } from "./elements.js";
+import { guardPresses } from "./guard.js";
 import { MinePage } from "./mine.js";
-import { fieldTime, now, shortTime, wholeTime } from "./moments.js";
+import { fieldTime, now, wholeTime } from "./moments.js";
 import { namesOfRole, readNetwork } from "./network.js";
 import { NetList } from "./netlist.js";
 import { learn } from "./notes.js";
 import { PointsPage } from "./points.js";
 import { pointStates, strangeNames } from "./positions.js";
-import { contact, onContact } from "./register.js";
+import { onContact } from "./register.js";
 import { showReplies } from "./replies.js";
 import { RequestForm } from "./request.js";
+import { fromAfar, keepStill } from "./still.js";
 import { SwitchEditor } from "./switch.js";
+import { drawAlarms, drawContact, startTop } from "./top.js";
 import { onRoom, room, setRequesters, startWatch, viewOf, watchAs } from "./watch.js";
 
 const at = (id) => document.getElementById(id);
@@ -109,6 +113,7 @@ function drawDiagram() {
 
 function update() {
   noteBefore();
+  drawAlarms();
   page?.update();
   learn();
   drawDiagram();
@@ -122,19 +127,6 @@ function drawStrange() {
   const node = at("strange");
   node.hidden = !names.length;
   node.textContent = names.length ? `⚠ The files of this page are not those of the register: ${names.join("; ")}. The diagram and the lists are wrong.` : "";
-}
-
-// Whether the register answers, in words.
-function drawContact() {
-  const silent = contact.silentSince !== null || contact.trouble !== "";
-  const text = contact.silentSince === null && contact.trouble ? contact.trouble : silent
-    ? `The register does not answer since ${shortTime(contact.silentSince)} (${contact.why}). ${contact.answered ? `Its last answer came at ${shortTime(contact.answered)}; what is shown is from then.` : "It has not answered yet."}`
-    : contact.answered ? `The register answers; last at ${shortTime(contact.answered)}.` : "Asking the register…";
-  const node = at("contact");
-  node.className = silent ? "silent" : "answers";
-  if (silent !== (node.dataset.silent === "yes")) at("spoken").textContent = text;
-  node.dataset.silent = silent ? "yes" : "no";
-  node.textContent = `${silent ? "⚠ " : "✓ "}${text}`;
 }
 
 function speakAs(name) {
@@ -193,6 +185,9 @@ function makeDesk(network) {
 }
 
 async function start() {
+  guardPresses();
+  keepStill();
+  recallAlarms();
   showReplies(at("replies"));
   let network;
   try {
@@ -206,8 +201,13 @@ async function start() {
   setRequesters([...network.staff.values()].filter((row) => row.role !== "field").map((row) => row.name));
   listCallers(network.staff);
   startMoment();
-  onRoom(update);
+  onRoom(() => {
+    noteRoom(room);
+    fromAfar(update);
+  });
+  onAlarmElsewhere(update);
   onContact(drawContact);
+  startTop();
   onSending(() => document.body.classList.toggle("sending", isSending()));
   addEventListener("hashchange", () => turn());
   turn(false);

@@ -3,8 +3,10 @@
 //   { kind: "barred", status }           the proxy did not pass it on
 //   { kind: "lost", why }                nobody knows: no answer, or a proxy's word that there was none
 
+import { noteDate } from "./clock.js";
 import { now, shortTime } from "./moments.js";
 
+const FRESH = 6000;     // milliseconds for which an answer shows that the register answers
 const PATIENCE = 15000; // the proxy gives up after 10 seconds, and says so
 
 // When the register last answered, and when it first did not since then; null: it answers. Trouble is what it, or the
@@ -12,10 +14,16 @@ const PATIENCE = 15000; // the proxy gives up after 10 seconds, and says so
 export const contact = { answered: null, silentSince: null, why: "", trouble: "" };
 
 let last = Promise.resolve();
+let begun = performance.now(); // when it last answered, or when the page began
 const listeners = [];
 
 export function onContact(listener) {
   listeners.push(listener);
+}
+
+// Whether an answer came just now; a page that nobody sees asks less often.
+export function isFresh() {
+  return document.hidden || performance.now() - begun < FRESH;
 }
 
 function noteAnswer(answer) {
@@ -23,7 +31,10 @@ function noteAnswer(answer) {
     contact.silentSince = contact.silentSince ?? now();
     contact.why = answer.why;
   } else {
-    if (answer.kind === "answered") contact.answered = now();
+    if (answer.kind === "answered") {
+      contact.answered = now();
+      begun = performance.now();
+    }
     contact.silentSince = null;
     contact.trouble = troubleIn(answer);
   }
@@ -64,6 +75,7 @@ async function once(method, path, body) {
   const headers = body === undefined ? {} : { "Content-Type": "application/json" };
   try {
     const answer = await fetch(path, { method, body, headers, signal, cache: "no-store" });
+    noteDate(answer.headers.get("Date"));
     return judged(answer.status, answer.headers.get("Content-Type") ?? "", await answer.text());
   } catch (fault) {
     const why = fault.name === "TimeoutError" ? `no answer within ${PATIENCE / 1000} seconds` : "nothing answers at this address";

@@ -1,35 +1,85 @@
 // Work under a granted clearance: tests, grounds and crews, by its holder.
 
+import { liveUnder, untested } from "./alarm.js";
+import { ask } from "./ask.js";
+import { drafted, draftName } from "./drafts.js";
 import { el, button, field, table } from "./elements.js";
 
 function stands(view, kind, place) {
   return view.holds.some((hold) => hold.kind === kind && hold.place === place && hold.by === view.card.clearance);
 }
 
+function crewWords(view) {
+  return view.crews.length ? `On now: ${view.crews.join(", ")}. Call them off the section first.` : "No crew is on.";
+}
+
+async function testedLive(view, section, give) {
+  const { clearance } = view.card;
+  const answer = await ask(`${section}: tested live?`, [
+    `It was found live: its test is taken away, and every desk shows an alarm until it is tested dead or ${clearance} is released.`,
+    crewWords(view),
+  ], [["yes", `${section} is live`], [null, "Do not send it"]]);
+  if (answer === "yes") await give({ do: "test", dead: false });
+}
+
+async function groundOff(view, section, give) {
+  const answer = await ask(`Ground off ${section}?`, [
+    `The ground is off in the field: ${section} is no longer grounded under ${view.card.clearance}, and its test is gone too.`,
+  ], [["yes", `The ground of ${section} is off`], [null, "Do not send it"]]);
+  if (answer === "yes") await give({ do: "unground" });
+}
+
+// What is known of a section: its test and its ground, an alarm, and a test that is missing while work goes on.
+export function sectionState(view, section) {
+  const grounded = stands(view, "Ground", section) ? "grounded" : "no ground";
+  if (liveUnder(view.card.clearance).includes(section)) return [el("strong", { class: "live" }, "⚠ TESTED LIVE"), `, ${grounded}`];
+  if (stands(view, "Tested", section)) return [`tested dead, ${grounded}`];
+  const missing = untested(view).includes(section);
+  return [el("span", { class: missing ? "bad" : null }, "not tested"), `, ${grounded}`];
+}
+
 function sectionRow(view, section, act) {
   const give = (parts) => act({ clearance: view.card.clearance, section, ...parts });
-  const tested = stands(view, "Tested", section), grounded = stands(view, "Ground", section);
-  return el("tr", {},
+  return el("tr", { class: liveUnder(view.card.clearance).includes(section) ? "live" : null },
     el("th", { scope: "row" }, section, section === view.work ? el("span", { class: "chip" }, "work section") : null),
-    el("td", {}, tested ? "tested dead" : "not tested", ", ", grounded ? "grounded" : "no ground"),
+    el("td", {}, sectionState(view, section)),
     el("td", { class: "say" },
       button("Tested dead", () => give({ do: "test", dead: true }), { "data-name": `dead ${section}`, "aria-label": `${section} tested dead` }),
-      button("Tested live", () => give({ do: "test", dead: false }), { "data-name": `live ${section}`, "aria-label": `${section} tested live` }),
-      grounded
-        ? button("Ground is off", () => give({ do: "unground" }), { "data-name": `ground ${section}`, "aria-label": `ground of ${section} is off` })
+      button("Tested live", () => testedLive(view, section, give), { "data-name": `live ${section}`, "aria-label": `${section} tested live` }),
+      stands(view, "Ground", section)
+        ? button("Ground is off", () => groundOff(view, section, give), { "data-name": `ground ${section}`, "aria-label": `ground of ${section} is off` })
         : button("Ground is on", () => give({ do: "ground" }), { "data-name": `ground ${section}`, "aria-label": `ground of ${section} is on` })));
 }
 
+// Where a section was tested live, a crew is signed on only after a question.
+async function signOn(view, crew, act) {
+  const { clearance } = view.card, live = liveUnder(clearance);
+  if (live.length) {
+    const answer = await ask(`Sign ${crew} on beside an alarm?`, [
+      `Tested live under ${clearance}: ${live.join(", ")}.`, `A crew that is signed on works under ${clearance}.`,
+    ], [["yes", `Sign ${crew} on all the same`], [null, "Do not sign it on"]]);
+    if (answer !== "yes") return;
+  }
+  await act({ do: "sign_on", clearance, crew });
+}
+
+async function signOff(view, crew, act) {
+  const answer = await ask(`Sign ${crew} off?`, [
+    `All of ${crew} have left the work, and the line may be given back without them.`,
+  ], [["yes", `${crew} is off`], [null, "Leave it on"]]);
+  if (answer === "yes") await act({ do: "sign_off", clearance: view.card.clearance, crew });
+}
+
 function crewsControl(view, act) {
-  const crew = el("input", { type: "text", size: 12, maxlength: 24, autocomplete: "off", "data-name": "crew" });
-  const signOn = (event) => {
+  const crew = drafted(el("input", { type: "text", size: 12, maxlength: 24, autocomplete: "off", "data-name": "crew" }), draftName("sign_on", view.card.clearance));
+  const send = (event) => {
     event.preventDefault();
-    act({ do: "sign_on", clearance: view.card.clearance, crew: crew.value.trim().toUpperCase() });
+    signOn(view, crew.value.trim().toUpperCase(), act);
   };
   return el("div", {},
-    el("form", { class: "line", onsubmit: signOn }, field("Crew", crew), el("button", { "data-name": "sign-on" }, "Sign on")),
+    el("form", { class: "line", onsubmit: send }, field("Crew", crew), el("button", { "data-name": "sign-on" }, "Sign on")),
     view.crews.length ? el("ul", { class: "crews" }, view.crews.map((name) => el("li", {}, `${name} is on `,
-      button(`Sign ${name} off`, () => act({ do: "sign_off", clearance: view.card.clearance, crew: name }), { "data-name": `off ${name}` }))))
+      button(`Sign ${name} off`, () => signOff(view, name, act), { "data-name": `off ${name}` }))))
       : el("p", {}, "No crew is on."));
 }
 

@@ -106,12 +106,25 @@ class Browser:
         element = self.find(css)
         try:
             self.script("document.querySelector(arguments[0])?.scrollIntoView({block: 'center'})", css)
+            if self.script("return document.querySelector(arguments[0])?.dataset.fresh", css):
+                return False
+            self.point(1, 1)
             self.own("POST", f"/element/{element}/click", {})
         except Differs as fault:
             if "stale" in str(fault) or "intercepted" in str(fault):
                 return False
             raise
         return True
+
+    def point(self, *places):
+        """Moves the pointer to a place of the window, or to several one after another."""
+        moves = [{"type": "pointerMove", "duration": 0, "x": x, "y": y} for x, y in zip(places[::2], places[1::2])]
+        self.own("POST", "/actions", {"actions": [{"type": "pointer", "id": "mouse", "parameters": {"pointerType": "mouse"}, "actions": moves}]})
+
+    def press(self):
+        """Presses where the pointer is."""
+        moves = [{"type": "pointerDown", "button": 0}, {"type": "pointerUp", "button": 0}]
+        self.own("POST", "/actions", {"actions": [{"type": "pointer", "id": "mouse", "parameters": {"pointerType": "mouse"}, "actions": moves}]})
 
     def settled(self, css):
         """It is there; and new controls, which take no press for a moment, have settled."""

@@ -119,7 +119,7 @@ def lose_a_reply(hand):
     hand.press("instruct")
     hand.reply("lost", "No reply came", "502")
     hand.picture("silent")
-    hand.found("JONES/1 stands as it did before", "not carried out")
+    hand.found("Step 5 (TAG S2) is waiting", "not carried out")
     hand.browser.click('#replies [data-name$="Give it again"]')
     hand.reply("accepted", "instruct step 5")
     hand.press("as REED")
@@ -139,6 +139,7 @@ def stop_and_start(hand):
     hand.turn("clearance/JONES/1")
     hand.speak("OPS")
     hand.press("grant")
+    hand.answer("yes")
     hand.reply("accepted", "JONES/1 is Granted")
 
 
@@ -154,7 +155,7 @@ def work_part(hand):
     with hanging(hand.desk.register()):
         hand.browser.type('main [data-name="crew"]', "C1" + ENTER)
         hand.reply("lost", "504")
-    hand.found("has changed since", "it was carried out")
+    hand.found("Crew C1 is on", "it was carried out")
     hand.shows("C1 is on")
     with hanging(hand.desk.register()):
         hand.browser.type('main [data-name="crew"]', "C2" + ENTER)
@@ -163,6 +164,7 @@ def work_part(hand):
         hand.number = 0
     hand.found("the page was loaded anew", "it was carried out")
     hand.press("off C2")
+    hand.answer("yes")
     hand.reply("accepted", "sign crew C2 off")
 
 
@@ -244,8 +246,10 @@ def give_back(hand):
     release(hand)
     hand.reply("refused", "CREWS_ON")
     hand.press("off C1")
+    hand.answer("yes")
     hand.reply("accepted", "sign crew C1 off")
     hand.press("ground L2")
+    hand.answer("yes")
     hand.reply("accepted", "take the ground off L2")
     release(hand)
     hand.reply("accepted", "JONES/1 is Released")

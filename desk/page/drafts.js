@@ -1,0 +1,43 @@
+// What is half written stays in its tab, through a look elsewhere and a reload, until it was given: orders and typed
+// fields, by the clearance and the command that they are for.
+
+const PREFIX = "gridclear-draft ";
+
+// The draft of a command: `request` and `switch` have no clearance.
+export function draftName(what, clearance = "") {
+  return `${clearance} ${what}`;
+}
+
+export function draft(name) {
+  try {
+    return JSON.parse(sessionStorage.getItem(PREFIX + name));
+  } catch {
+    return null;
+  }
+}
+
+export function keepDraft(name, value) {
+  try {
+    sessionStorage.setItem(PREFIX + name, JSON.stringify(value));
+  } catch { /* without storage it is gone with the page */ }
+}
+
+export function dropDraft(name) {
+  try {
+    sessionStorage.removeItem(PREFIX + name);
+  } catch { /* as above */ }
+  for (const input of document.querySelectorAll(`[data-draft="${CSS.escape(name)}"]`)) input.value = "";
+}
+
+// A field that begins with what was last typed in it, and keeps what is typed.
+export function drafted(input, name) {
+  input.dataset.draft = name;
+  input.value = draft(name) ?? input.value;
+  input.addEventListener("input", () => keepDraft(name, input.value));
+  return input;
+}
+
+// A command was carried out: what was written for it is no longer wanted.
+export function dropDraftOf({ do: what, clearance }) {
+  dropDraft(draftName(what, clearance));
+}

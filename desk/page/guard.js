@@ -1,0 +1,94 @@
+// No press by accident. A control that has just come takes none for a moment. One that came under the pointer, instead
+// of the pointer coming to it, takes none until the pointer has left it.
+
+const DEAD = 700;      // milliseconds
+const SCROLLED = 500;  // the same, in which what a wheel moves under the pointer was meant
+const CONTROLS = "button, summary, input[type=checkbox], input[type=radio]";
+
+const arrived = new WeakMap(); // control: when it came
+let last = { x: -1, y: -1, name: "" }; // where the pointer was last moved to, and the control that was there
+let trapped = "";                      // the control that came under it
+let wheel = -SCROLLED;
+
+function controlOf(node) {
+  return node instanceof Element ? node.closest("label")?.control ?? node.closest(CONTROLS) : null;
+}
+
+// What a control is to its reader: the same after it was drawn again.
+function nameOf(control) {
+  return control ? `${control.dataset.name ?? ""} ${control.textContent || control.getAttribute("aria-label") || control.value}` : "";
+}
+
+function covers(control, { x, y }) {
+  const frame = (control.closest("label") ?? control).getBoundingClientRect();
+  return x >= frame.left && x <= frame.right && y >= frame.top && y <= frame.bottom;
+}
+
+// The pointer is here now. What lies here and lay not here when it came, has come to it.
+function notePointer({ clientX: x, clientY: y, target }) {
+  const control = controlOf(target), name = nameOf(control);
+  const moved = x !== last.x || y !== last.y;
+  if (control && name !== last.name && name !== trapped && covers(control, last)) trapped = name;
+  else if (moved && name !== trapped) trapped = "";
+  if (moved) last = { x, y, name };
+}
+
+function isNew(control) {
+  return performance.now() - (arrived.get(control) ?? -DEAD) < DEAD;
+}
+
+function hold(event, control) {
+  event.preventDefault();
+  event.stopImmediatePropagation();
+  control.dataset.held = "yes";
+  setTimeout(() => { delete control.dataset.held; }, DEAD);
+}
+
+function onClick(event) {
+  const control = controlOf(event.target);
+  if (!control) return;
+  const byPointer = event.detail > 0 && event.pointerType !== "";
+  if (byPointer) notePointer(event);
+  if (isNew(control) || (byPointer && trapped && trapped === nameOf(control))) hold(event, control);
+}
+
+// A field's Enter presses the form's button.
+function onSubmit(event) {
+  if (event.submitter && isNew(event.submitter)) hold(event, event.submitter);
+}
+
+function controlsIn(nodes) {
+  return [...nodes].filter((node) => node instanceof HTMLElement)
+    .flatMap((node) => [...(node.matches(CONTROLS) ? [node] : []), ...node.querySelectorAll(CONTROLS)]);
+}
+
+// What comes is new, but for a control that was only drawn again.
+function noteChanges(records) {
+  const before = new Map();
+  for (const control of controlsIn(records.flatMap((record) => [...record.removedNodes]))) {
+    before.set(nameOf(control), arrived.get(control) ?? -DEAD);
+  }
+  for (const control of controlsIn(records.flatMap((record) => [...record.addedNodes]))) {
+    arrived.set(control, before.get(nameOf(control)) ?? performance.now());
+    if (!isNew(control)) continue;
+    control.dataset.fresh = "yes";
+    setTimeout(() => { if (!isNew(control)) delete control.dataset.fresh; }, DEAD + 20);
+  }
+}
+
+// What the wheel moved under the pointer was meant to come there.
+function onScroll() {
+  if (performance.now() - wheel > SCROLLED) return;
+  last.name = nameOf(controlOf(document.elementFromPoint(last.x, last.y)));
+  trapped = "";
+}
+
+export function guardPresses() {
+  new MutationObserver(noteChanges).observe(document.body, { childList: true, subtree: true });
+  addEventListener("pointermove", notePointer, true);
+  addEventListener("pointerdown", notePointer, true);
+  addEventListener("click", onClick, true);
+  addEventListener("submit", onSubmit, true);
+  addEventListener("wheel", () => { wheel = performance.now(); }, { capture: true, passive: true });
+  addEventListener("scroll", onScroll, true);
+}
