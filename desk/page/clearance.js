@@ -9,6 +9,7 @@ import { OrderEditor } from "./order.js";
 import { printedOrders } from "./printed.js";
 import { RestoreEditor } from "./restore.js";
 import { instructControl, readingOf } from "./reading.js";
+import { severalControl, withRow } from "./several.js";
 import { amendControl, repeatControl, reportControl, stepsFindings, stepsTable } from "./steps.js";
 import { boardLine, choose, lookAt, viewOf } from "./watch.js";
 import { offersOf } from "./who.js";
@@ -18,7 +19,7 @@ import { sectionState, workControl } from "./work.js";
 const CONTROLS = {
   order: (context) => new OrderEditor(context.view, context).node,
   restore: (context) => new RestoreEditor(context.view, context).node,
-  instruct: instructControl, repeat: repeatControl, report: reportControl, amend: amendControl, grant: grantControl,
+  several: severalControl, instruct: instructControl, repeat: repeatControl, report: reportControl, amend: amendControl, grant: grantControl,
   work: workControl, release: releaseControl, cancel: cancelControl, transfer: transferControl, emergency: emergencyControl,
 };
 
@@ -145,7 +146,7 @@ export class ClearancePage {
 
   #drawNext(view) {
     const caller = this.#desk.caller?.name;
-    const offers = offersOf(view, this.#desk.network.staff);
+    const offers = withRow(offersOf(view, this.#desk.network.staff), view, caller);
     const mine = offers.filter((offer) => caller && offer.names.includes(caller));
     const others = offers.filter((offer) => !mine.includes(offer));
     const keys = mine.map(({ does }) => [does, (SHOWN[does] ?? ((seen) => [seen.card, seen.steps]))(view), caller]);
@@ -175,10 +176,11 @@ export class ClearancePage {
     return { view, network, staff: network.staff, caller, pick, redraw, states, desk: this.#desk, act: (parts) => this.#act(parts) };
   }
 
-  // After a command that was accepted the heading has the focus, so that a key pressed twice gives no second one.
+  // After a command that was accepted the heading has the focus, so that a key pressed twice gives no second one; or, in
+  // the row of a desk that speaks for several, what is next there.
   async #act(parts) {
     const result = await this.#desk.act(parts);
-    if (result.accepted) this.#heading.focus();
+    if (result.accepted) (this.#next.querySelector("[data-goes]") ?? this.#heading).focus();
     return result;
   }
 

@@ -8,6 +8,7 @@ import { give, isSending, onSending, setCaller, setMomentField, takeUpPending } 
 import { Diagram, MOST_DRAWN } from "./diagram.js";
 import { choice, el, field, panel } from "./elements.js";
 import { guardPresses } from "./guard.js";
+import { startKeys } from "./keys.js";
 import { MinePage } from "./mine.js";
 import { fieldTime, now, wholeTime } from "./moments.js";
 import { namesOfRole, readNetwork } from "./network.js";
@@ -18,6 +19,7 @@ import { pointStates, strangeNames } from "./positions.js";
 import { onContact } from "./register.js";
 import { showReplies } from "./replies.js";
 import { RequestForm } from "./request.js";
+import { startSeveral } from "./several.js";
 import { fromAfar, keepStill } from "./still.js";
 import { SwitchEditor } from "./switch.js";
 import { drawAlarms, drawContact, startTop } from "./top.js";
@@ -201,6 +203,8 @@ async function start() {
   setRequesters([...network.staff.values()].filter((row) => row.role !== "field").map((row) => row.name));
   listCallers(network.staff);
   startMoment();
+  startKeys(at("to-next"), at("to-repeat"));
+  startSeveral(at("several"), update);
   onRoom(() => {
     noteRoom(room);
     fromAfar(update);

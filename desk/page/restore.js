@@ -3,9 +3,9 @@
 // it stand the normal position and the one before the order; nothing is chosen.
 
 import { positionBefore } from "./before.js";
-import { el, button, table } from "./elements.js";
+import { el, button, panel, table } from "./elements.js";
 import { findingsOfSteps } from "./findings.js";
-import { learn, mayGo, orderNotes } from "./notes.js";
+import { learn, living, mayGo, orderNotes } from "./notes.js";
 import { StepList } from "./picking.js";
 import { holdWord } from "./words.js";
 
@@ -49,13 +49,22 @@ export class RestoreEditor {
     const end = (action) => el("label", { class: "radio" },
       el("input", { type: "radio", name: `end-${held.place}`, value: action, "data-name": `${action} ${held.place}`, onchange: () => this.#end(held, action) }),
       `${action} ${held.place}`, state && action === normal ? el("span", { class: "hint" }, ` normally ${state.point.normal}`) : null);
-    const before = state ? positionBefore(state, this.#view.card.clearance) : null;
     return el("tr", { "data-point": held.place }, el("th", { scope: "row" }, held.place),
       el("td", { "data-name": "normal" }, state ? el("strong", {}, state.point.normal) : "not in the files"),
-      el("td", { "data-name": "before" }, before ? [el("strong", {}, before.position ?? "not clear"), el("p", { class: "hint" }, before.from)] : "–"),
+      this.#before(held.place),
       el("td", {}, held.kinds.map(holdWord).join(", "),
         other.length ? el("p", { class: "hint" }, `also ${[...new Set(other.map((hold) => hold.by))].join(", ")}`) : null),
       el("td", {}, end(normal), end(normal === "CLOSE" ? "LEAVE" : "CLOSE")));
+  }
+
+  // What is known of it may come later than the form.
+  #before(name) {
+    const cell = el("td", { "data-name": "before" });
+    return living(cell, () => {
+      const state = this.#desk.states().get(name);
+      const { position, from } = state ? positionBefore(state, this.#view.card.clearance) : { position: null, from: "not in the files" };
+      panel(cell, [position, from], () => [el("strong", {}, position ?? "not clear"), el("p", { class: "hint" }, from)]);
+    });
   }
 
   #end(held, action) {

@@ -139,6 +139,11 @@ class Browser:
         steps = [{"type": kind, "value": sign} for sign in text for kind in ("keyDown", "keyUp")]
         self.own("POST", "/actions", {"actions": [{"type": "key", "id": "keys", "actions": steps}]})
 
+    def chord(self, held, sign):
+        """A key while another is held down."""
+        pairs = [("keyDown", held), ("keyDown", sign), ("keyUp", sign), ("keyUp", held)]
+        self.own("POST", "/actions", {"actions": [{"type": "key", "id": "keys", "actions": [{"type": kind, "value": key} for kind, key in pairs]}]})
+
     def picture(self, path):
         with open(path, "wb") as file:
             file.write(base64.b64decode(self.own("GET", "/screenshot")))

@@ -55,6 +55,8 @@ class Desk:
 
     def sent(self):
         """The commands that reached the register, in their order: those that the proxy could not pass on did not."""
+        if not os.path.exists(f"{self.base}.commands.log"):
+            return []
         with open(f"{self.base}.commands.log", encoding="utf-8") as file:
             entries = [json.loads(line) for line in file]
         return [entry["command"] for entry in entries if entry["status"] != 502]

@@ -1,6 +1,7 @@
 """An operator's acts at the page, for the looks."""
 
 import os
+import time
 
 from desk_looks.browser import ENTER, LONG, TAB, Differs, say, wait_until
 
@@ -59,6 +60,38 @@ class Hand:
     def shows(self, text, css="main"):
         look = "const node = document.querySelector(arguments[0]); return node?.innerText ?? node?.textContent ?? ''"
         wait_until(lambda: text in self.browser.script(look, css), f"{css} to show {text}")
+
+    def text(self, css="main"):
+        return self.browser.script("return document.querySelector(arguments[0])?.innerText ?? ''", css)
+
+    def lacks(self, text, css="body"):
+        """Nothing there says this, in capitals or not."""
+        if text.lower() in self.text(css).lower():
+            raise Differs(f"{css} was not to say {text}: {self.text(css)[:200]}")
+
+    def there(self, css):
+        return self.browser.script("return document.querySelector(arguments[0]) !== null", css)
+
+    def rect(self, css):
+        """Left, top, right and bottom on the page."""
+        self.browser.find(css)
+        return self.browser.script("""const box = document.querySelector(arguments[0]).getBoundingClientRect();
+            return [box.left + scrollX, box.top + scrollY, box.right + scrollX, box.bottom + scrollY]""", css)
+
+    def pick(self, *points):
+        """Picks each of these points by the list, which is narrowed to it first."""
+        for point in points:
+            self.browser.find('main [data-name="filter"]')
+            self.browser.script("document.querySelector('main [data-name=filter]').value = ''")
+            self.browser.type('main [data-name="filter"]', point)
+            self.press(f"pick {point}")
+        self.browser.type('main [data-name="filter"]', " ")
+
+    def nothing_sent(self, since):
+        """The desk's log has no command more than it had."""
+        time.sleep(0.5)
+        if len(self.desk.sent()) != since:
+            raise Differs(f"something was sent: {self.desk.sent()[since:]}")
 
     def step(self, clearance, text):
         """A step's three commands by REED, with the mouse."""

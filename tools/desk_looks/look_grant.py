@@ -1,0 +1,51 @@
+"""A grant is offered when all steps are done, and not where a step was given out."""
+
+from desk_looks.browser import ENTER, Differs
+from desk_looks.network import needed, ordered, steps
+
+CUT = ["N11-Q12", "N11-Q13"]
+WIDTHS = (1440, 1024, 390)
+
+
+def lies_over(one, other):
+    return one[0] < other[2] and other[0] < one[2] and one[1] < other[3] and other[1] < one[3]
+
+
+def not_before(stage):
+    hand = stage.network(ordered("KIM", "N11-F12", CUT), "clearance/KIM/1")
+    hand.speak("DISP1")
+    hand.shows("Instruct step 1")
+    if hand.there('main [data-name="grant"]'):
+        raise Differs("a grant is offered at 0 of 6 steps")
+    hand.speak("REED")
+    hand.lacks("grant the clearance", "main")
+
+
+def elsewhere(stage):
+    """At three widths the grant does not lie over the last Instruct, nor over `is done`."""
+    texts = needed(CUT)
+    hand = stage.network([*ordered("KIM", "N11-F12", CUT), *steps("KIM/1", texts[:-1])], "clearance/KIM/1")
+    hand.speak("DISP1")
+    places = {}
+    for width in WIDTHS:
+        hand.browser.size(width)
+        places[width] = [hand.rect('main [data-name="instruct"]')]
+    hand.press("instruct")
+    hand.reply("accepted")
+    hand.speak("REED")
+    hand.browser.type('main [data-name="repeat-text"]', texts[-1] + ENTER)
+    hand.reply("accepted")
+    for width in WIDTHS:
+        hand.browser.size(width)
+        places[width].append(hand.rect('main [data-name="done"]'))
+    hand.press("done")
+    hand.reply("accepted")
+    hand.speak("DISP1")
+    for width in WIDTHS:
+        hand.browser.size(width)
+        grant = hand.rect('main [data-name="grant"]')
+        if any(lies_over(grant, place) for place in places[width]):
+            raise Differs(f"at {width} pixels the grant at {grant} lies over one of {places[width]}")
+
+
+LOOKS = {"grant-not-before": not_before, "grant-elsewhere": elsewhere}

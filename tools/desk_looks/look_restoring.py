@@ -1,0 +1,62 @@
+"""A restoring order shows what was; sources that would be joined and loops that would be closed are said and asked about."""
+
+from desk_looks.browser import Differs
+from desk_looks.network import released, steps, switch
+
+TIE = "TIE1-N12-N13"
+BYPASSED = [switch(["CLOSE N13-B1"]), *steps("DISP1/1", ["CLOSE N13-B1"])]
+WEBER = released("WEBER", "N13-F11", ["N13-Q11", "N13-B1", TIE, "TIE1-N13-N14"])
+
+
+def choices(hand, point):
+    """The choices at a point in their order, and whether one is taken."""
+    return hand.browser.script("""return [...document.querySelectorAll('tr[data-point="' + arguments[0] + '"] input[type=radio]')]
+        .map((one) => [one.value, one.checked])""", point)
+
+
+def what_was(stage):
+    hand = stage.network([*BYPASSED, *WEBER], "clearance/WEBER/1")
+    hand.speak("DISP1")
+    for point, normal, before in (("N13-Q11", "closed", "closed"), ("N13-B1", "open", "closed"), (TIE, "open", "open")):
+        row = f'tr[data-point="{point}"]'
+        hand.shows(normal, f'{row} [data-name="normal"]')
+        hand.shows(before, f'{row} [data-name="before"]')
+        first = "CLOSE" if normal == "closed" else "LEAVE"
+        found = choices(hand, point)
+        if [one[1] for one in found] != [False, False] or found[0][0] != first:
+            raise Differs(f"the choices at {point} are {found}")
+    hand.picture("restore")
+
+
+def restoring_joins(stage):
+    """A normally open tie that would be closed joins two sources: it is said, and asked before the order is given."""
+    hand = stage.network(WEBER, "clearance/WEBER/1")
+    hand.speak("DISP1")
+    for choice in ("CLOSE N13-Q11", "LEAVE N13-B1", f"CLOSE {TIE}", "LEAVE TIE1-N13-N14"):
+        hand.press(choice)
+    hand.shows("joins the sources GRID-1 and GRID-2", ".order-notes")
+    hand.press("restore")
+    hand.shows("joins the sources GRID-1 and GRID-2", "dialog")
+    hand.answer("null")
+    hand.nothing_sent(0)
+    hand.press(f"LEAVE {TIE}")
+    hand.press("restore")
+    hand.reply("accepted", "Restoring")
+
+
+def switching_joins(stage):
+    """A coupler between two stations of one source closes a loop, one between two sources joins them."""
+    hand = stage.network([], "switch")
+    hand.speak("DISP1")
+    for point, words in (("CPL-N11-N12", "closes a loop"), ("CPL-N12-N13", "joins the sources GRID-1 and GRID-2")):
+        hand.pick(point)
+        hand.press(f"CLOSE {point}")
+        hand.shows(words, ".order-notes")
+        hand.press("switch")
+        hand.shows(words, "dialog")
+        hand.answer("null")
+        hand.nothing_sent(0)
+    hand.picture("switch-joins")
+
+
+LOOKS = {"restoring-what-was": what_was, "restoring-joins": restoring_joins, "switching-joins": switching_joins}

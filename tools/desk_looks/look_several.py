@@ -1,0 +1,47 @@
+"""One row for a step at a desk that speaks for several."""
+
+import json
+
+from desk_looks.browser import ENTER, Differs, say, wait_until
+from desk_looks.network import ordered
+
+CUT = ["N11-Q12", "N11-Q13"]
+
+
+def going(hand, name):
+    """The focus is on this control of the row."""
+    wait_until(lambda: hand.browser.script("return document.activeElement?.dataset?.name") == name, f"the focus on {name}")
+    hand.browser.settled(f'main [data-name="{name}"]')
+
+
+def row(stage):
+    """Six steps by Enter and the repeats alone, each command by the name that was chosen in the row."""
+    hand = stage.network(ordered("KIM", "N11-F12", CUT), "clearance/KIM/1")
+    hand.speak("DISP3")
+    hand.browser.click("#several")
+    for part, name in (("giver", "DISP2"), ("hearer", "DALE")):
+        hand.browser.click(f'main [data-name="{part}"] option[value="{name}"]')
+    hand.browser.script("document.querySelector('main [data-name=instruct]').focus()")
+    keys = 0
+    texts = [f"{action} {point}" for action in ("OPEN", "BLOCK", "TAG") for point in CUT]
+    for number, text in enumerate(texts, 1):
+        going(hand, "instruct")
+        hand.browser.keys(ENTER)
+        hand.reply("accepted", f"DISP2: instruct step {number}")
+        hand.shows(text, ".read-out strong")
+        if number == 1:
+            hand.picture("several")
+        going(hand, "repeat-text")
+        hand.browser.keys(text.lower() + ENTER)
+        hand.reply("accepted", "DALE: repeat", text)
+        going(hand, "done")
+        hand.browser.keys(ENTER)
+        hand.reply("accepted", "DALE: report", "done")
+        keys += 3
+    commands = [json.loads(line) for line in hand.desk.sent()]
+    if [one["by"] for one in commands] != ["DISP2", "DALE", "DALE"] * len(texts):
+        raise Differs(f"the names are {[one['by'] for one in commands]}")
+    say(f"  {len(texts)} steps: {keys} times Enter beside the repeats, and no change of name")
+
+
+LOOKS = {"several": row}

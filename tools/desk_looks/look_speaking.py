@@ -1,0 +1,78 @@
+"""Nothing is read out before the register has accepted it, and it is read out at one desk alone."""
+
+from desk_looks.browser import Differs, wait_until
+from desk_looks.network import granted, ordered, switch
+
+HELD = "TIE1-N12-N13"
+JONES = granted("JONES", "N13-F13", ["N13-Q13", HELD, "TIE1-N13-N14"], ["C1"])
+KIM = granted("KIM", "N12-F13", ["N12-Q13", "TIE1-N11-N12", HELD], ["C2"])
+KIM_ORDER = ordered("KIM", "N11-F12", ["N11-Q12", "N11-Q13"])
+LARGE = 24  # pixels, of the text that is read out
+
+
+def silent(hand):
+    for words in ("read out", "read this out"):
+        hand.lacks(words)
+
+
+def answer_if_asked(hand):
+    if hand.there("dialog"):
+        hand.answer("send")
+
+
+def refused_close(stage):
+    """A CLOSE that is held: before the press and after the refusal the page has nothing to read out."""
+    hand = stage.network([*JONES, *KIM, switch([f"CLOSE {HELD}"])])
+    hand.turn("clearance/DISP1/1")
+    hand.speak("DISP1")
+    hand.shows("Instruct step 1")
+    silent(hand)
+    hand.press("instruct")
+    wait_until(lambda: hand.there("dialog") or hand.newest()[0], "a question or a reply")
+    silent(hand)
+    answer_if_asked(hand)
+    hand.reply("refused", "HELD", "JONES/1")
+    silent(hand)
+
+
+def one_desk(stage):
+    """Two desks press Instruct for one step: one of them reads it out, after its reply."""
+    one, two = stage.network(KIM_ORDER, "clearance/KIM/1"), stage.window("clearance/KIM/1")
+    for hand, name in ((one, "DISP1"), (two, "DISP2")):
+        hand.speak(name)
+        hand.shows("Instruct step 1")
+        silent(hand)
+    one.press("instruct")
+    two.press("instruct")
+    one.reply("accepted", "instruct step 1")
+    two.reply("refused", "STEP_STATE")
+    one.shows("Read this out", "main .next")
+    one.shows("OPEN N11-Q12", "main .next .read-out strong")
+    size = one.browser.script("return parseFloat(getComputedStyle(document.querySelector('.read-out strong')).fontSize)")
+    if size < LARGE:
+        raise Differs(f"the text to be read out has {size} pixels")
+    two.shows("given out at another desk")
+    silent(two)
+
+
+def until_repeated(stage):
+    """It stays through a reload and another page, and goes when it is repeated."""
+    hand = stage.network(KIM_ORDER, "clearance/KIM/1")
+    hand.speak("DISP1")
+    hand.press("instruct")
+    hand.reply("accepted")
+    hand.browser.own("POST", "/refresh", {})
+    hand.number = 0
+    hand.shows("Read this out", "main .next")
+    hand.turn("board")
+    hand.shows("given out, not yet repeated")
+    hand.turn("clearance/KIM/1")
+    hand.speak("REED")
+    hand.shows("Read this out", "main .next")
+    hand.browser.type('main [data-name="repeat-text"]', "OPEN N11-Q12")
+    hand.press("repeat")
+    hand.reply("accepted", "repeat")
+    wait_until(lambda: "read this out" not in hand.text().lower(), "no text to be read out any more")
+
+
+LOOKS = {"speak-refused": refused_close, "speak-one-desk": one_desk, "speak-until-repeated": until_repeated}

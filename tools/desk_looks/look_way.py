@@ -1,0 +1,74 @@
+"""What is in the way of a picked point and of a step: a hold, a hand, another's fence, a position that is not normal."""
+
+from desk_looks.network import granted, ordered, step, steps, switch
+from desk_looks.look_speaking import HELD, JONES, KIM
+
+OWENS = granted("OWENS", "N13-F22", ["N13-Q21", "N13-B2", "TIE2-N12-N13", "TIE2-N13-N14"], ["C7"])
+INSIDE = "N13-Q23"  # both its ends are in the fence of OWENS/1
+
+
+def held_close(stage):
+    """A held point: said while it is picked, and asked about before a CLOSE is given; a no sends nothing."""
+    hand = stage.network([*JONES, *KIM], "switch")
+    hand.speak("DISP1")
+    hand.pick(HELD)
+    hand.shows("JONES/1 has it held open", ".picked-notes")
+    hand.shows("a CLOSE would be refused for KIM/1", ".picked-notes")
+    hand.press(f"CLOSE {HELD}")
+    hand.press("switch")
+    for name in ("JONES/1", "KIM/1"):
+        hand.shows(f"would be refused (HELD) for {name}", "dialog")
+    hand.shows("The register decides", "dialog")
+    hand.picture("question-held")
+    hand.answer("null")
+    hand.nothing_sent(0)
+
+
+def others_fence(stage):
+    """An OPEN inside a Granted fence with a crew on: whose fence it is is said and asked, as it is written and given out."""
+    hand = stage.network(OWENS, "switch")
+    hand.speak("DISP4")
+    hand.pick(INSIDE)
+    hand.shows("inside the fence of OWENS/1: Granted, crew C7 on", ".picked-notes")
+    hand.press(f"OPEN {INSIDE}")
+    hand.press("switch")
+    hand.shows("inside the fence of OWENS/1: Granted, crew C7 on", "dialog")
+    hand.answer("null")
+    hand.nothing_sent(0)
+    hand.press("switch")
+    hand.answer("send")
+    hand.reply("accepted", "DISP4/1")
+    hand.shows("inside the fence of OWENS/1", "main .step-place")
+    hand.press("instruct")
+    hand.shows("inside the fence of OWENS/1", "dialog")
+    hand.answer("null")
+    hand.nothing_sent(1)
+
+
+def in_hand(stage):
+    """A point in another's hand, at a step that would be refused for it."""
+    out = [*ordered("KIM", "N11-F12", ["N11-Q12", "N11-Q13"]), *step("KIM/1", 1, "OPEN N11-Q12", "instruct"), switch(["OPEN N11-Q12"])]
+    hand = stage.network(out, "clearance/DISP1/1")
+    hand.speak("DISP1")
+    hand.shows("would be refused (IN_HAND): in hand of KIM/1", "main .step-place")
+    hand.press("instruct")
+    hand.shows("in hand of KIM/1", "dialog")
+    hand.answer("null")
+    hand.nothing_sent(0)
+    hand.turn("switch")
+    hand.pick("N11-Q12")
+    hand.shows("in hand of KIM/1", ".picked-notes")
+
+
+def not_normal(stage):
+    """A point that was moved, and the holds of another clearance, while an isolating order is written."""
+    moved = [switch(["OPEN N14-Q12"]), *steps("DISP1/1", ["OPEN N14-Q12"]), *JONES, {"by": "LEE", "do": "request", "section": "N14-F13"}]
+    hand = stage.network(moved, "clearance/LEE/1")
+    hand.speak("DISP2")
+    hand.pick("TIE1-N13-N14", "N14-Q12")
+    hand.shows("JONES/1 has it held open, blocked, tagged", '.picked-notes [data-at="TIE1-N13-N14"]')
+    hand.shows("at the fence of JONES/1: Granted, crew C1 on", '.picked-notes [data-at="TIE1-N13-N14"]')
+    hand.shows("open now, normally closed", '.picked-notes [data-at="N14-Q12"]')
+
+
+LOOKS = {"way-held": held_close, "way-fence": others_fence, "way-hand": in_hand, "way-normal": not_normal}
