@@ -2,30 +2,14 @@
 
 import { el, svg, button } from "./elements.js";
 import { BOX, layOut } from "./layout.js";
+import { sectionMarks } from "./marks.js";
 import { isOffNormal, sourceOf } from "./positions.js";
+import { Writing } from "./writing.js";
 import { holdWord } from "./words.js";
 import { Zoom } from "./zoom.js";
 
 export const MOST_DRAWN = 1000;
-const LETTERS = { HeldOpen: "O", Block: "B", Control: "C", Tag: "T" };
-const MOST_MARKS = 2;
 const MOST_TABBED = 60; // points that Tab goes through while points are picked; of more, the list beside them is the way
-
-// Marks as lines of text, the rest counted.
-function markLines(marks, x, y, up, anchor) {
-  const shown = marks.slice(0, MOST_MARKS);
-  if (marks.length > MOST_MARKS) shown[MOST_MARKS - 1] = `${shown[MOST_MARKS - 1]} +${marks.length - MOST_MARKS}`;
-  return shown.map((text, place) =>
-    svg("text", { class: "mark", x, y: y + (up ? -10 : 10) * place, "text-anchor": anchor }, text));
-}
-
-// Holds and the hand at a point by owner, as JONES/1 O B T hand.
-export function holdMarks({ holds, hand }) {
-  const owners = new Map(hand ? [[hand, hand]] : []);
-  for (const { by, kind } of holds) owners.set(by, `${owners.get(by) ?? by} ${LETTERS[kind]}`);
-  if (hand) owners.set(hand, `${owners.get(hand)} hand`);
-  return [...owners.values()];
-}
 
 function pointTitle(state, lookedThrough) {
   const { point } = state;
@@ -38,8 +22,9 @@ function pointTitle(state, lookedThrough) {
 }
 
 // Closed is full, open is hollow with a gap; dashed where the register does not tell it; a question mark where nobody does.
-function pointSymbol(state, picked) {
+function pointSymbol(state, picked, found) {
   const parts = [svg("rect", { class: "hit", x: -16, y: -16, width: 32, height: 32 })];
+  if (found) parts.push(svg("circle", { class: "found", r: 17 }));
   if (picked) parts.push(svg("rect", { class: "ring", x: -12, y: -12, width: 24, height: 24, rx: 4 }));
   parts.push(svg("rect", { class: "box", x: -7, y: -7, width: 14, height: 14 }));
   if (state.position === "open") parts.push(svg("path", { class: "gap", d: "M-4,4L4,-4" }));
@@ -47,46 +32,15 @@ function pointSymbol(state, picked) {
   return parts;
 }
 
-// On a row the name stands above and the marks below; elsewhere both stand beside the point, on one line.
-function pointLabels(state, kind, picked) {
-  const name = `${picked ? "✓ " : ""}${state.point.name}${isOffNormal(state) ? " ≠" : ""}`;
-  const marks = holdMarks(state);
-  const off = picked ? 5 : 0; // the ring of a picked point
-  if (kind !== "row") {
-    return [svg("text", { class: "label", x: 11 + off, y: kind === "lane" ? 12 + off : 4 }, name,
-      marks.length ? svg("tspan", { class: "mark", dx: 5 }, marks.join(", ")) : null)];
-  }
-  return [svg("text", { class: "label", x: 0, y: -11 - off, "text-anchor": "middle" }, name), ...markLines(marks, 0, 25, false, "middle")];
-}
-
-// What stands at each section, by clearance: its phase where the section is its work section, its test and its ground.
-function sectionMarks(room) {
-  const marks = new Map();
-  const add = (place, id, word) => {
-    const ids = marks.get(place) ?? marks.set(place, new Map()).get(place);
-    ids.set(id, (ids.get(id) ?? new Set()).add(word));
-  };
-  for (const row of room.board) if (row.work !== "-") add(row.work, row.id, row.phase);
-  for (const view of room.views.values()) {
-    const own = view.holds.filter((hold) => hold.kind === "Tested" || hold.kind === "Ground");
-    const grounded = new Set(own.filter((hold) => hold.kind === "Ground").map((hold) => hold.place + hold.by));
-    for (const { by, kind, place } of own) {
-      if (kind === "Ground" || !grounded.has(place + by)) add(place, by, kind === "Ground" ? "grounded" : "tested");
-    }
-  }
-  return new Map([...marks].map(([place, ids]) => [place, [...ids].map(([id, words]) => `${id} ${[...words].join(", ")}`)]));
-}
-
-function sectionParts(spot, section, marks, fenced, picked) {
-  const { width } = spot;
+function sectionParts(spot, section, marks, fenced, found) {
+  const { width } = spot, top = -BOX / 2;
   return [
-    svg("title", {}, [`section ${section.name}${section.source ? ", a source" : ""}`, fenced ? "in the fence" : "", ...marks].filter(Boolean).join("\n")),
+    svg("title", {}, [`section ${section.name}${section.source ? ", a source" : ""}`, fenced ? "in the fence" : "", ...marks.map(({ text }) => text)].filter(Boolean).join("\n")),
     section.source ? svg("g", { class: "feed" },
       svg("circle", { cx: -16, cy: 0, r: 11 }), svg("path", { d: "M-22,1c3,-7 5,-7 6,-1s4,6 6,-1" }), svg("path", { d: "M-5,0H0" })) : null,
-    svg("rect", { class: "box", x: 0, y: -BOX / 2, width, height: BOX, rx: 4 }),
-    fenced ? svg("rect", { class: "hatch", x: 0, y: -BOX / 2, width, height: BOX, rx: 4, fill: "url(#hatch)" }) : null,
-    svg("text", { class: "name", x: width / 2, y: 4.5, "text-anchor": "middle" }, `${picked ? "✓ " : ""}${section.name}`),
-    ...markLines(marks, width / 2, -BOX / 2 - 15, true, "middle"),
+    found ? svg("rect", { class: "found", x: -7, y: top - 7, width: width + 14, height: BOX + 14, rx: 9 }) : null,
+    svg("rect", { class: "box", x: 0, y: top, width, height: BOX, rx: 4 }),
+    fenced ? svg("rect", { class: "hatch", x: 0, y: top, width, height: BOX, rx: 4, fill: "url(#hatch)" }) : null,
   ].filter(Boolean);
 }
 
@@ -113,8 +67,8 @@ function pressable(group, does) {
 }
 
 export class Diagram {
-  #network; #plan; #zoom; #svg; #lines = []; #points = new Map(); #sections = new Map(); #keys = new Map();
-  #picking = null; #press;
+  #network; #plan; #zoom; #svg; #writing; #points = new Map(); #sections = new Map(); #keys = new Map();
+  #picking = null; #press; #found = new Set(); #finding = el("span", { class: "hint", role: "status" }); #last = null;
   node;
 
   // `press(kind, name)` is told where nothing is being picked.
@@ -122,8 +76,9 @@ export class Diagram {
     this.#network = network;
     this.#press = press;
     this.#plan = layOut(network);
+    this.#writing = new Writing(network, this.#plan);
     this.#svg = this.#draw();
-    this.#zoom = new Zoom(this.#svg, this.#plan);
+    this.#zoom = new Zoom(this.#svg, this.#plan, (scale) => this.#writing.atScale(scale));
     this.node = el("div", { class: "diagram" }, this.#tools(), this.#svg, legend());
   }
 
@@ -139,15 +94,15 @@ export class Diagram {
     const dots = this.#plan.edges.flatMap((edge) => [edge.dot, edge.other]).filter(Boolean)
       .map(([cx, cy]) => svg("circle", { class: "dot", cx, cy, r: 2.5 }));
     const sections = [...this.#plan.spots.values()].map((spot) => this.#group("section", spot.name, spot.x, spot.y, this.#sections));
-    const points = this.#plan.edges.map((edge) => this.#group("point", edge.point.name, edge.x, edge.y, this.#points, edge.kind));
+    const points = this.#plan.edges.map((edge) => this.#group("point", edge.point.name, edge.x, edge.y, this.#points));
     return svg("svg", { class: "net", tabindex: 0, role: "group", "aria-label": "One-line diagram. Plus and minus zoom, arrows pan, 0 shows all. The points are also listed under Points." },
-      hatch(), svg("g", {}, base, dots), svg("g", {}, sections), svg("g", {}, points));
+      hatch(), svg("g", {}, base, dots), svg("g", {}, sections), svg("g", {}, points), this.#writing.node);
   }
 
-  #group(kind, name, x, y, groups, lies = "row") {
+  #group(kind, name, x, y, groups) {
     const group = svg("g", { "data-kind": kind, "data-name": name, transform: `translate(${x},${y})` });
     pressable(group, () => (this.#picking?.kind === kind ? this.#picking.toggle(name) : this.#press(kind, name)));
-    groups.set(name, { group, lies });
+    groups.set(name, { group });
     return group;
   }
 
@@ -159,14 +114,20 @@ export class Diagram {
       button("Whole network", () => this.#zoom.all()),
       button("Closer", () => this.#zoom.closer()),
       button("Farther", () => this.#zoom.farther()),
-      find, button("Find", go));
+      find, button("Find", go), this.#finding);
   }
 
-  // Brings a section or a point to the middle.
+  // Marks the section or point of this name, or those with it in their name, and brings the first to the middle.
   find(name) {
-    const spot = this.#plan.spots.get(name) ?? this.#plan.edges.find((edge) => edge.point.name === name);
+    const names = [...this.#plan.spots.keys(), ...this.#points.keys()];
+    const exact = names.filter((one) => one === name);
+    const found = !name || exact.length ? exact : names.filter((one) => one.includes(name));
+    this.#found = new Set(found);
+    this.#finding.textContent = !name ? "" : !found.length ? `nothing has ${name} in its name`
+      : `${found.length === 1 ? found[0] : `${found.length} found, as ${found[0]}`}, ringed`;
+    const spot = this.#plan.spots.get(found[0]) ?? this.#plan.edges.find((edge) => edge.point.name === found[0]);
     if (spot) this.#zoom.bringToMiddle(spot);
-    return Boolean(spot);
+    if (this.#last) this.update(this.#last);
   }
 
   // What is being picked: { kind, picked: Set, toggle(name) }, or null.
@@ -177,25 +138,27 @@ export class Diagram {
   }
 
   // Draws what has changed since the last time.
-  update({ states, room, fence }) {
+  update(seen) {
+    const { states, room, fence } = this.#last = seen;
     const marks = sectionMarks(room);
     const picked = (kind, name) => this.#picking?.kind === kind && this.#picking.picked.has(name);
-    for (const [name, { group, lies }] of this.#points) {
-      const state = states.get(name), chosen = picked("point", name);
-      this.#redraw(group, [state.position, state.from, state.hand, state.holds, chosen, room.lookedThrough, this.#picking?.kind], () => {
+    for (const [name, { group }] of this.#points) {
+      const state = states.get(name), chosen = picked("point", name), found = this.#found.has(name);
+      this.#redraw(group, [state.position, state.from, state.hand, state.holds, chosen, found, room.lookedThrough, this.#picking?.kind], () => {
         this.#dressPoint(group, state, chosen);
-        return [svg("title", {}, pointTitle(state, room.lookedThrough)), ...pointSymbol(state, chosen), ...pointLabels(state, lies, chosen)];
+        return [svg("title", {}, pointTitle(state, room.lookedThrough)), ...pointSymbol(state, chosen, found)];
       });
     }
     for (const [name, { group }] of this.#sections) {
-      const own = marks.get(name) ?? [], chosen = picked("section", name), fenced = fence.has(name);
-      this.#redraw(group, [own, chosen, fenced, this.#picking?.kind], () => {
-        const section = this.#network.sections.get(name);
-        group.setAttribute("class", ["section", section.source ? "source" : "", fenced ? "fenced" : "", chosen ? "picked" : ""].join(" "));
+      const own = marks.get(name) ?? [], chosen = picked("section", name), fenced = fence.has(name), found = this.#found.has(name);
+      this.#redraw(group, [own, chosen, fenced, found, this.#picking?.kind], () => {
+        const section = this.#network.sections.get(name), live = own.some(({ kind }) => kind === "live");
+        group.setAttribute("class", ["section", section.source ? "source" : "", fenced ? "fenced" : "", chosen ? "picked" : "", live ? "live" : ""].join(" "));
         this.#tellPicking(group, "section", chosen, name);
-        return sectionParts(this.#plan.spots.get(name), section, own, fenced, chosen);
+        return sectionParts(this.#plan.spots.get(name), section, own, fenced, found);
       });
     }
+    this.#writing.write({ states, marks, fence, found: this.#found, picked });
   }
 
   #dressPoint(group, state, chosen) {
@@ -240,6 +203,7 @@ function legend() {
     entry(sample("point closed untold"), "dashed: as in the file, the register does not tell"),
     entry(sign("≠"), "not in its normal position"),
     entry(fenceSample(), "in the fence of the chosen clearance"),
+    entry(sign("red"), "tested live, until it is tested dead"),
     entry(sign("O B C T"), "held open, blocked, control off, tagged, behind the owner's name"),
     entry(sign("hand"), "its owner's step is given out there")));
 }

@@ -3,6 +3,7 @@
 
 import { dropDraftOf } from "./drafts.js";
 import { el } from "./elements.js";
+import { noteGiven } from "./given.js";
 import { now, shortTime } from "./moments.js";
 import { judgeNew, judgeRecord } from "./outcome.js";
 import { addReply, changeReply, plainLines } from "./replies.js";
@@ -61,6 +62,7 @@ const FOUND = {
 async function tellFound(command, why, known, reply, again) {
   const { found, text } = await asOwn(() => judged(command, known)), isOver = found === "yes" || found === "either";
   if (isOver) dropDraftOf(command);
+  if (found === "yes" && command.do === "instruct") noteGiven(command);
   const look = async () => {
     await lookNow();
     await tellFound(command, why, known, reply, again);

@@ -1,7 +1,7 @@
 // The network as a list, where it is too large to be drawn.
 
 import { el, field, panel, table } from "./elements.js";
-import { holdMarks } from "./diagram.js";
+import { holdMarks } from "./marks.js";
 
 const MOST_LISTED = 300;
 

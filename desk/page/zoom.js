@@ -3,14 +3,16 @@
 const MOST = 3, LEAST = 0.05, READABLE = 0.62, FAR = 0.42, CLOSE = 0.8, LARGEST = 1.4, STEP = 1.25, PAN = 80, DRAG = 5;
 
 export class Zoom {
-  #drawing; #size;
+  #drawing; #size; #changed;
   #x = 0; #y = 0; #scale = 1;
   #byHand = false; // whether the operator has zoomed or moved it
   #middle = null;  // what is to be in the middle where not all can be read
 
-  constructor(drawing, size) {
+  // `changed(scale)` is called whenever the drawing is shown at a scale.
+  constructor(drawing, size, changed) {
     this.#drawing = drawing;
     this.#size = size;
+    this.#changed = changed;
     this.#listen();
     new ResizeObserver(() => this.#begin()).observe(drawing);
   }
@@ -23,6 +25,7 @@ export class Zoom {
     const { width, height } = this.#box();
     this.#drawing.setAttribute("viewBox", `${this.#x} ${this.#y} ${width / this.#scale} ${height / this.#scale}`);
     this.#drawing.classList.toggle("far", this.#scale < FAR);
+    this.#changed(this.#scale);
   }
 
   #zoomAt(factor, left, top) {

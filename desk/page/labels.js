@@ -1,0 +1,137 @@
+// Where the texts of the diagram lie. Each has places around its own box, and takes the best that is free: no text lies
+// on another, on a section or on a point. A text that finds none is shortened, and then left out; its title has it.
+
+const CELL = 80;        // of the index of what lies where
+const GAP = 3, PAD = 1; // between a box and its text; around each text
+const RINGS = 5, RING = 13;
+const LINE = 1.18;      // height of a line of text, in sizes
+const ACROSS = 7, ALONG = 2, FARTHER = 4; // what a text costs over a line that lies, over one that rises, one ring farther out
+
+const fonts = document.createElement("canvas").getContext("2d");
+
+function widthOf(text, size, bold) {
+  fonts.font = `${bold ? "bold " : ""}20px "DejaVu Sans", "Liberation Sans", system-ui, sans-serif`;
+  return (fonts.measureText(text).width * size) / 20;
+}
+
+// Rectangles [left, top, right, bottom] by the cells that they touch.
+class Places {
+  #cells = new Map();
+
+  #keys([left, top, right, bottom]) {
+    const keys = [];
+    for (let x = Math.floor(left / CELL); x <= Math.floor(right / CELL); x++) {
+      for (let y = Math.floor(top / CELL); y <= Math.floor(bottom / CELL); y++) keys.push(`${x},${y}`);
+    }
+    return keys;
+  }
+
+  add(rect) {
+    for (const key of this.#keys(rect)) (this.#cells.get(key) ?? this.#cells.set(key, []).get(key)).push(rect);
+  }
+
+  // Those that lie over this one.
+  *over([left, top, right, bottom]) {
+    const seen = new Set();
+    for (const key of this.#keys([left, top, right, bottom])) {
+      for (const one of this.#cells.get(key) ?? []) {
+        if (seen.has(one)) continue;
+        seen.add(one);
+        if (one[0] < right && left < one[2] && one[1] < bottom && top < one[3]) yield one;
+      }
+    }
+  }
+
+  isFree(rect) {
+    return this.over(rect).next().done;
+  }
+}
+
+// The straight parts of a path such as M1,2H3V4.
+function partsOf(path) {
+  const parts = [];
+  let x = 0, y = 0;
+  for (const [, letter, a, b] of path.matchAll(/([MHV])(-?[\d.]+)(?:,(-?[\d.]+))?/g)) {
+    const [fromX, fromY] = [x, y];
+    if (letter !== "V") x = Number(a);
+    if (letter === "V") y = Number(a);
+    if (letter === "M") y = Number(b);
+    else parts.push([Math.min(fromX, x), Math.min(fromY, y), Math.max(fromX, x), Math.max(fromY, y)]);
+  }
+  return parts;
+}
+
+// The places around a box, from the best on: [left, top, cost, ring].
+function* around([left, top, right, bottom], width, height, sides, rings) {
+  const middle = (left + right - width) / 2, level = (top + bottom - height) / 2;
+  for (let ring = 0; ring < rings; ring++) {
+    const out = GAP + ring * RING;
+    const ways = {
+      above: [[middle, top - out - height], [left, top - out - height], [right - width, top - out - height]],
+      below: [[middle, bottom + out], [left, bottom + out], [right - width, bottom + out]],
+      right: [[right + out, level], [right + out, level + RING], [right + out, level - RING]],
+      left: [[left - out - width, level], [left - out - width, level + RING], [left - out - width, level - RING]],
+    };
+    for (const [place, side] of sides.entries()) {
+      for (const [shift, [x, y]] of ways[side].entries()) yield [x, y, place * 2 + shift + ring * FARTHER, ring];
+    }
+  }
+}
+
+export class Labels {
+  #solid = new Places(); #lines = new Places(); #boxes;
+
+  // Boxes are what no text may lie on; paths are lines, which it had better not.
+  constructor(boxes, paths) {
+    this.#boxes = boxes;
+    for (const box of boxes) this.#solid.add(box);
+    for (const part of paths.flatMap(partsOf)) this.#lines.add(part);
+  }
+
+  #cost(rect) {
+    let cost = 0;
+    for (const [left, , right] of this.#lines.over([rect[0], rect[1] - 0.1, rect[2], rect[3] + 0.1])) cost += right > left ? ACROSS : ALONG;
+    return cost;
+  }
+
+  #best(label, form, taken) {
+    const width = Math.max(...form.map((text) => widthOf(text, label.size, label.bold))), height = form.length * label.size * LINE;
+    let best = null;
+    if (label.inside) {
+      const [left, top, right, bottom] = label.box;
+      if (width <= right - left - 4 && height <= bottom - top + 2) return { x: (left + right) / 2, y: (top + bottom - height) / 2, anchor: "middle", form, ring: 0, rect: null };
+    }
+    for (const [x, y, cost, ring] of around(label.box, width, height, label.sides, label.rings ?? RINGS)) {
+      if (best && best.cost <= cost) continue;
+      const rect = [x - PAD, y - PAD, x + width + PAD, y + height + PAD];
+      if (!this.#solid.isFree(rect) || !taken.isFree(rect)) continue;
+      const whole = cost + this.#cost(rect);
+      if (!best || whole < best.cost) best = { x, y, anchor: "start", form, ring, rect, cost: whole };
+    }
+    return best;
+  }
+
+  // Gives each label its place, in their order. A label is { box, size, bold, sides, forms, inside, rings }: forms are
+  // lists of lines, the fullest first. What finds none has null.
+  place(labels) {
+    const taken = new Places();
+    return labels.map((label) => {
+      for (const form of label.forms) {
+        const found = this.#best(label, form, taken);
+        if (!found) continue;
+        if (found.rect) taken.add(found.rect);
+        return found;
+      }
+      return null;
+    });
+  }
+}
+
+// The line from a box to a text that lies farther off.
+export function leaderTo([left, top, right, bottom], [l, t, r, b]) {
+  const near = (low, high, from, to) => Math.min(Math.max((from + to) / 2, low), high);
+  const x = near(l, r, left, right), y = near(t, b, top, bottom);
+  return `M${near(left, right, x, x)},${near(top, bottom, y, y)}L${x},${y}`;
+}
+
+export { LINE };

@@ -1,0 +1,106 @@
+"""A section that was tested live is an alarm at every desk, until it is tested dead or the clearance is released."""
+
+from desk_looks.browser import Differs, wait_until
+from desk_looks.network import granted
+
+CUT = ["N13-Q11", "N13-B1", "N13-Q13"]  # of N13-F11 and N13-F12
+
+
+def without(hand, text, css):
+    look = "return document.querySelector(arguments[0])?.textContent ?? ''"
+    wait_until(lambda: text not in hand.browser.script(look, css), f"{css} to be without {text}")
+
+
+def say_live(hand, section):
+    hand.press(f"live {section}")
+    hand.shows(f"{section}: tested live?", "dialog")
+    hand.shows("On now: C1", "dialog")
+    hand.answer("yes")
+    hand.reply("accepted", "live")
+
+
+def alarmed(hand, section):
+    """On the board, on the diagram, at the clearance, and at the top."""
+    hand.shows(f"TESTED LIVE: {section}", "#alarms")
+    hand.turn("board")
+    hand.shows(f"{section} TESTED LIVE", "main tr[data-id='KIM/1']")
+    hand.turn("clearance/KIM/1")
+    hand.shows("TESTED LIVE", "main .columns tr .live")
+    hand.turn("diagram")
+    hand.shows("KIM/1 TESTED LIVE", "main .net .section-mark.live")
+    hand.browser.find(f'main .net .section.live[data-name="{section}"]')
+
+
+def alarm(stage):
+    test = [{"by": "KIM", "do": "test", "clearance": "KIM/1", "section": "N13-F11", "dead": True}]
+    one = stage.network([*granted("KIM", "N13-F12", CUT, ["C1"]), *test], "clearance/KIM/1")
+    two = stage.window("clearance/KIM/1")
+    one.speak("KIM")
+    two.speak("DISP2")
+    two.shows("tested dead, no ground")
+    one.press("live N13-F11")
+    one.answer("null")
+    say_live(one, "N13-F11")
+    for hand in (one, two):
+        alarmed(hand, "N13-F11")
+    one.picture("live-diagram")
+    one.turn("clearance/KIM/1")
+    one.picture("live")
+    sign_on_asks(one)
+    reloads(one, two)
+    for hand in (one, two):
+        hand.turn("clearance/KIM/1")
+    one.press("dead N13-F11")
+    one.reply("accepted", "dead")
+    for hand in (one, two):
+        without(hand, "TESTED LIVE", "#alarms")
+        without(hand, "TESTED LIVE", "main")
+
+
+def sign_on_asks(hand):
+    hand.browser.type('main [data-name="crew"]', "C2\ue007")
+    hand.shows("Tested live under KIM/1: N13-F11", "dialog")
+    hand.answer("null")
+    if hand.newest()[0] != hand.number:
+        raise Differs("a crew was signed on beside an alarm without consent")
+
+
+def reloads(one, two):
+    """A reload keeps the alarm that was said here. At another desk the section is then not tested, in red."""
+    for hand in (one, two):
+        hand.open("clearance/KIM/1")
+        hand.shows("Granted")
+    one.shows("TESTED LIVE: N13-F11", "#alarms")
+    two.shows("not tested", "main .columns .bad")
+    two.turn("board")
+    two.shows("N13-F11 not tested", "main .bad")
+    two.turn("diagram")
+    two.shows("KIM/1 not tested", "main .net .section-mark.bad")
+
+
+def grounded(stage):
+    """A ground without its test is an alarm at each desk, whenever it was opened; a release ends it."""
+    one = stage.network(granted("KIM", "N13-F12", CUT, ["C1"]), "clearance/KIM/1")
+    one.speak("KIM")
+    say_live(one, "N13-F12")
+    two = stage.window("board")
+    two.speak("DISP2")
+    two.shows("TESTED LIVE: N13-F12", "#alarms")
+    one.turn("clearance/KIM/1")
+    one.press("off C1")
+    one.answer("yes")
+    one.reply("accepted", "off")
+    one.press("ground N13-F12")
+    one.shows("no longer grounded", "dialog")
+    one.answer("yes")
+    one.reply("accepted", "take the ground off")
+    one.shows("TESTED LIVE: N13-F12", "#alarms")
+    one.press("release")
+    one.answer("yes")
+    one.answer("yes")
+    one.reply("accepted", "Released")
+    for hand in (one, two):
+        without(hand, "TESTED LIVE", "#alarms")
+
+
+LOOKS = {"live": alarm, "live grounded": grounded}
