@@ -151,7 +151,7 @@ export class ClearancePage {
     const others = offers.filter((offer) => !mine.includes(offer));
     const keys = mine.map(({ does }) => [does, (SHOWN[does] ?? ((seen) => [seen.card, seen.steps]))(view), caller]);
     const reading = readingOf(view);
-    panel(this.#reading, [view.card.clearance, reading?.textContent], () => reading);
+    if (reading?.textContent !== this.#reading.firstChild?.textContent) this.#reading.replaceChildren(...[reading].filter(Boolean));
     panel(this.#next, [keys, offers.length, caller], () => this.#controls(mine, keys, view, offers.length));
     panel(this.#others, [others, caller], () => (others.length ? [el("h4", {}, caller ? "Others may" : "Who may"), othersList(others, this.#desk)] : []));
   }

@@ -22,7 +22,10 @@ export async function instruct(desk, view, step, act, by = {}) {
 // What is in the way of the present step, kept up to date.
 export function stepNotes(desk, view, step) {
   const node = el("div");
-  return living(node, () => node.replaceChildren(...[findingsList(findingsOf(desk, view, step))].filter(Boolean)));
+  return living(node, () => {
+    const list = findingsList(findingsOf(desk, view, step));
+    if (list?.textContent !== node.firstChild?.textContent) node.replaceChildren(...[list].filter(Boolean));
+  });
 }
 
 export function instructControl({ view, act, desk }) {
