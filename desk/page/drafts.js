@@ -22,11 +22,20 @@ export function keepDraft(name, value) {
   } catch { /* without storage it is gone with the page */ }
 }
 
-export function dropDraft(name) {
+function dropDraft(name) {
   try {
     sessionStorage.removeItem(PREFIX + name);
   } catch { /* as above */ }
   for (const input of document.querySelectorAll(`[data-draft="${CSS.escape(name)}"]`)) input.value = "";
+}
+
+// All drafts of a clearance whose name begins so.
+function dropAll(begin) {
+  const names = [];
+  try {
+    for (let place = 0; place < sessionStorage.length; place++) names.push(sessionStorage.key(place));
+  } catch { /* as above */ }
+  for (const name of names) if (name.startsWith(PREFIX + begin)) dropDraft(name.slice(PREFIX.length));
 }
 
 // A field that begins with what was last typed in it, and keeps what is typed.
@@ -37,7 +46,7 @@ export function drafted(input, name) {
   return input;
 }
 
-// A command was carried out: what was written for it is no longer wanted.
+// A command was carried out: what was written for it, or for the steps before it, is no longer wanted.
 export function dropDraftOf({ do: what, clearance }) {
-  dropDraft(draftName(what, clearance));
+  dropAll(draftName(what, clearance));
 }

@@ -1,6 +1,7 @@
 // Granting a clearance, giving it back, giving it up, and handing it over.
 
 import { ask } from "./ask.js";
+import { drafted, draftName } from "./drafts.js";
 import { el, button, choice, field } from "./elements.js";
 import { namesOfRole } from "./network.js";
 
@@ -57,7 +58,8 @@ export function cancelControl({ view, act }) {
 function handOver({ view, act, staff }, emergency) {
   const { clearance, holder } = view.card;
   const names = namesOfRole(staff, "charge").filter((name) => name !== holder);
-  const to = choice([["", "choose"], ...names.map((name) => [name, name])], { "data-name": `to ${emergency}`, required: true });
+  const pick = choice([["", "choose"], ...names.map((name) => [name, name])], { "data-name": `to ${emergency}`, required: true });
+  const to = drafted(pick, draftName(emergency ? "transfer in an emergency" : "transfer", clearance));
   const send = async (event) => {
     event.preventDefault();
     if (!to.value) return;

@@ -1,14 +1,16 @@
-// No press by accident. A control that has just come takes none for a moment. One that came under the pointer, instead
-// of the pointer coming to it, takes none until the pointer has left it.
+// No press by accident. A control that has just come, or to which the page has just moved the focus, takes none for a
+// moment. One that came under the pointer, instead of the pointer coming to it, takes none until the pointer has left it.
 
 const DEAD = 700;      // milliseconds
 const SCROLLED = 500;  // the same, in which what a wheel moves under the pointer was meant
 const CONTROLS = "button, summary, input[type=checkbox], input[type=radio]";
 
+const BY_HAND = 150;   // the same, after a key or a press, in which the focus was moved by it
 const arrived = new WeakMap(); // control: when it came
+const focused = new WeakMap(); // field or control: when the page moved the focus there
 let last = { x: -1, y: -1, name: "" }; // where the pointer was last moved to, and the control that was there
 let trapped = "";                      // the control that came under it
-let wheel = -SCROLLED;
+let wheel = -SCROLLED, moved = -BY_HAND;
 
 function controlOf(node) {
   return node instanceof Element ? node.closest("label")?.control ?? node.closest(CONTROLS) : null;
@@ -27,14 +29,18 @@ function covers(control, { x, y }) {
 // The pointer is here now. What lies here and lay not here when it came, has come to it.
 function notePointer({ clientX: x, clientY: y, target }) {
   const control = controlOf(target), name = nameOf(control);
-  const moved = x !== last.x || y !== last.y;
+  const still = x === last.x && y === last.y;
   if (control && name !== last.name && name !== trapped && covers(control, last)) trapped = name;
-  else if (moved && name !== trapped) trapped = "";
-  if (moved) last = { x, y, name };
+  else if (!still && name !== trapped) trapped = "";
+  if (!still) last = { x, y, name };
 }
 
-function isNew(control) {
-  return performance.now() - (arrived.get(control) ?? -DEAD) < DEAD;
+const isRecent = (times, node) => performance.now() - (times.get(node) ?? -DEAD) < DEAD;
+const isNew = (control) => isRecent(arrived, control);
+
+function markFresh(node) {
+  node.dataset.fresh = "yes";
+  setTimeout(() => { if (!isNew(node) && !isRecent(focused, node)) delete node.dataset.fresh; }, DEAD + 20);
 }
 
 function hold(event, control) {
@@ -49,12 +55,25 @@ function onClick(event) {
   if (!control) return;
   const byPointer = event.detail > 0 && event.pointerType !== "";
   if (byPointer) notePointer(event);
-  if (isNew(control) || (byPointer && trapped && trapped === nameOf(control))) hold(event, control);
+  const dead = byPointer ? trapped && trapped === nameOf(control) : isRecent(focused, control);
+  if (dead || isNew(control)) hold(event, control);
 }
 
 // A field's Enter presses the form's button.
 function onSubmit(event) {
-  if (event.submitter && isNew(event.submitter)) hold(event, event.submitter);
+  const { submitter, target } = event, focus = document.activeElement;
+  if (submitter && (isNew(submitter) || (target.contains(focus) && isRecent(focused, focus)))) hold(event, submitter);
+}
+
+// Where neither a key nor a press has moved the focus, the page has.
+function onFocus({ target }) {
+  if (performance.now() - moved < BY_HAND) return;
+  focused.set(target, performance.now());
+  if (target.matches?.("button, input, select")) markFresh(target);
+}
+
+function onKey({ key, altKey }) {
+  if (key === "Tab" || altKey) moved = performance.now();
 }
 
 function controlsIn(nodes) {
@@ -70,9 +89,7 @@ function noteChanges(records) {
   }
   for (const control of controlsIn(records.flatMap((record) => [...record.addedNodes]))) {
     arrived.set(control, before.get(nameOf(control)) ?? performance.now());
-    if (!isNew(control)) continue;
-    control.dataset.fresh = "yes";
-    setTimeout(() => { if (!isNew(control)) delete control.dataset.fresh; }, DEAD + 20);
+    if (isNew(control)) markFresh(control);
   }
 }
 
@@ -89,6 +106,9 @@ export function guardPresses() {
   addEventListener("pointerdown", notePointer, true);
   addEventListener("click", onClick, true);
   addEventListener("submit", onSubmit, true);
+  addEventListener("focusin", onFocus, true);
+  addEventListener("keydown", onKey, true);
+  addEventListener("pointerdown", () => { moved = performance.now(); }, true);
   addEventListener("wheel", () => { wheel = performance.now(); }, { capture: true, passive: true });
   addEventListener("scroll", onScroll, true);
 }

@@ -78,6 +78,12 @@ function* around([left, top, right, bottom], width, height, sides, rings) {
   }
 }
 
+// In the middle of its box, in the size that it has there; null where it is too wide.
+function inside({ inside: size, bold, box: [left, top, right, bottom] }, form) {
+  if (widthOf(form[0], size, bold) > right - left - 4) return null;
+  return { x: (left + right) / 2, y: (top + bottom - size * LINE) / 2, size, anchor: "middle", form, ring: 0, rect: null };
+}
+
 export class Labels {
   #solid = new Places(); #lines = new Places(); #boxes;
 
@@ -95,24 +101,22 @@ export class Labels {
   }
 
   #best(label, form, taken) {
-    const width = Math.max(...form.map((text) => widthOf(text, label.size, label.bold))), height = form.length * label.size * LINE;
+    const { size } = label, width = Math.max(...form.map((text) => widthOf(text, size, label.bold))), height = form.length * size * LINE;
+    const within = label.inside ? inside(label, form) : null;
+    if (within) return within;
     let best = null;
-    if (label.inside) {
-      const [left, top, right, bottom] = label.box;
-      if (width <= right - left - 4 && height <= bottom - top + 2) return { x: (left + right) / 2, y: (top + bottom - height) / 2, anchor: "middle", form, ring: 0, rect: null };
-    }
     for (const [x, y, cost, ring] of around(label.box, width, height, label.sides, label.rings ?? RINGS)) {
       if (best && best.cost <= cost) continue;
       const rect = [x - PAD, y - PAD, x + width + PAD, y + height + PAD];
       if (!this.#solid.isFree(rect) || !taken.isFree(rect)) continue;
       const whole = cost + this.#cost(rect);
-      if (!best || whole < best.cost) best = { x, y, anchor: "start", form, ring, rect, cost: whole };
+      if (!best || whole < best.cost) best = { x, y, size, anchor: "start", form, ring, rect, cost: whole };
     }
     return best;
   }
 
   // Gives each label its place, in their order. A label is { box, size, bold, sides, forms, inside, rings }: forms are
-  // lists of lines, the fullest first. What finds none has null.
+  // lists of lines, the fullest first; inside is its size in its box, if it may lie there. What finds none has null.
   place(labels) {
     const taken = new Places();
     return labels.map((label) => {

@@ -69,3 +69,9 @@ export function marksOf(point) {
 export function namesOfRole(staff, role) {
   return [...staff.values()].filter((row) => row.role === role).map((row) => row.name);
 }
+
+// A step as it is said, at a point of this network that is not this one.
+export function exampleStep(network, name) {
+  const other = [...network.points.keys()].find((point) => point !== name);
+  return other ? `OPEN ${other}` : "it was read out";
+}

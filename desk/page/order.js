@@ -1,6 +1,7 @@
 // Writing the isolating order of a clearance that was asked for: the operator picks the points, the page writes the
 // steps that are needed at each of them, and the operator may put them into another order.
 
+import { draft, draftName, keepDraft } from "./drafts.js";
 import { el, button } from "./elements.js";
 import { fenceNotes, offFence } from "./fencing.js";
 import { findingsOfSteps } from "./findings.js";
@@ -35,9 +36,33 @@ export class OrderEditor {
     this.#desk = desk;
     this.#picker = new PointPicker(desk.network, () => this.#picked());
     this.#picker.fence = () => (this.#picker.picked.size ? this.#fence().sections : new Set());
-    this.#list = new StepList();
+    this.#list = new StepList(() => this.#keep());
+    this.#recall();
     this.node = this.#draw();
     desk.pick(this.#picker);
+  }
+
+  #draftName() {
+    return draftName("order", this.#view.card.clearance);
+  }
+
+  #keep() {
+    keepDraft(this.#draftName(), { points: [...this.#picker.picked], steps: this.#list.steps, byPoint: this.#arrange === byPoint });
+  }
+
+  // What was half written before a look elsewhere. The files may have changed since.
+  #recall() {
+    const kept = draft(this.#draftName());
+    if (!kept) return;
+    if (kept.byPoint) this.#arrange = byPoint;
+    this.#picker.take(kept.points);
+    const needed = this.#neededSteps();
+    const same = needed.length === kept.steps.length && needed.every((text) => kept.steps.includes(text));
+    this.#list.set(same ? kept.steps : needed);
+  }
+
+  #neededSteps() {
+    return this.#arrange([...this.#picker.picked].map((name) => this.#network.points.get(name)));
   }
 
   #fence() {
@@ -68,7 +93,7 @@ export class OrderEditor {
   }
 
   #picked() {
-    this.#list.set(this.#arrange([...this.#picker.picked].map((name) => this.#network.points.get(name))));
+    this.#list.set(this.#neededSteps());
     this.#desk.redraw();
   }
 

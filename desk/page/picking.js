@@ -30,6 +30,12 @@ export class PointPicker {
     this.#changed(name, this.picked.has(name));
   }
 
+  // What was picked before a look elsewhere.
+  take(names) {
+    for (const name of names) if (this.#network.points.has(name)) this.picked.add(name);
+    this.#draw();
+  }
+
   #found() {
     const text = this.#filter.value.trim().toUpperCase();
     return [...this.#network.points.values()].filter((point) =>

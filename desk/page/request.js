@@ -1,6 +1,9 @@
 // Asking for a clearance on a section.
 
+import { drafted, draftName, keepDraft } from "./drafts.js";
 import { el, field } from "./elements.js";
+
+const DRAFT = draftName("request");
 
 export class RequestForm {
   #desk; #input;
@@ -11,7 +14,8 @@ export class RequestForm {
   constructor(desk) {
     this.#desk = desk;
     const names = el("datalist", { id: "sections" }, [...desk.network.sections.keys()].map((value) => el("option", { value })));
-    this.#input = el("input", { type: "text", list: "sections", size: 24, autocomplete: "off", "data-name": "section" });
+    this.#input = drafted(el("input", { type: "text", list: "sections", size: 24, autocomplete: "off", "data-name": "section" }), DRAFT);
+    if (this.#input.value) this.picked = new Set([this.#name()]);
     this.#input.addEventListener("input", () => this.#show());
     const send = (event) => {
       event.preventDefault();
@@ -35,6 +39,7 @@ export class RequestForm {
 
   toggle(name) {
     this.#input.value = name;
+    keepDraft(DRAFT, name);
     this.#show();
   }
 

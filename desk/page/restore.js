@@ -3,6 +3,7 @@
 // it stand the normal position and the one before the order; nothing is chosen.
 
 import { positionBefore } from "./before.js";
+import { draft, draftName, keepDraft } from "./drafts.js";
 import { el, button, panel, table } from "./elements.js";
 import { findingsOfSteps } from "./findings.js";
 import { learn, living, mayGo, orderNotes } from "./notes.js";
@@ -23,14 +24,39 @@ function undoingAt({ place, kinds }) {
 }
 
 export class RestoreEditor {
-  #view; #desk; #held; #ends = new Map(); #list = new StepList(() => learn());
+  #view; #desk; #held; #ends = new Map(); #list = new StepList(() => this.#changed());
   node;
 
   constructor(view, desk) {
     this.#view = view;
     this.#desk = desk;
     this.#held = heldPoints(view);
+    this.#recall();
     this.node = this.#draw();
+  }
+
+  #draftName() {
+    return draftName("restore", this.#view.card.clearance);
+  }
+
+  #changed() {
+    keepDraft(this.#draftName(), { ends: [...this.#ends], steps: this.#list.steps });
+    learn();
+  }
+
+  // What was half written before a look elsewhere, where the holds are still those.
+  #recall() {
+    const kept = draft(this.#draftName());
+    if (!kept) return;
+    this.#ends = new Map(kept.ends.filter(([place]) => this.#held.some((one) => one.place === place)));
+    const needed = this.#neededSteps();
+    const same = needed.length === kept.steps.length && needed.every((text) => kept.steps.includes(text));
+    this.#list.set(same ? kept.steps : needed);
+  }
+
+  #neededSteps() {
+    return this.#held.filter(({ place }) => this.#ends.has(place))
+      .flatMap((one) => [...undoingAt(one), `${this.#ends.get(one.place)} ${one.place}`]);
   }
 
   #draw() {
@@ -47,7 +73,7 @@ export class RestoreEditor {
     const state = this.#desk.states().get(held.place);
     const normal = state?.point.normal === "open" ? "LEAVE" : "CLOSE";
     const end = (action) => el("label", { class: "radio" },
-      el("input", { type: "radio", name: `end-${held.place}`, value: action, "data-name": `${action} ${held.place}`, onchange: () => this.#end(held, action) }),
+      el("input", { type: "radio", name: `end-${held.place}`, value: action, checked: this.#ends.get(held.place) === action, "data-name": `${action} ${held.place}`, onchange: () => this.#end(held, action) }),
       `${action} ${held.place}`, state && action === normal ? el("span", { class: "hint" }, ` normally ${state.point.normal}`) : null);
     return el("tr", { "data-point": held.place }, el("th", { scope: "row" }, held.place),
       el("td", { "data-name": "normal" }, state ? el("strong", {}, state.point.normal) : "not in the files"),
@@ -69,9 +95,7 @@ export class RestoreEditor {
 
   #end(held, action) {
     this.#ends.set(held.place, action);
-    const steps = this.#held.filter(({ place }) => this.#ends.has(place))
-      .flatMap((one) => [...undoingAt(one), `${this.#ends.get(one.place)} ${one.place}`]);
-    this.#list.set(steps);
+    this.#list.set(this.#neededSteps());
   }
 
   async #send() {

@@ -67,7 +67,7 @@ export function severalControl({ view, act, staff, desk, caller }) {
   const fields = namesOfRole(staff, "field"), { clearance } = view.card;
   const giver = nameChoice("giver", namesOfRole(staff, "operator"), kept.giver ?? caller?.name);
   const hearer = nameChoice("hearer", fields, kept.hearer), reporter = nameChoice("reporter", fields, step.reader ?? kept.hearer);
-  const heard = heardInput();
+  const heard = heardInput(view, step);
   const does = {
     giver: () => by(giver) && instruct(desk, view, step, act, by(giver)),
     hearer: () => by(hearer) && repeatAs(view, step, heard.value.trim(), act, by(hearer)),

@@ -1,8 +1,10 @@
 // The steps of a clearance: their table, the repeat and the report of a step, and amend beside them.
 
 import { ask } from "./ask.js";
+import { drafted, draftName } from "./drafts.js";
 import { el, button, field, table } from "./elements.js";
 import { findingsOfSteps } from "./findings.js";
+import { exampleStep } from "./network.js";
 import { findingsList } from "./notes.js";
 import { stateWord } from "./words.js";
 import { presentStep, waitingCloses } from "./who.js";
@@ -39,25 +41,25 @@ export async function repeatAs(view, step, text, act, by = {}) {
 }
 
 // The field for what was heard, in capitals.
-export function heardInput() {
+export function heardInput(view, step) {
   const input = el("input", { type: "text", autocomplete: "off", autocapitalize: "characters", spellcheck: "false", "data-name": "repeat-text", size: 24 });
   input.addEventListener("input", () => {
     const place = input.selectionStart;
     input.value = input.value.toUpperCase();
     input.setSelectionRange(place, place);
   });
-  return input;
+  return drafted(input, draftName(`repeat ${view.card.round}.${step.number}`, view.card.clearance));
 }
 
-export function repeatControl({ view, act }) {
-  const step = presentStep(view);
-  const input = heardInput();
+export function repeatControl({ view, act, network }) {
+  const step = presentStep(view), point = step.text.split(" ")[1];
+  const input = heardInput(view, step);
   const send = (event) => {
     event.preventDefault();
     repeatAs(view, step, input.value.trim(), act);
   };
   return el("form", { class: "offer", onsubmit: send },
-    field(`Step ${step.number}, repeated as you heard it`, input, "word for word, as OPEN S2"),
+    field(`Step ${step.number}, repeated as you heard it`, input, `word for word, as ${exampleStep(network, point)}`),
     el("button", { class: "main", "data-name": "repeat" }, `Repeat step ${step.number}`));
 }
 

@@ -1,9 +1,12 @@
 // Writing a switch order: points that are opened and closed, and nothing is held.
 
+import { draft, draftName, keepDraft } from "./drafts.js";
 import { el, button } from "./elements.js";
 import { findingsOfSteps } from "./findings.js";
 import { learn, mayGo, orderNotes, pickedNotes } from "./notes.js";
 import { PointPicker, StepList } from "./picking.js";
+
+const DRAFT = draftName("switch");
 
 export class SwitchEditor {
   #desk; #picker; #chosen = el("div", { class: "answers" }); #list;
@@ -12,20 +15,40 @@ export class SwitchEditor {
   constructor(desk) {
     this.#desk = desk;
     this.#picker = new PointPicker(desk.network, (name, on) => this.#picked(name, on));
-    this.#list = new StepList(() => learn(), (place) => this.#list.set(this.#list.steps.filter((_, at) => at !== place)));
+    this.#list = new StepList(() => this.#changed(), (place) => this.#list.set(this.#list.steps.filter((_, at) => at !== place)));
     this.node = el("div", { class: "offer editor" },
       el("p", {}, "Pick the points, and say of each whether it is to be opened or closed. A switch order holds nothing."),
       this.#picker.node, pickedNotes(desk, () => this.#picker.picked, null), this.#chosen,
       el("h3", {}, "Steps, in their order"), this.#list.node, orderNotes(desk, () => this.#list.steps, null),
       button("Give the switch order", () => this.#send(), { class: "main", "data-name": "switch" }));
     desk.pick(this.#picker);
+    this.#recall();
+  }
+
+  // What was half written before a look elsewhere.
+  #recall() {
+    const kept = draft(DRAFT);
+    if (!kept) return;
+    this.#picker.take(kept.points);
+    this.#drawChosen();
+    this.#list.set(kept.steps.filter((text) => this.#picker.picked.has(text.split(" ")[1])));
+  }
+
+  #changed() {
+    keepDraft(DRAFT, { points: [...this.#picker.picked], steps: this.#list.steps });
+    learn();
   }
 
   #picked(name, on) {
     if (!on) this.#list.set(this.#list.steps.filter((text) => text.split(" ")[1] !== name));
+    else this.#changed();
+    this.#drawChosen();
+    this.#desk.redraw();
+  }
+
+  #drawChosen() {
     this.#chosen.replaceChildren(...[...this.#picker.picked].flatMap((point) => ["OPEN", "CLOSE"].map((action) =>
       button(`${action} ${point}`, () => this.#list.set([...this.#list.steps, `${action} ${point}`]), { "data-name": `${action} ${point}` }))));
-    this.#desk.redraw();
   }
 
   async #send() {

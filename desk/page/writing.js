@@ -8,14 +8,15 @@ import { formsOf, holdMarks } from "./marks.js";
 import { isOffNormal } from "./positions.js";
 
 const NAME = 12.5, LABEL = 11, MARK = 10.5; // sizes in the drawing, from near by
-const LEAST = 9;                            // the size of a label on the screen, in pixels, from far off
+const LEAST = 8;                            // the size of a label on the screen, in pixels, from far off
+const LEAST_INSIDE = 7.4;                   // that of a name in its box
 const PART = 8;                             // a size is rounded up to such a part of itself
 const HALF = 7, FEED = 28;                  // half a point; what a source has at its left
 const KINDS = ["live", "bad", "plain"];     // of the marks at a section, the worst first
 const SIDES = { row: ["above", "below", "right", "left"], upright: ["right", "left", "below", "above"], lane: ["above", "below", "right", "left"] };
 
 export class Writing {
-  #network; #plan; #labels; #factor = 1; #seen = null; #key = "";
+  #network; #plan; #labels; #factor = 1; #inside = NAME; #seen = null; #key = "";
   node = svg("g", { class: "writing" });
 
   constructor(network, plan) {
@@ -38,8 +39,10 @@ export class Writing {
   // The scale at which the drawing is shown.
   atScale(scale) {
     const factor = Math.max(1, Math.ceil((LEAST / (LABEL * scale)) * PART) / PART);
-    if (factor === this.#factor) return;
+    const inside = NAME * scale >= LEAST_INSIDE ? NAME : 0;
+    if (factor === this.#factor && inside === this.#inside) return;
     this.#factor = factor;
+    this.#inside = inside;
     if (this.#seen) this.write(this.#seen);
   }
 
@@ -47,7 +50,7 @@ export class Writing {
   write(seen) {
     this.#seen = seen;
     const labels = [...this.#sectionLabels(seen), ...this.#pointLabels(seen)];
-    const key = JSON.stringify([this.#factor, labels.map(({ rank, forms, kind }) => [rank, forms, kind])]);
+    const key = JSON.stringify([this.#factor, this.#inside, labels.map(({ rank, forms, kind }) => [rank, forms, kind])]);
     if (key === this.#key) return;
     this.#key = key;
     labels.sort((a, b) => a.rank - b.rank);
@@ -68,7 +71,7 @@ export class Writing {
     return [...this.#plan.spots.values()].flatMap((spot) => {
       const { name } = spot, own = marks.get(name) ?? [], box = this.#boxOf(spot), { source } = this.#network.sections.get(name);
       const matters = found.has(name) || own.length || fence.has(name);
-      const names = this.#label(NAME, { of: name, kind: "name", box, inside: true, sides: ["above", "below"],
+      const names = this.#label(NAME, { of: name, kind: "name", box, inside: this.#inside, sides: ["above", "below"],
         forms: [[`${picked("section", name) ? "✓ " : ""}${name}`]], rank: this.#rank(0, matters ? 0.5 : source ? 3 : 5) });
       if (!own.length) return [names];
       const lines = [...own].sort((a, b) => KINDS.indexOf(a.kind) - KINDS.indexOf(b.kind)), isLive = lines[0].kind === "live";
@@ -89,7 +92,7 @@ export class Writing {
     });
   }
 
-  #drawn({ of, kind, kinds = [], size, box }, { x, y, anchor, form, ring, rect }) {
+  #drawn({ of, kind, kinds = [], box }, { x, y, size, anchor, form, ring, rect }) {
     const texts = form.map((text, line) => svg("text", {
       class: `${kind} ${kinds[line] ?? ""}`, "data-of": of, x, y: y + line * size * LINE + size * 0.93, "font-size": size, "text-anchor": anchor }, text));
     return ring > 0 ? [svg("path", { class: "leader", d: leaderTo(box, rect) }), ...texts] : texts;

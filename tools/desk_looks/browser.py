@@ -133,6 +133,8 @@ class Browser:
 
     def type(self, css, text):
         self.settled(css)
+        self.script("document.querySelector(arguments[0])?.focus()", css)
+        self.settled(css)
         self.own("POST", f"/element/{self.find(css)}/value", {"text": text})
 
     def keys(self, text):

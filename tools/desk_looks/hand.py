@@ -1,9 +1,12 @@
 """An operator's acts at the page, for the looks."""
 
+import json
 import os
 import time
+import urllib.error
+import urllib.request
 
-from desk_looks.browser import ENTER, LONG, TAB, Differs, say, wait_until
+from desk_looks.browser import ENTER, LONG, TAB, Differs, direct, say, wait_until
 
 
 class Hand:
@@ -37,6 +40,15 @@ class Hand:
 
     def answer(self, value):
         self.browser.click(f'dialog [data-answer="{value}"]')
+
+    def post(self, command, at=None):
+        """Another desk's command, now; it is accepted."""
+        body = json.dumps(dict(command, at=int(time.time()) if at is None else at)).encode()
+        request = urllib.request.Request(f"{self.desk.address}command", body, {"Content-Type": "application/json"})
+        try:
+            direct.open(request, timeout=20).close()
+        except urllib.error.HTTPError as fault:
+            raise Differs(f"another desk's {command}: {fault.read().decode()}") from None
 
     def newest(self):
         return self.browser.script("""const one = document.querySelector('#replies li[data-number]');

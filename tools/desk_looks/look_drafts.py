@@ -1,0 +1,87 @@
+"""What is half written lives through a look elsewhere, another desk's act and a reload; an example names a point of this
+network."""
+
+from desk_looks.browser import Differs, wait_until
+from desk_looks.network import granted, ordered, points, released, step
+
+CUT = ["N13-Q11", "N13-B1", "N13-Q13"]
+
+
+def reload(hand):
+    hand.browser.own("POST", "/refresh", {})
+    wait_until(lambda: hand.browser.script("return document.body.dataset.ready === 'yes'"), "the page again")
+    hand.number = 0
+
+
+def has(hand, name, value):
+    wait_until(lambda: hand.browser.script("return document.querySelector(arguments[0])?.value", f'main [data-name="{name}"]') == value, f"{name} to have {value}")
+
+
+def orders(stage):
+    hand = stage.network([{"by": "KIM", "do": "request", "section": "N13-F12"}, *released("JONES", "N11-F13", ["N11-Q13", "TIE1-N11-N12"])], "clearance/KIM/1")
+    hand.speak("DISP1")
+    for point in CUT[:2]:
+        hand.press(f"pick {point}")
+    hand.press("by-point")
+    hand.press("down OPEN N13-Q11")
+    steps = texts(hand)
+    hand.turn("board")
+    hand.turn("switch")
+    hand.press("pick N15-Q21")
+    hand.press("OPEN N15-Q21")
+    hand.turn("clearance/JONES/1")
+    hand.press("LEAVE TIE1-N11-N12")
+    for again in (lambda: hand.turn("board"), lambda: reload(hand)):
+        again()
+        hand.turn("clearance/KIM/1")
+        hand.shows("TAG N13-B1", "main .steplist")
+        if texts(hand) != steps:
+            raise Differs(f"the order has {texts(hand)}, and had {steps}")
+        hand.turn("clearance/JONES/1")
+        hand.shows("LEAVE TIE1-N11-N12", "main .steplist")
+        hand.turn("switch")
+        hand.shows("OPEN N15-Q21", "main .steplist")
+    hand.press("switch")
+    hand.reply("accepted", "DISP1/1")
+    hand.turn("switch")
+    hand.shows("no steps yet", "main .steplist")
+
+
+def texts(hand):
+    return hand.browser.script("return [...document.querySelectorAll('main .steplist .text')].map((node) => node.textContent)")
+
+
+def fields(stage):
+    """A crew's name and a repeat, while another desk touches the clearances."""
+    start = [*granted("KIM", "N13-F12", CUT, ["C1"]), *ordered("LEE", "N11-F13", ["N11-Q13", "TIE1-N11-N12"]), *step("LEE/1", 1, "OPEN N11-Q13", "instruct")]
+    hand = stage.network(start, "clearance/KIM/1")
+    hand.speak("KIM")
+    hand.browser.type('main [data-name="crew"]', "C2")
+    hand.post({"by": "KIM", "do": "sign_on", "clearance": "KIM/1", "crew": "C3"})
+    hand.shows("C3 is on")
+    has(hand, "crew", "C2")
+    hand.turn("board")
+    hand.turn("clearance/KIM/1")
+    has(hand, "crew", "C2")
+    hand.turn("clearance/LEE/1")
+    hand.speak("REED")
+    hand.browser.type('main [data-name="repeat-text"]', "open n11")
+    hand.post({"by": "DALE", "do": "repeat", "clearance": "LEE/1", "step": 1, "text": "OPEN N11-Q13"})
+    hand.shows("repeated, not yet reported")
+    has(hand, "repeat-text", "OPEN N11")
+    reload(hand)
+    has(hand, "repeat-text", "OPEN N11")
+
+
+def example(stage):
+    """Not the step that is to be repeated, either."""
+    hand = stage.network([*ordered("LEE", "N11-F13", ["N11-Q13", "TIE1-N11-N12"]), *step("LEE/1", 1, "OPEN N11-Q13", "instruct")], "clearance/LEE/1")
+    hand.speak("REED")
+    hand.shows("word for word, as OPEN ")
+    text = hand.browser.script("return document.querySelector('main .next').textContent")
+    name = text.split("word for word, as OPEN ")[1].split("Repeat")[0].strip()
+    if name not in {row[0] for row in points()} - {"N11-Q13"}:
+        raise Differs(f"the example names {name}")
+
+
+LOOKS = {"drafts": orders, "draft-fields": fields, "example": example}
