@@ -1,0 +1,154 @@
+"""No act by accident: a control that comes under the pointer takes no press until the pointer has left it; a list under
+the pointer, or under a focused field, waits; what gives something up is asked about."""
+
+import time
+
+from desk_looks.browser import ENTER, Differs, say, wait_until
+from desk_looks.network import granted, ordered
+
+CUT = ["N13-Q11", "N13-B1", "N13-Q13"]
+
+
+def middle(hand, css):
+    hand.browser.script("document.querySelector(arguments[0]).scrollIntoView({block: 'center'})", css)
+    return hand.browser.script("const r = document.querySelector(arguments[0]).getBoundingClientRect(); return [Math.round(r.left + r.width / 2), Math.round(r.top + r.height / 2)]", css)
+
+
+def under(hand, place):
+    return hand.browser.script("return document.elementFromPoint(...arguments)?.closest('button, a')?.dataset.name ?? ''", *place)
+
+
+def asked(hand):
+    return hand.browser.script("return document.querySelector('dialog') !== null")
+
+
+def double_press(stage):
+    """Of four crews one is signed off; presses that go on at the same place sign off no other."""
+    hand = stage.network(granted("KIM", "N13-F12", CUT, ["C1", "C2", "C3", "C4"]), "clearance/KIM/1")
+    hand.speak("KIM")
+    name = 'main [data-name="off C1"]'
+    hand.browser.settled(name)
+    place = middle(hand, name)
+    hand.browser.point(1, 1, *place)
+    hand.browser.press()
+    hand.shows("Sign C1 off?", "dialog")
+    wait_until(lambda: not hand.browser.script("return document.querySelector('dialog [data-fresh]') !== null"), "a settled question")
+    hand.browser.script("document.querySelector('dialog [data-answer=yes]').click()")
+    hand.reply("accepted", "sign crew C1 off")
+    wait_until(lambda: under(hand, place).startswith("off "), "another crew's button under the pointer")
+    say(f"  under the pointer now: {under(hand, place)}")
+    for pause in (0.1, 0.3, 0.4, 0.8, 1.2):
+        time.sleep(pause)
+        hand.browser.press()
+        if asked(hand) or hand.newest()[0] != hand.number:
+            raise Differs(f"a press at the same place did something: {hand.newest()[2]}")
+    hand.browser.point(place[0] + 2, place[1])
+    hand.browser.press()
+    if asked(hand):
+        raise Differs("a press after two pixels did something")
+    hand.browser.point(1, 1, *place)
+    time.sleep(0.8)
+    hand.browser.press()
+    hand.shows("off?", "dialog")
+    hand.answer("null")
+
+
+def new_control(stage):
+    """What has just come takes no press for 700 ms, by the pointer or by Enter."""
+    hand = stage.network(ordered("LEE", "N11-F13", ["N11-Q13", "TIE1-N11-N12"]), "clearance/LEE/1")
+    hand.speak("DISP1")
+    hand.press("instruct")
+    hand.reply("accepted", "instruct step 1")
+    begun = time.monotonic()
+    hand.browser.script("document.querySelector('[data-name=\"as REED\"], main select[aria-label=\"Speak as\"]').focus()")
+    hand.speak("REED")
+    hand.browser.type('main [data-name="repeat-text"]', "OPEN N11-Q13" + ENTER)
+    hand.reply("accepted", "repeat step 1")
+    wait_until(lambda: hand.browser.script("const one = document.querySelector('main [data-name=done]'); one?.click(); return one !== null"), "the report")
+    if hand.newest()[0] != hand.number or time.monotonic() - begun > 60:
+        raise Differs("a report that had just come was sent")
+    hand.press("done")
+    hand.reply("accepted", "done")
+
+
+def waiting(stage):
+    """Another desk's crew does not move the list under the pointer: it waits, until the pointer leaves or 15 seconds."""
+    hand = stage.network(granted("KIM", "N13-F12", CUT, ["C2"]), "clearance/KIM/1")
+    hand.speak("KIM")
+    name = 'main [data-name="off C2"]'
+    hand.browser.settled(name)
+    place = middle(hand, name)
+    hand.browser.point(1, 1, *place)
+    hand.post({"by": "KIM", "do": "sign_on", "clearance": "KIM/1", "crew": "C1"})
+    hand.browser.find("main [data-changed]")
+    hand.picture("changed")
+    time.sleep(1)
+    if under(hand, place) != "off C2":
+        raise Differs(f"under the pointer is {under(hand, place)}")
+    hand.browser.point(1, 1)
+    hand.shows("C1 is on")
+    place = middle(hand, name)
+    hand.browser.point(1, 1, *place)
+    hand.post({"by": "KIM", "do": "sign_on", "clearance": "KIM/1", "crew": "A1"})
+    begun = time.monotonic()
+    hand.browser.find("main [data-changed]")
+    hand.shows("A1 is on")
+    took = time.monotonic() - begun
+    if not 10 < took < 22:
+        raise Differs(f"the list under the pointer was drawn after {took:.0f} seconds")
+    time.sleep(0.9)
+    hand.browser.press()
+    if asked(hand):
+        raise Differs("what came under the pointer after 15 seconds took a press")
+
+
+def field(stage):
+    """Nor under a field that has the focus; and the board does so too."""
+    hand = stage.network(granted("KIM", "N13-F12", CUT, ["C2"]), "clearance/KIM/1")
+    hand.speak("KIM")
+    hand.browser.type('main [data-name="crew"]', "C9")
+    hand.browser.point(1, 1)
+    hand.post({"by": "KIM", "do": "sign_on", "clearance": "KIM/1", "crew": "C1"})
+    hand.browser.find("main .next [data-changed]")
+    hand.browser.script("document.activeElement.blur()")
+    hand.shows("C1 is on")
+    hand.turn("board")
+    hand.shows("KIM/1")
+    place = middle(hand, 'main [data-name="KIM/1"]')
+    hand.browser.point(1, 1, *place)
+    hand.post({"by": "JONES", "do": "request", "section": "N11-F11"})
+    hand.browser.find("main [data-changed]")
+    if under(hand, place) != "KIM/1":
+        raise Differs(f"under the pointer on the board is {under(hand, place)}")
+    hand.browser.point(1, 1)
+    hand.shows("JONES/1", "main .board")
+
+
+def questions(stage):
+    """Grant, ground off, crew off and release are asked about, each with what it means."""
+    hand = stage.network(granted("KIM", "N13-F12", CUT, ["C1"])[:-4], "clearance/KIM/1")
+    hand.speak("DISP1")
+    hand.press("grant")
+    hand.shows("nobody takes a grant back", "dialog")
+    hand.answer("null")
+    hand.press("grant")
+    hand.answer("yes")
+    hand.reply("accepted", "Granted")
+    for commands in ({"do": "test", "section": "N13-F12", "dead": True}, {"do": "ground", "section": "N13-F12"}, {"do": "sign_on", "crew": "C1"}):
+        hand.post({"by": "KIM", "clearance": "KIM/1", **commands})
+    hand.speak("KIM")
+    hand.press("off C1")
+    hand.shows("have left the work", "dialog")
+    hand.answer("yes")
+    hand.reply("accepted", "off")
+    hand.press("ground N13-F12")
+    hand.shows("no longer grounded", "dialog")
+    hand.answer("yes")
+    hand.reply("accepted", "take the ground off")
+    hand.press("release")
+    hand.shows("gives the line back", "dialog")
+    hand.answer("null")
+    hand.same_reply("accepted", "take the ground off")
+
+
+LOOKS = {"double press": double_press, "new control": new_control, "changed": waiting, "changed field": field, "questions": questions}
