@@ -150,7 +150,7 @@ export class ClearancePage {
     const mine = offers.filter((offer) => caller && offer.names.includes(caller));
     const others = offers.filter((offer) => !mine.includes(offer));
     const keys = mine.map(({ does }) => [does, (SHOWN[does] ?? ((seen) => [seen.card, seen.steps]))(view), caller]);
-    const reading = readingOf(view);
+    const reading = readingOf(view, () => this.#drawNext(view));
     if (reading?.textContent !== this.#reading.firstChild?.textContent) this.#reading.replaceChildren(...[reading].filter(Boolean));
     panel(this.#next, [keys, offers.length, caller], () => this.#controls(mine, keys, view, offers.length));
     panel(this.#others, [others, caller], () => (others.length ? [el("h4", {}, caller ? "Others may" : "Who may"), othersList(others, this.#desk)] : []));

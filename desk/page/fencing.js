@@ -4,19 +4,30 @@ import { el, panel } from "./elements.js";
 import { living } from "./notes.js";
 import { fenceOf, wayWords } from "./grid.js";
 
-const MOST_WAYS = 4;
+const MOST_NAMED = 12;
 
-// Why a picked point does not belong to the fence; nothing where it does.
+// Why a picked point does not belong to the fence; nothing where it does, or may do once no source is reached.
 export function offFence(network, fence, name) {
   const point = network.points.get(name);
   const ends = [point.from, point.to].filter((end) => fence.sections.has(end)).length;
-  if (ends === 1) return [];
+  if (ends === 1 || (ends && fence.sources.length)) return [];
   const why = ends ? "both its ends are inside the fence" : "neither of its ends is in the fence";
   return [{ text: `would be refused (NOT_ON_FENCE): ${why}`, asks: false }];
 }
 
-function sourceLine({ source, way }) {
-  return el("li", { class: "asks" }, `⚠ the source ${source} is still reached: ${wayWords(way)}`);
+function sectionWords(names) {
+  return names.length > MOST_NAMED ? `${names.length} sections` : names.join(", ");
+}
+
+// The nearest source with the way to it; the others, which often have most of that way in common, on demand.
+function sourceWords([first, ...others]) {
+  return [
+    el("ul", { class: "findings" },
+      el("li", { class: "asks" }, `⚠ the source ${first.source} is still reached: ${wayWords(first.way)}`),
+      el("li", {}, "By this the order would be refused (SOURCE_INSIDE): pick a point on the way.")),
+    others.length ? el("details", {}, el("summary", {}, `${others.map(({ source }) => source).join(", ")} too`),
+      others.map(({ way }) => el("p", {}, wayWords(way)))) : null,
+  ];
 }
 
 // What the fence has in it, and each source with the way to it.
@@ -26,10 +37,8 @@ export function fenceNotes(network, work, picked) {
     const { sections, sources } = fenceOf(network, work, picked());
     const names = [...sections].sort();
     panel(node, [picked().size, names, sources], () => (picked().size ? [
-      el("p", {}, `The fence of these points, hatched: ${names.slice(0, 12).join(", ")}${names.length > 12 ? ` and ${names.length - 12} more` : ""}.`),
-      sources.length ? el("ul", { class: "findings" }, sources.slice(0, MOST_WAYS).map(sourceLine),
-        sources.length > MOST_WAYS ? el("li", { class: "asks" }, `and ${sources.length - MOST_WAYS} more sources`) : null,
-        el("li", {}, "by this the order would be refused (SOURCE_INSIDE): pick a point on each way")) : el("p", { class: "good" }, "✓ No source is reached."),
+      el("p", {}, `The fence of these points, hatched: ${sectionWords(names)}.`),
+      ...(sources.length ? sourceWords(sources) : [el("p", { class: "good" }, "✓ No source is reached.")]),
     ] : el("p", { class: "hint" }, "Pick a point, and the fence is hatched.")));
   });
 }

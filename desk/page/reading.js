@@ -3,7 +3,7 @@
 
 import { el, button } from "./elements.js";
 import { findingsAt } from "./findings.js";
-import { gaveHere } from "./given.js";
+import { gaveHere, noteGiven } from "./given.js";
 import { findingsList, living, mayGo } from "./notes.js";
 import { presentStep } from "./who.js";
 
@@ -36,15 +36,20 @@ export function instructControl({ view, act, desk }) {
     button(`Instruct step ${step.number}`, () => instruct(desk, view, step, act), { class: "main", "data-name": "instruct" }));
 }
 
-// What stands above the controls while a step is given out: the text where it was given, at other desks a word of that.
-export function readingOf(view) {
-  const step = presentStep(view);
-  const here = gaveHere(view, step);
+// What is above the controls while a step is given out. Where it was given, the text; at other desks a word of that. Where
+// the reply was lost, another desk's instruct may have been the one: people have to agree before one of them speaks.
+export function readingOf(view, changed) {
+  const step = presentStep(view), here = gaveHere(view, step);
   if (step?.state !== "Instructed") return null;
-  if (here) {
+  const { clearance } = view.card, name = `Step ${step.number} of ${clearance}`;
+  if (here === "yes") {
     return el("div", { class: "read-out", role: "status", "data-name": "read-out" },
-      el("p", {}, `Read this out: step ${step.number} of ${view.card.clearance}`), el("strong", {}, step.text));
+      el("p", {}, `Read this out: step ${step.number} of ${clearance}`), el("strong", {}, step.text));
   }
-  return el("p", { class: "elsewhere" }, `Step ${step.number} was given out at another desk, which says it on the line. `
-    + "Where no desk has it, have it repeated and reported as not done.");
+  if (here === "perhaps") {
+    return el("div", { class: "elsewhere" }, el("p", {}, `${name} is given out; this desk's reply was lost. Ask the other desks whether one of them gave it.`),
+      button("No other desk gave it: show the text", () => { noteGiven({ clearance, step: step.number }); changed(); }, { "data-name": "mine" }));
+  }
+  return el("p", { class: "elsewhere" }, `${name} was given out at another desk, which says it on the line. `
+    + "If none did, have it repeated and reported as not done.");
 }

@@ -63,7 +63,7 @@ export class RestoreEditor {
     const { clearance } = this.#view.card;
     return el("div", { class: "offer editor" },
       el("p", {}, `Restoring order of ${clearance}. Choose at each point what it ends with.`),
-      table(["Point", "Normally", "Before the order", "Held there", "It ends with"], this.#held.map((held) => this.#row(held)), { class: "ends" }),
+      table(["Point", "Normally", "Before the order", "It ends with"], this.#held.map((held) => this.#row(held)), { class: "ends" }),
       el("h3", {}, "Steps"), this.#list.node, orderNotes(this.#desk, () => this.#list.steps, clearance),
       button(`Give the restoring order of ${clearance}`, () => this.#send(), { class: "main", "data-name": "restore" }));
   }
@@ -73,19 +73,20 @@ export class RestoreEditor {
     const state = this.#desk.states().get(held.place);
     const normal = state?.point.normal === "open" ? "LEAVE" : "CLOSE";
     const end = (action) => el("label", { class: "radio" },
-      el("input", { type: "radio", name: `end-${held.place}`, value: action, checked: this.#ends.get(held.place) === action, "data-name": `${action} ${held.place}`, onchange: () => this.#end(held, action) }),
-      `${action} ${held.place}`, state && action === normal ? el("span", { class: "hint" }, ` normally ${state.point.normal}`) : null);
-    return el("tr", { "data-point": held.place }, el("th", { scope: "row" }, held.place),
-      el("td", { "data-name": "normal" }, state ? el("strong", {}, state.point.normal) : "not in the files"),
+      el("input", { type: "radio", name: `end-${held.place}`, value: action, checked: this.#ends.get(held.place) === action,
+        "data-name": `${action} ${held.place}`, "aria-label": `${action} ${held.place}`, onchange: () => this.#end(held, action) }),
+      action, state && action === normal ? el("span", { class: "hint" }, " (normal)") : null);
+    const others = [...new Set(other.map((hold) => hold.by))].join(", ");
+    return el("tr", { "data-point": held.place },
+      el("th", { scope: "row" }, held.place, el("p", { class: "hint" }, held.kinds.map(holdWord).join(", "), others ? `; also ${others}` : "")),
+      el("td", { "data-name": "normal", "data-head": "Normally" }, state ? el("strong", {}, state.point.normal) : "not in the files"),
       this.#before(held.place),
-      el("td", {}, held.kinds.map(holdWord).join(", "),
-        other.length ? el("p", { class: "hint" }, `also ${[...new Set(other.map((hold) => hold.by))].join(", ")}`) : null),
-      el("td", {}, end(normal), end(normal === "CLOSE" ? "LEAVE" : "CLOSE")));
+      el("td", { class: "choices" }, end(normal), end(normal === "CLOSE" ? "LEAVE" : "CLOSE")));
   }
 
   // What is known of it may come later than the form.
   #before(name) {
-    const cell = el("td", { "data-name": "before" });
+    const cell = el("td", { "data-name": "before", "data-head": "Before the order" });
     return living(cell, () => {
       const state = this.#desk.states().get(name);
       const { position, from } = state ? positionBefore(state, this.#view.card.clearance) : { position: null, from: "not in the files" };

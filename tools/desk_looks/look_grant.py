@@ -32,6 +32,8 @@ def elsewhere(stage):
         places[width] = [hand.rect('main [data-name="instruct"]')]
     hand.press("instruct")
     hand.reply("accepted")
+    if hand.there('main [data-name="grant"]'):
+        raise Differs("a grant is offered while the last step is out")
     hand.speak("REED")
     hand.browser.type('main [data-name="repeat-text"]', texts[-1] + ENTER)
     hand.reply("accepted")
