@@ -100,7 +100,7 @@ function card(view, line, staff) {
 
 export class ClearancePage {
   #desk; #id; #made = new Map(); #missing = false;
-  #card = el("div"); #reading = el("div"); #next = el("div", { class: "next-body" }); #others = el("div"); #steps = el("div"); #facts = el("div");
+  #card = el("div", { class: "card-place" }); #reading = el("div"); #next = el("div", { class: "next-body" }); #others = el("div"); #steps = el("div", { class: "steps-place" }); #facts = el("div", { class: "facts-place" });
   #heading = el("h3", { tabindex: -1, id: "next" }, "Next");
   title;
   node;

@@ -47,12 +47,12 @@ def overprinted(hand, where):
 def texts(stage):
     hand = stage.network(busy(), "diagram")
     hand.speak("DISP1")
-    hand.shows("LEE/1", "main .net .writing")
+    hand.shows("LEE/1", "main .net")
     hand.browser.type(".tools input", "N13-F12" + ENTER)
     hand.picture("texts-near")
     overprinted(hand, "from near by")
     for name in ("JONES/1", "KIM/1", "OWENS/1", "TIE1-N12-N13"):
-        hand.shows(name, "main .net .writing")
+        hand.shows(name, "main .net")
     hand.turn("clearance/JONES/1")
     overprinted(hand, "beside a clearance")
 
@@ -60,12 +60,12 @@ def texts(stage):
 def far_off(stage):
     hand = stage.network(busy(), "diagram")
     hand.speak("DISP1")
-    hand.shows("LEE/1", "main .net .writing")
+    hand.shows("LEE/1", "main .net")
     hand.browser.click(".tools button:first-child")
     count = overprinted(hand, "the whole network")
     hand.picture("texts-whole")
     for name in ("GRID-1", "JONES/1", "N13-F12", "N15-BUS"):
-        hand.shows(name, "main .net .writing")
+        hand.shows(name, "main .net")
     if count < 60:
         raise Differs(f"the whole network has {count} texts")
 
