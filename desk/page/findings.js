@@ -6,12 +6,25 @@ import { isOffNormal } from "./positions.js";
 import { room } from "./watch.js";
 import { holdWord } from "./words.js";
 
+function crewWords(crews) {
+  return crews.length ? `, ${crews.length === 1 ? "crew" : "crews"} ${crews.join(", ")} on` : "";
+}
+
+// A clearance with its phase and its crews, as OWENS/1 (Granted, crew C7 on).
+function nameWords(id) {
+  const view = room.views.get(id);
+  return view ? `${id} (${view.card.phase}${crewWords(view.crews)})` : id;
+}
+
+function holdersOf(state, own) {
+  return [...new Set(state.holds.map((hold) => hold.by))].filter((by) => by !== own);
+}
+
 function holdFindings(state, action, own) {
-  const owners = [...new Set(state.holds.map((hold) => hold.by))].filter((by) => by !== own);
-  return owners.map((by) => {
+  return holdersOf(state, own).map((by) => {
     const kinds = state.holds.filter((hold) => hold.by === by).map((hold) => holdWord(hold.kind)).join(", ");
-    if (action === "CLOSE") return { text: `would be refused (HELD) for ${by}, which has it ${kinds}`, asks: true };
-    return { text: `${by} has it ${kinds}${action ? "" : `; a CLOSE would be refused for ${by}`}`, asks: false };
+    if (action === "CLOSE") return { text: `would be refused (HELD) for ${nameWords(by)}, which has it ${kinds}`, asks: true };
+    return { text: `${nameWords(by)} has it ${kinds}${action ? "" : "; a CLOSE would be refused for it"}`, asks: false };
   });
 }
 
@@ -22,15 +35,13 @@ function handFindings(state, own, now) {
   return [now ? { text: `would be refused (IN_HAND): ${text}`, asks: true } : { text, asks: false }];
 }
 
-function crewWords(crews) {
-  return crews.length ? `, ${crews.length === 1 ? "crew" : "crews"} ${crews.join(", ")} on` : "";
-}
-
-function fenceFindings(point, own) {
+// Whose fence it lies in. At its border it is not said again of one that has a hold there.
+function fenceFindings(state, own) {
+  const holders = holdersOf(state, own), ends = [state.point.from, state.point.to];
   return [...room.views].filter(([id, view]) => id !== own && view.fence.length).flatMap(([id, view]) => {
-    const ends = [point.from, point.to].filter((end) => view.fence.includes(end)).length;
-    if (!ends) return [];
-    return [{ text: `${ends === 2 ? "inside" : "at"} the fence of ${id}: ${view.card.phase}${crewWords(view.crews)}`, asks: ends === 2 }];
+    const inside = ends.filter((end) => view.fence.includes(end)).length;
+    if (!inside || (inside === 1 && holders.includes(id))) return [];
+    return [{ text: `${inside === 2 ? "inside" : "at"} the fence of ${nameWords(id)}`, asks: inside === 2 }];
   });
 }
 
@@ -56,11 +67,11 @@ function closingFindings(network, states, positions, point) {
 // `now`: it is to go out now; `positions`: those that earlier steps of the same order will have made.
 export function findingsAt({ network, states }, name, { action = null, own = null, now = false, positions = new Map(), known = states() } = {}) {
   const state = known.get(name);
-  if (!state) return [];
+  if (!state) return [{ text: "not in the files of this page, which knows nothing of it", asks: false }];
   return [
     ...holdFindings(state, action, own),
     ...handFindings(state, own, now),
-    ...fenceFindings(state.point, own),
+    ...fenceFindings(state, own),
     ...(action === "CLOSE" ? closingFindings(network, known, positions, state.point) : []),
     ...positionFindings(state, own),
   ];

@@ -80,7 +80,13 @@ export function severalControl({ view, act, staff, desk, caller }) {
     event.preventDefault();
     if (part === "hearer") does.hearer();
   };
-  return el("form", { class: "offer several step-place", onsubmit: send },
+  // Enter in a list of names goes on to what is to be done.
+  const goOn = (event) => {
+    if (event.key !== "Enter" || event.target.tagName !== "SELECT") return;
+    event.preventDefault();
+    event.currentTarget.querySelector("[data-goes]")?.focus();
+  };
+  return el("form", { class: "offer several step-place", onsubmit: send, onkeydown: goOn },
     el("p", {}, `Step ${step.number} of ${view.steps.length}, `, el("span", { class: "text" }, step.text),
       part === "giver" ? ". Say nothing on the line before the register has accepted it." : ""),
     part === "giver" ? stepNotes(desk, view, step) : null,

@@ -3,6 +3,7 @@
 from desk_looks.browser import Differs
 from desk_looks.network import released, steps, switch
 
+WIDTHS = (1440, 1024, 390)
 TIE = "TIE1-N12-N13"
 BYPASSED = [switch(["CLOSE N13-B1"]), *steps("DISP1/1", ["CLOSE N13-B1"])]
 WEBER = released("WEBER", "N13-F11", ["N13-Q11", "N13-B1", TIE, "TIE1-N13-N14"])
@@ -25,7 +26,12 @@ def what_was(stage):
         found = choices(hand, point)
         if [one[1] for one in found] != [False, False] or found[0][0] != first:
             raise Differs(f"the choices at {point} are {found}")
-    hand.picture("restore")
+    for width in WIDTHS:
+        hand.browser.size(width)
+        hand.picture(f"restore-{width}")
+        wide = hand.browser.script("return document.documentElement.scrollWidth")
+        if wide > width:
+            raise Differs(f"the restoring form is {wide} wide on {width} pixels")
 
 
 def restoring_joins(stage):

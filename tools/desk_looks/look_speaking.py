@@ -1,6 +1,7 @@
 """Nothing is read out before the register has accepted it, and it is read out at one desk alone."""
 
 from desk_looks.browser import Differs, wait_until
+from desk_looks.look_life import hanging
 from desk_looks.network import granted, ordered, switch
 
 HELD = "TIE1-N12-N13"
@@ -75,4 +76,21 @@ def until_repeated(stage):
     wait_until(lambda: "read this out" not in hand.text().lower(), "no text to be read out any more")
 
 
-LOOKS = {"speak-refused": refused_close, "speak-one-desk": one_desk, "speak-until-repeated": until_repeated}
+def lost_reply(stage):
+    """An instruct whose reply was lost may have been another desk's: people agree before one of them reads it out."""
+    hand = stage.network(KIM_ORDER, "clearance/KIM/1")
+    hand.speak("DISP1")
+    hand.shows("Instruct step 1")
+    with hanging(hand.desk.register()):
+        hand.press("instruct")
+        hand.reply("lost", "504")
+        silent(hand)
+    hand.found("it was carried out")
+    hand.shows("Ask the other desks", "main .next")
+    silent(hand)
+    hand.press("mine")
+    hand.shows("Read this out", "main .next")
+    hand.shows("OPEN N11-Q12", "main .next .read-out strong")
+
+
+LOOKS = {"speak-lost": lost_reply, "speak-refused": refused_close, "speak-one-desk": one_desk, "speak-until-repeated": until_repeated}

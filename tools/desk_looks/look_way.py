@@ -12,8 +12,8 @@ def held_close(stage):
     hand = stage.network([*JONES, *KIM], "switch")
     hand.speak("DISP1")
     hand.pick(HELD)
-    hand.shows("JONES/1 has it held open", ".picked-notes")
-    hand.shows("a CLOSE would be refused for KIM/1", ".picked-notes")
+    for name, crew in (("JONES/1", "C1"), ("KIM/1", "C2")):
+        hand.shows(f"{name} (Granted, crew {crew} on) has it held open, blocked, tagged; a CLOSE would be refused for it", ".picked-notes")
     hand.press(f"CLOSE {HELD}")
     hand.press("switch")
     for name in ("JONES/1", "KIM/1"):
@@ -29,10 +29,10 @@ def others_fence(stage):
     hand = stage.network(OWENS, "switch")
     hand.speak("DISP4")
     hand.pick(INSIDE)
-    hand.shows("inside the fence of OWENS/1: Granted, crew C7 on", ".picked-notes")
+    hand.shows("inside the fence of OWENS/1 (Granted, crew C7 on)", ".picked-notes")
     hand.press(f"OPEN {INSIDE}")
     hand.press("switch")
-    hand.shows("inside the fence of OWENS/1: Granted, crew C7 on", "dialog")
+    hand.shows("inside the fence of OWENS/1 (Granted, crew C7 on)", "dialog")
     hand.answer("null")
     hand.nothing_sent(0)
     hand.press("switch")
@@ -66,8 +66,7 @@ def not_normal(stage):
     hand = stage.network(moved, "clearance/LEE/1")
     hand.speak("DISP2")
     hand.pick("TIE1-N13-N14", "N14-Q12")
-    hand.shows("JONES/1 has it held open, blocked, tagged", '.picked-notes [data-at="TIE1-N13-N14"]')
-    hand.shows("at the fence of JONES/1: Granted, crew C1 on", '.picked-notes [data-at="TIE1-N13-N14"]')
+    hand.shows("JONES/1 (Granted, crew C1 on) has it held open, blocked, tagged", '.picked-notes [data-at="TIE1-N13-N14"]')
     hand.shows("open now, normally closed", '.picked-notes [data-at="N14-Q12"]')
 
 
