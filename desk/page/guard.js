@@ -47,6 +47,7 @@ function hold(event, control) {
   event.preventDefault();
   event.stopImmediatePropagation();
   control.dataset.held = "yes";
+  document.getElementById("spoken").textContent = "Not pressed: this has just come here. Leave it, and press it again.";
   setTimeout(() => { delete control.dataset.held; }, DEAD);
 }
 

@@ -1,7 +1,7 @@
 // The network as a list, where it is too large to be drawn.
 
 import { el, field, panel, table } from "./elements.js";
-import { holdMarks } from "./marks.js";
+import { holdMarks, sectionMarks } from "./marks.js";
 
 const MOST_LISTED = 300;
 
@@ -28,15 +28,16 @@ export class NetList {
     const found = [...this.#network.sections.values()].filter((section) =>
       !text || section.name.includes(text) || this.#network.ways.get(section.name).some((point) => point.name.includes(text)));
     const shown = found.sort((a, b) => seen.fence.has(b.name) - seen.fence.has(a.name)).slice(0, MOST_LISTED);
+    const said = sectionMarks(seen.room);
     const rows = shown.map((section) => [section, this.#network.ways.get(section.name).map((point) => {
       const state = seen.states.get(point.name);
       const marks = holdMarks(state).join(", ");
       return `${point.name} to ${point.from === section.name ? point.to : point.from}: ${state.position ?? "not clear"}${state.from === "file" ? " in the file" : ""}${marks ? ` (${marks})` : ""}`;
-    }), seen.fence.has(section.name)]);
+    }), [section.source ? "source" : "", seen.fence.has(section.name) ? "in the fence" : ""].filter(Boolean).join(", "), said.get(section.name) ?? []]);
     panel(this.#rows, [rows, found.length], () => [
       el("p", { class: "hint" }, `${shown.length} of ${found.length} sections`),
-      table(["Section", "", "Points"], rows.map(([section, ways, fenced]) => el("tr", {},
-        el("th", { scope: "row" }, section.name), el("td", {}, [section.source ? "source" : "", fenced ? "in the fence" : ""].filter(Boolean).join(", ")),
+      table(["Section", "", "Points"], rows.map(([section, ways, words, own]) => el("tr", {},
+        el("th", { scope: "row" }, section.name), el("td", {}, words, own.map(({ text, kind }) => el("p", {}, el("span", { class: kind }, text)))),
         el("td", {}, ways.map((way) => el("p", {}, way))))))]);
   }
 }

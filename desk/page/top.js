@@ -12,7 +12,7 @@ const at = (id) => document.getElementById(id);
 
 // Since when no answer came, and what is known of it.
 function silentWords() {
-  const since = contact.silentSince ?? contact.answered;
+  const since = contact.answered ?? contact.silentSince;
   const why = contact.silentSince === null ? "" : ` (${contact.why})`;
   const last = contact.answered ? `Its last answer came at ${shortTime(contact.answered)}; what is shown is from then.` : "It has not answered yet.";
   return `The register does not answer since ${shortTime(since ?? now())}${why}. ${last}`;

@@ -37,7 +37,7 @@ def alarm(stage):
     two = stage.window("clearance/KIM/1")
     one.speak("KIM")
     two.speak("DISP2")
-    two.shows("tested dead, no ground")
+    two.shows("tested dead")
     one.press("live N13-F11")
     one.answer("null")
     say_live(one, "N13-F11")
