@@ -50,4 +50,24 @@ def elsewhere(stage):
             raise Differs(f"at {width} pixels the grant at {grant} lies over one of {places[width]}")
 
 
-LOOKS = {"grant-not-before": not_before, "grant-elsewhere": elsewhere}
+def after_a_row(stage):
+    """At a desk that speaks for several, not over a control of the row either."""
+    texts = needed(CUT)
+    hand = stage.network([*ordered("KIM", "N11-F12", CUT), *steps("KIM/1", texts[:-1])], "clearance/KIM/1")
+    hand.speak("DISP1")
+    hand.browser.click("#several")
+    hand.browser.click('main [data-name="hearer"] option[value="REED"]')
+    hand.press("instruct")
+    hand.reply("accepted")
+    hand.browser.type('main [data-name="repeat-text"]', texts[-1] + ENTER)
+    hand.reply("accepted")
+    hand.browser.settled('main [data-name="done"]')
+    places = [hand.rect(f'main [data-name="{name}"]') for name in ("instruct", "repeat", "done", "not-done")]
+    hand.press("done")
+    hand.reply("accepted")
+    grant = hand.rect('main [data-name="grant"]')
+    if any(lies_over(grant, place) for place in places):
+        raise Differs(f"the grant at {grant} lies over one of {places}")
+
+
+LOOKS = {"grant-row": after_a_row, "grant-not-before": not_before, "grant-elsewhere": elsewhere}
