@@ -99,7 +99,7 @@ function card(view, line, staff) {
 }
 
 export class ClearancePage {
-  #desk; #id; #made = new Map(); #missing = false;
+  #desk; #id; #made = new Map(); #missing = false; #tall = 0;
   #card = el("div", { class: "card-place" }); #reading = el("div"); #next = el("div", { class: "next-body" }); #others = el("div"); #steps = el("div", { class: "steps-place" }); #facts = el("div", { class: "facts-place" });
   #heading = el("h3", { tabindex: -1, id: "next" }, "Next");
   title;
@@ -167,8 +167,16 @@ export class ClearancePage {
       return node;
     });
     this.#made = made;
+    this.#keepPlace(nodes);
     if (nodes.length) return nodes;
     return el("p", {}, any ? `${this.#desk.caller?.name ?? "Nobody"} has nothing to do here now.` : "It is over; its record stays.");
+  }
+
+  // Where the controls of a step were, there is room left when no step is: a grant comes below it.
+  #keepPlace(nodes) {
+    this.#tall = Math.max(this.#next.querySelector(".step-place")?.offsetHeight ?? 0, this.#tall);
+    const left = nodes.map((node) => node.querySelector("p.step-place")).find(Boolean);
+    if (left && this.#tall) left.style.minHeight = `${this.#tall}px`;
   }
 
   #context(view) {

@@ -1,4 +1,5 @@
-// Alt with N goes to the next act, Alt with T to the repeat. The focus moves there, and nothing is done yet.
+// Alt with C goes to the name, with B to the board, with N to the next act, with T to the repeat. The focus moves there,
+// and nothing is done yet. The access keys of the page do the same, where a browser has other keys for them.
 
 const ACTS = ["[data-goes]", ".main:not(:disabled)", "input:not(:disabled)", "button:not(:disabled)"];
 
@@ -15,7 +16,20 @@ function nextAct() {
   return document.querySelector("main h2");
 }
 
+const GOES = {
+  c: () => document.getElementById("caller").focus(),
+  b: () => { location.hash = "#/board"; },
+  n: () => goTo(nextAct()),
+  t: () => goTo(document.querySelector('main [data-name="repeat-text"]:not(:disabled)') ?? nextAct()),
+};
+
 export function startKeys(next, repeat) {
-  next.addEventListener("click", () => goTo(nextAct()));
-  repeat.addEventListener("click", () => goTo(document.querySelector('main [data-name="repeat-text"]:not(:disabled)') ?? nextAct()));
+  next.addEventListener("click", GOES.n);
+  repeat.addEventListener("click", GOES.t);
+  addEventListener("keydown", (event) => {
+    const goes = GOES[event.key.toLowerCase()];
+    if (!goes || !event.altKey || event.ctrlKey || event.metaKey || document.querySelector("dialog")) return;
+    event.preventDefault();
+    goes();
+  });
 }

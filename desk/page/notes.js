@@ -4,6 +4,7 @@ import { ask } from "./ask.js";
 import { el, panel } from "./elements.js";
 import { findingsAt, findingsOfSteps } from "./findings.js";
 
+const MOST_ASKED = 10;
 const OWN = "This is what the page finds by what it knows. The register decides.";
 
 // A list of findings; nothing where there are none.
@@ -24,12 +25,12 @@ export function learn() {
   for (const node of document.querySelectorAll("[data-living]")) node.dispatchEvent(new Event("learn"));
 }
 
-// The points that are picked, each with what is in its way.
-export function pickedNotes(desk, picked, own, more = () => []) {
+// The points that are picked, each with what is in the way of this action there; null where none is chosen yet.
+export function pickedNotes(desk, picked, { own = null, action = null, more = () => [] } = {}) {
   const node = el("div", { class: "picked-notes" });
   return living(node, () => {
     const known = desk.states();
-    const rows = [...picked()].map((name) => [name, [...more(name), ...findingsAt(desk, name, { own, known })]]).filter(([, found]) => found.length);
+    const rows = [...picked()].map((name) => [name, [...more(name), ...findingsAt(desk, name, { own, action, known })]]).filter(([, found]) => found.length);
     panel(node, rows, () => (rows.length ? [el("h4", {}, "In the way, by what this page knows"),
       el("ul", { class: "ways" }, rows.map(([name, found]) => el("li", { "data-at": name }, el("strong", {}, name), findingsList(found))))] : []));
   });
@@ -45,10 +46,23 @@ export function orderNotes(desk, steps, own) {
   });
 }
 
+// A line for each finding that asks; at a point the same is said once, for its first step.
+function askedLines(found) {
+  const lines = new Map();
+  for (const { text, found: own } of found) {
+    for (const one of own.filter(({ asks }) => asks)) {
+      const key = `${text.split(" ")[1]} ${one.text}`;
+      if (!lines.has(key)) lines.set(key, `${text}: ${one.text}.`);
+    }
+  }
+  return [...lines.values()];
+}
+
 // Whether it may be sent: asked only where a finding asks. `found` has { text, found } for each step.
 export async function mayGo(title, found, send) {
-  const lines = found.flatMap(({ text, found: own }) => own.filter(({ asks }) => asks).map((one) => `${text}: ${one.text}.`));
+  const lines = askedLines(found);
   if (!lines.length) return true;
-  const answer = await ask(title, [...new Set(lines), OWN], [["send", send], [null, "Do not send it"]]);
+  const more = lines.length > MOST_ASKED ? [`And ${lines.length - MOST_ASKED} more, which the form shows.`] : [];
+  const answer = await ask(title, [...lines.slice(0, MOST_ASKED), ...more, OWN], [["send", send], [null, "Do not send it"]]);
   return answer === "send";
 }

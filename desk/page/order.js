@@ -77,7 +77,7 @@ export class OrderEditor {
         ". Pick each point that is to be held open; each way to a source has to be among them, an open point too."),
       this.#picker.node,
       fenceNotes(this.#network, this.#view.work, picked),
-      pickedNotes(this.#desk, picked, clearance, (name) => offFence(this.#network, this.#fence(), name)),
+      pickedNotes(this.#desk, picked, { own: clearance, action: "OPEN", more: (name) => offFence(this.#network, this.#fence(), name) }),
       el("h3", {}, "Steps"),
       el("div", { class: "answers" },
         button("By action", () => this.#arranged(byAction), { "data-name": "by-action" }),

@@ -46,7 +46,7 @@ export class PointPicker {
     const found = this.#found();
     const first = found.filter((point) => this.picked.has(point.name));
     const shown = [...first, ...found.filter((point) => !this.picked.has(point.name))].slice(0, MOST_LISTED);
-    this.#count.textContent = shown.length < found.length ? `the first ${shown.length} of ${found.length}` : `${found.length} points`;
+    this.#count.textContent = shown.length < found.length ? `the first ${shown.length} of ${found.length}` : `${found.length} ${found.length === 1 ? "point" : "points"}`;
     panel(this.#list, [shown.map((point) => point.name), [...this.picked]], () => shown.map((point) => this.#row(point)));
   }
 

@@ -18,7 +18,7 @@ export class SwitchEditor {
     this.#list = new StepList(() => this.#changed(), (place) => this.#list.set(this.#list.steps.filter((_, at) => at !== place)));
     this.node = el("div", { class: "offer editor" },
       el("p", {}, "Pick the points, and say of each whether it is to be opened or closed. A switch order holds nothing."),
-      this.#picker.node, pickedNotes(desk, () => this.#picker.picked, null), this.#chosen,
+      this.#picker.node, pickedNotes(desk, () => this.#picker.picked), this.#chosen,
       el("h3", {}, "Steps, in their order"), this.#list.node, orderNotes(desk, () => this.#list.steps, null),
       button("Give the switch order", () => this.#send(), { class: "main", "data-name": "switch" }));
     desk.pick(this.#picker);

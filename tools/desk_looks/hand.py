@@ -85,10 +85,11 @@ class Hand:
         return self.browser.script("return document.querySelector(arguments[0]) !== null", css)
 
     def rect(self, css):
-        """Left, top, right and bottom on the page."""
+        """Left, top, right and bottom, in the box that has what is next: the top of the page grows and shrinks."""
         self.browser.find(css)
         return self.browser.script("""const box = document.querySelector(arguments[0]).getBoundingClientRect();
-            return [box.left + scrollX, box.top + scrollY, box.right + scrollX, box.bottom + scrollY]""", css)
+            const next = document.querySelector('main .next').getBoundingClientRect();
+            return [box.left - next.left, box.top - next.top, box.right - next.left, box.bottom - next.top]""", css)
 
     def pick(self, *points):
         """Picks each of these points by the list, which is narrowed to it first."""
