@@ -47,7 +47,7 @@ function look() {
   for (const [list, { redo, since }] of [...held]) {
     if (list.isConnected && isBusy(list) && performance.now() - since < LONGEST) continue;
     letGo(list);
-    redo();
+    if (list.isConnected) redo();
   }
 }
 

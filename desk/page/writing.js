@@ -64,7 +64,7 @@ export class Writing {
   }
 
   #label(size, parts) {
-    return { size: size * this.#factor, bold: true, rings: this.#factor === 1 ? undefined : 2, ...parts };
+    return { size: size * this.#factor, bold: true, rings: this.#factor === 1 || parts.kind.startsWith("mark") ? undefined : 2, ...parts };
   }
 
   #sectionLabels({ marks, fence, found, picked }) {

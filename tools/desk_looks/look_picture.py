@@ -1,0 +1,64 @@
+"""The picture of README: JONES/1 at work, OPS/1 that would close S2, jumper J1, the network, and the refusal."""
+
+import json
+import os
+import time
+
+from desk_looks.browser import free_ports
+from desk_looks.desk import EXAMPLES, FILES, Desk, gridclear
+
+STEPS = ["OPEN S2", "OPEN S3", "BLOCK S2", "BLOCK S3", "TAG S2", "TAG S3"]
+MORE = {"sections.csv": "X1,no\n", "points.csv": "J1,L1,X1,yes,no,open\n", "staff.csv": ""}  # what the page's copies have
+
+
+def shift():
+    commands = [{"by": "OPS", "do": "jumper", "from": "L1", "lockable": True, "point": "J1", "remote": False, "to": "X1"},
+                {"by": "JONES", "do": "request", "section": "L2"},
+                {"by": "OPS", "clearance": "JONES/1", "do": "order", "points": ["S2", "S3"], "steps": STEPS}]
+    for number, text in enumerate(STEPS, 1):
+        own = {"clearance": "JONES/1", "step": number}
+        commands += [dict(own, by="OPS", do="instruct"), dict(own, by="REED", do="repeat", text=text), dict(own, by="REED", do="report", done=True)]
+    work = {"by": "JONES", "clearance": "JONES/1"}
+    return commands + [{"by": "OPS", "clearance": "JONES/1", "do": "grant"}, dict(work, do="test", section="L2", dead=True),
+                       dict(work, do="ground", section="L2"), dict(work, do="sign_on", crew="C1")]
+
+
+def with_jumper(work):
+    """The files with the jumper in them, as the guide has it for the page."""
+    folder = os.path.join(work, "page")
+    os.mkdir(folder)
+    for path, name in zip(EXAMPLES, FILES):
+        with open(path, encoding="utf-8") as file, open(os.path.join(folder, name), "w", encoding="utf-8") as copy:
+            copy.write(file.read() + MORE[name])
+    return [os.path.join(folder, name) for name in FILES]
+
+
+def picture(stage):
+    desk = Desk(stage.work, "desk", EXAMPLES, free_ports(2))
+    moment = int(time.time()) - 120
+    timed = [one if one["do"] == "jumper" else dict(one, at=moment + 4 * place) for place, one in enumerate(shift())]
+    gridclear("run", "--db", desk.base, text="".join(json.dumps(one) + "\n" for one in timed))
+    desk.files = with_jumper(stage.work)
+    hand = stage.begin(desk)
+    hand.speak("OPS")
+    hand.turn("switch")
+    hand.press("pick S2")
+    hand.press("CLOSE S2")
+    hand.press("switch")
+    hand.answer("send")
+    hand.reply("accepted", "OPS/1")
+    hand.press("instruct")
+    hand.answer("send")
+    hand.reply("refused", "HELD, number 20", "JONES/1")
+    hand.turn("clearance/JONES/1")
+    hand.shows("C1")
+    hand.turn("board")
+    for text in ("Granted", "Switching", "J1", "crews C1"):
+        hand.shows(text, "main .board")
+    hand.browser.point(1, 1)
+    hand.browser.script("document.activeElement.blur(); window.scrollTo(0, 0)")
+    time.sleep(1)
+    hand.picture("desk")
+
+
+LOOKS = {"picture": picture}
