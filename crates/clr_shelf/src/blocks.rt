@@ -1,5 +1,5 @@
 //! Lists in blocks.
-ghost use Rattle.std.specs.Prelude.{◌≡◌, ℕ, ◌+◌, ◌-◌, ◌*◌, ◌/◌, ◌^◌, ◌<◌, ◌≤◌, [], length, map};
+ghost use Rattle.std.specs.Prelude.{◌≡◌, ℕ, ◌+◌, ◌++◌, ◌-◌, ◌*◌, ◌/◌, ◌^◌, ◌<◌, ◌≤◌, [], length, map};
 ghost use Rattle.std.specs.Prelude.{slice_index, slice_index_or, slice_set, replicate, take};
 ghost use Rattle.std.specs.Prelude.{vec_len};
 ghost use Rattle.std.specs.Prelude.{true, false, IfOk, OnOk, OnErr, IsOk, IfSome};
@@ -233,6 +233,25 @@ impl<T: Drop> Blocks<T> {
             found.push_reserved(self.at(place));
         }
         Ok(found)
+    }
+
+    /// Puts the items from a place on up to another after those that were found.
+    pub(crate) fn push_between<'a>(
+        &'a self,
+        start: usize,
+        end: usize,
+        found: &mut Vec<&'a T>,
+    ) -> Result<(), AllocError>
+        requires rises { start ≤ end }
+        requires in_range { end ≤ length (items_of self.now) }
+        ensures { OnOk result (map (λ item. item.now) found.new.items
+            ≡ map (λ item. item.now) found.old.items
+            ++ slice_range (items_of self.now) start end) }
+    {
+        for place in start..end {
+            found.push(self.at(place))?;
+        }
+        Ok(())
     }
 
     /// Makes room for `n` more items. It fails only where the room was less and memory is refused.

@@ -62,6 +62,19 @@ impl<R: Row> Shelf<R> for ListShelf<R> {
             .collect(*self.list.allocator())
     }
 
+    fn push_group<'a>(
+        &'a self,
+        group: &R::Group,
+        found: &mut Vec<&'a R>,
+    ) -> Result<(), AllocError> {
+        for row in &self.list {
+            if row.belongs_to(group) {
+                found.push(row)?;
+            }
+        }
+        Ok(())
+    }
+
     fn last(&self, group: &R::Group) -> Option<&R> {
         let mut last = None;
         for row in &self.list {

@@ -1,5 +1,5 @@
 //! Shelves: finite maps from a key to its row.
-ghost use Rattle.std.specs.Prelude.{◌≡◌, ℕ, ◌+◌, ◌<◌, ◌≤◌, List, [], Option, Some, length, map};
+ghost use Rattle.std.specs.Prelude.{◌≡◌, ℕ, ◌+◌, ◌++◌, ◌<◌, ◌≤◌, List, [], Option, Some, length, map};
 ghost use Rattle.std.specs.Prelude.{filter, slice_get, IsTrue, IsOk, OnOk, OnErr, IfOk, OnSome};
 ghost use Rattle.std.specs.Prelude.{IfNone, option_copied};
 ghost use Rattle.std.specs.List.{last_or};
@@ -11,7 +11,7 @@ use std::alloc::{AllocError, Global};
 
 /// A finite map from a key to its row.
 ///
-/// Only `reserve` and `group` ask for memory, and want of it is their only error.
+/// Only `reserve`, `group` and `push_group` ask for memory, and want of it is their only error.
 pub trait Shelf<R: Row>: Drop {
     // The rows in key order, one row a key.
     ghost rows: { Self → List R };
@@ -41,6 +41,13 @@ pub trait Shelf<R: Row>: Drop {
     fn group(&self, group: &R::Group) -> Result<Vec<&R>, AllocError>
         ensures { IfOk result (λ found. map (λ row. row.now) found.items
             ≡ filter (R.is_in group.now) (rows self.now)) };
+
+    /// Puts the rows of a group after those that were found, in key order. It asks for memory where
+    /// there is no room for them.
+    fn push_group<'a>(&'a self, group: &R::Group, found: &mut Vec<&'a R>) -> Result<(), AllocError>
+        ensures { OnOk result (map (λ row. row.now) found.new.items
+            ≡ map (λ row. row.now) found.old.items
+            ++ filter (R.is_in group.now) (rows self.now)) };
 
     /// The last row of a group in key order, if it has one.
     fn last(&self, group: &R::Group) -> Option<&R>

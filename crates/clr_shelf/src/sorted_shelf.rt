@@ -76,6 +76,31 @@ impl<R: Row> SortedShelf<R> {
         self.list
             .partition_point(|row| row.compare_group(group).is_le())
     }
+
+    // Where the rows of a group end that begin at a place, or would. Nothing is looked up where no
+    // row of the group stands there.
+    fn end_from(&self, group: &R::Group, start: usize) -> usize
+        requires in_range { start ≤ length (items_of self.now.list) }
+        requires parts { IsPartitionPoint
+            (λ row. is_lt (R.group_cmp (R.group_of (R.key_of row)) group.now)
+            ≡ true) (λ row. is_lt (R.group_cmp (R.group_of (R.key_of row)) group.now)
+            ≡ false) (items_of self.now.list) start }
+        ensures in_range { result ≤ length (items_of self.now.list) }
+        ensures parts { IsPartitionPoint
+            (λ row. is_le (R.group_cmp (R.group_of (R.key_of row)) group.now)
+            ≡ true) (λ row. is_le (R.group_cmp (R.group_of (R.key_of row)) group.now)
+            ≡ false) (items_of self.now.list) result }
+    {
+        if start == self.list.len() {
+            return start;
+        }
+        let row = self.list.at(start);
+        if row.compare_group(group).is_eq() {
+            self.end_of(group)
+        } else {
+            start
+        }
+    }
 }
 
 impl<R: Row> Shelf<R> for SortedShelf<R> {
@@ -113,6 +138,15 @@ impl<R: Row> Shelf<R> for SortedShelf<R> {
     fn group(&self, group: &R::Group) -> Result<Vec<&R>, AllocError> {
         let run = self.places_of(group);
         self.list.between(run.start, run.end)
+    }
+
+    fn push_group<'a>(
+        &'a self,
+        group: &R::Group,
+        found: &mut Vec<&'a R>,
+    ) -> Result<(), AllocError> {
+        let run = self.places_of(group);
+        self.list.push_between(run.start, run.end, found)
     }
 
     fn last(&self, group: &R::Group) -> Option<&R> {
@@ -160,7 +194,7 @@ impl<R: Row> Shelf<R> for SortedShelf<R> {
 impl<R: Row> GroupedShelf<R> for SortedShelf<R> {
     fn places_of(&self, group: &R::Group) -> Range<usize> {
         let start = self.start_of(group);
-        let end = self.end_of(group);
+        let end = self.end_from(group, start);
         start..end
     }
 

@@ -7,18 +7,18 @@ use Rattle.clr_shelf.proofs.sorted_shelf.SortedShelfGroupedShelf.places_of.Goals
 pub returns-clause-rises : goal.returns-clause-rises
 returns-clause-rises g c =
     start_le_end (λ row. g.R.Row.group_cmp (g.R.Row.group_of (g.R.Row.key_of row))
-    c.args.group.now) c.start_of-start.result c.end_of-end.result
+    c.args.group.now) c.start_of-start.result c.end_from-end.result
     (items_of c.args.self.now.list)
-    (search rules) c.start_of-start.ensures.parts c.end_of-end.ensures.parts
+    (search rules) c.start_of-start.ensures.parts c.end_from-end.ensures.parts
 
 -- the rows that are neither below the group nor above it, which are those of the group
 pub returns-clause-run : goal.returns-clause-run
 returns-clause-run g c =
     let rows = (items_of c.args.self.now.list) in
     sym (filter-between (λ row. g.R.Row.group_cmp (g.R.Row.group_of (g.R.Row.key_of row))
-    c.args.group.now) c.start_of-start.result c.end_of-end.result rows
+    c.args.group.now) c.start_of-start.result c.end_from-end.result rows
     (returns-clause-rises g c) (search rules) c.start_of-start.ensures.parts
-    c.end_of-end.ensures.parts)
+    c.end_from-end.ensures.parts)
     ∙ ap (λ p. filter p rows) (λ i row. sym (g.met.R.Row.in_one_group c.args.group.now row) i)
     ∙ filter-rows_by_key g.R.Row.key_cmp g.R.Row.key_of g.R.Row.group_of g.R.Row.group_cmp
     g.met.R.Row.key_order g.met.R.Row.group_order g.met.R.Row.same_key
