@@ -90,8 +90,16 @@ impl<'a> Fence<'a> {
     }
 }
 
+/// Where a fence stands in its network: the places of the sections inside, and of the points with an
+/// end inside, in the order of names.
+#[derive(Debug, Drop)]
+pub struct RowPlaces {
+    pub sections: Vec<usize>,
+    pub touching: Vec<usize>,
+}
+
 /// The rows at these places.
-pub(crate) fn rows_at<'a, R>(
+pub fn rows_at<'a, R>(
     alloc: Global,
     rows: &'a [R],
     places: &[usize],

@@ -14,7 +14,7 @@ mod section;
 mod ways;
 
 pub use addition::Addition;
-pub use fence::Fence;
+pub use fence::{Fence, RowPlaces, rows_at};
 pub use name::{MAX_NAME_LEN, Name, NameFault, has_name};
 pub use named::{Named, place_of, repeat_place, row_of, sort_by_name};
 pub use net_fault::NetFault;

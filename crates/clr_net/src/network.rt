@@ -1,5 +1,6 @@
 //! The network: its sections and switching points, checked and in the order of their names.
 ghost use Rattle.std.specs.Prelude.{◌≡◌, ◌<◌, ◌≤◌, ℕ, List, false, find, length, not, position};
+ghost use Rattle.std.specs.Prelude.{filter_map, slice_get};
 ghost use Rattle.std.specs.Prelude.{IfOk, IsOk, OnOk, IsTrue, All};
 ghost use Rattle.std.specs.Option.{option_copied};
 ghost use Rattle.std.specs.List.{IsDistinct, list_all};
@@ -11,10 +12,10 @@ ghost use Rattle.clr_net.specs.Additions.{fits_addition, fits_point, fits_sectio
 ghost use Rattle.clr_net.specs.Additions.{with_addition, with_point, with_section};
 ghost use Rattle.clr_net.specs.Network.{Builds, Passes, size_fault, twice_fault, end_fault};
 ghost use Rattle.clr_net.specs.Names.{has_name};
-ghost use Rattle.clr_net.specs.Fence.{IsFenceByWalks, fence_of};
+ghost use Rattle.clr_net.specs.Fence.{FenceRows, IsFenceByWalks, fence_of};
 
 use crate::addition::Addition;
-use crate::fence::{Fence, rows_at};
+use crate::fence::{Fence, RowPlaces, rows_at};
 use crate::name::Name;
 use crate::named::{in_order, insert_by_name, place_of, repeat_place_beside, row_of};
 use crate::net_fault::NetFault;
@@ -131,11 +132,25 @@ impl Network {
             IsFenceByWalks self.now work.now cut.now fence) }
     {
         let alloc = *self.sections.allocator();
-        let inside = fence_places(alloc, &self.sections, &self.points, &self.ways, *work, cut)?;
-        let beside = places_beside(alloc, &self.ways, &inside)?;
-        let sections = rows_at(alloc, &self.sections, &inside)?;
-        let touching = rows_at(alloc, &self.points, &beside)?;
+        let places = self.fence_places(work, cut)?;
+        let sections = rows_at(alloc, &self.sections, &places.sections)?;
+        let touching = rows_at(alloc, &self.points, &places.touching)?;
         Ok(Fence::of_rows(sections, touching))
+    }
+
+    /// The places of a fence's rows, among the sections and among the points of the network.
+    pub fn fence_places(&self, work: &Name, cut: &[Name]) -> Result<RowPlaces, AllocError>
+        ensures sections { IfOk result (λ places.
+            filter_map (slice_get self.now.sections) places.sections.items
+            ≡ FenceRows.sections (fence_of self.now work.now cut.now)) }
+        ensures touching { IfOk result (λ places.
+            filter_map (slice_get self.now.points) places.touching.items
+            ≡ FenceRows.touching (fence_of self.now work.now cut.now)) }
+    {
+        let alloc = *self.sections.allocator();
+        let sections = fence_places(alloc, &self.sections, &self.points, &self.ways, *work, cut)?;
+        let touching = places_beside(alloc, &self.ways, &sections)?;
+        Ok(RowPlaces { sections, touching })
     }
 
     /// Makes sure that `add` can take this. A network has the memory of the greatest one since it

@@ -1,4 +1,4 @@
-use Rattle.std.proofs.Common.{◌≡◌, ◌∙◌, ◌||◌, ap, length}
+use Rattle.std.proofs.Common.{◌≡◌, ◌∙◌, ◌||◌, ℕ, ap, map, Bor, List}
 use Rattle.std.specs.Prelude.{slice_get}
 use Rattle.std.specs.List.{filter_map}
 use Rattle.clr_net.specs.Grid.{Grid, IsNetwork}
@@ -7,53 +7,51 @@ use Rattle.clr_net.specs.Name.{name_cmp}
 use Rattle.clr_net.specs.declared.point.PointRow.{PointRow}
 use Rattle.clr_net.specs.declared.section.SectionRow.{SectionRow}
 use Rattle.clr_net.proofs.ByWalks.{fence_by_walks}
-use Rattle.clr_net.proofs.FencePlaces.{picked_fence}
 use Rattle.clr_net.proofs.ListFacts.{rising-filter}
 use Rattle.clr_net.proofs.network.Network.fence.Goals as goal
 
--- the rows at the places that were found are the fence
-picked : (c : goal.In_ok-touching) → record {
-  sections = filter_map (slice_get c.self.inside.sections.items) c.in_ok-inside.inside.items;
-  touching = filter_map (slice_get c.self.inside.points.items) c.in_ok-beside.beside.items;
-} ≡ fence_of (record { sections = c.self.inside.sections.items; points = c.self.inside.points.items }) c.args.work.now c.args.cut.now
-picked c =
-    let g : Grid = record { sections = c.self.inside.sections.items; points = c.self.inside.points.items } in
-    let net = c.self.invariant.0 in
-    let index = c.self.invariant.1 in
-    picked_fence g net c.self.inside.ways index c.args.work.now c.args.cut.now c.in_ok-inside.inside.items c.in_ok-beside.beside.items
-    c.in_ok-inside.ensures.rising (rw (c.deref.ensures.value, c.deref-2.ensures.value) at c.in_ok-inside.ensures.fence) (rw c.deref.ensures.value at c.in_ok-inside.ensures.inside)
-    c.in_ok-beside.ensures.rising (rw c.deref-3.ensures.value at c.in_ok-beside.ensures.same)
-
-pub places_beside-requires : goal.places_beside-requires
-places_beside-requires c =
-    (length c.self.inside.sections.items, c.self.invariant.1.starts, rw (c.deref.ensures.value, ← c.deref-3.ensures.value) at c.in_ok-inside.ensures.inside)
+-- the rows at the places that were found are those of the fence
+picked : {X : Type 0} (rows all : List X) (places given : List ℕ) (found fence : List X) → found ≡ filter_map (slice_get rows) places
+    → rows ≡ all → places ≡ given → filter_map (slice_get all) given ≡ fence → found ≡ fence
+picked rows all places given found fence is rows_are places_are fence_is = is ∙ (λ i. filter_map (slice_get (rows_are i)) (places_are i)) ∙ fence_is
 
 pub of_rows-requires-clause-sections_rise : goal.of_rows-requires-clause-sections_rise
 of_rows-requires-clause-sections_rise c =
-    let g : Grid = record { sections = c.self.inside.sections.items; points = c.self.inside.points.items } in
-    let same = c.in_ok-sections.ensures ∙ (λ i. filter_map (slice_get (c.deref-4.ensures.value i)) (c.deref-5.ensures.value i)) ∙ ap FenceRows.sections (picked c) in
-    rw same (rising-filter name_cmp (λ (row : SectionRow). row.name) (λ row. in_fence g c.args.work.now c.args.cut.now row.name) g.sections c.self.invariant.0.sections_rise)
+    let g = c.args.self.now in
+    let net : IsNetwork g = rw (← c.self.view_is) c.self.invariant.0 in
+    let places = c.in_ok-places.places.sections.items in
+    rw (picked c.deref.result.now c.self.inside.sections.items c.deref-2.result.now places (map (λ (row : Bor SectionRow). row.now) c.in_ok-sections.sections.items)
+    (FenceRows.sections (fence_of g c.args.work.now c.args.cut.now)) c.in_ok-sections.ensures c.deref.ensures.value c.deref-2.ensures.value
+    (ap (λ (g : Grid). filter_map (slice_get g.sections) places) c.self.view_is ∙ c.in_ok-places.ensures.sections))
+    (rising-filter name_cmp (λ (row : SectionRow). row.name) (λ row. in_fence g c.args.work.now c.args.cut.now row.name) g.sections net.sections_rise)
 
 pub of_rows-requires-clause-points_rise : goal.of_rows-requires-clause-points_rise
 of_rows-requires-clause-points_rise c =
-    let g : Grid = record { sections = c.self.inside.sections.items; points = c.self.inside.points.items } in
-    let same = c.in_ok-touching.ensures ∙ (λ i. filter_map (slice_get (c.deref-6.ensures.value i)) (c.deref-7.ensures.value i)) ∙ ap FenceRows.touching (picked c) in
-    rw same (rising-filter name_cmp (λ (row : PointRow). row.name) (λ row. in_fence g c.args.work.now c.args.cut.now row.from_end || in_fence g c.args.work.now c.args.cut.now row.to_end) g.points
-    c.self.invariant.0.points_rise)
+    let g = c.args.self.now in
+    let net : IsNetwork g = rw (← c.self.view_is) c.self.invariant.0 in
+    let places = c.in_ok-places.places.touching.items in
+    rw (picked c.deref-3.result.now c.self.inside.points.items c.deref-4.result.now places (map (λ (row : Bor PointRow). row.now) c.in_ok-touching.touching.items)
+    (FenceRows.touching (fence_of g c.args.work.now c.args.cut.now)) c.in_ok-touching.ensures c.deref-3.ensures.value c.deref-4.ensures.value
+    (ap (λ (g : Grid). filter_map (slice_get g.points) places) c.self.view_is ∙ c.in_ok-places.ensures.touching))
+    (rising-filter name_cmp (λ (row : PointRow). row.name)
+    (λ row. in_fence g c.args.work.now c.args.cut.now row.from_end || in_fence g c.args.work.now c.args.cut.now row.to_end) g.points net.points_rise)
 
 pub returns-clause-rows : goal.returns-clause-rows
 returns-clause-rows c =
-    let g : Grid = record { sections = c.self.inside.sections.items; points = c.self.inside.points.items } in
-    let net = c.self.invariant.0 in
-    let index = c.self.invariant.1 in
-    let rows = picked_fence g net c.self.inside.ways index c.args.work.now c.args.cut.now c.in_ok-inside.inside.items c.in_ok-beside.beside.items
-    c.in_ok-inside.ensures.rising (rw (c.deref.ensures.value, c.deref-2.ensures.value) at c.in_ok-inside.ensures.fence) (rw c.deref.ensures.value at c.in_ok-inside.ensures.inside)
-    c.in_ok-beside.ensures.rising (rw c.deref-3.ensures.value at c.in_ok-beside.ensures.same) in
-    c.of_rows.ensures
-    ∙ rw (c.in_ok-sections.ensures, c.in_ok-touching.ensures, c.deref-4.ensures.value, c.deref-5.ensures.value, c.deref-6.ensures.value, c.deref-7.ensures.value, ← c.self.view_is) rows
+    let g = c.args.self.now in
+    let fence = fence_of g c.args.work.now c.args.cut.now in
+    let places = c.in_ok-places.places in
+    let sections : map (λ (row : Bor SectionRow). row.now) c.in_ok-sections.sections.items ≡ FenceRows.sections fence =
+    picked c.deref.result.now c.self.inside.sections.items c.deref-2.result.now places.sections.items (map (λ (row : Bor SectionRow). row.now) c.in_ok-sections.sections.items)
+    (FenceRows.sections fence) c.in_ok-sections.ensures c.deref.ensures.value c.deref-2.ensures.value
+    (ap (λ (g : Grid). filter_map (slice_get g.sections) places.sections.items) c.self.view_is ∙ c.in_ok-places.ensures.sections) in
+    let touching : map (λ (row : Bor PointRow). row.now) c.in_ok-touching.touching.items ≡ FenceRows.touching fence =
+    picked c.deref-3.result.now c.self.inside.points.items c.deref-4.result.now places.touching.items (map (λ (row : Bor PointRow). row.now) c.in_ok-touching.touching.items)
+    (FenceRows.touching fence) c.in_ok-touching.ensures c.deref-3.ensures.value c.deref-4.ensures.value
+    (ap (λ (g : Grid). filter_map (slice_get g.points) places.touching.items) c.self.view_is ∙ c.in_ok-places.ensures.touching) in
+    c.of_rows.ensures ∙ (λ i. record { sections = sections i; touching = touching i })
 
 pub returns-clause-walks : goal.returns-clause-walks
 returns-clause-walks c =
-    let g : Grid = record { sections = c.self.inside.sections.items; points = c.self.inside.points.items } in
     let net : IsNetwork c.args.self.now = rw (← c.self.view_is) c.self.invariant.0 in
     fence_by_walks c.args.self.now net c.args.work.now c.args.cut.now c.of_rows.result (returns-clause-rows c)
