@@ -1,28 +1,22 @@
 -- Rows read one by one, and what the rest reads as.
-use Rattle.std.proofs.Common.{◌≡◌, ◌≢◌, ℕ, zero, suc, ◌+◌, ◌<◌, ◌==◌, ◌&&◌, nat_lt, Bool, true, false, if◌then◌else◌, List, [], ◌∷◌, ◌++◌, length, Result, Ok, Err, refl, sym, ap, ◌∙◌, append_assoc, add-one, arith}
-use Rattle.std.specs.List.{list_all}
+use Rattle.std.proofs.Common.{◌≡◌, ◌≢◌, ℕ, zero, suc, ◌+◌, ◌<◌, ◌==◌, ◌&&◌, nat_lt, Bool, true, false, if◌then◌else◌, List, [], ◌∷◌, ◌++◌, length, Result, Ok, Err, refl, sym, ap, ◌∙◌, append_assoc}
+use Rattle.std.proofs.Common.{add-one, arith, ltb-true, append-nil}
+use Rattle.clr_net.specs.Prelude.{list_all}
 use Rattle.std.specs.Str.{IsAscii, is_utf8}
-use Rattle.std.proofs.lemmas.Bool.{ltb-true}
-use Rattle.std.proofs.lemmas.List.{append-nil}
 use Rattle.std.proofs.lemmas.Str.{IsUtf8-from_ascii, is_utf8-from_IsUtf8}
 use Rattle.std.proofs.lemmas.Slice.Eq.{bytes_eq-Decides, slice_eq-Decides}
 use Rattle.clr_csv.specs.declared.columns.ColumnFault.{ColumnFault}
-use Rattle.clr_csv.specs.declared.columns.ColumnFault.TheVariants as column
 use Rattle.clr_csv.specs.declared.fault.CsvFault.{CsvFault}
 use Rattle.clr_csv.specs.declared.fault.CsvFault.TheVariants.{FieldCount, Header, NotText, ReadFailed}
 use Rattle.clr_result.specs.Results.{◌>>=◌}
 use Rattle.clr_csv.specs.Rows.{Fields, as_many_as, in_row, is_ascii, is_text, row_of, rows_from, rows_in, same_fields, text_in, under_header}
 use Rattle.clr_csv.specs.Table.{BeginsWithoutText}
+use Rattle.clr_csv.specs.declared.columns.ColumnFault.TheVariants as column
 
 -- these rows, and then those that the rest reads as
 abbrev pub rows_after : {A : Type 0} → List A → Result (List A) CsvFault → Result (List A) CsvFault
 rows_after done (Ok rows) = Ok (done ++ rows)
 rows_after done (Err fault) = Err fault
-
--- before the first row, the rest is the whole
-pub rows_after-nil : {A : Type 0} (rest : Result (List A) CsvFault) → rows_after [] rest ≡ rest
-rows_after-nil (Ok rows) = refl
-rows_after-nil (Err fault) = refl
 
 -- one more row has been read
 pub rows_from-read : {A : Type 0} (read : ℕ → Fields → Result A CsvFault) (row : ℕ) (fields : Fields) (old new : List Fields) (done : List A) (value : A)

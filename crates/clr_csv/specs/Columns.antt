@@ -1,19 +1,18 @@
 -- What the columns of a row read as.
 use Rattle.std.specs.Prelude.{ℕ, ◌-◌, ◌==◌, Bool, true, false, if◌then◌else◌, List, [], ◌∷◌, codes}
-use Rattle.std.specs.Prelude.{Option, Some, None, unwrap_or, Result, Ok, Err}
+use Rattle.std.specs.Prelude.{Option, Some, None, unwrap_or, Result, Ok, Err, ok_or}
 use Rattle.std.specs.Cmp.Lexicographic.{pointwise}
-use Rattle.std.specs.Option.{ok_or}
 use Rattle.csv.specs.Records.{field_at}
 use Rattle.clr_net.specs.NameText.{read_name}
 use Rattle.clr_net.specs.declared.name.NameFault.{NameFault}
-use Rattle.clr_net.specs.declared.point.Position.{Position}
 use Rattle.clr_net.specs.declared.point.Position.TheVariants.{Opened, Closed}
 use Rattle.clr_staff.specs.declared.employee.Role.{Role}
 use Rattle.clr_staff.specs.declared.employee.Role.TheVariants.{Operator, Field, Charge}
 use Rattle.clr_csv.specs.declared.columns.ColumnFault.{ColumnFault}
-use Rattle.clr_csv.specs.declared.columns.ColumnFault.TheVariants as column
 use Rattle.clr_csv.specs.declared.fault.CsvFault.{CsvFault}
 use Rattle.clr_csv.specs.declared.fault.CsvFault.TheVariants.{BadName, BadWord}
+use Rattle.clr_csv.specs.declared.columns.ColumnFault.TheVariants as column
+use Rattle.clr_net.specs.declared.point.Position.{Position}
 
 -- the fault of a column, in this row
 abbrev pub fault_in : ℕ → ColumnFault → CsvFault

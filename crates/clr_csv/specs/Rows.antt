@@ -1,15 +1,14 @@
 -- The rows of a file, or its first fault, as a function of the file's bytes.
 use Rattle.std.specs.Prelude.{ℕ, ◌+◌, ◌==◌, nat_le, nat_lt, Bool, if◌then◌else◌, List, [], ◌∷◌}
 use Rattle.std.specs.Prelude.{length, Result, Ok, Err}
-use Rattle.std.specs.List.{list_all}
+use Rattle.clr_net.specs.Prelude.{list_all}
 use Rattle.std.specs.Cmp.Lexicographic.{pointwise}
 use Rattle.std.specs.Str.{is_utf8}
 use Rattle.csv.specs.Reading.{default_config, records, strip_bom}
 use Rattle.clr_result.specs.Results.{◌>>=◌}
 use Rattle.clr_csv.specs.declared.columns.ColumnFault.{ColumnFault}
 use Rattle.clr_csv.specs.declared.fault.CsvFault.{CsvFault}
-use Rattle.clr_csv.specs.declared.fault.CsvFault.TheVariants.{Header, NotText, FieldCount}
-use Rattle.clr_csv.specs.declared.fault.CsvFault.TheVariants.{TooLong}
+use Rattle.clr_csv.specs.declared.fault.CsvFault.TheVariants.{Header, NotText, FieldCount, TooLong}
 use Rattle.clr_csv.specs.Columns.{fault_in}
 
 -- the fields of a record, each a text of bytes

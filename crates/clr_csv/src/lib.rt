@@ -9,10 +9,9 @@ mod sections;
 mod staff_rows;
 mod table;
 
-pub use clr_staff::{MAX_STAFF, Role, Staff, StaffFault, StaffRow};
-pub use clr_stream::{Counted, CountedFlush, CountedRead, CountedWrite};
+pub use clr_staff::{Role, Staff, StaffFault, StaffRow};
+pub use clr_stream::{Counted, CountedRead, CountedWrite};
 pub use fault::CsvFault;
 pub use points::read_points;
-pub use rows::MAX_FILE_BYTES;
 pub use sections::read_sections;
 pub use staff_rows::read_staff;

@@ -43,8 +43,8 @@ impl FileRow for PointRow {
 
 /// Reads the file of the switching points, to its end: the header
 /// `point,from,to,lockable,remote,position`, and under it a row for each point, with its name, the
-/// sections at its ends, `yes` or `no` for lockable and for remote, and `open` or `closed`. No point
-/// of a file is a jumper.
+/// sections at its ends, `yes` or `no` for lockable and for remote, and `open` or `closed`. No
+/// point of a file is a jumper.
 pub fn read_points<R: CountedRead>(alloc: Global, reader: &mut R) -> Result<Vec<PointRow>, CsvFault>
     ensures rows { IfSome (R.remaining reader.old) (λ file.
         GivesUnlessFailed (λ rows. rows.items) (points_of file) result) }

@@ -18,7 +18,7 @@ use csv::StringRecord;
 use std::alloc::Global;
 
 /// The most bytes that a file has.
-pub const MAX_FILE_BYTES: usize = 4_194_304;
+const MAX_FILE_BYTES: usize = 4_194_304;
 
 /// A kind of row, of which a file holds one to each record under its header.
 pub(crate) trait FileRow: Sized + Drop {

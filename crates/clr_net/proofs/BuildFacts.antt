@@ -1,22 +1,17 @@
 -- How the stages of the checks make up the first fault, and what a sort leaves as it was.
-use Rattle.std.proofs.Common.{◌≡◌, ◌∙◌, ◌<◌, ◌≤◌, ℕ, Bool, false, not, arith, Option, None, List, length, position, refl, sym, ap}
-use Rattle.std.specs.Prelude.{All, IsTrue}
+use Rattle.std.proofs.Common.{◌≡◌, ◌∙◌, ◌<◌, ◌≤◌, ℕ, Bool, false, not, arith, Option, None, List, length, position, refl, sym, ap, All, IsTrue}
 use Rattle.std.specs.List.Sorted.{IsPermutation, IsStrictlySortedBy}
-use Rattle.std.proofs.lemmas.List.Sorted.{All-permutation, IsPermutation-map, length_permutation, list_any-IsPermutation}
-use Rattle.clr_net.specs.Name.{name_cmp, same_name}
+use Rattle.std.proofs.lemmas.List.Sorted.{All-permutation, IsPermutation-map, length_permutation, list_any-IsPermutation, IsPermutation-sym}
+use Rattle.clr_net.specs.Prelude.{name_cmp, same_name, PointRow, SectionRow}
 use Rattle.clr_net.specs.Grid.{Grid, IsNetwork, has_ends, has_one_section, point_names, section_names}
 use Rattle.std.proofs.lemmas.Bool.{le-ltb, ne_eqb, not_from_true}
 use Rattle.std.proofs.lemmas.List.Elements.{All-weaker}
 use Rattle.std.proofs.lemmas.Cmp.{nat_list_eq_equiv}
-use Rattle.std.proofs.lemmas.List.Sorted.{IsPermutation-sym}
 use Rattle.std.proofs.lemmas.Map.Keys.{IsDistinct-IsPermutation}
 use Rattle.clr_net.proofs.Places.{all_none, distinct_from_rising, no_repeat}
-use Rattle.clr_net.specs.Network.{IsGridOf}
-use Rattle.clr_net.specs.Network.{end_fault, first_fault, row_fault, size_fault, twice_fault}
+use Rattle.clr_net.specs.Network.{IsGridOf, end_fault, first_fault, row_fault, size_fault, twice_fault}
 use Rattle.clr_net.specs.declared.net_fault.NetFault.{NetFault}
 use Rattle.clr_net.specs.declared.net_fault.NetFault.TheVariants.{SameEnds, UnknownEnd}
-use Rattle.clr_net.specs.declared.point.PointRow.{PointRow}
-use Rattle.clr_net.specs.declared.section.SectionRow.{SectionRow}
 
 -- the names of sections in another order
 pub names_permuted : (old new : List SectionRow) → IsPermutation old new → IsPermutation (section_names old) (section_names new)

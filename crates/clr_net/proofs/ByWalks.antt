@@ -1,11 +1,8 @@
 -- A fence has what walks lead to, and its rows are those of the network there.
-use Rattle.std.proofs.Common.{◌≡◌, ◌∙◌, ◌&&◌, ℕ, Bool, true, List, sym, ap, subst}
-use Rattle.std.specs.List.{filter}
+use Rattle.std.proofs.Common.{◌≡◌, ◌∙◌, ◌&&◌, ℕ, Bool, true, List, sym, ap, subst, filter}
 use Rattle.std.proofs.lemmas.Bool.{and_from, and_parts}
 use Rattle.clr_net.specs.Fence.{FenceRows, IsFenceByWalks, fence_has, fence_of, in_fence, touches}
-use Rattle.clr_net.specs.Grid.{Grid, IsNetwork, section_names}
-use Rattle.clr_net.specs.Names.{has_name}
-use Rattle.clr_net.specs.declared.section.SectionRow.{SectionRow}
+use Rattle.clr_net.specs.Prelude.{Grid, IsNetwork, section_names, has_name, SectionRow}
 use Rattle.clr_net.proofs.KeptRows.{has_name-kept}
 use Rattle.clr_net.proofs.Walks.{fence_is_walks, reaches_from_walk, same_tests}
 

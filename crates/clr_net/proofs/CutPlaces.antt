@@ -1,7 +1,6 @@
 -- The places of the points that are cut, one cut after the other.
-use Rattle.std.proofs.Common.{◌≡◌, ◌∙◌, ℕ, ◌+◌, ◌<◌, inl, inr, ◌||◌, ◌∷◌, ◌++◌, ◌==◌, true, false, Some, None, List, [], length, get_or, take, position, sym, ap, arith}
+use Rattle.std.proofs.Common.{◌≡◌, ◌∙◌, ℕ, ◌+◌, ◌<◌, inl, inr, ◌||◌, ◌∷◌, ◌++◌, ◌==◌, true, false, Some, None, List, [], length, get_or, take, position, sym, ap, arith, is_some}
 use Rattle.std.proofs.lemmas.Bool.Decides.{nat_tests}
-use Rattle.std.specs.Prelude.{is_some}
 use Rattle.std.specs.List.Sorted.{IsStrictlySortedBy}
 use Rattle.std.proofs.Math.Bool.{or-false}
 use Rattle.std.proofs.lemmas.Bool.{cases_eq, false_from_ne_true}
@@ -10,8 +9,7 @@ use Rattle.std.proofs.lemmas.List.{get_or_default}
 use Rattle.std.proofs.lemmas.List.Folds.{list_any_more}
 use Rattle.std.proofs.lemmas.List.Quantifiers.{position-Some}
 use Rattle.std.proofs.lemmas.Option.{same_Some}
-use Rattle.clr_net.specs.Name.{name_cmp, same_name}
-use Rattle.clr_net.specs.Names.{has_name}
+use Rattle.clr_net.specs.Prelude.{name_cmp, same_name, has_name}
 use Rattle.clr_net.specs.Index.{place_in}
 use Rattle.clr_net.specs.Search.{ListsCut}
 use Rattle.clr_net.proofs.FencePlaces.{place_at}

@@ -1,9 +1,7 @@
 -- The search over places finds the fence of the names.
-use Rattle.std.proofs.Common.{◌≡◌, ◌∙◌, ℕ, zero, suc, ◌<◌, inl, inr, ◌&&◌, ◌||◌, true, false, Some, List, [], ◌∷◌, length, get_or, filter, position, refl, sym, ap, arith}
-use Rattle.std.specs.Prelude.{All, Contains, IsTrue, is_some, slice_get}
-use Rattle.std.specs.List.{filter_map}
+use Rattle.std.proofs.Common.{◌≡◌, ◌∙◌, ℕ, zero, suc, ◌<◌, inl, inr, ◌&&◌, ◌||◌, true, false, Some, List, [], ◌∷◌, length, get_or, filter, position, refl, sym, ap, arith, All, Contains, IsTrue}
+use Rattle.std.proofs.Common.{is_some, slice_get, filter_map, Less}
 use Rattle.std.specs.List.Sorted.{IsStrictlyIncreasing, IsStrictlySortedBy}
-use Rattle.std.specs.declared.cmp.Ordering.TheVariants.{Less}
 use Rattle.std.proofs.lemmas.Bool.{and_from, and_left, and_parts, or_cases, or_left, or_right}
 use Rattle.std.proofs.lemmas.List.{get_or-map, length-map}
 use Rattle.std.proofs.lemmas.List.Elements.{All-contains}
@@ -11,12 +9,9 @@ use Rattle.std.proofs.lemmas.List.Quantifiers.{position-Some}
 use Rattle.std.proofs.lemmas.List.Sums.{position_or_len_is}
 use Rattle.std.proofs.lemmas.Map.Keys.{Less-from_sorted}
 use Rattle.std.proofs.lemmas.Option.{same_Some}
-use Rattle.clr_net.specs.Name.{name_cmp, same_name}
-use Rattle.clr_net.specs.Names.{has_name}
-use Rattle.clr_net.specs.Grid.{Grid, IsNetwork, has_ends, point_names, section_names}
+use Rattle.clr_net.specs.Prelude.{name_cmp, same_name, has_name, Grid, IsNetwork, has_ends, point_names, section_names, fence_of, in_fence, PointRow, SectionRow}
 use Rattle.clr_net.specs.Walk.{Walk, joins}
 use Rattle.clr_net.specs.Walk.Walk.{goes_on, stays}
-use Rattle.clr_net.specs.Fence.{fence_of, in_fence}
 use Rattle.clr_net.proofs.IndexSteps.{ends_below}
 use Rattle.clr_net.proofs.PlaceLists.{around_has, has_around, picked_is_filter}
 use Rattle.clr_net.specs.Index.{AreBelow, PlaceWalk, WaysFit, ends_at, ends_in, has_place, place_in, way}
@@ -25,8 +20,6 @@ use Rattle.clr_net.specs.Search.{Finds, ListsCut, ListsFence, points_around}
 use Rattle.clr_net.specs.Ways.{IsIndexOf, around_of}
 use Rattle.clr_net.specs.declared.ways.Ends.{Ends}
 use Rattle.clr_net.specs.declared.ways.Ways.{Ways}
-use Rattle.clr_net.specs.declared.point.PointRow.{PointRow}
-use Rattle.clr_net.specs.declared.section.SectionRow.{SectionRow}
 use Rattle.clr_net.proofs.Places.{is_some-position, place_inside, place_of_name, same_from_cmp}
 use Rattle.clr_net.proofs.Walks.{fence_is_walks, one_name, same_itself, same_tests}
 

@@ -1,19 +1,13 @@
 -- A network with a section or a point more is a network, and has the fences that it had where the point crosses none.
-use Rattle.std.proofs.Common.{◌≡◌, ◌∙◌, ℕ, suc, ◌<◌, Bool, true, false, ◌&&◌, not, nat_lt, List, ◌∷◌, ◌⊎◌, inl, inr, length, filter, refl, sym, subst, arith}
-use Rattle.std.specs.Prelude.{Contains, IsTrue}
-use Rattle.std.specs.List.Sorted.{IsPermutation}
+use Rattle.std.proofs.Common.{◌≡◌, ◌∙◌, ℕ, suc, ◌<◌, Bool, true, false, ◌&&◌, not, nat_lt, List, ◌∷◌, ◌⊎◌, inl, inr, length, filter, refl, sym, subst, arith, Contains, IsTrue, IsPermutation}
 use Rattle.std.proofs.lemmas.Bool.{and_from, and_parts, both_ways, false_from_ne_true, ltb-true, not-true, or_right}
 use Rattle.std.proofs.lemmas.List.Elements.{All-cons, All-contains, All-weaker}
 use Rattle.std.proofs.lemmas.List.Sorted.{Contains-permutation, IsPermutation-refl, IsPermutation-sym, list_any-IsPermutation}
 use Rattle.clr_net.specs.Additions.{fits_point, fits_section, with_named, with_point, with_section}
-use Rattle.clr_net.specs.Fence.{in_fence, touches}
+use Rattle.clr_net.specs.Prelude.{in_fence, touches, same_name, has_name, PointRow, SectionRow}
 use Rattle.clr_net.specs.Grid.{Grid, IsNetwork, has_ends, has_one_section, point_names, section_names}
 use Rattle.clr_net.specs.Laws.{AdditionsKeepFences, KeepsFence, PointsAreAdded, SectionsAreAdded, touching_with}
-use Rattle.clr_net.specs.Name.{same_name}
-use Rattle.clr_net.specs.Names.{has_name}
 use Rattle.clr_net.specs.Walk.{IsClosed}
-use Rattle.clr_net.specs.declared.point.PointRow.{PointRow}
-use Rattle.clr_net.specs.declared.section.SectionRow.{SectionRow}
 use Rattle.clr_net.proofs.BuildFacts.{has_ends-IsPermutation, names_permuted, network_from}
 use Rattle.clr_net.proofs.ByName.{filter-with_named, filter-with_named_inside, moved_with_named, rises_with_named}
 use Rattle.clr_net.proofs.KeptRows.{first_or_later}

@@ -1,8 +1,7 @@
 -- The steps that fill the index of a network, and what is read of it.
-use Rattle.std.proofs.Common.{◌≡◌, ◌∙◌, ℕ, zero, suc, ◌+◌, ◌-◌, ◌<◌, ◌≤◌, ◌⊎◌, inl, inr, ◌==◌, Bool, true, false, List, [], ◌∷◌, ◌++◌, length, map, filter, take, drop, get_or, nat_lt, refl, sym, ap, arith}
-use Rattle.std.specs.Prelude.{All, Contains, IsTrue}
+use Rattle.std.proofs.Common.{◌≡◌, ◌∙◌, ℕ, zero, suc, ◌+◌, ◌-◌, ◌<◌, ◌≤◌, ◌⊎◌, inl, inr, ◌==◌, Bool, true, false, List, [], ◌∷◌, ◌++◌, length, map, filter, take, drop, get_or, nat_lt, refl, sym, ap}
+use Rattle.std.proofs.Common.{arith, All, Contains, IsTrue, IsPermutation}
 use Rattle.std.specs.List.{AllWithin}
-use Rattle.std.specs.List.Sorted.{IsPermutation}
 use Rattle.std.proofs.lemmas.Bool.{and_parts, cases_eq, cases_lt, false≢true}
 use Rattle.std.proofs.lemmas.Bool.Decides.{nat_tests}
 use Rattle.std.proofs.lemmas.List.{get_or-map, get_or_append_left, get_or_at, length-map}
@@ -13,34 +12,22 @@ use Rattle.clr_net.specs.declared.ways.Way.{Way}
 use Rattle.clr_net.specs.declared.ways.Out.{Out}
 use Rattle.clr_net.specs.declared.ways.Ends.{Ends}
 use Rattle.clr_net.proofs.SearchSteps.{nothing_in_nil}
+use Rattle.clr_net.proofs.KeptRows.{at_first, at_later, first_or_later}
 use Rattle.clr_net.proofs.Places.{place_inside}
-use Rattle.clr_net.specs.Grid.{has_ends}
-use Rattle.clr_net.specs.Names.{has_name}
-use Rattle.clr_net.specs.Name.{same_name}
-use Rattle.clr_net.specs.declared.point.PointRow.{PointRow}
+use Rattle.clr_net.specs.Prelude.{has_ends, has_name, same_name, PointRow}
 
 -- the way out of the i-th section over the k-th point
 abbrev out_over : ℕ → ℕ → ℕ → Out
 out_over i k to = record { from = i; way = way k to }
 
-contains_first : {X : Type 0} (x : X) (xs : List X) → Contains (x ∷ xs) x
-contains_first x xs = (0, omega arith, refl)
-
-contains_later : {X : Type 0} (x y : X) (xs : List X) → Contains xs y → Contains (x ∷ xs) y
-contains_later x y xs there = let (k, inside, is) = there in (suc k, omega arith, is)
-
-contains_cases : {X : Type 0} (x y : X) (xs : List X) → Contains (x ∷ xs) y → (x ≡ y) ⊎ Contains xs y
-contains_cases x y xs (zero, inside, is) = inl is
-contains_cases x y xs (suc k, inside, is) = inr (k, omega arith, is)
-
 -- a way that leads out of a section is one of those out of it
 pub way_there : (out : List Out) (i : ℕ) (w : Way) → Contains out (record { from = i; way = w }) → Contains (ways_in out i) w
 way_there [] i w there = absurd (nothing_in_nil _ there)
-way_there (o ∷ out) i w there = at (way_there out i w) (o.from == i) refl (contains_cases o (record { from = i; way = w }) out there)
+way_there (o ∷ out) i w there = at (way_there out i w) (o.from == i) refl (first_or_later o (record { from = i; way = w }) out there)
   where
     at : (Contains out (record { from = i; way = w }) → Contains (ways_in out i) w) → (b : Bool) → (o.from == i) ≡ b → (o ≡ record { from = i; way = w }) ⊎ Contains out (record { from = i; way = w }) → Contains (ways_in (o ∷ out) i) w
-    at rest true e (inl same) = rw e (rw (← ap Out.way same) (contains_first o.way (ways_in out i)))
-    at rest true e (inr later) = rw e (contains_later o.way w (ways_in out i) (rest later))
+    at rest true e (inl same) = rw e (rw (← ap Out.way same) (at_first o.way (ways_in out i)))
+    at rest true e (inr later) = rw e (at_later o.way w (ways_in out i) (rest later))
     at rest false e (inl same) = let one : o.from ≡ i = ap Out.from same in let yes : (o.from == i) ≡ true = grind (arith, nat_tests) in absurd (false≢true (sym e ∙ yes))
     at rest false e (inr later) = rw e (rest later)
 
@@ -50,21 +37,14 @@ out_there [] i w there = absurd (nothing_in_nil w there)
 out_there (o ∷ out) i w there = at (out_there out i w) (o.from == i) refl there
   where
     at : (Contains (ways_in out i) w → Contains out (record { from = i; way = w })) → (b : Bool) → (o.from == i) ≡ b → Contains (ways_in (o ∷ out) i) w → Contains (o ∷ out) (record { from = i; way = w })
-    at rest true e here = elim (contains_cases o.way w (ways_in out i) (rw e at here)) [
+    at rest true e here = elim (first_or_later o.way w (ways_in out i) (rw e at here)) [
       | inl same ↦
           let one : o.from ≡ i = grind (arith, nat_tests) in
           let is : o ≡ record { from = i; way = w } = (λ j. record { from = one j; way = same j }) in
           (0, omega arith, is)
-      | inr later ↦ contains_later o (record { from = i; way = w }) out (rest later)
+      | inr later ↦ at_later o (record { from = i; way = w }) out (rest later)
     ]
-    at rest false e here = contains_later o (record { from = i; way = w }) out (rest (rw e at here))
-
--- no way over no point
-pub around_none : (ends : List Ends) → IsAround ends 0 (ways_in [])
-around_none ends = record {
-  real = λ i w there. absurd (nothing_in_nil w there);
-  whole = λ k below. absurd (omega arith);
-}
+    at rest false e here = at_later o (record { from = i; way = w }) out (rest (rw e at here))
 
 -- one point more, which is a way at both its ends
 pub around_more : (ends : List Ends) (k : ℕ) (e : Ends) (out : List Out) → IsAround ends k (ways_in out) → ends_at ends k ≡ e

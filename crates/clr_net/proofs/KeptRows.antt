@@ -1,10 +1,8 @@
 -- Which rows a filter keeps, which a map gives, and which names the rows have that are kept.
-use Rattle.std.proofs.Common.{◌≡◌, ◌⊎◌, inl, inr, ⊎_elim, arith, ℕ, zero, suc, Bool, true, false, ◌&&◌, List, [], ◌∷◌, map, refl, subst}
-use Rattle.std.specs.List.{Contains, filter}
+use Rattle.std.proofs.Common.{◌≡◌, ◌⊎◌, inl, inr, ⊎_elim, arith, ℕ, zero, suc, Bool, true, false, ◌&&◌, List, [], ◌∷◌, map, refl, subst, Contains, filter}
 use Rattle.std.proofs.lemmas.Bool.{both_ways}
 use Rattle.std.proofs.lemmas.Map.Views.{any-filter_same}
-use Rattle.clr_net.specs.Name.{same_name}
-use Rattle.clr_net.specs.Names.{has_name}
+use Rattle.clr_net.specs.Prelude.{same_name, has_name}
 use Rattle.clr_net.proofs.Walks.{one_name}
 
 module _ {X : Type 0} where
@@ -12,10 +10,10 @@ module _ {X : Type 0} where
   first_or_later x y xs (zero, within, here) = inl here
   first_or_later x y xs (suc k, within, here) = inr (k, omega arith, here)
 
-  at_first : (x : X) (xs : List X) → Contains (x ∷ xs) x
+  pub at_first : (x : X) (xs : List X) → Contains (x ∷ xs) x
   at_first x xs = (0, omega arith, refl)
 
-  at_later : (x y : X) (xs : List X) → Contains xs y → Contains (x ∷ xs) y
+  pub at_later : (x y : X) (xs : List X) → Contains xs y → Contains (x ∷ xs) y
   at_later x y xs (k, within, here) = (suc k, omega arith, here)
 
 -- an element that passes is among those that a filter keeps

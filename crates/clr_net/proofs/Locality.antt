@@ -1,14 +1,9 @@
 -- A fence depends on the rows of its sections and of the points that touch them, and on nothing else.
-use Rattle.std.proofs.Common.{◌≡◌, ◌∙◌, ℕ, Bool, true, false, ◌||◌, List, map, filter, Contains, refl, sym, ap, subst}
+use Rattle.std.proofs.Common.{◌≡◌, ◌∙◌, ℕ, Bool, true, false, ◌||◌, List, map, filter, Contains, refl, sym, ap, subst, true≢false}
 use Rattle.std.proofs.lemmas.Bool.{and_parts, both_ways, false_from_ne_true}
-use mathlib.Core.Bool.{true≢false}
-use Rattle.clr_net.specs.Fence.{FenceRows, fence_of, in_fence, touches}
-use Rattle.clr_net.specs.Grid.{Grid, IsNetwork, section_names, unplaced}
+use Rattle.clr_net.specs.Prelude.{FenceRows, fence_of, in_fence, touches, Grid, IsNetwork, section_names, unplaced, has_name, PointRow, SectionRow}
 use Rattle.clr_net.specs.Laws.{FencesAreLocal, SameRowsAt}
-use Rattle.clr_net.specs.Names.{has_name}
 use Rattle.clr_net.specs.Walk.{IsClosed}
-use Rattle.clr_net.specs.declared.point.PointRow.{PointRow}
-use Rattle.clr_net.specs.declared.section.SectionRow.{SectionRow}
 use Rattle.clr_net.proofs.Walks.{fence_is_closed, fence_is_least, same_tests}
 use Rattle.clr_net.proofs.KeptRows.{Contains-filter, has_name-kept, kept_there, mapped_from, there_mapped}
 

@@ -1,8 +1,7 @@
 -- What follows of a text that is a name.
-use Rattle.std.proofs.Common.{◌≡◌, ℕ, ◌<◌, ◌≤◌, Bool, true, false, not, nat_lt, nat_le, IsTrue, None, List, [], ◌∷◌, ◌++◌, length, drop, replicate, refl, arith}
+use Rattle.std.proofs.Common.{◌≡◌, ℕ, ◌<◌, ◌≤◌, Bool, true, false, not, nat_lt, nat_le, IsTrue, None, List, [], ◌∷◌, ◌++◌, length, drop, replicate, refl, arith, Result, Ok, Err, MatchResult, IsOk}
+use Rattle.std.proofs.Common.{IsAscii, IsUtf8}
 use Rattle.std.specs.List.{list_all, prefix_len, position_or_len}
-use Rattle.std.specs.Prelude.{Result, Ok, Err, MatchResult, IsOk}
-use Rattle.std.specs.Str.{IsAscii, IsUtf8}
 use Rattle.std.proofs.lemmas.Bool.{and_parts, and_from, ltb-true, ltb-false, leb-true, lt-ltb, le-leb}
 use Rattle.std.proofs.lemmas.Bool.Decides.{nat_tests}
 use Rattle.std.proofs.lemmas.Str.{IsUtf8-from_ascii}

@@ -1,22 +1,17 @@
 -- Where names stand in a list: in the order of names, and where one stands twice.
-use Rattle.std.proofs.Common.{Bor, Option, ◌≡◌, ◌∙◌, ℕ, zero, suc, ◌+◌, ◌<◌, ◌≤◌, Bool, true, false, cond, not, ◌||◌, Some, None, List, [], ◌∷◌, ◌⊎◌, inl, inr, length, get_or, take, map, position, refl, sym, ap, arith, Result, Ok, Err}
+use Rattle.std.proofs.Common.{Bor, Option, ◌≡◌, ◌∙◌, ℕ, zero, suc, ◌+◌, ◌<◌, ◌≤◌, Bool, true, false, cond, not, ◌||◌, Some, None, List, [], ◌∷◌, ◌⊎◌, inl, inr, length, get_or, take, map, position}
+use Rattle.std.proofs.Common.{refl, sym, ap, arith, Result, Ok, Err, All, is_some, option_copied, below_more, Ordering, Less, Equal, Greater}
 use Rattle.std.specs.Result.{result_ok}
-use Rattle.std.specs.Prelude.{All, is_some}
-use Rattle.std.specs.Option.{option_copied}
 use Rattle.std.specs.Slice.{IsItemAt}
-use Rattle.std.proofs.lemmas.Bool.{false≢true}
+use Rattle.std.proofs.lemmas.Bool.{false≢true, both_ways, cases_lt, false_from_ne_true, le-ltb, lt-ltb, or_parts}
 use Rattle.std.proofs.lemmas.List.Quantifiers.{position-Some}
 use Rattle.clr_net.specs.Index.{place_in}
-use borrow.Author.Count.{below_more}
 use Rattle.std.proofs.Math.Bool.{or-true, or-false, not-not}
-use Rattle.std.specs.declared.cmp.Ordering.{Ordering}
-use Rattle.std.specs.declared.cmp.Ordering.TheVariants.{Less, Equal, Greater}
 use Rattle.std.specs.Ordering.{is_eq, is_lt, ordering_reverse}
 use Rattle.std.specs.List.{IsAllAdjacentAnswer, IsDistinct, find, list_all, list_any, position_or_len, range_with_len}
 use Rattle.std.specs.List.Sorted.{IsPermutation, IsStrictlySortedBy, IsSortedBy, IsSortedByKey, IsBinarySearchResult, IsSearchInRange, IsPartitionPoint}
 use Rattle.std.specs.Cmp.Lexicographic.{same_text, texts_ties}
 use Rattle.std.proofs.lemmas.Cmp.{nat_list_cmp_total, nat_list_eq_equiv}
-use Rattle.std.proofs.lemmas.Bool.{both_ways, cases_lt, false_from_ne_true, le-ltb, lt-ltb, or_parts}
 use Rattle.std.proofs.lemmas.List.{get_or-map, get_or-take, get_or_default, length-map, length-take-le}
 use Rattle.std.proofs.lemmas.List.Sums.{AllPass-from_list_all, list_all-from_AllPass, position_or_len_is}
 use Rattle.std.proofs.lemmas.List.Sorted.{All-permutation, IsPermutation-map, IsPermutation-sym, searchable_from_sorted}
@@ -24,7 +19,7 @@ use Rattle.std.proofs.lemmas.List.FromFn.{get_or-range_with_len, length-range_wi
 use Rattle.std.proofs.lemmas.List.Folds.{list_any_at, list_any_more, list_any_none}
 use Rattle.std.specs.BTreeSet.{BTreeSet, Updates, contains}
 use Rattle.std.proofs.lemmas.Map.Keys.{IsDistinct-IsPermutation, IsDistinct-from_apart, Less-from_sorted, apart_from_distinct, sorted_from_all_adjacent}
-use Rattle.clr_net.specs.Name.{same_name, name_cmp}
+use Rattle.clr_net.specs.Prelude.{same_name, name_cmp}
 use Rattle.clr_net.specs.Names.{has_name, is_repeat, repeat_place}
 
 -- the first element that passes

@@ -8,7 +8,7 @@ use Rattle.std.proofs.lemmas.List.Elements.{Contains-append_left, Contains-push,
 use Rattle.std.proofs.Math.Seq.{take-length}
 use Rattle.clr_net.specs.Index.{PlaceWalk, has_place}
 use Rattle.clr_net.specs.Index.PlaceWalk.{begins, follows}
-use Rattle.clr_net.specs.Search.{Finds, Follows, IsQueued, is_marked, work_left}
+use Rattle.clr_net.specs.Search.{Finds, Follows, IsQueued, is_marked}
 use Rattle.clr_net.proofs.PlaceLists.{has_at, has_before, has_cases, has_now, place_of_has}
 use Rattle.clr_net.specs.declared.ways.Way.{Way}
 
@@ -57,17 +57,6 @@ queued_more marked queue t inside q i = (
     | inr same ↦ rw (← same) (has_now queue t)
   ],
 )
-
--- no way followed yet
-pub follows_none : (cuts : List ℕ) (marked : List Bool) (queue : List ℕ) → Follows [] cuts marked queue marked queue
-follows_none cuts marked queue = record {
-  kept = λ i e. e;
-  led = λ w h. absurd (nothing_in_nil w h);
-  sound = λ i e. inl e;
-  queued = λ q. q;
-  behind = ([], sym (append-nil queue));
-  once = refl;
-}
 
 -- a way that is cut, or leads to what is marked already, changes nothing
 pub follows_skip : (done : List Way) (w : Way) (cuts : List ℕ) (old : List Bool) (old_queue : List ℕ) (marked : List Bool) (queue : List ℕ) → Follows done cuts old old_queue marked queue
@@ -158,15 +147,6 @@ search_step around cuts start marked queue looked_at new_marked new_queue s wait
       ];
       within = rw is (omega arith);
     }
-
--- less is left, by the one that was looked at
-pub search_less : (ways : List Way) (cuts : List ℕ) (marked : List Bool) (queue : List ℕ) (looked_at : ℕ) (new_marked : List Bool) (new_queue : List ℕ) → looked_at < length queue
-    → Follows ways cuts marked queue new_marked new_queue → work_left new_marked new_queue (looked_at + 1) < work_left marked queue looked_at
-search_less ways cuts marked queue looked_at new_marked new_queue waits f =
-    let (more, is) = f.behind in
-    let size : length new_queue ≡ length queue + length more = rw is (length-append queue more) in
-    let same = f.once in
-    omega arith
 
 -- among cells that are all unmarked nothing is marked
 pub none_marked : (n i : ℕ) → is_marked (replicate n false) i ≡ false

@@ -1,20 +1,15 @@
 -- The computable test of a fence says what the walks say.
-use Rattle.std.proofs.Common.{◌≡◌, ◌↔◌, ◌∙◌, ℕ, zero, suc, ◌+◌, ◌<◌, ◌≤◌, ◌⊎◌, inl, inr, ◌&&◌, ◌||◌, Bool, true, false, not, List, [], ◌∷◌, length, refl, sym, arith}
-use Rattle.std.specs.Prelude.{All, Contains, IsTrue, if◌then◌else◌}
-use Rattle.std.specs.List.{list_any}
+use Rattle.std.proofs.Common.{◌≡◌, ◌↔◌, ◌∙◌, ℕ, zero, suc, ◌+◌, ◌<◌, ◌≤◌, ◌⊎◌, inl, inr, ◌&&◌, ◌||◌, Bool, true, false, not, List, [], ◌∷◌, length, refl, sym, arith, All, Contains, IsTrue}
+use Rattle.std.proofs.Common.{if◌then◌else◌}
+use Rattle.clr_net.specs.Prelude.{list_any, same_name, has_name, Grid, IsNetwork, has_ends, section_names, PointRow, SectionRow}
 use Rattle.std.specs.Cmp.Lexicographic.{same_text}
 use Rattle.std.proofs.lemmas.Bool.{and_from, and_parts, both_ways, cases_eq, not-true, or_cases, or_left, or_right, not_from_false}
 use Rattle.std.proofs.lemmas.Cmp.{nat_list_eq_equiv}
 use Rattle.std.proofs.lemmas.List.Elements.{All-contains}
 use Rattle.std.proofs.lemmas.List.Folds.{Any-from_list_any, list_any_at}
-use Rattle.clr_net.specs.Name.{same_name}
-use Rattle.clr_net.specs.Names.{has_name}
-use Rattle.clr_net.specs.Grid.{Grid, IsNetwork, has_ends, section_names}
 use Rattle.clr_net.specs.Walk.{IsClosed, Walk, joins}
 use Rattle.clr_net.specs.Walk.Walk.{goes_on, stays}
 use Rattle.clr_net.specs.Fence.{in_fence, leads, reaches}
-use Rattle.clr_net.specs.declared.point.PointRow.{PointRow}
-use Rattle.clr_net.specs.declared.section.SectionRow.{SectionRow}
 use Rattle.std.proofs.lemmas.List.{length-map}
 
 -- two names that are the same are one

@@ -2,11 +2,8 @@
 use Rattle.std.specs.Prelude.{ℕ, Bool, true, ◌&&◌, not, nat_lt, List, ◌∷◌, ◌++◌, length, filter}
 use Rattle.std.specs.Prelude.{Option, Some, None}
 use Rattle.std.specs.Ordering.{is_lt, is_gt}
-use Rattle.clr_net.specs.Name.{name_cmp}
-use Rattle.clr_net.specs.Names.{has_name}
+use Rattle.clr_net.specs.Prelude.{name_cmp, has_name, SectionRow, PointRow}
 use Rattle.clr_net.specs.Grid.{Grid, section_names, point_names, has_ends, has_one_section}
-use Rattle.clr_net.specs.declared.section.SectionRow.{SectionRow}
-use Rattle.clr_net.specs.declared.point.PointRow.{PointRow}
 use Rattle.clr_net.specs.declared.addition.Addition.{Addition}
 
 -- rows with one more, by name: those of lower names, the row, and those of higher names

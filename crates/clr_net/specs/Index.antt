@@ -1,11 +1,10 @@
 -- The index of a network, by the places of its rows: the ends of each point, and the ways out of
 -- each section.
-use Rattle.std.specs.Prelude.{◌≡◌, ◌==◌, ◌<◌, ◌≤◌, ◌⊎◌, ℕ, ◌+◌, Bool, true, false, nat_lt, List, length}
-use Rattle.std.specs.Prelude.{filter, map, Contains}
+use Rattle.std.specs.Prelude.{◌≡◌, ◌==◌, ◌<◌, ◌≤◌, ◌⊎◌, ℕ, ◌+◌, Bool, true, false, nat_lt, List}
+use Rattle.std.specs.Prelude.{length, filter, map, Contains}
 use Rattle.std.specs.List.{list_any, position_or_len, slice_index_or}
 use Rattle.std.specs.List.Sorted.{IsPartitionPoint}
-use Rattle.clr_net.specs.Name.{same_name}
-use Rattle.clr_net.specs.declared.point.PointRow.{PointRow}
+use Rattle.clr_net.specs.Prelude.{same_name, PointRow}
 use Rattle.clr_net.specs.declared.ways.Way.{Way}
 use Rattle.clr_net.specs.declared.ways.Out.{Out}
 use Rattle.clr_net.specs.declared.ways.Ends.{Ends}

@@ -1,15 +1,11 @@
 -- What the definitions of the network and the fence mean, as laws.
 use Rattle.std.specs.Prelude.{◌≡◌, ◌↔◌, ℕ, Bool, if◌then◌else◌, IsTrue, List, ◌∷◌, None, filter}
 use Rattle.std.specs.Prelude.{map}
-use Rattle.clr_net.specs.Names.{has_name}
-use Rattle.clr_net.specs.Grid.{Grid, IsNetwork, section_names, unplaced}
+use Rattle.clr_net.specs.Prelude.{has_name, Grid, IsNetwork, section_names, unplaced, FenceRows}
+use Rattle.clr_net.specs.Prelude.{fence_of, in_fence, touches, SectionRow, PointRow}
 use Rattle.clr_net.specs.Network.{IsGridOf, first_fault}
-use Rattle.clr_net.specs.Additions.{fits_section, fits_point, with_named, with_section}
-use Rattle.clr_net.specs.Additions.{with_point}
+use Rattle.clr_net.specs.Additions.{fits_section, fits_point, with_named, with_section, with_point}
 use Rattle.clr_net.specs.Walk.{IsClosed, Walk}
-use Rattle.clr_net.specs.Fence.{FenceRows, fence_of, in_fence, touches}
-use Rattle.clr_net.specs.declared.section.SectionRow.{SectionRow}
-use Rattle.clr_net.specs.declared.point.PointRow.{PointRow}
 
 -- a section is in the fence exactly where the work section is known and a walk leads from it over
 -- points that are not cut

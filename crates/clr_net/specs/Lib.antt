@@ -11,3 +11,4 @@ pub mod Index
 pub mod Search
 pub mod Ways
 pub mod Laws
+pub mod Prelude

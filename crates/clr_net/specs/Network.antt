@@ -1,10 +1,8 @@
 -- The faults of rows that are to be a network, and what a build of them answers.
 use Rattle.std.specs.Prelude.{◌≡◌, ◌⊎◌, ℕ, ◌+◌, not, nat_lt, ◌==◌, ◌||◌, if◌then◌else◌, List}
-use Rattle.std.specs.Prelude.{length, position, Option, Some, None, Result, Ok, Err}
-use Rattle.std.specs.List.Sorted.{IsPermutation}
+use Rattle.std.specs.Prelude.{length, position, Option, Some, None, Result, Ok, Err, IsPermutation}
 use Rattle.clr_net.specs.Names.{repeat_place}
-use Rattle.clr_net.specs.declared.section.SectionRow.{SectionRow}
-use Rattle.clr_net.specs.declared.point.PointRow.{PointRow}
+use Rattle.clr_net.specs.Prelude.{SectionRow, PointRow}
 use Rattle.clr_net.specs.declared.net_fault.NetFault.{NetFault}
 use Rattle.clr_net.specs.declared.net_fault.NetFault.TheVariants.{NoSections, TooLarge}
 use Rattle.clr_net.specs.declared.net_fault.NetFault.TheVariants.{SectionTwice, PointTwice}

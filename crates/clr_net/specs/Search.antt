@@ -1,12 +1,9 @@
 -- The search of a fence, by places: which sections are marked and stand in the queue, what was
 -- found, and the points there.
-use Rattle.std.specs.Prelude.{◌≡◌, ◌<◌, ◌+◌, ◌-◌, ◌⊎◌, ◌↔◌, ℕ, Bool, true, false, not, List}
-use Rattle.std.specs.Prelude.{[], ◌∷◌, ◌++◌, length, map, count_by, Contains}
-use Rattle.std.specs.List.{slice_index_or}
-use Rattle.clr_net.specs.Fence.{in_fence}
-use Rattle.clr_net.specs.Grid.{Grid, section_names}
+use Rattle.std.specs.Prelude.{◌≡◌, ◌<◌, ◌+◌, ◌-◌, ◌⊎◌, ◌↔◌, ℕ, Bool, true, false, not, List, []}
+use Rattle.std.specs.Prelude.{◌∷◌, ◌++◌, length, map, count_by, Contains, slice_index_or}
+use Rattle.clr_net.specs.Prelude.{in_fence, Grid, section_names, has_name}
 use Rattle.clr_net.specs.Index.{PlaceWalk, has_place}
-use Rattle.clr_net.specs.Names.{has_name}
 use Rattle.clr_net.specs.declared.ways.Way.{Way}
 
 -- whether the section at a place is marked

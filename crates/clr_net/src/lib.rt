@@ -15,7 +15,7 @@ mod ways;
 
 pub use addition::Addition;
 pub use fence::{Fence, RowPlaces, rows_at};
-pub use name::{MAX_NAME_LEN, Name, NameFault, has_name};
+pub use name::{Name, NameFault, has_name};
 pub use named::{Named, place_of, repeat_place, row_of, sort_by_name};
 pub use net_fault::NetFault;
 pub use network::{MAX_POINTS, MAX_SECTIONS, Network};

@@ -17,7 +17,7 @@ use std::marker::Model;
 use thiserror::Error;
 
 /// The most bytes that a name has.
-pub const MAX_NAME_LEN: usize = 24;
+const MAX_NAME_LEN: usize = 24;
 
 /// Why a text is no name.
 #[derive(Clone, Copy, Debug, PartialEq, Eq, Error)]

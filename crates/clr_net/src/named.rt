@@ -1,6 +1,6 @@
 //! Rows that go by a name: their order, the place of a name, and a name that stands twice.
-ghost use Rattle.std.specs.Prelude.{◌≡◌, ◌<◌, ◌≤◌, ℕ, List, find, length, map, position, IfOk, IfSome};
-ghost use Rattle.std.specs.Prelude.{IfNone, IsTrue, false, vec_capacity};
+ghost use Rattle.std.specs.Prelude.{◌≡◌, ◌<◌, ◌≤◌, ℕ, List, find, length, map, position, IfOk};
+ghost use Rattle.std.specs.Prelude.{IfSome, IfNone, IsTrue, false, vec_capacity};
 ghost use Rattle.std.specs.List.{IsDistinct};
 ghost use Rattle.std.specs.Option.{option_copied};
 ghost use Rattle.std.specs.List.Sorted.{IsPermutation, IsStrictlySortedBy, IsSortedByKey};

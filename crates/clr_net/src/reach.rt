@@ -102,8 +102,8 @@ fn has_place(places: &[usize], place: usize) -> bool
 }
 
 /// The places of the sections, of `count`, that a walk over points that are not cut leads to from
-/// the section at `start`. The sections that were found stand in a queue: the first one that came is
-/// the first whose ways are followed.
+/// the section at `start`. The sections that were found stand in a queue: the first one that came
+/// is the first whose ways are followed.
 fn reach(
     alloc: Global,
     ways: &Ways,

@@ -17,21 +17,21 @@ use std::alloc::{AllocError, Global};
 
 /// A way out of a section: over which point, and to which section, each by its place.
 #[derive(Clone, Copy, Debug, PartialEq, Eq)]
-pub struct Way {
+pub(crate) struct Way {
     pub point: usize,
     pub to: usize,
 }
 
 /// A way, with the place of the section that it leads out of.
 #[derive(Clone, Copy, Debug, PartialEq, Eq)]
-pub struct Out {
+pub(crate) struct Out {
     pub from: usize,
     pub way: Way,
 }
 
 /// The places of the sections at a point's ends.
 #[derive(Clone, Copy, Debug, PartialEq, Eq)]
-pub struct Ends {
+pub(crate) struct Ends {
     pub from: usize,
     pub to: usize,
 }
@@ -54,7 +54,7 @@ fn ends_of(sections: &[SectionRow], point: &PointRow) -> Option<Ends>
 
 /// The index of a network.
 #[derive(Debug, Drop)]
-pub struct Ways {
+pub(crate) struct Ways {
     /// The ends of each point, by the point's place.
     pub ends: Vec<Ends>,
     /// The ways out of all sections, in the order of the sections' places.
@@ -65,7 +65,7 @@ pub struct Ways {
 
 impl Ways {
     /// An index of nothing, with room for that of any network.
-    pub fn empty(alloc: Global) -> Result<Ways, AllocError>
+    pub(crate) fn empty(alloc: Global) -> Result<Ways, AllocError>
         ensures { IfOk result HasRoom }
     {
         Ok(Ways {
@@ -78,7 +78,11 @@ impl Ways {
     /// Fills the index anew, where all ends of these points are among these sections, and tells
     /// whether they are. Sections and points stand in the order of their names. Within the limits
     /// of a network this needs no memory.
-    pub fn fill(&mut self, sections: &[SectionRow], points: &[PointRow]) -> Result<bool, AllocError>
+    pub(crate) fn fill(
+        &mut self,
+        sections: &[SectionRow],
+        points: &[PointRow],
+    ) -> Result<bool, AllocError>
         requires { IsStrictlySortedBy name_cmp (section_names sections.now) }
         ensures known { IfOk result (λ known. known
             ≡ list_all (has_ends (section_names sections.now)) points.now) }
@@ -97,7 +101,7 @@ impl Ways {
     }
 
     /// Fills the index anew with that of a network, which needs no memory.
-    pub fn refill(&mut self, sections: &[SectionRow], points: &[PointRow])
+    pub(crate) fn refill(&mut self, sections: &[SectionRow], points: &[PointRow])
         requires network { IsNetwork (record { sections = sections.now; points = points.now }) }
         requires room { HasRoom self.old }
         ensures index { IsIndexOf
@@ -110,7 +114,7 @@ impl Ways {
     }
 
     /// The ways out of the section at a place.
-    pub fn out_of(&self, place: usize) -> &[Out]
+    pub(crate) fn out_of(&self, place: usize) -> &[Out]
         requires { (n : ℕ) × HasStarts n self.now × (place < n) }
         ensures { result.now ≡ out_at self.now.out.items place }
     {

@@ -4,19 +4,12 @@ use Rattle.std.proofs.lemmas.Slice.Eq.{bytes_eq-Decides, slice_eq-Decides}
 use Rattle.clr_order.specs.Action.{same_action, action_word, action_named}
 use Rattle.clr_order.specs.Step.{same_actions}
 use Rattle.clr_order.specs.declared.action.Action.{Action}
-use Rattle.clr_order.specs.declared.action.Action.TheVariants.{Open, Block, Control, Tag, Untag, Uncontrol, Unblock, Close, Leave}
+use Rattle.clr_order.specs.declared.action.Action.TheVariants.{Open}
 
 -- the word of an action names it
 pub action_named-word : (a : Action) → action_named (action_word a) ≡ Some a
 action_named-word Open = refl
-action_named-word Block = refl
-action_named-word Control = refl
-action_named-word Tag = refl
-action_named-word Untag = refl
-action_named-word Uncontrol = refl
-action_named-word Unblock = refl
-action_named-word Close = refl
-action_named-word Leave = refl
+action_named-word _ = refl
 
 -- actions with one word are one
 pub same_word : (a b : Action) → action_word a ≡ action_word b → a ≡ b

@@ -1,6 +1,5 @@
 -- What a search of a list finds, and what holds where it finds nothing.
-use Rattle.std.proofs.Common.{◌≡◌, Bool, true, false, Bor, Option, Some, None, List, [], ◌∷◌, map, find, All, refl}
-use Rattle.std.specs.Option.{option_copied, option_map}
+use Rattle.std.proofs.Common.{◌≡◌, Bool, true, false, Bor, Option, Some, None, List, [], ◌∷◌, map, find, All, refl, option_copied, option_map}
 use Rattle.std.proofs.lemmas.List.Elements.{All-nil, All-cons, All-head, All-tail}
 
 -- a search of what a map gives

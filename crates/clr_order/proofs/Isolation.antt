@@ -1,21 +1,15 @@
 -- A sound order leaves no way from a source to its work section but over points that it makes safe; the least source is named.
 use Rattle.std.proofs.Common.{◌≡◌, ◌∙◌, ℕ, zero, suc, ◌<◌, Bool, true, false, ◌||◌, IsTrue, Option, Some, None, List, [], ◌∷◌, length, filter, find, All, Contains, refl, ap, sym, arith, get_or}
-use Rattle.std.specs.Option.{option_map}
+use Rattle.std.proofs.Common.{option_map, Greater, Less}
 use Rattle.std.specs.List.Sorted.{IsStrictlySortedBy}
 use Rattle.std.proofs.lemmas.Bool.{both_ways, or_left, or_right, false≢true, false_from_ne_true}
-use Rattle.std.specs.declared.cmp.Ordering.TheVariants.{Greater, Less}
 use Rattle.std.proofs.lemmas.Cmp.{nat_list_cmp_total}
 use Rattle.std.proofs.lemmas.List.Elements.{All-contains, All-cons, All-head, All-nil, All-tail}
 use Rattle.std.proofs.lemmas.Map.Keys.{sorted_tail}
 use Rattle.std.proofs.lemmas.Map.Views.{All-after_first}
-use Rattle.clr_net.specs.Fence.{FenceRows, fence_of, in_fence}
-use Rattle.clr_net.specs.Grid.{Grid, IsNetwork, point_names, section_names}
-use Rattle.clr_net.specs.Name.{name_cmp, same_name}
-use Rattle.clr_net.specs.Names.{has_name}
+use Rattle.clr_net.specs.Prelude.{FenceRows, fence_of, in_fence, Grid, IsNetwork, point_names, section_names, name_cmp, same_name, has_name}
 use Rattle.clr_net.specs.Walk.{Walk}
 use Rattle.clr_net.specs.Walk.Walk.{goes_on, stays}
-use Rattle.clr_net.specs.declared.point.PointRow.{PointRow}
-use Rattle.clr_net.specs.declared.section.SectionRow.{SectionRow}
 use Rattle.clr_net.proofs.Walks.{fence_is_walks, one_name, some_from}
 use Rattle.clr_order.specs.Isolating.{IsSoundOrder, is_border_point, needed_at, touching_row}
 use Rattle.clr_order.specs.Laws.{is_made_safe, safe_points}
@@ -23,6 +17,8 @@ use Rattle.clr_order.specs.Needed.{needed}
 use Rattle.clr_order.specs.Step.{Task, actions_at}
 use Rattle.clr_order.proofs.Actions.{same_actions-Decides}
 use Rattle.clr_order.proofs.Finds.{found_passes}
+use Rattle.clr_net.specs.declared.point.PointRow.{PointRow}
+use Rattle.clr_net.specs.declared.section.SectionRow.{SectionRow}
 
 -- a row that is found among some rows under a name, and which passes a test, is named among those that pass it
 found_among : (name : List ℕ) (near safe : PointRow → Bool) (rows : List PointRow) (row : PointRow)

@@ -1,6 +1,5 @@
 -- No refusal of a restoring or a switching order applies exactly where the order is what it has to be.
-use Rattle.std.proofs.Common.{◌≡◌, ℕ, ◌<◌, false, not, ◌==◌, IsTrue, None, List, length, refl, ap, arith}
-use Rattle.std.specs.Option.{option_map}
+use Rattle.std.proofs.Common.{◌≡◌, ℕ, ◌<◌, false, not, ◌==◌, IsTrue, None, List, length, refl, ap, arith, option_map}
 use Rattle.std.proofs.lemmas.Bool.{not-false, not_from_true, eqb-false, ltb-false, le-ltb, ne_eqb}
 use Rattle.std.proofs.lemmas.List.Elements.{All-weaker}
 use Rattle.clr_order.specs.Action.{is_switching}

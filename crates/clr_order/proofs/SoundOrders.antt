@@ -1,16 +1,15 @@
 -- No refusal of an isolating order applies exactly where the order is sound.
-use Rattle.std.proofs.Common.{◌≡◌, ℕ, false, not, nat_lt, IsTrue, None, List, length, refl, ap, arith}
-use Rattle.std.specs.Option.{option_map}
+use Rattle.std.proofs.Common.{◌≡◌, ℕ, false, not, nat_lt, IsTrue, None, List, length, refl, ap, arith, option_map}
 use Rattle.std.proofs.lemmas.Bool.{not-false, not_from_true, or_parts, or_from, eqb-false, ltb-false, le-ltb, ne_eqb}
 use Rattle.std.proofs.lemmas.List.Elements.{All-weaker}
-use Rattle.clr_net.specs.Fence.{FenceRows}
-use Rattle.clr_net.specs.declared.section.SectionRow.{SectionRow}
+use Rattle.clr_net.specs.Prelude.{FenceRows}
 use Rattle.clr_order.specs.Step.{Task, same_actions, actions_at}
 use Rattle.clr_order.specs.Isolating.{IsSoundWithin, isolating_fault, is_border_point, needed_at}
 use Rattle.clr_order.proofs.Actions.{same_actions-Decides}
 use Rattle.clr_order.proofs.Faults.{fault_if-none, name_fault-none, none-fault_if, none-name_fault}
 use Rattle.clr_order.proofs.Finds.{all_fail, find-none, option_map-none}
 use Rattle.clr_order.proofs.Steps.{no_stray, stray_point-none, once_from, has_repeat-once}
+use Rattle.clr_net.specs.declared.section.SectionRow.{SectionRow}
 
 pub sound_from_no_fault : (fence : FenceRows) (points : List (List ℕ)) (tasks : List Task) → isolating_fault fence points tasks ≡ None → IsSoundWithin fence points tasks
 sound_from_no_fault fence points tasks h =

@@ -15,32 +15,18 @@ use Rattle.clr_order.specs.Action.{action_named, action_word, all_actions}
 use Rattle.clr_order.specs.Step.{Task, task}
 use Rattle.clr_order.specs.Texts.{is_blank, read_step_text, step_at, step_of, step_text, waiting_step}
 use Rattle.clr_order.specs.declared.action.Action.{Action}
-use Rattle.clr_order.specs.declared.action.Action.TheVariants.{Open, Block, Control, Tag, Untag, Uncontrol, Unblock, Close, Leave}
+use Rattle.clr_order.specs.declared.action.Action.TheVariants.{Open}
 use Rattle.clr_order.specs.declared.step.Step.{Step}
 use Rattle.clr_order.proofs.Actions.{action_named-word}
 use Rattle.clr_order.proofs.Finds.{found_passes}
 
 word_before : (a : Action) (p : List ℕ) → before_first is_blank (action_word a ++ 32 ∷ p) ≡ action_word a
 word_before Open p = refl
-word_before Block p = refl
-word_before Control p = refl
-word_before Tag p = refl
-word_before Untag p = refl
-word_before Uncontrol p = refl
-word_before Unblock p = refl
-word_before Close p = refl
-word_before Leave p = refl
+word_before _ p = refl
 
 name_after : (a : Action) (p : List ℕ) → after_first is_blank (action_word a ++ 32 ∷ p) ≡ p
 name_after Open p = refl
-name_after Block p = refl
-name_after Control p = refl
-name_after Tag p = refl
-name_after Untag p = refl
-name_after Uncontrol p = refl
-name_after Unblock p = refl
-name_after Close p = refl
-name_after Leave p = refl
+name_after _ p = refl
 
 good_bytes : (p : List ℕ) → list_all is_name_byte p ≡ true → All (λ b. not (is_name_byte b) ≡ false) p
 good_bytes [] h = All-nil (λ b. not (is_name_byte b) ≡ false)

@@ -1,17 +1,14 @@
 -- Lists of names and of steps.
-use Rattle.std.proofs.Common.{◌≡◌, ◌∙◌, Bor, ℕ, Bool, false, not, IsTrue, None, List, [], ◌∷◌, map, find, All, refl, sym, ap}
+use Rattle.std.proofs.Common.{◌≡◌, ◌∙◌, Bor, ℕ, Bool, false, not, IsTrue, None, List, [], ◌∷◌, map, find, All, refl, sym, ap, option_map}
 use Rattle.std.specs.List.{IsDistinct, AllByRecursion, list_any}
-use Rattle.std.specs.Option.{option_map}
 use Rattle.std.proofs.lemmas.Bool.{not-false, not_from_true, or_parts, or_from}
 use Rattle.std.proofs.lemmas.List.Elements.{All-weaker}
 use Rattle.std.proofs.lemmas.Simd.{map-map}
-use Rattle.clr_net.specs.Grid.{point_names}
-use Rattle.clr_net.specs.Name.{same_name}
-use Rattle.clr_net.specs.Names.{has_name}
-use Rattle.clr_net.specs.declared.point.PointRow.{PointRow}
+use Rattle.clr_net.specs.Prelude.{point_names, same_name, has_name}
 use Rattle.clr_order.specs.Step.{Task, stray_point}
 use Rattle.clr_order.specs.Isolating.{has_repeat}
 use Rattle.clr_order.proofs.Finds.{all_fail, find-none, find-map, option_map-none}
+use Rattle.clr_net.specs.declared.point.PointRow.{PointRow}
 
 -- the points of names are the names
 pub names_themselves : (names : List (List ℕ)) → map (λ name. name) names ≡ names

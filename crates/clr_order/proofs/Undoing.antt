@@ -3,7 +3,7 @@ use Rattle.std.proofs.Common.{◌≡◌, ◌⊎◌, Bool, true, false, List, [],
 use Rattle.std.proofs.lemmas.Bool.{false≢true}
 use Rattle.clr_order.specs.Needed.{Undoes, undoes, step_if}
 use Rattle.clr_order.specs.declared.action.Action.{Action}
-use Rattle.clr_order.specs.declared.action.Action.TheVariants.{Open, Block, Control, Tag, Untag, Uncontrol, Unblock, Close, Leave}
+use Rattle.clr_order.specs.declared.action.Action.TheVariants.{Open, Untag, Uncontrol, Unblock, Close, Leave}
 use Rattle.clr_order.specs.declared.held.Held.{Held}
 
 -- one of two lists of actions, by how they end
@@ -18,14 +18,7 @@ add a front actions (inr e) = inr (ap (λ rest. a ∷ rest) e)
 pub nothing_left : (actions : List Action) → undoes false false false false actions ≡ true → actions ≡ []
 nothing_left [] h = refl
 nothing_left (Open ∷ actions) h = absurd (false≢true h)
-nothing_left (Block ∷ actions) h = absurd (false≢true h)
-nothing_left (Control ∷ actions) h = absurd (false≢true h)
-nothing_left (Tag ∷ actions) h = absurd (false≢true h)
-nothing_left (Untag ∷ actions) h = absurd (false≢true h)
-nothing_left (Uncontrol ∷ actions) h = absurd (false≢true h)
-nothing_left (Unblock ∷ actions) h = absurd (false≢true h)
-nothing_left (Close ∷ actions) h = absurd (false≢true h)
-nothing_left (Leave ∷ actions) h = absurd (false≢true h)
+nothing_left (_ ∷ actions) h = absurd (false≢true h)
 
 held_left : (actions : List Action) → undoes false false false true actions ≡ true → Ends actions (λ last. last ∷ [])
 held_left (Close ∷ actions) h = inl (ap (λ rest. Close ∷ rest) (nothing_left actions h))

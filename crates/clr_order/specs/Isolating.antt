@@ -1,14 +1,10 @@
 -- An isolating order is sound: all means through which known sources may supply the section are
 -- opened, made inoperable where their design permits it, and tagged.
 use Rattle.std.specs.Prelude.{◌≡◌, ◌<◌, ◌≤◌, ℕ, Bool, false, not, ◌||◌, ◌==◌, nat_lt, IsTrue, List}
-use Rattle.std.specs.Prelude.{[], ◌∷◌, length, find, All, Option, Some, None}
+use Rattle.std.specs.Prelude.{[], ◌∷◌, length, find, All, Option, Some, None, option_map}
 use Rattle.std.specs.List.{IsDistinct}
-use Rattle.std.specs.Option.{option_map}
-use Rattle.clr_net.specs.Name.{same_name}
-use Rattle.clr_net.specs.Names.{has_name}
-use Rattle.clr_net.specs.Grid.{Grid}
+use Rattle.clr_net.specs.Prelude.{same_name, has_name, Grid}
 use Rattle.clr_net.specs.Fence.{FenceRows, fence_of, is_on_border}
-use Rattle.clr_net.specs.declared.point.PointRow.{PointRow}
 use Rattle.clr_order.specs.Needed.{needed}
 use Rattle.clr_order.specs.OrderFault.{fault_if, name_fault}
 use Rattle.clr_order.specs.Step.{Task, actions_at, same_actions, stray_point}
@@ -17,6 +13,7 @@ use Rattle.clr_order.specs.declared.order_fault.OrderFault.{OrderFault}
 use Rattle.clr_order.specs.declared.order_fault.OrderFault.TheVariants.{EmptyOrder, LongOrder}
 use Rattle.clr_order.specs.declared.order_fault.OrderFault.TheVariants.{PointTwice, SourceInside}
 use Rattle.clr_order.specs.declared.order_fault.OrderFault.TheVariants.{NotOnFence, StepsWrong}
+use Rattle.clr_net.specs.declared.point.PointRow.{PointRow}
 
 -- the row of the point of this name, where it touches the fence
 abbrev pub touching_row : FenceRows → List ℕ → Option PointRow

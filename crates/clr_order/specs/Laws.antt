@@ -1,16 +1,12 @@
 -- What the definitions of orders and of the texts of steps mean, as laws.
 use Rattle.std.specs.Prelude.{◌≡◌, ◌≢◌, ◌↔◌, ℕ, Bool, true, false, IsTrue, List, [], filter, All}
 use Rattle.std.specs.Prelude.{Contains, None, Some, Ok}
-use Rattle.std.specs.List.{list_any}
+use Rattle.clr_net.specs.Prelude.{list_any, FenceRows, fence_of, Grid, IsNetwork, point_names}
+use Rattle.clr_net.specs.Prelude.{section_names, has_name}
 use Rattle.std.specs.List.Sorted.{IsStrictlySortedBy}
 use Rattle.std.specs.declared.cmp.Ordering.TheVariants.{Greater}
-use Rattle.clr_net.specs.Fence.{FenceRows, fence_of}
-use Rattle.clr_net.specs.Grid.{Grid, IsNetwork, point_names, section_names}
 use Rattle.clr_net.specs.Name.{is_name, name_cmp}
-use Rattle.clr_net.specs.Names.{has_name}
 use Rattle.clr_net.specs.Walk.{Walk}
-use Rattle.clr_net.specs.declared.point.PointRow.{PointRow}
-use Rattle.clr_net.specs.declared.section.SectionRow.{SectionRow}
 use Rattle.clr_order.specs.Action.{same_action}
 use Rattle.clr_order.specs.Isolating.{IsSoundOrder, isolating_fault, source_inside}
 use Rattle.clr_order.specs.Needed.{Undoes, needed, undoes}
@@ -22,6 +18,8 @@ use Rattle.clr_order.specs.declared.action.Action.{Action}
 use Rattle.clr_order.specs.declared.action.Action.TheVariants.{Open, Block, Control, Tag}
 use Rattle.clr_order.specs.declared.held.Held.{Held}
 use Rattle.clr_order.specs.declared.step.Step.{Step}
+use Rattle.clr_net.specs.declared.point.PointRow.{PointRow}
+use Rattle.clr_net.specs.declared.section.SectionRow.{SectionRow}
 
 -- no refusal applies to an isolating order exactly where it is sound, over the fence that the
 -- network has when it is cut at the points of the order

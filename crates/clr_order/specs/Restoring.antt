@@ -1,8 +1,7 @@
 -- A restoring order undoes what stands at each point that the clearance holds open.
 use Rattle.std.specs.Prelude.{◌<◌, ◌≤◌, ℕ, Bool, true, not, ◌==◌, nat_lt, IsTrue, List, length, map}
-use Rattle.std.specs.Prelude.{find, All, Option, None}
-use Rattle.std.specs.Option.{option_map}
-use Rattle.clr_net.specs.Names.{has_name}
+use Rattle.std.specs.Prelude.{find, All, Option, None, option_map}
+use Rattle.clr_net.specs.Prelude.{has_name}
 use Rattle.clr_order.specs.Needed.{Undoes, undoes}
 use Rattle.clr_order.specs.OrderFault.{fault_if, name_fault}
 use Rattle.clr_order.specs.Step.{Task, actions_at, stray_point}

@@ -1,9 +1,8 @@
 -- Steps as the rules see them: an action at a point, whatever the step's state.
 use Rattle.std.specs.Prelude.{ℕ, Bool, not, List, [], ◌∷◌, codes, map, filter, find, Option}
-use Rattle.std.specs.Str.{bytes_eq}
+use Rattle.std.specs.Prelude.{bytes_eq}
 use Rattle.std.specs.Cmp.Lexicographic.{pointwise}
-use Rattle.clr_net.specs.Name.{same_name}
-use Rattle.clr_net.specs.Names.{has_name}
+use Rattle.clr_net.specs.Prelude.{same_name, has_name}
 use Rattle.clr_order.specs.Action.{same_action}
 use Rattle.clr_order.specs.declared.action.Action.{Action}
 use Rattle.clr_order.specs.declared.step.Step.{Step}

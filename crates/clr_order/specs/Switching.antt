@@ -1,8 +1,7 @@
 -- A switching order opens and closes points that are known, and holds none of them.
 use Rattle.std.specs.Prelude.{◌<◌, ◌≤◌, ℕ, not, ◌==◌, nat_lt, IsTrue, List, length, find, All}
-use Rattle.std.specs.Prelude.{Option, None}
-use Rattle.std.specs.Option.{option_map}
-use Rattle.clr_net.specs.Names.{has_name}
+use Rattle.std.specs.Prelude.{Option, None, option_map}
+use Rattle.clr_net.specs.Prelude.{has_name}
 use Rattle.clr_order.specs.Action.{is_switching}
 use Rattle.clr_order.specs.OrderFault.{fault_if, name_fault}
 use Rattle.clr_order.specs.Step.{Task, stray_point}

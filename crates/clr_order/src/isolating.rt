@@ -14,7 +14,7 @@ use crate::step::{MAX_STEPS, Step, does_at};
 use clr_net::{Fence, Name, PointRow, has_name, row_of};
 
 /// The most points of an isolating order.
-pub const MAX_ORDER_POINTS: usize = 64;
+const MAX_ORDER_POINTS: usize = 64;
 
 /// Checks an order that isolates the sections of a fence at these points.
 ///

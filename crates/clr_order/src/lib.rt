@@ -3,6 +3,7 @@
 
 mod action;
 mod held;
+mod holds_left;
 mod isolating;
 pub mod laws;
 mod needed;
@@ -15,9 +16,10 @@ mod texts;
 
 pub use action::Action;
 pub use held::Held;
-pub use isolating::{MAX_ORDER_POINTS, check_isolating};
+pub use holds_left::HoldsLeft;
+pub use isolating::check_isolating;
 pub use order_fault::OrderFault;
 pub use restoring::check_restoring;
-pub use step::{MAX_STEPS, Step, StepState};
+pub use step::{Step, StepState};
 pub use switching::check_switching;
 pub use texts::{StepFault, read_step_text, step_text};

@@ -1,18 +1,15 @@
 //! The check of a restoring order.
-ghost use Rattle.std.specs.Prelude.{◌≡◌, ◌↔◌, ◌&&◌, ◌∷◌, [], List, IsOk, map};
-ghost use Rattle.clr_order.specs.HoldsLeft.{are_undone};
+ghost use Rattle.std.specs.Prelude.{◌≡◌, ◌↔◌, IsOk, map};
 ghost use Rattle.clr_order.specs.OrderFault.{answer_of};
 ghost use Rattle.clr_order.specs.Restoring.{IsRestoring, is_undone, restoring_fault, wrong_held};
 ghost use Rattle.clr_order.specs.Step.{task};
-ghost use Rattle.clr_order.specs.declared.action.Action.{Action};
 
-use crate::action::Action;
 use crate::held::Held;
+use crate::holds_left::HoldsLeft;
 use crate::order_fault::OrderFault;
 use crate::places::stray_point;
 use crate::step::{MAX_STEPS, Step};
 use clr_net::Name;
-use std::mem;
 
 /// Checks an order that restores the points that a clearance holds open, in the order of their
 /// first appearance.
@@ -75,38 +72,4 @@ fn is_undone(held: &Held, steps: &[Step]) -> bool
         }
     }
     left.is_empty()
-}
-
-/// The holds that are still at a point, the last of them that it is held open.
-#[derive(Clone, Copy)]
-struct HoldsLeft {
-    tag: bool,
-    control: bool,
-    block: bool,
-    held: bool,
-}
-
-impl HoldsLeft {
-    /// Whether no hold is left.
-    fn is_empty(&self) -> bool
-        ensures { result ≡ are_undone self.now [] }
-    {
-        !(self.tag || self.control || self.block || self.held)
-    }
-
-    /// Does one action, where it is the turn of the hold that it takes off.
-    fn take(&mut self, action: Action) -> bool
-        ensures { (others : List Action)
-            → are_undone self.old (action ∷ others) ≡ (result && are_undone self.new others) }
-    {
-        match action {
-            Action::Untag => mem::replace(&mut self.tag, false),
-            Action::Uncontrol => !self.tag && mem::replace(&mut self.control, false),
-            Action::Unblock => !self.tag && !self.control && mem::replace(&mut self.block, false),
-            Action::Close | Action::Leave => {
-                !self.tag && !self.control && !self.block && mem::replace(&mut self.held, false)
-            }
-            Action::Open | Action::Block | Action::Control | Action::Tag => false,
-        }
-    }
 }

@@ -8,7 +8,7 @@ use clr_net::Name;
 use std::fmt;
 
 /// The most steps of an order.
-pub const MAX_STEPS: usize = 256;
+pub(crate) const MAX_STEPS: usize = 256;
 
 /// How far a step has come.
 #[derive(Clone, Copy, Debug, PartialEq, Eq)]

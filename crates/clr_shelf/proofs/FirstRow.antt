@@ -1,11 +1,8 @@
 -- What a put and a take do at the first row of a list in key order: the two as walks along the list.
-use Rattle.std.proofs.Common.{◌≡◌, true, not, List, [], ◌∷◌, ◌++◌, map, is_some, refl, sym, ◌∙◌, ap}
+use Rattle.std.proofs.Common.{◌≡◌, true, not, List, [], ◌∷◌, ◌++◌, map, is_some, refl, sym, ◌∙◌, ap, Ordering, Less, Equal, Greater, true≢false}
 use Rattle.std.specs.List.{filter, list_all}
 use Rattle.std.specs.Cmp.{IsTotalOrder}
 use Rattle.std.specs.Ordering.{is_lt, is_eq, is_gt, ordering_reverse}
-use Rattle.std.specs.declared.cmp.Ordering.{Ordering}
-use Rattle.std.specs.declared.cmp.Ordering.TheVariants.{Less, Equal, Greater}
-use mathlib.Core.Bool.{true≢false}
 use Rattle.clr_shelf.specs.Rows.{in_key_order, row_of, with_row, without_row}
 use Rattle.clr_shelf.proofs.Lists.{filter-same, filter-none, list_all-weaker}
 use Rattle.clr_shelf.proofs.Keys.{less, greater, above_back, below_chain}

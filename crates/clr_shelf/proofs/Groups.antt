@@ -1,15 +1,11 @@
 -- What a put and a take do to what holds of every row, and to the rows of a group.
-use Rattle.std.proofs.Common.{◌≡◌, Bool, true, false, not, List, [], ◌∷◌, None, refl, sym, ◌∙◌, ap}
-use Rattle.std.specs.List.{filter, All}
+use Rattle.std.proofs.Common.{◌≡◌, Bool, true, false, not, List, [], ◌∷◌, None, refl, sym, ◌∙◌, ap, filter, All, is_lt, is_eq, is_gt, Ordering, true≢false}
 use Rattle.std.specs.Cmp.{IsTotalOrder}
-use Rattle.std.specs.Ordering.{is_lt, is_eq, is_gt}
-use Rattle.std.specs.declared.cmp.Ordering.{Ordering}
-use mathlib.Core.Bool.{true≢false}
 use Rattle.std.proofs.lemmas.Cmp.{tied_itself}
 use Rattle.std.proofs.lemmas.List.Elements.{filter-append, All-append, All-cons, All-filter}
 use Rattle.std.proofs.lemmas.Map.Entries.{option_filter}
 use Rattle.clr_shelf.specs.Rows.{in_key_order, row_of, with_row, without_row}
-use Rattle.clr_shelf.proofs.Lists.{find-filter_wider, find-filter_apart, filter-filter_comm, filter-filter_wider, list_all-filter}
+use Rattle.clr_shelf.proofs.Lists.{find-filter_wider, filter-filter_comm, filter-filter_wider, list_all-filter}
 use Rattle.clr_shelf.proofs.Reading.{row_of-tied}
 use Rattle.clr_shelf.proofs.KeyOrder.{in_key_order-rest, in_key_order-first, in_key_order-filter}
 use Rattle.clr_shelf.proofs.Members.{none_below}
@@ -83,12 +79,6 @@ module _ {Key Row : Type 0} (compare : Key → Key → Ordering) (key_of : Row �
       → row_of compare key_of key (filter p rows) ≡ row_of compare key_of key rows
   unfolding row_of
   row_of-filter_inside p key rows inside = find-filter_wider (λ row. is_eq (compare (key_of row) key)) p inside rows
-
-  -- and where none is, nothing is read there
-  pub row_of-filter_outside : (p : Row → Bool) (key : Key) (rows : List Row) → ((row : Row) → is_eq (compare (key_of row) key) ≡ true → p row ≡ false)
-      → row_of compare key_of key (filter p rows) ≡ None
-  unfolding row_of
-  row_of-filter_outside p key rows outside = find-filter_apart (λ row. is_eq (compare (key_of row) key)) p outside rows
 
   -- after the row of a key none is read at the key
   none_after : (key : Key) (first : Row) (rest : List Row) → in_key_order compare key_of (first ∷ rest) ≡ true → is_eq (compare (key_of first) key) ≡ true

@@ -1,5 +1,4 @@
 mod ByGroup
-pub mod Edits
 pub mod FirstRow
 pub mod Groups
 mod GroupRuns

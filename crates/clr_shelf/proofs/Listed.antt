@@ -1,24 +1,17 @@
 -- A list in blocks: what is read, put, taken or written at a place of the block in which it is.
-use Rattle.std.proofs.Common.{◌≡◌, ℕ, ◌+◌, ◌-◌, ◌*◌, ◌/◌, ◌<◌, ◌≤◌, List, [], length, get_or, set}
-use Rattle.std.proofs.Common.{take, zero, suc}
-use Rattle.std.proofs.Common.{vec_len, inl, inr, sym, ◌∙◌, ap, subst, arith}
+use Rattle.std.proofs.Common.{◌≡◌, ℕ, ◌+◌, ◌-◌, ◌*◌, ◌/◌, ◌<◌, ◌≤◌, List, [], length, get_or, set, take, zero, suc, vec_len, inl, inr, sym, ◌∙◌, ap, subst, arith, insert, remove}
 use Rattle.std.proofs.lemmas.Bool.{cases_eq, cases_lt}
-use Rattle.std.specs.List.{insert, remove}
 use Rattle.std.proofs.lemmas.List.{get_or_read, length-set}
 use Rattle.std.proofs.lemmas.List.Concat.{get_or-flat_map}
 use Rattle.std.proofs.lemmas.List.Edits.{length-insert, length-remove}
 use Rattle.clr_shelf.specs.declared.block.Block.{Block}
 use Rattle.clr_shelf.specs.declared.block.TheConstants.{SIZE}
 use Rattle.clr_shelf.specs.declared.blocks.Blocks.{Blocks}
-use Rattle.clr_shelf.specs.Blocks.{joined, parts_of, size_at, IsSpread, IsCrowded, IsThinned}
-use Rattle.clr_shelf.specs.Blocks.{HasStarts}
+use Rattle.clr_shelf.specs.Blocks.{joined, parts_of, size_at, IsSpread, IsCrowded, IsThinned, HasStarts}
 use Rattle.clr_shelf.specs.Items.{items_of}
-use Rattle.clr_shelf.proofs.Parts.{parts-edit, part_read, length-parts, joined-insert}
-use Rattle.clr_shelf.proofs.Parts.{joined-remove}
-use Rattle.clr_shelf.proofs.Parts.{joined-set, size-set_same, size-set_other, parts-set}
+use Rattle.clr_shelf.proofs.Parts.{parts-edit, part_read, length-parts, joined-insert, joined-remove, joined-set, size-set_same, size-set_other, parts-set}
 use Rattle.clr_shelf.proofs.Spread.{crowded, thinned}
-use Rattle.clr_shelf.proofs.Starts.{kept_starts, kept_begin, last_is_spare, counted_more}
-use Rattle.clr_shelf.proofs.Starts.{counted_le, counted_all}
+use Rattle.clr_shelf.proofs.Starts.{kept_starts, kept_begin, last_is_spare, counted_more, counted_le, counted_all}
 
 -- what stands before a block that has items, or before the first
 block_begins : {T : Type 0} (list : Blocks T) (k : ℕ) → (0 < k → k < list.used)

@@ -1,6 +1,7 @@
 -- Facts on searches and filters of lists.
 use Rattle.std.proofs.Common.{◌≡◌, zero, suc, Bool, true, false, not, List, [], ◌∷◌, None, refl, subst, inl, inr, ◌⊎◌, ⊎_elim, arith}
 use Rattle.std.specs.List.{find, filter, list_all, Contains}
+use Rattle.std.proofs.lemmas.Bool.{and_from}
 use Rattle.std.proofs.lemmas.Grind.{common_steps}
 
 module _ {X : Type 0} (p q : X → Bool) where
@@ -68,3 +69,7 @@ module _ {X : Type 0} where
   list_all-contains p [] x all (k, within, here) = absurd (omega arith)
   list_all-contains p (y ∷ xs) x all member =
       ⊎_elim (λ here. subst (λ z. p z ≡ true) here (grind (arith, common_steps))) (λ later. list_all-contains p xs x (grind (arith, common_steps)) later) (Contains-cases y x xs member)
+
+  pub list_all-from_each : (p : X → Bool) (xs : List X) → ((x : X) → Contains xs x → p x ≡ true) → list_all p xs ≡ true
+  list_all-from_each p [] each = refl
+  list_all-from_each p (x ∷ xs) each = and_from (p x) (list_all p xs) (each x (Contains-here x xs)) (list_all-from_each p xs (λ y there. each y (Contains-later x y xs there)))

@@ -1,21 +1,12 @@
 -- Lists in parts: what an edit of a part, a move between neighbours, a split and a join leave of
 -- the items and of the sizes.
-use Rattle.std.proofs.Common.{◌≡◌, ◌≢◌, ℕ, zero, suc, ◌+◌, ◌-◌, ◌<◌, ◌≤◌, List, [], ◌∷◌, ◌++◌}
-use Rattle.std.proofs.Common.{length}
-use Rattle.std.proofs.Common.{get_or, set, take, drop, refl, sym, ◌∙◌, ap, subst, arith}
-use Rattle.std.proofs.Common.{replicate, zero-add, append_assoc, get_or-set_same, get_or-set_other}
-use Rattle.std.specs.List.{insert, remove}
-use Rattle.std.proofs.lemmas.List.{append-nil, map-append, map-set, take-map, drop-map}
-use Rattle.std.proofs.lemmas.List.{length-append}
-use Rattle.std.proofs.lemmas.List.{get_or-map, get_or_past, take_all, take_more, drop_all}
-use Rattle.std.proofs.lemmas.List.{drop_more, set-append_left, set-append_right, length-map}
+use Rattle.std.proofs.Common.{◌≡◌, ◌≢◌, ℕ, zero, suc, ◌+◌, ◌-◌, ◌<◌, ◌≤◌, List, [], ◌∷◌, ◌++◌, length, get_or, set, take, drop, refl, sym, ◌∙◌, ap, subst, arith, replicate, zero-add, append_assoc}
+use Rattle.std.proofs.Common.{get_or-set_same, get_or-set_other, insert, remove}
+use Rattle.std.proofs.lemmas.List.{append-nil, map-append, map-set, take-map, drop-map, length-append, get_or-map, get_or_past, take_all, take_more, drop_all, drop_more, set-append_left}
+use Rattle.std.proofs.lemmas.List.{set-append_right, length-map, length-set, get_or_at, nil_from_length}
 use Rattle.std.proofs.lemmas.List.Concat.{flat_map-append}
-use Rattle.std.proofs.lemmas.List.Edits.{insert_end, insert-append_left, insert-append_right}
-use Rattle.std.proofs.lemmas.List.Edits.{remove-append_left, remove-append_right}
-use Rattle.std.proofs.lemmas.List.Edits.{get_or-insert_below, get_or-insert_at, get_or-insert_above}
-use Rattle.std.proofs.lemmas.List.Edits.{get_or-remove_below, get_or-remove_above}
-use Rattle.std.proofs.lemmas.List.{length-set, get_or_at, nil_from_length}
-use Rattle.std.proofs.lemmas.List.Edits.{length-remove}
+use Rattle.std.proofs.lemmas.List.Edits.{insert_end, insert-append_left, insert-append_right, remove-append_left, remove-append_right, get_or-insert_below, get_or-insert_at, get_or-insert_above}
+use Rattle.std.proofs.lemmas.List.Edits.{get_or-remove_below, get_or-remove_above, length-remove}
 use Rattle.clr_shelf.specs.declared.block.Block.{Block}
 use Rattle.clr_shelf.specs.Blocks.{joined, parts_of, size_at, IsMove, IsJoin}
 

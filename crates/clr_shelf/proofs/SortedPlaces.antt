@@ -1,9 +1,6 @@
 -- What a search finds in a list by group and then key, and what a put or a take does there, told of the rows in key order.
-use Rattle.std.proofs.Common.{◌≡◌, ℕ, true, List, [], set, length, get_or, Some, None, refl, sym, ◌∙◌, ap}
-use Rattle.std.specs.List.{insert, remove}
+use Rattle.std.proofs.Common.{◌≡◌, ℕ, true, List, [], set, length, get_or, Some, None, refl, sym, ◌∙◌, ap, insert, remove, Ordering, Equal}
 use Rattle.std.specs.Cmp.{IsTotalOrder}
-use Rattle.std.specs.declared.cmp.Ordering.{Ordering}
-use Rattle.std.specs.declared.cmp.Ordering.TheVariants.{Equal}
 use Rattle.std.proofs.lemmas.List.Sorted.{length_permutation}
 use Rattle.clr_shelf.specs.ByKey.{rows_by_key, IsPermutation-rows_by_key}
 use Rattle.clr_shelf.specs.Rows.{in_key_order, row_of, with_row, without_row}

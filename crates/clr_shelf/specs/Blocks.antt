@@ -1,7 +1,6 @@
 -- Lists that are kept in blocks: their items one after another, and how the blocks are filled.
 use Rattle.std.specs.Prelude.{◌≡◌, ℕ, ◌+◌, ◌<◌, ◌≤◌, ◌≢◌, List, [], length, map, take}
-use Rattle.std.specs.Prelude.{slice_index_or}
-use Rattle.std.specs.List.{flat_map}
+use Rattle.std.specs.Prelude.{slice_index_or, flat_map}
 use Rattle.clr_shelf.specs.declared.block.Block.{Block}
 
 -- the items of each block

@@ -4,13 +4,11 @@
 mod balance;
 mod block;
 mod blocks;
-mod grouped_shelf;
 mod list_shelf;
 mod row;
 mod shelf;
 mod sorted_shelf;
 
-pub use grouped_shelf::GroupedShelf;
 pub use list_shelf::ListShelf;
 pub use row::Row;
 pub use shelf::Shelf;

@@ -1,6 +1,7 @@
 //! A shelf over a list of rows by group and then key.
 ghost use Rattle.std.specs.Prelude.{◌≡◌, ◌≤◌, true, false, length, map, filter, IsTrue, IfOk};
 ghost use Rattle.std.specs.Prelude.{IfErr};
+ghost use Rattle.std.specs.List.{slice_range};
 ghost use Rattle.std.specs.List.Sorted.{IsPartitionPoint};
 ghost use Rattle.std.specs.Ordering.{is_lt, is_le};
 ghost use Rattle.clr_shelf.specs.ByKey.{rows_by_key, IsPermutation-rows_by_key};
@@ -9,7 +10,6 @@ ghost use Rattle.clr_shelf.specs.Places.{IsPlaceOf, IsGapFor, place_cmp};
 ghost use Rattle.clr_shelf.specs.Rows.{in_key_order};
 
 use crate::blocks::Blocks;
-use crate::grouped_shelf::GroupedShelf;
 use crate::row::Row;
 use crate::shelf::Shelf;
 use std::alloc::{AllocError, Global};
@@ -101,6 +101,18 @@ impl<R: Row> SortedShelf<R> {
             start
         }
     }
+
+    // The places of a group's rows.
+    fn places_of(&self, group: &R::Group) -> Range<usize>
+        ensures run { slice_range (items_of self.now.list) result.start result.end
+            ≡ filter (R.is_in group.now) (rows_by_key R.key_cmp R.key_of (items_of self.now.list)) }
+        ensures rises { result.start ≤ result.end }
+        ensures in_range { result.end ≤ length (items_of self.now.list) }
+    {
+        let start = self.start_of(group);
+        let end = self.end_from(group, start);
+        start..end
+    }
 }
 
 impl<R: Row> Shelf<R> for SortedShelf<R> {
@@ -189,14 +201,4 @@ impl<R: Row> Shelf<R> for SortedShelf<R> {
 
     ghost each_once = { λ shelf.
         IsPermutation-rows_by_key R.key_cmp R.key_of (items_of shelf.list) };
-}
-
-impl<R: Row> GroupedShelf<R> for SortedShelf<R> {
-    fn places_of(&self, group: &R::Group) -> Range<usize> {
-        let start = self.start_of(group);
-        let end = self.end_from(group, start);
-        start..end
-    }
-
-    ghost in_place = { λ shelf. shelf.in_place };
 }

@@ -1,13 +1,12 @@
 -- How the stages of the checks make up the first fault of a staff, and what a sort leaves as it was.
-use Rattle.std.proofs.Common.{◌≡◌, ◌∙◌, ◌≤◌, ℕ, Bool, false, not, arith, Option, Some, None, List, length, position, refl, sym, ap}
-use Rattle.std.specs.Prelude.{All, IsTrue}
+use Rattle.std.proofs.Common.{◌≡◌, ◌∙◌, ◌≤◌, ℕ, Bool, false, not, arith, Option, Some, None, List, length, position, refl, sym, ap, All, IsTrue}
 use Rattle.std.specs.List.Sorted.{IsPermutation, IsStrictlySortedBy}
 use Rattle.std.proofs.lemmas.Bool.{le-ltb, not_from_true}
 use Rattle.std.proofs.lemmas.Cmp.{nat_list_eq_equiv}
 use Rattle.std.proofs.lemmas.List.Elements.{All-weaker}
 use Rattle.std.proofs.lemmas.List.Sorted.{All-permutation, IsPermutation-map, IsPermutation-sym, length_permutation, list_any-IsPermutation}
 use Rattle.std.proofs.lemmas.Map.Keys.{IsDistinct-IsPermutation}
-use Rattle.clr_net.specs.Name.{name_cmp, same_name}
+use Rattle.clr_net.specs.Prelude.{name_cmp, same_name}
 use Rattle.clr_net.proofs.Places.{all_none, distinct_from_rising, no_repeat}
 use Rattle.clr_staff.specs.Staff.{IsStaff, IsStaffOf, first_fault, has_known_supervisor, is_known, is_own_supervisor, name_fault, row_fault, size_fault, staff_names, supervisor_fault}
 use Rattle.clr_staff.specs.declared.employee.StaffRow.{StaffRow}

@@ -1,11 +1,8 @@
-use Rattle.std.proofs.Common.{◌≡◌, ◌∙◌, ◌++◌, ◌∷◌, [], ◌+◌, Some, None, Bor, map, drop, get_or, ap, sym}
-use Rattle.std.specs.Prelude.{slice_get}
-use Rattle.std.specs.List.{filter_map}
-use Rattle.std.specs.Option.{option_copied}
+use Rattle.std.proofs.Common.{◌≡◌, ◌∙◌, ◌++◌, ◌∷◌, [], ◌+◌, Some, None, Bor, map, drop, get_or, ap, sym, slice_get, filter_map, option_copied}
 use Rattle.std.proofs.lemmas.List.{append_assoc, drop_more, map-append}
 use Rattle.clr_net.proofs.PlaceLists.{got_is}
-use Rattle.clr_net.proofs.fence.rows_at.Goals as goal
 use Rattle.clr_net.proofs.fence.rows_at.Goals.{in-Some+in_ok-push, in_default}
+use Rattle.clr_net.proofs.fence.rows_at.Goals as goal
 
 pub loop-place-preserved : goal.loop-place-preserved
 loop-place-preserved g c =

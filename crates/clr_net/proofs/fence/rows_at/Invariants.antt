@@ -1,6 +1,4 @@
-use Rattle.std.proofs.Common.{◌≡◌, ◌++◌, map, drop}
-use Rattle.std.specs.Prelude.{slice_get}
-use Rattle.std.specs.List.{filter_map}
+use Rattle.std.proofs.Common.{◌≡◌, ◌++◌, map, drop, slice_get, filter_map}
 use Rattle.clr_net.proofs.fence.rows_at.Given as goal
 
 -- the rows so far, and those at the places that are left, are all

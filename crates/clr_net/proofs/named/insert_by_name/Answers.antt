@@ -1,7 +1,6 @@
-use Rattle.std.proofs.Common.{rules}
+use Rattle.std.proofs.Common.{rules, is_lt}
 use Rattle.std.proofs.lemmas.List.Sorted.{IsPartitionPoint-from_clause}
-use Rattle.std.specs.Ordering.{is_lt}
-use Rattle.clr_net.specs.Name.{name_cmp}
+use Rattle.clr_net.specs.Prelude.{name_cmp}
 use Rattle.clr_net.proofs.ByName.{inserted_by_name, parted_by_name}
 use Rattle.clr_net.proofs.named.insert_by_name.Goals as goal
 

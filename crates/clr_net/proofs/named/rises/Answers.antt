@@ -1,7 +1,6 @@
-use Rattle.std.proofs.Common.{rules}
+use Rattle.std.proofs.Common.{rules, is_lt}
 use Rattle.std.proofs.lemmas.Fn.{always_returns_same}
-use Rattle.std.specs.Ordering.{is_lt}
-use Rattle.clr_net.specs.Name.{name_cmp}
+use Rattle.clr_net.specs.Prelude.{name_cmp}
 use Rattle.clr_net.proofs.Places.{rising_from_adjacent}
 use Rattle.clr_net.proofs.named.rises.Goals as goal
 

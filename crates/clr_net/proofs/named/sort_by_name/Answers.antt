@@ -1,10 +1,9 @@
-use Rattle.std.proofs.Common.{map, rules}
-use Rattle.std.specs.List.Sorted.{IsSortedByKey}
+use Rattle.std.proofs.Common.{map, rules, IsSortedByKey}
 use Rattle.std.proofs.lemmas.Cmp.{nat_list_eq_equiv}
 use Rattle.std.proofs.lemmas.Fn.{always_returns_same}
 use Rattle.std.proofs.lemmas.List.Sorted.{IsPermutation-map}
 use Rattle.std.proofs.lemmas.Map.Keys.{IsDistinct-IsPermutation}
-use Rattle.clr_net.specs.Name.{name_cmp, same_name}
+use Rattle.clr_net.specs.Prelude.{name_cmp, same_name}
 use Rattle.clr_net.proofs.Places.{rising_from_sorted}
 use Rattle.clr_net.proofs.named.sort_by_name.Goals as goal
 

@@ -1,7 +1,5 @@
-use Rattle.std.proofs.Common.{◌∙◌, ap}
-use Rattle.std.specs.Prelude.{is_some}
-use Rattle.clr_net.specs.Name.{same_name}
-use Rattle.clr_net.specs.Grid.{section_names}
+use Rattle.std.proofs.Common.{◌∙◌, ap, is_some}
+use Rattle.clr_net.specs.Prelude.{same_name, section_names}
 use Rattle.clr_net.proofs.Places.{is_some-position}
 use Rattle.clr_net.proofs.network.has_section.Goals as goal
 

@@ -1,7 +1,5 @@
-use Rattle.std.proofs.Common.{◌∙◌, ◌<◌, ap, length, sym}
-use Rattle.std.specs.Prelude.{is_some}
-use Rattle.clr_net.specs.Grid.{Grid, section_names}
-use Rattle.clr_net.specs.Name.{same_name}
+use Rattle.std.proofs.Common.{◌∙◌, ◌<◌, ap, length, sym, is_some}
+use Rattle.clr_net.specs.Prelude.{Grid, section_names, same_name}
 use Rattle.clr_net.proofs.FencePlaces.{finds_fence, index_fits, no_fence}
 use Rattle.clr_net.proofs.PlaceLists.{all_from_has, has_all}
 use Rattle.clr_net.proofs.Places.{is_some-position}

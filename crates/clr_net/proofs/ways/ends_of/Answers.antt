@@ -1,8 +1,5 @@
-use Rattle.std.proofs.Common.{◌≡◌, ◌∙◌, Bool, true, false, ◌&&◌, sym, ap, refl}
-use Rattle.std.specs.Prelude.{is_some}
-use Rattle.clr_net.specs.Grid.{section_names}
-use Rattle.clr_net.specs.Name.{same_name}
-use Rattle.clr_net.specs.Names.{has_name}
+use Rattle.std.proofs.Common.{◌≡◌, ◌∙◌, Bool, true, false, ◌&&◌, sym, ap, refl, is_some}
+use Rattle.clr_net.specs.Prelude.{section_names, same_name, has_name}
 use Rattle.clr_net.proofs.Places.{is_some-position}
 use Rattle.clr_net.proofs.ways.ends_of.Goals as goal
 

@@ -1,7 +1,5 @@
-use Rattle.std.proofs.Common.{◌≡◌, ◌≤◌, map, take, true, vec_len}
-use Rattle.std.specs.Prelude.{vec_capacity}
-use Rattle.std.specs.List.{list_all}
-use Rattle.clr_net.specs.Grid.{has_ends, section_names}
+use Rattle.std.proofs.Common.{◌≡◌, ◌≤◌, map, take, true, vec_len, vec_capacity}
+use Rattle.clr_net.specs.Prelude.{list_all, has_ends, section_names}
 use Rattle.clr_net.specs.Index.{ends_in}
 use Rattle.clr_net.proofs.ways.fill_ends.Given as goal
 

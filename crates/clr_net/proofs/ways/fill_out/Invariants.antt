@@ -1,5 +1,4 @@
-use Rattle.std.proofs.Common.{◌≡◌, ◌≤◌, ◌+◌, vec_len}
-use Rattle.std.specs.Prelude.{vec_capacity}
+use Rattle.std.proofs.Common.{◌≡◌, ◌≤◌, ◌+◌, vec_len, vec_capacity}
 use Rattle.clr_net.specs.Index.{IsAround, ways_in}
 use Rattle.clr_net.proofs.ways.fill_out.Given as goal
 

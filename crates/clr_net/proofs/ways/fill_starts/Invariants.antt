@@ -1,5 +1,4 @@
-use Rattle.std.proofs.Common.{◌≡◌, ◌<◌, ◌≤◌, ℕ, get_or, vec_len}
-use Rattle.std.specs.Prelude.{vec_capacity}
+use Rattle.std.proofs.Common.{◌≡◌, ◌<◌, ◌≤◌, ℕ, get_or, vec_len, vec_capacity}
 use Rattle.clr_net.specs.Index.{IsStart}
 use Rattle.clr_net.proofs.ways.fill_starts.Given as goal
 

@@ -1,10 +1,9 @@
-use Rattle.std.proofs.Common.{◌∙◌, ap, find}
-use Rattle.std.specs.Option.{option_copied}
-use Rattle.clr_net.specs.Name.{same_name}
-use Rattle.clr_net.specs.declared.point.PointRow.{PointRow}
+use Rattle.std.proofs.Common.{◌∙◌, ap, find, option_copied}
+use Rattle.clr_net.specs.Prelude.{same_name}
 use Rattle.clr_order.proofs.Finds.{find_behind}
 use Rattle.clr_order.proofs.Steps.{names_behind}
 use Rattle.clr_order.proofs.isolating.touching_row.Goals as goal
+use Rattle.clr_net.specs.declared.point.PointRow.{PointRow}
 
 pub row_of-requires : goal.row_of-requires
 row_of-requires c =

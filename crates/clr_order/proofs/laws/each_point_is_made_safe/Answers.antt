@@ -1,6 +1,5 @@
 use Rattle.std.proofs.Common.{◌≡◌, Bool, true, false, ◌∷◌, [], refl}
-use Rattle.std.specs.List.{list_any}
-use Rattle.clr_net.specs.declared.point.PointRow.{PointRow}
+use Rattle.clr_net.specs.Prelude.{list_any}
 use Rattle.clr_order.specs.Action.{same_action}
 use Rattle.clr_order.specs.Needed.{step_if}
 use Rattle.clr_order.specs.declared.action.Action.{Action}

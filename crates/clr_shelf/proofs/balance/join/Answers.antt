@@ -1,10 +1,7 @@
-use Rattle.std.proofs.Common.{◌+◌, ◌<◌, [], ◌++◌, length, get_or, set, ◌∙◌, ap}
-use Rattle.std.proofs.Common.{arith}
-use Rattle.std.specs.List.{remove}
+use Rattle.std.proofs.Common.{◌+◌, ◌<◌, [], ◌++◌, length, get_or, set, ◌∙◌, ap, arith, remove}
 use Rattle.std.proofs.lemmas.List.Edits.{get_or-remove_below}
 use Rattle.clr_shelf.specs.Blocks.{joined, parts_of}
-use Rattle.clr_shelf.proofs.Parts.{joined-join, joined-spare, join_parts, join_sizes, part_read}
-use Rattle.clr_shelf.proofs.Parts.{length-parts}
+use Rattle.clr_shelf.proofs.Parts.{joined-join, joined-spare, join_parts, join_sizes, part_read, length-parts}
 use Rattle.clr_shelf.proofs.balance.join.Goals as goal
 
 pub returns-clause-items : goal.returns-clause-items

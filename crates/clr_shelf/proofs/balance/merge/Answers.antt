@@ -3,11 +3,8 @@ use Rattle.clr_shelf.specs.Blocks.{parts_of, size_at, IsThinned}
 use Rattle.clr_shelf.specs.declared.block.TheConstants.{SIZE}
 use Rattle.clr_shelf.proofs.Parts.{size_read, size_past, length-parts}
 use Rattle.clr_shelf.proofs.Spread.{kept, joined_left, joined_right}
+use Rattle.clr_shelf.proofs.balance.merge.Goals.{else-k-gt0-via-then-k-gt0+else-len-le-SIZE, else-k-gt0-via-else-k-gt0, else-k-len-via-then-k-len+else-len-le-SIZE-2, else-k-len-via-else-k-len}
 use Rattle.clr_shelf.proofs.balance.merge.Goals as goal
-use Rattle.clr_shelf.proofs.balance.merge.Goals.{else-k-gt0-via-then-k-gt0+else-len-le-SIZE}
-use Rattle.clr_shelf.proofs.balance.merge.Goals.{else-k-gt0-via-else-k-gt0}
-use Rattle.clr_shelf.proofs.balance.merge.Goals.{else-k-len-via-then-k-len+else-len-le-SIZE-2}
-use Rattle.clr_shelf.proofs.balance.merge.Goals.{else-k-len-via-else-k-len}
 
 pub returns-then-len-le-SIZE-clause-spread : goal.returns-then-len-le-SIZE-clause-spread
 returns-then-len-le-SIZE-clause-spread g c =

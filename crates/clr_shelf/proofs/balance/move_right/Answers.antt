@@ -1,10 +1,8 @@
-use Rattle.std.proofs.Common.{◌≡◌, ◌≢◌, ◌+◌, ◌-◌, ◌<◌, length, sym, ◌∙◌, ap}
-use Rattle.std.proofs.Common.{arith}
+use Rattle.std.proofs.Common.{◌≡◌, ◌≢◌, ◌+◌, ◌-◌, ◌<◌, length, sym, ◌∙◌, ap, arith}
 use Rattle.std.proofs.lemmas.List.{set_comm}
 use Rattle.std.proofs.lemmas.List.Edits.{length-remove}
 use Rattle.clr_shelf.specs.Blocks.{joined, parts_of}
-use Rattle.clr_shelf.proofs.Parts.{joined-two, moved_on, parts-two, part_read, part_read_after}
-use Rattle.clr_shelf.proofs.Parts.{move_sizes, length-parts}
+use Rattle.clr_shelf.proofs.Parts.{joined-two, moved_on, parts-two, part_read, part_read_after, move_sizes, length-parts}
 use Rattle.clr_shelf.proofs.balance.move_right.Goals as goal
 
 pub returns-clause-items : goal.returns-clause-items

@@ -3,9 +3,8 @@ use Rattle.clr_shelf.specs.Blocks.{parts_of, size_at, IsCrowded}
 use Rattle.clr_shelf.specs.declared.block.TheConstants.{SIZE}
 use Rattle.clr_shelf.proofs.Parts.{size_read}
 use Rattle.clr_shelf.proofs.Spread.{moved_left, moved_right, halved}
+use Rattle.clr_shelf.proofs.balance.settle.Goals.{else-k-gt0-via-then-k-gt0+else-len-lt-SIZE-2, else-k-gt0-via-else-k-gt0}
 use Rattle.clr_shelf.proofs.balance.settle.Goals as goal
-use Rattle.clr_shelf.proofs.balance.settle.Goals.{else-k-gt0-via-then-k-gt0+else-len-lt-SIZE-2}
-use Rattle.clr_shelf.proofs.balance.settle.Goals.{else-k-gt0-via-else-k-gt0}
 
 pub returns-then-len-lt-SIZE-clause-spread : goal.returns-then-len-lt-SIZE-clause-spread
 returns-then-len-lt-SIZE-clause-spread g c =

@@ -1,11 +1,7 @@
-use Rattle.std.proofs.Common.{◌≡◌, ◌+◌, ◌-◌, ◌<◌, length, sym, ◌∙◌, ap, arith}
-use Rattle.std.proofs.lemmas.List.{length-append}
+use Rattle.std.proofs.Common.{◌≡◌, ◌+◌, ◌-◌, ◌<◌, length, sym, ◌∙◌, ap, arith, length-append}
 use Rattle.clr_shelf.specs.Blocks.{joined, parts_of, size_at}
 use Rattle.clr_shelf.specs.declared.block.TheConstants.{SIZE}
-use Rattle.clr_shelf.proofs.Parts.{joined-split, joined-spare, split_parts, split_sizes}
-use Rattle.clr_shelf.proofs.Parts.{spare_parts}
-use Rattle.clr_shelf.proofs.Parts.{part_read, length-parts, size-spare, size-split_first}
-use Rattle.clr_shelf.proofs.Parts.{size-split_second}
+use Rattle.clr_shelf.proofs.Parts.{joined-split, joined-spare, split_parts, split_sizes, spare_parts, part_read, length-parts, size-spare, size-split_first, size-split_second}
 use Rattle.clr_shelf.proofs.balance.split.Goals as goal
 
 pub returns-clause-items : goal.returns-clause-items

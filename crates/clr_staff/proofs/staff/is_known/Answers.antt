@@ -1,6 +1,5 @@
-use Rattle.std.proofs.Common.{◌∙◌, refl, ap}
-use Rattle.std.specs.Prelude.{is_some}
-use Rattle.clr_net.specs.Name.{same_name}
+use Rattle.std.proofs.Common.{◌∙◌, refl, ap, is_some}
+use Rattle.clr_net.specs.Prelude.{same_name}
 use Rattle.clr_net.proofs.Places.{is_some-position}
 use Rattle.clr_staff.specs.Staff.{staff_names}
 use Rattle.clr_staff.proofs.staff.is_known.Goals as goal

@@ -1,5 +1,4 @@
-use Rattle.std.proofs.Common.{ℕ, ◌++◌, take, arith, length-append}
-use Rattle.std.proofs.lemmas.List.{length-take}
+use Rattle.std.proofs.Common.{ℕ, ◌++◌, take, arith, length-append, length-take}
 use Rattle.clr_stream.proofs.Taken.{Consumes-append}
 use Rattle.clr_stream.proofs.whole.read_whole.Goals as goal
 

@@ -1,8 +1,5 @@
-use Rattle.std.proofs.Common.{◌≡◌, ◌∙◌, Bor, List, map, ap}
-use Rattle.std.specs.Prelude.{is_some}
-use Rattle.clr_net.specs.Name.{same_name}
-use Rattle.clr_net.specs.declared.section.SectionRow.{SectionRow}
-use Rattle.clr_net.specs.Grid.{section_names}
+use Rattle.std.proofs.Common.{◌≡◌, ◌∙◌, Bor, List, map, ap, is_some}
+use Rattle.clr_net.specs.Prelude.{same_name, SectionRow, section_names}
 use Rattle.clr_net.proofs.Places.{is_some-position}
 use Rattle.clr_net.proofs.ListFacts.{map-map}
 use Rattle.clr_net.proofs.fence.Fence.has.Goals as goal

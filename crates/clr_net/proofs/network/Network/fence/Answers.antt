@@ -1,11 +1,5 @@
-use Rattle.std.proofs.Common.{◌≡◌, ◌∙◌, ◌||◌, ℕ, ap, map, Bor, List}
-use Rattle.std.specs.Prelude.{slice_get}
-use Rattle.std.specs.List.{filter_map}
-use Rattle.clr_net.specs.Grid.{Grid, IsNetwork}
-use Rattle.clr_net.specs.Fence.{FenceRows, fence_of, in_fence}
-use Rattle.clr_net.specs.Name.{name_cmp}
-use Rattle.clr_net.specs.declared.point.PointRow.{PointRow}
-use Rattle.clr_net.specs.declared.section.SectionRow.{SectionRow}
+use Rattle.std.proofs.Common.{◌≡◌, ◌∙◌, ◌||◌, ℕ, ap, map, Bor, List, slice_get, filter_map}
+use Rattle.clr_net.specs.Prelude.{Grid, IsNetwork, FenceRows, fence_of, in_fence, name_cmp, PointRow, SectionRow}
 use Rattle.clr_net.proofs.ByWalks.{fence_by_walks}
 use Rattle.clr_net.proofs.ListFacts.{rising-filter}
 use Rattle.clr_net.proofs.network.Network.fence.Goals as goal

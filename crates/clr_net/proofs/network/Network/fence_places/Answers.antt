@@ -1,8 +1,5 @@
-use Rattle.std.proofs.Common.{◌≡◌, ◌∙◌, ap, length}
-use Rattle.std.specs.Prelude.{slice_get}
-use Rattle.std.specs.List.{filter_map}
-use Rattle.clr_net.specs.Grid.{Grid}
-use Rattle.clr_net.specs.Fence.{FenceRows, fence_of}
+use Rattle.std.proofs.Common.{◌≡◌, ◌∙◌, ap, length, slice_get, filter_map}
+use Rattle.clr_net.specs.Prelude.{Grid, FenceRows, fence_of}
 use Rattle.clr_net.proofs.FencePlaces.{picked_fence}
 use Rattle.clr_net.proofs.network.Network.fence_places.Goals as goal
 

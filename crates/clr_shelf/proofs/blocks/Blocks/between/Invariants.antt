@@ -1,5 +1,4 @@
-use Rattle.std.proofs.Common.{◌≡◌, ℕ, ◌+◌, ◌≤◌, map, vec_len, vec_capacity}
-use Rattle.std.specs.List.{slice_range}
+use Rattle.std.proofs.Common.{◌≡◌, ℕ, ◌+◌, ◌≤◌, map, vec_len, vec_capacity, slice_range}
 use Rattle.clr_shelf.specs.Items.{items_of}
 use Rattle.clr_shelf.proofs.blocks.Blocks.between.Given as goal
 

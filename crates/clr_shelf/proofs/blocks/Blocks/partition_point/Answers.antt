@@ -1,13 +1,11 @@
-use Rattle.std.proofs.Common.{◌≡◌, ◌+◌, ◌-◌, ◌/◌, ◌<◌, true, false, length, get_or, refl, subst}
-use Rattle.std.proofs.Common.{inl, inr, sym, arith}
+use Rattle.std.proofs.Common.{◌≡◌, ◌+◌, ◌-◌, ◌/◌, ◌<◌, true, false, length, get_or, refl, subst, inl, inr, sym, arith}
 use Rattle.std.specs.Fn.{FnReturnsAt}
 use Rattle.std.proofs.lemmas.Bool.{cases_lt}
 use Rattle.std.proofs.lemmas.Fn.{says_at}
 use Rattle.std.proofs.lemmas.List.{get_or_read}
 use Rattle.clr_shelf.specs.Blocks.{parts_of, size_at}
 use Rattle.clr_shelf.specs.Items.{items_of}
-use Rattle.clr_shelf.proofs.Listed.{block_inside, block_ends, first_begins, next_begins, last_ends}
-use Rattle.clr_shelf.proofs.Listed.{in_blocks, some_used}
+use Rattle.clr_shelf.proofs.Listed.{block_inside, block_ends, first_begins, next_begins, last_ends, in_blocks, some_used}
 use Rattle.clr_shelf.proofs.Parts.{size_read}
 use Rattle.clr_shelf.proofs.blocks.Blocks.partition_point.Goals.{then-block-eq0, else-block-eq0}
 use Rattle.clr_shelf.proofs.blocks.Blocks.partition_point.Goals as goal

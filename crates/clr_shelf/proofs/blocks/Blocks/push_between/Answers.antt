@@ -1,5 +1,4 @@
-use Rattle.std.proofs.Common.{[], ◌∷◌, ◌++◌, get_or, map, sym, ◌∙◌, ap, arith}
-use Rattle.std.specs.List.{slice_range}
+use Rattle.std.proofs.Common.{[], ◌∷◌, ◌++◌, get_or, map, sym, ◌∙◌, ap, arith, slice_range}
 use Rattle.std.proofs.lemmas.List.{append_assoc, map_push}
 use Rattle.std.proofs.lemmas.List.Edits.{between_more}
 use Rattle.clr_shelf.specs.Items.{items_of}

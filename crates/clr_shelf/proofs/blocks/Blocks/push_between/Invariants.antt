@@ -1,5 +1,4 @@
-use Rattle.std.proofs.Common.{◌≡◌, ◌++◌, map}
-use Rattle.std.specs.List.{slice_range}
+use Rattle.std.proofs.Common.{◌≡◌, ◌++◌, map, slice_range}
 use Rattle.clr_shelf.specs.Items.{items_of}
 use Rattle.clr_shelf.proofs.blocks.Blocks.push_between.Given as goal
 

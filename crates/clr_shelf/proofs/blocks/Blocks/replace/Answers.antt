@@ -1,5 +1,4 @@
-use Rattle.std.proofs.Common.{length, sym, ◌∙◌, ap}
-use Rattle.std.proofs.lemmas.List.{length-set}
+use Rattle.std.proofs.Common.{length, sym, ◌∙◌, ap, length-set}
 use Rattle.clr_shelf.specs.Items.{items_of}
 use Rattle.clr_shelf.proofs.Listed.{item_read, write_items, write_spreads, write_begins, write_ends}
 use Rattle.clr_shelf.proofs.blocks.Blocks.replace.Goals as goal

@@ -1,8 +1,6 @@
-use Rattle.std.proofs.Common.{◌≡◌, ℕ, ◌-◌, ◌*◌, [], ◌++◌, length, sym, ◌∙◌, ap, subst, vec_len}
-use Rattle.std.proofs.Common.{arith}
+use Rattle.std.proofs.Common.{◌≡◌, ℕ, ◌-◌, ◌*◌, [], ◌++◌, length, sym, ◌∙◌, ap, subst, vec_len, arith, ◌≤◌, replicate, vec_capacity}
 use Rattle.clr_shelf.specs.Blocks.{joined, parts_of, IsSpread}
 use Rattle.clr_shelf.specs.declared.block.TheConstants.{SIZE}
-use Rattle.std.proofs.Common.{◌≤◌, replicate, vec_capacity}
 use Rattle.std.proofs.lemmas.List.{length-replicate, take_all}
 use Rattle.clr_shelf.proofs.Parts.{length-parts, parts-spares, joined-spares, size-spares}
 use Rattle.clr_shelf.proofs.Starts.{more_starts}

@@ -1,6 +1,5 @@
-use Rattle.std.proofs.Common.{◌≡◌, filter, drop, None}
+use Rattle.std.proofs.Common.{◌≡◌, filter, drop, None, option_copied}
 use Rattle.std.specs.List.{last_or}
-use Rattle.std.specs.Option.{option_copied}
 use Rattle.clr_shelf.proofs.list_shelf.ListShelfShelf.last.Given as goal
 
 -- the last of what is left, or else the last so far, is that of all

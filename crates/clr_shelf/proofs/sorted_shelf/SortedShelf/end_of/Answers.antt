@@ -1,5 +1,4 @@
-use Rattle.std.proofs.Common.{◌≡◌, true, false, sym, ◌∙◌, ap, rules}
-use Rattle.std.specs.Ordering.{is_le}
+use Rattle.std.proofs.Common.{◌≡◌, true, false, sym, ◌∙◌, ap, rules, is_le}
 use Rattle.clr_shelf.specs.Items.{items_of}
 use Rattle.clr_shelf.proofs.ByGroup.{groups_rise}
 use Rattle.clr_shelf.proofs.GroupRuns.{partitioned_no_higher}

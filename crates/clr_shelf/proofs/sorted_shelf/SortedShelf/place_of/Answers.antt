@@ -1,5 +1,4 @@
-use Rattle.std.proofs.Common.{◌≡◌, true, false, sym, ◌∙◌, ap, rules, arith}
-use Rattle.std.specs.Ordering.{is_lt, is_eq}
+use Rattle.std.proofs.Common.{◌≡◌, true, false, sym, ◌∙◌, ap, rules, arith, is_lt, is_eq}
 use Rattle.std.proofs.lemmas.List.{get_or_read}
 use Rattle.std.proofs.lemmas.List.Sorted.{searchable_from_sorted}
 use Rattle.clr_shelf.specs.Items.{items_of}

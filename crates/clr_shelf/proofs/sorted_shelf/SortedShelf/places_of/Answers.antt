@@ -2,7 +2,7 @@ use Rattle.std.proofs.Common.{◌∙◌, sym, ap, filter, rules}
 use Rattle.clr_shelf.specs.Items.{items_of}
 use Rattle.clr_shelf.proofs.ByGroup.{filter-rows_by_key}
 use Rattle.clr_shelf.proofs.GroupRuns.{start_le_end, filter-between}
-use Rattle.clr_shelf.proofs.sorted_shelf.SortedShelfGroupedShelf.places_of.Goals as goal
+use Rattle.clr_shelf.proofs.sorted_shelf.SortedShelf.places_of.Goals as goal
 
 pub returns-clause-rises : goal.returns-clause-rises
 returns-clause-rises g c =
