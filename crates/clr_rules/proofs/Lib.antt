@@ -1,3 +1,4 @@
+pub mod Common
 pub mod lists
 pub mod edits
 pub mod good

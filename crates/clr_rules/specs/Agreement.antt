@@ -1,8 +1,7 @@
 -- AGREEMENT: two registers are the same near a clearance, on a set of sections. Nothing is asked of
 -- any other row.
 use Rattle.std.specs.Prelude.{◌≡◌, ℕ, Bool, List, Some}
-use Rattle.clr_net.specs.Grid.{Grid}
-use Rattle.clr_rules.specs.Prelude.{Id, Register, greatest_number, holds_of}
+use Rattle.clr_rules.specs.Prelude.{Grid, Id, Register, greatest_number, holds_of}
 use Rattle.clr_rules.specs.Near.{Extent, part, touches_fence}
 
 -- what stands near a clearance: the staff; the clearance's record and steps; the rows of the

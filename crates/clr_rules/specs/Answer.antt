@@ -2,20 +2,15 @@
 -- edits are made, and the reply is the clearance's card as it is after them, or the view that was
 -- asked for.
 use Rattle.std.specs.Prelude.{ℕ, ◌+◌, List, [], ◌∷◌, map, filter, length, Option, None, Some}
-use Rattle.std.specs.List.{count_by}
-use Rattle.clr_net.specs.Names.{has_name}
+use Rattle.std.specs.Prelude.{count_by}
+use Rattle.clr_rules.specs.Prelude.{has_name, Edit, Command, Kind, Crew, Record, Refusal, Reply, Id}
+use Rattle.clr_rules.specs.Prelude.{Register, greatest_number, record_of, is_done, present_steps}
+use Rattle.clr_rules.specs.Prelude.{present_round, places_of, after_edits, Order, Show, Jumper}
+use Rattle.clr_rules.specs.Prelude.{UnknownCaller, Card, Accepted, Shown, Refused, Added}
 use Rattle.clr_rules.specs.Commands.{edits_of, Known, checks}
 use Rattle.clr_rules.specs.Command.{named_clearance}
-use Rattle.clr_rules.specs.Prelude.{Edit, Command, Kind, Crew, Record, Refusal, Reply, Id, Register}
-use Rattle.clr_rules.specs.Prelude.{greatest_number, record_of, is_done, present_steps}
-use Rattle.clr_rules.specs.Prelude.{present_round, places_of, after_edits}
 use Rattle.clr_rules.specs.Fences.{clearance_fence, crossed_by, order_fence, touching_names}
 use Rattle.clr_rules.specs.Holds.{is_near_hold, in_kind_order}
-use Rattle.clr_rules.specs.declared.command.Kind.TheVariants.{Order, Show, Jumper}
-use Rattle.clr_rules.specs.declared.refusal.Refusal.TheVariants.{UnknownCaller}
-use Rattle.clr_rules.specs.declared.reply.Card.{Card}
-use Rattle.clr_rules.specs.declared.reply.Reply.TheVariants.{Accepted, Shown, Refused}
-use Rattle.clr_rules.specs.declared.reply.Reply.TheVariants.{Added}
 use Rattle.clr_rules.specs.declared.reply.View.{View}
 
 -- whose numbers count: those of the requester of the clearance that is named; a new clearance is

@@ -2,23 +2,16 @@
 -- order of their keys. An edit stands also where it changes nothing.
 use Rattle.std.specs.Prelude.{ℕ, if◌then◌else◌, ◌+◌, Bool, true, false, ◌&&◌, List, [], ◌∷◌, ◌++◌}
 use Rattle.std.specs.Prelude.{map, Option, None, Some}
-use Rattle.clr_net.specs.Grid.{Grid, section_names}
-use Rattle.clr_net.specs.Names.{has_name}
-use Rattle.clr_net.specs.declared.point.PointRow.{PointRow}
+use Rattle.clr_rules.specs.Prelude.{Grid, section_names, has_name, PointRow, SectionRow, Task}
+use Rattle.clr_rules.specs.Prelude.{Action, StepState, Waiting, Done, with_row, Edit, SetPosition}
+use Rattle.clr_rules.specs.Prelude.{SetHand, PutHold, TakeHold, PutRecord, PutStep, AddSection}
+use Rattle.clr_rules.specs.Prelude.{AddPoint, HeldOpen, Block, Control, Tag, Phase, Released}
+use Rattle.clr_rules.specs.Prelude.{Closed, Record, StepRow, Id, Register, record_of, is_ordered}
+use Rattle.clr_rules.specs.Prelude.{step_key, step_key_cmp, all_done, present_steps, step_at}
+use Rattle.clr_rules.specs.Prelude.{has_any_hold, hold_of}
 use Rattle.clr_net.specs.declared.point.Position.TheVariants.{Opened, Closed as Shut}
-use Rattle.clr_net.specs.declared.section.SectionRow.{SectionRow}
-use Rattle.clr_order.specs.Step.{Task}
-use Rattle.clr_order.specs.declared.action.Action.{Action}
-use Rattle.clr_order.specs.declared.step.StepState.{StepState}
-use Rattle.clr_order.specs.declared.step.StepState.TheVariants.{Waiting, Done}
-use Rattle.clr_order.specs.declared.action.Action.TheVariants as actions
-use Rattle.clr_shelf.specs.Rows.{with_row}
-use Rattle.clr_rules.specs.Prelude.{Edit, SetPosition, SetHand, PutHold, TakeHold, PutRecord}
-use Rattle.clr_rules.specs.Prelude.{PutStep, AddSection, AddPoint, HeldOpen, Block, Control, Tag}
-use Rattle.clr_rules.specs.Prelude.{Phase, Released, Closed, Record, StepRow, Id, Register}
-use Rattle.clr_rules.specs.Prelude.{record_of, is_ordered, step_key, step_key_cmp}
-use Rattle.clr_rules.specs.Prelude.{all_done, present_steps, step_at, has_any_hold, hold_of}
 use Rattle.clr_rules.specs.Records.{ends_with_steps, is_switch_order}
+use Rattle.clr_order.specs.declared.action.Action.TheVariants as actions
 
 -- the steps of a round, numbered from n, each Waiting and without a reader
 unfoldable pub new_steps : Id → ℕ → ℕ → List Task → List StepRow

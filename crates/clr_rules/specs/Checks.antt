@@ -3,27 +3,20 @@
 -- or a step says nothing where there is none: an earlier check of the same command has refused
 -- that.
 use Rattle.std.specs.Prelude.{ℕ, Bool, true, false, not, ◌&&◌, ◌||◌, ◌==◌, nat_lt, if◌then◌else◌}
-use Rattle.std.specs.Prelude.{List, length, find, Option, None, Some}
-use Rattle.std.specs.Option.{is_some}
-use Rattle.std.specs.Str.{bytes_eq}
-use Rattle.clr_net.specs.Grid.{Grid, point_names, section_names}
-use Rattle.clr_net.specs.Name.{same_name}
-use Rattle.clr_net.specs.Names.{has_name}
+use Rattle.std.specs.Prelude.{List, length, find, Option, None, Some, is_some, bytes_eq}
+use Rattle.clr_rules.specs.Prelude.{Grid, point_names, section_names, same_name, has_name, StaffRow}
+use Rattle.clr_rules.specs.Prelude.{Task, task, StepState, Hold, Tested, Ground, Crew, Phase}
+use Rattle.clr_rules.specs.Prelude.{Refusal, StepRow, Id, same_id, Register, hand_of, record_of}
+use Rattle.clr_rules.specs.Prelude.{all_done, is_waiting, points_of, present_steps, step_at}
+use Rattle.clr_rules.specs.Prelude.{steps_in, steps_of, has_hold, has_some_hold}
 use Rattle.clr_staff.specs.Staff.{is_named}
 use Rattle.clr_staff.specs.declared.employee.Role.{Role}
 use Rattle.clr_staff.specs.declared.employee.Role.TheVariants.{Operator, Field, Charge}
-use Rattle.clr_staff.specs.declared.employee.StaffRow.{StaffRow}
 use Rattle.clr_order.specs.Isolating.{isolating_fault}
 use Rattle.clr_order.specs.Restoring.{restoring_fault}
-use Rattle.clr_order.specs.Step.{Task, task}
 use Rattle.clr_order.specs.Switching.{switching_fault}
 use Rattle.clr_order.specs.Texts.{step_text}
-use Rattle.clr_order.specs.declared.step.StepState.{StepState}
 use Rattle.clr_rules.specs.Fences.{rows_of_fence}
-use Rattle.clr_rules.specs.Prelude.{Hold, Tested, Ground, Crew, Phase, Refusal, StepRow, Id}
-use Rattle.clr_rules.specs.Prelude.{same_id, Register, hand_of, record_of, all_done, is_waiting}
-use Rattle.clr_rules.specs.Prelude.{points_of, present_steps, step_at, steps_in, steps_of, has_hold}
-use Rattle.clr_rules.specs.Prelude.{has_some_hold}
 use Rattle.clr_rules.specs.Holds.{held_among, hindering_hold}
 use Rattle.clr_rules.specs.Refusals.{order_refusal}
 use Rattle.clr_rules.specs.Steps.{is_close, is_in_turn, some_active}

@@ -1,11 +1,15 @@
 -- THE RULES OF THE NINETEEN COMMANDS: what each is checked for, in this order, and what it changes
 -- where no check refuses it. The checks are stated one by one in Checks, the parts of a change in
 -- Changes.
-use Rattle.std.specs.Prelude.{ℕ, Bool, if◌then◌else◌, ◌+◌, List, [], ◌∷◌, map, Option, None}
-use Rattle.std.specs.Prelude.{Some, ◌++◌}
+use Rattle.std.specs.Prelude.{ℕ, Bool, if◌then◌else◌, ◌+◌, List, [], ◌∷◌, map, Option, None, Some}
+use Rattle.std.specs.Prelude.{◌++◌}
 use Rattle.clr_staff.specs.declared.employee.Role.{Role}
-use Rattle.clr_order.specs.declared.step.StepState.TheVariants.{Instructed, Repeated}
-use Rattle.clr_order.specs.declared.action.Action.TheVariants as actions
+use Rattle.clr_rules.specs.Prelude.{Instructed, Repeated, Edit, SetHand, PutHold, TakeHold}
+use Rattle.clr_rules.specs.Prelude.{PutRecord, PutStep, Kind, Tested, Ground, Crew, Id, Phase}
+use Rattle.clr_rules.specs.Prelude.{Requested, Ordered, Granted, Released, Restoring, Switching}
+use Rattle.clr_rules.specs.Prelude.{Refusal, StepRow, Register, is_running, is_granted}
+use Rattle.clr_rules.specs.Prelude.{is_restoring, is_ordered, is_active, is_waiting, hold_of}
+use Rattle.clr_rules.specs.Prelude.{places_of}
 use Rattle.clr_rules.specs.Changes.{added_edits, cancelled_phase, done_edits, new_jumper}
 use Rattle.clr_rules.specs.Changes.{new_record, new_steps, put_steps, step_moved, undone_edits}
 use Rattle.clr_rules.specs.Changes.{with_record, with_step}
@@ -19,15 +23,9 @@ use Rattle.clr_rules.specs.Checks.{too_many_clearances, unknown_caller, unknown_
 use Rattle.clr_rules.specs.Checks.{unknown_section, unsound_order, wrong_phase, wrong_reporter}
 use Rattle.clr_rules.specs.Checks.{wrong_restoring, wrong_role, wrong_state, wrong_switching}
 use Rattle.clr_rules.specs.Checks.{crosses_fence, network_full, point_exists, same_ends}
-use Rattle.clr_rules.specs.Prelude.{Edit, SetHand, PutHold, TakeHold, PutRecord, PutStep, Kind}
-use Rattle.clr_rules.specs.Prelude.{Tested, Ground, Crew, Id, Phase, Requested, Ordered}
-use Rattle.clr_rules.specs.Prelude.{Granted, Released}
-use Rattle.clr_rules.specs.Prelude.{Restoring, Switching, Refusal, StepRow, Register, is_running}
-use Rattle.clr_rules.specs.Prelude.{is_granted}
-use Rattle.clr_rules.specs.Prelude.{is_restoring, is_ordered, is_active, is_waiting, hold_of}
-use Rattle.clr_rules.specs.Prelude.{places_of}
 use Rattle.clr_rules.specs.Records.{is_cancellable, is_released, is_requested, is_transferable}
 use Rattle.clr_rules.specs.Steps.{is_repeated}
+use Rattle.clr_order.specs.declared.action.Action.TheVariants as actions
 use Rattle.clr_rules.specs.declared.command.Kind.TheVariants as kinds
 
 -- what is known of the register beside its rows: the greatest number of the clearance's requester,

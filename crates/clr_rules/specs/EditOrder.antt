@@ -3,13 +3,11 @@ use Rattle.std.specs.Prelude.{◌≡◌, ℕ, Bool, true, List}
 use Rattle.std.specs.Ordering.{nat_cmp, ordering_then}
 use Rattle.std.specs.declared.cmp.Ordering.{Ordering}
 use Rattle.std.specs.declared.cmp.Ordering.TheVariants.{Equal}
-use Rattle.clr_net.specs.Name.{name_cmp}
-use Rattle.clr_shelf.specs.Rows.{in_key_order}
+use Rattle.clr_rules.specs.Prelude.{name_cmp, in_key_order, Edit, SetPosition, SetHand, PutHold}
+use Rattle.clr_rules.specs.Prelude.{TakeHold, PutRecord, PutStep, AddSection, AddPoint, Command}
+use Rattle.clr_rules.specs.Prelude.{id_cmp, Register, step_key, step_key_cmp, hold_cmp}
 use Rattle.clr_rules.specs.Answer.{Answer, answer}
 use Rattle.clr_rules.specs.Good.{ListsAreInOrder}
-use Rattle.clr_rules.specs.Prelude.{Edit, SetPosition, SetHand, PutHold, TakeHold, PutRecord}
-use Rattle.clr_rules.specs.Prelude.{PutStep, AddSection, AddPoint}
-use Rattle.clr_rules.specs.Prelude.{Command, id_cmp, Register, step_key, step_key_cmp, hold_cmp}
 
 -- the place of an edit's kind; putting and taking a hold are one kind
 abbrev pub edit_rank : Edit → ℕ

@@ -2,8 +2,7 @@
 -- of its key; all other rows stay.
 use Rattle.std.specs.Prelude.{Bool, true, ◌&&◌, List, [], ◌∷◌}
 use Rattle.clr_net.specs.Additions.{fits_point, fits_section, with_point, with_section}
-use Rattle.clr_net.specs.Grid.{Grid, unplaced}
-use Rattle.clr_net.specs.Name.{name_cmp}
+use Rattle.clr_net.specs.Prelude.{Grid, unplaced, name_cmp}
 use Rattle.clr_shelf.specs.Rows.{with_row, without_row}
 use Rattle.clr_rules.specs.Hold.{hold_cmp}
 use Rattle.clr_rules.specs.Holds.{hold_key}

@@ -1,11 +1,9 @@
 -- The fences of clearances, and what lies in a fence or touches it.
 use Rattle.std.specs.Prelude.{◌≡◌, ℕ, Bool, not, if◌then◌else◌, List, [], filter, find, Option}
-use Rattle.std.specs.Prelude.{None, Some}
-use Rattle.std.specs.Option.{option_map}
-use Rattle.clr_net.specs.Fence.{FenceRows, fence_of, touches}
-use Rattle.clr_net.specs.Grid.{Grid, point_names, section_names}
-use Rattle.clr_net.specs.Names.{has_name}
-use Rattle.clr_rules.specs.Prelude.{Record, StepRow, Id, Register, record_of, points_of, steps_in}
+use Rattle.std.specs.Prelude.{None, Some, option_map}
+use Rattle.clr_rules.specs.Prelude.{FenceRows, fence_of, touches, Grid, point_names, section_names}
+use Rattle.clr_rules.specs.Prelude.{has_name, Record, StepRow, Id, Register, record_of, points_of}
+use Rattle.clr_rules.specs.Prelude.{steps_in}
 use Rattle.clr_rules.specs.Records.{is_fenced}
 
 -- the sections of the fence of a work section that is cut at these points; a switch order has no

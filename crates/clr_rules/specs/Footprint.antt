@@ -1,12 +1,10 @@
 -- What leaves a clearance alone.
 use Rattle.std.specs.Prelude.{◌≡◌, ℕ, Bool, true, false, not, ◌&&◌, List, Some}
-use Rattle.std.specs.List.{list_all}
-use Rattle.clr_net.specs.declared.point.Position.{Position}
+use Rattle.clr_rules.specs.Prelude.{list_all, Position, Edit, SetPosition, SetHand, PutHold}
+use Rattle.clr_rules.specs.Prelude.{TakeHold, PutRecord, PutStep, AddSection, AddPoint, HeldOpen}
+use Rattle.clr_rules.specs.Prelude.{Id, same_id, Register, has_in_hand, position_of, record_of}
+use Rattle.clr_rules.specs.Prelude.{steps_of, has_hold, holds_of, after_edits}
 use Rattle.clr_net.specs.declared.point.Position.TheVariants.{Opened, Closed as Shut}
-use Rattle.clr_rules.specs.Prelude.{Edit, SetPosition, SetHand, PutHold, TakeHold, PutRecord}
-use Rattle.clr_rules.specs.Prelude.{PutStep, AddSection, AddPoint, HeldOpen, Id, same_id}
-use Rattle.clr_rules.specs.Prelude.{Register, has_in_hand, position_of, record_of, steps_of}
-use Rattle.clr_rules.specs.Prelude.{has_hold, holds_of, after_edits}
 use Rattle.clr_rules.specs.Good.{ListsAreInOrder}
 use Rattle.clr_rules.specs.States.{is_hand}
 

@@ -2,38 +2,30 @@
 -- parts, each in its own words, of a register with a network, a staff and lists in order; and four
 -- parts besides, which are needed to keep these. GoodByPhase says the same phase by phase.
 use Rattle.std.specs.Prelude.{◌≡◌, ℕ, Bool, true, false, not, ◌&&◌, ◌||◌, IsTrue, List, [], length}
-use Rattle.std.specs.Prelude.{map, filter, All, Contains, Option, None, Some}
+use Rattle.std.specs.Prelude.{map, filter, All, Contains, Option, None, Some, is_some}
 use Rattle.std.specs.List.{list_any, range_with_len}
-use Rattle.std.specs.Option.{is_some}
-use Rattle.clr_net.specs.Grid.{Grid, IsNetwork, point_names, section_names}
-use Rattle.clr_net.specs.Name.{name_cmp, same_name}
-use Rattle.clr_net.specs.Names.{has_name}
-use Rattle.clr_net.specs.declared.point.PointRow.{PointRow}
-use Rattle.clr_net.specs.declared.point.Position.TheVariants.{Opened}
+use Rattle.clr_rules.specs.Prelude.{Grid, IsNetwork, point_names, section_names, name_cmp}
+use Rattle.clr_rules.specs.Prelude.{same_name, has_name, PointRow, Opened, actions_at, Action}
+use Rattle.clr_rules.specs.Prelude.{in_key_order, Hold, HoldKind, HeldOpen, Block, Control, Tag}
+use Rattle.clr_rules.specs.Prelude.{Tested, Ground, Crew, Record, StepRow, Id, id_cmp, Register}
+use Rattle.clr_rules.specs.Prelude.{has_in_hand, position_of, state_key, record_key, record_of}
+use Rattle.clr_rules.specs.Prelude.{is_running, is_standing, is_granted, is_restoring, step_key}
+use Rattle.clr_rules.specs.Prelude.{step_key_cmp, all_done, is_active, is_done, is_some_step}
+use Rattle.clr_rules.specs.Prelude.{is_waiting, points_of, present_round, steps_in, steps_of}
+use Rattle.clr_rules.specs.Prelude.{tasks_of, hold_cmp, is_point_kind, has_hold, held_at, hold_key}
+use Rattle.clr_rules.specs.Prelude.{first_of_each}
 use Rattle.clr_staff.specs.Staff.{IsStaff}
 use Rattle.clr_order.specs.Action.{is_switching}
 use Rattle.clr_order.specs.Isolating.{IsSoundOrder}
 use Rattle.clr_order.specs.Needed.{Undoes}
-use Rattle.clr_order.specs.Step.{actions_at}
-use Rattle.clr_order.specs.declared.action.Action.{Action}
-use Rattle.clr_order.specs.declared.action.Action.TheVariants as actions
-use Rattle.clr_shelf.specs.Rows.{in_key_order}
 use Rattle.clr_rules.specs.Checks.{employee, has_role, is_operator}
 use Rattle.clr_rules.specs.Fences.{clearance_fence}
-use Rattle.clr_rules.specs.Prelude.{Hold, HoldKind, HeldOpen, Block, Control, Tag, Tested, Ground}
-use Rattle.clr_rules.specs.Prelude.{Crew, Record, StepRow, Id, id_cmp, Register, has_in_hand}
-use Rattle.clr_rules.specs.Prelude.{position_of, state_key, record_key, record_of, is_running}
-use Rattle.clr_rules.specs.Prelude.{is_standing}
-use Rattle.clr_rules.specs.Prelude.{is_granted, is_restoring, step_key, step_key_cmp, all_done}
-use Rattle.clr_rules.specs.Prelude.{is_active, is_done, is_some_step, is_waiting, points_of}
-use Rattle.clr_rules.specs.Prelude.{present_round, steps_in, steps_of, tasks_of, hold_cmp}
-use Rattle.clr_rules.specs.Prelude.{is_point_kind, has_hold}
-use Rattle.clr_rules.specs.Prelude.{held_at, hold_key, first_of_each}
 use Rattle.clr_rules.specs.Live.{is_live}
 use Rattle.clr_rules.specs.Records.{is_closed, is_in_switching, is_requested, is_switch_order}
 use Rattle.clr_rules.specs.Records.{numbers_of}
 use Rattle.clr_rules.specs.Register.{unplaced_net}
 use Rattle.clr_rules.specs.Steps.{is_close, is_in_turn}
+use Rattle.clr_order.specs.declared.action.Action.TheVariants as actions
 
 -- HELD POINTS ARE OPEN: a point with a HeldOpen, Block, Control or Tag is open, and the last three
 -- stand only beside a HeldOpen of the same clearance

@@ -4,25 +4,20 @@
 use Rattle.std.specs.Prelude.{◌≡◌, ℕ, Bool, true, false, ◌&&◌, ◌||◌, ◌==◌, if◌then◌else◌, IsTrue}
 use Rattle.std.specs.Prelude.{List, [], ◌∷◌, length, filter, All, Option, None, Some}
 use Rattle.std.specs.List.{list_all, list_any, range_with_len}
-use Rattle.clr_net.specs.Grid.{Grid, IsNetwork, section_names}
-use Rattle.clr_net.specs.Name.{same_name}
-use Rattle.clr_net.specs.Names.{has_name}
-use Rattle.clr_net.specs.declared.point.Position.TheVariants.{Opened}
+use Rattle.clr_rules.specs.Prelude.{Grid, IsNetwork, section_names, same_name, has_name, Opened}
+use Rattle.clr_rules.specs.Prelude.{actions_at, HoldKind, HeldOpen, Block, Control, Tag, Tested}
+use Rattle.clr_rules.specs.Prelude.{Ground, Crew, Phase, Requested, Ordered, Granted, Released}
+use Rattle.clr_rules.specs.Prelude.{Restoring, Switching, Closed, Record, StepRow, Id, Register}
+use Rattle.clr_rules.specs.Prelude.{has_in_hand, position_of, record_of, all_done, is_active}
+use Rattle.clr_rules.specs.Prelude.{is_done, is_some_step, is_waiting, points_of, steps_of}
+use Rattle.clr_rules.specs.Prelude.{tasks_of, is_point_kind, has_hold, first_of_each}
 use Rattle.clr_staff.specs.Staff.{IsStaff}
 use Rattle.clr_order.specs.Action.{is_switching}
 use Rattle.clr_order.specs.Isolating.{IsSoundOrder}
 use Rattle.clr_order.specs.Needed.{undoes}
-use Rattle.clr_order.specs.Step.{actions_at}
 use Rattle.clr_rules.specs.Fences.{work_fence}
 use Rattle.clr_rules.specs.Good.{ListsAreInOrder, NetworkIsUnplaced, PointsAreKnown, is_closing_at}
 use Rattle.clr_rules.specs.Good.{is_known_work, is_operators, steps_left_of, put_by}
-use Rattle.clr_rules.specs.Prelude.{HoldKind, HeldOpen, Block, Control, Tag, Tested, Ground, Crew}
-use Rattle.clr_rules.specs.Prelude.{Phase, Requested, Ordered, Granted, Released, Restoring}
-use Rattle.clr_rules.specs.Prelude.{Switching, Closed, Record, StepRow, Id, Register, has_in_hand}
-use Rattle.clr_rules.specs.Prelude.{position_of}
-use Rattle.clr_rules.specs.Prelude.{record_of, all_done, is_active, is_done, is_some_step}
-use Rattle.clr_rules.specs.Prelude.{is_waiting, points_of, steps_of, tasks_of, is_point_kind}
-use Rattle.clr_rules.specs.Prelude.{has_hold, first_of_each}
 use Rattle.clr_rules.specs.Records.{is_switch_order, numbers_of}
 use Rattle.clr_rules.specs.Steps.{some_active}
 

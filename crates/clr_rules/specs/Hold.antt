@@ -7,7 +7,7 @@ use Rattle.std.specs.declared.cmp.Ordering.TheVariants.{Less, Equal, Greater}
 use Rattle.std.proofs.Common.{◌∙◌, ap}
 use Rattle.std.proofs.lemmas.Cmp.{then_total, on_total, nat_list_cmp_total, nat_cmp_total}
 use Rattle.clr_net.specs.Name.{name_cmp, same_name}
-use Rattle.clr_shelf.proofs.Keys.{first_ties, second_ties, same_text}
+use Rattle.clr_shelf.specs.Ties.{first_ties, second_ties, same_text}
 use Rattle.clr_rules.specs.Id.{Id, id_cmp, id_cmp_total, same_id, same_id_from_tie}
 use Rattle.clr_rules.specs.Id.{same_id_ties_back, same_name_ties_back}
 use Rattle.clr_rules.specs.HoldKind.{is_crew, is_point_kind, is_section_kind, kind_text_cmp}

@@ -1,16 +1,14 @@
 -- The kinds of holds: where they stand, and their two orders.
 use Rattle.std.specs.Prelude.{◌≡◌, ℕ, Bool, true, false, List, [], ◌∷◌, codes, find, refl, Option}
-use Rattle.std.specs.Prelude.{Some}
-use Rattle.std.specs.Option.{unwrap_or}
-use Rattle.std.specs.Str.{bytes_eq}
+use Rattle.std.specs.Prelude.{Some, unwrap_or, bytes_eq}
 use Rattle.std.specs.Cmp.{IsTotalOrder}
 use Rattle.std.specs.Ordering.{nat_cmp}
 use Rattle.std.specs.declared.cmp.Ordering.{Ordering}
 use Rattle.std.specs.declared.cmp.Ordering.TheVariants.{Equal}
 use Rattle.std.proofs.Common.{sym, ◌∙◌, ap}
 use Rattle.std.proofs.lemmas.Cmp.{on_total, nat_list_cmp_total, nat_cmp_total}
-use Rattle.clr_net.specs.Name.{name_cmp}
-use Rattle.clr_shelf.proofs.Keys.{same_text}
+use Rattle.clr_net.specs.Prelude.{name_cmp}
+use Rattle.clr_shelf.specs.Ties.{same_text}
 use Rattle.clr_rules.specs.declared.hold_kind.HoldKind.{HoldKind}
 use Rattle.clr_rules.specs.declared.hold_kind.HoldKind.TheVariants.{HeldOpen, Block, Control, Tag}
 use Rattle.clr_rules.specs.declared.hold_kind.HoldKind.TheVariants.{Tested, Ground, Crew}

@@ -1,11 +1,9 @@
 -- The holds: what stands at points and sections for a clearance, and which crews are signed on to
 -- it.
 use Rattle.std.specs.Prelude.{ℕ, Bool, false, not, ◌&&◌, ◌||◌, if◌then◌else◌, List, [], ◌∷◌, ◌++◌}
-use Rattle.std.specs.Prelude.{filter, map, Option, None, Some}
-use Rattle.std.specs.List.{list_any, fold}
-use Rattle.std.specs.Option.{is_some}
+use Rattle.std.specs.Prelude.{filter, map, Option, None, Some, fold, is_some}
+use Rattle.clr_net.specs.Prelude.{list_any, same_name}
 use Rattle.std.specs.Ordering.{is_eq, is_lt, ordering_then}
-use Rattle.clr_net.specs.Name.{same_name}
 use Rattle.clr_order.specs.declared.held.Held.{Held}
 use Rattle.clr_shelf.specs.Rows.{row_of}
 use Rattle.clr_rules.specs.Id.{Id, id_cmp, same_id}

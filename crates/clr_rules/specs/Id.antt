@@ -1,9 +1,8 @@
 -- The names of clearances. A clause sees a ClearanceId as an Id.
 use Rattle.std.specs.Prelude.{◌≡◌, ℕ, Bool, ◌&&◌, ◌==◌, nat_le, if◌then◌else◌, List, ◌∷◌, ◌++◌}
-use Rattle.std.specs.Prelude.{Option, Some, None, refl}
+use Rattle.std.specs.Prelude.{Option, Some, None, refl, decimal}
 use Rattle.std.specs.Cmp.{IsTotalOrder, IsEquivalence, unsigned_ties}
 use Rattle.std.specs.Cmp.Lexicographic.{texts_ties}
-use Rattle.std.specs.Fmt.{decimal}
 use Rattle.std.specs.Ordering.{nat_cmp, ordering_then, is_eq}
 use Rattle.std.specs.declared.cmp.Ordering.{Ordering}
 use Rattle.std.specs.declared.cmp.Ordering.TheVariants.{Less, Equal, Greater}
@@ -11,7 +10,7 @@ use Rattle.std.proofs.Common.{◌∙◌}
 use Rattle.std.proofs.lemmas.Cmp.{and_equiv, on_equiv, then_total, on_total, nat_list_cmp_total}
 use Rattle.std.proofs.lemmas.Cmp.{nat_list_eq_equiv, nat_cmp_total, nat_eq_equiv}
 use Rattle.clr_net.specs.Name.{is_name, same_name, name_cmp}
-use Rattle.clr_shelf.proofs.Keys.{first_ties, second_ties, same_number, same_text}
+use Rattle.clr_shelf.specs.Ties.{first_ties, second_ties, same_number, same_text}
 
 -- who asked for the clearance, and which of the asker's clearances it is
 pub record Id : Type 0 where

@@ -1,18 +1,15 @@
 -- THE STATEMENTS OF ISOLATION. Each is proved, by a law in src/laws.
 use Rattle.std.specs.Prelude.{◌≡◌, ℕ, Bool, true, false, not, ◌||◌, List, [], ◌∷◌, filter, Some}
 use Rattle.std.specs.Prelude.{Option, None}
-use Rattle.std.specs.List.{list_all}
-use Rattle.clr_net.specs.Name.{same_name}
-use Rattle.clr_net.specs.Names.{has_name}
-use Rattle.clr_net.specs.declared.point.Position.TheVariants.{Opened}
+use Rattle.clr_rules.specs.Prelude.{list_all, same_name, has_name, Opened, Command, HeldOpen, Id}
+use Rattle.clr_rules.specs.Prelude.{same_id, Register, position_of, has_hold}
 use Rattle.clr_rules.specs.Agreement.{Agree}
 use Rattle.clr_rules.specs.Answer.{Answer, answer}
 use Rattle.clr_rules.specs.Command.{is_jumper, named_clearance}
 use Rattle.clr_rules.specs.Fences.{clearance_fence}
 use Rattle.clr_rules.specs.Footprint.{Frame}
-use Rattle.clr_rules.specs.Good.{IsGood, IsGoodAsSaid, OnlySwitchOrdersSwitch}
-use Rattle.clr_rules.specs.Good.{PointsAreKnown, SwitchOrdersAreOperators, has_record, is_operators}
-use Rattle.clr_rules.specs.Prelude.{Command, HeldOpen, Id, same_id, Register, position_of, has_hold}
+use Rattle.clr_rules.specs.Good.{IsGood, IsGoodAsSaid, OnlySwitchOrdersSwitch, PointsAreKnown}
+use Rattle.clr_rules.specs.Good.{SwitchOrdersAreOperators, has_record, is_operators}
 use Rattle.clr_rules.specs.Near.{near_of}
 use Rattle.clr_rules.specs.Run.{IsReached, after, after_all}
 use Rattle.clr_rules.specs.Shown.{Item, added_sections, asked_row, asked_sections, covers}

@@ -1,15 +1,10 @@
 -- LIVE SECTIONS: those to which closed points lead from a source; and the test of it that computes.
 use Rattle.std.specs.Prelude.{◌≡◌, ℕ, Bool, true, false, not, ◌&&◌, IsTrue, List, Contains, filter}
 use Rattle.std.specs.Prelude.{Option, None, Some}
-use Rattle.std.specs.List.{list_any}
-use Rattle.clr_net.specs.Fence.{in_fence}
-use Rattle.clr_net.specs.Grid.{Grid, point_names}
+use Rattle.clr_rules.specs.Prelude.{list_any, in_fence, Grid, point_names, PointRow, Position}
+use Rattle.clr_rules.specs.Prelude.{SectionRow, PointState, position_of}
 use Rattle.clr_net.specs.Walk.{joins}
-use Rattle.clr_net.specs.declared.point.PointRow.{PointRow}
-use Rattle.clr_net.specs.declared.point.Position.{Position}
 use Rattle.clr_net.specs.declared.point.Position.TheVariants.{Opened, Closed}
-use Rattle.clr_net.specs.declared.section.SectionRow.{SectionRow}
-use Rattle.clr_rules.specs.Prelude.{PointState, position_of}
 
 -- a point without a state feeds nothing; in a good register each point of the network has one
 abbrev pub is_shut : Option Position → Bool

@@ -1,19 +1,14 @@
 -- THE NEAR PART: what a command looks at. It is a small register, made of rows of the whole one.
-use Rattle.std.specs.Prelude.{ℕ, Bool, false, ◌||◌, ◌==◌, if◌then◌else◌, List, [], filter}
-use Rattle.std.specs.Prelude.{Option, None, Some}
-use Rattle.clr_net.specs.Grid.{Grid}
-use Rattle.clr_net.specs.Name.{same_name}
-use Rattle.clr_net.specs.Names.{has_name}
-use Rattle.clr_order.specs.Step.{task_points}
+use Rattle.std.specs.Prelude.{ℕ, Bool, false, ◌||◌, ◌==◌, if◌then◌else◌, List, [], filter, Option}
+use Rattle.std.specs.Prelude.{None, Some}
+use Rattle.clr_rules.specs.Prelude.{Grid, same_name, has_name, task_points, Command, Kind, Record}
+use Rattle.clr_rules.specs.Prelude.{Id, Register, record_of, points_of, steps_of, Request, Switch}
 use Rattle.clr_rules.specs.Commands.{Known}
 use Rattle.clr_rules.specs.Answer.{known_of}
 use Rattle.clr_rules.specs.Command.{is_jumper, named_clearance}
 use Rattle.clr_rules.specs.Fences.{touching_names}
 use Rattle.clr_rules.specs.Holds.{is_near_hold, is_own}
-use Rattle.clr_rules.specs.Prelude.{Command, Kind, Record, Id, Register, record_of, points_of}
-use Rattle.clr_rules.specs.Prelude.{steps_of}
 use Rattle.clr_rules.specs.Records.{is_switch_order}
-use Rattle.clr_rules.specs.declared.command.Kind.TheVariants.{Request, Switch}
 
 -- what a part takes of a register: the sections whose rows it has, those whose holds it has, the
 -- points, and a clearance, if one is meant

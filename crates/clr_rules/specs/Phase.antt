@@ -1,6 +1,5 @@
 -- The texts of phases.
-use Rattle.std.specs.Prelude.{ℕ, List, [], ◌∷◌, codes, find, Option}
-use Rattle.std.specs.Str.{bytes_eq}
+use Rattle.std.specs.Prelude.{ℕ, List, [], ◌∷◌, codes, find, Option, bytes_eq}
 use Rattle.clr_rules.specs.Prelude.{Phase, Requested, Ordered, Granted, Released, Restoring}
 use Rattle.clr_rules.specs.Prelude.{Switching, Closed}
 

@@ -1,8 +1,7 @@
 -- The records of clearances, and their numbers.
 use Rattle.std.specs.Prelude.{ℕ, Bool, true, false, nat_le, if◌then◌else◌, List, map, filter}
-use Rattle.std.specs.Prelude.{Option, None, Some}
-use Rattle.std.specs.List.{fold}
-use Rattle.clr_net.specs.Name.{same_name}
+use Rattle.std.specs.Prelude.{Option, None, Some, fold}
+use Rattle.clr_net.specs.Prelude.{same_name}
 use Rattle.clr_shelf.specs.Rows.{row_of}
 use Rattle.clr_rules.specs.Id.{Id, id_cmp}
 use Rattle.clr_rules.specs.declared.phase.Phase.{Phase}

@@ -1,11 +1,9 @@
 -- The refusals of orders, as refusals of commands.
 use Rattle.std.specs.Prelude.{Option, None, Some}
 use Rattle.clr_order.specs.declared.order_fault.OrderFault.{OrderFault}
+use Rattle.clr_rules.specs.Prelude.{Refusal, EmptyOrder, LongOrder, PointTwice, SourceInside}
+use Rattle.clr_rules.specs.Prelude.{NotOnFence, StepsWrong, UnknownPoint}
 use Rattle.clr_order.specs.declared.order_fault.OrderFault.TheVariants as faults
-use Rattle.clr_rules.specs.declared.refusal.Refusal.{Refusal}
-use Rattle.clr_rules.specs.declared.refusal.Refusal.TheVariants.{EmptyOrder, LongOrder, PointTwice}
-use Rattle.clr_rules.specs.declared.refusal.Refusal.TheVariants.{SourceInside, NotOnFence}
-use Rattle.clr_rules.specs.declared.refusal.Refusal.TheVariants.{StepsWrong, UnknownPoint}
 
 -- the refusal of a command whose order has this fault; out of memory is no refusal, and no check of
 -- an order names it

@@ -1,13 +1,13 @@
 -- The register: the network, the staff, and what is written down of points, clearances, steps and
 -- holds. Each list stands in the order of its keys, one row a key.
 use Rattle.std.specs.Prelude.{List, [], map, None}
-use Rattle.clr_net.specs.Grid.{Grid, unplaced}
-use Rattle.clr_net.specs.declared.point.PointRow.{PointRow}
+use Rattle.clr_net.specs.Prelude.{Grid, unplaced}
 use Rattle.clr_staff.specs.declared.employee.StaffRow.{StaffRow}
 use Rattle.clr_rules.specs.declared.hold.Hold.{Hold}
 use Rattle.clr_rules.specs.declared.point_state.PointState.{PointState}
 use Rattle.clr_rules.specs.declared.record.Record.{Record}
 use Rattle.clr_rules.specs.declared.step_row.StepRow.{StepRow}
+use Rattle.clr_net.specs.declared.point.PointRow.{PointRow}
 
 pub record Register : Type 0 where
   -- a point's position is no part of the network: it stands in its state, and here each point is

@@ -1,10 +1,9 @@
 -- RUNS: commands answered one after the other, each by the register that the earlier ones left.
 use Rattle.std.specs.Prelude.{◌≡◌, List, [], ◌∷◌}
-use Rattle.clr_net.specs.Grid.{Grid, IsNetwork}
+use Rattle.clr_rules.specs.Prelude.{Grid, IsNetwork, StaffRow, Command, Reply, Register}
+use Rattle.clr_rules.specs.Prelude.{after_edits}
 use Rattle.clr_staff.specs.Staff.{IsStaff}
-use Rattle.clr_staff.specs.declared.employee.StaffRow.{StaffRow}
 use Rattle.clr_rules.specs.Answer.{Answer, answer}
-use Rattle.clr_rules.specs.Prelude.{Command, Reply, Register, after_edits}
 use Rattle.clr_rules.specs.Register.{opening}
 
 -- the register after a command

@@ -1,23 +1,16 @@
 -- WHAT A RUN SHOWS A CLEARANCE: its own commands, and the marks that others leave in its fence.
 use Rattle.std.specs.Prelude.{ℕ, Bool, false, ◌&&◌, if◌then◌else◌, List, [], ◌∷◌, ◌++◌, filter}
-use Rattle.std.specs.Prelude.{find}
-use Rattle.std.specs.Prelude.{Option, None, Some}
-use Rattle.std.specs.List.{list_all}
-use Rattle.clr_net.specs.Fence.{touches}
-use Rattle.clr_net.specs.Grid.{Grid}
-use Rattle.clr_net.specs.Name.{same_name}
-use Rattle.clr_net.specs.Names.{has_name}
-use Rattle.clr_net.specs.declared.section.SectionRow.{SectionRow}
+use Rattle.std.specs.Prelude.{find, Option, None, Some}
+use Rattle.clr_rules.specs.Prelude.{list_all, touches, Grid, same_name, has_name, SectionRow, Edit}
+use Rattle.clr_rules.specs.Prelude.{SetPosition, SetHand, PutHold, TakeHold, PutRecord, PutStep}
+use Rattle.clr_rules.specs.Prelude.{AddSection, AddPoint, Command, Kind, Record, Id, same_id}
+use Rattle.clr_rules.specs.Prelude.{Register, record_of, Request, Order}
 use Rattle.clr_rules.specs.Answer.{Answer, answer}
 use Rattle.clr_rules.specs.Command.{named_clearance}
 use Rattle.clr_rules.specs.Fences.{clearance_fence, order_fence, touching_names}
 use Rattle.clr_rules.specs.Holds.{is_near_hold}
-use Rattle.clr_rules.specs.Prelude.{Edit, SetPosition, SetHand, PutHold, TakeHold, PutRecord}
-use Rattle.clr_rules.specs.Prelude.{PutStep, AddSection, AddPoint, Command, Kind, Record, Id}
-use Rattle.clr_rules.specs.Prelude.{same_id, Register, record_of}
 use Rattle.clr_rules.specs.Records.{is_requested}
 use Rattle.clr_rules.specs.Run.{after}
-use Rattle.clr_rules.specs.declared.command.Kind.TheVariants.{Request, Order}
 
 -- whether a command that names no clearance is a request of this requester
 abbrev pub is_request_of : List ℕ → List ℕ → Kind → Bool

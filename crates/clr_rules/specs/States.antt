@@ -1,11 +1,10 @@
 -- The states of switching points: where a point stands, and whose order is at work on it.
-use Rattle.std.specs.Prelude.{ℕ, Bool, false, List, Option, Some, None}
-use Rattle.std.specs.Option.{option_map}
-use Rattle.clr_net.specs.Name.{name_cmp}
-use Rattle.clr_net.specs.declared.point.Position.{Position}
+use Rattle.std.specs.Prelude.{ℕ, Bool, false, List, Option, Some, None, option_map}
+use Rattle.clr_net.specs.Prelude.{name_cmp}
 use Rattle.clr_shelf.specs.Rows.{row_of, with_row}
 use Rattle.clr_rules.specs.Id.{Id, same_id}
 use Rattle.clr_rules.specs.declared.point_state.PointState.{PointState}
+use Rattle.clr_net.specs.declared.point.Position.{Position}
 
 abbrev pub state_key : PointState → List ℕ
 state_key state = state.point

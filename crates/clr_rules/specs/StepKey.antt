@@ -6,7 +6,7 @@ use Rattle.std.specs.Ordering.{nat_cmp, ordering_then}
 use Rattle.std.specs.declared.cmp.Ordering.{Ordering}
 use Rattle.std.specs.declared.cmp.Ordering.TheVariants.{Equal}
 use Rattle.std.proofs.lemmas.Cmp.{then_total, on_total, nat_cmp_total}
-use Rattle.clr_shelf.proofs.Keys.{first_ties, second_ties, same_number}
+use Rattle.clr_shelf.specs.Ties.{first_ties, second_ties, same_number}
 use Rattle.clr_rules.specs.Id.{id_cmp, id_cmp_total, same_id_from_tie}
 use Rattle.clr_rules.specs.declared.step_row.StepKey.{StepKey}
 use Rattle.clr_rules.specs.declared.step_row.StepRow.{StepRow}

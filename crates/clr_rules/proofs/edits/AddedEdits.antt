@@ -1,24 +1,14 @@
 -- What a jumper that no check refuses adds can be added: its edits fit the network.
-use Rattle.std.proofs.Common.{◌≡◌, ◌∙◌, ℕ, Bool, true, false, cond, ◌||◌, nat_lt, length, List, [], ◌∷◌, refl, sym}
-use Rattle.std.specs.Prelude.{IsTrue}
-use Rattle.std.proofs.lemmas.Bool.{and_from, and_parts, not_from_false, or_left, or_right}
+use Rattle.std.proofs.Common.{◌≡◌, ◌∙◌, ℕ, Bool, true, false, cond, ◌||◌, nat_lt, length, List, [], ◌∷◌, refl, sym, IsTrue}
+use Rattle.clr_rules.proofs.Common.{and_from, and_parts, not_from_false, or_left, or_right, Grid, IsNetwork, point_names, section_names, same_name, has_name, PointRow, SectionRow, same_itself, Known}
+use Rattle.clr_rules.proofs.Common.{checks, fit, Jumper}
 use Rattle.std.proofs.lemmas.List.Sorted.{list_any-IsPermutation}
 use Rattle.clr_net.specs.Additions.{fits_point, fits_section, with_section}
-use Rattle.clr_net.specs.Grid.{Grid, IsNetwork, point_names, section_names}
-use Rattle.clr_net.specs.Name.{same_name}
-use Rattle.clr_net.specs.Names.{has_name}
-use Rattle.clr_net.specs.declared.point.PointRow.{PointRow}
-use Rattle.clr_net.specs.declared.section.SectionRow.{SectionRow}
 use Rattle.clr_net.proofs.BuildFacts.{names_permuted}
 use Rattle.clr_net.proofs.Grown.{sections_are_added}
-use Rattle.clr_net.proofs.Walks.{same_itself}
 use Rattle.clr_rules.specs.Changes.{added_edits, new_jumper, new_section}
 use Rattle.clr_rules.specs.Checks.{has_room}
-use Rattle.clr_rules.specs.Commands.{Known, checks}
-use Rattle.clr_rules.specs.Edits.{fit}
-use Rattle.clr_rules.specs.Prelude.{AddSection, AddPoint, Register}
-use Rattle.clr_rules.specs.declared.command.Kind.TheVariants.{Jumper}
-use Rattle.clr_rules.specs.declared.refusal.Refusal.TheVariants.{NetworkFull, PointExists, SameEnds, UnknownSection}
+use Rattle.clr_rules.specs.Prelude.{AddSection, AddPoint, Register, NetworkFull, PointExists, SameEnds, UnknownSection}
 use Rattle.clr_rules.proofs.edits.Passing.{Pass, not_refused, not_refused_true}
 
 -- the names of the sections with one more

@@ -1,26 +1,14 @@
 -- What runs add to the network: jumpers, and sections without a source.
-use Rattle.std.proofs.Common.{◌≡◌, ◌∙◌, ◌⊎◌, inl, inr, ⊎_elim, ℕ, suc, Option, Some, None, Bool, true, false, not, List, [], ◌∷◌, map, Contains, refl, sym, ap, subst, arith}
-use Rattle.std.specs.List.{AllByRecursion}
-use Rattle.std.specs.List.Sorted.{IsPermutation}
-use Rattle.std.proofs.lemmas.Bool.{and_parts}
+use Rattle.std.proofs.Common.{◌≡◌, ◌∙◌, ◌⊎◌, inl, inr, ⊎_elim, ℕ, suc, Option, Some, None, Bool, true, false, not, List, [], ◌∷◌, map, Contains, refl, sym, ap, subst, arith, IsPermutation}
+use Rattle.clr_rules.proofs.Common.{AllByRecursion, and_parts, Grid, IsNetwork, point_names, unplaced, StaffRow, Answer, answer, answer_by_checks, first_refusal, known_of, new_jumper, checks}
+use Rattle.clr_rules.proofs.Common.{edits_of, is_jumper, adds, adds_nothing, ListsAreInOrder, Edit, AddSection, AddPoint, Command, Kind, Refusal, Register, state_key, after_edit, after_edits, opening}
+use Rattle.clr_rules.proofs.Common.{unplaced_net, after, after_all, Jumper}
 use Rattle.std.proofs.lemmas.List.Sorted.{Contains-permutation, IsPermutation-sym}
 use Rattle.clr_net.specs.Additions.{with_point, with_section}
-use Rattle.clr_net.specs.Grid.{Grid, IsNetwork, point_names, unplaced}
 use Rattle.clr_net.proofs.Grown.{points_are_added, sections_are_added}
 use Rattle.clr_net.proofs.KeptRows.{first_or_later}
-use Rattle.clr_staff.specs.declared.employee.StaffRow.{StaffRow}
-use Rattle.clr_rules.specs.Answer.{Answer, answer, answer_by_checks, first_refusal, known_of}
-use Rattle.clr_rules.specs.Changes.{new_jumper}
-use Rattle.clr_rules.specs.Commands.{checks, edits_of}
-use Rattle.clr_rules.specs.Command.{is_jumper}
-use Rattle.clr_rules.specs.laws.Edits.{adds, adds_nothing}
 use Rattle.clr_rules.specs.Edits.{fit, fits_edit, net_after}
-use Rattle.clr_rules.specs.Good.{ListsAreInOrder}
-use Rattle.clr_rules.specs.Prelude.{Edit, AddSection, AddPoint, Command, Kind, Refusal, Register, state_key, after_edit, after_edits}
-use Rattle.clr_rules.specs.Register.{opening, unplaced_net}
-use Rattle.clr_rules.specs.Run.{after, after_all}
 use Rattle.clr_rules.specs.laws.Runs.{HasGrown, OnlyAdds}
-use Rattle.clr_rules.specs.declared.command.Kind.TheVariants.{Jumper}
 use Rattle.clr_rules.proofs.edits.EditedLists.{edited-in_order, edited-network, not_false}
 use Rattle.clr_rules.proofs.edits.Growing.{answers_fit, net_after-network, states_known}
 use Rattle.clr_rules.proofs.edits.PlainEdits.{answers_plain}

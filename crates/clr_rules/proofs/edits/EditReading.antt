@@ -1,20 +1,13 @@
 -- What is read of the lists of a register after an edit.
-use Rattle.std.proofs.Common.{◌≡◌, ℕ, Bool, true, false, cond, ◌&&◌, ◌||◌, not, List, Option, Some, None, is_some, refl, sym, ◌∙◌, ap, ◌⊎◌, inl, inr, ⊎_elim, subst}
-use Rattle.std.specs.Prelude.{if◌then◌else◌, Contains}
-use Rattle.std.specs.Cmp.{IsTotalOrder}
-use Rattle.std.specs.Option.{option_map}
-use Rattle.std.specs.Ordering.{is_eq}
-use Rattle.std.specs.declared.cmp.Ordering.{Ordering}
-use Rattle.std.proofs.lemmas.Option.{none-some, same_Some}
-use Rattle.clr_net.specs.Name.{same_name}
+use Rattle.std.proofs.Common.{◌≡◌, ℕ, Bool, true, false, cond, ◌&&◌, ◌||◌, not, List, Option, Some, None, is_some, refl, sym, ◌∙◌, ap, ◌⊎◌, inl, inr, ⊎_elim, subst, if◌then◌else◌, Contains}
+use Rattle.std.proofs.Common.{option_map, is_eq, Ordering}
+use Rattle.clr_rules.proofs.Common.{IsTotalOrder, none-some, same_Some, same_name, in_key_order, row_of, with_row, without_row, Hold, HoldKind, PointState, Record, Id, id_cmp, id_cmp_total, same_id}
+use Rattle.clr_rules.proofs.Common.{state_key, state_of, record_key, record_of, hold_cmp, hold_cmp_total, has_hold, hold_key, hold_of, change_state}
 use Rattle.clr_shelf.proofs.KeyOrder.{in_key_order-with_row, in_key_order-without_row}
 use Rattle.clr_shelf.proofs.Members.{Contains-with_other, Contains-with_row, Contains-without_other, member-with_row, member-without_row, row_of-member}
 use Rattle.clr_shelf.proofs.Reading.{row_of-tied, row_of-with, row_of-with_row, row_of-without, row_of-without_row}
-use Rattle.clr_shelf.specs.Rows.{in_key_order, row_of, with_row, without_row}
 use Rattle.clr_rules.specs.laws.Edits.{HasRowPut, HasRowTaken, changed_where, is_hold}
-use Rattle.clr_rules.specs.Prelude.{Hold, HoldKind, PointState, Record, Id, id_cmp, id_cmp_total, same_id, state_key, state_of, record_key, record_of, hold_cmp, hold_cmp_total, has_hold, hold_key, hold_of}
 use Rattle.clr_rules.specs.Id.{same_id_ties}
-use Rattle.clr_rules.specs.States.{change_state}
 use Rattle.clr_rules.proofs.lists.StateFacts.{state_of-change, state_of-same}
 
 -- ---- records and holds

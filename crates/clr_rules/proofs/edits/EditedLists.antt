@@ -1,63 +1,26 @@
 -- What a list of edits keeps: the order of the lists, the network, the staff, and the points that have states.
 use Rattle.std.proofs.Common.{◌≡◌, Bool, true, false, not, List, [], ◌∷◌, refl, ◌∙◌}
-use Rattle.std.proofs.lemmas.Bool.{and_parts}
-use Rattle.std.proofs.lemmas.Cmp.{nat_list_cmp_total}
-use Rattle.clr_net.specs.Grid.{unplaced}
-use Rattle.clr_net.specs.Name.{name_cmp}
+use Rattle.clr_rules.proofs.Common.{and_parts, nat_list_cmp_total, unplaced, name_cmp, first_state, state_key, Edit, SetPosition, SetHand, PutHold, TakeHold, PutRecord, PutStep, AddSection, AddPoint}
+use Rattle.clr_rules.proofs.Common.{id_cmp, id_cmp_total, Register, record_key, step_key, step_key_cmp, step_key_cmp_total, hold_cmp, hold_cmp_total, hold_key, after_edit, after_edits}
+use Rattle.clr_rules.proofs.Common.{ListsAreInOrder, in_key_order}
 use Rattle.clr_shelf.proofs.KeyOrder.{in_key_order-with_row, in_key_order-without_row}
 use Rattle.clr_rules.specs.laws.Edits.{KeepsNetwork, adds, adds_nothing}
-use Rattle.clr_rules.specs.Register.{first_state}
-use Rattle.clr_rules.specs.States.{state_key}
-use Rattle.clr_rules.specs.Prelude.{Edit, SetPosition, SetHand, PutHold, TakeHold, PutRecord, PutStep, AddSection, AddPoint, id_cmp, id_cmp_total, Register, record_key, step_key, step_key_cmp, step_key_cmp_total, hold_cmp, hold_cmp_total, hold_key, after_edit}
-use Rattle.clr_rules.specs.Prelude.{after_edits}
-use Rattle.clr_rules.specs.Good.{ListsAreInOrder}
 use Rattle.clr_rules.proofs.lists.StateFacts.{in_key_order-change, state_keys-change}
+
+in_lists : {R : Register} → in_key_order name_cmp state_key R.states ≡ true → in_key_order id_cmp record_key R.records ≡ true → in_key_order step_key_cmp step_key R.steps ≡ true
+    → in_key_order hold_cmp hold_key R.holds ≡ true → ListsAreInOrder R
+in_lists states records steps holds = record { states = states; records = records; steps = steps; holds = holds }
 
 -- an edit keeps the lists in order
 pub edited-in_order : (edit : Edit) (R : Register) → ListsAreInOrder R → ListsAreInOrder (after_edit edit R)
-edited-in_order (SetPosition p position) R h = record {
-  states = in_key_order-change (λ state. record state { position = position }) R.states p h.states;
-  records = h.records;
-  steps = h.steps;
-  holds = h.holds;
-}
-edited-in_order (SetHand p hand) R h = record {
-  states = in_key_order-change (λ state. record state { hand = hand }) R.states p h.states;
-  records = h.records;
-  steps = h.steps;
-  holds = h.holds;
-}
-edited-in_order (PutHold hold) R h = record {
-  states = h.states;
-  records = h.records;
-  steps = h.steps;
-  holds = in_key_order-with_row hold_cmp hold_key hold_cmp_total hold R.holds h.holds;
-}
-edited-in_order (TakeHold hold) R h = record {
-  states = h.states;
-  records = h.records;
-  steps = h.steps;
-  holds = in_key_order-without_row hold_cmp hold_key hold_cmp_total hold R.holds h.holds;
-}
-edited-in_order (PutRecord r) R h = record {
-  states = h.states;
-  steps = h.steps;
-  holds = h.holds;
-  records = in_key_order-with_row id_cmp record_key id_cmp_total r R.records h.records;
-}
-edited-in_order (PutStep row) R h = record {
-  states = h.states;
-  records = h.records;
-  holds = h.holds;
-  steps = in_key_order-with_row step_key_cmp step_key step_key_cmp_total row R.steps h.steps;
-}
-edited-in_order (AddSection row) R h = record { states = h.states; records = h.records; steps = h.steps; holds = h.holds }
-edited-in_order (AddPoint p) R h = record {
-  states = in_key_order-with_row name_cmp state_key nat_list_cmp_total (first_state (unplaced p)) R.states h.states;
-  records = h.records;
-  steps = h.steps;
-  holds = h.holds;
-}
+edited-in_order (SetPosition p position) R h = in_lists (in_key_order-change (λ state. record state { position = position }) R.states p h.states) h.records h.steps h.holds
+edited-in_order (SetHand p hand) R h = in_lists (in_key_order-change (λ state. record state { hand = hand }) R.states p h.states) h.records h.steps h.holds
+edited-in_order (PutHold hold) R h = in_lists h.states h.records h.steps (in_key_order-with_row hold_cmp hold_key hold_cmp_total hold R.holds h.holds)
+edited-in_order (TakeHold hold) R h = in_lists h.states h.records h.steps (in_key_order-without_row hold_cmp hold_key hold_cmp_total hold R.holds h.holds)
+edited-in_order (PutRecord r) R h = in_lists h.states (in_key_order-with_row id_cmp record_key id_cmp_total r R.records h.records) h.steps h.holds
+edited-in_order (PutStep row) R h = in_lists h.states h.records (in_key_order-with_row step_key_cmp step_key step_key_cmp_total row R.steps h.steps) h.holds
+edited-in_order (AddSection row) R h = in_lists h.states h.records h.steps h.holds
+edited-in_order (AddPoint p) R h = in_lists (in_key_order-with_row name_cmp state_key nat_list_cmp_total (first_state (unplaced p)) R.states h.states) h.records h.steps h.holds
 
 pub edited_all-in_order : (R : Register) (edits : List Edit) → ListsAreInOrder R → ListsAreInOrder (after_edits edits R)
 unfolding after_edits
@@ -66,16 +29,8 @@ edited_all-in_order R (edit ∷ edits) h = edited_all-in_order (after_edit edit 
 
 -- an edit keeps the network, the staff and the points
 pub edited-network : (edit : Edit) (R : Register) → adds edit ≡ false → ListsAreInOrder R → KeepsNetwork R (after_edit edit R)
-edited-network (SetPosition p position) R plain h = record {
-  same_net = refl;
-  same_staff = refl;
-  same_points = state_keys-change (λ state. record state { position = position }) (λ _. refl) R.states p h.states;
-}
-edited-network (SetHand p hand) R plain h = record {
-  same_net = refl;
-  same_staff = refl;
-  same_points = state_keys-change (λ state. record state { hand = hand }) (λ _. refl) R.states p h.states;
-}
+edited-network (SetPosition p position) R plain h = record { same_net = refl; same_staff = refl; same_points = state_keys-change (λ state. record state { position = position }) (λ _. refl) R.states p h.states }
+edited-network (SetHand p hand) R plain h = record { same_net = refl; same_staff = refl; same_points = state_keys-change (λ state. record state { hand = hand }) (λ _. refl) R.states p h.states }
 edited-network (AddSection row) R plain h = absurd cc
 edited-network (AddPoint p) R plain h = absurd cc
 edited-network _ R plain h = record { same_net = refl; same_staff = refl; same_points = refl }

@@ -1,28 +1,16 @@
 -- An answer's edits stand in the order of their kinds and keys.
-use Rattle.std.proofs.Common.{◌≡◌, ℕ, ◌+◌, ◌<◌, Bool, true, false, ◌&&◌, List, [], ◌∷◌, ◌++◌, map, filter, Option, Some, None, refl, ap, ◌∙◌, arith}
-use Rattle.std.specs.Prelude.{if◌then◌else◌}
-use Rattle.std.specs.List.{list_all}
-use Rattle.std.specs.Ordering.{is_lt, nat_cmp, ordering_then}
-use Rattle.std.proofs.lemmas.Bool.{and_from, and_parts, lt-ltb}
+use Rattle.std.proofs.Common.{◌≡◌, ℕ, ◌+◌, ◌<◌, Bool, true, false, ◌&&◌, List, [], ◌∷◌, ◌++◌, map, filter, Option, Some, None, refl, ap, ◌∙◌, arith, if◌then◌else◌, is_lt, nat_cmp, lt-ltb}
+use Rattle.clr_rules.proofs.Common.{list_all, ordering_then, and_from, and_parts, Task, Action, in_key_order-filter, in_key_order-first, in_key_order-rest, in_key_order, Answer, answer, first_refusal}
+use Rattle.clr_rules.proofs.Common.{known_of, answer_by_checks, Known, checks, edits_of, ListsAreInOrder, is_switch_order, one_id}
 use Rattle.std.proofs.lemmas.Cmp.{nat_cmp_total, tied_itself}
-use Rattle.clr_order.specs.Step.{Task}
 use Rattle.clr_order.specs.Texts.{waiting_step}
-use Rattle.clr_order.specs.declared.action.Action.{Action}
-use Rattle.clr_order.specs.declared.step.Step.{Step}
-use Rattle.clr_order.specs.declared.action.Action.TheVariants as actions
-use Rattle.clr_shelf.proofs.KeyOrder.{in_key_order-filter, in_key_order-first, in_key_order-rest}
-use Rattle.clr_shelf.specs.Rows.{in_key_order}
-use Rattle.clr_rules.specs.Answer.{Answer, answer, first_refusal, known_of, answer_by_checks}
-use Rattle.clr_rules.specs.Commands.{Known, checks, edits_of}
+use Rattle.clr_rules.specs.Prelude.{Step, Edit, PutHold, TakeHold, PutRecord, PutStep, Command, Kind, Hold, HoldKind, Tested, Ordered, Restoring, Switching, Record, Refusal, StepRow, Id, id_cmp}
+use Rattle.clr_rules.specs.Prelude.{id_cmp_total, same_id, Register, record_of, present_steps, step_at, hold_cmp, hold_cmp_total, hold_key, hold_of, places_of, same_kind}
 use Rattle.clr_rules.specs.Changes.{done_edits, edits_by, new_jumper, new_record, new_steps, point_edits, put_steps, undone_edits}
 use Rattle.clr_rules.specs.EditOrder.{are_in_order, edit_cmp}
-use Rattle.clr_rules.specs.Good.{ListsAreInOrder}
-use Rattle.clr_rules.specs.Prelude.{Edit, PutHold, TakeHold, PutRecord, PutStep, Command, Kind, Hold, HoldKind, Tested, Ordered, Restoring, Switching, Record, Refusal, StepRow, Id}
-use Rattle.clr_rules.specs.Prelude.{id_cmp, id_cmp_total, same_id, Register, record_of, present_steps, step_at, hold_cmp, hold_cmp_total, hold_key, hold_of, places_of, same_kind}
-use Rattle.clr_rules.specs.Records.{is_switch_order}
-use Rattle.clr_rules.specs.declared.command.Kind.TheVariants as kinds
 use Rattle.clr_rules.proofs.edits.PutRows.{by_added}
-use Rattle.clr_rules.proofs.lists.RoundSteps.{one_id}
+use Rattle.clr_order.specs.declared.action.Action.TheVariants as actions
+use Rattle.clr_rules.specs.declared.command.Kind.TheVariants as kinds
 
 -- ---- new steps are numbered one after the other
 

@@ -1,24 +1,13 @@
 -- What edits add to a network: positions aside, with the points that have states, and within the limits.
-use Rattle.std.proofs.Common.{◌≡◌, ◌∙◌, ℕ, Bool, true, false, cond, ◌&&◌, not, nat_lt, List, [], ◌∷◌, ◌++◌, map, filter, Option, Some, None, refl, sym, ap}
-use Rattle.std.specs.Ordering.{is_gt, is_lt}
-use Rattle.std.proofs.lemmas.Bool.{and_from, and_parts}
-use Rattle.std.proofs.lemmas.List.{length-map, map-append}
+use Rattle.std.proofs.Common.{◌≡◌, ◌∙◌, ℕ, Bool, true, false, cond, ◌&&◌, not, nat_lt, List, [], ◌∷◌, ◌++◌, map, filter, Option, Some, None, refl, sym, ap, is_gt, is_lt}
+use Rattle.clr_rules.proofs.Common.{and_from, and_parts, length-map, map-append, name_cmp, has_name, PointRow, with_row, Answer, answer, answer_by_checks, known_of, new_jumper, checks, adds}
+use Rattle.clr_rules.proofs.Common.{adds_nothing, refusal_of, Edit, AddSection, AddPoint, Command, Kind, PointState, Refusal, Register, state_key, after_edit, after_edits, first_state, unplaced_net}
+use Rattle.clr_rules.proofs.Common.{Jumper}
 use Rattle.clr_net.specs.Additions.{with_named, with_point}
 use Rattle.clr_net.specs.Grid.{Grid, IsNetwork, has_ends, has_one_section, point_names, section_names, unplaced}
-use Rattle.clr_net.specs.Name.{name_cmp}
-use Rattle.clr_net.specs.Names.{has_name}
-use Rattle.clr_net.specs.declared.point.PointRow.{PointRow}
 use Rattle.clr_net.proofs.Grown.{points_are_added, sections_are_added}
-use Rattle.clr_shelf.specs.Rows.{with_row}
 use Rattle.clr_rules.specs.laws.Additions.{AnswersFit, FittingEditsKeepNetworks, PositionsAreNoPart}
-use Rattle.clr_rules.specs.Answer.{Answer, answer, answer_by_checks, known_of}
-use Rattle.clr_rules.specs.Changes.{new_jumper}
-use Rattle.clr_rules.specs.Commands.{checks}
-use Rattle.clr_rules.specs.laws.Edits.{adds, adds_nothing, refusal_of}
 use Rattle.clr_rules.specs.Edits.{fit, fits_edit, net_after, states_after}
-use Rattle.clr_rules.specs.Prelude.{Edit, AddSection, AddPoint, Command, Kind, PointState, Refusal, Register, state_key, after_edit, after_edits}
-use Rattle.clr_rules.specs.Register.{first_state, unplaced_net}
-use Rattle.clr_rules.specs.declared.command.Kind.TheVariants.{Jumper}
 use Rattle.clr_rules.proofs.edits.AddedEdits.{added_edits_fit, jumper_can}
 use Rattle.clr_rules.proofs.edits.EditedLists.{not_false}
 use Rattle.clr_rules.proofs.edits.Passing.{all_pass}

@@ -1,26 +1,14 @@
 -- A new record, of the number after its requester's greatest.
-use Rattle.std.proofs.Common.{◌≡◌, ℕ, ◌+◌, ◌<◌, ◌≤◌, suc, zero, Bool, true, false, not, List, [], ◌∷◌, ◌++◌, map, filter, Option, Some, None, Contains, length, refl, sym, ◌∙◌, ap, subst, arith, ◌⊎◌, inl, inr}
+use Rattle.std.proofs.Common.{◌≡◌, ℕ, ◌+◌, ◌<◌, ◌≤◌, suc, zero, Bool, true, false, not, List, [], ◌∷◌, ◌++◌, map, filter, Option, Some, None, Contains, length, refl, sym, ◌∙◌, ap, subst, arith, ◌⊎◌}
+use Rattle.std.proofs.Common.{inl, inr, is_gt, is_lt, nat_cmp, Less, Equal, length-append}
 use Rattle.std.specs.Cmp.{nat_cmp_is}
 use Rattle.std.specs.List.{fold, list_all, range_with_len}
-use Rattle.std.specs.Ordering.{is_gt, is_lt, nat_cmp}
-use Rattle.std.specs.declared.cmp.Ordering.TheVariants.{Less, Equal}
 use Rattle.std.proofs.lemmas.Bool.Decides.{nat_tests}
-use Rattle.std.proofs.lemmas.Cmp.{nat_list_cmp_total, tied_itself}
-use Rattle.std.proofs.lemmas.List.{length-append, map-append}
-use Rattle.clr_net.specs.Name.{name_cmp, same_name}
-use Rattle.clr_net.proofs.Walks.{one_name, same_itself}
-use Rattle.clr_shelf.proofs.Groups.{filter-with_far, filter-with_inside}
-use Rattle.clr_shelf.proofs.Keys.{equal}
+use Rattle.clr_rules.proofs.Common.{nat_list_cmp_total, tied_itself, map-append, name_cmp, same_name, one_name, same_itself, filter-with_far, filter-with_inside, equal, member-row_of, with_row}
+use Rattle.clr_rules.proofs.Common.{IsGoodByPhase, Record, Id, id_cmp, id_cmp_total, Register, greatest_number, record_key, record_of, there_mapped, Contains-filter, record_id}
 use Rattle.clr_shelf.proofs.Lists.{Contains-cases, Contains-here, Contains-later, filter-none, filter-same}
-use Rattle.clr_shelf.proofs.Members.{member-row_of}
-use Rattle.clr_shelf.specs.Rows.{with_row}
-use Rattle.clr_rules.specs.GoodByPhase.{IsGoodByPhase}
-use Rattle.clr_rules.specs.Prelude.{Record, Id, id_cmp, id_cmp_total, Register, greatest_number, record_key, record_of}
 use Rattle.clr_rules.specs.Id.{same_id_from_tie}
 use Rattle.clr_rules.specs.Records.{greater_of, numbers_of}
-use Rattle.clr_rules.proofs.lists.Filters.{there_mapped}
-use Rattle.clr_rules.proofs.lists.NamedRows.{Contains-filter}
-use Rattle.clr_rules.proofs.lists.RoundSteps.{record_id}
 
 -- ---- numbers
 

@@ -1,30 +1,17 @@
 -- The steps of a new round are put: what the register has of steps after it.
-use Rattle.std.proofs.Common.{◌≡◌, ℕ, ◌+◌, ◌<◌, Bool, true, false, ◌&&◌, nat_eq, List, [], ◌∷◌, ◌++◌, IsTrue, All, Contains, refl, sym, ◌∙◌, ap, subst, arith, append_assoc}
+use Rattle.std.proofs.Common.{◌≡◌, ℕ, ◌+◌, ◌<◌, Bool, true, false, ◌&&◌, nat_eq, List, [], ◌∷◌, ◌++◌, IsTrue, All, Contains, refl, sym, ◌∙◌, ap, subst, arith, append_assoc, nat_cmp, Less, Equal}
+use Rattle.std.proofs.Common.{eq-eqb, eqb-true, append-nil}
 use Rattle.std.specs.Cmp.{nat_cmp_is}
-use Rattle.std.specs.Ordering.{nat_cmp}
-use Rattle.std.specs.declared.cmp.Ordering.TheVariants.{Less, Equal}
-use Rattle.std.proofs.lemmas.Bool.{and_from, both_ways, eq-eqb, eqb-true}
+use Rattle.clr_rules.proofs.Common.{and_from, both_ways, Grid, point_names, same_name, has_name, Task, in_key_order-with_row, equal, Contains-here, Contains-later, in_key_order, with_row, new_steps}
+use Rattle.clr_rules.proofs.Common.{put_steps, PutRecord, Record, StepRow, Id, id_cmp, id_cmp_total, same_id, Register, record_key, step_key, step_key_cmp, step_key_cmp_total, is_active, steps_in}
+use Rattle.clr_rules.proofs.Common.{steps_of, tasks_of, after_edits, is_closing_at, ActiveInRound, InPhase, IsGoodByPhase, active_at, all_waiting, go_in_turn, of_round, is_of_round}
 use Rattle.std.proofs.lemmas.Cmp.{nat_cmp_total, tied_itself}
-use Rattle.std.proofs.lemmas.List.{append-nil}
 use Rattle.std.proofs.lemmas.List.Elements.{All-append, All-cons, All-head, All-nil, All-tail, All-weaker, All-contains}
 use Rattle.std.proofs.lemmas.List.Folds.{list_any_none}
-use Rattle.clr_net.specs.Grid.{Grid, point_names}
-use Rattle.clr_net.specs.Name.{same_name}
-use Rattle.clr_net.specs.Names.{has_name}
-use Rattle.clr_order.specs.Step.{Task}
 use Rattle.clr_order.specs.Texts.{waiting_step}
 use Rattle.clr_shelf.proofs.FirstRow.{with_row-after}
 use Rattle.clr_shelf.proofs.Groups.{All-with_row, filter-with_far, filter-with_inside}
-use Rattle.clr_shelf.proofs.KeyOrder.{in_key_order-with_row}
-use Rattle.clr_shelf.proofs.Keys.{equal}
-use Rattle.clr_shelf.proofs.Lists.{Contains-here, Contains-later}
-use Rattle.clr_shelf.specs.Rows.{in_key_order, with_row}
-use Rattle.clr_rules.specs.Changes.{new_steps, put_steps}
-use Rattle.clr_rules.specs.Prelude.{PutRecord, Record, StepRow, Id, id_cmp, id_cmp_total, same_id, Register, record_key, step_key, step_key_cmp, step_key_cmp_total, is_active, steps_in, steps_of, tasks_of, after_edits}
-use Rattle.clr_rules.specs.Good.{is_closing_at}
-use Rattle.clr_rules.specs.GoodByPhase.{ActiveInRound, InPhase, IsGoodByPhase, active_at, all_waiting, go_in_turn, of_round}
 use Rattle.clr_rules.specs.StepKey.{same_step_key}
-use Rattle.clr_rules.specs.Steps.{is_of_round}
 use Rattle.clr_rules.specs.declared.step_row.StepKey.{StepKey}
 use Rattle.clr_rules.proofs.edits.PutRecords.{Moved, outlook_with, quiet}
 use Rattle.clr_rules.proofs.edits.PutSteps.{closes_at, closing_by, own_steps, put_step}

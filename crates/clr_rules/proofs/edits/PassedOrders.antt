@@ -1,11 +1,9 @@
 -- An order that no check refuses has no fault.
-use Rattle.std.proofs.Common.{◌≡◌, ℕ, Bool, true, false, List, Option, None, Some, refl, sym}
-use Rattle.std.proofs.lemmas.Bool.{true≢false}
-use Rattle.std.proofs.lemmas.Option.{none-some}
+use Rattle.std.proofs.Common.{◌≡◌, ℕ, Bool, true, false, List, Option, None, Some, refl, sym, true≢false}
+use Rattle.clr_rules.proofs.Common.{none-some, order_refusal}
 use Rattle.clr_order.specs.OrderFault.{fault_if, name_fault}
 use Rattle.clr_order.specs.declared.order_fault.OrderFault.{OrderFault}
 use Rattle.clr_order.specs.declared.order_fault.OrderFault.TheVariants.{EmptyOrder, LongOrder, PointTwice, SourceInside, NotOnFence, StepsWrong, UnknownPoint, NoMemory}
-use Rattle.clr_rules.specs.Refusals.{order_refusal}
 use Rattle.clr_rules.specs.declared.refusal.Refusal.TheVariants as refusals
 
 -- whether want of memory is told, which no check of an order tells

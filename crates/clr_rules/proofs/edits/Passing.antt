@@ -1,14 +1,9 @@
 -- What follows where no check of a command applies.
 use Rattle.std.proofs.Common.{◌≡◌, ℕ, Bool, true, false, not, List, [], ◌∷◌, ◌++◌, Option, Some, None, is_some, refl, sym, ◌∙◌, ap, subst}
 use Rattle.std.proofs.lemmas.Bool.{not-false}
-use Rattle.clr_rules.specs.Commands.{Known, checks}
-use Rattle.clr_rules.specs.Answer.{first_refusal}
+use Rattle.clr_rules.proofs.Common.{Known, checks, first_refusal, named_clearance, has_record, Request, Switch, Jumper}
 use Rattle.clr_rules.specs.Checks.{refuse, unknown_clearance, where_some, wrong_phase}
-use Rattle.clr_rules.specs.Command.{named_clearance}
-use Rattle.clr_rules.specs.Good.{has_record}
-use Rattle.clr_rules.specs.Prelude.{Kind, Phase, Record, Refusal, Id, Register, record_of}
-use Rattle.clr_rules.specs.declared.command.Kind.TheVariants.{Request, Transfer, Switch, Show, Jumper}
-use Rattle.clr_rules.specs.declared.refusal.Refusal.TheVariants.{UnknownClearance, WrongPhase}
+use Rattle.clr_rules.specs.Prelude.{Kind, Phase, Record, Refusal, Id, Register, record_of, Transfer, Show, UnknownClearance, WrongPhase}
 
 -- each of these checks says nothing
 abbrev pub Pass : List (Option Refusal) → Type 0

@@ -1,20 +1,12 @@
 -- No command but a jumper adds to the network, and a run without jumpers keeps it.
 use Rattle.std.proofs.Common.{◌≡◌, ℕ, Bool, true, false, cond, List, [], ◌∷◌, ◌++◌, map, not, Some, None, Option, refl, ◌∙◌}
-use Rattle.std.specs.List.{list_all}
-use Rattle.std.proofs.lemmas.Bool.{and_parts, not-true}
-use Rattle.clr_order.specs.declared.action.Action.{Action}
-use Rattle.clr_order.specs.declared.action.Action.TheVariants as actions
-use Rattle.clr_rules.specs.Answer.{Answer, answer, answer_by_checks, answer_with, first_refusal, known_of}
-use Rattle.clr_rules.specs.Changes.{done_edits, new_steps, point_edits, put_steps, undone_edits}
-use Rattle.clr_rules.specs.Commands.{Known, checks, edits_of}
-use Rattle.clr_rules.specs.Command.{is_jumper}
-use Rattle.clr_rules.specs.laws.Edits.{adds_nothing}
-use Rattle.clr_rules.specs.Prelude.{Edit, PutHold, TakeHold, PutRecord, PutStep, Command, Kind, Tested, Record, Refusal, StepRow, Id, Register, hold_of, places_of}
-use Rattle.clr_rules.specs.Records.{is_switch_order}
-use Rattle.clr_rules.specs.Run.{after, after_all}
-use Rattle.clr_rules.specs.declared.command.Kind.TheVariants as kinds
+use Rattle.clr_rules.proofs.Common.{list_all, and_parts, not-true, Action, Answer, answer, answer_by_checks, answer_with, first_refusal, known_of, done_edits, new_steps, point_edits, put_steps}
+use Rattle.clr_rules.proofs.Common.{undone_edits, Known, checks, edits_of, is_jumper, adds_nothing, Edit, PutHold, TakeHold, PutRecord, PutStep, Command, Kind, Tested, Record, Refusal, StepRow, Id}
+use Rattle.clr_rules.proofs.Common.{Register, hold_of, places_of, is_switch_order, after, after_all}
 use Rattle.clr_rules.proofs.edits.EditedLists.{edited_all-net}
 use Rattle.clr_rules.proofs.edits.PutRows.{by_record, by_step}
+use Rattle.clr_order.specs.declared.action.Action.TheVariants as actions
+use Rattle.clr_rules.specs.declared.command.Kind.TheVariants as kinds
 
 abbrev Plain : List Edit → Type 0
 Plain edits = adds_nothing edits ≡ true

@@ -1,16 +1,12 @@
 -- The step of a number in a clearance's present round, as the checks of commands find it.
-use Rattle.std.proofs.Common.{◌≡◌, ℕ, ◌<◌, Bool, true, false, not, ◌||◌, nat_eq, nat_lt, List, [], ◌∷◌, ◌++◌, Option, Some, None, is_some, Contains, refl, sym, ◌∙◌, ap, subst, arith}
-use Rattle.std.proofs.lemmas.Bool.{and_from, and_parts, eqb-true, false≢true, lt-ltb}
-use Rattle.std.proofs.lemmas.List.Elements.{All-contains, All-head, All-weaker}
+use Rattle.std.proofs.Common.{◌≡◌, ℕ, ◌<◌, Bool, true, false, not, ◌||◌, nat_eq, nat_lt, List, [], ◌∷◌, ◌++◌, Option, Some, None, is_some, Contains, refl, sym, ◌∙◌, ap, subst, arith, eqb-true, lt-ltb}
+use Rattle.clr_rules.proofs.Common.{and_from, and_parts, false≢true, All-contains, All-head, All-weaker, StepState, Waiting, Done, ActiveInRound, IsGoodByPhase, go_in_turn, of_round, outlook_of}
+use Rattle.clr_rules.proofs.Common.{present_of, is_in_turn, is_of_round}
 use Rattle.clr_order.proofs.Finds.{found_passes}
-use Rattle.clr_order.specs.declared.step.StepState.{StepState}
-use Rattle.clr_order.specs.declared.step.StepState.TheVariants.{Waiting, Done}
 use Rattle.clr_rules.specs.Changes.{edits_by, with_step}
 use Rattle.clr_rules.specs.Checks.{no_step}
-use Rattle.clr_rules.specs.Prelude.{Edit, Record, StepRow, Id, Register, record_of, is_running, all_done, is_active, is_done, is_some_step, is_waiting, present_steps, present_round, step_at, steps_in, steps_of, after_edits}
-use Rattle.clr_rules.specs.GoodByPhase.{ActiveInRound, IsGoodByPhase, go_in_turn, of_round, outlook_of, present_of}
-use Rattle.clr_rules.specs.Steps.{is_in_turn, is_of_round}
-use Rattle.clr_rules.specs.declared.refusal.Refusal.TheVariants.{NoStep}
+use Rattle.clr_rules.specs.Prelude.{Edit, Record, StepRow, Id, Register, record_of, is_running, all_done, is_active, is_done, is_some_step, is_waiting, present_steps, present_round, step_at, steps_in}
+use Rattle.clr_rules.specs.Prelude.{steps_of, after_edits, NoStep}
 use Rattle.clr_rules.proofs.keeps.OneRecord.{in_phase_of}
 use Rattle.clr_rules.proofs.edits.Passing.{not_refused_true}
 use Rattle.clr_rules.proofs.good.PhaseFacts.{step_facts}

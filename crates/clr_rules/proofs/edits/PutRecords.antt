@@ -1,26 +1,16 @@
 -- A record that is put over that of its clearance, with the same work section, and the steps, holds and hands beside it.
 use Rattle.std.proofs.Common.{◌≡◌, ℕ, Bool, true, false, cond, ◌&&◌, List, map, filter, Some, is_some, IsTrue, All, length, refl, sym, ◌∙◌, ap, subst}
 use Rattle.std.specs.List.{list_any, range_with_len}
-use Rattle.std.proofs.lemmas.List.Elements.{All-contains}
-use Rattle.std.proofs.lemmas.Option.{same_Some}
-use Rattle.clr_net.specs.Grid.{Grid, point_names, section_names}
-use Rattle.clr_net.specs.Name.{same_name}
-use Rattle.clr_net.specs.Names.{has_name}
-use Rattle.clr_net.specs.declared.point.Position.TheVariants.{Opened}
+use Rattle.clr_rules.proofs.Common.{All-contains, same_Some, Grid, point_names, section_names, same_name, has_name, Opened, member-row_of, with_row, has_record, is_closing_at, is_known_work}
+use Rattle.clr_rules.proofs.Common.{is_operators, IsGoodByPhase, IsInPlace, Outlook, outlook_of, HoldKind, HeldOpen, PointState, Record, StepRow, Id, id_cmp, id_cmp_total, same_id, Register}
+use Rattle.clr_rules.proofs.Common.{has_in_hand, position_of, record_key, record_of, is_active, steps_of, is_point_kind, has_hold, is_close, one_id, own_id}
 use Rattle.clr_shelf.proofs.FirstRow.{keys-with_row}
 use Rattle.clr_shelf.proofs.Groups.{All-with_row}
-use Rattle.clr_shelf.proofs.Members.{member-row_of}
-use Rattle.clr_shelf.specs.Rows.{with_row}
-use Rattle.clr_rules.specs.Good.{has_record, is_closing_at, is_known_work, is_operators}
-use Rattle.clr_rules.specs.GoodByPhase.{IsGoodByPhase, IsInPlace, Outlook, outlook_of}
-use Rattle.clr_rules.specs.Prelude.{HoldKind, HeldOpen, PointState, Record, StepRow, Id, id_cmp, id_cmp_total, same_id, Register, has_in_hand, position_of, record_key, record_of, is_active, steps_of, is_point_kind, has_hold}
 use Rattle.clr_rules.specs.Id.{same_id_from_tie}
 use Rattle.clr_rules.specs.Records.{is_switch_order, lacks_work, numbers_of}
-use Rattle.clr_rules.specs.Steps.{is_close}
 use Rattle.clr_rules.proofs.edits.EditReading.{record_of-put}
 use Rattle.clr_rules.proofs.lists.Greatest.{numbers_by_ids}
 use Rattle.clr_rules.proofs.good.Keeping.{Changed, same_outlook}
-use Rattle.clr_rules.proofs.lists.RoundSteps.{one_id, own_id}
 use Rattle.clr_rules.proofs.isolation.Sparing.{record_of-others}
 
 -- ---- the records

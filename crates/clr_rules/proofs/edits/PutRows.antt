@@ -1,17 +1,12 @@
 -- What is read after edits was read before them, or is one of the rows that they put; and what no edit takes stays.
 use Rattle.std.proofs.Common.{◌≡◌, ℕ, Bool, true, false, cond, ◌||◌, List, [], ◌∷◌, ◌++◌, map, Option, Some, None, refl, sym, ◌∙◌, ap, subst, ◌⊎◌, inl, inr, ⊎_elim}
-use Rattle.std.specs.List.{AllByRecursion}
+use Rattle.clr_rules.proofs.Common.{AllByRecursion, same_Some, Grid, section_names, has_name, PointRow, Action, Edit, PutHold, TakeHold, PutRecord, PutStep, AddSection, AddPoint, HoldKind, Tested}
+use Rattle.clr_rules.proofs.Common.{Record, StepRow, Id, same_id, Register, record_of, present_steps, step_at, has_hold, hold_of, after_edit, after_edits}
 use Rattle.std.proofs.Math.Bool.{or-true}
-use Rattle.std.proofs.lemmas.Option.{same_Some}
-use Rattle.clr_net.specs.Grid.{Grid, section_names}
-use Rattle.clr_net.specs.Names.{has_name}
-use Rattle.clr_net.specs.declared.point.PointRow.{PointRow}
-use Rattle.clr_order.specs.declared.action.Action.{Action}
-use Rattle.clr_order.specs.declared.action.Action.TheVariants as actions
 use Rattle.clr_rules.specs.Changes.{added_edits, edits_by, new_section, point_edits, put_steps, with_record, with_step}
 use Rattle.clr_rules.specs.laws.Edits.{is_hold}
-use Rattle.clr_rules.specs.Prelude.{Edit, PutHold, TakeHold, PutRecord, PutStep, AddSection, AddPoint, HoldKind, Tested, Record, StepRow, Id, same_id, Register, record_of, present_steps, step_at, has_hold, hold_of, after_edit, after_edits}
 use Rattle.clr_rules.proofs.edits.EditReading.{has_hold-put, has_hold-taken, record_of-put}
+use Rattle.clr_order.specs.declared.action.Action.TheVariants as actions
 
 -- edits of a record that is found, and of its step
 pub by_record : (T : List Edit → Type 0) → T [] → (R : Register) (c : Id) (edits : Record → List Edit)

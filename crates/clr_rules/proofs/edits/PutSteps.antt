@@ -1,20 +1,9 @@
 -- A step is put over another of its clearance: what the register has of steps, and what it may leave of states and holds.
 use Rattle.std.proofs.Common.{◌≡◌, ℕ, Bool, true, false, cond, ◌&&◌, List, ◌∷◌, ◌++◌, Option, Some, None, is_some, IsTrue, All, Contains, refl, sym, ◌∙◌, ap, subst}
-use Rattle.std.specs.List.{list_any}
-use Rattle.std.proofs.lemmas.Bool.{false≢true}
-use Rattle.std.proofs.lemmas.List.Elements.{All-contains}
-use Rattle.clr_net.specs.Grid.{Grid, point_names}
-use Rattle.clr_net.specs.Name.{same_name}
-use Rattle.clr_net.specs.Names.{has_name}
-use Rattle.clr_net.proofs.Walks.{one_name}
+use Rattle.clr_rules.proofs.Common.{list_any, false≢true, All-contains, Grid, point_names, same_name, has_name, one_name, in_key_order-filter, in_key_order, with_row, is_closing_at, InPhase}
+use Rattle.clr_rules.proofs.Common.{IsGoodByPhase, IsInPlace, outlook_of, HoldKind, PointState, Record, StepRow, Id, same_id, Register, has_in_hand, state_of, step_key, step_key_cmp}
+use Rattle.clr_rules.proofs.Common.{step_key_cmp_total, is_active, steps_of, is_hand, is_close}
 use Rattle.clr_shelf.proofs.Groups.{All-with_row, filter-with_inside}
-use Rattle.clr_shelf.proofs.KeyOrder.{in_key_order-filter}
-use Rattle.clr_shelf.specs.Rows.{in_key_order, with_row}
-use Rattle.clr_rules.specs.Good.{is_closing_at}
-use Rattle.clr_rules.specs.GoodByPhase.{InPhase, IsGoodByPhase, IsInPlace, outlook_of}
-use Rattle.clr_rules.specs.Prelude.{HoldKind, PointState, Record, StepRow, Id, same_id, Register, has_in_hand, state_of, step_key, step_key_cmp, step_key_cmp_total, is_active, steps_of}
-use Rattle.clr_rules.specs.States.{is_hand}
-use Rattle.clr_rules.specs.Steps.{is_close}
 use Rattle.clr_rules.specs.declared.step_row.StepKey.{StepKey}
 use Rattle.clr_rules.proofs.lists.StateFacts.{hand_of-handed, hand_of-handed_other, with_hand, state_is_known}
 use Rattle.clr_rules.proofs.edits.PresentSteps.{IsPresent}

@@ -1,21 +1,14 @@
 -- Which replies there are, and which of them have edits.
-use Rattle.std.proofs.Common.{◌≡◌, ℕ, Bool, true, false, List, [], ◌∷◌, Option, Some, None, is_some, refl, ap}
-use Rattle.std.specs.Prelude.{◌↔◌}
+use Rattle.std.proofs.Common.{◌≡◌, ℕ, Bool, true, false, List, [], ◌∷◌, Option, Some, None, is_some, refl, ap, ◌↔◌}
 use Rattle.clr_shelf.proofs.Reading.{row_of-with_row}
 use Rattle.clr_rules.specs.Answer.{Answer, answer, reply_clearance, first_refusal, known_of, answer_by_checks, reply_of, reply_after}
-use Rattle.clr_rules.specs.Commands.{Known, checks, edits_of}
-use Rattle.clr_rules.specs.Changes.{new_steps, put_steps}
-use Rattle.clr_rules.specs.Command.{is_jumper, named_clearance}
-use Rattle.clr_rules.specs.laws.Edits.{refusal_of}
-use Rattle.clr_rules.specs.Prelude.{Edit, PutRecord, Command, Kind, Record, Refusal, Reply, Id, id_cmp, id_cmp_total, Register, record_key, record_of, after_edit, after_edits}
-use Rattle.clr_rules.specs.Good.{has_record}
-use Rattle.clr_rules.specs.Run.{after}
-use Rattle.clr_rules.specs.declared.reply.Card.{Card}
-use Rattle.clr_rules.specs.declared.reply.Reply.TheVariants.{Accepted, Shown, Refused, Added}
+use Rattle.clr_rules.proofs.Common.{Known, checks, edits_of, new_steps, put_steps, is_jumper, named_clearance, refusal_of, has_record, after}
+use Rattle.clr_rules.specs.Prelude.{Edit, PutRecord, Command, Kind, Record, Refusal, Reply, Id, id_cmp, id_cmp_total, Register, record_key, record_of, after_edit, after_edits, Card, Accepted, Shown}
+use Rattle.clr_rules.specs.Prelude.{Refused, Added}
 use Rattle.clr_rules.specs.declared.reply.View.{View}
-use Rattle.clr_rules.specs.declared.command.Kind.TheVariants as kinds
 use Rattle.clr_rules.proofs.lists.Greatest.{has_record-put}
 use Rattle.clr_rules.proofs.edits.Passing.{named_recorded}
+use Rattle.clr_rules.specs.declared.command.Kind.TheVariants as kinds
 
 -- ---- records stay
 

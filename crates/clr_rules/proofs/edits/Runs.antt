@@ -1,14 +1,8 @@
 -- Runs: what every command keeps, a run keeps; and a run that goes on where another ended.
 use Rattle.std.proofs.Common.{◌≡◌, ◌∙◌, suc, List, [], ◌∷◌, ◌++◌, length, refl, sym, ap, subst}
-use Rattle.clr_net.specs.Grid.{Grid, IsNetwork}
+use Rattle.clr_rules.proofs.Common.{Grid, IsNetwork, StaffRow, Answer, answer, ListsAreInOrder, Register, opening, IsReached, after, after_all, replies, Command}
 use Rattle.clr_staff.specs.Staff.{IsStaff}
-use Rattle.clr_staff.specs.declared.employee.StaffRow.{StaffRow}
-use Rattle.clr_rules.specs.Answer.{Answer, answer}
-use Rattle.clr_rules.specs.Good.{ListsAreInOrder}
-use Rattle.clr_rules.specs.Register.{Register, opening}
-use Rattle.clr_rules.specs.Run.{IsReached, after, after_all, replies}
 use Rattle.clr_rules.specs.laws.Runs.{GoesOn}
-use Rattle.clr_rules.specs.declared.command.Command.{Command}
 use Rattle.clr_rules.proofs.edits.EditedLists.{edited_all-in_order}
 use Rattle.clr_rules.proofs.good.Opening.{opening_is_in_order}
 

@@ -1,18 +1,9 @@
 -- A step of a clearance's present round is put anew, its task the same: what is so of the clearance's steps.
-use Rattle.std.proofs.Common.{◌≡◌, ℕ, Bool, true, false, ◌&&◌, nat_eq, List, [], ◌∷◌, ◌++◌, Option, Some, None, All, Contains, refl, sym, ◌∙◌, ap, subst}
-use Rattle.std.specs.List.{list_any}
-use Rattle.std.proofs.lemmas.Bool.{both_ways, eqb-true, false≢true, false_from_ne_true}
-use Rattle.std.proofs.lemmas.List.Elements.{All-contains, All-head, All-tail}
-use Rattle.clr_net.specs.Grid.{Grid}
-use Rattle.clr_net.specs.Name.{same_name}
-use Rattle.clr_order.specs.Action.{is_switching}
-use Rattle.clr_order.specs.Isolating.{IsSoundOrder}
-use Rattle.clr_order.specs.Step.{Task, task, task_points}
-use Rattle.clr_shelf.proofs.Lists.{list_all-contains}
-use Rattle.clr_rules.specs.Good.{steps_left_of, put_by, puts}
-use Rattle.clr_rules.specs.GoodByPhase.{ActiveInRound, InPhase, active_at, all_waiting, go_in_turn, of_round, present_of}
-use Rattle.clr_rules.specs.Prelude.{HoldKind, Phase, Ordered, Restoring, Switching, Record, StepRow, is_running, all_done, is_active, is_done, is_some_step, is_waiting, points_of, tasks_of, first_of_each}
-use Rattle.clr_rules.specs.Steps.{some_active}
+use Rattle.std.proofs.Common.{◌≡◌, ℕ, Bool, true, false, ◌&&◌, nat_eq, List, [], ◌∷◌, ◌++◌, Option, Some, None, All, Contains, refl, sym, ◌∙◌, ap, subst, eqb-true}
+use Rattle.clr_rules.proofs.Common.{list_any, both_ways, false≢true, false_from_ne_true, All-contains, All-head, All-tail, Grid, same_name, is_switching, IsSoundOrder, Task, task, list_all-contains}
+use Rattle.clr_rules.proofs.Common.{steps_left_of, put_by, puts, ActiveInRound, InPhase, active_at, all_waiting, go_in_turn, of_round, present_of, some_active}
+use Rattle.clr_rules.specs.Prelude.{task_points, HoldKind, Phase, Ordered, Restoring, Switching, Record, StepRow, is_running, all_done, is_active, is_done, is_some_step, is_waiting, points_of}
+use Rattle.clr_rules.specs.Prelude.{tasks_of, first_of_each}
 use Rattle.clr_rules.proofs.good.PhaseFacts.{first_present}
 use Rattle.clr_rules.proofs.good.PlaceFacts.{done_rests, in_round}
 use Rattle.clr_rules.proofs.lists.RoundSteps.{All-from_each, some_step_there}

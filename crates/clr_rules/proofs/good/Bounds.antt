@@ -1,33 +1,20 @@
 -- No command makes a number over 9,999, or a step of a third round.
-use Rattle.std.proofs.Common.{◌≡◌, ℕ, ◌+◌, ◌≤◌, true, false, nat_eq, List, [], ◌∷◌, Option, Some, None, refl, sym, subst, arith, ◌⊎◌, inl, inr, ⊎_elim}
-use Rattle.std.specs.Prelude.{◌==◌}
-use Rattle.std.specs.List.{AllByRecursion}
+use Rattle.std.proofs.Common.{◌≡◌, ℕ, ◌+◌, ◌≤◌, true, false, nat_eq, List, [], ◌∷◌, Option, Some, None, refl, sym, subst, arith, ◌⊎◌, inl, inr, ⊎_elim, ◌==◌}
+use Rattle.clr_rules.proofs.Common.{AllByRecursion, All-contains, All-nil, Grid, StaffRow, Task, member-row_of, Answer, known_of, answer_by_checks, checks, edits_of, new_jumper, new_steps, put_steps}
+use Rattle.clr_rules.proofs.Common.{refusal_of, is_switch_order, opening, IsReached, after}
 use Rattle.std.proofs.lemmas.Bool.{eqb-false}
-use Rattle.std.proofs.lemmas.List.Elements.{All-contains, All-nil}
-use Rattle.clr_net.specs.Grid.{Grid}
-use Rattle.clr_staff.specs.declared.employee.StaffRow.{StaffRow}
-use Rattle.clr_order.specs.Step.{Task}
 use Rattle.clr_shelf.proofs.Groups.{All-with_row}
-use Rattle.clr_shelf.proofs.Members.{member-row_of}
-use Rattle.clr_rules.specs.Answer.{Answer, known_of, answer_by_checks}
-use Rattle.clr_rules.specs.Commands.{checks, edits_of}
 use Rattle.clr_rules.specs.laws.Bounds.{IsBounded}
-use Rattle.clr_rules.specs.Changes.{new_jumper, new_steps, put_steps}
 use Rattle.clr_rules.specs.Checks.{too_many_clearances}
-use Rattle.clr_rules.specs.laws.Edits.{refusal_of}
 use Rattle.clr_rules.specs.Prelude.{Edit, PutRecord, PutStep, Command, Kind, Tested, Record, Refusal, StepRow, Id, id_cmp, id_cmp_total, Register, greatest_number, record_key, record_of, step_key}
-use Rattle.clr_rules.specs.Prelude.{step_key_cmp, step_key_cmp_total, present_steps, step_at, places_of, after_edit, after_edits}
+use Rattle.clr_rules.specs.Prelude.{step_key_cmp, step_key_cmp_total, present_steps, step_at, places_of, after_edit, after_edits, TooManyClearances}
 use Rattle.clr_rules.proofs.good.Keeping.{asked}
-use Rattle.clr_rules.specs.Records.{is_switch_order}
-use Rattle.clr_rules.specs.Register.{opening}
-use Rattle.clr_rules.specs.Run.{IsReached, after}
-use Rattle.clr_rules.specs.declared.command.Kind.TheVariants as kinds
-use Rattle.clr_rules.specs.declared.refusal.Refusal.TheVariants.{TooManyClearances}
 use Rattle.clr_rules.proofs.lists.FoundSteps.{present_step}
 use Rattle.clr_rules.proofs.lists.Greatest.{greatest_is_greatest}
 use Rattle.clr_rules.proofs.edits.Passing.{Pass, all_pass, not_refused}
 use Rattle.clr_rules.proofs.edits.PutRows.{AllPutSuch, by_added, by_record, by_step, done_put, steps_put, takes_put}
 use Rattle.clr_rules.proofs.edits.Runs.{reached_have}
+use Rattle.clr_rules.specs.declared.command.Kind.TheVariants as kinds
 
 abbrev IsNumber : Record → Type 0
 IsNumber r = r.id.number ≤ 9999

@@ -1,19 +1,10 @@
 -- What work on a line rests on, from the parts of a good register.
 use Rattle.std.proofs.Common.{◌≡◌, ◌∙◌, ℕ, true, false, IsTrue, Option, Some, None, List, Contains, refl, ap}
-use Rattle.std.proofs.lemmas.Bool.{both_ways, false≢true}
-use Rattle.std.proofs.lemmas.List.Elements.{All-contains}
-use Rattle.clr_net.specs.Grid.{Grid, section_names}
-use Rattle.clr_net.specs.Names.{has_name}
-use Rattle.clr_net.specs.declared.point.PointRow.{PointRow}
-use Rattle.clr_net.specs.declared.point.Position.TheVariants.{Opened}
+use Rattle.clr_rules.proofs.Common.{both_ways, false≢true, All-contains, Grid, section_names, has_name, PointRow, Opened, member-row_of, clearance_fence, work_fence, HeldOpen, Ground, Crew, Phase}
+use Rattle.clr_rules.proofs.Common.{Requested, Closed, Record, Id, id_cmp, id_cmp_total, Register, position_of, record_key, record_of, is_granted, points_of, steps_in, has_hold, is_fenced}
 use Rattle.clr_net.proofs.Walks.{fence_is_closed}
-use Rattle.clr_shelf.proofs.Members.{member-row_of}
-use Rattle.clr_rules.specs.Fences.{clearance_fence, work_fence}
 use Rattle.clr_rules.specs.Good.{IsFullyHeld, IsGoodAsSaid, is_known_work, works_on}
-use Rattle.clr_rules.specs.Prelude.{HeldOpen, Ground, Crew, Phase, Requested, Closed, Record, Id, id_cmp, id_cmp_total, Register, position_of, record_key, record_of, is_granted}
-use Rattle.clr_rules.specs.Prelude.{points_of, steps_in, has_hold}
 use Rattle.clr_rules.specs.Live.{IsLive, is_live}
-use Rattle.clr_rules.specs.Records.{is_fenced}
 use Rattle.clr_rules.specs.laws.Work.{IsSafeWork}
 use Rattle.clr_rules.proofs.live.FenceCuts.{named_from_in_fence}
 use Rattle.clr_rules.proofs.live.LiveSections.{live_is_closed_walks}

@@ -1,22 +1,17 @@
 -- A good register is good phase by phase.
 use Rattle.std.proofs.Common.{◌≡◌, ℕ, Bool, true, false, ◌||◌, List, [], ◌∷◌, Option, Some, None, is_some, All, refl, sym, ◌∙◌, ap}
-use Rattle.std.proofs.lemmas.Bool.{both_ways, false≢true, false_from_ne_true}
-use Rattle.std.proofs.lemmas.List.Elements.{All-contains, All-head, All-tail, All-weaker}
+use Rattle.clr_rules.proofs.Common.{both_ways, false≢true, false_from_ne_true, All-contains, All-head, All-tail, All-weaker, same_Some, same_name, one_name, actions_at, clearance_fence, is_in_turn}
+use Rattle.clr_rules.proofs.Common.{some_active, hold_there}
 use Rattle.std.proofs.lemmas.List.Folds.{list_any_none}
-use Rattle.std.proofs.lemmas.Option.{same_Some}
-use Rattle.clr_net.specs.Name.{same_name}
-use Rattle.clr_net.proofs.Walks.{one_name}
 use Rattle.clr_order.specs.Needed.{undoes}
-use Rattle.clr_order.specs.Step.{actions_at}
 use Rattle.clr_order.proofs.Undoing.{rule_undoes}
-use Rattle.clr_rules.specs.Fences.{clearance_fence}
 use Rattle.clr_rules.specs.Good.{IsGood, has_record, is_active_at, steps_left_of}
-use Rattle.clr_rules.specs.GoodByPhase.{ActiveInRound, HasNoWork, HoldsAsPut, HoldsNothing, InPhase, InPlaceAs, IsGoodByPhase, IsInPlace, Isolates, active_at, go_in_turn, inner_fence, of_round, outlook_of, present_of}
-use Rattle.clr_rules.specs.Prelude.{Hold, HoldKind, HeldOpen, Block, Control, Tag, Phase, Requested, Ordered, Granted, Released, Restoring, Switching, Closed, Record, StepRow, Id, same_id, Register, has_in_hand, record_of, is_running}
-use Rattle.clr_rules.specs.Prelude.{is_standing, is_granted, is_restoring, is_active, is_some_step, is_waiting, present_round, steps_in, steps_of, tasks_of, is_point_kind, has_hold, held_at, hold_of}
+use Rattle.clr_rules.specs.GoodByPhase.{ActiveInRound, HasNoWork, HoldsAsPut, HoldsNothing, InPhase, InPlaceAs, IsGoodByPhase, IsInPlace, Isolates, active_at, go_in_turn, inner_fence, of_round}
+use Rattle.clr_rules.specs.GoodByPhase.{outlook_of, present_of}
+use Rattle.clr_rules.specs.Prelude.{Hold, HoldKind, HeldOpen, Block, Control, Tag, Phase, Requested, Ordered, Granted, Released, Restoring, Switching, Closed, Record, StepRow, Id, same_id, Register}
+use Rattle.clr_rules.specs.Prelude.{has_in_hand, record_of, is_running, is_standing, is_granted, is_restoring, is_active, is_some_step, is_waiting, present_round, steps_in, steps_of, tasks_of}
+use Rattle.clr_rules.specs.Prelude.{is_point_kind, has_hold, held_at, hold_of}
 use Rattle.clr_rules.specs.Records.{is_closed, is_in_switching, is_requested, lacks_work}
-use Rattle.clr_rules.specs.Steps.{is_in_turn, some_active}
-use Rattle.clr_rules.proofs.lists.HoldMembers.{hold_there}
 use Rattle.clr_rules.proofs.good.PutHolds.{some_isolating}
 use Rattle.clr_rules.proofs.lists.RoundSteps.{All-in_round, no_step_of, no_step_there, of_round_is, of_the_round, one_id, present_of_is, record_id}
 use Rattle.clr_rules.proofs.good.StepsInTurn.{round_rises, turn_by_turn}
@@ -186,10 +181,7 @@ module _ (R : Register) (good : IsGood R) (c : Id) where
       no_hold = no_hold (ap is_standing is) (ap is_granted is);
     }
     by_phase Requested is None none = not_switch_order (rw is refl) none
-    by_phase Ordered is None none = not_switch_order (rw is refl) none
-    by_phase Granted is None none = not_switch_order (rw is refl) none
-    by_phase Released is None none = not_switch_order (rw is refl) none
-    by_phase Restoring is None none = not_switch_order (rw is refl) none
+    by_phase _ is None none = not_switch_order (rw is refl) none
 
   -- with a record or without one
   in_place_as : (o : Option Record) → record_of R.records c ≡ o → InPlaceAs R.net o (outlook_of R c)

@@ -1,25 +1,12 @@
 -- An order that was sound stays so in a network with a section or a point more that leaves its fence as it was.
-use Rattle.std.proofs.Common.{◌≡◌, ◌∙◌, ℕ, Bool, true, false, cond, List, find, filter, Contains, Option, Some, None, IsTrue, refl, sym, ap, subst}
-use Rattle.std.specs.Ordering.{is_eq}
-use Rattle.std.specs.Cmp.Lexicographic.{texts_ties}
-use Rattle.std.proofs.lemmas.Bool.{both_ways, false_from_ne_true, false≢true}
-use Rattle.std.proofs.lemmas.Cmp.{nat_list_cmp_total, nat_list_eq_equiv}
+use Rattle.std.proofs.Common.{◌≡◌, ◌∙◌, ℕ, Bool, true, false, cond, List, find, filter, Contains, Option, Some, None, IsTrue, refl, sym, ap, subst, is_eq}
+use Rattle.clr_rules.proofs.Common.{texts_ties, both_ways, false_from_ne_true, false≢true, nat_list_cmp_total, nat_list_eq_equiv, FenceRows, fence_of, in_fence, touches, Grid, IsNetwork, point_names}
+use Rattle.clr_rules.proofs.Common.{section_names, name_cmp, same_name, has_name, PointRow, SectionRow, Task, actions_at, equal, same_text, member-row_of, row_of, with_row, kept_there}
 use Rattle.std.proofs.lemmas.List.Elements.{All-contains, All-contains_itself, All-weaker}
 use Rattle.clr_net.specs.Additions.{fits_point, fits_section, with_named, with_point, with_section}
-use Rattle.clr_net.specs.Fence.{FenceRows, fence_of, in_fence, touches}
-use Rattle.clr_net.specs.Grid.{Grid, IsNetwork, point_names, section_names}
-use Rattle.clr_net.specs.Name.{name_cmp, same_name}
-use Rattle.clr_net.specs.Names.{has_name}
-use Rattle.clr_net.specs.declared.point.PointRow.{PointRow}
-use Rattle.clr_net.specs.declared.section.SectionRow.{SectionRow}
 use Rattle.clr_net.proofs.Grown.{additions_keep_fences, point_fits}
 use Rattle.clr_order.specs.Isolating.{IsSoundOrder, IsSoundWithin, is_border_point, is_border_row, needed_at, needed_at_row, touching_row}
-use Rattle.clr_order.specs.Step.{Task, actions_at}
-use Rattle.clr_shelf.proofs.Keys.{equal, same_text}
-use Rattle.clr_shelf.proofs.Members.{member-row_of}
 use Rattle.clr_shelf.proofs.Reading.{row_of-with_other}
-use Rattle.clr_shelf.specs.Rows.{row_of, with_row}
-use Rattle.clr_rules.proofs.lists.Filters.{kept_there}
 use Rattle.clr_rules.proofs.lists.NamedRows.{has_name-row, row_named}
 
 abbrev name_of : PointRow → List ℕ

@@ -1,23 +1,14 @@
 -- In a network that leaves the fences of all clearances as they were, and their orders sound, each clearance stays in its place.
 use Rattle.std.proofs.Common.{◌≡◌, ◌∙◌, ℕ, Bool, true, false, ◌&&◌, List, Option, Some, None, IsTrue, refl, sym, ap, subst}
-use Rattle.std.proofs.lemmas.Bool.{and_parts}
-use Rattle.std.proofs.lemmas.List.Elements.{All-contains}
+use Rattle.clr_rules.proofs.Common.{and_parts, All-contains, FenceRows, in_fence, Grid, section_names, has_name, PointRow, SectionRow, member-row_of, is_known_work, Phase, Requested, Ordered, Granted}
+use Rattle.clr_rules.proofs.Common.{Released, Restoring, Switching, Closed, Record, StepRow, Id, id_cmp, id_cmp_total, Register, record_key, record_of, is_standing, points_of, tasks_of, steps_in}
+use Rattle.clr_rules.proofs.Common.{steps_of, first_of_each, is_fenced, of_round_is, record_id}
 use Rattle.clr_net.specs.Additions.{fits_point, fits_section, with_point, with_section}
-use Rattle.clr_net.specs.Fence.{FenceRows, in_fence}
-use Rattle.clr_net.specs.Grid.{Grid, section_names}
-use Rattle.clr_net.specs.Names.{has_name}
-use Rattle.clr_net.specs.declared.point.PointRow.{PointRow}
-use Rattle.clr_net.specs.declared.section.SectionRow.{SectionRow}
 use Rattle.clr_net.proofs.Grown.{additions_keep_fences, point_fits}
-use Rattle.clr_shelf.proofs.Members.{member-row_of}
 use Rattle.clr_rules.specs.Fences.{CrossesNoFence, clearance_fence, found_fence, record_fence, work_fence}
-use Rattle.clr_rules.specs.Good.{is_known_work}
 use Rattle.clr_rules.specs.GoodByPhase.{InPhase, InPlaceAs, IsGoodByPhase, IsInPlace, Isolates, Outlook, inner_fence, of_round, outlook_of}
-use Rattle.clr_rules.specs.Prelude.{Phase, Requested, Ordered, Granted, Released, Restoring, Switching, Closed, Record, StepRow, Id, id_cmp, id_cmp_total, Register, record_key, record_of, is_standing, points_of, tasks_of, steps_in, steps_of, first_of_each}
-use Rattle.clr_rules.specs.Records.{is_fenced}
 use Rattle.clr_rules.proofs.good.GrownOrders.{order_beside_point, order_beside_section}
 use Rattle.clr_rules.proofs.live.FenceCuts.{has_name-once, in_fence_alike, named_in_fence}
-use Rattle.clr_rules.proofs.lists.RoundSteps.{of_round_is, record_id}
 
 -- ---- one clearance
 
@@ -64,12 +55,7 @@ module _ (g h : Grid) (v : Outlook) where
   }
   in_phase Switching None here keeps = here
   in_phase Closed work here keeps = here
-  in_phase Requested None here keeps = absurd here
-  in_phase Ordered None here keeps = absurd here
-  in_phase Granted None here keeps = absurd here
-  in_phase Released None here keeps = absurd here
-  in_phase Restoring None here keeps = absurd here
-  in_phase Switching (Some work) here keeps = absurd here
+  in_phase _ _ here keeps = absurd here
 
 -- ---- all clearances of a register
 

@@ -1,28 +1,12 @@
 -- A good register with a section more is good, and so is one with a point more that crosses no fence, is open and in nobody's hand.
-use Rattle.std.proofs.Common.{◌≡◌, ◌∙◌, ℕ, Bool, true, false, cond, List, map, Option, Some, None, IsTrue, refl, sym, ap, subst}
-use Rattle.std.specs.Option.{is_some, option_map}
-use Rattle.std.specs.Ordering.{is_eq}
-use Rattle.std.proofs.lemmas.Bool.{false≢true, or_right}
-use Rattle.std.proofs.lemmas.Cmp.{nat_list_cmp_total}
-use Rattle.std.proofs.lemmas.List.Elements.{All-weaker}
+use Rattle.std.proofs.Common.{◌≡◌, ◌∙◌, ℕ, Bool, true, false, cond, List, map, Option, Some, None, IsTrue, refl, sym, ap, subst, is_some, option_map, is_eq}
+use Rattle.clr_rules.proofs.Common.{false≢true, or_right, nat_list_cmp_total, All-weaker, Grid, point_names, section_names, unplaced, name_cmp, same_name, has_name, PointRow, Opened, SectionRow}
+use Rattle.clr_rules.proofs.Common.{in_key_order-with_row, equal, same_text, row_of-with, is_known_work, IsGoodByPhase, IsInPlace, outlook_of, AddSection, AddPoint, PointState, Record, StepRow, Id}
+use Rattle.clr_rules.proofs.Common.{Register, has_in_hand, position_of, state_key, state_of, after_edit, first_state, hand_in, is_hand}
 use Rattle.clr_net.specs.Additions.{fits_point, fits_section, with_section}
-use Rattle.clr_net.specs.Grid.{Grid, point_names, section_names, unplaced}
-use Rattle.clr_net.specs.Name.{name_cmp, same_name}
-use Rattle.clr_net.specs.Names.{has_name}
-use Rattle.clr_net.specs.declared.point.PointRow.{PointRow}
-use Rattle.clr_net.specs.declared.point.Position.TheVariants.{Opened}
-use Rattle.clr_net.specs.declared.section.SectionRow.{SectionRow}
 use Rattle.clr_net.proofs.Grown.{point_fits, points_are_added, sections_are_added}
-use Rattle.clr_shelf.proofs.KeyOrder.{in_key_order-with_row}
-use Rattle.clr_shelf.proofs.Keys.{equal, same_text}
-use Rattle.clr_shelf.proofs.Reading.{row_of-with}
 use Rattle.clr_rules.specs.Fences.{CrossesNoFence}
-use Rattle.clr_rules.specs.Good.{is_known_work}
-use Rattle.clr_rules.specs.GoodByPhase.{IsGoodByPhase, IsInPlace, outlook_of}
-use Rattle.clr_rules.specs.Prelude.{AddSection, AddPoint, PointState, Record, StepRow, Id, Register, has_in_hand, position_of, state_key, state_of, after_edit}
 use Rattle.clr_rules.specs.Edits.{net_after, states_after}
-use Rattle.clr_rules.specs.Register.{first_state}
-use Rattle.clr_rules.specs.States.{hand_in, is_hand}
 use Rattle.clr_rules.proofs.good.GrownPlaces.{kept_in_place, points_keep_fences, sections_keep_fences}
 use Rattle.clr_rules.proofs.edits.AddedEdits.{names_with_section}
 use Rattle.clr_rules.proofs.edits.Growing.{net_after-unplaced, states_known}

@@ -1,23 +1,10 @@
 -- The actions of an isolating order: what each puts, and that its steps take no others.
 use Rattle.std.proofs.Common.{◌≡◌, ℕ, Bool, true, false, List, filter, Contains, refl, subst}
-use Rattle.std.specs.List.{list_all}
-use Rattle.std.proofs.lemmas.Bool.{false≢true}
-use Rattle.clr_net.specs.Grid.{Grid}
-use Rattle.clr_net.specs.Name.{same_name}
-use Rattle.clr_net.specs.Names.{has_name}
-use Rattle.clr_net.specs.declared.point.PointRow.{PointRow}
-use Rattle.clr_net.proofs.Walks.{same_itself}
-use Rattle.clr_order.specs.Isolating.{IsSoundOrder}
+use Rattle.clr_rules.proofs.Common.{list_all, false≢true, Grid, same_name, has_name, PointRow, same_itself, IsSoundOrder, Task, actions_at, task, Action, list_all-contains, puts, HoldKind, HeldOpen}
+use Rattle.clr_rules.proofs.Common.{Block, Control, Tag, Tested, Ground, Crew, StepRow, points_of, tasks_of, first_of_each, same_kind, there_mapped, Contains-filter, has_name-row}
 use Rattle.clr_order.specs.Needed.{needed}
-use Rattle.clr_order.specs.Step.{Task, actions_at, task}
-use Rattle.clr_order.specs.declared.action.Action.{Action}
-use Rattle.clr_order.specs.declared.action.Action.TheVariants as actions
-use Rattle.clr_shelf.proofs.Lists.{list_all-contains}
-use Rattle.clr_rules.specs.Good.{puts}
-use Rattle.clr_rules.specs.Prelude.{HoldKind, HeldOpen, Block, Control, Tag, Tested, Ground, Crew, StepRow, points_of, tasks_of, first_of_each, same_kind}
-use Rattle.clr_rules.proofs.lists.Filters.{there_mapped}
-use Rattle.clr_rules.proofs.lists.NamedRows.{Contains-filter, has_name-row}
 use Rattle.clr_rules.proofs.good.PutHolds.{needed_there}
+use Rattle.clr_order.specs.declared.action.Action.TheVariants as actions
 
 -- ---- the actions of an isolating order
 
@@ -65,10 +52,7 @@ puts_kind actions.Tag is Tested = refl
 puts_kind actions.Tag is Ground = refl
 puts_kind actions.Tag is Crew = refl
 puts_kind actions.Untag is kind = absurd (false≢true is)
-puts_kind actions.Uncontrol is kind = absurd (false≢true is)
-puts_kind actions.Unblock is kind = absurd (false≢true is)
-puts_kind actions.Close is kind = absurd (false≢true is)
-puts_kind actions.Leave is kind = absurd (false≢true is)
+puts_kind _ is kind = absurd (false≢true is)
 
 needed_isolates : (row : PointRow) → list_all is_isolating (needed row) ≡ true
 needed_isolates row = at row.lockable refl row.remote refl

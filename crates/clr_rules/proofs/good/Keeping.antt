@@ -1,24 +1,15 @@
 -- What it takes to keep a register good: the clearance that a command is about comes to its new place, and the others stay in theirs.
 use Rattle.std.proofs.Common.{◌≡◌, ℕ, Bool, true, false, List, [], Option, Some, None, IsTrue, All, length, refl, sym, ◌∙◌, ap}
 use Rattle.std.specs.List.{range_with_len}
-use Rattle.clr_net.specs.Grid.{Grid, point_names, section_names}
-use Rattle.clr_net.specs.Names.{has_name}
-use Rattle.clr_net.specs.declared.point.Position.TheVariants.{Opened}
-use Rattle.clr_staff.specs.declared.employee.StaffRow.{StaffRow}
-use Rattle.clr_rules.specs.Answer.{Answer, known_of, answer_by_checks}
-use Rattle.clr_rules.specs.Commands.{checks, edits_of}
+use Rattle.clr_rules.proofs.Common.{Grid, point_names, section_names, has_name, Opened, StaffRow, Answer, known_of, answer_by_checks, checks, edits_of, Edit, Command, Kind, HoldKind, HeldOpen, Record}
+use Rattle.clr_rules.proofs.Common.{Refusal, Id, same_id, Register, has_in_hand, position_of, record_of, steps_of, is_point_kind, has_hold, after_edits, is_closing_at, is_known_work, is_operators}
+use Rattle.clr_rules.proofs.Common.{IsGood, IsGoodByPhase, IsInPlace, outlook_of, is_switch_order, numbers_of, after, one_id}
 use Rattle.clr_rules.specs.Checks.{employee, has_role, is_operator}
 use Rattle.clr_rules.specs.laws.Edits.{adds_nothing, KeepsNetwork, refusal_of}
-use Rattle.clr_rules.specs.Prelude.{Edit, Command, Kind, HoldKind, HeldOpen, Record, Refusal, Id, same_id, Register, has_in_hand, position_of, record_of, steps_of, is_point_kind, has_hold, after_edits}
-use Rattle.clr_rules.specs.Good.{is_closing_at, is_known_work, is_operators, IsGood}
-use Rattle.clr_rules.specs.GoodByPhase.{IsGoodByPhase, IsInPlace, outlook_of}
-use Rattle.clr_rules.specs.Records.{is_switch_order, numbers_of}
-use Rattle.clr_rules.specs.Run.{after}
 use Rattle.clr_rules.proofs.edits.EditedLists.{edited_all-in_order, edited_all-network}
 use Rattle.clr_rules.proofs.good.GoodToPhases.{to_phases}
 use Rattle.clr_rules.proofs.edits.Passing.{Pass, all_pass}
 use Rattle.clr_rules.proofs.good.PhasesToGood.{from_phases}
-use Rattle.clr_rules.proofs.lists.RoundSteps.{one_id}
 
 -- ---- one clearance changes
 

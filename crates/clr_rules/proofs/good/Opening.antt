@@ -1,28 +1,14 @@
 -- The opening register is good.
-use Rattle.std.proofs.Common.{◌≡◌, ◌∙◌, ℕ, Bool, true, false, cond, IsTrue, None, Some, List, [], ◌∷◌, map, refl, sym, ap}
-use Rattle.std.specs.List.{list_all, AllByRecursion}
-use Rattle.std.specs.List.Sorted.{IsStrictlySortedBy}
-use Rattle.std.specs.Ordering.{is_eq, is_lt}
-use Rattle.std.specs.declared.cmp.Ordering.{Ordering}
-use Rattle.std.specs.declared.cmp.Ordering.TheVariants.{Less}
-use Rattle.std.proofs.lemmas.Bool.{false≢true}
-use Rattle.std.proofs.lemmas.List.{length-map}
+use Rattle.std.proofs.Common.{◌≡◌, ◌∙◌, ℕ, Bool, true, false, cond, IsTrue, None, Some, List, [], ◌∷◌, map, refl, sym, ap, is_eq, is_lt, Ordering, Less}
+use Rattle.clr_rules.proofs.Common.{list_all, AllByRecursion, IsStrictlySortedBy, false≢true, length-map, none-some, name_cmp, has_name, PointRow, StaffRow, in_key_order, row_of, Hold, HoldKind}
+use Rattle.clr_rules.proofs.Common.{Record, StepRow, Id, has_in_hand, state_key, state_of, record_of, is_waiting, steps_in, steps_of, has_hold, first_state, opening, unplaced_net, hand_in, is_hand}
+use Rattle.clr_rules.proofs.Common.{is_in_turn}
 use Rattle.std.proofs.lemmas.List.Elements.{All-map, All-nil}
 use Rattle.std.proofs.lemmas.Map.Keys.{sorted_head, sorted_tail}
-use Rattle.std.proofs.lemmas.Option.{none-some}
 use Rattle.clr_net.specs.Grid.{Grid, IsNetwork, has_ends, has_one_section, point_names, section_names, unplaced}
-use Rattle.clr_net.specs.Name.{name_cmp}
-use Rattle.clr_net.specs.Names.{has_name}
-use Rattle.clr_net.specs.declared.point.PointRow.{PointRow}
 use Rattle.clr_net.proofs.ListFacts.{map-map}
 use Rattle.clr_staff.specs.Staff.{IsStaff}
-use Rattle.clr_staff.specs.declared.employee.StaffRow.{StaffRow}
-use Rattle.clr_shelf.specs.Rows.{in_key_order, row_of}
-use Rattle.clr_rules.specs.Good.{IsGood, ListsAreInOrder, has_record, is_active_at, is_closing_at, is_known_work}
-use Rattle.clr_rules.specs.Prelude.{Hold, HoldKind, Record, StepRow, Id, has_in_hand, state_key, state_of, record_of, is_waiting, steps_in, steps_of, has_hold}
-use Rattle.clr_rules.specs.Register.{first_state, opening, unplaced_net}
-use Rattle.clr_rules.specs.States.{hand_in, is_hand}
-use Rattle.clr_rules.specs.Steps.{is_in_turn}
+use Rattle.clr_rules.specs.Good.{IsGood, ListsAreInOrder, has_record, is_active_at, is_known_work}
 use Rattle.clr_rules.proofs.lists.StateFacts.{state_of-first, state_of-none}
 
 module _ {Key Row : Type 0} (compare : Key → Key → Ordering) (key_of : Row → Key) where
@@ -85,10 +71,6 @@ no_record c r found = none-some r found
 none_active : (c : Id) (p : List ℕ) → is_active_at [] c p ≡ false
 unfolding is_active_at steps_of
 none_active c p = refl
-
-none_closing : (c : Id) (p : List ℕ) → is_closing_at [] c p ≡ false
-unfolding is_closing_at steps_of
-none_closing c p = refl
 
 held_nowhere : (c : Id) (kind : HoldKind) (place : List ℕ) → has_hold [] c kind place ≡ true → ⊥
 held_nowhere c kind place held = false≢true (sym (no_hold c kind place) ∙ held)

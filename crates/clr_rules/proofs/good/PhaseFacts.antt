@@ -1,26 +1,16 @@
 -- What holds of a clearance in its place, whatever its phase: of its order, its steps, its holds and its work.
 use Rattle.std.proofs.Common.{◌≡◌, ◌⊎◌, inl, inr, ℕ, Bool, true, false, ◌||◌, List, [], ◌∷◌, Option, Some, None, All, Contains, refl, sym, ◌∙◌, ap, arith}
 use Rattle.std.proofs.lemmas.Bool.{both_ways, false≢true, false_from_ne_true, true_from_ne_false}
-use Rattle.std.proofs.lemmas.List.Elements.{All-nil, All-weaker}
-use Rattle.clr_net.specs.Grid.{Grid}
-use Rattle.clr_net.specs.Name.{same_name}
-use Rattle.clr_net.specs.Names.{has_name}
-use Rattle.clr_net.proofs.Walks.{any_from, same_itself}
-use Rattle.clr_order.specs.Action.{is_switching}
+use Rattle.clr_rules.proofs.Common.{All-nil, All-weaker, Grid, same_name, has_name, any_from, same_itself, is_switching, actions_at, Contains-cases, work_fence, some_active, All-from_each}
 use Rattle.clr_order.specs.Needed.{Undoes}
-use Rattle.clr_order.specs.Step.{actions_at}
 use Rattle.clr_order.specs.declared.held.Held.{Held}
 use Rattle.clr_order.proofs.Undoing.{nothing_left, undoes_rule}
-use Rattle.clr_shelf.proofs.Lists.{Contains-cases}
-use Rattle.clr_rules.specs.Fences.{work_fence}
 use Rattle.clr_rules.specs.Good.{IsSoundFor, steps_left_of}
 use Rattle.clr_rules.specs.GoodByPhase.{ActiveInRound, HasNoWork, HoldsAsPut, HoldsNothing, InPhase, InRestoring, Isolates, Outlook, go_in_turn, of_round, present_of}
-use Rattle.clr_rules.specs.Prelude.{HoldKind, HeldOpen, Block, Control, Tag, Tested, Ground, Crew, Phase, Requested, Ordered, Granted, Released, Restoring, Switching, Closed, StepRow, is_running, is_standing, is_granted, is_restoring}
-use Rattle.clr_rules.specs.Prelude.{all_done, is_active, is_some_step, points_of, tasks_of, is_point_kind}
+use Rattle.clr_rules.specs.Prelude.{HoldKind, HeldOpen, Block, Control, Tag, Tested, Ground, Crew, Phase, Requested, Ordered, Granted, Released, Restoring, Switching, Closed, StepRow, is_running}
+use Rattle.clr_rules.specs.Prelude.{is_standing, is_granted, is_restoring, all_done, is_active, is_some_step, points_of, tasks_of, is_point_kind}
 use Rattle.clr_rules.specs.Records.{is_closed, is_in_switching, is_requested, lacks_work}
-use Rattle.clr_rules.specs.Steps.{some_active}
 use Rattle.clr_rules.proofs.good.PutHolds.{put_at_points, put_beside_open, some_isolating}
-use Rattle.clr_rules.proofs.lists.RoundSteps.{All-from_each}
 
 -- ---- the order
 
@@ -42,12 +32,7 @@ order_facts g Released (Some work) v h = record { isolates = λ _. h.isolates; d
 order_facts g Restoring (Some work) v h = record { isolates = λ _. h.isolates; done = impossible; second_round = λ _. h.second_round; switch_phases = impossible; switching = impossible }
 order_facts g Switching None v h = record { isolates = impossible; done = impossible; second_round = impossible; switch_phases = λ _. refl; switching = λ _. refl }
 order_facts g Closed work v h = record { isolates = impossible; done = impossible; second_round = impossible; switch_phases = λ _. refl; switching = impossible }
-order_facts g Requested None v h = absurd h
-order_facts g Ordered None v h = absurd h
-order_facts g Granted None v h = absurd h
-order_facts g Released None v h = absurd h
-order_facts g Restoring None v h = absurd h
-order_facts g Switching (Some work) v h = absurd h
+order_facts g _ _ v h = absurd h
 
 -- ---- the steps
 
@@ -122,12 +107,7 @@ step_facts g Switching None v h = record {
   only_switching = λ _. h.only_switching;
 }
 step_facts g Closed work v h = record { active = none_now Closed v.steps h.none_active; none_requested = impossible; second_round = λ _. refl; only_switching = impossible }
-step_facts g Requested None v h = absurd h
-step_facts g Ordered None v h = absurd h
-step_facts g Granted None v h = absurd h
-step_facts g Released None v h = absurd h
-step_facts g Restoring None v h = absurd h
-step_facts g Switching (Some work) v h = absurd h
+step_facts g _ _ v h = absurd h
 
 -- ---- work
 
@@ -164,12 +144,7 @@ work_facts g Released (Some work) v h = no_work_facts g Released (Some work) v h
 work_facts g Restoring (Some work) v h = no_work_facts g Restoring (Some work) v h.no_work
 work_facts g Switching None v h = no_work_facts g Switching None v (λ kind place _. h.no_hold kind place)
 work_facts g Closed work v h = no_work_facts g Closed work v (λ kind place _. h.no_hold kind place)
-work_facts g Requested None v h = absurd h
-work_facts g Ordered None v h = absurd h
-work_facts g Granted None v h = absurd h
-work_facts g Released None v h = absurd h
-work_facts g Restoring None v h = absurd h
-work_facts g Switching (Some work) v h = absurd h
+work_facts g _ _ v h = absurd h
 
 -- ---- holds at points
 
@@ -245,9 +220,4 @@ hold_facts g Restoring (Some work) v turns h = restoring_facts g work v h
 hold_facts g Requested (Some work) v turns h = no_hold_facts Requested v refl refl h.no_hold
 hold_facts g Switching None v turns h = no_hold_facts Switching v refl refl h.no_hold
 hold_facts g Closed work v turns h = no_hold_facts Closed v refl refl h.no_hold
-hold_facts g Requested None v turns h = absurd h
-hold_facts g Ordered None v turns h = absurd h
-hold_facts g Granted None v turns h = absurd h
-hold_facts g Released None v turns h = absurd h
-hold_facts g Restoring None v turns h = absurd h
-hold_facts g Switching (Some work) v turns h = absurd h
+hold_facts g _ _ v turns h = absurd h

@@ -1,21 +1,13 @@
 -- A register that is good phase by phase is good.
 use Rattle.std.proofs.Common.{◌≡◌, ℕ, true, false, List, Option, Some, None, is_some, All, Contains, refl, sym, ◌∙◌, ap, subst, arith}
-use Rattle.std.specs.List.{list_any}
-use Rattle.std.proofs.lemmas.Bool.{both_ways, false≢true}
-use Rattle.std.proofs.lemmas.List.Elements.{All-weaker}
-use Rattle.clr_net.specs.Grid.{Grid}
-use Rattle.clr_net.specs.Names.{has_name}
-use Rattle.clr_net.specs.declared.point.PointRow.{PointRow}
-use Rattle.clr_order.specs.Isolating.{IsSoundOrder}
+use Rattle.clr_rules.proofs.Common.{list_any, both_ways, false≢true, All-weaker, Grid, has_name, PointRow, IsSoundOrder, actions_at, clearance_fence, work_fence, is_in_turn}
 use Rattle.clr_order.specs.Needed.{needed}
-use Rattle.clr_order.specs.Step.{actions_at}
-use Rattle.clr_rules.specs.Fences.{clearance_fence, work_fence}
-use Rattle.clr_rules.specs.Good.{GrantedPointsAreHeld, HandMatchesStep, HeldPointsAreOpen, HoldsAreWhatDoneStepsPut, IsFullyHeld, IsGood, IsSoundFor, NumbersHaveNoGaps, StepsGoInTurn, SwitchOrdersAreOperators, WorkHoldsBelong, has_record, is_active_at, puts, works_on}
+use Rattle.clr_rules.specs.Good.{GrantedPointsAreHeld, HandMatchesStep, HeldPointsAreOpen, HoldsAreWhatDoneStepsPut, IsFullyHeld, IsGood, IsSoundFor, NumbersHaveNoGaps, StepsGoInTurn}
+use Rattle.clr_rules.specs.Good.{SwitchOrdersAreOperators, WorkHoldsBelong, has_record, is_active_at, puts, works_on}
 use Rattle.clr_rules.specs.GoodByPhase.{InPhase, InPlaceAs, IsBare, IsGoodByPhase, active_at, of_round, outlook_of, present_of}
-use Rattle.clr_rules.specs.Prelude.{Hold, HoldKind, HeldOpen, Block, Control, Tag, Tested, Ground, Phase, Granted, Record, StepRow, Id, Register, has_in_hand, record_of}
-use Rattle.clr_rules.specs.Prelude.{is_running, is_standing, is_granted, is_restoring, is_active, is_waiting, points_of, present_round, steps_in, steps_of, tasks_of, is_point_kind, has_hold, first_of_each}
+use Rattle.clr_rules.specs.Prelude.{Hold, HoldKind, HeldOpen, Block, Control, Tag, Tested, Ground, Phase, Granted, Record, StepRow, Id, Register, has_in_hand, record_of, is_running, is_standing}
+use Rattle.clr_rules.specs.Prelude.{is_granted, is_restoring, is_active, is_waiting, points_of, present_round, steps_in, steps_of, tasks_of, is_point_kind, has_hold, first_of_each}
 use Rattle.clr_rules.specs.Live.{is_live, is_shut}
-use Rattle.clr_rules.specs.Steps.{is_in_turn}
 use Rattle.clr_rules.proofs.live.DeadFences.{dead_work_fence}
 use Rattle.clr_rules.proofs.lists.HoldMembers.{hold_had}
 use Rattle.clr_rules.proofs.good.PhaseFacts.{HoldFacts, OrderFacts, StepFacts, WorkFacts, hold_facts, order_facts, stands_at_work, step_facts, work_facts}

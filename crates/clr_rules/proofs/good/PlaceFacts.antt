@@ -1,17 +1,10 @@
 -- A clearance in its place stays there when what does not count is changed: its record but for phase and work section, and its hands.
-use Rattle.std.proofs.Common.{◌≡◌, refl, ℕ, Bool, true, false, nat_eq, List, Option, Some, None, Contains}
-use Rattle.std.proofs.lemmas.Bool.{both_ways, eq-eqb, false≢true, false_from_ne_true}
-use Rattle.std.proofs.lemmas.List.Elements.{All-contains}
+use Rattle.std.proofs.Common.{◌≡◌, refl, ℕ, Bool, true, false, nat_eq, List, Option, Some, None, Contains, eq-eqb}
+use Rattle.clr_rules.proofs.Common.{both_ways, false≢true, false_from_ne_true, All-contains, Grid, StepState, list_all-contains, ActiveInRound, InPhase, Outlook, of_round, some_active}
+use Rattle.clr_rules.proofs.Common.{Contains-filter, All-from_each}
 use Rattle.std.proofs.lemmas.List.Folds.{list_any_none}
-use Rattle.clr_net.specs.Grid.{Grid}
-use Rattle.clr_order.specs.declared.step.StepState.{StepState}
-use Rattle.clr_order.specs.declared.step.StepState.TheVariants.{Instructed, Repeated}
-use Rattle.clr_shelf.proofs.Lists.{list_all-contains}
-use Rattle.clr_rules.specs.GoodByPhase.{ActiveInRound, InPhase, Outlook, of_round}
-use Rattle.clr_rules.specs.Prelude.{Tested, Ground, Crew, Phase, Requested, Ordered, Granted, Released, Restoring, Switching, Closed, Record, StepRow, is_ordered, all_done, is_active, is_done}
-use Rattle.clr_rules.specs.Steps.{some_active}
-use Rattle.clr_rules.proofs.lists.NamedRows.{Contains-filter}
-use Rattle.clr_rules.proofs.lists.RoundSteps.{All-from_each}
+use Rattle.clr_rules.specs.Prelude.{Instructed, Repeated, Tested, Ground, Crew, Phase, Requested, Ordered, Granted, Released, Restoring, Switching, Closed, Record, StepRow, is_ordered, all_done}
+use Rattle.clr_rules.specs.Prelude.{is_active, is_done}
 
 -- the phase of a clearance is a matter of its steps and holds
 pub phase_beside : (g : Grid) (phase : Phase) (work : Option (List ℕ)) (v : Outlook) (o : Option Record) (hand : List ℕ → Bool)
@@ -40,12 +33,7 @@ phase_beside g Restoring (Some work) v o hand h = record {
 }
 phase_beside g Switching None v o hand h = record { only_switching = h.only_switching; one_round = h.one_round; given_out = h.given_out; no_hold = h.no_hold }
 phase_beside g Closed work v o hand h = record { none_active = h.none_active; no_hold = h.no_hold }
-phase_beside g Requested None v o hand h = absurd h
-phase_beside g Ordered None v o hand h = absurd h
-phase_beside g Granted None v o hand h = absurd h
-phase_beside g Released None v o hand h = absurd h
-phase_beside g Restoring None v o hand h = absurd h
-phase_beside g Switching (Some work) v o hand h = absurd h
+phase_beside g _ _ v o hand h = absurd h
 
 -- a step that is Done is not given out
 pub done_rests : (state : StepState) → is_done state ≡ true → is_active state ≡ false

@@ -1,34 +1,18 @@
 -- What the Done steps of an isolating order put at its points.
-use Rattle.std.proofs.Common.{◌≡◌, ◌⊎◌, inl, inr, ℕ, Bool, true, false, ◌&&◌, ◌||◌, List, [], ◌∷◌, Option, Some, None, map, find, filter, Contains, refl, sym, ◌∙◌, ap, subst, arith}
-use Rattle.std.specs.List.{list_any}
-use Rattle.std.specs.List.Sorted.{IsStrictlySortedBy}
-use Rattle.std.specs.declared.cmp.Ordering.TheVariants.{Less}
-use Rattle.std.proofs.lemmas.Bool.{and_parts, both_ways, false≢true, or_cases, or_left, or_right}
-use Rattle.std.proofs.lemmas.Cmp.{nat_list_cmp_total, tied_itself}
+use Rattle.std.proofs.Common.{◌≡◌, ◌⊎◌, inl, inr, ℕ, Bool, true, false, ◌&&◌, ◌||◌, List, [], ◌∷◌, Option, Some, None, map, find, filter, Contains, refl, sym, ◌∙◌, ap, subst, arith, Less}
+use Rattle.clr_rules.proofs.Common.{list_any, IsStrictlySortedBy, and_parts, both_ways, false≢true, or_cases, or_left, or_right, nat_list_cmp_total, tied_itself, FenceRows, fence_of, in_fence, Grid}
+use Rattle.clr_rules.proofs.Common.{name_cmp, same_name, has_name, PointRow, one_name, some_from, actions_at, Action, StepState, Waiting, Done, Contains-cases, Contains-here, Contains-later, put_by}
+use Rattle.clr_rules.proofs.Common.{puts, all_waiting, go_in_turn, has_name-row}
 use Rattle.std.proofs.lemmas.List.Elements.{All-contains, All-contains_itself, All-filter}
 use Rattle.std.proofs.lemmas.Map.Keys.{sorted_tail}
 use Rattle.std.proofs.lemmas.Map.Views.{All-after_first}
-use Rattle.clr_net.specs.Fence.{FenceRows, fence_of, in_fence}
-use Rattle.clr_net.specs.Grid.{Grid}
-use Rattle.clr_net.specs.Name.{name_cmp, same_name}
-use Rattle.clr_net.specs.Names.{has_name}
-use Rattle.clr_net.specs.declared.point.PointRow.{PointRow}
-use Rattle.clr_net.proofs.Walks.{one_name, some_from}
 use Rattle.clr_order.specs.Isolating.{IsSoundOrder, is_border_point, needed_at, touching_row}
 use Rattle.clr_order.specs.Needed.{needed}
-use Rattle.clr_order.specs.Step.{actions_at}
-use Rattle.clr_order.specs.declared.action.Action.{Action}
-use Rattle.clr_order.specs.declared.step.StepState.{StepState}
-use Rattle.clr_order.specs.declared.step.StepState.TheVariants.{Waiting, Instructed, Repeated, Done}
+use Rattle.clr_rules.specs.Prelude.{Instructed, Repeated, HoldKind, HeldOpen, Block, Control, Tag, StepRow, all_done, is_done, is_some_step, is_waiting, points_of, tasks_of, first_of_each}
 use Rattle.clr_order.proofs.Finds.{found_passes}
-use Rattle.clr_order.specs.declared.action.Action.TheVariants as actions
-use Rattle.clr_shelf.proofs.Lists.{Contains-cases, Contains-here, Contains-later}
-use Rattle.clr_rules.specs.Good.{put_by, puts}
-use Rattle.clr_rules.specs.GoodByPhase.{all_waiting, go_in_turn}
-use Rattle.clr_rules.specs.Prelude.{HoldKind, HeldOpen, Block, Control, Tag, StepRow, all_done, is_done, is_some_step, is_waiting, points_of, tasks_of, first_of_each}
 use Rattle.clr_rules.proofs.live.FenceCuts.{has_name-once}
-use Rattle.clr_rules.proofs.lists.NamedRows.{has_name-row}
 use Rattle.clr_rules.proofs.lists.RoundSteps.{some_step_there}
+use Rattle.clr_order.specs.declared.action.Action.TheVariants as actions
 
 -- ---- rows by name
 

@@ -1,18 +1,11 @@
 -- Steps that go in turn: read from the head of a round, and step by step as the register says it.
-use Rattle.std.proofs.Common.{◌≡◌, ℕ, ◌<◌, ◌≤◌, Bool, true, false, not, ◌||◌, nat_lt, ◌⊎◌, inl, inr, List, [], ◌∷◌, All, Contains, refl, sym, ◌∙◌, subst, arith}
-use Rattle.std.specs.List.{list_all}
-use Rattle.std.specs.Ordering.{is_lt, nat_cmp}
-use Rattle.std.specs.declared.cmp.Ordering.TheVariants.{Less, Equal}
-use Rattle.std.proofs.lemmas.Bool.{and_from, and_parts, both_ways, le-ltb, lt-ltb, not_from_false, or_cases, or_left, or_right}
+use Rattle.std.proofs.Common.{◌≡◌, ℕ, ◌<◌, ◌≤◌, Bool, true, false, not, ◌||◌, nat_lt, ◌⊎◌, inl, inr, List, [], ◌∷◌, All, Contains, refl, sym, ◌∙◌, subst, arith, is_lt, nat_cmp, Less, Equal, le-ltb}
+use Rattle.std.proofs.Common.{lt-ltb}
+use Rattle.clr_rules.proofs.Common.{and_from, and_parts, both_ways, not_from_false, or_cases, or_left, or_right, All-contains, All-head, All-tail, in_key_order-filter, in_key_order-first}
+use Rattle.clr_rules.proofs.Common.{in_key_order-rest, Contains-cases, Contains-later, list_all-contains, in_key_order, all_waiting, go_in_turn, StepRow, Id, id_cmp, id_cmp_total}
+use Rattle.clr_rules.proofs.Common.{list_all-from_each, step_key, step_key_cmp, step_key_cmp_total, is_done, is_waiting, steps_in, is_in_turn, is_of_round}
 use Rattle.std.proofs.lemmas.Cmp.{nat_cmp_total, ranked, tied_itself}
-use Rattle.std.proofs.lemmas.List.Elements.{All-contains, All-head, All-tail}
 use Rattle.clr_shelf.proofs.Keys.{less}
-use Rattle.clr_shelf.proofs.KeyOrder.{in_key_order-filter, in_key_order-first, in_key_order-rest}
-use Rattle.clr_shelf.proofs.Lists.{Contains-cases, Contains-here, Contains-later, list_all-contains}
-use Rattle.clr_shelf.specs.Rows.{in_key_order}
-use Rattle.clr_rules.specs.GoodByPhase.{all_waiting, go_in_turn}
-use Rattle.clr_rules.specs.Prelude.{StepRow, Id, id_cmp, id_cmp_total, step_key, step_key_cmp, step_key_cmp_total, is_done, is_waiting, steps_in}
-use Rattle.clr_rules.specs.Steps.{is_in_turn, is_of_round}
 use Rattle.clr_rules.proofs.lists.RoundSteps.{All-from_each, of_the_round}
 
 -- ---- the steps of a round stand by their ordinals
@@ -50,10 +43,6 @@ round_rises steps c round ordered = rises_from c round (steps_in steps c round) 
 
 -- ---- in turn
 
-list_all_from : {X : Type 0} (p : X → Bool) (xs : List X) → ((x : X) → Contains xs x → p x ≡ true) → list_all p xs ≡ true
-list_all_from p [] each = refl
-list_all_from p (x ∷ xs) each = and_from (p x) (list_all p xs) (each x (Contains-here x xs)) (list_all_from p xs (λ y there. each y (Contains-later x y xs there)))
-
 -- from each step that does not wait to the head of the round
 pub turn_by_turn : (rows : List StepRow) → Rises rows
     → ((row : StepRow) → Contains rows row → is_waiting row.step.state ≡ false → is_in_turn rows row.ordinal ≡ true) → go_in_turn rows ≡ true
@@ -69,7 +58,7 @@ turn_by_turn (first ∷ rest) rising each =
 
     head : (b : Bool) → is_done first.step.state ≡ b → (is_done first.step.state || all_waiting rest) ≡ true
     head true e = or_left (is_done first.step.state) (all_waiting rest) e
-    head false e = or_right (is_done first.step.state) (all_waiting rest) (list_all_from (λ row. is_waiting row.step.state) rest (λ row there. waits row there (is_waiting row.step.state) refl))
+    head false e = or_right (is_done first.step.state) (all_waiting rest) (list_all-from_each (λ row. is_waiting row.step.state) rest (λ row there. waits row there (is_waiting row.step.state) refl))
       where
         waits : (row : StepRow) → Contains rest row → (w : Bool) → is_waiting row.step.state ≡ w → is_waiting row.step.state ≡ true
         waits row there true is = is
@@ -89,7 +78,7 @@ turn_of_each (first ∷ rest) rising turns row there active = by_place (turn_of_
 
     -- all others of the round come after the first
     none_before_first : is_in_turn (first ∷ rest) first.ordinal ≡ true
-    none_before_first = list_all_from (λ other. not (nat_lt other.ordinal first.ordinal) || is_done other.step.state) (first ∷ rest)
+    none_before_first = list_all-from_each (λ other. not (nat_lt other.ordinal first.ordinal) || is_done other.step.state) (first ∷ rest)
         (λ other among. or_left (not (nat_lt other.ordinal first.ordinal)) (is_done other.step.state)
         (not_from_false (nat_lt other.ordinal first.ordinal) (le-ltb other.ordinal first.ordinal (not_below other (Contains-cases first other rest among)))))
       where

@@ -1,31 +1,17 @@
 -- Tags: which command takes one, and how a clearance comes to be Restoring or Released.
 use Rattle.std.proofs.Common.{◌≡◌, ℕ, Bool, true, false, cond, ◌&&◌, List, [], ◌∷◌, ◌++◌, map, Option, Some, None, Contains, refl, sym, ◌∙◌, ap, subst, ◌⊎◌, inl, inr, ⊎_elim}
-use Rattle.std.specs.List.{AllByRecursion}
-use Rattle.std.proofs.lemmas.Bool.{and_parts, both_ways, false≢true}
-use Rattle.std.proofs.lemmas.List.Elements.{All-contains}
-use Rattle.std.proofs.lemmas.Option.{same_Some}
-use Rattle.clr_order.specs.Action.{is_switching}
-use Rattle.clr_order.specs.Step.{Task}
-use Rattle.clr_order.specs.declared.action.Action.{Action}
-use Rattle.clr_order.specs.declared.action.Action.TheVariants as actions
-use Rattle.clr_order.specs.declared.step.StepState.TheVariants.{Done}
-use Rattle.clr_shelf.proofs.Keys.{equal}
-use Rattle.clr_shelf.specs.Rows.{with_row}
-use Rattle.clr_rules.specs.Answer.{Answer, known_of, answer_by_checks}
-use Rattle.clr_rules.specs.Commands.{Known, checks, edits_of}
+use Rattle.clr_rules.proofs.Common.{AllByRecursion, and_parts, both_ways, false≢true, All-contains, same_Some, is_switching, Task, Action, Done, equal, with_row, Answer, known_of, answer_by_checks}
+use Rattle.clr_rules.proofs.Common.{Known, checks, edits_of, InPhase, IsGoodByPhase, of_round, outlook_of, after}
 use Rattle.clr_rules.specs.Changes.{done_edits, new_jumper, step_moved, new_steps, phase_after, point_edits, put_steps, undone_edits}
 use Rattle.clr_rules.specs.Checks.{not_attested}
 use Rattle.clr_rules.specs.laws.Edits.{is_hold, refusal_of}
-use Rattle.clr_rules.specs.Prelude.{Edit, PutHold, TakeHold, PutRecord, PutStep, Command, Kind, Hold, Tag, Tested, Phase, Requested, Ordered, Granted, Released, Restoring, Switching, Closed, Record, Refusal, StepRow, Id}
-use Rattle.clr_rules.specs.Prelude.{Register, record_of, is_running, is_granted, is_ordered, step_key, step_key_cmp, all_done, present_steps, step_at, steps_of, hold_cmp, has_any_hold, has_hold, hold_of, places_of, after_edits}
-use Rattle.clr_rules.specs.GoodByPhase.{InPhase, IsGoodByPhase, of_round, outlook_of}
+use Rattle.clr_rules.specs.Prelude.{Edit, PutHold, TakeHold, PutRecord, PutStep, Command, Kind, Hold, Tag, Tested, Phase, Requested, Ordered, Granted, Released, Restoring, Switching, Closed, Record}
+use Rattle.clr_rules.specs.Prelude.{Refusal, StepRow, Id, Register, record_of, is_running, is_granted, is_ordered, step_key, step_key_cmp, all_done, present_steps, step_at, steps_of, hold_cmp}
+use Rattle.clr_rules.specs.Prelude.{has_any_hold, has_hold, hold_of, places_of, after_edits, NotAttested}
 use Rattle.clr_rules.specs.Hold.{same_hold}
 use Rattle.clr_rules.proofs.good.Keeping.{asked}
 use Rattle.clr_rules.specs.Records.{ends_with_steps, is_released, is_switch_order}
-use Rattle.clr_rules.specs.Run.{after}
 use Rattle.clr_rules.specs.laws.Tags.{IsUntag, OnlyReleasedAreRestored, ReleasedAreGivenBack, TagsAreUntagged}
-use Rattle.clr_rules.specs.declared.command.Kind.TheVariants as kinds
-use Rattle.clr_rules.specs.declared.refusal.Refusal.TheVariants.{NotAttested}
 use Rattle.clr_rules.proofs.good.GoodToPhases.{to_phases}
 use Rattle.clr_rules.proofs.good.IsolatingSteps.{is_isolating, isolating_step}
 use Rattle.clr_rules.proofs.keeps.OneRecord.{in_phase_of}
@@ -35,6 +21,8 @@ use Rattle.clr_rules.proofs.good.PlaceFacts.{in_round}
 use Rattle.clr_rules.proofs.edits.PresentSteps.{IsPresent, step_there}
 use Rattle.clr_rules.proofs.edits.PutRows.{AllLeave, AllPutSuch, AnyStep, by_added, by_record, by_step, done_put, left_by_all, record_after, steps_leave, steps_put, takes_put}
 use Rattle.clr_rules.proofs.lists.RoundSteps.{among_own, record_id}
+use Rattle.clr_order.specs.declared.action.Action.TheVariants as actions
+use Rattle.clr_rules.specs.declared.command.Kind.TheVariants as kinds
 
 -- ---- how a clearance comes into a phase
 
@@ -232,8 +220,7 @@ module _ (R : Register) (c : Id) (p : List ℕ) where
   done_leaves switching d actions.Tag point s row other = (tt, (tt, (tt, (tt, tt))))
   done_leaves switching d actions.Untag point s row other = (tt, (other refl, (tt, (tt, tt))))
   done_leaves switching d actions.Uncontrol point s row other = (tt, (refl, (tt, (tt, tt))))
-  done_leaves switching d actions.Unblock point s row other = (tt, (refl, (tt, (tt, tt))))
-  done_leaves switching d actions.Leave point s row other = (tt, (refl, (tt, (tt, tt))))
+  done_leaves switching d _ point s row other = (tt, (refl, (tt, (tt, tt))))
 
   -- a test leaves it, whether it is put or taken
   test_leaves : (d : Id) (section : List ℕ) (dead : Bool) (s : Record)

@@ -1,34 +1,19 @@
 -- What additions do to what stands near a clearance: they change it exactly by their marks.
-use Rattle.std.proofs.Common.{◌≡◌, ◌∙◌, ℕ, Bool, true, false, cond, ◌&&◌, ◌||◌, List, [], ◌∷◌, map, Contains, filter, Option, None, Some, is_some, refl, sym, ap, subst}
-use Rattle.std.specs.List.{list_any}
-use Rattle.std.specs.Option.{option_map}
+use Rattle.std.proofs.Common.{◌≡◌, ◌∙◌, ℕ, Bool, true, false, cond, ◌&&◌, ◌||◌, List, [], ◌∷◌, map, Contains, filter, Option, None, Some, is_some, refl, sym, ap, subst, option_map}
+use Rattle.clr_rules.proofs.Common.{list_any, nat_list_cmp_total, touches, Grid, IsNetwork, point_names, unplaced, name_cmp, same_name, has_name, PointRow, Opened, SectionRow, one_name, same_itself}
+use Rattle.clr_rules.proofs.Common.{some_from, filter-with_far, filter-with_inside, equal, same_text, with_row, touching_names, ListsAreInOrder, is_near_hold, first_state}
 use Rattle.std.proofs.lemmas.Bool.{and_parts, false≢true, false_from_ne_true, or_parts}
-use Rattle.std.proofs.lemmas.Cmp.{nat_list_cmp_total}
 use Rattle.std.proofs.lemmas.List.Sorted.{IsPermutation-map, list_any-IsPermutation}
 use Rattle.clr_net.specs.Additions.{with_named, with_point}
-use Rattle.clr_net.specs.Fence.{touches}
-use Rattle.clr_net.specs.Grid.{Grid, IsNetwork, point_names, unplaced}
-use Rattle.clr_net.specs.Name.{name_cmp, same_name}
-use Rattle.clr_net.specs.Names.{has_name}
-use Rattle.clr_net.specs.declared.point.PointRow.{PointRow}
-use Rattle.clr_net.specs.declared.point.Position.TheVariants.{Opened}
-use Rattle.clr_net.specs.declared.section.SectionRow.{SectionRow}
 use Rattle.clr_net.proofs.ByName.{filter-with_named, filter-with_named_inside, moved_with_named}
 use Rattle.clr_net.proofs.Grown.{section_fits}
-use Rattle.clr_net.proofs.Walks.{one_name, same_itself, some_from}
-use Rattle.clr_shelf.proofs.Groups.{filter-with_far, filter-with_inside}
-use Rattle.clr_shelf.proofs.Keys.{equal, same_text}
-use Rattle.clr_shelf.specs.Rows.{with_row}
 use Rattle.clr_rules.specs.laws.Additions.{AddedPointsAreFree, AdditionsChangeByMarks, IsFree}
 use Rattle.clr_rules.specs.Agreement.{part_near}
 use Rattle.clr_rules.specs.laws.Agreement.{ChangesByMarks}
 use Rattle.clr_rules.specs.Edits.{fits_edit}
-use Rattle.clr_rules.specs.Fences.{touching_names}
-use Rattle.clr_rules.specs.Good.{ListsAreInOrder}
-use Rattle.clr_rules.specs.Holds.{is_near_hold}
 use Rattle.clr_rules.specs.Near.{part}
-use Rattle.clr_rules.specs.Prelude.{Edit, AddSection, AddPoint, Hold, PointState, Id, Register, is_crew, is_point_kind, is_section_kind, position_of, same_id, state_key, state_of, after_edit, after_edits}
-use Rattle.clr_rules.specs.Register.{first_state}
+use Rattle.clr_rules.specs.Prelude.{Edit, AddSection, AddPoint, Hold, PointState, Id, Register, is_crew, is_point_kind, is_section_kind, position_of, same_id, state_key, state_of, after_edit}
+use Rattle.clr_rules.specs.Prelude.{after_edits}
 use Rattle.clr_rules.specs.Shown.{marks_of}
 use Rattle.clr_rules.proofs.edits.EditedLists.{edited-in_order}
 use Rattle.clr_rules.proofs.edits.Growing.{net_after-network}

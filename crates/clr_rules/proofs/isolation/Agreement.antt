@@ -1,28 +1,17 @@
 -- Agreement near a clearance, and the edits that keep it.
-use Rattle.std.proofs.Common.{◌≡◌, ℕ, Bool, true, false, not, ◌&&◌, cond, List, [], ◌∷◌, refl, sym, ◌∙◌, ap}
-use Rattle.std.specs.List.{filter, All, Contains}
-use Rattle.std.proofs.lemmas.Bool.{false≢true}
+use Rattle.std.proofs.Common.{◌≡◌, ℕ, Bool, true, false, not, ◌&&◌, cond, List, [], ◌∷◌, refl, sym, ◌∙◌, ap, filter, All, Contains}
+use Rattle.clr_rules.proofs.Common.{false≢true, Grid, point_names, same_name, has_name, PointRow, in_key_order, with_row, without_row, adds_nothing, Edit, SetPosition, SetHand, PutHold, TakeHold}
+use Rattle.clr_rules.proofs.Common.{PutRecord, PutStep, AddSection, AddPoint, Hold, Record, Id, id_cmp, same_id, Register, greatest_number, record_key, hold_cmp, hold_cmp_total, hold_key, holds_of}
+use Rattle.clr_rules.proofs.Common.{after_edit, after_edits, touching_names, touches, ListsAreInOrder, has_record, Contains-filter}
 use Rattle.std.proofs.lemmas.List.Elements.{All-contains, All-head, All-tail, All-cons, All-nil, All-weaker}
-use Rattle.clr_net.specs.Grid.{Grid, point_names}
-use Rattle.clr_net.specs.Name.{same_name}
-use Rattle.clr_net.specs.Names.{has_name}
-use Rattle.clr_net.specs.declared.point.PointRow.{PointRow}
 use Rattle.clr_shelf.proofs.Groups.{filter-with_inside, filter-without_row}
-use Rattle.clr_shelf.specs.Rows.{in_key_order, with_row, without_row}
-use Rattle.clr_rules.specs.laws.Edits.{adds_nothing}
 use Rattle.clr_rules.specs.Agreement.{Agree, part_near}
 use Rattle.clr_rules.specs.laws.Agreement.{ChangesByMarks, LeavesAlone, concerning, concerns, is_about, is_new_of}
-use Rattle.clr_rules.specs.Prelude.{Edit, SetPosition, SetHand, PutHold, TakeHold, PutRecord, PutStep, AddSection, AddPoint, Hold, Record, Id, id_cmp, same_id, Register, greatest_number, record_key, hold_cmp, hold_cmp_total, hold_key, holds_of, after_edit}
-use Rattle.clr_rules.specs.Prelude.{after_edits}
-use Rattle.clr_rules.specs.Fences.{touching_names}
-use Rattle.clr_net.specs.Fence.{touches}
-use Rattle.clr_rules.specs.Good.{ListsAreInOrder, has_record}
 use Rattle.clr_rules.specs.Records.{greater_of}
 use Rattle.clr_rules.specs.Shown.{is_mark, marks_of}
 use Rattle.clr_rules.proofs.edits.EditedLists.{edited-in_order}
 use Rattle.clr_rules.proofs.lists.Greatest.{greatest-put, greatest-put_over}
 use Rattle.clr_rules.proofs.lists.Filters.{filter-kept, filter-no_member, name_says, there_mapped}
-use Rattle.clr_rules.proofs.lists.NamedRows.{Contains-filter}
 use Rattle.clr_rules.proofs.edits.Refusing.{edited-has_record}
 use Rattle.clr_rules.proofs.isolation.Sparing.{holds_of-others, holds_of-others_taken}
 use Rattle.clr_rules.proofs.isolation.PartEdits.{part_near-edited_all}

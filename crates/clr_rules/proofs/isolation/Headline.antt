@@ -1,38 +1,22 @@
 -- The headline's first half, from the steps: by the first list of commands, and inside it by the second, past what shows nothing.
-use Rattle.std.proofs.Common.{◌≡◌, ℕ, Bool, true, false, cond, ◌||◌, ◌++◌, not, List, [], ◌∷◌, Option, refl, sym, ◌∙◌, ap, subst}
-use Rattle.std.specs.Prelude.{if◌then◌else◌}
-use Rattle.std.specs.List.{filter, find, list_all}
+use Rattle.std.proofs.Common.{◌≡◌, ℕ, Bool, true, false, cond, ◌||◌, ◌++◌, not, List, [], ◌∷◌, Option, refl, sym, ◌∙◌, ap, subst, if◌then◌else◌, filter, find}
+use Rattle.clr_rules.proofs.Common.{list_all, nat_list_cmp_total, nat_list_eq_equiv, texts_ties, Grid, name_cmp, same_name, has_name, one_name, same_itself, row_of, SectionRow, StaffRow, Agree}
+use Rattle.clr_rules.proofs.Common.{Answer, answer, clearance_fence, IsGood, ListsAreInOrder, is_operators, Edit, AddSection, Command, Kind, Id, Register, after_edit, after_edits, after, after_all}
+use Rattle.clr_rules.proofs.Common.{Request}
 use Rattle.std.proofs.lemmas.Bool.{and_from, and_parts, both_ways, false≢true, false_from_ne_true, not-true, or_left, or_parts, or_right}
-use Rattle.std.proofs.lemmas.Cmp.{nat_list_cmp_total, nat_list_eq_equiv}
 use Rattle.std.proofs.lemmas.List.Folds.{list_any-append}
-use Rattle.std.specs.Cmp.Lexicographic.{texts_ties}
 use Rattle.clr_net.specs.Additions.{with_named}
-use Rattle.clr_net.specs.Grid.{Grid}
-use Rattle.clr_net.specs.Name.{name_cmp, same_name}
-use Rattle.clr_net.specs.Names.{has_name}
-use Rattle.clr_net.proofs.Walks.{one_name, same_itself}
 use Rattle.clr_shelf.proofs.Reading.{row_of-with_other}
-use Rattle.clr_shelf.specs.Rows.{row_of}
-use Rattle.clr_net.specs.declared.section.SectionRow.{SectionRow}
-use Rattle.clr_staff.specs.declared.employee.StaffRow.{StaffRow}
 use Rattle.clr_rules.proofs.edits.PlainEdits.{answers_plain}
-use Rattle.clr_rules.specs.Agreement.{Agree}
-use Rattle.clr_rules.specs.Answer.{Answer, answer}
 use Rattle.clr_rules.specs.Checks.{employee, has_role, is_operator}
-use Rattle.clr_rules.specs.Fences.{clearance_fence}
-use Rattle.clr_rules.specs.Good.{IsGood, ListsAreInOrder, is_operators}
-use Rattle.clr_rules.specs.Prelude.{Edit, AddSection, Command, Kind, Id, Register, after_edit, after_edits}
 use Rattle.clr_rules.specs.Isolation.{AreAlike, OwnCommandsAlone, ReachedShowTheSame, SameShownSameAnswers, is_own_item}
-use Rattle.clr_rules.specs.Run.{after, after_all}
 use Rattle.clr_rules.specs.Shown.{Item, added_sections, asked_of, asked_row, asked_sections, section_of, sections_of, covers, with_marks, includes, is_own_command, marks_of, own_answers, items_shown}
-use Rattle.clr_rules.specs.declared.command.Kind.TheVariants.{Request}
 use Rattle.clr_rules.proofs.isolation.Agreement.{agrees_with_itself}
 use Rattle.clr_rules.proofs.edits.EditedLists.{edited_all-in_order, edited_all-network, edited_all-staff}
 use Rattle.clr_rules.proofs.keeps.EveryKind.{commands_keep_good, reached_are_good}
 use Rattle.clr_rules.proofs.isolation.OthersSteps.{first_step, others_step, second_step}
 use Rattle.clr_rules.proofs.isolation.OwnSteps.{own_is_no_jumper, own_step}
 use Rattle.clr_rules.proofs.edits.Growing.{named_is_put}
-use Rattle.clr_rules.proofs.edits.PlainEdits.{answers_plain}
 
 -- ---- what a first command shows and is answered
 

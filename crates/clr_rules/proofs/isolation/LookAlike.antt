@@ -1,41 +1,23 @@
 -- Registers that agree near a clearance give its own commands the same near part.
-use Rattle.std.proofs.Common.{◌≡◌, ◌∙◌, inl, inr, ⊎_elim, ℕ, Bool, true, false, ◌&&◌, ◌||◌, List, [], ◌∷◌, Option, Some, None, refl, sym, ap, subst}
-use Rattle.std.specs.List.{filter, find, Contains}
-use Rattle.std.specs.List.Sorted.{IsStrictlySortedBy}
-use Rattle.std.specs.Option.{option_to_list}
-use Rattle.std.specs.declared.cmp.Ordering.TheVariants.{Less, Equal}
-use Rattle.std.proofs.lemmas.Bool.{and_parts, false≢true, false_from_ne_true}
-use Rattle.std.proofs.lemmas.Cmp.{nat_list_cmp_total, tied_itself}
-use Rattle.std.proofs.lemmas.List.Elements.{All-contains}
+use Rattle.std.proofs.Common.{◌≡◌, ◌∙◌, inl, inr, ⊎_elim, ℕ, Bool, true, false, ◌&&◌, ◌||◌, List, [], ◌∷◌, Option, Some, None, refl, sym, ap, subst, filter, find, Contains, option_to_list, Less}
+use Rattle.std.proofs.Common.{Equal}
+use Rattle.clr_rules.proofs.Common.{IsStrictlySortedBy, and_parts, false≢true, false_from_ne_true, nat_list_cmp_total, tied_itself, All-contains, same_Some, point_names, section_names, name_cmp}
+use Rattle.clr_rules.proofs.Common.{same_name, has_name, PointRow, SectionRow, one_name, StaffRow, filter-filter_wider, named_clearance, is_near_hold, is_order, Request, Switch, one_id, own_id}
 use Rattle.std.proofs.lemmas.Map.Keys.{sorted_tail}
 use Rattle.std.proofs.lemmas.Map.Views.{All-after_first}
-use Rattle.std.proofs.lemmas.Option.{same_Some}
-use Rattle.clr_net.specs.Grid.{point_names, section_names}
-use Rattle.clr_net.specs.Name.{name_cmp, same_name}
-use Rattle.clr_net.specs.Names.{has_name}
-use Rattle.clr_net.specs.declared.point.PointRow.{PointRow}
-use Rattle.clr_net.specs.declared.section.SectionRow.{SectionRow}
-use Rattle.clr_net.proofs.Walks.{one_name}
-use Rattle.clr_staff.specs.declared.employee.StaffRow.{StaffRow}
-use Rattle.clr_shelf.proofs.Lists.{filter-filter_wider}
 use Rattle.clr_rules.specs.Agreement.{Agree, extent_near, part_near}
 use Rattle.clr_rules.specs.Answer.{crossed_for, fence_for, known_of, requester_for}
 use Rattle.clr_rules.specs.Checks.{employee, has_role, is_operator}
-use Rattle.clr_rules.specs.Command.{named_clearance}
 use Rattle.clr_rules.specs.Fences.{clearance_fence, order_fence, touching_names}
 use Rattle.clr_rules.specs.Good.{IsGoodAsSaid, SwitchOrdersAreOperators, is_operators}
-use Rattle.clr_rules.specs.Holds.{is_near_hold}
-use Rattle.clr_rules.specs.Prelude.{Command, Kind, Hold, PointState, Record, StepRow, Id, same_id, Register, greatest_number, record_of}
+use Rattle.clr_rules.specs.Prelude.{Command, Kind, Hold, PointState, Record, StepRow, Id, same_id, Register, greatest_number, record_of, Order}
 use Rattle.clr_rules.specs.Isolation.{AreAlike}
 use Rattle.clr_rules.specs.Near.{is_asked, is_beside, near_of, near_part, part, switched_points, switched_by}
-use Rattle.clr_rules.specs.laws.Near.{is_order}
 use Rattle.clr_rules.specs.Shown.{asked_row, covers, fence_to_come, found_phase_requested, includes, is_own_command, is_own_kind}
-use Rattle.clr_rules.specs.declared.command.Kind.TheVariants.{Request, Order, Switch}
 use Rattle.clr_rules.proofs.lists.Filters.{filter-no_member, itself_says, there_mapped}
 use Rattle.clr_rules.proofs.near.NearNamed.{near_named, no_jumper, none_crossed}
 use Rattle.clr_rules.proofs.near.NearParts.{fence_named, not_asked, or_false, request_near, switched_named}
 use Rattle.clr_rules.proofs.near.NearWords.{near_hold_says, touching_says}
-use Rattle.clr_rules.proofs.lists.RoundSteps.{one_id, own_id}
 use Rattle.clr_rules.proofs.isolation.SameFences.{included, points-part, same_clearance_fence, same_order_fence}
 
 -- ---- a part that is seen in the part near a clearance as in the whole register

@@ -1,46 +1,34 @@
 -- The edits of commands about others spare a clearance.
-use Rattle.std.proofs.Common.{◌≡◌, ℕ, ◌+◌, Bool, true, false, cond, ◌||◌, not, List, [], ◌∷◌, ◌++◌, map, Option, Some, None, is_some, refl, sym, ◌∙◌, ap, subst}
-use Rattle.std.specs.Prelude.{if◌then◌else◌}
-use Rattle.std.proofs.lemmas.Bool.{and_from, false≢true, false_from_ne_true, not-true, not_from_false, true≢false}
+use Rattle.std.proofs.Common.{◌≡◌, ℕ, ◌+◌, Bool, true, false, cond, ◌||◌, not, List, [], ◌∷◌, ◌++◌, map, Option, Some, None, is_some, refl, sym, ◌∙◌, ap, subst, if◌then◌else◌, true≢false}
+use Rattle.clr_rules.proofs.Common.{and_from, false≢true, false_from_ne_true, not-true, not_from_false, Grid, point_names, section_names, has_name, PointRow, Task, Action, Known, checks, edits_of}
+use Rattle.clr_rules.proofs.Common.{is_jumper, named_clearance, of_round, outlook_of, is_fenced, is_switch_order, after, hand_in, is_hand, of_round_is, one_id, record_id}
 use Rattle.std.proofs.lemmas.List.Folds.{list_all-append}
-use Rattle.clr_net.specs.Grid.{Grid, point_names, section_names}
-use Rattle.clr_net.specs.Names.{has_name}
-use Rattle.clr_net.specs.declared.point.PointRow.{PointRow}
 use Rattle.clr_net.specs.declared.point.Position.TheVariants.{Closed as Shut}
-use Rattle.clr_order.specs.Step.{Task}
-use Rattle.clr_order.specs.declared.action.Action.{Action}
-use Rattle.clr_order.specs.declared.action.Action.TheVariants as actions
 use Rattle.clr_rules.specs.Answer.{Answer, answer, reply_clearance, first_refusal, known_of, requester_for, answer_by_checks}
-use Rattle.clr_rules.specs.Commands.{Known, checks, edits_of}
 use Rattle.clr_rules.specs.Changes.{added_edits, done_edits, edits_by, new_jumper, new_section, new_steps, point_edits, put_steps, undone_edits, with_record, with_step}
 use Rattle.clr_rules.specs.Checks.{other_hand, refuse, where_some}
-use Rattle.clr_rules.specs.Command.{is_jumper, named_clearance}
-use Rattle.clr_rules.specs.Prelude.{Edit, SetPosition, SetHand, TakeHold, PutRecord, PutStep, AddSection, AddPoint, Command, PointState, state_of, Kind, HeldOpen, Tested, Record, Refusal, StepRow, Id, same_id, Register, hand_of, has_in_hand, greatest_number, record_of}
-use Rattle.clr_rules.specs.Prelude.{is_running, points_of, present_steps, steps_in, step_at, has_hold, hold_of, places_of}
+use Rattle.clr_rules.specs.Prelude.{Edit, SetPosition, SetHand, TakeHold, PutRecord, PutStep, AddSection, AddPoint, Command, PointState, state_of, Kind, HeldOpen, Tested, Record, Refusal, StepRow, Id}
+use Rattle.clr_rules.specs.Prelude.{same_id, Register, hand_of, has_in_hand, greatest_number, record_of, is_running, points_of, present_steps, steps_in, step_at, has_hold, hold_of, places_of}
 use Rattle.clr_rules.specs.Fences.{clearance_fence, found_fence, work_fence}
 use Rattle.clr_rules.specs.Footprint.{Frame, all_spare, both_or_neither, spares}
 use Rattle.clr_rules.specs.laws.Frame.{HandsMatchToReport, is_report, subject_of}
 use Rattle.clr_rules.specs.Good.{HandMatchesStep, IsGood, IsGoodAsSaid, ListsAreInOrder, PointsAreKnown}
-use Rattle.clr_rules.specs.GoodByPhase.{of_round, outlook_of}
 use Rattle.clr_rules.specs.Id.{same_id_equiv}
 use Rattle.clr_rules.specs.Isolation.{HeldStayOpen, LeftAlone, PointsAreKnownToJumper, is_about_another, is_others}
-use Rattle.clr_rules.specs.Records.{is_fenced, is_switch_order}
-use Rattle.clr_rules.specs.Run.{after}
-use Rattle.clr_rules.specs.States.{hand_in, is_hand}
 use Rattle.clr_rules.specs.Steps.{is_close, is_repeated}
 use Rattle.clr_rules.specs.declared.refusal.Refusal.TheVariants.{InHand, StepState as WrongState}
-use Rattle.clr_rules.specs.declared.command.Kind.TheVariants as kinds
 use Rattle.clr_rules.proofs.lists.FoundSteps.{present_step, step_is_active, step_is_closing}
 use Rattle.clr_rules.proofs.lists.NewNumbers.{new_is_another}
 use Rattle.clr_rules.proofs.edits.AddedEdits.{jumper_can}
 use Rattle.clr_rules.proofs.edits.Passing.{all_pass, not_refused_true, role_begun}
-use Rattle.clr_rules.proofs.lists.RoundSteps.{of_round_is, one_id, record_id}
 use Rattle.clr_rules.proofs.isolation.Sparing.{has_hold-same, sparing_edits_keep_outlook, sparing_edits_leave_alone}
 use Rattle.clr_rules.proofs.edits.EditedLists.{edited_all-network}
 use Rattle.clr_rules.proofs.edits.PlainEdits.{answers_plain}
 use Rattle.clr_rules.proofs.keeps.Jumper.{jumpers_keep_fences}
 use Rattle.clr_rules.proofs.lists.StateFacts.{state_is_known}
 use Rattle.clr_rules.proofs.lists.StepSplits.{repeated_is_active}
+use Rattle.clr_order.specs.declared.action.Action.TheVariants as actions
+use Rattle.clr_rules.specs.declared.command.Kind.TheVariants as kinds
 
 -- ---- hands of another
 

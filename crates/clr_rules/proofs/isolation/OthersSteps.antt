@@ -1,47 +1,30 @@
 -- Registers that agree near a clearance still do after commands of others.
-use Rattle.std.proofs.Common.{◌≡◌, ℕ, Bool, true, false, cond, ◌&&◌, not, List, [], ◌∷◌, Option, Some, None, is_some, refl, sym, ◌∙◌, ap, subst}
-use Rattle.std.specs.List.{Contains}
+use Rattle.std.proofs.Common.{◌≡◌, ℕ, Bool, true, false, cond, ◌&&◌, not, List, [], ◌∷◌, Option, Some, None, is_some, refl, sym, ◌∙◌, ap, subst, Contains}
 use Rattle.std.proofs.lemmas.Bool.{and_parts, both_ways, false≢true, false_from_ne_true, not-true, not-false, not_from_false, or_left, or_parts, or_right}
 use Rattle.std.proofs.lemmas.List.Elements.{All-contains_itself, All-nil, All-weaker}
 use Rattle.clr_net.specs.Additions.{fits_point, fits_section, with_section}
-use Rattle.clr_net.specs.Grid.{Grid, section_names}
-use Rattle.clr_net.specs.Name.{same_name}
-use Rattle.clr_net.specs.Names.{has_name}
-use Rattle.clr_net.specs.declared.point.PointRow.{PointRow}
-use Rattle.clr_net.proofs.Walks.{one_name}
-use Rattle.clr_staff.specs.declared.employee.StaffRow.{StaffRow}
-use Rattle.clr_order.specs.Step.{Task}
-use Rattle.clr_shelf.proofs.Lists.{list_all-contains}
+use Rattle.clr_rules.proofs.Common.{Grid, section_names, same_name, has_name, PointRow, one_name, StaffRow, Task, list_all-contains, Agree, Answer, answer, first_refusal, known_of, answer_by_checks}
+use Rattle.clr_rules.proofs.Common.{Known, checks, is_jumper, named_clearance, refusal_of, fit, after, Jumper, Request, Switch, one_id, own_id}
 use Rattle.clr_rules.proofs.edits.AddedEdits.{added_edits_fit, jumper_can}
 use Rattle.clr_rules.proofs.edits.PlainEdits.{answers_plain}
 use Rattle.clr_rules.proofs.good.Keeping.{asked}
 use Rattle.clr_rules.proofs.isolation.Additions.{added_points_are_free, additions_change_by_marks}
-use Rattle.clr_rules.proofs.isolation.Agreement.{no_marks}
+use Rattle.clr_rules.proofs.isolation.Agreement.{no_marks, agrees_on, agrees_with_itself, same_edits_agree, same_marks_agree}
 use Rattle.clr_rules.proofs.isolation.PartEdits.{others_change_by_marks}
-use Rattle.clr_rules.specs.Agreement.{Agree}
 use Rattle.clr_rules.specs.laws.Agreement.{ChangesByMarks, is_about, is_new_of}
-use Rattle.clr_rules.specs.Answer.{Answer, answer, first_refusal, known_of, answer_by_checks}
 use Rattle.clr_rules.specs.laws.Additions.{IsFree}
 use Rattle.clr_rules.specs.Changes.{new_jumper, new_section}
-use Rattle.clr_rules.specs.Commands.{Known, checks}
 use Rattle.clr_rules.specs.Checks.{employee, has_role, is_operator, refuse, where_some}
-use Rattle.clr_rules.specs.Command.{is_jumper, named_clearance}
-use Rattle.clr_rules.specs.laws.Edits.{refusal_of}
-use Rattle.clr_rules.specs.Edits.{fit}
 use Rattle.clr_rules.specs.Prelude.{Edit, SetPosition, SetHand, PutHold, TakeHold, PutRecord, PutStep, AddSection, AddPoint, Command, Kind, Record, Refusal, Id, same_id, Register, after_edits}
+use Rattle.clr_rules.specs.Prelude.{UnknownCaller, WrongRole}
 use Rattle.clr_rules.specs.Footprint.{spares}
 use Rattle.clr_rules.specs.laws.Frame.{HandsMatchToReport}
 use Rattle.clr_rules.specs.Good.{IsGoodAsSaid, ListsAreInOrder, PointsAreKnown, has_record, is_operators}
 use Rattle.clr_rules.specs.Isolation.{AreAlike, PointsAreKnownToJumper, is_about_another, is_others}
-use Rattle.clr_rules.specs.Run.{after}
 use Rattle.clr_rules.specs.Shown.{is_own_command, is_own_kind, marks_of}
 use Rattle.clr_rules.specs.laws.Steps.{AreOfOthers}
-use Rattle.clr_rules.specs.declared.command.Kind.TheVariants.{Jumper, Request, Switch}
-use Rattle.clr_rules.specs.declared.refusal.Refusal.TheVariants.{UnknownCaller, WrongRole}
-use Rattle.clr_rules.proofs.isolation.Agreement.{agrees_on, agrees_with_itself, same_edits_agree, same_marks_agree}
 use Rattle.clr_rules.proofs.isolation.OthersEdits.{others_edits_spare}
 use Rattle.clr_rules.proofs.edits.Passing.{all_pass, named_recorded, not_refused_true}
-use Rattle.clr_rules.proofs.lists.RoundSteps.{one_id, own_id}
 
 -- ---- who gives a command of others
 

@@ -1,27 +1,19 @@
 -- Registers that agree near a clearance answer its own commands alike, and agree again.
 use Rattle.std.proofs.Common.{◌≡◌, ℕ, Bool, true, false, List, [], ◌∷◌, Option, Some, None, refl, sym, ◌∙◌, ap, subst}
-use Rattle.std.proofs.lemmas.Bool.{both_ways, false≢true}
-use Rattle.clr_order.specs.Step.{Task}
-use Rattle.clr_rules.specs.Answer.{answer, first_refusal, known_of, answer_by_checks}
+use Rattle.clr_rules.proofs.Common.{both_ways, false≢true, Task, answer, first_refusal, known_of, answer_by_checks, is_order, SameOwn, is_jumper, named_clearance, Jumper, one_id}
 use Rattle.clr_rules.specs.Checks.{is_operator, unsound_order}
 use Rattle.clr_rules.specs.Commands.{by_operator}
 use Rattle.clr_rules.specs.Fences.{order_fence}
-use Rattle.clr_rules.specs.Prelude.{Command, Kind, Refusal, Id, Register, record_of}
+use Rattle.clr_rules.specs.Prelude.{Command, Kind, Refusal, Id, Register, record_of, Order, Refused}
 use Rattle.clr_rules.specs.Isolation.{AreAlike, OwnStep}
-use Rattle.clr_rules.specs.laws.Near.{is_order}
-use Rattle.clr_rules.specs.laws.Own.{SameOwn}
 use Rattle.clr_rules.specs.Records.{is_requested}
 use Rattle.clr_rules.specs.Shown.{asked_row, found_phase_requested, is_own_command, is_own_kind}
-use Rattle.clr_rules.specs.Command.{is_jumper, named_clearance}
-use Rattle.clr_rules.specs.declared.command.Kind.TheVariants.{Jumper, Order}
-use Rattle.clr_rules.specs.declared.reply.Reply.TheVariants.{Refused}
 use Rattle.clr_rules.proofs.isolation.LookAlike.{look_alike}
 use Rattle.clr_rules.proofs.near.NewAnswers.{same_near_same_answer}
 use Rattle.clr_rules.proofs.isolation.OthersSteps.{same_answers_agree}
 use Rattle.clr_rules.proofs.near.OwnChecks.{same_by_role}
 use Rattle.clr_rules.proofs.near.OwnParts.{agreeing_have_same}
 use Rattle.clr_rules.proofs.edits.Passing.{all_pass, first_stops, role_begun}
-use Rattle.clr_rules.proofs.lists.RoundSteps.{one_id}
 
 -- ---- an order of a clearance that is not Requested is refused alike
 

@@ -1,34 +1,19 @@
 -- What edits do to what stands near a clearance: they change it exactly by those of them that concern it.
-use Rattle.std.proofs.Common.{not, ◌≡◌, ℕ, Bool, true, false, cond, List, [], ◌∷◌, Option, None, Some, refl, sym, ◌∙◌, ap}
-use Rattle.std.specs.List.{filter, All}
-use Rattle.std.specs.Ordering.{is_eq}
-use Rattle.std.proofs.lemmas.Cmp.{nat_list_cmp_total}
-use Rattle.std.proofs.lemmas.List.Elements.{All-head, All-tail}
-use Rattle.clr_net.specs.Grid.{Grid}
-use Rattle.clr_net.specs.Name.{name_cmp}
-use Rattle.clr_net.specs.Names.{has_name}
-use Rattle.clr_net.specs.declared.point.Position.{Position}
+use Rattle.std.proofs.Common.{not, ◌≡◌, ℕ, Bool, true, false, cond, List, [], ◌∷◌, Option, None, Some, refl, sym, ◌∙◌, ap, filter, All, is_eq}
+use Rattle.clr_rules.proofs.Common.{nat_list_cmp_total, All-head, All-tail, Grid, name_cmp, has_name, Position, equal, same_text, member-row_of, in_key_order, and_parts, adds, adds_nothing, Edit}
+use Rattle.clr_rules.proofs.Common.{SetPosition, SetHand, PutHold, TakeHold, PutRecord, PutStep, AddSection, AddPoint, Hold, PointState, Record, StepRow, Id, id_cmp, id_cmp_total, same_id, Register}
+use Rattle.clr_rules.proofs.Common.{state_key, state_of, record_key, step_key, step_key_cmp, step_key_cmp_total, hold_cmp, hold_cmp_total, hold_key, after_edit, after_edits, touching_names}
+use Rattle.clr_rules.proofs.Common.{ListsAreInOrder, is_near_hold}
 use Rattle.clr_shelf.proofs.Groups.{filter-with_inside, filter-with_far, filter-without_row, filter-without_far, row_of-filter_inside}
-use Rattle.clr_shelf.proofs.Keys.{equal, same_text}
-use Rattle.clr_shelf.proofs.Members.{member-row_of}
-use Rattle.clr_shelf.specs.Rows.{in_key_order}
-use Rattle.std.proofs.lemmas.Bool.{and_parts}
-use Rattle.clr_rules.specs.laws.Edits.{adds, adds_nothing}
-use Rattle.clr_rules.proofs.edits.EditedLists.{not_false}
+use Rattle.clr_rules.proofs.edits.EditedLists.{not_false, edited-in_order, edited_all-network}
 use Rattle.clr_rules.specs.Agreement.{part_near}
 use Rattle.clr_rules.specs.laws.Agreement.{concerning, concerns, is_about}
-use Rattle.clr_rules.specs.Prelude.{Edit, SetPosition, SetHand, PutHold, TakeHold, PutRecord, PutStep, AddSection, AddPoint, Hold, PointState, Record, StepRow, Id, id_cmp, id_cmp_total, same_id, Register, state_key, state_of, record_key, step_key}
-use Rattle.clr_rules.specs.Prelude.{step_key_cmp, step_key_cmp_total, hold_cmp, hold_cmp_total, hold_key, after_edit, after_edits}
-use Rattle.clr_rules.specs.Fences.{touching_names}
-use Rattle.clr_rules.specs.Good.{ListsAreInOrder}
 use Rattle.clr_rules.specs.Hold.{same_hold}
-use Rattle.clr_rules.specs.Holds.{is_near_hold}
 use Rattle.clr_rules.specs.Id.{same_id_from_tie}
 use Rattle.clr_rules.specs.Near.{Extent, part}
 use Rattle.clr_rules.specs.Shown.{is_mark, marks_of}
 use Rattle.clr_rules.specs.StepKey.{same_step_key}
 use Rattle.clr_rules.specs.States.{change_state, changed_state}
-use Rattle.clr_rules.proofs.edits.EditedLists.{edited-in_order, edited_all-network}
 
 -- ---- a state that is changed, in the group of some points
 

@@ -1,10 +1,6 @@
 -- The headline of a run, from what the run did.
-use Rattle.std.proofs.Common.{◌≡◌, ◌∙◌, Bool, true, false, List, [], ◌∷◌, refl, sym, ap, subst, map}
-use Rattle.std.specs.Prelude.{if◌then◌else◌}
-use Rattle.clr_rules.specs.Agreement.{Agree}
-use Rattle.clr_rules.specs.Answer.{Answer, answer}
-use Rattle.clr_rules.specs.Prelude.{Command, Reply, Id, Register}
-use Rattle.clr_rules.specs.Run.{after, after_all, replies}
+use Rattle.std.proofs.Common.{◌≡◌, ◌∙◌, Bool, true, false, List, [], ◌∷◌, refl, sym, ap, subst, map, if◌then◌else◌}
+use Rattle.clr_rules.proofs.Common.{Agree, Answer, answer, Command, Reply, Id, Register, after, after_all, replies}
 use Rattle.clr_rules.specs.RunHeadline.{IsRun, OthersChangeNoReply, OthersTakeNothing, OwnStandAlone, own_replies}
 use Rattle.clr_rules.specs.Shown.{is_own_command, own_answers}
 use Rattle.clr_rules.proofs.keeps.EveryKind.{runs_keep_good}

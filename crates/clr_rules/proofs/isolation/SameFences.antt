@@ -1,32 +1,18 @@
 -- Registers that agree near a clearance have the same record, steps and fence of it.
-use Rattle.std.proofs.Common.{◌≡◌, ◌∙◌, ⊎_elim, ℕ, Bool, true, false, List, map, Option, Some, None, refl, sym, ap, subst}
-use Rattle.std.specs.Prelude.{IsTrue}
-use Rattle.std.specs.List.{filter}
-use Rattle.std.proofs.lemmas.Bool.{and_parts, or_cases, or_left, or_right}
-use Rattle.std.proofs.lemmas.List.Elements.{All-contains}
-use Rattle.clr_net.specs.Fence.{in_fence, touches}
-use Rattle.clr_net.specs.Grid.{Grid, section_names, unplaced}
+use Rattle.std.proofs.Common.{◌≡◌, ◌∙◌, ⊎_elim, ℕ, Bool, true, false, List, map, Option, Some, None, refl, sym, ap, subst, IsTrue, filter}
+use Rattle.clr_rules.proofs.Common.{and_parts, or_cases, or_left, or_right, All-contains, in_fence, touches, Grid, section_names, unplaced, has_name, PointRow, SectionRow, equal, filter-filter_wider}
+use Rattle.clr_rules.proofs.Common.{list_all-contains, member-row_of, IsGoodAsSaid, is_known_work, Record, StepRow, Id, id_cmp, id_cmp_total, same_id, Register, record_key, record_of, points_of}
+use Rattle.clr_rules.proofs.Common.{steps_in, is_fenced, is_of_round, own_id, record_id}
 use Rattle.clr_net.specs.Laws.{SameRowsAt}
-use Rattle.clr_net.specs.Names.{has_name}
 use Rattle.clr_net.proofs.Locality.{fences_are_local}
-use Rattle.clr_net.specs.declared.point.PointRow.{PointRow}
-use Rattle.clr_net.specs.declared.section.SectionRow.{SectionRow}
 use Rattle.clr_shelf.proofs.Groups.{row_of-filter_inside}
-use Rattle.clr_shelf.proofs.Keys.{equal}
-use Rattle.clr_shelf.proofs.Lists.{filter-filter_wider, list_all-contains}
-use Rattle.clr_shelf.proofs.Members.{member-row_of}
 use Rattle.clr_rules.specs.Agreement.{Agree, part_near}
 use Rattle.clr_rules.specs.Fences.{clearance_fence, found_fence, found_order_fence, order_fence, record_fence, touching_names, work_fence}
-use Rattle.clr_rules.specs.Good.{IsGoodAsSaid, is_known_work}
-use Rattle.clr_rules.specs.Prelude.{Record, StepRow, Id, id_cmp, id_cmp_total, same_id, Register, record_key, record_of, points_of, steps_in}
 use Rattle.clr_rules.specs.Id.{same_id_from_tie}
-use Rattle.clr_rules.specs.Records.{is_fenced}
 use Rattle.clr_rules.specs.Shown.{includes}
-use Rattle.clr_rules.specs.Steps.{is_of_round}
 use Rattle.clr_rules.proofs.isolation.Agreement.{touching_named}
 use Rattle.clr_rules.proofs.live.FenceCuts.{named_from_in_fence}
 use Rattle.clr_rules.proofs.lists.Filters.{filter-kept, name_says}
-use Rattle.clr_rules.proofs.lists.RoundSteps.{own_id, record_id}
 
 -- what stands among names that a set includes is in the set
 pub included : (inside : List ℕ → Bool) (names : List (List ℕ)) (s : List ℕ) → includes inside names ≡ true → has_name names s ≡ true → inside s ≡ true

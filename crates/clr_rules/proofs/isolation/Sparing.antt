@@ -1,32 +1,15 @@
 -- Edits that spare a clearance leave it alone.
-use Rattle.std.proofs.Common.{◌≡◌, ℕ, Bool, true, false, cond, ◌&&◌, not, List, [], ◌∷◌, Option, Some, None, is_some, refl, sym, ◌∙◌, ap}
-use Rattle.std.specs.Option.{option_map}
-use Rattle.std.specs.Ordering.{is_eq}
-use Rattle.std.proofs.lemmas.Bool.{and_parts, not-true}
-use Rattle.clr_net.proofs.Walks.{one_name}
-use Rattle.clr_net.specs.Name.{same_name}
-use Rattle.clr_net.specs.declared.point.Position.{Position}
+use Rattle.std.proofs.Common.{◌≡◌, ℕ, Bool, true, false, cond, ◌&&◌, not, List, [], ◌∷◌, Option, Some, None, is_some, refl, sym, ◌∙◌, ap, option_map, is_eq}
+use Rattle.clr_rules.proofs.Common.{and_parts, not-true, one_name, same_name, Position, equal, in_key_order, with_row, without_row, first_state, nat_list_cmp_total, unplaced, name_cmp, PointRow}
+use Rattle.clr_rules.proofs.Common.{same_text, row_of-with, state_key, Edit, SetPosition, SetHand, PutHold, TakeHold, PutRecord, PutStep, AddSection, AddPoint, Hold, HoldKind, HeldOpen, PointState}
+use Rattle.clr_rules.proofs.Common.{Record, StepRow, Id, id_cmp, same_id, Register, has_in_hand, position_of, state_of, record_key, record_of, step_key, step_key_cmp, step_key_cmp_total, steps_of}
+use Rattle.clr_rules.proofs.Common.{hold_cmp, hold_cmp_total, has_hold, hold_key, hold_of, holds_of, after_edit, after_edits, ListsAreInOrder, outlook_of, hand_in, is_hand}
 use Rattle.clr_net.specs.declared.point.Position.TheVariants.{Opened, Closed as Shut}
 use Rattle.clr_shelf.proofs.Groups.{filter-with_far, filter-without_far, row_of-filter_inside}
-use Rattle.clr_shelf.proofs.Keys.{equal}
-use Rattle.clr_shelf.specs.Rows.{in_key_order, with_row, without_row}
-use Rattle.clr_rules.specs.Register.{first_state}
-use Rattle.std.proofs.lemmas.Cmp.{nat_list_cmp_total}
-use Rattle.clr_net.specs.Grid.{unplaced}
-use Rattle.clr_net.specs.Name.{name_cmp}
-use Rattle.clr_net.specs.declared.point.PointRow.{PointRow}
-use Rattle.clr_shelf.proofs.Keys.{same_text}
-use Rattle.clr_shelf.proofs.Reading.{row_of-with}
-use Rattle.clr_rules.specs.States.{state_key}
 use Rattle.clr_rules.specs.laws.Edits.{changed_where}
-use Rattle.clr_rules.specs.Prelude.{Edit, SetPosition, SetHand, PutHold, TakeHold, PutRecord, PutStep, AddSection, AddPoint, Hold, HoldKind, HeldOpen, PointState, Record, StepRow, Id, id_cmp, same_id, Register, has_in_hand, position_of, state_of, record_key}
-use Rattle.clr_rules.specs.Prelude.{record_of, step_key, step_key_cmp, step_key_cmp_total, steps_of, hold_cmp, hold_cmp_total, has_hold, hold_key, hold_of, holds_of, after_edit, after_edits}
 use Rattle.clr_rules.specs.Footprint.{Frame, all_spare, both_or_neither, is_shut, spares}
-use Rattle.clr_rules.specs.Good.{ListsAreInOrder}
-use Rattle.clr_rules.specs.GoodByPhase.{outlook_of}
 use Rattle.clr_rules.specs.Hold.{same_hold}
 use Rattle.clr_rules.specs.Id.{same_id_equiv}
-use Rattle.clr_rules.specs.States.{hand_in, is_hand}
 use Rattle.clr_rules.specs.StepKey.{same_step_key}
 use Rattle.clr_rules.specs.declared.step_row.StepKey.{StepKey}
 use Rattle.clr_rules.proofs.edits.EditReading.{record_of-put, state_of-changed}

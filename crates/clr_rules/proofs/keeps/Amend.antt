@@ -1,20 +1,10 @@
 -- An operator amends a restoring order: a Close that waits becomes a Leave.
-use Rattle.std.proofs.Common.{◌≡◌, ℕ, Bool, true, false, not, ◌&&◌, ◌||◌, nat_eq, List, [], ◌∷◌, ◌++◌, Option, Some, None, refl, sym, ◌∙◌, ap, subst}
-use Rattle.std.proofs.lemmas.Bool.{and_from, and_parts, eqb-true, false≢true}
-use Rattle.clr_net.specs.Grid.{Grid}
-use Rattle.clr_net.specs.Name.{same_name}
-use Rattle.clr_order.specs.Isolating.{IsSoundOrder}
+use Rattle.std.proofs.Common.{◌≡◌, ℕ, Bool, true, false, not, ◌&&◌, ◌||◌, nat_eq, List, [], ◌∷◌, ◌++◌, Option, Some, None, refl, sym, ◌∙◌, ap, subst, eqb-true}
+use Rattle.clr_rules.proofs.Common.{and_from, and_parts, false≢true, Grid, same_name, IsSoundOrder, Task, actions_at, task, Action, refuse, steps_left_of, is_close, record_id}
 use Rattle.clr_order.specs.Needed.{undoes}
-use Rattle.clr_order.specs.Step.{Task, actions_at, task}
-use Rattle.clr_order.specs.declared.action.Action.{Action}
-use Rattle.clr_order.specs.declared.action.Action.TheVariants as actions
-use Rattle.clr_rules.specs.Checks.{refuse}
-use Rattle.clr_rules.specs.Prelude.{Edit, PutRecord, PutStep, HoldKind, HeldOpen, Block, Control, Tag, Phase, Restoring, Record, StepRow, Id, Register, record_of, is_restoring}
-use Rattle.clr_rules.specs.Prelude.{is_active, is_done, is_some_step, is_waiting, points_of, present_steps, step_at, steps_of, tasks_of, first_of_each, after_edits}
-use Rattle.clr_rules.specs.Good.{steps_left_of}
+use Rattle.clr_rules.specs.Prelude.{Edit, PutRecord, PutStep, HoldKind, HeldOpen, Block, Control, Tag, Phase, Restoring, Record, StepRow, Id, Register, record_of, is_restoring, is_active, is_done}
+use Rattle.clr_rules.specs.Prelude.{is_some_step, is_waiting, points_of, present_steps, step_at, steps_of, tasks_of, first_of_each, after_edits, Amend}
 use Rattle.clr_rules.specs.GoodByPhase.{InPhase, InRestoring, IsGoodByPhase, all_waiting, go_in_turn, of_round, outlook_of, present_of}
-use Rattle.clr_rules.specs.Steps.{is_close}
-use Rattle.clr_rules.specs.declared.command.Kind.TheVariants.{Amend}
 use Rattle.clr_rules.specs.declared.refusal.Refusal.TheVariants.{StepState as WrongState}
 use Rattle.clr_rules.proofs.good.Keeping.{KeepsGood, commands_keep, keeps}
 use Rattle.clr_rules.proofs.keeps.OneRecord.{in_phase_of}
@@ -23,9 +13,9 @@ use Rattle.clr_rules.proofs.edits.Passing.{check_of_found, not_refused_true, rol
 use Rattle.clr_rules.proofs.edits.PresentSteps.{IsPresent, found_step_edits, step_there}
 use Rattle.clr_rules.proofs.edits.PutRecords.{put_changes, quiet}
 use Rattle.clr_rules.proofs.edits.PutSteps.{StepPut, closes_at, closing_by, known_put, others_put, phase_by, place_by, put_step, step_put}
-use Rattle.clr_rules.proofs.lists.RoundSteps.{record_id}
 use Rattle.clr_rules.proofs.edits.StepMoves.{some_step_between}
 use Rattle.clr_rules.proofs.lists.StepSplits.{All-swap, any-swap, of_round-far, of_round-here, waits_not_active, waiting_not_done}
+use Rattle.clr_order.specs.declared.action.Action.TheVariants as actions
 
 -- ---- a Leave undoes what a Close does
 
@@ -47,9 +37,7 @@ close_left (actions.Leave ∷ first) t c b h more is =
     let parts = and_parts (not (t || (c || b)) && h) (undoes t c b false (first ++ actions.Close ∷ more)) is in
     and_from (not (t || (c || b)) && h) (undoes t c b false (first ++ actions.Leave ∷ more)) parts.0 (close_left first t c b false more parts.1)
 close_left (actions.Open ∷ first) t c b h more is = absurd (false≢true is)
-close_left (actions.Block ∷ first) t c b h more is = absurd (false≢true is)
-close_left (actions.Control ∷ first) t c b h more is = absurd (false≢true is)
-close_left (actions.Tag ∷ first) t c b h more is = absurd (false≢true is)
+close_left (_ ∷ first) t c b h more is = absurd (false≢true is)
 
 -- the actions at a point of a split list of tasks
 actions_split : (before : List Task) (x : Task) (after : List Task) (q : List ℕ) → same_name q x.point ≡ true
@@ -108,13 +96,7 @@ left_split (row ∷ before) x after rests = at (is_done row.step.state) refl (le
 is_the_close : (a : Action) → is_close a ≡ true → a ≡ actions.Close
 is_the_close actions.Close h = refl
 is_the_close actions.Open h = absurd (false≢true h)
-is_the_close actions.Block h = absurd (false≢true h)
-is_the_close actions.Control h = absurd (false≢true h)
-is_the_close actions.Tag h = absurd (false≢true h)
-is_the_close actions.Untag h = absurd (false≢true h)
-is_the_close actions.Uncontrol h = absurd (false≢true h)
-is_the_close actions.Unblock h = absurd (false≢true h)
-is_the_close actions.Leave h = absurd (false≢true h)
+is_the_close _ h = absurd (false≢true h)
 
 -- the step with a Leave in the place of its action
 abbrev amended : StepRow → StepRow

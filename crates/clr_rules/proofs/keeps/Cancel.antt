@@ -1,20 +1,14 @@
 -- A cancel keeps a good register good: what was ordered and holds something is released, and anything else is closed.
 use Rattle.std.proofs.Common.{◌≡◌, ℕ, Bool, true, false, cond, ◌&&◌, List, [], ◌∷◌, Option, Some, None, refl, sym, ◌∙◌, ap}
-use Rattle.std.proofs.lemmas.Bool.{false≢true, false_from_ne_true}
-use Rattle.clr_net.specs.Grid.{Grid}
-use Rattle.clr_net.proofs.Walks.{any_from}
+use Rattle.clr_rules.proofs.Common.{false≢true, false_from_ne_true, Grid, any_from, InPhase, Outlook, outlook_of, some_active, hold_there, own_id, record_id}
 use Rattle.clr_rules.specs.Changes.{cancelled_phase}
-use Rattle.clr_rules.specs.GoodByPhase.{InPhase, Outlook, outlook_of}
 use Rattle.clr_rules.specs.Prelude.{PutRecord, Hold, HoldKind, Phase, Requested, Ordered, Released, Switching, Closed, Record, Id, same_id, is_ordered, steps_of, has_any_hold, has_hold, hold_of}
+use Rattle.clr_rules.specs.Prelude.{Cancel}
 use Rattle.clr_rules.specs.Records.{is_cancellable}
-use Rattle.clr_rules.specs.Steps.{some_active}
-use Rattle.clr_rules.specs.declared.command.Kind.TheVariants.{Cancel}
 use Rattle.clr_rules.specs.declared.refusal.Refusal.TheVariants.{StepState as WrongState}
 use Rattle.clr_rules.proofs.good.Keeping.{KeepsGood, commands_keep}
-use Rattle.clr_rules.proofs.lists.HoldMembers.{hold_there}
 use Rattle.clr_rules.proofs.keeps.OneRecord.{found_edits, in_phase_of, record_alone}
 use Rattle.clr_rules.proofs.edits.Passing.{holder_begun, not_refused}
-use Rattle.clr_rules.proofs.lists.RoundSteps.{own_id, record_id}
 
 -- a clearance without any hold has none
 no_hold_at : (holds : List Hold) (c : Id) → has_any_hold holds c ≡ false → (kind : HoldKind) (place : List ℕ) → has_hold holds c kind place ≡ false

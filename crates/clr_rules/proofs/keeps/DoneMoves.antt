@@ -1,22 +1,11 @@
 -- A step is Done, and the register is edited by its action: what it takes that it stays good.
-use Rattle.std.proofs.Common.{◌≡◌, ◌⊎◌, inl, inr, ⊎_elim, ℕ, Bool, true, false, cond, not, ◌&&◌, List, [], ◌∷◌, ◌++◌, Option, Some, None, is_some, Contains, refl, sym, ◌∙◌, ap, subst}
-use Rattle.std.specs.Option.{option_map}
-use Rattle.std.proofs.lemmas.Bool.{and_from, and_parts, both_ways, false≢true}
-use Rattle.std.proofs.lemmas.Cmp.{nat_list_eq_equiv}
-use Rattle.clr_net.specs.Name.{same_name}
-use Rattle.clr_net.specs.declared.point.Position.{Position}
+use Rattle.std.proofs.Common.{◌≡◌, ◌⊎◌, inl, inr, ⊎_elim, ℕ, Bool, true, false, cond, not, ◌&&◌, List, [], ◌∷◌, ◌++◌, Option, Some, None, is_some, Contains, refl, sym, ◌∙◌, ap, subst, option_map}
+use Rattle.clr_rules.proofs.Common.{and_from, and_parts, both_ways, false≢true, nat_list_eq_equiv, same_name, Position, any_from, one_name, same_itself, some_from, Done, with_row, without_row}
+use Rattle.clr_rules.proofs.Common.{step_moved, SetPosition, SetHand, PutHold, TakeHold, PutRecord, PutStep, Hold, HoldKind, HeldOpen, PointState, Record, StepRow, Id, id_cmp, same_id, Register}
+use Rattle.clr_rules.proofs.Common.{has_in_hand, position_of, state_of, record_key, record_of, is_active, steps_of, hold_cmp, is_point_kind, has_hold, hold_key, hold_of, same_kind, after_edits}
+use Rattle.clr_rules.proofs.Common.{is_closing_at, InPhase, IsGoodByPhase, Outlook, active_at, is_hand, is_close}
 use Rattle.clr_net.specs.declared.point.Position.TheVariants.{Opened, Closed as Shut}
-use Rattle.clr_net.proofs.Walks.{any_from, one_name, same_itself, some_from}
-use Rattle.clr_order.specs.declared.step.StepState.TheVariants.{Done}
-use Rattle.clr_shelf.specs.Rows.{with_row, without_row}
-use Rattle.clr_rules.specs.Changes.{step_moved}
-use Rattle.clr_rules.specs.Prelude.{SetPosition, SetHand, PutHold, TakeHold, PutRecord, PutStep, Hold, HoldKind, HeldOpen, PointState, Record, StepRow, Id, id_cmp, same_id, Register, has_in_hand, position_of, state_of, record_key}
-use Rattle.clr_rules.specs.Prelude.{record_of, is_active, steps_of, hold_cmp, is_point_kind, has_hold, hold_key, hold_of, same_kind, after_edits}
-use Rattle.clr_rules.specs.Good.{is_closing_at}
-use Rattle.clr_rules.specs.GoodByPhase.{InPhase, IsGoodByPhase, Outlook, active_at}
 use Rattle.clr_rules.specs.Id.{same_id_equiv}
-use Rattle.clr_rules.specs.States.{is_hand}
-use Rattle.clr_rules.specs.Steps.{is_close}
 use Rattle.clr_rules.proofs.lists.StateFacts.{hand_of-placed, with_hand, with_position, position_of-handed, position_of-placed, position_of-placed_other, state_of-changed}
 use Rattle.clr_rules.proofs.lists.HoldChanges.{kind_itself, others_hold_put, others_hold_taken, own_taken, was_or_put, was_there}
 use Rattle.clr_rules.proofs.good.Keeping.{keeps}

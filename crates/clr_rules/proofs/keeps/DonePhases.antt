@@ -1,23 +1,15 @@
 -- A step is Done, and its hold is put or taken: the clearance is as its phase wants it.
 use Rattle.std.proofs.Common.{◌≡◌, ℕ, Bool, true, false, not, ◌&&◌, ◌||◌, List, [], ◌∷◌, ◌++◌, Option, refl, sym, ◌∙◌, ap, subst}
-use Rattle.std.proofs.lemmas.Bool.{and_from, and_parts, both_ways, false≢true, false_from_ne_true}
-use Rattle.std.proofs.lemmas.Cmp.{nat_list_eq_equiv}
-use Rattle.std.proofs.lemmas.List.Elements.{All-head}
-use Rattle.clr_net.specs.Grid.{Grid}
-use Rattle.clr_net.specs.Name.{same_name}
-use Rattle.clr_net.proofs.Walks.{one_name, same_itself}
-use Rattle.clr_order.specs.Action.{is_switching}
+use Rattle.clr_rules.proofs.Common.{and_from, and_parts, both_ways, false≢true, false_from_ne_true, nat_list_eq_equiv, All-head, Grid, same_name, one_name, same_itself, is_switching, Task, actions_at}
+use Rattle.clr_rules.proofs.Common.{task, Action, steps_left_of, put_by, puts, HoldKind, HeldOpen, Block, Control, Tag, Tested, Ground, Crew, Record, StepRow, all_done, is_active, is_done, tasks_of}
+use Rattle.clr_rules.proofs.Common.{is_point_kind, same_kind}
 use Rattle.clr_order.specs.Needed.{undoes}
-use Rattle.clr_order.specs.Step.{Task, actions_at, task}
-use Rattle.clr_order.specs.declared.action.Action.{Action}
-use Rattle.clr_order.specs.declared.action.Action.TheVariants as actions
-use Rattle.clr_rules.specs.Good.{steps_left_of, put_by, puts}
 use Rattle.clr_rules.specs.GoodByPhase.{ActiveInRound, HoldsNothing, InClosed, InOrdered, InRestoring, InSwitching, of_round, present_of}
-use Rattle.clr_rules.specs.Prelude.{HoldKind, HeldOpen, Block, Control, Tag, Tested, Ground, Crew, Record, StepRow, all_done, is_active, is_done, tasks_of, is_point_kind, same_kind}
 use Rattle.clr_rules.proofs.lists.HoldChanges.{is_there, one_kind}
 use Rattle.clr_rules.proofs.good.PhaseFacts.{first_present}
 use Rattle.clr_rules.proofs.edits.StepMoves.{InMidst, given_out_again, isolates_again, one_round_again, own_round, own_round_was, present_again, same_points, second_again, some_active_is}
 use Rattle.clr_rules.proofs.lists.StepSplits.{All-before, All-swap, any-more, left_after_done, left_waiting}
+use Rattle.clr_order.specs.declared.action.Action.TheVariants as actions
 
 -- ---- what undoes, one action after the other
 
@@ -38,9 +30,7 @@ undoes_rest actions.Unblock t c b h rest is = (and_parts (not (t || c) && b) (un
 undoes_rest actions.Close t c b h rest is = (and_parts (not (t || (c || b)) && h) (undoes t c b false rest) is).1
 undoes_rest actions.Leave t c b h rest is = (and_parts (not (t || (c || b)) && h) (undoes t c b false rest) is).1
 undoes_rest actions.Open t c b h rest is = absurd (false≢true is)
-undoes_rest actions.Block t c b h rest is = absurd (false≢true is)
-undoes_rest actions.Control t c b h rest is = absurd (false≢true is)
-undoes_rest actions.Tag t c b h rest is = absurd (false≢true is)
+undoes_rest _ t c b h rest is = absurd (false≢true is)
 
 -- the last hold stands alone
 last_alone : (a : Action) (t c b h : Bool) (rest : List Action) → undoes t c b h (a ∷ rest) ≡ true → same_kind (undone_kind a) HeldOpen ≡ true → not (t || (c || b)) ≡ true
@@ -50,9 +40,7 @@ last_alone actions.Unblock t c b h rest is last = absurd (false≢true last)
 last_alone actions.Close t c b h rest is last = (and_parts (not (t || (c || b))) h (and_parts (not (t || (c || b)) && h) (undoes t c b false rest) is).0).0
 last_alone actions.Leave t c b h rest is last = (and_parts (not (t || (c || b))) h (and_parts (not (t || (c || b)) && h) (undoes t c b false rest) is).0).0
 last_alone actions.Open t c b h rest is last = absurd (false≢true is)
-last_alone actions.Block t c b h rest is last = absurd (false≢true is)
-last_alone actions.Control t c b h rest is last = absurd (false≢true is)
-last_alone actions.Tag t c b h rest is last = absurd (false≢true is)
+last_alone _ t c b h rest is last = absurd (false≢true is)
 
 -- where nothing is left to undo, nothing is held
 none_of_four : (t c b h : Bool) → not (t || (c || (b || h))) ≡ true → (t ≡ false) × (c ≡ false) × (b ≡ false) × (h ≡ false)

@@ -1,10 +1,8 @@
 -- Every command keeps a good register good, and so every register that is reached is good.
 use Rattle.std.proofs.Common.{List, [], ◌∷◌, sym, subst}
-use Rattle.clr_rules.specs.Good.{IsGood}
-use Rattle.clr_rules.specs.Prelude.{Command, Kind, Register}
-use Rattle.clr_rules.specs.Register.{opening}
-use Rattle.clr_rules.specs.Run.{IsReached, after, after_all}
-use Rattle.clr_rules.specs.declared.command.Kind.TheVariants.{Request, Order, Instruct, Repeat, Report, Grant, Test, Ground, Unground, SignOn, SignOff, Transfer, Release, Cancel, Restore, Amend, Switch, Show, Jumper}
+use Rattle.clr_rules.proofs.Common.{IsGood, Command, Kind, Register, opening, IsReached, after, after_all}
+use Rattle.clr_rules.specs.declared.command.Kind.TheVariants.{Request, Order, Instruct, Repeat, Report, Grant, Test, Ground, Unground, SignOn, SignOff, Transfer, Release, Cancel, Restore, Amend}
+use Rattle.clr_rules.specs.declared.command.Kind.TheVariants.{Switch, Show, Jumper}
 use Rattle.clr_rules.proofs.good.Keeping.{KeepsGood}
 use Rattle.clr_rules.proofs.keeps.Amend.{amends_keep}
 use Rattle.clr_rules.proofs.keeps.Cancel.{cancels_keep}

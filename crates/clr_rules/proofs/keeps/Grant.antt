@@ -1,13 +1,10 @@
 -- A grant keeps a good register good.
 use Rattle.std.proofs.Common.{◌≡◌, true, [], ◌∷◌, Some, refl}
-use Rattle.clr_rules.specs.GoodByPhase.{of_round, outlook_of}
-use Rattle.clr_rules.specs.Prelude.{PutRecord, Granted, Id, is_ordered, all_done, steps_in, steps_of}
-use Rattle.clr_rules.specs.declared.command.Kind.TheVariants.{Grant}
-use Rattle.clr_rules.specs.declared.refusal.Refusal.TheVariants.{StepsLeft}
+use Rattle.clr_rules.proofs.Common.{of_round, outlook_of, of_round_is}
+use Rattle.clr_rules.specs.Prelude.{PutRecord, Granted, Id, is_ordered, all_done, steps_in, steps_of, Grant, StepsLeft}
 use Rattle.clr_rules.proofs.good.Keeping.{KeepsGood, commands_keep}
 use Rattle.clr_rules.proofs.edits.Passing.{not_refused_true, role_begun}
 use Rattle.clr_rules.proofs.good.PlaceFacts.{to_granted}
-use Rattle.clr_rules.proofs.lists.RoundSteps.{of_round_is}
 use Rattle.clr_rules.proofs.keeps.OneRecord.{found_edits, in_phase_of, record_alone}
 
 pub grants_keep : (c : Id) → KeepsGood (Grant c)

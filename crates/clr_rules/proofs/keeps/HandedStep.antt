@@ -1,16 +1,8 @@
 -- A step moves on with its point's hand, without an action: it is given out, or reported not done.
 use Rattle.std.proofs.Common.{◌≡◌, ℕ, Bool, true, false, cond, ◌&&◌, List, [], ◌∷◌, ◌++◌, Option, Some, refl, sym, ◌∙◌, ap}
-use Rattle.std.proofs.lemmas.Bool.{and_parts}
-use Rattle.std.proofs.lemmas.Cmp.{nat_list_eq_equiv}
-use Rattle.clr_net.specs.Name.{same_name}
-use Rattle.clr_net.proofs.Walks.{one_name}
-use Rattle.clr_order.specs.Step.{task}
-use Rattle.clr_rules.specs.Prelude.{Edit, SetHand, PutRecord, PutStep, HoldKind, HeldOpen, Record, StepRow, Id, same_id, Register, has_in_hand, record_of, is_running, step_key, is_active, is_done, steps_of, is_point_kind, has_hold}
-use Rattle.clr_rules.specs.Prelude.{after_edits}
-use Rattle.clr_rules.specs.Good.{is_closing_at}
-use Rattle.clr_rules.specs.GoodByPhase.{IsGoodByPhase, active_at, outlook_of, present_of}
-use Rattle.clr_rules.specs.States.{is_hand}
-use Rattle.clr_rules.specs.Steps.{is_close}
+use Rattle.clr_rules.proofs.Common.{and_parts, nat_list_eq_equiv, same_name, one_name, task, Edit, SetHand, PutRecord, PutStep, HoldKind, HeldOpen, Record, StepRow, Id, same_id, Register, has_in_hand}
+use Rattle.clr_rules.proofs.Common.{record_of, is_running, step_key, is_active, is_done, steps_of, is_point_kind, has_hold, after_edits, is_closing_at, IsGoodByPhase, active_at, outlook_of}
+use Rattle.clr_rules.proofs.Common.{present_of, is_hand, is_close, one_id, record_id}
 use Rattle.clr_rules.proofs.lists.StateFacts.{with_hand, position_of-handed}
 use Rattle.clr_rules.proofs.good.Keeping.{keeps}
 use Rattle.clr_rules.proofs.keeps.OneRecord.{in_phase_of}
@@ -18,7 +10,6 @@ use Rattle.clr_rules.proofs.keeps.Repeat.{turns_split}
 use Rattle.clr_rules.proofs.edits.PresentSteps.{IsPresent}
 use Rattle.clr_rules.proofs.edits.PutRecords.{put_changes, same_closing}
 use Rattle.clr_rules.proofs.edits.PutSteps.{StepPut, closes_at, closing_by, hand_read, known_put, other_hands, others_put, phase_by, place_by, put_step, state_known, step_put}
-use Rattle.clr_rules.proofs.lists.RoundSteps.{one_id, record_id}
 use Rattle.clr_rules.proofs.edits.StepMoves.{InMidst, active-only, active_is, phase_again, turns_again}
 
 and_true : (a : Bool) → a ≡ (a && true)

@@ -1,24 +1,15 @@
 -- An instruction keeps a good register good: the point comes into the hand of the clearance.
-use Rattle.std.proofs.Common.{◌≡◌, ℕ, true, false, cond, ◌&&◌, List, [], ◌∷◌, filter, Option, Some, None, Contains, refl, sym, subst, arith}
-use Rattle.std.specs.List.{fold}
+use Rattle.std.proofs.Common.{◌≡◌, ℕ, true, false, cond, ◌&&◌, List, [], ◌∷◌, filter, Option, Some, None, Contains, refl, sym, subst, arith, fold}
 use Rattle.std.proofs.lemmas.Bool.{and_parts, false≢true, true_from_ne_false}
-use Rattle.clr_net.proofs.Walks.{same_itself}
-use Rattle.clr_order.specs.declared.step.StepState.TheVariants.{Instructed}
-use Rattle.clr_rules.specs.Changes.{step_moved}
+use Rattle.clr_rules.proofs.Common.{same_itself, step_moved, is_hand, is_close, is_in_turn, hold_there, Contains-filter, one_id, own_id}
+use Rattle.clr_rules.specs.Prelude.{Instructed, SetHand, PutRecord, PutStep, Hold, HoldKind, HeldOpen, Block, StepRow, Id, same_id, Register, hand_of, is_running, is_waiting, present_steps, step_at}
+use Rattle.clr_rules.specs.Prelude.{hold_of, same_kind, Instruct, OutOfTurn}
 use Rattle.clr_rules.specs.Checks.{held_by, other_hand}
-use Rattle.clr_rules.specs.Prelude.{SetHand, PutRecord, PutStep, Hold, HoldKind, HeldOpen, Block, StepRow, Id, same_id, Register, hand_of, is_running, is_waiting, present_steps, step_at, hold_of, same_kind}
 use Rattle.clr_rules.specs.Holds.{earlier_hold, first_hold, hindering_hold, hinders}
-use Rattle.clr_rules.specs.States.{is_hand}
-use Rattle.clr_rules.specs.Steps.{is_close, is_in_turn}
-use Rattle.clr_rules.specs.declared.command.Kind.TheVariants.{Instruct}
-use Rattle.clr_rules.specs.declared.refusal.Refusal.TheVariants.{OutOfTurn}
 use Rattle.clr_rules.proofs.good.Keeping.{KeepsGood, commands_keep}
-use Rattle.clr_rules.proofs.lists.HoldMembers.{hold_there}
 use Rattle.clr_rules.proofs.keeps.Repeat.{state_fits}
-use Rattle.clr_rules.proofs.lists.NamedRows.{Contains-filter}
 use Rattle.clr_rules.proofs.edits.Passing.{check_of_found, not_refused_true, role_begun}
 use Rattle.clr_rules.proofs.edits.PresentSteps.{found_step_edits, step_there, waiting_midst}
-use Rattle.clr_rules.proofs.lists.RoundSteps.{one_id, own_id}
 use Rattle.clr_rules.proofs.keeps.HandedStep.{IsFree, handed_keeps}
 use Rattle.clr_rules.proofs.lists.StepSplits.{waiting_not_done}
 

@@ -1,28 +1,13 @@
 -- A jumper keeps a good register good, and leaves the fence of each clearance as it is.
-use Rattle.std.proofs.Common.{◌≡◌, ◌∙◌, ℕ, Bool, true, false, cond, ◌&&◌, not, List, [], ◌∷◌, Option, Some, None, All, refl, sym, ap}
-use Rattle.std.specs.Prelude.{IsTrue}
-use Rattle.std.proofs.lemmas.Bool.{and_parts}
-use Rattle.std.proofs.lemmas.List.Elements.{All-contains}
+use Rattle.std.proofs.Common.{◌≡◌, ◌∙◌, ℕ, Bool, true, false, cond, ◌&&◌, not, List, [], ◌∷◌, Option, Some, None, All, refl, sym, ap, IsTrue}
+use Rattle.clr_rules.proofs.Common.{and_parts, All-contains, Grid, section_names, unplaced, has_name, PointRow, SectionRow, member-row_of, Answer, answer_by_checks, known_of, checks, edits_of}
+use Rattle.clr_rules.proofs.Common.{is_jumper, refusal_of, fit, IsGood, IsGoodByPhase, AddSection, AddPoint, Command, Kind, Record, Refusal, Id, id_cmp, id_cmp_total, Register, record_key, record_of}
+use Rattle.clr_rules.proofs.Common.{after_edit, after_edits, after, Jumper}
 use Rattle.clr_net.specs.Additions.{fits_point, fits_section, with_point, with_section}
-use Rattle.clr_net.specs.Grid.{Grid, section_names, unplaced}
-use Rattle.clr_net.specs.Names.{has_name}
-use Rattle.clr_net.specs.declared.point.PointRow.{PointRow}
-use Rattle.clr_net.specs.declared.section.SectionRow.{SectionRow}
 use Rattle.clr_order.proofs.Finds.{all_fail, option_map-none}
-use Rattle.clr_shelf.proofs.Members.{member-row_of}
-use Rattle.clr_rules.specs.Answer.{Answer, answer_by_checks, known_of}
 use Rattle.clr_rules.specs.Changes.{new_jumper, new_section}
 use Rattle.clr_rules.specs.Checks.{crosses_fence}
-use Rattle.clr_rules.specs.Commands.{checks, edits_of}
-use Rattle.clr_rules.specs.Command.{is_jumper}
-use Rattle.clr_rules.specs.laws.Edits.{refusal_of}
-use Rattle.clr_rules.specs.Edits.{fit}
 use Rattle.clr_rules.specs.Fences.{CrossesNoFence, clearance_fence, crossed_by, crossed_record, crosses, found_fence, record_fence}
-use Rattle.clr_rules.specs.Good.{IsGood}
-use Rattle.clr_rules.specs.GoodByPhase.{IsGoodByPhase}
-use Rattle.clr_rules.specs.Prelude.{AddSection, AddPoint, Command, Kind, Record, Refusal, Id, id_cmp, id_cmp_total, Register, record_key, record_of, after_edit, after_edits}
-use Rattle.clr_rules.specs.Run.{after}
-use Rattle.clr_rules.specs.declared.command.Kind.TheVariants.{Jumper}
 use Rattle.clr_rules.proofs.edits.AddedEdits.{added_edits_fit, jumper_can}
 use Rattle.clr_rules.proofs.edits.Passing.{Pass, all_pass}
 use Rattle.clr_rules.proofs.good.GoodToPhases.{to_phases}

@@ -1,11 +1,10 @@
 -- Commands that put a record alone.
 use Rattle.std.proofs.Common.{◌≡◌, List, [], ◌∷◌, Option, Some, refl, sym, ◌∙◌, subst}
 use Rattle.clr_rules.specs.Changes.{edits_by, with_record}
-use Rattle.clr_rules.specs.Prelude.{Edit, PutRecord, Record, Id, Register, record_of, after_edits}
+use Rattle.clr_rules.proofs.Common.{Edit, PutRecord, Record, Id, Register, record_of, after_edits, record_id}
 use Rattle.clr_rules.specs.GoodByPhase.{InPhase, InPlaceAs, IsGoodByPhase, outlook_of}
 use Rattle.clr_rules.proofs.good.Keeping.{keeps}
 use Rattle.clr_rules.proofs.edits.PutRecords.{put_changes, outlook_with, quiet}
-use Rattle.clr_rules.proofs.lists.RoundSteps.{record_id}
 
 -- the edits of a command that found its record
 pub found_edits : (R : Register) (c : Id) (r : Record) (edits : Record → List Edit) → record_of R.records c ≡ Some r

@@ -1,29 +1,20 @@
 -- An isolating order that is not refused: it is sound at the points of its steps, each taken once.
-use Rattle.std.proofs.Common.{◌≡◌, ◌⊎◌, inl, inr, ℕ, ◌<◌, ◌≤◌, Bool, true, false, not, ◌||◌, ◌==◌, nat_lt, List, [], ◌∷◌, filter, length, Option, Some, None, IsTrue, All, Contains, refl, sym, ◌∙◌, ap, subst, arith}
-use Rattle.std.proofs.lemmas.Bool.{and_from, false≢true, false_from_ne_true, or_cases, or_left, or_right}
-use Rattle.std.proofs.lemmas.List.Elements.{All-contains, All-head, All-nil, All-tail, All-weaker}
-use Rattle.clr_net.specs.Fence.{FenceRows, fence_of, in_fence}
-use Rattle.clr_net.specs.Grid.{Grid, IsNetwork, point_names}
-use Rattle.clr_net.specs.Name.{same_name}
-use Rattle.clr_net.specs.Names.{has_name}
-use Rattle.clr_net.specs.declared.point.PointRow.{PointRow}
-use Rattle.clr_net.specs.declared.section.SectionRow.{SectionRow}
+use Rattle.std.proofs.Common.{◌≡◌, ◌⊎◌, inl, inr, ℕ, ◌<◌, ◌≤◌, Bool, true, false, not, ◌||◌, ◌==◌, nat_lt, List, [], ◌∷◌, filter, length, Option, Some, None, IsTrue, All, Contains, refl, sym, ◌∙◌, ap}
+use Rattle.std.proofs.Common.{subst, arith}
+use Rattle.clr_rules.proofs.Common.{and_from, false≢true, false_from_ne_true, or_cases, or_left, or_right, All-contains, All-head, All-nil, All-tail, All-weaker, FenceRows, fence_of, in_fence, Grid}
+use Rattle.clr_rules.proofs.Common.{IsNetwork, point_names, same_name, has_name, PointRow, SectionRow, Action, new_steps, put_steps, put_by, All-from_each, of_round_is, record_id}
 use Rattle.clr_net.proofs.Walks.{any_from, one_name, same_itself, some_from, same_tests}
 use Rattle.clr_order.specs.Isolating.{IsSoundOrder, IsSoundWithin, has_repeat, is_border_point, isolating_fault, needed_at, off_border, source_inside, touching_row, wrong_point}
 use Rattle.clr_order.specs.Step.{Task, actions_at, stray_point, task_points}
-use Rattle.clr_order.specs.declared.action.Action.{Action}
 use Rattle.clr_order.specs.declared.order_fault.OrderFault.TheVariants.{EmptyOrder, LongOrder, NotOnFence, PointTwice, SourceInside, StepsWrong}
 use Rattle.clr_order.proofs.SoundOrders.{sound_from_no_fault}
 use Rattle.clr_order.proofs.Steps.{once_from}
 use Rattle.clr_rules.proofs.edits.PlainEdits.{steps_plain}
-use Rattle.clr_rules.specs.Changes.{new_steps, put_steps}
 use Rattle.clr_rules.specs.Checks.{unsound_order}
-use Rattle.clr_rules.specs.Prelude.{PutRecord, Phase, Requested, Ordered, Record, StepRow, Id, Register, record_of, is_active, points_of, steps_of, tasks_of, first_of_each, after_edits}
+use Rattle.clr_rules.specs.Prelude.{PutRecord, Phase, Requested, Ordered, Record, StepRow, Id, Register, record_of, is_active, points_of, steps_of, tasks_of, first_of_each, after_edits, Order}
 use Rattle.clr_rules.specs.Fences.{found_order_fence, order_fence, rows_of_fence, work_fence}
-use Rattle.clr_rules.specs.Good.{put_by}
 use Rattle.clr_rules.specs.GoodByPhase.{InOrdered, InPhase, IsBare, IsGoodByPhase, Outlook, of_round, outlook_of}
 use Rattle.clr_rules.specs.Records.{is_requested}
-use Rattle.clr_rules.specs.declared.command.Kind.TheVariants.{Order}
 use Rattle.clr_rules.proofs.good.Keeping.{KeepsGood, Changed, commands_keep, keeps}
 use Rattle.clr_rules.proofs.live.FenceCuts.{has_name-once, in_fence_alike, in_fence_from_named, named_from_in_fence}
 use Rattle.clr_rules.proofs.keeps.OneRecord.{found_edits, in_phase_of}
@@ -34,7 +25,6 @@ use Rattle.clr_rules.proofs.edits.Passing.{role_begun}
 use Rattle.clr_rules.proofs.good.PhaseFacts.{none_of_round}
 use Rattle.clr_rules.proofs.good.PutHolds.{needed_there, waiting_put_nothing}
 use Rattle.clr_rules.proofs.edits.PutRecords.{put_changes, outlook_with}
-use Rattle.clr_rules.proofs.lists.RoundSteps.{All-from_each, of_round_is, record_id}
 
 -- ---- names, each once
 

@@ -1,26 +1,18 @@
 -- A release keeps a good register good: the tests of the clearance go, and it has neither crew nor ground.
 use Rattle.std.proofs.Common.{◌≡◌, ℕ, Bool, true, false, not, ◌&&◌, ◌||◌, List, [], ◌∷◌, ◌++◌, map, filter, Option, Some, refl, sym, ◌∙◌, ap, subst}
-use Rattle.std.proofs.lemmas.Bool.{and_from, false≢true, false_from_ne_true}
-use Rattle.std.proofs.lemmas.Cmp.{nat_list_eq_equiv}
-use Rattle.clr_net.specs.Name.{same_name}
-use Rattle.clr_net.specs.Names.{has_name}
-use Rattle.clr_shelf.specs.Rows.{with_row, without_row}
+use Rattle.clr_rules.proofs.Common.{and_from, false≢true, false_from_ne_true, nat_list_eq_equiv, same_name, has_name, with_row, without_row, hold_there, Contains-filter, has_name-row, one_id, own_id}
+use Rattle.clr_rules.proofs.Common.{record_id}
 use Rattle.clr_rules.proofs.edits.PlainEdits.{takes_plain}
-use Rattle.clr_rules.specs.Prelude.{Edit, TakeHold, PutRecord, Hold, HoldKind, HeldOpen, Block, Control, Tag, Tested, Ground, Crew, Released, Record, Id, id_cmp, same_id, Register, record_key, record_of, is_granted, hold_cmp}
-use Rattle.clr_rules.specs.Prelude.{is_point_kind, has_hold, has_some_hold, hold_key, hold_of, places_of, same_kind, after_edits}
+use Rattle.clr_rules.specs.Prelude.{Edit, TakeHold, PutRecord, Hold, HoldKind, HeldOpen, Block, Control, Tag, Tested, Ground, Crew, Released, Record, Id, id_cmp, same_id, Register, record_key}
+use Rattle.clr_rules.specs.Prelude.{record_of, is_granted, hold_cmp, is_point_kind, has_hold, has_some_hold, hold_key, hold_of, places_of, same_kind, after_edits, Release, CrewsOn, Grounded}
 use Rattle.clr_rules.specs.GoodByPhase.{InPhase, InReleased, IsGoodByPhase}
 use Rattle.clr_rules.specs.Id.{same_id_equiv}
-use Rattle.clr_rules.specs.declared.command.Kind.TheVariants.{Release}
-use Rattle.clr_rules.specs.declared.refusal.Refusal.TheVariants.{CrewsOn, Grounded}
 use Rattle.clr_rules.proofs.good.Keeping.{KeepsGood, Changed, commands_keep, keeps}
 use Rattle.clr_rules.proofs.lists.HoldChanges.{others_hold_taken, own_taken}
-use Rattle.clr_rules.proofs.lists.HoldMembers.{hold_there}
 use Rattle.clr_rules.proofs.keeps.OneRecord.{found_edits}
 use Rattle.clr_rules.proofs.keeps.Work.{GrantedWork, granted_work, has_some}
-use Rattle.clr_rules.proofs.lists.NamedRows.{Contains-filter, has_name-row}
 use Rattle.clr_rules.proofs.edits.Passing.{holder_begun, not_refused}
 use Rattle.clr_rules.proofs.edits.PutRecords.{put_changes, outlook_with, quiet}
-use Rattle.clr_rules.proofs.lists.RoundSteps.{one_id, own_id, record_id}
 
 -- the holds without those of a kind at some places
 pub taken_all : Id → List (List ℕ) → List Hold → List Hold

@@ -1,13 +1,8 @@
 -- Commands that move a step on without an action: it is repeated, given out, or not done.
 use Rattle.std.proofs.Common.{◌≡◌, ℕ, Bool, true, not, ◌&&◌, List, [], ◌∷◌, ◌++◌, Some, None, refl, sym, ◌∙◌, ap, subst}
-use Rattle.clr_net.specs.Name.{same_name}
-use Rattle.clr_order.specs.declared.step.StepState.{StepState}
-use Rattle.clr_order.specs.declared.step.StepState.TheVariants.{Repeated}
-use Rattle.clr_rules.specs.Changes.{step_moved}
+use Rattle.clr_rules.proofs.Common.{same_name, StepState, step_moved, IsGoodByPhase, IsInPlace, outlook_of, present_of, record_id}
+use Rattle.clr_rules.specs.Prelude.{Repeated, Edit, PutRecord, PutStep, Record, StepRow, Id, Register, record_of, is_running, is_active, present_steps, step_at, steps_of, after_edits, Repeat}
 use Rattle.clr_rules.specs.Checks.{refuse, wrong_state}
-use Rattle.clr_rules.specs.Prelude.{Edit, PutRecord, PutStep, Record, StepRow, Id, Register, record_of, is_running, is_active, present_steps, step_at, steps_of, after_edits}
-use Rattle.clr_rules.specs.GoodByPhase.{IsGoodByPhase, IsInPlace, outlook_of, present_of}
-use Rattle.clr_rules.specs.declared.command.Kind.TheVariants.{Repeat}
 use Rattle.clr_rules.specs.declared.refusal.Refusal.TheVariants.{StepState as WrongState}
 use Rattle.clr_rules.proofs.good.Keeping.{KeepsGood, commands_keep, keeps}
 use Rattle.clr_rules.proofs.keeps.OneRecord.{in_phase_of}
@@ -15,7 +10,6 @@ use Rattle.clr_rules.proofs.edits.Passing.{check_of_found, not_refused_true, rol
 use Rattle.clr_rules.proofs.edits.PresentSteps.{FoundStep, IsPresent, active_midst, active_moves, found_step_edits, step_there}
 use Rattle.clr_rules.proofs.edits.PutRecords.{put_changes, quiet}
 use Rattle.clr_rules.proofs.edits.PutSteps.{StepPut, closes_at, closing_by, known_put, others_put, phase_by, place_by, put_step, step_put}
-use Rattle.clr_rules.proofs.lists.RoundSteps.{record_id}
 use Rattle.clr_rules.proofs.edits.StepMoves.{InMidst, phase_again, turns_again}
 use Rattle.clr_rules.proofs.lists.StepSplits.{any-swap}
 

@@ -1,24 +1,15 @@
 -- Reports: a step is Done, by its action and the clearance's phase; or it is not done.
 use Rattle.std.proofs.Common.{◌≡◌, ℕ, Bool, true, false, cond, not, ◌&&◌, List, [], ◌∷◌, ◌++◌, Option, Some, None, Contains, refl, sym, ◌∙◌, ap, subst}
-use Rattle.std.proofs.lemmas.Bool.{false≢true}
-use Rattle.std.proofs.lemmas.List.Elements.{All-head}
+use Rattle.clr_rules.proofs.Common.{false≢true, All-head, same_itself, is_switching, Action, Waiting, Done, with_row, without_row, puts}
 use Rattle.clr_net.specs.declared.point.Position.TheVariants.{Opened, Closed as Shut}
-use Rattle.clr_net.proofs.Walks.{same_itself}
-use Rattle.clr_order.specs.Action.{is_switching}
 use Rattle.clr_order.specs.Needed.{undoes}
-use Rattle.clr_order.specs.declared.action.Action.{Action}
-use Rattle.clr_order.specs.declared.step.StepState.TheVariants.{Waiting, Done}
-use Rattle.clr_order.specs.declared.action.Action.TheVariants as actions
-use Rattle.clr_shelf.specs.Rows.{with_row, without_row}
 use Rattle.clr_rules.specs.Changes.{done_edits, step_moved, phase_after, point_edits, undone_edits}
 use Rattle.clr_rules.specs.Prelude.{Edit, PutRecord, PutStep, Hold, HoldKind, HeldOpen, Block, Control, Tag, Phase, Ordered, Restoring, Switching, Closed, PointState, Record, StepRow, Id, Register}
-use Rattle.clr_rules.specs.Prelude.{hand_of, has_in_hand, position_of, record_of, is_running, all_done, is_active, is_done, is_some_step, present_steps, steps_in, steps_of, hold_cmp, is_point_kind, has_hold, hold_key, hold_of, same_kind}
-use Rattle.clr_rules.specs.Prelude.{after_edits}
-use Rattle.clr_rules.specs.Good.{puts}
+use Rattle.clr_rules.specs.Prelude.{hand_of, has_in_hand, position_of, record_of, is_running, all_done, is_active, is_done, is_some_step, present_steps, steps_in, steps_of, hold_cmp, is_point_kind}
+use Rattle.clr_rules.specs.Prelude.{has_hold, hold_key, hold_of, same_kind, after_edits, Report}
 use Rattle.clr_rules.specs.GoodByPhase.{InOrdered, InPhase, InRestoring, InSwitching, IsGoodByPhase, Outlook, of_round, present_of}
 use Rattle.clr_rules.specs.Records.{ends_with_steps, is_switch_order, lacks_work}
 use Rattle.clr_rules.specs.Steps.{is_close, is_repeated}
-use Rattle.clr_rules.specs.declared.command.Kind.TheVariants.{Report}
 use Rattle.clr_rules.proofs.good.Keeping.{KeepsGood, commands_keep}
 use Rattle.clr_rules.proofs.lists.StateFacts.{with_hand, with_position}
 use Rattle.clr_rules.proofs.lists.HoldChanges.{is_there, own_put, own_taken}
@@ -36,6 +27,7 @@ use Rattle.clr_rules.proofs.edits.PutSteps.{one_hand, phase_by, put_step}
 use Rattle.clr_rules.proofs.lists.RoundSteps.{among_own, of_round_is, record_id}
 use Rattle.clr_rules.proofs.edits.StepMoves.{second_again, turns_again}
 use Rattle.clr_rules.proofs.lists.StepSplits.{All-before, repeated_is_active}
+use Rattle.clr_order.specs.declared.action.Action.TheVariants as actions
 
 -- ---- a step that is done
 
@@ -125,10 +117,7 @@ module _ (R : Register) (good : IsGoodByPhase R) (c : Id) (r : Record) (found : 
         put_keeps R good c r found row p active next own refl Tag (stands_open Tag refl refl refl puts_it)
         (ordered_is is _ (put_ordered Tag refl puts_it (with_hand R.states row.step.point None)))
     ordered_keeps is actions.Untag e puts_one = absurd (false≢true puts_one)
-    ordered_keeps is actions.Uncontrol e puts_one = absurd (false≢true puts_one)
-    ordered_keeps is actions.Unblock e puts_one = absurd (false≢true puts_one)
-    ordered_keeps is actions.Close e puts_one = absurd (false≢true puts_one)
-    ordered_keeps is actions.Leave e puts_one = absurd (false≢true puts_one)
+    ordered_keeps is _ e puts_one = absurd (false≢true puts_one)
 
     -- its action is one of an isolating order
     isolates_here : is_isolating row.step.action ≡ true
@@ -188,9 +177,7 @@ module _ (R : Register) (good : IsGoodByPhase R) (c : Id) (r : Record) (found : 
     restoring_keeps switching is actions.Close e t o b d rest u = close_keeps R good c r found row p active next own refl (ap is_close e)
         (restoring_is is (with_hand (with_position R.states row.step.point Shut) row.step.point None) _ (taking actions.Close HeldOpen e refl))
     restoring_keeps switching is actions.Open e t o b d rest u = absurd (false≢true u)
-    restoring_keeps switching is actions.Block e t o b d rest u = absurd (false≢true u)
-    restoring_keeps switching is actions.Control e t o b d rest u = absurd (false≢true u)
-    restoring_keeps switching is actions.Tag e t o b d rest u = absurd (false≢true u)
+    restoring_keeps switching is _ e t o b d rest u = absurd (false≢true u)
 
     -- all steps of the second round are those of the present one
     present_is : present_steps (put_step done R.steps) c ≡ of_round (before ++ done ∷ after) 2
@@ -223,12 +210,7 @@ module _ (R : Register) (good : IsGoodByPhase R) (c : Id) (r : Record) (found : 
         (switching_is b is (with_hand (with_position R.states row.step.point Shut) row.step.point None) _
         (λ kind place. own_taken c HeldOpen row.step.point R.holds kind place ∙ none_taken (is_there HeldOpen row.step.point kind place) (has_hold R.holds c kind place) (h.no_hold kind place)))
     switching_keeps b is actions.Block e switches = absurd (false≢true switches)
-    switching_keeps b is actions.Control e switches = absurd (false≢true switches)
-    switching_keeps b is actions.Tag e switches = absurd (false≢true switches)
-    switching_keeps b is actions.Untag e switches = absurd (false≢true switches)
-    switching_keeps b is actions.Uncontrol e switches = absurd (false≢true switches)
-    switching_keeps b is actions.Unblock e switches = absurd (false≢true switches)
-    switching_keeps b is actions.Leave e switches = absurd (false≢true switches)
+    switching_keeps b is _ e switches = absurd (false≢true switches)
 
 -- ---- reports
 

@@ -1,19 +1,12 @@
 -- Commands that make a new clearance: a request.
-use Rattle.std.proofs.Common.{◌≡◌, ℕ, Bool, true, false, not, List, [], ◌∷◌, Option, Some, None, refl, sym, ◌∙◌, ap, subst}
-use Rattle.std.specs.Option.{is_some}
-use Rattle.std.proofs.lemmas.Bool.{false≢true}
-use Rattle.clr_net.specs.Grid.{Grid, section_names}
-use Rattle.clr_net.specs.Names.{has_name}
+use Rattle.std.proofs.Common.{◌≡◌, ℕ, Bool, true, false, not, List, [], ◌∷◌, Option, Some, None, refl, sym, ◌∙◌, ap, subst, is_some}
+use Rattle.clr_rules.proofs.Common.{false≢true, Grid, section_names, has_name, StaffRow, is_operators, Request}
 use Rattle.clr_staff.specs.declared.employee.Role.{Role}
 use Rattle.clr_staff.specs.declared.employee.Role.TheVariants.{Operator}
-use Rattle.clr_staff.specs.declared.employee.StaffRow.{StaffRow}
 use Rattle.clr_rules.specs.Changes.{new_record}
 use Rattle.clr_rules.specs.Checks.{employee, has_role, is_charge, is_operator, refuse, unknown_caller, wrong_role}
-use Rattle.clr_rules.specs.Prelude.{PutRecord, Requested, Record, Id, Register, greatest_number, record_of, after_edits}
+use Rattle.clr_rules.specs.Prelude.{PutRecord, Requested, Record, Id, Register, greatest_number, record_of, after_edits, UnknownCaller, UnknownSection, WrongRole}
 use Rattle.clr_rules.specs.GoodByPhase.{InPlaceAs, IsBare, IsGoodByPhase, outlook_of}
-use Rattle.clr_rules.specs.Good.{is_operators}
-use Rattle.clr_rules.specs.declared.command.Kind.TheVariants.{Request}
-use Rattle.clr_rules.specs.declared.refusal.Refusal.TheVariants.{UnknownCaller, UnknownSection, WrongRole}
 use Rattle.clr_rules.proofs.good.Keeping.{KeepsGood, commands_keep, keeps}
 use Rattle.clr_rules.proofs.edits.NewRecords.{new_numbered, next_is_free}
 use Rattle.clr_rules.proofs.edits.Passing.{check_of_found, not_refused_true}

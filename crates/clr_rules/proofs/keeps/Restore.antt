@@ -1,13 +1,8 @@
 -- Restoring orders: the steps of a second round, which undo what is held at the points of the first.
-use Rattle.std.proofs.Common.{◌≡◌, ℕ, ◌+◌, ◌<◌, Bool, true, false, ◌&&◌, nat_lt, List, [], ◌∷◌, length, map, filter, Option, Some, None, All, Contains, refl, sym, ◌∙◌, ap, subst, arith}
-use Rattle.std.specs.Prelude.{◌==◌}
-use Rattle.std.proofs.lemmas.Bool.{and_from, and_parts, both_ways, false≢true, false_from_ne_true}
+use Rattle.std.proofs.Common.{◌≡◌, ℕ, ◌+◌, ◌<◌, Bool, true, false, ◌&&◌, nat_lt, List, [], ◌∷◌, length, map, filter, Option, Some, None, All, Contains, refl, sym, ◌∙◌, ap, subst, arith, ◌==◌}
+use Rattle.clr_rules.proofs.Common.{and_from, and_parts, both_ways, false≢true, false_from_ne_true, Grid, point_names, same_name, has_name, any_from, one_name, IsSoundOrder, new_steps, put_steps}
+use Rattle.clr_rules.proofs.Common.{steps_left_of, held_among, some_active, name_says, there_mapped}
 use Rattle.std.proofs.lemmas.List.Elements.{All-contains, All-map}
-use Rattle.clr_net.specs.Grid.{Grid, point_names}
-use Rattle.clr_net.specs.Name.{same_name}
-use Rattle.clr_net.specs.Names.{has_name}
-use Rattle.clr_net.proofs.Walks.{any_from, one_name}
-use Rattle.clr_order.specs.Isolating.{IsSoundOrder}
 use Rattle.clr_order.specs.Needed.{Undoes, undoes}
 use Rattle.clr_order.specs.Restoring.{IsRestoring, held_points, restoring_fault, wrong_held}
 use Rattle.clr_order.specs.Step.{Task, actions_at, stray_point, task}
@@ -17,19 +12,13 @@ use Rattle.clr_order.specs.declared.order_fault.OrderFault.TheVariants.{EmptyOrd
 use Rattle.clr_order.proofs.OtherOrders.{restoring_from_no_fault}
 use Rattle.clr_order.proofs.Undoing.{rule_undoes}
 use Rattle.clr_rules.proofs.edits.PlainEdits.{steps_plain}
-use Rattle.clr_rules.specs.Changes.{new_steps, put_steps}
 use Rattle.clr_rules.specs.Checks.{wrong_restoring}
-use Rattle.clr_rules.specs.Prelude.{PutRecord, Hold, HoldKind, HeldOpen, Block, Control, Tag, Phase, Released, Restoring, Record, StepRow, Id, Register, record_of, is_active, is_some_step}
-use Rattle.clr_rules.specs.Prelude.{points_of, steps_in, steps_of, tasks_of, is_point_kind, has_hold, held_at, first_of_each, after_edits}
-use Rattle.clr_rules.specs.Good.{steps_left_of}
+use Rattle.clr_rules.specs.Prelude.{PutRecord, Hold, HoldKind, HeldOpen, Block, Control, Tag, Phase, Released, Restoring, Record, StepRow, Id, Register, record_of, is_active, is_some_step, points_of}
+use Rattle.clr_rules.specs.Prelude.{steps_in, steps_of, tasks_of, is_point_kind, has_hold, held_at, first_of_each, after_edits, Restore}
 use Rattle.clr_rules.specs.GoodByPhase.{InPhase, InReleased, InRestoring, IsGoodByPhase, Outlook, of_round, outlook_of}
-use Rattle.clr_rules.specs.Holds.{held_among}
 use Rattle.clr_rules.specs.Records.{is_released}
-use Rattle.clr_rules.specs.Steps.{some_active}
-use Rattle.clr_rules.specs.declared.command.Kind.TheVariants.{Restore}
 use Rattle.clr_rules.proofs.good.Keeping.{KeepsGood, Changed, commands_keep, keeps}
 use Rattle.clr_rules.proofs.live.FenceCuts.{has_name-once}
-use Rattle.clr_rules.proofs.lists.Filters.{name_says, there_mapped}
 use Rattle.clr_rules.proofs.keeps.OneRecord.{found_edits, in_phase_of}
 use Rattle.clr_rules.proofs.lists.NamedRows.{has_name-filter, row_named}
 use Rattle.clr_rules.proofs.edits.NewRounds.{IsReady, new_tasks, new_wait, none_in_round, others_are, put_all, round_is, round_moved, round_put, with_round}

@@ -1,6 +1,5 @@
 -- A command that shows a clearance keeps a good register good.
-use Rattle.clr_rules.specs.Id.{Id}
-use Rattle.clr_rules.specs.declared.command.Kind.TheVariants.{Show}
+use Rattle.clr_rules.specs.Prelude.{Id, Show}
 use Rattle.clr_rules.proofs.good.Keeping.{KeepsGood, commands_keep, no_edits}
 
 pub shows_keep : (c : Id) → KeepsGood (Show c)

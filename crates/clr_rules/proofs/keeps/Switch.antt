@@ -1,9 +1,7 @@
 -- Switch orders: a new record of an operator's, with the steps of its one round.
-use Rattle.std.proofs.Common.{◌≡◌, ℕ, true, false, List, ◌∷◌, length, nat_lt, None, refl, sym, ◌∙◌, ap, subst}
-use Rattle.std.specs.Prelude.{◌==◌}
-use Rattle.std.proofs.lemmas.List.Elements.{All-contains, All-nil}
-use Rattle.clr_net.specs.Grid.{Grid, point_names}
-use Rattle.clr_order.specs.Action.{is_switching}
+use Rattle.std.proofs.Common.{◌≡◌, ℕ, true, false, List, ◌∷◌, length, nat_lt, None, refl, sym, ◌∙◌, ap, subst, ◌==◌}
+use Rattle.clr_rules.proofs.Common.{All-contains, All-nil, Grid, point_names, is_switching, PutRecord, Switching, Record, StepRow, Register, greatest_number, is_active, steps_of, after_edits}
+use Rattle.clr_rules.proofs.Common.{is_operators, Switch, of_round_is}
 use Rattle.clr_order.specs.Step.{Task, stray_point}
 use Rattle.clr_order.specs.Switching.{IsSwitching, switching_fault, unswitching_point}
 use Rattle.clr_order.specs.declared.order_fault.OrderFault.TheVariants.{EmptyOrder, LongOrder, StepsWrong, UnknownPoint}
@@ -11,10 +9,7 @@ use Rattle.clr_order.proofs.OtherOrders.{switching_from_no_fault}
 use Rattle.clr_rules.proofs.edits.PlainEdits.{steps_plain}
 use Rattle.clr_rules.specs.Changes.{new_record, new_steps, put_steps}
 use Rattle.clr_rules.specs.Checks.{has_role, is_operator, wrong_switching}
-use Rattle.clr_rules.specs.Prelude.{PutRecord, Switching, Record, StepRow, Register, greatest_number, is_active, steps_of, after_edits}
-use Rattle.clr_rules.specs.Good.{is_operators}
 use Rattle.clr_rules.specs.GoodByPhase.{IsBare, IsGoodByPhase, of_round, outlook_of, present_of}
-use Rattle.clr_rules.specs.declared.command.Kind.TheVariants.{Switch}
 use Rattle.clr_rules.proofs.good.Keeping.{KeepsGood, Changed, commands_keep, keeps}
 use Rattle.clr_rules.proofs.keeps.Request.{bare_before, caller_role}
 use Rattle.clr_rules.proofs.edits.NewRecords.{new_numbered, next_is_free}
@@ -22,7 +17,6 @@ use Rattle.clr_rules.proofs.edits.NewRounds.{All-own, IsReady, none_in_round, ot
 use Rattle.clr_rules.proofs.edits.PassedOrders.{by_name, by_test, no_refusal}
 use Rattle.clr_rules.proofs.good.PhaseFacts.{none_of_round}
 use Rattle.clr_rules.proofs.edits.PutRecords.{changed_by}
-use Rattle.clr_rules.proofs.lists.RoundSteps.{of_round_is}
 
 -- a switch order that is not refused opens and closes points of the network
 pub switching_passed : (R : Register) (tasks : List Task) → wrong_switching R tasks ≡ None → IsSwitching (point_names (Grid.points R.net)) tasks

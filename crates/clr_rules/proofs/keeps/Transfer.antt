@@ -1,8 +1,7 @@
 -- A transfer keeps a good register good.
 use Rattle.std.proofs.Common.{ℕ, Bool, List, [], ◌∷◌, Some, refl}
-use Rattle.clr_rules.specs.GoodByPhase.{outlook_of}
-use Rattle.clr_rules.specs.Prelude.{PutRecord, Id}
-use Rattle.clr_rules.specs.declared.command.Kind.TheVariants.{Transfer}
+use Rattle.clr_rules.proofs.Common.{outlook_of}
+use Rattle.clr_rules.specs.Prelude.{PutRecord, Id, Transfer}
 use Rattle.clr_rules.proofs.good.Keeping.{KeepsGood, commands_keep}
 use Rattle.clr_rules.proofs.edits.Passing.{record_there}
 use Rattle.clr_rules.proofs.good.PlaceFacts.{phase_beside}

@@ -1,26 +1,19 @@
 -- Commands of the work under a granted clearance: it is tested and grounded, and crews are signed on and off.
 use Rattle.std.proofs.Common.{◌≡◌, ◌⊎◌, inl, inr, ⊎_elim, ℕ, Bool, true, false, cond, not, ◌&&◌, ◌||◌, List, [], ◌∷◌, Option, Some, None, refl, sym, ◌∙◌, ap, subst}
-use Rattle.std.proofs.lemmas.Bool.{and_from, both_ways, false≢true, false_from_ne_true, or_right}
-use Rattle.std.proofs.lemmas.Cmp.{nat_list_eq_equiv}
-use Rattle.clr_net.specs.Name.{same_name}
-use Rattle.clr_net.specs.Names.{has_name}
-use Rattle.clr_net.proofs.Walks.{any_from}
-use Rattle.clr_shelf.specs.Rows.{with_row, without_row}
+use Rattle.clr_rules.proofs.Common.{and_from, both_ways, false≢true, false_from_ne_true, or_right, nat_list_eq_equiv, same_name, has_name, any_from, with_row, without_row, clearance_fence, hold_there}
+use Rattle.clr_rules.proofs.Common.{of_round_is, one_id, own_id, record_id}
 use Rattle.clr_rules.specs.Checks.{at_work, refuse, where_some}
-use Rattle.clr_rules.specs.Prelude.{PutHold, TakeHold, PutRecord, Hold, HoldKind, Tested, Ground, Crew, Phase, Requested, Ordered, Granted, Released, Restoring, Switching, Closed, Record, Refusal, Id, id_cmp, same_id, Register}
-use Rattle.clr_rules.specs.Prelude.{has_in_hand, record_key, record_of, is_granted, steps_of, hold_cmp, is_point_kind, has_hold, has_some_hold, hold_key, hold_of, same_kind, after_edits}
-use Rattle.clr_rules.specs.Fences.{clearance_fence}
+use Rattle.clr_rules.specs.Prelude.{PutHold, TakeHold, PutRecord, Hold, HoldKind, Tested, Ground, Crew, Phase, Requested, Ordered, Granted, Released, Restoring, Switching, Closed, Record, Refusal, Id}
+use Rattle.clr_rules.specs.Prelude.{id_cmp, same_id, Register, has_in_hand, record_key, record_of, is_granted, steps_of, hold_cmp, is_point_kind, has_hold, has_some_hold, hold_key, hold_of, same_kind}
+use Rattle.clr_rules.specs.Prelude.{after_edits, CrewsOn, NotGrounded, OutsideFence}
 use Rattle.clr_rules.specs.GoodByPhase.{InGranted, InPhase, IsGoodByPhase, inner_fence, outlook_of}
 use Rattle.clr_rules.specs.Id.{same_id_equiv}
 use Rattle.clr_rules.specs.declared.command.Kind.TheVariants.{Ground as GroundIt, SignOff, SignOn, Test, Unground}
-use Rattle.clr_rules.specs.declared.refusal.Refusal.TheVariants.{CrewsOn, NotGrounded, OutsideFence}
 use Rattle.clr_rules.proofs.good.Keeping.{KeepsGood, Changed, commands_keep, keeps}
 use Rattle.clr_rules.proofs.lists.HoldChanges.{is_there, kind_itself, one_kind, others_hold_put, others_hold_taken, own_put, own_taken, was_or_put, was_there}
-use Rattle.clr_rules.proofs.lists.HoldMembers.{hold_there}
 use Rattle.clr_rules.proofs.keeps.OneRecord.{found_edits, in_phase_of}
 use Rattle.clr_rules.proofs.edits.Passing.{check_of_found, not_refused, holder_begun, not_refused_true}
 use Rattle.clr_rules.proofs.edits.PutRecords.{put_changes, outlook_with, quiet}
-use Rattle.clr_rules.proofs.lists.RoundSteps.{of_round_is, one_id, own_id, record_id}
 
 -- a hold of a kind that stands at no point is none at a point
 off_points : (of kind : HoldKind) → is_point_kind of ≡ false → is_point_kind kind ≡ true → same_kind of kind ≡ false

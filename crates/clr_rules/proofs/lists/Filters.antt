@@ -1,9 +1,7 @@
 -- Which rows a filter keeps, which names a list has, and how tests that say a condition in words are joined.
-use Rattle.std.proofs.Common.{◌≡◌, ◌↔◌, ◌⊎◌, inl, inr, ⊎_elim, ℕ, Bool, true, false, ◌&&◌, ◌||◌, List, [], ◌∷◌, refl, sym, ◌∙◌, ap}
-use Rattle.std.specs.List.{filter, Contains}
+use Rattle.std.proofs.Common.{◌≡◌, ◌↔◌, ◌⊎◌, inl, inr, ⊎_elim, ℕ, Bool, true, false, ◌&&◌, ◌||◌, List, [], ◌∷◌, refl, sym, ◌∙◌, ap, filter, Contains}
 use Rattle.std.proofs.lemmas.Bool.{false_from_ne_true, and_from, and_parts, false≢true, or_cases, or_left, or_right}
-use Rattle.clr_net.specs.Name.{same_name}
-use Rattle.clr_net.specs.Names.{has_name}
+use Rattle.clr_rules.specs.Prelude.{same_name, has_name}
 use Rattle.clr_net.proofs.Walks.{any_from, one_name, same_itself, some_from}
 use Rattle.clr_shelf.proofs.Lists.{Contains-here, Contains-later}
 use Rattle.clr_rules.proofs.lists.NamedRows.{Contains-filter}

@@ -1,15 +1,8 @@
 -- What the step of a number in the present round is: a step of the clearance, with that number.
-use Rattle.std.proofs.Common.{◌≡◌, ℕ, Bool, true, false, ◌&&◌, List, [], ◌∷◌, filter, find, Contains, Some, refl, subst}
-use Rattle.std.specs.Prelude.{if◌then◌else◌, ◌==◌}
-use Rattle.std.proofs.lemmas.Bool.{and_from, and_parts, eqb-true}
-use Rattle.std.proofs.lemmas.Option.{same_Some}
-use Rattle.clr_net.proofs.Walks.{any_from, same_itself}
-use Rattle.clr_net.specs.Name.{same_name}
-use Rattle.clr_shelf.proofs.Lists.{Contains-here, Contains-later}
+use Rattle.std.proofs.Common.{◌≡◌, ℕ, Bool, true, false, ◌&&◌, List, [], ◌∷◌, filter, find, Contains, Some, refl, subst, if◌then◌else◌, ◌==◌, eqb-true}
+use Rattle.clr_rules.proofs.Common.{and_from, and_parts, same_Some, any_from, same_itself, same_name, Contains-here, Contains-later, StepRow, Id, same_id, is_active, is_some_step, present_steps}
+use Rattle.clr_rules.proofs.Common.{step_at, steps_in, steps_of, is_close, is_of_round, Contains-filter}
 use Rattle.clr_rules.specs.Good.{is_active_at, is_closing_at}
-use Rattle.clr_rules.specs.Prelude.{StepRow, Id, same_id, is_active, is_some_step, present_steps, step_at, steps_in, steps_of}
-use Rattle.clr_rules.specs.Steps.{is_close, is_of_round}
-use Rattle.clr_rules.proofs.lists.NamedRows.{Contains-filter}
 
 -- what is found among those that a filter keeps
 pub found_among : {X : Type 0} (p q : X → Bool) (xs : List X) (x : X) → find p (filter q xs) ≡ Some x → Contains xs x × (q x ≡ true) × (p x ≡ true)

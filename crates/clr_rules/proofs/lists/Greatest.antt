@@ -1,24 +1,13 @@
 -- The greatest number of a requester's clearances, after a record is put.
-use Rattle.std.proofs.Common.{◌≡◌, ℕ, Bool, true, false, cond, List, [], ◌∷◌, map, refl, sym, ◌∙◌, ap, arith, is_some, Some, ◌⊎◌, inl, inr, ⊎_elim, nat_le, get_or, subst, ◌≤◌}
-use Rattle.std.specs.List.{filter, fold, All, Contains}
-use Rattle.std.specs.Ordering.{is_eq}
-use Rattle.std.specs.declared.cmp.Ordering.{Ordering}
-use Rattle.std.specs.declared.cmp.Ordering.TheVariants.{Less, Equal, Greater}
+use Rattle.std.proofs.Common.{◌≡◌, ℕ, Bool, true, false, cond, List, [], ◌∷◌, map, refl, sym, ◌∙◌, ap, arith, is_some, Some, ◌⊎◌, inl, inr, ⊎_elim, nat_le, get_or, subst, ◌≤◌, filter, fold, All}
+use Rattle.std.proofs.Common.{Contains, is_eq, Ordering, Less, Equal, Greater}
 use Rattle.std.proofs.lemmas.Bool.Decides.{nat_tests}
 use Rattle.std.proofs.lemmas.List.Elements.{Contains-get_or}
-use Rattle.clr_net.proofs.Walks.{one_name, same_itself}
-use Rattle.clr_net.specs.Name.{same_name}
-use Rattle.clr_shelf.proofs.Lists.{Contains-here, Contains-later}
+use Rattle.clr_rules.proofs.Common.{one_name, same_itself, same_name, Contains-here, Contains-later, filter-with_far, filter-with_inside, equal, in_key_order-filter, in_key_order-rest, row_of-with}
+use Rattle.clr_rules.proofs.Common.{in_key_order, row_of, with_row, has_record, Record}
 use Rattle.clr_shelf.proofs.FirstRow.{keys-with_row, with_row-after, with_row-before, with_row-over}
-use Rattle.clr_shelf.proofs.Groups.{filter-with_far, filter-with_inside}
-use Rattle.clr_shelf.proofs.Keys.{equal}
-use Rattle.clr_shelf.proofs.KeyOrder.{in_key_order-filter, in_key_order-rest}
-use Rattle.clr_shelf.proofs.Reading.{row_of-with}
-use Rattle.clr_shelf.specs.Rows.{in_key_order, row_of, with_row}
-use Rattle.clr_rules.specs.Good.{has_record}
 use Rattle.clr_rules.specs.Id.{Id, id_cmp, id_cmp_total, same_id_from_tie}
 use Rattle.clr_rules.specs.Records.{greater_of, greatest_number, numbers_of, record_key}
-use Rattle.clr_rules.specs.declared.record.Record.{Record}
 use Rattle.clr_rules.proofs.lists.NewNumbers.{number_below_greatest}
 use Rattle.clr_rules.proofs.lists.Filters.{kept_there, mapped_from}
 

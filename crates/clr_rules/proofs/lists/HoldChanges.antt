@@ -1,19 +1,13 @@
 -- A hold that is put or taken: what each clearance then has, kind by kind and place by place.
-use Rattle.std.proofs.Common.{◌≡◌, ℕ, Bool, true, false, not, ◌&&◌, ◌||◌, nat_eq, List, find, Some, refl, sym, ◌∙◌, ap, ◌⊎◌, inl, inr}
-use Rattle.std.specs.Ordering.{is_eq}
-use Rattle.std.proofs.lemmas.Bool.{and_from, and_parts, or_cases}
-use Rattle.std.proofs.lemmas.Cmp.{tied_itself}
-use Rattle.std.proofs.lemmas.Option.{same_Some}
-use Rattle.clr_net.specs.Name.{same_name}
+use Rattle.std.proofs.Common.{◌≡◌, ℕ, Bool, true, false, not, ◌&&◌, ◌||◌, nat_eq, List, find, Some, refl, sym, ◌∙◌, ap, ◌⊎◌, inl, inr, is_eq}
+use Rattle.clr_rules.proofs.Common.{and_from, and_parts, or_cases, tied_itself, same_Some, same_name, with_row, without_row, Hold, HoldKind, HeldOpen, Id, same_id, hold_cmp, hold_cmp_total, has_hold}
+use Rattle.clr_rules.proofs.Common.{hold_key, hold_of, same_kind, one_id, own_id}
 use Rattle.clr_net.proofs.Walks.{one_name, same_itself, same_tests}
 use Rattle.clr_shelf.proofs.Keys.{equal, same_number}
-use Rattle.clr_shelf.specs.Rows.{with_row, without_row}
 use Rattle.clr_rules.specs.laws.Edits.{is_hold}
-use Rattle.clr_rules.specs.Prelude.{Hold, HoldKind, HeldOpen, Id, same_id, hold_cmp, hold_cmp_total, has_hold, hold_key, hold_of, same_kind}
 use Rattle.clr_rules.specs.Hold.{same_hold}
 use Rattle.clr_rules.specs.HoldKind.{all_hold_kinds, kind_cmp, kind_cmp_total, kind_place}
 use Rattle.clr_rules.proofs.edits.EditReading.{has_hold-put, has_hold-taken}
-use Rattle.clr_rules.proofs.lists.RoundSteps.{one_id, own_id}
 
 by_place : (kind : HoldKind) → find (λ k. nat_eq (kind_place k) (kind_place kind)) all_hold_kinds ≡ Some kind
 by_place HeldOpen = refl

@@ -2,8 +2,7 @@
 use Rattle.std.proofs.Common.{◌≡◌, ℕ, true, false, List, Option, Some, None, Contains, is_some, refl, subst, ap}
 use Rattle.clr_shelf.proofs.Keys.{equal}
 use Rattle.clr_shelf.proofs.Members.{member-row_of, row_of-member}
-use Rattle.clr_shelf.specs.Rows.{in_key_order, row_of}
-use Rattle.clr_rules.specs.Prelude.{Hold, HoldKind, Id, hold_cmp, hold_cmp_total, has_hold, hold_key, hold_of}
+use Rattle.clr_rules.specs.Prelude.{in_key_order, row_of, Hold, HoldKind, Id, hold_cmp, hold_cmp_total, has_hold, hold_key, hold_of}
 use Rattle.clr_rules.specs.Hold.{same_hold}
 
 pub hold_there : (holds : List Hold) (c : Id) (kind : HoldKind) (place : List ℕ) → has_hold holds c kind place ≡ true → Contains holds (hold_of c kind place)

@@ -1,23 +1,12 @@
 -- The clearance that a jumper's refusal names is the least of those whose fence it would cross.
-use Rattle.std.proofs.Common.{◌≡◌, ◌∙◌, ℕ, Bool, true, false, List, [], ◌∷◌, Option, Some, None, Contains, refl, sym, ap, subst, ⊎_elim}
-use Rattle.std.specs.List.{find}
-use Rattle.std.specs.Option.{option_map}
-use Rattle.std.specs.Ordering.{is_lt}
-use Rattle.std.proofs.lemmas.Bool.{both_ways, false≢true}
-use Rattle.std.proofs.lemmas.Cmp.{tied_itself}
-use Rattle.std.proofs.lemmas.Option.{same_Some}
+use Rattle.std.proofs.Common.{◌≡◌, ◌∙◌, ℕ, Bool, true, false, List, [], ◌∷◌, Option, Some, None, Contains, refl, sym, ap, subst, ⊎_elim, find, option_map, is_lt}
+use Rattle.clr_rules.proofs.Common.{both_ways, false≢true, tied_itself, same_Some, in_key_order-first, in_key_order-rest, Contains-cases, Contains-here, Contains-later, list_all-contains}
+use Rattle.clr_rules.proofs.Common.{member-row_of, row_of-member, in_key_order, ListsAreInOrder, Record, Id, id_cmp, id_cmp_total, Register, record_key, record_of, record_id}
 use Rattle.clr_order.proofs.Finds.{found_passes}
-use Rattle.clr_shelf.proofs.KeyOrder.{in_key_order-first, in_key_order-rest}
 use Rattle.clr_shelf.proofs.Keys.{below_not_above}
-use Rattle.clr_shelf.proofs.Lists.{Contains-cases, Contains-here, Contains-later, list_all-contains}
-use Rattle.clr_shelf.proofs.Members.{member-row_of, row_of-member}
-use Rattle.clr_shelf.specs.Rows.{in_key_order}
 use Rattle.clr_rules.specs.laws.Additions.{IsLeastCrossed, LeastCrossedIsNamed}
 use Rattle.clr_rules.specs.Fences.{crossed_record, crosses, found_fence, record_fence}
-use Rattle.clr_rules.specs.Good.{ListsAreInOrder}
-use Rattle.clr_rules.specs.Prelude.{Record, Id, id_cmp, id_cmp_total, Register, record_key, record_of}
 use Rattle.clr_rules.proofs.keeps.Jumper.{crosses_no_fence}
-use Rattle.clr_rules.proofs.lists.RoundSteps.{record_id}
 
 -- ---- what a search finds in key order
 

@@ -1,22 +1,13 @@
 -- The hold that keeps a clearance from closing a point is the least of those that do.
-use Rattle.std.proofs.Common.{◌≡◌, ◌⊎◌, inl, inr, ⊎_elim, Bool, true, false, List, [], ◌∷◌, Some, None, All, Contains, refl, ap, subst, arith}
-use Rattle.std.specs.Prelude.{if◌then◌else◌}
+use Rattle.std.proofs.Common.{◌≡◌, ◌⊎◌, inl, inr, ⊎_elim, Bool, true, false, List, [], ◌∷◌, Some, None, All, Contains, refl, ap, subst, arith, if◌then◌else◌, filter, fold, Ordering}
 use Rattle.std.specs.Cmp.{IsStrictWeakOrder, IsTotalOrder}
-use Rattle.std.specs.List.{filter, fold}
-use Rattle.std.specs.Ordering.{ordering_then}
-use Rattle.std.specs.declared.cmp.Ordering.{Ordering}
-use Rattle.std.proofs.lemmas.Bool.{both_ways, false_from_ne_true}
+use Rattle.clr_rules.proofs.Common.{ordering_then, both_ways, false_from_ne_true, same_Some, Contains-here, Contains-later, Hold, id_cmp, id_cmp_total, kept_there, Contains-filter}
 use Rattle.std.proofs.lemmas.Cmp.{on_total, then_total}
 use Rattle.std.proofs.lemmas.List.Elements.{All-contains, All-cons, All-nil}
 use Rattle.std.proofs.lemmas.List.MinMax.{ranks_by}
-use Rattle.std.proofs.lemmas.Option.{same_Some}
-use Rattle.clr_shelf.proofs.Lists.{Contains-here, Contains-later}
 use Rattle.clr_rules.specs.HoldKind.{kind_cmp, kind_cmp_total}
 use Rattle.clr_rules.specs.laws.Holds.{LeastHoldIsNamed, NoneIsNamedWhereNoneHinders}
 use Rattle.clr_rules.specs.Holds.{earlier_hold, first_hold, hindering_hold, hinders, stands_before}
-use Rattle.clr_rules.specs.Prelude.{Hold, id_cmp, id_cmp_total}
-use Rattle.clr_rules.proofs.lists.Filters.{kept_there}
-use Rattle.clr_rules.proofs.lists.NamedRows.{Contains-filter}
 use Rattle.clr_rules.proofs.lists.RoundSteps.{All-from_each, filter-none_passes}
 
 -- ---- the order of holds by clearance and kind

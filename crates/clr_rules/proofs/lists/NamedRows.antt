@@ -1,8 +1,6 @@
 -- Rows found by their names: in maps and filters of lists.
 use Rattle.std.proofs.Common.{◌≡◌, ◌∙◌, ℕ, Bool, true, List, [], ◌∷◌, map, Contains, refl, sym}
-use Rattle.std.specs.List.{list_any}
-use Rattle.clr_net.specs.Name.{same_name}
-use Rattle.clr_net.specs.Names.{has_name}
+use Rattle.clr_rules.specs.Prelude.{list_any, same_name, has_name}
 use Rattle.clr_net.proofs.Walks.{any_from, one_name, same_itself, some_from}
 pub use Rattle.clr_net.proofs.KeptRows.{Contains-filter, filter-names, has_name-filter, has_name-kept}
 

@@ -1,17 +1,10 @@
 -- The number of a new clearance is that of no clearance that has a record.
-use Rattle.std.proofs.Common.{◌≡◌, ℕ, ◌+◌, ◌≤◌, ◌⊎◌, inl, inr, Bool, true, false, nat_le, List, [], ◌∷◌, Contains, Option, Some, None, is_some, refl, ◌∙◌, ap, arith}
-use Rattle.std.specs.Prelude.{◌==◌, if◌then◌else◌}
-use Rattle.std.specs.List.{fold}
-use Rattle.std.proofs.lemmas.Bool.{and_parts, eqb-true, false_from_ne_true, leb-false, leb-true}
-use Rattle.clr_net.proofs.Walks.{one_name, same_itself}
-use Rattle.clr_net.specs.Name.{same_name}
-use Rattle.clr_shelf.proofs.Lists.{Contains-cases}
-use Rattle.clr_shelf.proofs.Members.{member-row_of}
-use Rattle.clr_rules.specs.Good.{has_record}
-use Rattle.clr_rules.specs.Prelude.{Record, Id, id_cmp, id_cmp_total, same_id, Register, greatest_number, record_key, record_of}
+use Rattle.std.proofs.Common.{◌≡◌, ℕ, ◌+◌, ◌≤◌, ◌⊎◌, inl, inr, Bool, true, false, nat_le, List, [], ◌∷◌, Contains, Option, Some, None, is_some, refl, ◌∙◌, ap, arith, ◌==◌, if◌then◌else◌, fold}
+use Rattle.std.proofs.Common.{eqb-true, leb-false, leb-true}
+use Rattle.clr_rules.proofs.Common.{and_parts, false_from_ne_true, one_name, same_itself, same_name, Contains-cases, member-row_of, has_record, Record, Id, id_cmp, id_cmp_total, same_id, Register}
+use Rattle.clr_rules.proofs.Common.{greatest_number, record_key, record_of, record_id}
 use Rattle.clr_rules.specs.Isolation.{is_about_another}
 use Rattle.clr_rules.specs.Records.{greater_of, numbers_of}
-use Rattle.clr_rules.proofs.lists.RoundSteps.{record_id}
 
 -- a record that is there
 pub some_record : (found : Option Record) → is_some found ≡ true → (r : Record) × (found ≡ Some r)

@@ -80,11 +80,6 @@ no_step_there (row ∷ rows) h = absurd (let none = ltb-false 0 (length (row ∷
 pub some_step_there : (row : StepRow) (rows : List StepRow) → is_some_step (row ∷ rows) ≡ true
 some_step_there row rows = lt-ltb 0 (length (row ∷ rows)) (omega arith)
 
--- what holds of all steps holds of those of a clearance, and of a round
-pub All-of_clearance : (P : StepRow → Type 0) (steps : List StepRow) (c : Id) → All P steps → All P (steps_of steps c)
-unfolding steps_of
-All-of_clearance P steps c all = All-filter (λ (row : StepRow). same_id c row.id) P steps all
-
 pub All-in_round : (P : StepRow → Type 0) (steps : List StepRow) (c : Id) (round : ℕ) → All P steps → All P (steps_in steps c round)
 unfolding steps_in
 All-in_round P steps c round all = All-filter (is_of_round c round) P steps all

@@ -1,18 +1,8 @@
 -- What is read of the points after one of them is changed: the position, the hand, and which points have a state.
-use Rattle.std.proofs.Common.{◌≡◌, ◌∙◌, ℕ, Bool, true, false, cond, ◌||◌, List, [], ◌∷◌, map, Option, Some, None, refl, sym, ap}
-use Rattle.std.specs.Option.{is_some, option_map}
-use Rattle.std.specs.Ordering.{is_eq}
-use Rattle.std.specs.Cmp.Lexicographic.{texts_ties}
-use Rattle.std.proofs.lemmas.Cmp.{nat_list_cmp_total, nat_list_eq_equiv}
-use Rattle.clr_net.specs.Name.{name_cmp, same_name}
-use Rattle.clr_net.specs.Names.{has_name}
-use Rattle.clr_net.specs.declared.point.Position.{Position}
+use Rattle.std.proofs.Common.{◌≡◌, ◌∙◌, ℕ, Bool, true, false, cond, ◌||◌, List, [], ◌∷◌, map, Option, Some, None, refl, sym, ap, is_some, option_map, is_eq}
+use Rattle.clr_rules.proofs.Common.{texts_ties, nat_list_cmp_total, nat_list_eq_equiv, name_cmp, same_name, has_name, Position, in_key_order-with_row, equal, same_text, member-row_of, row_of-with}
+use Rattle.clr_rules.proofs.Common.{in_key_order, row_of}
 use Rattle.clr_shelf.proofs.FirstRow.{keys-with_row}
-use Rattle.clr_shelf.proofs.KeyOrder.{in_key_order-with_row}
-use Rattle.clr_shelf.proofs.Keys.{equal, same_text}
-use Rattle.clr_shelf.proofs.Members.{member-row_of}
-use Rattle.clr_shelf.proofs.Reading.{row_of-with}
-use Rattle.clr_shelf.specs.Rows.{in_key_order, row_of}
 use Rattle.clr_rules.specs.Prelude.{PointState, Id, hand_of, position_of, state_key, state_of}
 use Rattle.clr_rules.specs.States.{change_state, changed_state, hand_in}
 

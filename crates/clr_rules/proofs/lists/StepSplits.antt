@@ -1,23 +1,11 @@
 -- A list of steps split at one of them: what is so of the whole before and after that step is put anew.
-use Rattle.std.proofs.Common.{◌≡◌, ℕ, Bool, true, false, ◌||◌, nat_eq, List, [], ◌∷◌, ◌++◌, map, All, Contains, refl, ◌∙◌, ap, arith, ◌⊎◌, inl, inr}
-use Rattle.std.specs.Cmp.{IsTotalOrder}
-use Rattle.std.specs.List.{list_any}
-use Rattle.std.specs.Ordering.{is_lt}
-use Rattle.std.specs.declared.cmp.Ordering.{Ordering}
-use Rattle.std.specs.declared.cmp.Ordering.TheVariants.{Less}
-use Rattle.std.proofs.lemmas.Bool.{and_from, and_parts, both_ways, eq-eqb, false≢true, or_cases, or_left, or_right}
-use Rattle.std.proofs.lemmas.Cmp.{tied_itself}
+use Rattle.std.proofs.Common.{◌≡◌, ℕ, Bool, true, false, ◌||◌, nat_eq, List, [], ◌∷◌, ◌++◌, map, All, Contains, refl, ◌∙◌, ap, arith, ◌⊎◌, inl, inr, is_lt, Ordering, Less, eq-eqb}
+use Rattle.clr_rules.proofs.Common.{IsTotalOrder, list_any, and_from, and_parts, both_ways, false≢true, or_cases, or_left, or_right, tied_itself, StepState, Waiting, in_key_order-first}
+use Rattle.clr_rules.proofs.Common.{in_key_order-rest, Contains-cases, list_all-contains, in_key_order, with_row, steps_left_of, all_waiting, go_in_turn, of_round}
 use Rattle.std.proofs.lemmas.List.Elements.{All-append, All-cons, All-head, All-nil, All-tail, filter-append}
-use Rattle.clr_order.specs.declared.step.StepState.{StepState}
-use Rattle.clr_order.specs.declared.step.StepState.TheVariants.{Waiting, Repeated}
+use Rattle.clr_rules.specs.Prelude.{Repeated, StepRow, all_done, is_active, is_done, is_waiting}
 use Rattle.clr_shelf.proofs.FirstRow.{with_row-after, with_row-over}
-use Rattle.clr_shelf.proofs.KeyOrder.{in_key_order-first, in_key_order-rest}
 use Rattle.clr_shelf.proofs.Keys.{less}
-use Rattle.clr_shelf.proofs.Lists.{Contains-cases, list_all-contains}
-use Rattle.clr_shelf.specs.Rows.{in_key_order, with_row}
-use Rattle.clr_rules.specs.Good.{steps_left_of}
-use Rattle.clr_rules.specs.GoodByPhase.{all_waiting, go_in_turn, of_round}
-use Rattle.clr_rules.specs.Prelude.{StepRow, all_done, is_active, is_done, is_waiting}
 use Rattle.clr_rules.specs.Steps.{is_repeated}
 
 -- ---- a row that is put over another splits the list where that stood

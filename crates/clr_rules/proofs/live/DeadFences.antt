@@ -1,22 +1,12 @@
 -- While the points of a sound order are open, no section of its fence is live.
 use Rattle.std.proofs.Common.{◌≡◌, ◌∙◌, ℕ, true, false, not, List, All, Contains, Some, sym, ap}
-use Rattle.std.proofs.lemmas.Bool.{both_ways, false_from_ne_true, not-true, not_from_false}
-use Rattle.std.proofs.lemmas.List.Elements.{All-contains}
-use Rattle.clr_net.specs.Fence.{fence_of, in_fence}
-use Rattle.clr_net.specs.Grid.{Grid, IsNetwork}
-use Rattle.clr_net.specs.Name.{same_name}
-use Rattle.clr_net.specs.Names.{has_name}
-use Rattle.clr_net.specs.declared.section.SectionRow.{SectionRow}
+use Rattle.clr_rules.proofs.Common.{both_ways, false_from_ne_true, not-true, not_from_false, All-contains, fence_of, in_fence, Grid, IsNetwork, same_name, has_name, SectionRow, IsSoundOrder, Task}
+use Rattle.clr_rules.proofs.Common.{work_fence, PointState, first_of_each, Contains-filter}
 use Rattle.clr_net.proofs.Walks.{fence_is_closed, one_name, some_from}
-use Rattle.clr_order.specs.Isolating.{IsSoundOrder}
-use Rattle.clr_order.specs.Step.{Task}
-use Rattle.clr_rules.specs.Fences.{work_fence}
-use Rattle.clr_rules.specs.Prelude.{PointState, first_of_each}
 use Rattle.clr_rules.specs.Live.{is_closed_point, is_live}
 use Rattle.clr_rules.specs.laws.Live.{CarriesOn}
 use Rattle.clr_rules.proofs.live.FenceCuts.{has_name-once, in_fence_alike, in_fence_from_named}
 use Rattle.clr_rules.proofs.live.LiveSections.{live_is_least}
-use Rattle.clr_rules.proofs.lists.NamedRows.{Contains-filter}
 
 module _ (g : Grid) (net : IsNetwork g) (states : List PointState) (work : List ℕ) (points : List (List ℕ)) (tasks : List Task) (sound : IsSoundOrder g work points tasks) where
   -- a source stands outside

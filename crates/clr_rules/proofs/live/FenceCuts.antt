@@ -1,17 +1,7 @@
 -- A fence depends on which points it is cut at, and neither on their order nor on repeats.
 use Rattle.std.proofs.Common.{◌≡◌, ◌∙◌, ℕ, zero, suc, Bool, true, false, ◌&&◌, ◌||◌, not, List, [], ◌∷◌, length, Some, refl, sym}
-use Rattle.std.specs.List.{list_any}
-use Rattle.std.proofs.lemmas.Bool.{and_parts}
-use Rattle.std.proofs.lemmas.Cmp.{nat_list_eq_equiv}
-use Rattle.clr_net.specs.Fence.{in_fence, reaches}
-use Rattle.clr_net.specs.Grid.{Grid, IsNetwork, section_names}
-use Rattle.clr_net.specs.Name.{same_name}
-use Rattle.clr_net.specs.Names.{has_name}
-use Rattle.clr_net.specs.declared.point.PointRow.{PointRow}
-use Rattle.clr_net.specs.declared.section.SectionRow.{SectionRow}
+use Rattle.clr_rules.proofs.Common.{list_any, and_parts, nat_list_eq_equiv, in_fence, reaches, Grid, IsNetwork, section_names, same_name, has_name, PointRow, SectionRow, work_fence, first_of_each}
 use Rattle.clr_net.proofs.Walks.{fence_is_walks, reaches_from_walk}
-use Rattle.clr_rules.specs.Fences.{work_fence}
-use Rattle.clr_rules.specs.Holds.{first_of_each}
 use Rattle.clr_rules.proofs.lists.NamedRows.{has_name-filter, has_name-kept}
 
 -- of names each once there are the same

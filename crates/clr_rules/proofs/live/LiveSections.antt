@@ -1,18 +1,13 @@
 -- The live sections are those that closed points join to a source.
 use Rattle.std.proofs.Common.{◌≡◌, ◌↔◌, ◌∙◌, ℕ, Bool, true, false, ◌&&◌, not, List, Contains, refl, sym, ap}
 use Rattle.std.proofs.lemmas.Bool.{and_from, and_parts, not-false}
-use Rattle.clr_net.specs.Fence.{in_fence}
-use Rattle.clr_net.specs.Grid.{Grid, IsNetwork, point_names}
-use Rattle.clr_net.specs.Names.{has_name}
+use Rattle.clr_rules.proofs.Common.{in_fence, Grid, IsNetwork, point_names, has_name, PointRow, SectionRow, PointState}
 use Rattle.clr_net.specs.Walk.{Walk}
 use Rattle.clr_net.specs.Walk.Walk.{goes_on, stays}
-use Rattle.clr_net.specs.declared.point.PointRow.{PointRow}
-use Rattle.clr_net.specs.declared.section.SectionRow.{SectionRow}
 use Rattle.clr_net.proofs.Walks.{any_from, fence_is_closed, fence_is_least, fence_is_walks, same_tests, some_from}
 use Rattle.clr_rules.specs.Live.{ClosedWalk, IsLive, feeds, is_closed_point, is_live, open_points}
 use Rattle.clr_rules.specs.laws.Live.{CarriesOn}
 use Rattle.clr_rules.specs.Live.ClosedWalk.{at_source, over_closed}
-use Rattle.clr_rules.specs.declared.point_state.PointState.{PointState}
 use Rattle.clr_rules.proofs.lists.NamedRows.{has_name-filter, has_name-row}
 
 module _ (g : Grid) (states : List PointState) where

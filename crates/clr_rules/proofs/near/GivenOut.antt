@@ -1,35 +1,19 @@
 -- A command that gives a step out is answered by what is near it: the step's point is near where the checks before it pass.
-use Rattle.std.proofs.Common.{◌≡◌, ◌∙◌, ℕ, Bool, true, false, ◌&&◌, ◌||◌, not, List, [], ◌∷◌, ◌++◌, Option, Some, None, refl, sym, ap, subst}
-use Rattle.std.specs.Prelude.{if◌then◌else◌, ◌==◌}
-use Rattle.std.specs.List.{Contains}
-use Rattle.std.proofs.lemmas.Bool.{and_from, and_parts, or_left, or_right}
-use Rattle.std.proofs.lemmas.Cmp.{nat_list_cmp_total}
-use Rattle.std.proofs.lemmas.List.Elements.{All-contains}
-use Rattle.clr_net.specs.Name.{name_cmp, same_name}
-use Rattle.clr_net.specs.Names.{has_name}
-use Rattle.clr_net.proofs.Walks.{one_name}
-use Rattle.clr_order.specs.Step.{Task, task}
+use Rattle.std.proofs.Common.{◌≡◌, ◌∙◌, ℕ, Bool, true, false, ◌&&◌, ◌||◌, not, List, [], ◌∷◌, ◌++◌, Option, Some, None, refl, sym, ap, subst, if◌then◌else◌, ◌==◌, Contains}
+use Rattle.clr_rules.proofs.Common.{and_from, and_parts, or_left, or_right, nat_list_cmp_total, All-contains, name_cmp, same_name, has_name, one_name, Task, task, equal, same_text}
+use Rattle.clr_rules.proofs.Common.{filter-filter_wider, named_clearance, clearance_fence, touching_names, SameOwn, hand_in, is_close, there_mapped, Contains-filter, has_name-row, own_id}
 use Rattle.clr_shelf.proofs.Groups.{row_of-filter_inside}
-use Rattle.clr_shelf.proofs.Keys.{equal, same_text}
-use Rattle.clr_shelf.proofs.Lists.{filter-filter_wider}
 use Rattle.clr_rules.specs.Answer.{answer, answer_with, fence_for, first_refusal, known_of, answer_by_checks}
 use Rattle.clr_rules.specs.Commands.{by_operator, checks}
 use Rattle.clr_rules.specs.Checks.{hold_hinders, held_by, in_hand, is_operator, no_step, other_hand, out_of_turn, where_some, wrong_state}
-use Rattle.clr_rules.specs.Command.{named_clearance}
-use Rattle.clr_rules.specs.Fences.{clearance_fence, touching_names}
 use Rattle.clr_rules.specs.Good.{IsGoodAsSaid, OnlySwitchOrdersSwitch, steps_left_of}
-use Rattle.clr_rules.specs.Prelude.{Command, Hold, HeldOpen, Phase, Ordered, Restoring, Switching, PointState, Record, Refusal, StepRow, Id, same_id, Register, hand_of, state_key, record_of, is_running, is_standing, is_restoring}
-use Rattle.clr_rules.specs.Prelude.{is_done, is_some_step, is_waiting, points_of, present_steps, step_at, steps_in, steps_of, tasks_of, is_point_kind, has_hold, same_kind}
+use Rattle.clr_rules.specs.Prelude.{Command, Hold, HeldOpen, Phase, Ordered, Restoring, Switching, PointState, Record, Refusal, StepRow, Id, same_id, Register, hand_of, state_key, record_of}
+use Rattle.clr_rules.specs.Prelude.{is_running, is_standing, is_restoring, is_done, is_some_step, is_waiting, points_of, present_steps, step_at, steps_in, steps_of, tasks_of, is_point_kind, has_hold}
+use Rattle.clr_rules.specs.Prelude.{same_kind, Instruct}
 use Rattle.clr_rules.specs.Holds.{first_hold, hindering_hold, hinders, is_near_hold}
 use Rattle.clr_rules.specs.Near.{is_beside, near_part, part_beside, switched_in}
-use Rattle.clr_rules.specs.laws.Own.{SameOwn}
 use Rattle.clr_rules.specs.Records.{is_closed, is_in_switching}
-use Rattle.clr_rules.specs.States.{hand_in}
-use Rattle.clr_rules.specs.Steps.{is_close}
-use Rattle.clr_rules.specs.declared.command.Kind.TheVariants.{Instruct}
-use Rattle.clr_rules.proofs.lists.Filters.{there_mapped}
 use Rattle.clr_rules.proofs.keeps.Repeat.{state_fits}
-use Rattle.clr_rules.proofs.lists.NamedRows.{Contains-filter, has_name-row}
 use Rattle.clr_rules.proofs.near.NearOrder.{near_in_order}
 use Rattle.clr_rules.proofs.near.OwnAnswers.{settled_alike}
 use Rattle.clr_rules.proofs.near.OwnChecks.{number, same_by_role, state, turn}
@@ -39,7 +23,6 @@ use Rattle.clr_rules.proofs.near.OwnQuestions.{same_present}
 use Rattle.clr_rules.proofs.edits.Passing.{all_pass, first_after, role_begun}
 use Rattle.clr_rules.proofs.edits.PresentSteps.{FoundStep, step_there}
 use Rattle.clr_rules.proofs.good.PutHolds.{found_there}
-use Rattle.clr_rules.proofs.lists.RoundSteps.{own_id}
 use Rattle.clr_rules.proofs.lists.StepSplits.{waiting_not_done}
 
 -- ---- phases

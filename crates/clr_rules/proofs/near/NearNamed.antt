@@ -1,11 +1,7 @@
 -- A command that names a clearance is no jumper: what is near it, and how it is told of.
 use Rattle.std.proofs.Common.{◌≡◌, ℕ, false, List, Some, None, refl}
 use Rattle.clr_rules.specs.Answer.{crossed_for, reply_after, reply_clearance, reply_of}
-use Rattle.clr_rules.specs.Command.{is_jumper, named_clearance}
-use Rattle.clr_rules.specs.Commands.{Known}
-use Rattle.clr_rules.specs.Near.{near_part, part_beside}
-use Rattle.clr_rules.specs.Prelude.{Command, Kind, Id, Register, record_of}
-use Rattle.clr_rules.specs.declared.command.Kind.TheVariants.{Jumper}
+use Rattle.clr_rules.proofs.Common.{is_jumper, named_clearance, Known, near_part, part_beside, Command, Kind, Id, Register, record_of, Jumper}
 
 pub no_jumper : (kind : Kind) (c : Id) → named_clearance kind ≡ Some c → is_jumper kind ≡ false
 no_jumper (Jumper point from to lockable remote) c named = cc named

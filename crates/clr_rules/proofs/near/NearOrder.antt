@@ -1,21 +1,11 @@
 -- The near part keeps the order of the lists; a point of a network has one row.
-use Rattle.std.proofs.Common.{◌≡◌, ℕ, ◌<◌, Bool, true, false, cond, ◌==◌, refl, [], length, get_or, sym, ◌∙◌, ap, arith}
-use Rattle.std.specs.List.{Contains}
-use Rattle.std.proofs.lemmas.Cmp.{nat_list_cmp_total}
+use Rattle.std.proofs.Common.{◌≡◌, ℕ, ◌<◌, Bool, true, false, cond, ◌==◌, refl, [], length, get_or, sym, ◌∙◌, ap, arith, Contains}
+use Rattle.clr_rules.proofs.Common.{nat_list_cmp_total, Grid, IsNetwork, point_names, name_cmp, PointRow, has_name, in_key_order-filter, Known, known_of, is_jumper, named_clearance, ListsAreInOrder}
+use Rattle.clr_rules.proofs.Common.{Command, PointState, Record, StepRow, id_cmp, id_cmp_total, Register, state_key, record_key, step_key, step_key_cmp, step_key_cmp_total, hold_cmp, hold_cmp_total}
+use Rattle.clr_rules.proofs.Common.{hold_key, is_near_hold, is_own}
 use Rattle.std.proofs.lemmas.List.{get_or-map, get_or_default, length-map}
-use Rattle.clr_net.specs.Grid.{Grid, IsNetwork, point_names}
 use Rattle.clr_net.specs.Index.{place_in}
-use Rattle.clr_net.specs.Name.{name_cmp}
-use Rattle.clr_net.specs.declared.point.PointRow.{PointRow}
 use Rattle.clr_net.proofs.FencePlaces.{place_at}
-use Rattle.clr_net.specs.Names.{has_name}
-use Rattle.clr_shelf.proofs.KeyOrder.{in_key_order-filter}
-use Rattle.clr_rules.specs.Commands.{Known}
-use Rattle.clr_rules.specs.Answer.{known_of}
-use Rattle.clr_rules.specs.Command.{is_jumper, named_clearance}
-use Rattle.clr_rules.specs.Good.{ListsAreInOrder}
-use Rattle.clr_rules.specs.Prelude.{Command, PointState, Record, StepRow, id_cmp, id_cmp_total, Register, state_key, record_key, step_key, step_key_cmp, step_key_cmp_total, hold_cmp, hold_cmp_total, hold_key}
-use Rattle.clr_rules.specs.Holds.{is_near_hold, is_own}
 use Rattle.clr_rules.specs.Near.{is_beside, near_part, network_part, part_beside}
 
 beside_in_order : (R : Register) (q : Command) → ListsAreInOrder R → ListsAreInOrder (part_beside R q)

@@ -1,24 +1,12 @@
 -- The near part has exactly the rows that the words say.
-use Rattle.std.proofs.Common.{◌≡◌, inl, inr, ⊎_elim, ℕ, Bool, true, false, ◌||◌, List, [], None, Some, refl, sym, ◌∙◌, ap, subst}
-use Rattle.std.specs.List.{Contains}
-use Rattle.std.proofs.lemmas.Bool.{false≢true}
-use Rattle.std.proofs.lemmas.Option.{none-some, same_Some}
-use Rattle.clr_net.specs.Grid.{Grid}
-use Rattle.clr_net.specs.Name.{same_name}
-use Rattle.clr_net.specs.Names.{has_name}
-use Rattle.clr_net.specs.declared.point.PointRow.{PointRow}
-use Rattle.clr_net.specs.declared.section.SectionRow.{SectionRow}
-use Rattle.clr_net.proofs.Walks.{one_name, same_itself}
-use Rattle.clr_order.specs.Step.{Task, task_points}
+use Rattle.std.proofs.Common.{◌≡◌, inl, inr, ⊎_elim, ℕ, Bool, true, false, ◌||◌, List, [], None, Some, refl, sym, ◌∙◌, ap, subst, Contains}
+use Rattle.clr_rules.proofs.Common.{false≢true, none-some, same_Some, Grid, same_name, has_name, PointRow, SectionRow, one_name, same_itself, Task, named_clearance, clearance_fence, touching_names}
+use Rattle.clr_rules.proofs.Common.{is_near_hold, is_own, Request, Switch}
+use Rattle.clr_rules.specs.Prelude.{task_points, Command, Kind, Hold, PointState, Record, StepRow, Id, Register, record_of, is_point_kind, Order}
 use Rattle.clr_rules.specs.Answer.{fence_for, known_of, named_fence}
-use Rattle.clr_rules.specs.Command.{named_clearance}
-use Rattle.clr_rules.specs.Fences.{clearance_fence, touching_names}
-use Rattle.clr_rules.specs.Prelude.{Command, Kind, Hold, PointState, Record, StepRow, Id, Register, record_of, is_point_kind}
-use Rattle.clr_rules.specs.Holds.{is_near_hold, is_own}
 use Rattle.clr_rules.specs.laws.Marks.{HasEndIn}
 use Rattle.clr_rules.specs.Near.{is_asked, is_beside, near_of, part_beside, switched_points, switched_in}
 use Rattle.clr_rules.specs.laws.Near.{HasAskedRow, HasNearRows, HasSwitchRows, InFence, InOrderFence, IsNearHold, IsNearPoint, IsStepPoint, IsSwitchPoint, is_order}
-use Rattle.clr_rules.specs.declared.command.Kind.TheVariants.{Request, Order, Switch}
 use Rattle.clr_rules.proofs.lists.Filters.{Says, fails, filter-nothing, is_kept, name_says, or_says, says_as, says_like}
 use Rattle.clr_rules.proofs.near.NearNamed.{near_named, no_jumper, none_crossed}
 use Rattle.clr_rules.proofs.near.NearTests.{crew_says, fence_says, order_says, own_says, switched_says}

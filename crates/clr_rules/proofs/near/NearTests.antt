@@ -1,21 +1,12 @@
 -- What the tests of the near part say, in words: in the fence of a clearance, at a point of a switch order, own.
-use Rattle.std.proofs.Common.{◌≡◌, ℕ, Bool, true, false, List, map, Option, None, Some, refl, sym, ◌∙◌, ap, subst}
-use Rattle.std.specs.List.{filter, Contains}
-use Rattle.std.proofs.lemmas.Bool.{false≢true}
-use Rattle.std.proofs.lemmas.Option.{none-some, same_Some}
-use Rattle.clr_net.specs.Fence.{in_fence}
-use Rattle.clr_net.specs.Grid.{Grid, section_names}
-use Rattle.clr_net.specs.Names.{has_name}
-use Rattle.clr_order.specs.Step.{Task, task}
+use Rattle.std.proofs.Common.{◌≡◌, ℕ, Bool, true, false, List, map, Option, None, Some, refl, sym, ◌∙◌, ap, subst, filter, Contains}
+use Rattle.clr_rules.proofs.Common.{false≢true, none-some, same_Some, in_fence, Grid, section_names, has_name, Task, task, is_fenced, one_id, own_id, record_id, Contains-filter}
 use Rattle.clr_rules.specs.Fences.{clearance_fence, found_fence, found_order_fence, order_fence, record_fence, work_fence}
 use Rattle.clr_rules.specs.Prelude.{HoldKind, Crew, Record, StepRow, Id, same_id, Register, record_of, points_of, steps_in, steps_of, is_crew}
 use Rattle.clr_rules.specs.Near.{switched_by, switched_in}
 use Rattle.clr_rules.specs.laws.Near.{InFence, InOrderFence, IsStepPoint, IsSwitchPoint, IsWithin}
-use Rattle.clr_rules.specs.Records.{is_fenced}
 use Rattle.clr_rules.proofs.live.FenceCuts.{named_in_fence}
 use Rattle.clr_rules.proofs.lists.Filters.{Says, and_says, itself_says, kept_there, mapped_from, name_says, says_as, says_like, there_mapped}
-use Rattle.clr_rules.proofs.lists.RoundSteps.{one_id, own_id, record_id}
-use Rattle.clr_rules.proofs.lists.NamedRows.{Contains-filter}
 
 -- ---- a clearance that is meant
 

@@ -1,19 +1,10 @@
 -- What the tests for points and holds near a set say, in words.
-use Rattle.std.proofs.Common.{◌≡◌, ◌↔◌, ◌⊎◌, inl, inr, ⊎_elim, ℕ, Bool, true, ◌&&◌, ◌||◌, List, subst, Option, None}
-use Rattle.std.specs.Prelude.{IsTrue}
-use Rattle.std.specs.List.{filter, Contains}
-use Rattle.std.proofs.lemmas.Bool.{false≢true}
-use Rattle.clr_net.specs.Grid.{Grid}
-use Rattle.clr_net.specs.Names.{has_name}
-use Rattle.clr_net.specs.declared.point.PointRow.{PointRow}
-use Rattle.clr_rules.specs.Fences.{touching_names}
-use Rattle.clr_net.specs.Fence.{touches}
+use Rattle.std.proofs.Common.{◌≡◌, ◌↔◌, ◌⊎◌, inl, inr, ⊎_elim, ℕ, Bool, true, ◌&&◌, ◌||◌, List, subst, Option, None, IsTrue, filter, Contains}
+use Rattle.clr_rules.proofs.Common.{false≢true, Grid, has_name, PointRow, touching_names, touches, is_near_hold, is_own, Contains-filter}
 use Rattle.clr_rules.specs.Prelude.{Edit, SetPosition, SetHand, PutHold, TakeHold, AddSection, AddPoint, Hold, Id, is_crew, is_point_kind, is_section_kind}
-use Rattle.clr_rules.specs.Holds.{is_near_hold, is_own}
 use Rattle.clr_rules.specs.laws.Marks.{HasEndIn, IsEditAmong, StandsAmong}
 use Rattle.clr_rules.specs.Shown.{is_mark}
 use Rattle.clr_rules.proofs.lists.Filters.{Says, and_says, itself_says, kept_there, mapped_from, name_says, or_says, there_mapped}
-use Rattle.clr_rules.proofs.lists.NamedRows.{Contains-filter}
 
 module _ (g : Grid) (inside : List ℕ → Bool) (Among : List ℕ → Type 0) (says : (s : List ℕ) → Says (inside s) (Among s)) where
   touches_says : (row : PointRow) → Says (touches inside row) (Among row.from_end ⊎ Among row.to_end)

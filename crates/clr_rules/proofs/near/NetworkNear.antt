@@ -1,18 +1,9 @@
 -- The near part of a jumper has exactly the rows that the words say, and no near part has another row.
-use Rattle.std.proofs.Common.{◌≡◌, ◌==◌, ℕ, Bool, true, false, cond, List, [], ◌∷◌, refl, sym, ap}
-use Rattle.std.specs.List.{filter, find}
-use Rattle.std.specs.Option.{option_map}
-use Rattle.std.proofs.lemmas.Bool.{and_parts, eqb-true, eq-eqb}
-use Rattle.clr_net.specs.Grid.{Grid}
-use Rattle.clr_shelf.proofs.Lists.{filter-filter_wider}
-use Rattle.clr_rules.specs.Command.{is_jumper}
+use Rattle.std.proofs.Common.{◌≡◌, ◌==◌, ℕ, Bool, true, false, cond, List, [], ◌∷◌, refl, sym, ap, filter, find, option_map, eqb-true, eq-eqb}
+use Rattle.clr_rules.proofs.Common.{and_parts, Grid, filter-filter_wider, is_jumper, Command, Record, StepRow, Id, same_id, Register, points_of, steps_in, is_fenced, is_of_round, Jumper}
 use Rattle.clr_rules.specs.Fences.{crossed_by, crossed_record, crosses, record_fence, work_fence}
 use Rattle.clr_rules.specs.Near.{near_of, near_part, network_part, part_beside}
 use Rattle.clr_rules.specs.laws.Near.{HasNetworkRows, HasNoOtherRows, IsPartOf}
-use Rattle.clr_rules.specs.Prelude.{Command, Record, StepRow, Id, same_id, Register, points_of, steps_in}
-use Rattle.clr_rules.specs.Records.{is_fenced}
-use Rattle.clr_rules.specs.Steps.{is_of_round}
-use Rattle.clr_rules.specs.declared.command.Kind.TheVariants.{Jumper}
 use Rattle.clr_rules.proofs.lists.Filters.{filter-nothing, is_kept}
 
 -- ---- the fences that a jumper could cross

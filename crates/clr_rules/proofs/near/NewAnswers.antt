@@ -1,33 +1,16 @@
 -- A command that makes a new clearance is answered by what is near it.
-use Rattle.std.proofs.Common.{◌≡◌, ◌∙◌, ℕ, ◌+◌, Bool, true, false, ◌&&◌, not, List, [], ◌∷◌, find, length, nat_eq, nat_lt, Option, Some, None, is_some, refl, sym, ap}
-use Rattle.std.specs.Prelude.{IsTrue}
-use Rattle.std.specs.List.{Contains, filter}
-use Rattle.std.proofs.lemmas.Bool.{both_ways, false_from_ne_true, or_right}
-use Rattle.std.proofs.lemmas.List.Elements.{All-contains}
-use Rattle.clr_net.specs.Grid.{Grid, point_names, section_names}
-use Rattle.clr_net.specs.Name.{same_name}
-use Rattle.clr_net.specs.Names.{has_name}
-use Rattle.clr_net.specs.declared.point.PointRow.{PointRow}
-use Rattle.clr_net.specs.declared.section.SectionRow.{SectionRow}
-use Rattle.clr_net.proofs.Walks.{same_itself}
+use Rattle.std.proofs.Common.{◌≡◌, ◌∙◌, ℕ, ◌+◌, Bool, true, false, ◌&&◌, not, List, [], ◌∷◌, find, length, nat_eq, nat_lt, Option, Some, None, is_some, refl, sym, ap, IsTrue, Contains, filter}
+use Rattle.clr_rules.proofs.Common.{both_ways, false_from_ne_true, or_right, All-contains, Grid, point_names, section_names, same_name, has_name, PointRow, SectionRow, same_itself, Contains-here}
+use Rattle.clr_rules.proofs.Common.{Contains-later, row_of, answer, answer_with, first_refusal, known_of, answer_by_checks, checks, edits_of, named_clearance, is_near_hold, SameOwn, order_refusal}
+use Rattle.clr_rules.proofs.Common.{Request, Switch, Jumper, one_id}
 use Rattle.clr_order.specs.OrderFault.{fault_if, name_fault}
 use Rattle.clr_order.specs.Step.{Task, stray_point, task_points}
 use Rattle.clr_order.specs.Switching.{unswitching_point}
 use Rattle.clr_order.specs.declared.order_fault.OrderFault.TheVariants.{EmptyOrder, LongOrder, StepsWrong, UnknownPoint}
-use Rattle.clr_shelf.proofs.Lists.{Contains-here, Contains-later}
-use Rattle.clr_shelf.specs.Rows.{row_of}
-use Rattle.clr_rules.specs.Answer.{answer, answer_with, first_refusal, known_of, answer_by_checks}
-use Rattle.clr_rules.specs.Commands.{checks, edits_of}
 use Rattle.clr_rules.specs.Checks.{refuse, too_many_clearances, unknown_caller, wrong_role, wrong_switching, is_charge, is_operator}
-use Rattle.clr_rules.specs.Command.{named_clearance}
-use Rattle.clr_rules.specs.Prelude.{Command, Kind, Hold, Record, Refusal, StepRow, Id, same_id, Register, greatest_number, record_of, steps_of, holds_of, after_edits}
+use Rattle.clr_rules.specs.Prelude.{Command, Kind, Hold, Record, Refusal, StepRow, Id, same_id, Register, greatest_number, record_of, steps_of, holds_of, after_edits, UnknownSection}
 use Rattle.clr_rules.specs.Good.{IsGoodAsSaid, OnlySwitchOrdersSwitch, has_record}
-use Rattle.clr_rules.specs.Holds.{is_near_hold}
 use Rattle.clr_rules.specs.Near.{Near, is_beside, near_of, near_part}
-use Rattle.clr_rules.specs.laws.Own.{SameOwn}
-use Rattle.clr_rules.specs.Refusals.{order_refusal}
-use Rattle.clr_rules.specs.declared.command.Kind.TheVariants.{Request, Switch, Jumper}
-use Rattle.clr_rules.specs.declared.refusal.Refusal.TheVariants.{UnknownSection}
 use Rattle.clr_rules.proofs.lists.Filters.{filter-no_member, filter-nothing, kept_there, name_says}
 use Rattle.clr_rules.proofs.lists.NamedRows.{has_name-kept}
 use Rattle.clr_rules.proofs.near.NearOrder.{near_in_order}
@@ -35,7 +18,6 @@ use Rattle.clr_rules.proofs.edits.NewRecords.{next_is_free}
 use Rattle.clr_rules.proofs.near.OrderAnswers.{named_is_enough}
 use Rattle.clr_rules.proofs.near.OwnAnswers.{told_alike}
 use Rattle.clr_rules.proofs.near.OwnEdits.{same_own_edited_all}
-use Rattle.clr_rules.proofs.lists.RoundSteps.{one_id}
 
 -- a search by tests that agree at each element of the list
 find-alike : {X : Type 0} (p q : X → Bool) (xs : List X) → ((x : X) → Contains xs x → p x ≡ q x) → find p xs ≡ find q xs

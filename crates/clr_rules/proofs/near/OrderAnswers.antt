@@ -1,28 +1,12 @@
 -- An order is answered by what is near the fence that it would make.
-use Rattle.std.proofs.Common.{◌≡◌, ◌∙◌, ℕ, Bool, true, false, ◌||◌, List, [], ◌∷◌, Option, Some, None, refl, sym, ap}
-use Rattle.std.specs.List.{Contains, filter}
-use Rattle.std.proofs.lemmas.Bool.{both_ways, false_from_ne_true, or_left}
-use Rattle.std.proofs.lemmas.Option.{same_Some}
-use Rattle.clr_net.specs.Grid.{Grid}
-use Rattle.clr_net.specs.Names.{has_name}
-use Rattle.clr_net.specs.declared.section.SectionRow.{SectionRow}
-use Rattle.clr_order.specs.Isolating.{isolating_fault}
-use Rattle.clr_order.specs.Step.{Task}
-use Rattle.clr_shelf.proofs.Lists.{filter-filter_wider}
-use Rattle.clr_rules.specs.Answer.{answer, answer_with, first_refusal, known_of, answer_by_checks}
-use Rattle.clr_rules.specs.Commands.{checks}
-use Rattle.clr_rules.specs.Checks.{is_operator}
+use Rattle.std.proofs.Common.{◌≡◌, ◌∙◌, ℕ, Bool, true, false, ◌||◌, List, [], ◌∷◌, Option, Some, None, refl, sym, ap, Contains, filter}
+use Rattle.clr_rules.proofs.Common.{both_ways, false_from_ne_true, or_left, same_Some, Grid, has_name, SectionRow, isolating_fault, Task, filter-filter_wider, answer, answer_with, first_refusal}
+use Rattle.clr_rules.proofs.Common.{known_of, answer_by_checks, checks, is_operator, is_near_hold, is_beside, near_part, SameOwn, order_refusal, named_clearance, one_id}
 use Rattle.clr_rules.specs.Fences.{order_fence, rows_of_fence}
 use Rattle.clr_rules.specs.Good.{IsGoodAsSaid, OnlySwitchOrdersSwitch}
-use Rattle.clr_rules.specs.Prelude.{Command, Kind, Hold, HoldKind, Phase, Requested, Granted, Record, Refusal, Id, same_id, Register, record_of, is_standing, is_granted, is_point_kind}
-use Rattle.clr_rules.specs.Prelude.{has_hold, holds_of}
-use Rattle.clr_rules.specs.Holds.{is_near_hold}
-use Rattle.clr_rules.specs.Near.{is_beside, near_part}
-use Rattle.clr_rules.specs.laws.Own.{SameOwn}
+use Rattle.clr_rules.specs.Prelude.{Command, Kind, Hold, HoldKind, Phase, Requested, Granted, Record, Refusal, Id, same_id, Register, record_of, is_standing, is_granted, is_point_kind, has_hold}
+use Rattle.clr_rules.specs.Prelude.{holds_of, Instruct, Order}
 use Rattle.clr_rules.specs.Records.{is_requested}
-use Rattle.clr_rules.specs.Refusals.{order_refusal}
-use Rattle.clr_rules.specs.Command.{named_clearance}
-use Rattle.clr_rules.specs.declared.command.Kind.TheVariants.{Instruct, Order}
 use Rattle.clr_rules.proofs.near.GivenOut.{giving_out_is_enough}
 use Rattle.clr_rules.proofs.lists.HoldMembers.{hold_had}
 use Rattle.clr_rules.proofs.lists.Filters.{filter-no_member, kept_there}
@@ -31,7 +15,6 @@ use Rattle.clr_rules.proofs.near.OwnAnswers.{accepted_alike, near_is_enough_but_
 use Rattle.clr_rules.proofs.near.OwnChecks.{same_by_role}
 use Rattle.clr_rules.proofs.near.OwnParts.{steps_of-own}
 use Rattle.clr_rules.proofs.edits.Passing.{all_pass, role_begun}
-use Rattle.clr_rules.proofs.lists.RoundSteps.{one_id}
 use Rattle.clr_rules.proofs.isolation.SameFences.{record_of-own}
 
 requested_stands_not : (phase : Phase) → is_requested phase ≡ true → is_standing phase ≡ false

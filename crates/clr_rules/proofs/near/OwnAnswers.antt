@@ -1,24 +1,12 @@
 -- A command that names a clearance is answered by what is near it.
-use Rattle.std.proofs.Common.{◌≡◌, ◌∙◌, inl, inr, ⊎_elim, ℕ, Bool, true, false, List, [], length, map, Option, Some, None, refl, sym, ap}
-use Rattle.std.specs.List.{count_by, filter}
-use Rattle.std.proofs.lemmas.Bool.{or_left}
-use Rattle.clr_net.specs.Grid.{Grid, point_names}
-use Rattle.clr_net.specs.Names.{has_name}
-use Rattle.clr_net.specs.declared.point.PointRow.{PointRow}
-use Rattle.clr_shelf.proofs.Lists.{filter-filter_wider}
-use Rattle.clr_rules.specs.Commands.{Known, checks, edits_of}
+use Rattle.std.proofs.Common.{◌≡◌, ◌∙◌, inl, inr, ⊎_elim, ℕ, Bool, true, false, List, [], length, map, Option, Some, None, refl, sym, ap, count_by, filter}
+use Rattle.clr_rules.proofs.Common.{or_left, Grid, point_names, has_name, PointRow, filter-filter_wider, Known, checks, edits_of, named_clearance, touching_names, touches, IsGoodAsSaid}
+use Rattle.clr_rules.proofs.Common.{ListsAreInOrder, is_beside, near_part, part_beside, is_order, record_id}
 use Rattle.clr_rules.specs.Answer.{answer, answer_with, card_of, reply_clearance, fence_for, first_refusal, known_of, answer_by_checks, reply_of, reply_after, view_of}
-use Rattle.clr_rules.specs.Command.{named_clearance}
-use Rattle.clr_rules.specs.Prelude.{Edit, Command, Kind, Hold, Crew, PointState, Record, Refusal, Id, Register, record_of, is_done, present_steps, present_round, places_of, after_edits}
-use Rattle.clr_rules.specs.Fences.{touching_names}
-use Rattle.clr_net.specs.Fence.{touches}
-use Rattle.clr_rules.specs.Good.{IsGoodAsSaid, ListsAreInOrder}
+use Rattle.clr_rules.specs.Prelude.{Edit, Command, Kind, Hold, Crew, PointState, Record, Refusal, Id, Register, record_of, is_done, present_steps, present_round, places_of, after_edits, Show}
+use Rattle.clr_rules.specs.Prelude.{Accepted, Shown}
 use Rattle.clr_rules.specs.Holds.{in_kind_order, is_near_hold, is_own}
-use Rattle.clr_rules.specs.Near.{is_beside, near_part, part_beside}
-use Rattle.clr_rules.specs.laws.Near.{is_order}
 use Rattle.clr_rules.specs.laws.Own.{SameOwn, is_instruct}
-use Rattle.clr_rules.specs.declared.command.Kind.TheVariants.{Show}
-use Rattle.clr_rules.specs.declared.reply.Reply.TheVariants.{Accepted, Shown}
 use Rattle.clr_rules.proofs.isolation.Agreement.{touching_named}
 use Rattle.clr_rules.proofs.lists.Filters.{filter-kept, itself_says}
 use Rattle.clr_rules.proofs.near.NearNamed.{no_jumper, reply_named}
@@ -28,7 +16,6 @@ use Rattle.clr_rules.proofs.near.OwnChecks.{checks_of_own}
 use Rattle.clr_rules.proofs.near.OwnEdits.{edits_of_own, same_own_edited_all}
 use Rattle.clr_rules.proofs.near.OwnParts.{near_has_own}
 use Rattle.clr_rules.proofs.near.OwnQuestions.{same_places, same_present, same_present_round}
-use Rattle.clr_rules.proofs.lists.RoundSteps.{record_id}
 
 abbrev pub is_show : Kind → Bool
 is_show (Show c) = true

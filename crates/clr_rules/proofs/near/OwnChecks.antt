@@ -1,18 +1,13 @@
 -- Registers that have the same of a clearance: each check of a command that names it says the same.
 use Rattle.std.proofs.Common.{◌≡◌, ℕ, Bool, false, not, List, [], ◌∷◌, Option, Some, None, is_some, sym, ap, subst}
 use Rattle.clr_staff.specs.declared.employee.Role.{Role}
-use Rattle.clr_order.specs.declared.step.StepState.{StepState}
+use Rattle.clr_rules.proofs.Common.{StepState, named_clearance, Kind, Tested, Ground, Crew, Phase, Refusal, StepRow, Id, Register, is_granted, step_at, has_hold, is_order, is_in_turn}
 use Rattle.clr_rules.specs.Commands.{Known, by_holder, by_role, checks}
 use Rattle.clr_rules.specs.Checks.{at_step, at_work, crew_is_on, is_charge, no_step, no_ground, not_tested, out_of_turn, refuse, where_some, wrong_state}
-use Rattle.clr_rules.specs.Command.{named_clearance}
-use Rattle.clr_rules.specs.Prelude.{Kind, Tested, Ground, Crew, Phase, Refusal, StepRow, Id, Register, is_granted, step_at}
-use Rattle.clr_rules.specs.Prelude.{has_hold}
-use Rattle.clr_rules.specs.laws.Near.{is_order}
 use Rattle.clr_rules.specs.laws.Own.{SameOwn, is_instruct}
-use Rattle.clr_rules.specs.Steps.{is_in_turn}
+use Rattle.clr_rules.proofs.near.OwnQuestions.{same_has_hold, same_held_among, same_present, same_round, same_some_hold}
 use Rattle.clr_rules.specs.declared.command.Kind.TheVariants as kinds
 use Rattle.clr_rules.specs.declared.refusal.Refusal.TheVariants as refusals
-use Rattle.clr_rules.proofs.near.OwnQuestions.{same_has_hold, same_held_among, same_present, same_round, same_some_hold}
 
 module _ (c : Id) (R S : Register) (same : SameOwn c R S) where
   at_number : (n : ℕ) (check : StepRow → Option Refusal) → at_step R c n check ≡ at_step S c n check

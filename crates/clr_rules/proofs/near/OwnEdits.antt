@@ -1,26 +1,17 @@
 -- Registers that have the same of a clearance: its commands make the same edits, and both have the same of it after any edits.
-use Rattle.std.proofs.Common.{◌≡◌, ◌∙◌, ℕ, Bool, true, false, ◌&&◌, cond, List, [], ◌∷◌, ◌++◌, map, Option, Some, None, refl, sym, ap, subst}
-use Rattle.std.specs.Prelude.{if◌then◌else◌}
-use Rattle.clr_order.specs.declared.step.StepState.TheVariants.{Done}
-use Rattle.clr_shelf.proofs.Groups.{filter-with_far, filter-with_inside}
-use Rattle.clr_shelf.proofs.Keys.{equal}
-use Rattle.clr_shelf.specs.Rows.{in_key_order, with_row}
+use Rattle.std.proofs.Common.{◌≡◌, ◌∙◌, ℕ, Bool, true, false, ◌&&◌, cond, List, [], ◌∷◌, ◌++◌, map, Option, Some, None, refl, sym, ap, subst, if◌then◌else◌}
+use Rattle.clr_rules.proofs.Common.{Done, filter-with_far, filter-with_inside, equal, in_key_order, with_row, edits_of, named_clearance, ListsAreInOrder, SameOwn, record_id}
 use Rattle.clr_rules.specs.Changes.{cancelled_phase, done_edits, edits_by, step_moved, phase_after, point_edits, undone_edits, with_record, with_step}
-use Rattle.clr_rules.specs.Commands.{edits_of}
-use Rattle.clr_rules.specs.Command.{named_clearance}
-use Rattle.clr_rules.specs.Prelude.{Edit, PutHold, TakeHold, PutRecord, PutStep, Kind, Tested, Phase, Released, Closed, Record, StepRow, Id, same_id, Register, record_of, is_ordered, step_key, step_key_cmp}
-use Rattle.clr_rules.specs.Prelude.{step_key_cmp_total, all_done, present_steps, step_at, steps_of, has_any_hold, hold_of, holds_of, after_edit, after_edits}
-use Rattle.clr_rules.specs.Good.{ListsAreInOrder}
-use Rattle.clr_rules.specs.laws.Own.{SameOwn}
+use Rattle.clr_rules.specs.Prelude.{Edit, PutHold, TakeHold, PutRecord, PutStep, Kind, Tested, Phase, Released, Closed, Record, StepRow, Id, same_id, Register, record_of, is_ordered, step_key}
+use Rattle.clr_rules.specs.Prelude.{step_key_cmp, step_key_cmp_total, all_done, present_steps, step_at, steps_of, has_any_hold, hold_of, holds_of, after_edit, after_edits}
 use Rattle.clr_rules.specs.Records.{ends_with_steps, is_switch_order}
 use Rattle.clr_rules.specs.StepKey.{same_step_key}
-use Rattle.clr_rules.specs.declared.command.Kind.TheVariants as kinds
 use Rattle.clr_rules.proofs.isolation.Agreement.{holds_of-edited, own_after}
 use Rattle.clr_rules.proofs.edits.EditReading.{record_of-put}
 use Rattle.clr_rules.proofs.edits.EditedLists.{edited-in_order}
 use Rattle.clr_rules.proofs.near.OwnChecks.{SameOfNamed}
 use Rattle.clr_rules.proofs.near.OwnQuestions.{same_any_hold, same_places, same_present}
-use Rattle.clr_rules.proofs.lists.RoundSteps.{record_id}
+use Rattle.clr_rules.specs.declared.command.Kind.TheVariants as kinds
 
 -- ---- after an edit
 

@@ -1,27 +1,14 @@
 -- All holds of a clearance stand near a command that names it.
-use Rattle.std.proofs.Common.{◌≡◌, ◌∙◌, ◌⊎◌, inl, inr, ⊎_elim, ℕ, true, false, ◌&&◌, ◌||◌, List, Option, Some, None, refl, sym, ap}
-use Rattle.std.specs.List.{Contains}
-use Rattle.std.proofs.lemmas.Bool.{and_from, false≢true, or_cases, or_left, or_right}
-use Rattle.std.proofs.lemmas.List.Elements.{All-contains}
-use Rattle.clr_net.specs.Fence.{FenceRows, fence_of, in_fence}
-use Rattle.clr_net.specs.Grid.{Grid}
-use Rattle.clr_net.specs.Name.{same_name}
-use Rattle.clr_net.specs.Names.{has_name}
-use Rattle.clr_net.specs.declared.point.PointRow.{PointRow}
-use Rattle.clr_net.proofs.Walks.{one_name}
+use Rattle.std.proofs.Common.{◌≡◌, ◌∙◌, ◌⊎◌, inl, inr, ⊎_elim, ℕ, true, false, ◌&&◌, ◌||◌, List, Option, Some, None, refl, sym, ap, Contains}
+use Rattle.clr_rules.proofs.Common.{and_from, false≢true, or_cases, or_left, or_right, All-contains, FenceRows, fence_of, in_fence, Grid, same_name, has_name, PointRow, one_name, named_clearance}
+use Rattle.clr_rules.proofs.Common.{clearance_fence, touching_names, is_near_hold, is_own, is_beside, near_part, part_beside, is_order, is_fenced, one_id}
 use Rattle.clr_order.specs.Isolating.{IsSoundOrder, is_border_point, touching_row}
 use Rattle.clr_order.proofs.Finds.{found_passes}
 use Rattle.clr_rules.specs.Answer.{fence_for, known_of}
-use Rattle.clr_rules.specs.Command.{named_clearance}
-use Rattle.clr_rules.specs.Fences.{clearance_fence, touching_names}
 use Rattle.clr_rules.specs.Good.{IsGoodAsSaid, IsSoundFor}
-use Rattle.clr_rules.specs.Prelude.{Command, Hold, HoldKind, Tested, Ground, Crew, Phase, Requested, Switching, Closed, Record, StepRow, Id, same_id, Register}
-use Rattle.clr_rules.specs.Prelude.{record_of, is_standing, points_of, steps_in, tasks_of, is_crew, is_point_kind, is_section_kind, has_hold, holds_of, first_of_each}
-use Rattle.clr_rules.specs.Holds.{is_near_hold, is_own}
+use Rattle.clr_rules.specs.Prelude.{Command, Hold, HoldKind, Tested, Ground, Crew, Phase, Requested, Switching, Closed, Record, StepRow, Id, same_id, Register, record_of, is_standing, points_of}
+use Rattle.clr_rules.specs.Prelude.{steps_in, tasks_of, is_crew, is_point_kind, is_section_kind, has_hold, holds_of, first_of_each}
 use Rattle.clr_rules.specs.laws.Marks.{HasEndIn}
-use Rattle.clr_rules.specs.Near.{is_beside, near_part, part_beside}
-use Rattle.clr_rules.specs.laws.Near.{is_order}
-use Rattle.clr_rules.specs.Records.{is_fenced}
 use Rattle.clr_rules.proofs.live.FenceCuts.{has_name-once, in_fence_alike, known_in_fence}
 use Rattle.clr_rules.proofs.lists.HoldMembers.{hold_had}
 use Rattle.clr_rules.proofs.lists.Filters.{filter-kept, itself_says, kept_there, name_says}
@@ -30,7 +17,6 @@ use Rattle.clr_rules.proofs.near.NearNamed.{near_named}
 use Rattle.clr_rules.proofs.near.NearTests.{fence_says}
 use Rattle.clr_rules.proofs.near.NearWords.{touching_says}
 use Rattle.clr_rules.proofs.good.PutHolds.{found_there}
-use Rattle.clr_rules.proofs.lists.RoundSteps.{one_id}
 
 -- ---- the points of a sound order touch its fence
 

@@ -1,14 +1,6 @@
 -- What is near a clearance has the same of it as the whole register.
-use Rattle.std.proofs.Common.{◌≡◌, ◌∙◌, ℕ, Bool, false, List, Some, refl, sym, ap, subst}
-use Rattle.std.specs.List.{filter}
-use Rattle.clr_shelf.proofs.Lists.{filter-filter_wider}
-use Rattle.clr_rules.specs.Agreement.{Agree}
-use Rattle.clr_rules.specs.Command.{named_clearance}
-use Rattle.clr_rules.specs.Good.{IsGoodAsSaid}
-use Rattle.clr_rules.specs.Prelude.{Command, StepRow, Id, same_id, Register, steps_of, holds_of}
-use Rattle.clr_rules.specs.Near.{near_part}
-use Rattle.clr_rules.specs.laws.Near.{is_order}
-use Rattle.clr_rules.specs.laws.Own.{SameOwn}
+use Rattle.std.proofs.Common.{◌≡◌, ◌∙◌, ℕ, Bool, false, List, Some, refl, sym, ap, subst, filter}
+use Rattle.clr_rules.proofs.Common.{filter-filter_wider, Agree, named_clearance, IsGoodAsSaid, Command, StepRow, Id, same_id, Register, steps_of, holds_of, near_part, is_order, SameOwn}
 use Rattle.clr_rules.proofs.near.NearNamed.{near_named}
 use Rattle.clr_rules.proofs.near.OwnHoldsNear.{own_holds_near}
 use Rattle.clr_rules.proofs.isolation.SameFences.{record_of-own, same_record}

@@ -1,18 +1,10 @@
 -- Registers that have the same of a clearance: each question about the clearance is answered alike.
-use Rattle.std.proofs.Common.{◌≡◌, ◌∙◌, ℕ, Bool, true, false, ◌&&◌, ◌||◌, List, [], ◌∷◌, map, is_some, refl, sym, ap, subst}
-use Rattle.std.specs.Prelude.{if◌then◌else◌}
-use Rattle.std.specs.List.{filter, list_any}
-use Rattle.std.proofs.lemmas.Bool.{and_parts, both_ways}
+use Rattle.std.proofs.Common.{◌≡◌, ◌∙◌, ℕ, Bool, true, false, ◌&&◌, ◌||◌, List, [], ◌∷◌, map, is_some, refl, sym, ap, subst, if◌then◌else◌, filter}
+use Rattle.clr_rules.proofs.Common.{list_any, and_parts, both_ways, equal, filter-filter_wider, of_round, held_among, SameOwn, of_round_is, own_id}
 use Rattle.clr_shelf.proofs.Groups.{row_of-filter_inside}
-use Rattle.clr_shelf.proofs.Keys.{equal}
-use Rattle.clr_shelf.proofs.Lists.{filter-filter_wider}
-use Rattle.clr_rules.specs.GoodByPhase.{of_round}
-use Rattle.clr_rules.specs.Prelude.{Hold, HoldKind, HeldOpen, Block, Control, Tag, StepRow, Id, same_id, Register, is_some_step, present_steps, present_round, steps_in, hold_cmp, hold_cmp_total, has_any_hold, has_hold, has_some_hold, held_at}
-use Rattle.clr_rules.specs.Prelude.{hold_key, hold_of, holds_of, first_of_each, places_of, same_kind}
+use Rattle.clr_rules.specs.Prelude.{Hold, HoldKind, HeldOpen, Block, Control, Tag, StepRow, Id, same_id, Register, is_some_step, present_steps, present_round, steps_in, hold_cmp, hold_cmp_total}
+use Rattle.clr_rules.specs.Prelude.{has_any_hold, has_hold, has_some_hold, held_at, hold_key, hold_of, holds_of, first_of_each, places_of, same_kind}
 use Rattle.clr_rules.specs.Hold.{same_hold}
-use Rattle.clr_rules.specs.Holds.{held_among}
-use Rattle.clr_rules.specs.laws.Own.{SameOwn}
-use Rattle.clr_rules.proofs.lists.RoundSteps.{of_round_is, own_id}
 
 -- a search for any in what a wider test keeps
 list_any-wider : {X : Type 0} (p q : X → Bool) → ((x : X) → p x ≡ true → q x ≡ true) → (xs : List X) → list_any p (filter q xs) ≡ list_any p xs

@@ -1,20 +1,15 @@
 -- What edits add to the network, as laws.
 use Rattle.std.specs.Prelude.{◌≡◌, ℕ, Bool, true, false, ◌&&◌, List, [], ◌∷◌, map, None, Some}
 use Rattle.std.specs.Ordering.{is_lt}
-use Rattle.std.specs.List.{list_any}
+use Rattle.clr_rules.specs.Prelude.{list_any, Grid, IsNetwork, point_names, same_name, has_name}
+use Rattle.clr_rules.specs.Prelude.{PointRow, SectionRow, Edit, AddSection, AddPoint, Command, Id}
+use Rattle.clr_rules.specs.Prelude.{Register, after_edits, id_cmp, is_point_kind, state_key}
 use Rattle.clr_net.specs.Additions.{with_point, with_section}
-use Rattle.clr_net.specs.Grid.{Grid, IsNetwork, point_names}
-use Rattle.clr_net.specs.Name.{same_name}
-use Rattle.clr_net.specs.Names.{has_name}
-use Rattle.clr_net.specs.declared.point.PointRow.{PointRow}
-use Rattle.clr_net.specs.declared.section.SectionRow.{SectionRow}
 use Rattle.clr_rules.specs.laws.Agreement.{ChangesByMarks}
 use Rattle.clr_rules.specs.Answer.{Answer, answer}
 use Rattle.clr_rules.specs.Edits.{fit, fits_edit, net_after}
 use Rattle.clr_rules.specs.Fences.{CrossesNoFence, clearance_fence, crossed_by, crosses}
 use Rattle.clr_rules.specs.Good.{IsGoodAsSaid, ListsAreInOrder, PointsAreKnown}
-use Rattle.clr_rules.specs.Prelude.{Edit, AddSection, AddPoint, Command, Id, Register, after_edits}
-use Rattle.clr_rules.specs.Prelude.{id_cmp, is_point_kind, state_key}
 use Rattle.clr_rules.specs.Register.{unplaced_net}
 
 -- POSITIONS ARE NO PART of a network that grows: what is added to one whose rows have positions is

@@ -2,14 +2,10 @@
 -- those of them that concern it.
 use Rattle.std.specs.Prelude.{◌≡◌, ℕ, Bool, true, false, not, ◌&&◌, List, [], ◌∷◌, filter, All}
 use Rattle.std.specs.Prelude.{Some}
-use Rattle.clr_net.specs.Fence.{touches}
-use Rattle.clr_net.specs.Grid.{Grid}
-use Rattle.clr_net.specs.Name.{same_name}
-use Rattle.clr_net.specs.Names.{has_name}
+use Rattle.clr_rules.specs.Prelude.{touches, Grid, same_name, has_name, Edit, SetPosition, SetHand}
+use Rattle.clr_rules.specs.Prelude.{PutHold, TakeHold, PutRecord, PutStep, AddSection, AddPoint}
+use Rattle.clr_rules.specs.Prelude.{Record, Id, same_id, Register, after_edit, after_edits}
 use Rattle.clr_rules.specs.Agreement.{Agree, part_near}
-use Rattle.clr_rules.specs.Prelude.{Edit, SetPosition, SetHand, PutHold, TakeHold, PutRecord}
-use Rattle.clr_rules.specs.Prelude.{PutStep, AddSection, AddPoint, Record, Id, same_id, Register}
-use Rattle.clr_rules.specs.Prelude.{after_edit, after_edits}
 use Rattle.clr_rules.specs.laws.Edits.{adds_nothing}
 use Rattle.clr_rules.specs.Fences.{touching_names}
 use Rattle.clr_rules.specs.Good.{ListsAreInOrder, has_record}

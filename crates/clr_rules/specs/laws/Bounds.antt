@@ -1,8 +1,7 @@
 -- Bounds of what runs make, as a law of reached registers: the rules ask for no more than it says,
 -- so good does not ask for it.
-use Rattle.std.specs.Prelude.{◌≡◌, ◌≤◌, All}
-use Rattle.std.proofs.Common.{◌⊎◌}
-use Rattle.clr_rules.specs.Register.{Register}
+use Rattle.std.specs.Prelude.{◌≡◌, ◌≤◌, All, ◌⊎◌}
+use Rattle.clr_rules.specs.Prelude.{Register}
 use Rattle.clr_rules.specs.Run.{IsReached}
 
 -- no clearance has a number over 9,999, and each step is of the first round or the second

@@ -1,28 +1,19 @@
 -- What edits do to a register, and which answers have none, as laws.
 use Rattle.std.specs.Prelude.{◌≡◌, ◌↔◌, ℕ, Bool, true, false, not, ◌&&◌, ◌||◌, if◌then◌else◌, List}
-use Rattle.std.specs.Prelude.{[], map, Contains, Option, None, Some}
-use Rattle.std.specs.Option.{option_map}
-use Rattle.std.specs.List.{list_all}
+use Rattle.std.specs.Prelude.{[], map, Contains, Option, None, Some, option_map, ◌⊎◌}
+use Rattle.clr_rules.specs.Prelude.{list_all, same_name, Position, row_of, Edit, SetPosition}
+use Rattle.clr_rules.specs.Prelude.{SetHand, PutHold, TakeHold, PutRecord, PutStep, AddSection}
+use Rattle.clr_rules.specs.Prelude.{AddPoint, Command, Hold, HoldKind, PointState, Record, Refusal}
+use Rattle.clr_rules.specs.Prelude.{StepRow, Id, id_cmp, same_id, Register, state_key, state_of}
+use Rattle.clr_rules.specs.Prelude.{record_key, record_of, step_key, step_key_cmp, hold_cmp}
+use Rattle.clr_rules.specs.Prelude.{has_hold, hold_key, hold_of, after_edit, after_edits, Card}
+use Rattle.clr_rules.specs.Prelude.{Accepted, Shown, Refused, Added}
 use Rattle.std.specs.Ordering.{is_eq}
 use Rattle.std.specs.declared.cmp.Ordering.{Ordering}
-use Rattle.std.proofs.Common.{◌⊎◌}
-use Rattle.clr_net.specs.Name.{same_name}
-use Rattle.clr_net.specs.declared.point.Position.{Position}
-use Rattle.clr_shelf.specs.Rows.{row_of}
 use Rattle.clr_rules.specs.Answer.{Answer, answer, first_refusal, known_of}
 use Rattle.clr_rules.specs.Commands.{checks}
-use Rattle.clr_rules.specs.Prelude.{Edit, SetPosition, SetHand, PutHold, TakeHold, PutRecord}
-use Rattle.clr_rules.specs.Prelude.{PutStep, AddSection, AddPoint}
-use Rattle.clr_rules.specs.Prelude.{Command, Hold, HoldKind, PointState, Record, Refusal}
-use Rattle.clr_rules.specs.Prelude.{StepRow, Id, id_cmp, same_id, Register, state_key, state_of}
-use Rattle.clr_rules.specs.Prelude.{record_key}
-use Rattle.clr_rules.specs.Prelude.{record_of, step_key, step_key_cmp, hold_cmp, has_hold, hold_key}
-use Rattle.clr_rules.specs.Prelude.{hold_of, after_edit, after_edits}
 use Rattle.clr_rules.specs.Good.{ListsAreInOrder}
 use Rattle.clr_rules.specs.Run.{after}
-use Rattle.clr_rules.specs.declared.reply.Card.{Card}
-use Rattle.clr_rules.specs.declared.reply.Reply.TheVariants.{Accepted, Shown, Refused}
-use Rattle.clr_rules.specs.declared.reply.Reply.TheVariants.{Added}
 use Rattle.clr_rules.specs.declared.reply.View.{View}
 use Rattle.clr_rules.specs.declared.step_row.StepKey.{StepKey}
 

@@ -3,13 +3,12 @@ use Rattle.std.specs.Prelude.{◌≡◌, Bool, true, false, List}
 use Rattle.clr_rules.specs.Answer.{Answer, answer, reply_clearance, known_of}
 use Rattle.clr_rules.specs.Commands.{Known}
 use Rattle.clr_rules.specs.Command.{is_jumper, named_clearance}
-use Rattle.clr_rules.specs.Prelude.{Edit, Command, Kind, Id, same_id, Register, after_edits}
+use Rattle.clr_rules.specs.Prelude.{Edit, Command, Kind, Id, same_id, Register, after_edits, Report}
 use Rattle.clr_rules.specs.Footprint.{all_spare}
 use Rattle.clr_rules.specs.Good.{HandMatchesStep, IsGoodAsSaid, ListsAreInOrder}
 use Rattle.clr_rules.specs.GoodByPhase.{outlook_of}
 use Rattle.clr_rules.specs.Isolation.{HeldStayOpen, PointsAreKnownToJumper, is_others}
 use Rattle.clr_rules.specs.Run.{after}
-use Rattle.clr_rules.specs.declared.command.Kind.TheVariants.{Report}
 
 abbrev pub is_report : Kind → Bool
 is_report (Report c n done) = true

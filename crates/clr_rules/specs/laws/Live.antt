@@ -1,15 +1,11 @@
 -- What live means, as laws: current reaches the sections that closed points join to a source, and
 -- no others.
 use Rattle.std.specs.Prelude.{◌≡◌, ◌↔◌, ℕ, Bool, true, false, IsTrue, List, All, Contains}
-use Rattle.clr_net.specs.Fence.{in_fence}
-use Rattle.clr_net.specs.Grid.{Grid, IsNetwork}
+use Rattle.clr_rules.specs.Prelude.{in_fence, Grid, IsNetwork, PointRow, SectionRow, Task}
+use Rattle.clr_rules.specs.Prelude.{PointState}
 use Rattle.clr_net.specs.Walk.{Walk}
-use Rattle.clr_net.specs.declared.point.PointRow.{PointRow}
-use Rattle.clr_net.specs.declared.section.SectionRow.{SectionRow}
 use Rattle.clr_order.specs.Isolating.{IsSoundOrder}
-use Rattle.clr_order.specs.Step.{Task}
 use Rattle.clr_rules.specs.Live.{IsLive, is_closed_point, is_live, open_points}
-use Rattle.clr_rules.specs.declared.point_state.PointState.{PointState}
 
 -- each source of the network is live
 abbrev pub SourcesAreLive : Type 0

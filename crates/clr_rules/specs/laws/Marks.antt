@@ -1,10 +1,8 @@
 -- What a mark is, in words, as laws.
 use Rattle.std.specs.Prelude.{◌≡◌, ◌↔◌, ◌⊎◌, ℕ, Bool, IsTrue, List, Contains}
-use Rattle.clr_net.specs.Grid.{Grid}
-use Rattle.clr_net.specs.declared.point.PointRow.{PointRow}
-use Rattle.clr_rules.specs.Prelude.{Edit, SetPosition, SetHand, PutHold, TakeHold, PutRecord}
-use Rattle.clr_rules.specs.Prelude.{PutStep, AddSection, AddPoint}
-use Rattle.clr_rules.specs.Prelude.{Hold, is_point_kind, is_section_kind}
+use Rattle.clr_rules.specs.Prelude.{Grid, PointRow, Edit, SetPosition, SetHand, PutHold, TakeHold}
+use Rattle.clr_rules.specs.Prelude.{PutRecord, PutStep, AddSection, AddPoint, Hold, is_point_kind}
+use Rattle.clr_rules.specs.Prelude.{is_section_kind}
 use Rattle.clr_rules.specs.Shown.{is_mark}
 
 -- a point of this name has an end among these sections

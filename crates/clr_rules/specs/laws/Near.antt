@@ -2,22 +2,17 @@
 -- at no others.
 use Rattle.std.specs.Prelude.{◌≡◌, ◌↔◌, ◌⊎◌, ◌≤◌, ℕ, Bool, true, false, IsTrue, List, [], filter}
 use Rattle.std.specs.Prelude.{All, Contains, None, Some}
-use Rattle.clr_net.specs.Fence.{in_fence}
-use Rattle.clr_net.specs.Grid.{Grid, IsNetwork, section_names}
-use Rattle.clr_net.specs.declared.point.PointRow.{PointRow}
-use Rattle.clr_net.specs.declared.section.SectionRow.{SectionRow}
-use Rattle.clr_net.specs.Names.{has_name}
-use Rattle.clr_order.specs.Step.{Task, task_points}
+use Rattle.clr_rules.specs.Prelude.{in_fence, Grid, IsNetwork, section_names, PointRow, SectionRow}
+use Rattle.clr_rules.specs.Prelude.{has_name, Task, task_points, Command, Kind, Hold, Crew}
+use Rattle.clr_rules.specs.Prelude.{PointState, Record, StepRow, Id, Register, greatest_number}
+use Rattle.clr_rules.specs.Prelude.{record_of, is_standing, points_of, steps_in, is_point_kind}
+use Rattle.clr_rules.specs.Prelude.{holds_of, Request, Order, Switch, Jumper}
 use Rattle.clr_rules.specs.Command.{named_clearance}
 use Rattle.clr_rules.specs.Good.{IsGoodAsSaid, ListsAreInOrder}
-use Rattle.clr_rules.specs.Prelude.{Command, Kind, Hold, Crew, PointState, Record, StepRow, Id}
-use Rattle.clr_rules.specs.Prelude.{Register, greatest_number, record_of, is_standing, points_of}
-use Rattle.clr_rules.specs.Prelude.{steps_in, is_point_kind, holds_of}
 use Rattle.clr_rules.specs.Fences.{clearance_fence, crossed_by, touching_names}
 use Rattle.clr_rules.specs.laws.Marks.{HasEndIn, StandsAmong}
 use Rattle.clr_rules.specs.Near.{Near, near_of, near_part}
 use Rattle.clr_rules.specs.Records.{is_fenced}
-use Rattle.clr_rules.specs.declared.command.Kind.TheVariants.{Request, Order, Switch, Jumper}
 
 -- ---- the words
 

@@ -1,8 +1,7 @@
 -- The opening register as a law: before the first command nothing is asked for, ordered or held.
 use Rattle.std.specs.Prelude.{List}
-use Rattle.clr_net.specs.Grid.{Grid, IsNetwork}
+use Rattle.clr_rules.specs.Prelude.{Grid, IsNetwork, StaffRow}
 use Rattle.clr_staff.specs.Staff.{IsStaff}
-use Rattle.clr_staff.specs.declared.employee.StaffRow.{StaffRow}
 use Rattle.clr_rules.specs.Good.{IsGood}
 use Rattle.clr_rules.specs.Register.{opening}
 

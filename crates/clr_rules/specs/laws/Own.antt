@@ -5,12 +5,11 @@ use Rattle.clr_rules.specs.Agreement.{Agree}
 use Rattle.clr_rules.specs.Commands.{Known, checks, edits_of}
 use Rattle.clr_rules.specs.Answer.{answer, answer_with, known_of}
 use Rattle.clr_rules.specs.Prelude.{Edit, Command, Kind, Id, Register, record_of, steps_of}
-use Rattle.clr_rules.specs.Prelude.{holds_of, after_edits}
+use Rattle.clr_rules.specs.Prelude.{holds_of, after_edits, Instruct}
 use Rattle.clr_rules.specs.Command.{named_clearance}
 use Rattle.clr_rules.specs.Good.{IsGoodAsSaid, ListsAreInOrder, OnlySwitchOrdersSwitch}
 use Rattle.clr_rules.specs.Near.{near_part}
 use Rattle.clr_rules.specs.laws.Near.{is_order}
-use Rattle.clr_rules.specs.declared.command.Kind.TheVariants.{Instruct}
 
 -- two registers have the same staff, and the same of a clearance: its record, its steps and its
 -- holds

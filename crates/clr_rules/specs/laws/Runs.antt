@@ -1,18 +1,13 @@
 -- Runs as laws: what commands may add, one reply a command, and a run that goes on where another
 -- ended.
-use Rattle.std.specs.Prelude.{◌≡◌, true, false, not, List, ◌++◌, length, map, Contains}
-use Rattle.std.specs.List.{list_all}
-use Rattle.std.proofs.Common.{◌⊎◌}
+use Rattle.std.specs.Prelude.{◌≡◌, true, false, not, List, ◌++◌, length, map, Contains, ◌⊎◌}
+use Rattle.clr_rules.specs.Prelude.{list_all, StaffRow, Grid, IsNetwork, point_names, PointRow}
+use Rattle.clr_rules.specs.Prelude.{SectionRow, Command, Register, state_key}
 use Rattle.clr_staff.specs.Staff.{IsStaff}
-use Rattle.clr_staff.specs.declared.employee.StaffRow.{StaffRow}
-use Rattle.clr_net.specs.Grid.{Grid, IsNetwork, point_names}
-use Rattle.clr_net.specs.declared.point.PointRow.{PointRow}
-use Rattle.clr_net.specs.declared.section.SectionRow.{SectionRow}
 use Rattle.clr_rules.specs.Answer.{Answer, answer}
 use Rattle.clr_rules.specs.Command.{is_jumper}
 use Rattle.clr_rules.specs.laws.Edits.{adds_nothing}
 use Rattle.clr_rules.specs.Good.{ListsAreInOrder}
-use Rattle.clr_rules.specs.Prelude.{Command, Register, state_key}
 use Rattle.clr_rules.specs.Register.{opening, unplaced_net}
 use Rattle.clr_rules.specs.Run.{IsReached, after_all, replies}
 

@@ -1,14 +1,12 @@
 -- When a tag is taken, as laws of good registers: by the restoring order of its own clearance, and
 -- after that was given back. 1910.269(m)(3)(xii)
-use Rattle.std.specs.Prelude.{◌≡◌, ℕ, true, false, List, Some}
-use Rattle.std.proofs.Common.{◌⊎◌}
+use Rattle.std.specs.Prelude.{◌≡◌, ℕ, true, false, List, Some, ◌⊎◌}
 use Rattle.clr_order.specs.declared.action.Action.TheVariants.{Untag}
 use Rattle.clr_rules.specs.Good.{IsGood}
 use Rattle.clr_rules.specs.Prelude.{Command, Tag, Ordered, Granted, Released, Restoring, Record}
 use Rattle.clr_rules.specs.Prelude.{StepRow, Id, Register, record_of, present_steps, step_at}
-use Rattle.clr_rules.specs.Prelude.{has_any_hold, has_hold}
+use Rattle.clr_rules.specs.Prelude.{has_any_hold, has_hold, Cancel, Release, Report}
 use Rattle.clr_rules.specs.Run.{after}
-use Rattle.clr_rules.specs.declared.command.Kind.TheVariants.{Cancel, Release, Report}
 
 -- a command that reports an Untag of a clearance at a point done, while the clearance is Restoring
 pub record IsUntag (R : Register) (c : Id) (p : List ℕ) (q : Command) : Type 0 where

@@ -1,14 +1,11 @@
 -- What work on a line rests on, as laws of good registers: it is dead, it is grounded, and the
 -- points around it are held.
 use Rattle.std.specs.Prelude.{◌≡◌, ℕ, true, false, List, Contains, Some}
-use Rattle.clr_net.specs.Grid.{Grid}
-use Rattle.clr_net.specs.Names.{has_name}
-use Rattle.clr_net.specs.declared.point.PointRow.{PointRow}
-use Rattle.clr_net.specs.declared.point.Position.TheVariants.{Opened}
+use Rattle.clr_rules.specs.Prelude.{Grid, has_name, PointRow, Opened, Command, Ground, Crew, Record}
+use Rattle.clr_rules.specs.Prelude.{Id, Register, position_of, record_of, is_granted, points_of}
+use Rattle.clr_rules.specs.Prelude.{steps_in, has_hold}
 use Rattle.clr_rules.specs.Fences.{clearance_fence}
 use Rattle.clr_rules.specs.Good.{IsFullyHeld, IsGood, IsGoodAsSaid}
-use Rattle.clr_rules.specs.Prelude.{Command, Ground, Crew, Record, Id, Register, position_of}
-use Rattle.clr_rules.specs.Prelude.{record_of, is_granted, points_of, steps_in, has_hold}
 use Rattle.clr_rules.specs.Live.{IsLive, is_live}
 use Rattle.clr_rules.specs.Run.{after}
 

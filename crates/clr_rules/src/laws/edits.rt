@@ -2,8 +2,8 @@
 ghost use Rattle.clr_rules.specs.EditOrder.{AnswersEditsInOrder};
 ghost use Rattle.clr_rules.specs.laws.Edits.{AcceptedPassesChecks, AddedPassesChecks};
 ghost use Rattle.clr_rules.specs.laws.Edits.{EditsKeepNetwork, EditsKeepOrder, EditsLeaveTheRest};
-ghost use Rattle.clr_rules.specs.laws.Edits.{PutHoldAdds, PutRecordReplaces};
-ghost use Rattle.clr_rules.specs.laws.Edits.{PutStepReplaces, PutsKeepOtherRows, RefusedByFirstCheck};
+ghost use Rattle.clr_rules.specs.laws.Edits.{PutHoldAdds, PutRecordReplaces, PutStepReplaces};
+ghost use Rattle.clr_rules.specs.laws.Edits.{PutsKeepOtherRows, RefusedByFirstCheck};
 ghost use Rattle.clr_rules.specs.laws.Edits.{RefusedChangesNothing, SetHandSets, SetPositionSets};
 ghost use Rattle.clr_rules.specs.laws.Edits.{ShownChangesNothing, TakeHoldTakes};
 

@@ -1,5 +1,4 @@
-use Rattle.std.proofs.Common.{◌∙◌, ap, sym}
-use Rattle.std.specs.Prelude.{ok_or}
+use Rattle.std.proofs.Common.{◌∙◌, ap, sym, ok_or}
 use Rattle.clr_rules.specs.declared.clearance_id.IdFault.TheVariants.{BadId}
 use Rattle.clr_rules.proofs.IdTexts.{read_if_bad, read_if_ok}
 use Rattle.clr_rules.proofs.clearance_id.ClearanceId.read.Goals as goal

@@ -1,5 +1,4 @@
-use Rattle.clr_shelf.proofs.Reading.{row_of-with}
-use Rattle.clr_rules.specs.StepKey.{step_key, step_key_cmp, step_key_cmp_total}
+use Rattle.clr_rules.proofs.Common.{row_of-with, step_key, step_key_cmp, step_key_cmp_total}
 use Rattle.clr_rules.proofs.edits.EditReading.{record_of-put}
 use Rattle.clr_rules.proofs.laws.edits.puts_replace.Goals as goal
 
