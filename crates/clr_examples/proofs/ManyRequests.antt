@@ -1,22 +1,15 @@
 -- JONES requests L2 again and again: each request makes a record of the next number, up to the last.
 use Rattle.std.proofs.Common.{◌≡◌, ℕ, zero, suc, ◌+◌, ◌≤◌, true, false, List, [], Some, refl, ◌∙◌, ap, subst, arith, ◌==◌}
 use Rattle.std.proofs.lemmas.Bool.Decides.{nat_tests}
-use Rattle.clr_shelf.proofs.KeyOrder.{in_key_order-with_row}
-use Rattle.clr_shelf.specs.Rows.{in_key_order, with_row}
-use Rattle.clr_rules.specs.Answer.{answer}
+use Rattle.clr_rules.proofs.Common.{in_key_order-with_row, in_key_order, with_row, answer, id_cmp, id_cmp_total, Register, after_edits, after, after_all}
 use Rattle.clr_rules.specs.Changes.{new_record}
+use Rattle.clr_rules.specs.Records.{greatest_number, record_key, greater_of}
+use Rattle.clr_examples.specs.Refusals.{NumbersEnd, jones_requests, times}
+use Rattle.clr_examples.specs.Worked.{JONES, L2, refused, worked_opening}
+use Rattle.clr_rules.proofs.lists.Greatest.{greatest-put}
 use Rattle.clr_rules.specs.declared.phase.Phase.TheVariants.{Requested}
 use Rattle.clr_rules.specs.declared.record.Record.{Record}
-use Rattle.clr_rules.specs.Id.{id_cmp, id_cmp_total}
-use Rattle.clr_rules.specs.Register.{Register}
-use Rattle.clr_rules.specs.Records.{greatest_number, record_key}
-use Rattle.clr_rules.specs.Edits.{after_edits}
-use Rattle.clr_examples.specs.Refusals.{NumbersEnd, jones_requests, times}
-use Rattle.clr_rules.specs.Records.{greater_of}
-use Rattle.clr_rules.specs.Run.{after, after_all}
-use Rattle.clr_examples.specs.Worked.{JONES, L2, refused, worked_opening}
 use Rattle.clr_rules.specs.declared.refusal.Refusal.TheVariants.{TooManyClearances}
-use Rattle.clr_rules.proofs.lists.Greatest.{greatest-put}
 
 -- the worked network with these records and nothing else
 abbrev holding : List Record → Register

@@ -1,15 +1,12 @@
 -- The registers of the examples of isolation are opening registers of networks and a staff.
 use Rattle.std.proofs.Common.{◌≡◌, Bool, true, false, not, List, [], ◌∷◌, All, refl, arith}
-use Rattle.std.specs.List.{list_all}
-use Rattle.std.specs.List.Sorted.{IsStrictlySortedBy}
-use Rattle.std.proofs.lemmas.Bool.{and_parts, not-true}
+use Rattle.clr_rules.proofs.Common.{list_all, IsStrictlySortedBy, and_parts, not-true, IsReached}
 use Rattle.std.proofs.lemmas.List.Elements.{All-cons, All-nil}
 use Rattle.std.proofs.lemmas.List.Sums.{AllPass-from_list_all}
 use Rattle.clr_staff.specs.Staff.{IsStaff, has_known_supervisor, is_own_supervisor, staff_names}
 use Rattle.clr_net.specs.Grid.{Grid, IsNetwork, has_ends, has_one_section, section_names}
 use Rattle.clr_net.specs.declared.point.Position.TheVariants.{Closed}
 use Rattle.clr_examples.specs.Isolation.{register_one, register_two, two_net}
-use Rattle.clr_rules.specs.Run.{IsReached}
 use Rattle.clr_examples.specs.Worked.{worked_net, worked_staff}
 use Rattle.clr_rules.proofs.edits.Runs.{opening_is_reached}
 

@@ -2,24 +2,16 @@
 -- its reply and all its edits.
 use Rattle.std.specs.Prelude.{◌≡◌, ℕ, true, false, List, [], ◌∷◌, ◌++◌, codes, Some, None}
 use Rattle.clr_net.specs.declared.point.Position.TheVariants.{Opened, Closed as Shut}
-use Rattle.clr_order.specs.declared.step.StepState.TheVariants.{Waiting, Instructed, Repeated, Done}
-use Rattle.clr_order.specs.declared.action.Action.TheVariants as actions
+use Rattle.clr_rules.specs.Prelude.{Waiting, Instructed, Repeated, Done, hold_of}
 use Rattle.clr_rules.specs.Answer.{Answer}
-use Rattle.clr_rules.specs.declared.change.Edit.TheVariants.{SetPosition, SetHand, PutHold}
-use Rattle.clr_rules.specs.declared.change.Edit.TheVariants.{TakeHold, PutRecord, PutStep}
-use Rattle.clr_rules.specs.declared.hold_kind.HoldKind.TheVariants.{HeldOpen, Block, Control, Tag}
-use Rattle.clr_rules.specs.declared.hold_kind.HoldKind.TheVariants.{Tested, Ground, Crew}
-use Rattle.clr_rules.specs.declared.phase.Phase.TheVariants.{Requested, Ordered, Granted, Released}
-use Rattle.clr_rules.specs.declared.phase.Phase.TheVariants.{Restoring, Switching, Closed}
-use Rattle.clr_rules.specs.declared.record.Record.{Record}
-use Rattle.clr_rules.specs.Holds.{hold_of}
 use Rattle.clr_examples.specs.Worked.{BOSS, C1, DALE, JONES, KIM, L2, L3, OPS, REED, S2, S3, S4}
 use Rattle.clr_examples.specs.Worked.{Saying, T1, accepted, answer_after, c1_is_off, c1_is_on, does}
 use Rattle.clr_examples.specs.Worked.{isolating_l2, isolating_l3, jones_1, kim_1, kim_asks}
-use Rattle.clr_examples.specs.Worked.{kim_has_both, kim_is_granted, l2_asked, l2_blocked, l2_granted}
-use Rattle.clr_examples.specs.Worked.{l2_grounded, l2_isolated, l2_ordered, l2_released, l2_restoring}
-use Rattle.clr_examples.specs.Worked.{l2_tested, ops_1, restoring_l2, s2_opened, s3_left, s3_opened}
-use Rattle.clr_examples.specs.Worked.{s3_unblocked, s4_blocked, says, step_is_repeated, step_runs}
+use Rattle.clr_examples.specs.Worked.{kim_has_both, kim_is_granted, l2_asked, l2_blocked}
+use Rattle.clr_examples.specs.Worked.{l2_granted, l2_grounded, l2_isolated, l2_ordered, l2_released}
+use Rattle.clr_examples.specs.Worked.{l2_restoring, l2_tested, ops_1, restoring_l2, s2_opened}
+use Rattle.clr_examples.specs.Worked.{s3_left, s3_opened, s3_unblocked, s4_blocked, says}
+use Rattle.clr_examples.specs.Worked.{step_is_repeated, step_runs}
 use Rattle.clr_examples.specs.WorkedRows.{jones_card, jones_record, kim_card, kim_record, ops_card}
 use Rattle.clr_examples.specs.WorkedRows.{ops_record, seen, step_row}
 use Rattle.clr_rules.specs.declared.command.Kind.TheVariants.{Request, Order, Instruct, Repeat}
@@ -27,6 +19,14 @@ use Rattle.clr_rules.specs.declared.command.Kind.TheVariants.{Report, Grant, Tes
 use Rattle.clr_rules.specs.declared.command.Kind.TheVariants.{Ground as LayGround, Unground, SignOn}
 use Rattle.clr_rules.specs.declared.command.Kind.TheVariants.{SignOff, Transfer, Release, Cancel}
 use Rattle.clr_rules.specs.declared.command.Kind.TheVariants.{Restore, Amend, Switch, Show}
+use Rattle.clr_order.specs.declared.action.Action.TheVariants as actions
+use Rattle.clr_rules.specs.declared.change.Edit.TheVariants.{SetPosition, SetHand, PutHold}
+use Rattle.clr_rules.specs.declared.change.Edit.TheVariants.{TakeHold, PutRecord, PutStep}
+use Rattle.clr_rules.specs.declared.hold_kind.HoldKind.TheVariants.{HeldOpen, Block, Control, Tag}
+use Rattle.clr_rules.specs.declared.hold_kind.HoldKind.TheVariants.{Tested, Ground, Crew}
+use Rattle.clr_rules.specs.declared.phase.Phase.TheVariants.{Requested, Ordered, Granted, Released}
+use Rattle.clr_rules.specs.declared.phase.Phase.TheVariants.{Restoring, Switching, Closed}
+use Rattle.clr_rules.specs.declared.record.Record.{Record}
 use Rattle.clr_rules.specs.declared.reply.Card.{Card}
 use Rattle.clr_rules.specs.declared.reply.Reply.TheVariants.{Accepted, Shown}
 

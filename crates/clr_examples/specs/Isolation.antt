@@ -4,34 +4,26 @@
 use Rattle.std.specs.Prelude.{◌≡◌, ℕ, Bool, true, false, List, [], ◌∷◌, ◌++◌, length, map, filter}
 use Rattle.std.specs.Prelude.{codes, Some, None}
 use Rattle.clr_staff.specs.declared.employee.Role.TheVariants.{Operator, Charge, Field}
-use Rattle.clr_staff.specs.declared.employee.StaffRow.{StaffRow}
-use Rattle.clr_net.specs.Grid.{Grid}
-use Rattle.clr_net.specs.Name.{same_name}
-use Rattle.clr_net.specs.Names.{has_name}
-use Rattle.clr_net.specs.declared.point.Position.{Position}
+use Rattle.clr_rules.specs.Prelude.{StaffRow, Grid, same_name, has_name, Position, Task, Waiting}
+use Rattle.clr_rules.specs.Prelude.{steps_of, has_hold}
 use Rattle.clr_net.specs.declared.point.Position.TheVariants.{Opened, Closed as Shut}
-use Rattle.clr_order.specs.Step.{Task}
-use Rattle.clr_order.specs.declared.action.Action.TheVariants as actions
-use Rattle.clr_order.specs.declared.step.StepState.TheVariants.{Waiting}
 use Rattle.clr_rules.specs.Agreement.{Agree, part_near}
 use Rattle.clr_rules.specs.Good.{is_operators}
+use Rattle.clr_rules.specs.Register.{Register, opening}
+use Rattle.clr_rules.specs.Run.{IsReached, after_all}
+use Rattle.clr_rules.specs.Shown.{covers, marks, own, own_answers, items_shown}
+use Rattle.clr_examples.specs.Worked.{BOSS, DALE, JONES, KIM, L1, L2, L3, OPS, REED, S2, S3, S4}
+use Rattle.clr_examples.specs.Worked.{Saying, T1, does, from_moment, isolating_l2_and_l3, jones_1}
+use Rattle.clr_examples.specs.Worked.{jones_works_and_releases, kim_1, kim_asks, l2_asked}
+use Rattle.clr_examples.specs.Worked.{l2_granted, l2_is_restored, ops_1, said_at, says, step_runs}
+use Rattle.clr_examples.specs.Worked.{worked_opening, worked_staff, point_row, s2_row, s3_row}
+use Rattle.clr_examples.specs.WorkedRows.{done_step, jones_record, l2_steps_done}
+use Rattle.clr_order.specs.declared.action.Action.TheVariants as actions
 use Rattle.clr_rules.specs.declared.change.Edit.TheVariants.{SetPosition, SetHand}
 use Rattle.clr_rules.specs.declared.command.Command.{Command}
 use Rattle.clr_rules.specs.declared.hold_kind.HoldKind.TheVariants.{Tag}
 use Rattle.clr_rules.specs.declared.phase.Phase.TheVariants.{Closed}
 use Rattle.clr_rules.specs.declared.step_row.StepRow.{StepRow}
-use Rattle.clr_rules.specs.Register.{Register}
-use Rattle.clr_rules.specs.Steps.{steps_of}
-use Rattle.clr_rules.specs.Holds.{has_hold}
-use Rattle.clr_rules.specs.Register.{opening}
-use Rattle.clr_rules.specs.Run.{IsReached, after_all}
-use Rattle.clr_rules.specs.Shown.{covers, marks, own, own_answers, items_shown}
-use Rattle.clr_examples.specs.Worked.{BOSS, DALE, JONES, KIM, L1, L2, L3, OPS, REED, S2, S3, S4}
-use Rattle.clr_examples.specs.Worked.{Saying, T1, does, from_moment, isolating_l2_and_l3, jones_1}
-use Rattle.clr_examples.specs.Worked.{jones_works_and_releases, kim_1, kim_asks, l2_asked, l2_granted}
-use Rattle.clr_examples.specs.Worked.{l2_is_restored, ops_1, said_at, says, step_runs, worked_opening}
-use Rattle.clr_examples.specs.Worked.{worked_staff}
-use Rattle.clr_examples.specs.WorkedRows.{done_step, jones_record}
 use Rattle.clr_rules.specs.declared.command.Kind.TheVariants.{Request, Order, Switch}
 
 -- THE TWO REGISTERS
@@ -43,26 +35,7 @@ two_net s3_is_lockable s2_stands = record {
   sections =
       record { name = L1; source = true } ∷ record { name = L2; source = false }
       ∷ record { name = L3; source = false } ∷ [];
-  points =
-      record {
-        name = S2;
-        from_end = L1;
-        to_end = L2;
-        lockable = true;
-        remote = false;
-        position = s2_stands;
-        jumper = false;
-      }
-      ∷ record {
-        name = S3;
-        from_end = L2;
-        to_end = L3;
-        lockable = s3_is_lockable;
-        remote = false;
-        position = Shut;
-        jumper = false;
-      }
-      ∷ [];
+  points = s2_row s2_stands ∷ point_row S3 L2 L3 s3_is_lockable false Shut ∷ [];
 }
 
 abbrev pub register_one : Register
@@ -142,34 +115,13 @@ abbrev pub near_in_the_end : Register
 near_in_the_end = record {
   net = record {
     sections = record { name = L2; source = false } ∷ [];
-    points = record {
-      name = S2;
-      from_end = L1;
-      to_end = L2;
-      lockable = true;
-      remote = false;
-      position = Opened;
-      jumper = false;
-    }
-        ∷ record {
-          name = S3;
-          from_end = L2;
-          to_end = L3;
-          lockable = true;
-          remote = false;
-          position = Opened;
-          jumper = false;
-        } ∷ [];
+    points = s2_row Opened ∷ s3_row Opened ∷ [];
   };
   staff = worked_staff;
   states = record { point = S2; position = Shut; hand = None }
       ∷ record { point = S3; position = Shut; hand = None } ∷ [];
   records = jones_record Closed 148 ∷ [];
-  steps = done_step jones_1 1 1 (does actions.Open S2)
-      ∷ done_step jones_1 1 2 (does actions.Open S3) ∷ done_step jones_1 1 3 (does actions.Block S2)
-      ∷ done_step jones_1 1 4 (does actions.Block S3) ∷ done_step jones_1 1 5 (does actions.Tag S2)
-      ∷ done_step jones_1 1 6 (does actions.Tag S3)
-      ∷ done_step jones_1 2 1 (does actions.Untag S2)
+  steps = l2_steps_done ++ done_step jones_1 2 1 (does actions.Untag S2)
       ∷ done_step jones_1 2 2 (does actions.Unblock S2)
       ∷ done_step jones_1 2 3 (does actions.Close S2)
       ∷ done_step jones_1 2 4 (does actions.Untag S3)

@@ -1,25 +1,23 @@
 -- EXAMPLES OF JUMPERS: JONES has L2 and L3 ordered, cut at S2, S4 and T1. OPS lays a jumper inside
 -- that fence, and one outside it to a section that is new; and each jumper that is refused.
 use Rattle.std.specs.Prelude.{◌≡◌, ℕ, true, false, List, [], ◌∷◌, ◌++◌, codes, Some, None}
-use Rattle.clr_net.specs.declared.point.PointRow.{PointRow}
+use Rattle.clr_rules.specs.Prelude.{PointRow, Waiting, position_of}
 use Rattle.clr_net.specs.declared.point.Position.TheVariants.{Opened, Closed as Shut}
-use Rattle.clr_order.specs.declared.step.StepState.TheVariants.{Waiting}
-use Rattle.clr_order.specs.declared.action.Action.TheVariants as actions
 use Rattle.clr_rules.specs.Answer.{Answer}
 use Rattle.clr_rules.specs.Fences.{clearance_fence}
 use Rattle.clr_rules.specs.Near.{near_of}
-use Rattle.clr_rules.specs.declared.change.Edit.{Edit}
-use Rattle.clr_rules.specs.declared.change.Edit.TheVariants.{AddSection, AddPoint}
-use Rattle.clr_rules.specs.declared.phase.Phase.TheVariants.{Ordered, Restoring}
-use Rattle.clr_rules.specs.declared.refusal.Refusal.{Refusal}
-use Rattle.clr_rules.specs.States.{position_of}
 use Rattle.clr_rules.specs.Register.{unplaced_net}
 use Rattle.clr_examples.specs.Worked.{JONES, KIM, L1, L2, L3, OPS, S2, S3, S4, Saying, T1, ZZ}
 use Rattle.clr_examples.specs.Worked.{answer_after, does, isolating_l2_and_l3, jones_1, kim_1}
 use Rattle.clr_examples.specs.Worked.{kim_has_both, l2_asked, l2_granted, l2_restoring, ops_1}
 use Rattle.clr_examples.specs.Worked.{refused, register_after, said_at, says, step_runs, worked_net}
 use Rattle.clr_examples.specs.Worked.{worked_staff}
-use Rattle.clr_examples.specs.WorkedRows.{done_step, jones_card, jones_record, seen}
+use Rattle.clr_examples.specs.WorkedRows.{jones_card, jones_record, seen, l2_steps_done}
+use Rattle.clr_order.specs.declared.action.Action.TheVariants as actions
+use Rattle.clr_rules.specs.declared.change.Edit.{Edit}
+use Rattle.clr_rules.specs.declared.change.Edit.TheVariants.{AddSection, AddPoint}
+use Rattle.clr_rules.specs.declared.phase.Phase.TheVariants.{Ordered, Restoring}
+use Rattle.clr_rules.specs.declared.refusal.Refusal.{Refusal}
 use Rattle.clr_rules.specs.declared.command.Kind.TheVariants.{Request, Order, Switch, Show, Jumper}
 use Rattle.clr_rules.specs.declared.reply.Reply.TheVariants.{Accepted, Shown, Added}
 use Rattle.clr_rules.specs.declared.refusal.Refusal.TheVariants.{UnknownCaller, WrongRole}
@@ -179,12 +177,7 @@ NearAJumper = near_of (register_after l2_restoring) (said_at 200 (lays OPS J1 L1
     staff = worked_staff;
     states = [];
     records = jones_record Restoring 127 ∷ [];
-    steps = done_step jones_1 1 1 (does actions.Open S2)
-        ∷ done_step jones_1 1 2 (does actions.Open S3)
-        ∷ done_step jones_1 1 3 (does actions.Block S2)
-        ∷ done_step jones_1 1 4 (does actions.Block S3)
-        ∷ done_step jones_1 1 5 (does actions.Tag S2)
-        ∷ done_step jones_1 1 6 (does actions.Tag S3) ∷ [];
+    steps = l2_steps_done;
     holds = [];
   };
 }

@@ -2,19 +2,20 @@
 -- with the crew C1; KIM works on L3 beside it, with the crew C2, and holds S3 as well.
 use Rattle.std.specs.Prelude.{◌≡◌, ℕ, true, false, List, [], ◌∷◌, ◌++◌, codes, None}
 use Rattle.clr_net.specs.declared.point.Position.TheVariants.{Opened, Closed as Shut}
+use Rattle.clr_rules.specs.Prelude.{hold_of}
+use Rattle.clr_rules.specs.Near.{near_of}
+use Rattle.clr_examples.specs.Worked.{C1, KIM, L2, L3, OPS, S2, S3, S4, Saying, T1, c1_is_on}
+use Rattle.clr_examples.specs.Worked.{does, isolating_l3, jones_1, kim_1, kim_asks, kim_is_granted}
+use Rattle.clr_examples.specs.Worked.{l2_granted, register_after, said_at, says, worked_staff}
+use Rattle.clr_examples.specs.Worked.{s2_row, s3_row, s4_row, t1_row}
+use Rattle.clr_examples.specs.WorkedRows.{jones_record, kim_record, l2_steps_done}
+use Rattle.clr_rules.specs.declared.command.Kind.TheVariants.{Request, Order, Test}
+use Rattle.clr_rules.specs.declared.command.Kind.TheVariants.{Ground as LayGround, SignOn, Switch}
+use Rattle.clr_rules.specs.declared.command.Kind.TheVariants.{Show}
 use Rattle.clr_order.specs.declared.action.Action.TheVariants as actions
 use Rattle.clr_rules.specs.declared.hold_kind.HoldKind.TheVariants.{HeldOpen, Block, Tag, Tested}
 use Rattle.clr_rules.specs.declared.hold_kind.HoldKind.TheVariants.{Ground, Crew}
 use Rattle.clr_rules.specs.declared.phase.Phase.TheVariants.{Requested, Granted}
-use Rattle.clr_rules.specs.Holds.{hold_of}
-use Rattle.clr_rules.specs.Near.{near_of}
-use Rattle.clr_examples.specs.Worked.{C1, H, KIM, L1, L2, L3, OPS, S2, S3, S4, Saying, T1, c1_is_on}
-use Rattle.clr_examples.specs.Worked.{does, isolating_l3, jones_1, kim_1, kim_asks, kim_is_granted}
-use Rattle.clr_examples.specs.Worked.{l2_granted, register_after, said_at, says, worked_staff}
-use Rattle.clr_examples.specs.WorkedRows.{done_step, jones_record, kim_record}
-use Rattle.clr_rules.specs.declared.command.Kind.TheVariants.{Request, Order, Test}
-use Rattle.clr_rules.specs.declared.command.Kind.TheVariants.{Ground as LayGround, SignOn, Switch}
-use Rattle.clr_rules.specs.declared.command.Kind.TheVariants.{Show}
 
 abbrev pub C2 : List ℕ
 C2 = codes "C2"
@@ -32,35 +33,13 @@ NearJones = near_of (register_after both_at_work) (said_at 200 (says OPS (Show j
   rows = record {
     net = record {
       sections = record { name = L2; source = false } ∷ [];
-      points = record {
-        name = S2;
-        from_end = L1;
-        to_end = L2;
-        lockable = true;
-        remote = false;
-        position = Opened;
-        jumper = false;
-      }
-          ∷ record {
-            name = S3;
-            from_end = L2;
-            to_end = L3;
-            lockable = true;
-            remote = false;
-            position = Opened;
-            jumper = false;
-          } ∷ [];
+      points = s2_row Opened ∷ s3_row Opened ∷ [];
     };
     staff = worked_staff;
     states = record { point = S2; position = Opened; hand = None }
         ∷ record { point = S3; position = Opened; hand = None } ∷ [];
     records = jones_record Granted 123 ∷ [];
-    steps = done_step jones_1 1 1 (does actions.Open S2)
-        ∷ done_step jones_1 1 2 (does actions.Open S3)
-        ∷ done_step jones_1 1 3 (does actions.Block S2)
-        ∷ done_step jones_1 1 4 (does actions.Block S3)
-        ∷ done_step jones_1 1 5 (does actions.Tag S2)
-        ∷ done_step jones_1 1 6 (does actions.Tag S3) ∷ [];
+    steps = l2_steps_done;
     holds = hold_of jones_1 Block S2 ∷ hold_of jones_1 Block S3 ∷ hold_of kim_1 Block S3
         ∷ hold_of jones_1 Crew C1 ∷ hold_of jones_1 Ground L2
         ∷ hold_of jones_1 HeldOpen S2 ∷ hold_of jones_1 HeldOpen S3 ∷ hold_of kim_1 HeldOpen S3
@@ -93,33 +72,7 @@ NearAnOrder =
       rows = record {
         net = record {
           sections = record { name = L3; source = false } ∷ [];
-          points = record {
-            name = S3;
-            from_end = L2;
-            to_end = L3;
-            lockable = true;
-            remote = false;
-            position = Opened;
-            jumper = false;
-          }
-              ∷ record {
-                name = S4;
-                from_end = L3;
-                to_end = H;
-                lockable = true;
-                remote = true;
-                position = Opened;
-                jumper = false;
-              }
-              ∷ record {
-                name = T1;
-                from_end = L1;
-                to_end = L3;
-                lockable = false;
-                remote = false;
-                position = Opened;
-                jumper = false;
-              } ∷ [];
+          points = s3_row Opened ∷ s4_row Opened ∷ t1_row Opened ∷ [];
         };
         staff = worked_staff;
         states = record { point = S3; position = Opened; hand = None }
@@ -141,24 +94,7 @@ NearASwitchOrder =
       rows = record {
         net = record {
           sections = [];
-          points = record {
-            name = S3;
-            from_end = L2;
-            to_end = L3;
-            lockable = true;
-            remote = false;
-            position = Opened;
-            jumper = false;
-          }
-              ∷ record {
-                name = S4;
-                from_end = L3;
-                to_end = H;
-                lockable = true;
-                remote = true;
-                position = Opened;
-                jumper = false;
-              } ∷ [];
+          points = s3_row Opened ∷ s4_row Opened ∷ [];
         };
         staff = worked_staff;
         states = record { point = S3; position = Opened; hand = None }

@@ -2,19 +2,18 @@
 -- has L2 and L3, cut at S2, S4 and T1. Each tests, grounds and releases for itself, and both hold
 -- S2.
 use Rattle.std.specs.Prelude.{◌≡◌, true, List, [], ◌∷◌, ◌++◌, codes, Some, None}
-use Rattle.clr_order.specs.declared.step.StepState.TheVariants.{Instructed}
-use Rattle.clr_order.specs.declared.action.Action.TheVariants as actions
-use Rattle.clr_rules.specs.declared.change.Edit.TheVariants.{SetHand, PutHold, TakeHold, PutRecord}
-use Rattle.clr_rules.specs.declared.change.Edit.TheVariants.{PutStep}
-use Rattle.clr_rules.specs.declared.hold_kind.HoldKind.TheVariants.{HeldOpen, Tested, Ground}
-use Rattle.clr_rules.specs.declared.phase.Phase.TheVariants.{Granted, Released, Switching}
-use Rattle.clr_rules.specs.Holds.{hold_of}
+use Rattle.clr_rules.specs.Prelude.{Instructed, hold_of}
 use Rattle.clr_examples.specs.Worked.{C1, JONES, KIM, L2, L3, OPS, S2, S3, Saying, accepted}
 use Rattle.clr_examples.specs.Worked.{answer_after, does, jones_1, kim_1, kim_has_both, l2_granted}
 use Rattle.clr_examples.specs.Worked.{l2_released, ops_1, refused, restoring_l2, says, step_runs}
 use Rattle.clr_examples.specs.WorkedRows.{jones_card, jones_record, ops_card, ops_record, step_row}
 use Rattle.clr_rules.specs.declared.command.Kind.TheVariants.{Instruct, Test, Ground as LayGround}
 use Rattle.clr_rules.specs.declared.command.Kind.TheVariants.{SignOn, Release, Restore, Switch}
+use Rattle.clr_order.specs.declared.action.Action.TheVariants as actions
+use Rattle.clr_rules.specs.declared.change.Edit.TheVariants.{SetHand, PutHold, TakeHold, PutRecord}
+use Rattle.clr_rules.specs.declared.change.Edit.TheVariants.{PutStep}
+use Rattle.clr_rules.specs.declared.hold_kind.HoldKind.TheVariants.{HeldOpen, Tested, Ground}
+use Rattle.clr_rules.specs.declared.phase.Phase.TheVariants.{Granted, Released, Switching}
 use Rattle.clr_rules.specs.declared.refusal.Refusal.TheVariants.{Held, NotTested, NotGrounded}
 
 -- KIM has tested and grounded L2, and JONES has done neither

@@ -1,13 +1,13 @@
 -- EXAMPLES OF ORDERS: each fault of an order, together with the next one that an order of its kind
 -- may have. The reply is the first one's.
 use Rattle.std.specs.Prelude.{◌≡◌, ℕ, List, [], ◌∷◌, ◌++◌, replicate, codes, None}
-use Rattle.clr_order.specs.Step.{Task}
-use Rattle.clr_order.specs.declared.action.Action.TheVariants as actions
+use Rattle.clr_rules.specs.Prelude.{Task}
 use Rattle.clr_examples.specs.Phases.{refused_after}
 use Rattle.clr_examples.specs.Sequence.{tells}
 use Rattle.clr_examples.specs.Worked.{G, OPS, S1, S2, S3, S4, T1, ZZ, does, isolating_l2, jones_1}
 use Rattle.clr_examples.specs.Worked.{kim_1, kim_releases, l2_asked, l2_released, restoring_l2}
 use Rattle.clr_examples.specs.Worked.{restoring_l3, says}
+use Rattle.clr_order.specs.declared.action.Action.TheVariants as actions
 use Rattle.clr_rules.specs.declared.command.Kind.TheVariants.{Order, Restore, Switch}
 use Rattle.clr_rules.specs.declared.refusal.Refusal.{Refusal}
 use Rattle.clr_rules.specs.declared.refusal.Refusal.TheVariants.{EmptyOrder, LongOrder, PointTwice}

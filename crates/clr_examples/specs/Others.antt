@@ -3,33 +3,31 @@
 use Rattle.std.specs.Prelude.{◌≡◌, ℕ, false, true, List, [], ◌∷◌, ◌++◌, codes, Some, None, map}
 use Rattle.std.specs.Prelude.{Option}
 use Rattle.clr_net.specs.declared.point.Position.TheVariants.{Closed as Shut}
-use Rattle.clr_order.specs.declared.action.Action.TheVariants as actions
 use Rattle.clr_rules.specs.Answer.{Answer, answer}
+use Rattle.clr_rules.specs.Prelude.{after_edits}
+use Rattle.clr_rules.specs.Register.{Register, opening}
+use Rattle.clr_rules.specs.Holds.{hold_of, hindering_hold}
+use Rattle.clr_examples.specs.Changes.{both_tested}
+use Rattle.clr_examples.specs.Phases.{refusal_in, refused_after}
+use Rattle.clr_examples.specs.Sequence.{tells}
+use Rattle.clr_rules.specs.Run.{after_all}
+use Rattle.clr_examples.specs.Worked.{BOSS, C1, JONES, KIM, L2, L3, OPS, REED, S2, S3, Saying, ZZ}
+use Rattle.clr_examples.specs.Worked.{accepted, answer_after, c1_is_on, kim_is_ordered, refused}
+use Rattle.clr_examples.specs.Worked.{does, from_moment, isolating_l2, jones_1, kim_1, l2_granted}
+use Rattle.clr_examples.specs.Worked.{ops_1, register_after, s2_opened, said_at, says, step_runs}
+use Rattle.clr_examples.specs.Worked.{worked_staff, point_row}
+use Rattle.clr_examples.specs.WorkedRows.{kim_card, kim_record}
+use Rattle.clr_rules.specs.declared.command.Kind.TheVariants.{Request, Order, Instruct, Grant, Test}
+use Rattle.clr_rules.specs.declared.command.Kind.TheVariants.{Ground as LayGround, Unground, SignOn}
+use Rattle.clr_rules.specs.declared.command.Kind.TheVariants.{SignOff, Transfer, Release, Cancel}
+use Rattle.clr_rules.specs.declared.command.Kind.TheVariants.{Restore, Switch}
+use Rattle.clr_order.specs.declared.action.Action.TheVariants as actions
 use Rattle.clr_rules.specs.declared.change.Edit.TheVariants.{SetHand, PutHold, TakeHold, PutRecord}
 use Rattle.clr_rules.specs.declared.hold.Hold.{Hold}
 use Rattle.clr_rules.specs.declared.hold_kind.HoldKind.{HoldKind}
 use Rattle.clr_rules.specs.declared.hold_kind.HoldKind.TheVariants.{HeldOpen, Block, Control, Tag}
 use Rattle.clr_rules.specs.declared.hold_kind.HoldKind.TheVariants.{Tested, Ground, Crew}
 use Rattle.clr_rules.specs.declared.phase.Phase.TheVariants.{Requested, Released, Closed}
-use Rattle.clr_rules.specs.Register.{Register}
-use Rattle.clr_rules.specs.Holds.{hold_of}
-use Rattle.clr_rules.specs.Edits.{after_edits}
-use Rattle.clr_examples.specs.Changes.{both_tested}
-use Rattle.clr_examples.specs.Phases.{refusal_in, refused_after}
-use Rattle.clr_examples.specs.Sequence.{tells}
-use Rattle.clr_rules.specs.Holds.{hindering_hold}
-use Rattle.clr_rules.specs.Register.{opening}
-use Rattle.clr_rules.specs.Run.{after_all}
-use Rattle.clr_examples.specs.Worked.{BOSS, C1, JONES, KIM, L2, L3, OPS, REED, S2, S3, Saying, ZZ}
-use Rattle.clr_examples.specs.Worked.{accepted, answer_after, c1_is_on, kim_is_ordered, refused, does}
-use Rattle.clr_examples.specs.Worked.{from_moment, isolating_l2, jones_1, kim_1, l2_granted, ops_1}
-use Rattle.clr_examples.specs.Worked.{register_after, s2_opened, said_at, says, step_runs}
-use Rattle.clr_examples.specs.Worked.{worked_staff}
-use Rattle.clr_examples.specs.WorkedRows.{kim_card, kim_record}
-use Rattle.clr_rules.specs.declared.command.Kind.TheVariants.{Request, Order, Instruct, Grant, Test}
-use Rattle.clr_rules.specs.declared.command.Kind.TheVariants.{Ground as LayGround, Unground, SignOn}
-use Rattle.clr_rules.specs.declared.command.Kind.TheVariants.{SignOff, Transfer, Release, Cancel}
-use Rattle.clr_rules.specs.declared.command.Kind.TheVariants.{Restore, Switch}
 use Rattle.clr_rules.specs.declared.refusal.Refusal.TheVariants.{NotHolder, NotTested, Grounded}
 use Rattle.clr_rules.specs.declared.refusal.Refusal.TheVariants.{NotGrounded, CrewsOn, CrewState}
 use Rattle.clr_rules.specs.declared.refusal.Refusal.TheVariants.{BadTransfer, Held}
@@ -165,15 +163,7 @@ one_name_opening = opening (record {
   sections =
       record { name = A; source = false } ∷ record { name = codes "G"; source = true }
       ∷ record { name = M; source = false } ∷ [];
-  points = record {
-    name = A;
-    from_end = M;
-    to_end = A;
-    lockable = false;
-    remote = false;
-    position = Shut;
-    jumper = false;
-  }
+  points = point_row A M A false false Shut
       ∷ record {
         name = P;
         from_end = codes "G";

@@ -1,16 +1,12 @@
 -- EXAMPLES OF PHASES AND ROLES: what each command is answered in each phase of a clearance, and
 -- from each role.
 use Rattle.std.specs.Prelude.{◌≡◌, false, true, List, [], ◌∷◌, ◌++◌, map, codes, Option, Some, None}
-use Rattle.clr_order.specs.declared.action.Action.TheVariants as actions
 use Rattle.clr_rules.specs.Answer.{Answer}
-use Rattle.clr_examples.specs.Worked.{C1, JONES, KIM, L2, OPS, REED, S2, S3, S4, Saying, answer_after}
-use Rattle.clr_examples.specs.Worked.{c1_is_on, does, isolating_l2, jones_1, kim_1, l2_asked}
-use Rattle.clr_examples.specs.Worked.{l2_granted, l2_grounded, l2_isolated, l2_ordered, l2_released}
-use Rattle.clr_examples.specs.Worked.{l2_restoring, l2_tested, ops_1, restoring_l2, s2_opened}
-use Rattle.clr_examples.specs.Worked.{s3_unblocked, says, step_is_repeated, step_runs}
-use Rattle.clr_rules.specs.declared.command.Kind.{Kind}
-use Rattle.clr_rules.specs.declared.refusal.Refusal.{Refusal}
-use Rattle.clr_rules.specs.declared.reply.Reply.{Reply}
+use Rattle.clr_examples.specs.Worked.{C1, JONES, KIM, L2, OPS, REED, S2, S3, S4, Saying}
+use Rattle.clr_examples.specs.Worked.{answer_after, c1_is_on, does, isolating_l2, jones_1, kim_1}
+use Rattle.clr_examples.specs.Worked.{l2_asked, l2_granted, l2_grounded, l2_isolated, l2_ordered}
+use Rattle.clr_examples.specs.Worked.{l2_released, l2_restoring, l2_tested, ops_1, restoring_l2}
+use Rattle.clr_examples.specs.Worked.{s2_opened, s3_unblocked, says, step_is_repeated, step_runs}
 use Rattle.clr_rules.specs.declared.command.Kind.TheVariants.{Request, Order, Instruct, Repeat}
 use Rattle.clr_rules.specs.declared.command.Kind.TheVariants.{Report, Grant, Test, Ground, Unground}
 use Rattle.clr_rules.specs.declared.command.Kind.TheVariants.{SignOn, SignOff, Transfer, Release}
@@ -18,8 +14,11 @@ use Rattle.clr_rules.specs.declared.command.Kind.TheVariants.{Cancel, Restore, A
 use Rattle.clr_rules.specs.declared.refusal.Refusal.TheVariants.{WrongRole, NotHolder, WrongPhase}
 use Rattle.clr_rules.specs.declared.refusal.Refusal.TheVariants.{StepState, StepsLeft, NotTested}
 use Rattle.clr_rules.specs.declared.refusal.Refusal.TheVariants.{NotGrounded, CrewState}
-use Rattle.clr_rules.specs.declared.reply.Reply.TheVariants.{Accepted, Shown, Refused}
-use Rattle.clr_rules.specs.declared.reply.Reply.TheVariants.{Added}
+use Rattle.clr_order.specs.declared.action.Action.TheVariants as actions
+use Rattle.clr_rules.specs.declared.command.Kind.{Kind}
+use Rattle.clr_rules.specs.declared.refusal.Refusal.{Refusal}
+use Rattle.clr_rules.specs.declared.reply.Reply.{Reply}
+use Rattle.clr_rules.specs.declared.reply.Reply.TheVariants.{Accepted, Shown, Refused, Added}
 
 -- what a reply refuses for, if it does
 abbrev pub refusal_in : Reply → Option Refusal

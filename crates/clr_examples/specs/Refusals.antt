@@ -1,16 +1,12 @@
 -- EXAMPLES OF REFUSALS: each of the 31 in the worked network, and some of them for more than one
 -- reason. A refused command changes nothing: its answer has no edits.
 use Rattle.std.specs.Prelude.{◌≡◌, ℕ, zero, suc, false, true, List, [], ◌∷◌, ◌++◌, replicate, codes}
-use Rattle.clr_order.specs.declared.action.Action.TheVariants as actions
 use Rattle.clr_rules.specs.Answer.{answer}
-use Rattle.clr_rules.specs.declared.command.Command.{Command}
-use Rattle.clr_rules.specs.declared.hold_kind.HoldKind.TheVariants.{HeldOpen}
-use Rattle.clr_rules.specs.Register.{Register}
-use Rattle.clr_rules.specs.Register.{opening}
+use Rattle.clr_rules.specs.Register.{Register, opening}
 use Rattle.clr_rules.specs.Run.{after_all}
-use Rattle.clr_examples.specs.Worked.{C1, DALE, H, JONES, BOSS, KIM, L1, L2, L3, OPS, REED, S1, S2, S3}
-use Rattle.clr_examples.specs.Worked.{S4, Saying, T1, ZZ, answer_after, c1_is_off, c1_is_on, does}
-use Rattle.clr_examples.specs.Worked.{from_moment, isolating_l2, isolating_l3, jones_1, kim_1}
+use Rattle.clr_examples.specs.Worked.{C1, DALE, H, JONES, BOSS, KIM, L1, L2, L3, OPS, REED, S1, S2}
+use Rattle.clr_examples.specs.Worked.{S3, S4, Saying, T1, ZZ, answer_after, c1_is_off, c1_is_on}
+use Rattle.clr_examples.specs.Worked.{does, from_moment, isolating_l2, isolating_l3, jones_1, kim_1}
 use Rattle.clr_examples.specs.Worked.{kim_asks, l2_asked, l2_granted, l2_ordered, l2_released}
 use Rattle.clr_examples.specs.Worked.{l2_tested, l2_ungrounded, ops_1, refused, register_after}
 use Rattle.clr_examples.specs.Worked.{s2_opened, s2_tagged, said_at, says, s3_unblocked}
@@ -32,6 +28,9 @@ use Rattle.clr_rules.specs.declared.refusal.Refusal.TheVariants.{StepsLeft, Outs
 use Rattle.clr_rules.specs.declared.refusal.Refusal.TheVariants.{Grounded, NotGrounded, CrewsOn}
 use Rattle.clr_rules.specs.declared.refusal.Refusal.TheVariants.{CrewState, BadTransfer}
 use Rattle.clr_rules.specs.declared.refusal.Refusal.TheVariants.{NotAttested}
+use Rattle.clr_order.specs.declared.action.Action.TheVariants as actions
+use Rattle.clr_rules.specs.declared.command.Command.{Command}
+use Rattle.clr_rules.specs.declared.hold_kind.HoldKind.TheVariants.{HeldOpen}
 
 -- THE CALLER
 

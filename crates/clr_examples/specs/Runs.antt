@@ -3,27 +3,19 @@
 use Rattle.std.specs.Prelude.{◌≡◌, ℕ, ◌+◌, true, false, List, [], ◌∷◌, ◌++◌, length, codes, Some}
 use Rattle.std.specs.Prelude.{None}
 use Rattle.clr_net.specs.declared.point.Position.TheVariants.{Opened, Closed as Shut}
-use Rattle.clr_order.specs.declared.step.StepState.TheVariants.{Done}
-use Rattle.clr_order.specs.declared.action.Action.TheVariants as actions
+use Rattle.clr_rules.specs.Prelude.{Done, Id, Register, hand_of, hold_of}
 use Rattle.clr_rules.specs.Fences.{clearance_fence}
 use Rattle.clr_rules.specs.declared.hold_kind.HoldKind.TheVariants.{HeldOpen, Block, Tag, Tested}
 use Rattle.clr_rules.specs.declared.hold_kind.HoldKind.TheVariants.{Ground as Grounding}
-use Rattle.clr_rules.specs.declared.phase.Phase.{Phase}
-use Rattle.clr_rules.specs.declared.phase.Phase.TheVariants.{Requested, Ordered, Granted, Released}
-use Rattle.clr_rules.specs.declared.phase.Phase.TheVariants.{Restoring, Switching, Closed}
-use Rattle.clr_rules.specs.declared.reply.Reply.{Reply}
-use Rattle.clr_rules.specs.Id.{Id}
-use Rattle.clr_rules.specs.Register.{Register}
-use Rattle.clr_rules.specs.States.{hand_of}
-use Rattle.clr_rules.specs.Holds.{hold_of}
 use Rattle.clr_rules.specs.Run.{replies}
-use Rattle.clr_examples.specs.Worked.{BOSS, C1, DALE, G, H, JONES, KIM, L1, L2, L3, OPS, REED, S1, S2}
-use Rattle.clr_examples.specs.Worked.{S3, S4, Saying, T1, ZZ, does, from_moment, jones_1, kim_1}
-use Rattle.clr_examples.specs.Worked.{kim_releases, c1_is_on, l2_granted, l2_is_restored, l2_ordered}
-use Rattle.clr_examples.specs.Worked.{ops_1, register_after, restoring_l3, s2_opened, says, step_runs}
-use Rattle.clr_examples.specs.Worked.{jones_works_and_releases, worked_staff}
-use Rattle.clr_examples.specs.WorkedRows.{done_step, jones_card, jones_record, kim_card, ops_card}
-use Rattle.clr_examples.specs.WorkedRows.{seen}
+use Rattle.clr_examples.specs.Worked.{BOSS, C1, DALE, G, H, JONES, KIM, L1, L2, L3, OPS, REED, S1}
+use Rattle.clr_examples.specs.Worked.{S2, S3, S4, Saying, T1, ZZ, does, from_moment, jones_1, kim_1}
+use Rattle.clr_examples.specs.Worked.{kim_releases, c1_is_on, l2_granted, l2_is_restored}
+use Rattle.clr_examples.specs.Worked.{l2_ordered, ops_1, register_after, restoring_l3, s2_opened}
+use Rattle.clr_examples.specs.Worked.{says, step_runs, jones_works_and_releases, worked_staff}
+use Rattle.clr_examples.specs.Worked.{s1_row, s2_row, s3_row, s4_row, t1_row}
+use Rattle.clr_examples.specs.WorkedRows.{jones_card, jones_record, kim_card, ops_card}
+use Rattle.clr_examples.specs.WorkedRows.{seen, l2_steps_done}
 use Rattle.clr_rules.specs.declared.command.Kind.TheVariants.{Instruct, Repeat, Report, Test}
 use Rattle.clr_rules.specs.declared.command.Kind.TheVariants.{Ground, Unground, SignOn, SignOff}
 use Rattle.clr_rules.specs.declared.command.Kind.TheVariants.{Transfer, Release, Cancel, Restore}
@@ -35,9 +27,14 @@ use Rattle.clr_rules.specs.declared.refusal.Refusal.TheVariants.{RepeatDiffers, 
 use Rattle.clr_rules.specs.declared.refusal.Refusal.TheVariants.{OutsideFence, NotTested, Grounded}
 use Rattle.clr_rules.specs.declared.refusal.Refusal.TheVariants.{NotGrounded, CrewsOn, CrewState}
 use Rattle.clr_rules.specs.declared.refusal.Refusal.TheVariants.{BadTransfer, NotAttested}
+use Rattle.clr_rules.specs.declared.reply.View.{View}
+use Rattle.clr_order.specs.declared.action.Action.TheVariants as actions
+use Rattle.clr_rules.specs.declared.phase.Phase.{Phase}
+use Rattle.clr_rules.specs.declared.phase.Phase.TheVariants.{Requested, Ordered, Granted, Released}
+use Rattle.clr_rules.specs.declared.phase.Phase.TheVariants.{Restoring, Switching, Closed}
+use Rattle.clr_rules.specs.declared.reply.Reply.{Reply}
 use Rattle.clr_rules.specs.declared.reply.Card.{Card}
 use Rattle.clr_rules.specs.declared.reply.Reply.TheVariants.{Accepted, Shown, Refused}
-use Rattle.clr_rules.specs.declared.reply.View.{View}
 
 -- the replies to what is said next
 abbrev pub replies_after : List Saying → List Saying → List Reply
@@ -265,51 +262,7 @@ TheRegisterOfAGrant = register_after l2_granted ≡ record {
         record { name = G; source = true } ∷ record { name = H; source = true }
         ∷ record { name = L1; source = false }
         ∷ record { name = L2; source = false } ∷ record { name = L3; source = false } ∷ [];
-    points = record {
-      name = S1;
-      from_end = G;
-      to_end = L1;
-      lockable = true;
-      remote = false;
-      position = Opened;
-      jumper = false;
-    }
-        ∷ record {
-          name = S2;
-          from_end = L1;
-          to_end = L2;
-          lockable = true;
-          remote = false;
-          position = Opened;
-          jumper = false;
-        }
-        ∷ record {
-          name = S3;
-          from_end = L2;
-          to_end = L3;
-          lockable = true;
-          remote = false;
-          position = Opened;
-          jumper = false;
-        }
-        ∷ record {
-          name = S4;
-          from_end = L3;
-          to_end = H;
-          lockable = true;
-          remote = true;
-          position = Opened;
-          jumper = false;
-        }
-        ∷ record {
-          name = T1;
-          from_end = L1;
-          to_end = L3;
-          lockable = false;
-          remote = false;
-          position = Opened;
-          jumper = false;
-        } ∷ [];
+    points = s1_row Opened ∷ s2_row Opened ∷ s3_row Opened ∷ s4_row Opened ∷ t1_row Opened ∷ [];
   };
   staff = worked_staff;
   states = record { point = S1; position = Shut; hand = None }
@@ -318,10 +271,7 @@ TheRegisterOfAGrant = register_after l2_granted ≡ record {
       ∷ record { point = S4; position = Shut; hand = None }
       ∷ record { point = T1; position = Opened; hand = None } ∷ [];
   records = jones_record Granted 120 ∷ [];
-  steps = done_step jones_1 1 1 (does actions.Open S2)
-      ∷ done_step jones_1 1 2 (does actions.Open S3) ∷ done_step jones_1 1 3 (does actions.Block S2)
-      ∷ done_step jones_1 1 4 (does actions.Block S3) ∷ done_step jones_1 1 5 (does actions.Tag S2)
-      ∷ done_step jones_1 1 6 (does actions.Tag S3) ∷ [];
+  steps = l2_steps_done;
   holds = hold_of jones_1 Block S2 ∷ hold_of jones_1 Block S3 ∷ hold_of jones_1 HeldOpen S2
       ∷ hold_of jones_1 HeldOpen S3
       ∷ hold_of jones_1 Tag S2 ∷ hold_of jones_1 Tag S3 ∷ [];

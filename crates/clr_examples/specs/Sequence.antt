@@ -1,12 +1,8 @@
 -- EXAMPLES OF SEQUENCE: which check of a command speaks first. In each example a check applies
 -- together with the next one of the same command that may, and the reply is the first one's.
 use Rattle.std.specs.Prelude.{◌≡◌, ℕ, false, true, List, [], ◌∷◌, ◌++◌, codes, Some}
-use Rattle.clr_order.specs.declared.action.Action.TheVariants as actions
 use Rattle.clr_rules.specs.Answer.{answer}
-use Rattle.clr_rules.specs.declared.hold_kind.HoldKind.TheVariants.{HeldOpen}
-use Rattle.clr_rules.specs.declared.phase.Phase.TheVariants.{Requested}
-use Rattle.clr_rules.specs.declared.refusal.Refusal.{Refusal}
-use Rattle.clr_rules.specs.Register.{Register}
+use Rattle.clr_rules.specs.Prelude.{Register}
 use Rattle.clr_examples.specs.Worked.{C1, JONES, KIM, L2, L3, OPS, REED, S2, S3, Saying, ZZ}
 use Rattle.clr_examples.specs.Worked.{answer_after, c1_is_off, c1_is_on, does, jones_1, kim_1}
 use Rattle.clr_examples.specs.Worked.{l2_asked, l2_granted, l2_grounded, l2_ordered, l2_released}
@@ -27,6 +23,10 @@ use Rattle.clr_rules.specs.declared.refusal.Refusal.TheVariants.{WrongReporter, 
 use Rattle.clr_rules.specs.declared.refusal.Refusal.TheVariants.{OutsideFence, NotTested, Grounded}
 use Rattle.clr_rules.specs.declared.refusal.Refusal.TheVariants.{NotGrounded, CrewsOn, CrewState}
 use Rattle.clr_rules.specs.declared.refusal.Refusal.TheVariants.{BadTransfer, NotAttested}
+use Rattle.clr_order.specs.declared.action.Action.TheVariants as actions
+use Rattle.clr_rules.specs.declared.hold_kind.HoldKind.TheVariants.{HeldOpen}
+use Rattle.clr_rules.specs.declared.phase.Phase.TheVariants.{Requested}
+use Rattle.clr_rules.specs.declared.refusal.Refusal.{Refusal}
 
 -- after all this was said, what is said next is refused
 abbrev pub tells : List Saying → Saying → Refusal → Type 0

@@ -2,29 +2,24 @@
 -- covers a run, and what is near.
 use Rattle.std.specs.Prelude.{◌≡◌, ℕ, Bool, true, false, List, [], ◌∷◌, ◌++◌, map, Some, None}
 use Rattle.std.specs.Prelude.{length}
-use Rattle.clr_net.specs.Names.{has_name}
+use Rattle.clr_rules.specs.Prelude.{has_name, Waiting, Id, Register, hold_of, after_edits}
 use Rattle.clr_net.specs.declared.point.Position.TheVariants.{Opened, Closed as Shut}
-use Rattle.clr_order.specs.declared.step.StepState.TheVariants.{Waiting}
-use Rattle.clr_order.specs.declared.action.Action.TheVariants as actions
 use Rattle.clr_rules.specs.Agreement.{part_near}
+use Rattle.clr_examples.specs.Isolation.{in_l2, register_one, with_s4_switched}
+use Rattle.clr_examples.specs.NearParts.{both_at_work}
+use Rattle.clr_rules.specs.Near.{Near, near_of}
+use Rattle.clr_rules.specs.Shown.{covers, is_own_command, marks_of, own, own_answers, items_shown}
+use Rattle.clr_examples.specs.Worked.{C1, JONES, KIM, L1, L2, L3, OPS, S1, S2, S3, S4, Saying, T1}
+use Rattle.clr_examples.specs.Worked.{ZZ, does, from_moment, isolating_l2_and_l3, jones_1, kim_1}
+use Rattle.clr_examples.specs.Worked.{kim_asks, l2_asked, l2_ordered, ops_1, register_after}
+use Rattle.clr_examples.specs.Worked.{said_at, says, worked_net, worked_staff, s2_row, s3_row}
+use Rattle.clr_examples.specs.WorkedRows.{jones_record, step_row, l2_steps_done}
+use Rattle.clr_order.specs.declared.action.Action.TheVariants as actions
 use Rattle.clr_rules.specs.declared.change.Edit.TheVariants.{SetPosition, SetHand, PutHold}
 use Rattle.clr_rules.specs.declared.change.Edit.TheVariants.{TakeHold, PutRecord, PutStep}
 use Rattle.clr_rules.specs.declared.hold_kind.HoldKind.TheVariants.{HeldOpen, Block, Tag, Tested}
 use Rattle.clr_rules.specs.declared.hold_kind.HoldKind.TheVariants.{Ground, Crew}
 use Rattle.clr_rules.specs.declared.phase.Phase.TheVariants.{Ordered, Granted, Closed}
-use Rattle.clr_rules.specs.Id.{Id}
-use Rattle.clr_rules.specs.Register.{Register}
-use Rattle.clr_rules.specs.Holds.{hold_of}
-use Rattle.clr_rules.specs.Edits.{after_edits}
-use Rattle.clr_examples.specs.Isolation.{in_l2, register_one, with_s4_switched}
-use Rattle.clr_examples.specs.NearParts.{both_at_work}
-use Rattle.clr_rules.specs.Near.{Near, near_of}
-use Rattle.clr_rules.specs.Shown.{covers, is_own_command, marks_of, own, own_answers, items_shown}
-use Rattle.clr_examples.specs.Worked.{C1, JONES, KIM, L1, L2, L3, OPS, S1, S2, S3, S4, Saying, T1, ZZ}
-use Rattle.clr_examples.specs.Worked.{does, from_moment, isolating_l2_and_l3, jones_1, kim_1, kim_asks}
-use Rattle.clr_examples.specs.Worked.{l2_asked, l2_ordered, ops_1, register_after, said_at, says}
-use Rattle.clr_examples.specs.Worked.{worked_net, worked_staff}
-use Rattle.clr_examples.specs.WorkedRows.{done_step, jones_record, step_row}
 use Rattle.clr_rules.specs.declared.command.Kind.TheVariants.{Request, Order, Instruct, Cancel}
 use Rattle.clr_rules.specs.declared.command.Kind.TheVariants.{Switch, Show}
 
@@ -107,33 +102,13 @@ abbrev pub AgreementLooksAtTheNearPart : Type 0
 AgreementLooksAtTheNearPart = part_near (register_after both_at_work) jones_1 in_l2 ≡ record {
   net = record {
     sections = record { name = L2; source = false } ∷ [];
-    points = record {
-      name = S2;
-      from_end = L1;
-      to_end = L2;
-      lockable = true;
-      remote = false;
-      position = Opened;
-      jumper = false;
-    }
-        ∷ record {
-          name = S3;
-          from_end = L2;
-          to_end = L3;
-          lockable = true;
-          remote = false;
-          position = Opened;
-          jumper = false;
-        } ∷ [];
+    points = s2_row Opened ∷ s3_row Opened ∷ [];
   };
   staff = worked_staff;
   states = record { point = S2; position = Opened; hand = None }
       ∷ record { point = S3; position = Opened; hand = None } ∷ [];
   records = jones_record Granted 123 ∷ [];
-  steps = done_step jones_1 1 1 (does actions.Open S2)
-      ∷ done_step jones_1 1 2 (does actions.Open S3) ∷ done_step jones_1 1 3 (does actions.Block S2)
-      ∷ done_step jones_1 1 4 (does actions.Block S3) ∷ done_step jones_1 1 5 (does actions.Tag S2)
-      ∷ done_step jones_1 1 6 (does actions.Tag S3) ∷ [];
+  steps = l2_steps_done;
   holds = hold_of jones_1 Block S2 ∷ hold_of jones_1 Block S3 ∷ hold_of kim_1 Block S3
       ∷ hold_of jones_1 Crew C1 ∷ hold_of jones_1 Ground L2
       ∷ hold_of jones_1 HeldOpen S2 ∷ hold_of jones_1 HeldOpen S3 ∷ hold_of kim_1 HeldOpen S3

@@ -1,27 +1,22 @@
 -- THE WORKED NETWORK of the examples: two sources, three sections of line between them, four
 -- switching points in a row and an open tie; and the staff that works on it.
-use Rattle.std.specs.Prelude.{ℕ, ◌+◌, true, false, List, [], ◌∷◌, ◌++◌, length, codes, Some, None}
-use Rattle.clr_net.specs.Grid.{Grid}
+use Rattle.std.specs.Prelude.{ℕ, ◌+◌, Bool, true, false, List, [], ◌∷◌, ◌++◌, length, codes, Some, None}
+use Rattle.clr_rules.specs.Prelude.{Grid, StaffRow, Task, Action, Id, PointRow, Position}
 use Rattle.clr_net.specs.declared.point.Position.TheVariants.{Opened, Closed}
 use Rattle.clr_staff.specs.declared.employee.Role.TheVariants.{Operator, Field, Charge}
-use Rattle.clr_staff.specs.declared.employee.StaffRow.{StaffRow}
-use Rattle.clr_order.specs.Step.{Task}
-use Rattle.clr_order.specs.declared.action.Action.{Action}
 use Rattle.clr_order.specs.declared.action.Action.TheVariants.{Open, Block, Control, Tag, Untag}
 use Rattle.clr_order.specs.declared.action.Action.TheVariants.{Uncontrol, Unblock, Close, Leave}
 use Rattle.clr_rules.specs.Answer.{Answer, answer}
-use Rattle.clr_rules.specs.declared.change.Edit.{Edit}
-use Rattle.clr_rules.specs.declared.command.Command.{Command}
-use Rattle.clr_rules.specs.declared.command.Kind.{Kind}
-use Rattle.clr_rules.specs.declared.refusal.Refusal.{Refusal}
-use Rattle.clr_rules.specs.Id.{Id}
-use Rattle.clr_rules.specs.Register.{Register}
-use Rattle.clr_rules.specs.Register.{opening}
+use Rattle.clr_rules.specs.Register.{Register, opening}
 use Rattle.clr_rules.specs.Run.{after_all}
 use Rattle.clr_rules.specs.declared.command.Kind.TheVariants.{Request, Order, Instruct, Repeat}
 use Rattle.clr_rules.specs.declared.command.Kind.TheVariants.{Report, Grant, Test, Ground, SignOn}
 use Rattle.clr_rules.specs.declared.command.Kind.TheVariants.{SignOff, Unground, Release, Restore}
 use Rattle.clr_rules.specs.declared.command.Kind.TheVariants.{Amend, Show}
+use Rattle.clr_rules.specs.declared.change.Edit.{Edit}
+use Rattle.clr_rules.specs.declared.command.Command.{Command}
+use Rattle.clr_rules.specs.declared.command.Kind.{Kind}
+use Rattle.clr_rules.specs.declared.refusal.Refusal.{Refusal}
 use Rattle.clr_rules.specs.declared.reply.Card.{Card}
 use Rattle.clr_rules.specs.declared.reply.Reply.TheVariants.{Accepted, Refused}
 
@@ -86,6 +81,35 @@ ZZ = codes "ZZ"
 -- THE NETWORK: G -S1- L1 -S2- L2 -S3- L3 -S4- H, and T1 between L1 and L3. G and H are sources; S4
 -- is controlled from afar; the tie T1 stands open, and can be neither locked nor controlled
 
+-- a point that is no jumper: its name, its ends, whether it can be locked, and controlled from
+-- afar, and its position
+abbrev pub point_row : List ℕ → List ℕ → List ℕ → Bool → Bool → Position → PointRow
+point_row name from_end to_end lockable remote position =
+    record {
+      name = name;
+      from_end = from_end;
+      to_end = to_end;
+      lockable = lockable;
+      remote = remote;
+      position = position;
+      jumper = false;
+    }
+
+abbrev pub s1_row : Position → PointRow
+s1_row = point_row S1 G L1 true false
+
+abbrev pub s2_row : Position → PointRow
+s2_row = point_row S2 L1 L2 true false
+
+abbrev pub s3_row : Position → PointRow
+s3_row = point_row S3 L2 L3 true false
+
+abbrev pub s4_row : Position → PointRow
+s4_row = point_row S4 L3 H true true
+
+abbrev pub t1_row : Position → PointRow
+t1_row = point_row T1 L1 L3 false false
+
 abbrev pub worked_net : Grid
 worked_net = record {
   sections =
@@ -95,53 +119,7 @@ worked_net = record {
       ∷ record { name = L2; source = false }
       ∷ record { name = L3; source = false }
       ∷ [];
-  points =
-      record {
-        name = S1;
-        from_end = G;
-        to_end = L1;
-        lockable = true;
-        remote = false;
-        position = Closed;
-        jumper = false;
-      }
-      ∷ record {
-        name = S2;
-        from_end = L1;
-        to_end = L2;
-        lockable = true;
-        remote = false;
-        position = Closed;
-        jumper = false;
-      }
-      ∷ record {
-        name = S3;
-        from_end = L2;
-        to_end = L3;
-        lockable = true;
-        remote = false;
-        position = Closed;
-        jumper = false;
-      }
-      ∷ record {
-        name = S4;
-        from_end = L3;
-        to_end = H;
-        lockable = true;
-        remote = true;
-        position = Closed;
-        jumper = false;
-      }
-      ∷ record {
-        name = T1;
-        from_end = L1;
-        to_end = L3;
-        lockable = false;
-        remote = false;
-        position = Opened;
-        jumper = false;
-      }
-      ∷ [];
+  points = s1_row Closed ∷ s2_row Closed ∷ s3_row Closed ∷ s4_row Closed ∷ t1_row Opened ∷ [];
 }
 
 -- THE STAFF: an operator, two in the field, and three who may be in charge, of whom BOSS is the

@@ -1,14 +1,12 @@
 -- THE ROWS of the worked network's clearances, and their cards, as the examples expect them.
-use Rattle.std.specs.Prelude.{ℕ, List, Option, Some, None}
-use Rattle.clr_order.specs.Step.{Task}
-use Rattle.clr_order.specs.declared.step.Step.{Step}
-use Rattle.clr_order.specs.declared.step.StepState.{StepState}
-use Rattle.clr_order.specs.declared.step.StepState.TheVariants.{Done}
+use Rattle.std.specs.Prelude.{ℕ, List, [], ◌∷◌, Option, Some, None}
+use Rattle.clr_rules.specs.Prelude.{Task, Step, StepState, Done, Id}
+use Rattle.clr_examples.specs.Worked.{JONES, KIM, L2, L3, OPS, REED, jones_1, kim_1, ops_1, does}
+use Rattle.clr_examples.specs.Worked.{S2, S3}
+use Rattle.clr_order.specs.declared.action.Action.TheVariants as actions
 use Rattle.clr_rules.specs.declared.phase.Phase.{Phase}
 use Rattle.clr_rules.specs.declared.record.Record.{Record}
 use Rattle.clr_rules.specs.declared.step_row.StepRow.{StepRow}
-use Rattle.clr_rules.specs.Id.{Id}
-use Rattle.clr_examples.specs.Worked.{JONES, KIM, L2, L3, OPS, REED, jones_1, kim_1, ops_1}
 use Rattle.clr_rules.specs.declared.reply.Card.{Card}
 
 -- the record of JONES/1 in a phase, with the moment of its last command; and that of KIM/1, and of
@@ -71,6 +69,14 @@ step_row c round ordinal task state reader =
 -- a step that REED has done
 abbrev pub done_step : Id → ℕ → ℕ → Task → StepRow
 done_step c round ordinal task = step_row c round ordinal task Done (Some REED)
+
+-- the six steps that isolate L2, all of them done
+abbrev pub l2_steps_done : List StepRow
+l2_steps_done =
+    done_step jones_1 1 1 (does actions.Open S2) ∷ done_step jones_1 1 2 (does actions.Open S3)
+    ∷ done_step jones_1 1 3 (does actions.Block S2) ∷ done_step jones_1 1 4 (does actions.Block S3)
+    ∷ done_step jones_1 1 5 (does actions.Tag S2) ∷ done_step jones_1 1 6 (does actions.Tag S3)
+    ∷ []
 
 -- a step as it is shown
 abbrev pub seen : Task → StepState → Option (List ℕ) → Step

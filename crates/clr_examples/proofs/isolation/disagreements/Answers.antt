@@ -1,27 +1,11 @@
 -- Each time a test of the near part, or of the greatest number, tells the registers apart.
-use Rattle.std.proofs.Common.{ℕ, Bool, ap}
-use Rattle.std.specs.Prelude.{◌==◌, Some}
-use Rattle.std.specs.List.{list_all, list_any}
-use Rattle.std.specs.Option.{is_some}
-use mathlib.Core.Bool.{true≢false}
-use Rattle.clr_net.specs.Grid.{Grid}
-use Rattle.clr_net.specs.declared.point.PointRow.{PointRow}
-use Rattle.clr_net.specs.Fence.{in_fence, reaches}
-use Rattle.clr_staff.specs.declared.employee.StaffRow.{StaffRow}
-use Rattle.clr_shelf.specs.Rows.{row_of, with_row, without_row}
+use Rattle.std.proofs.Common.{ℕ, Bool, ap, ◌==◌, Some, is_some, true≢false}
+use Rattle.clr_rules.proofs.Common.{list_all, list_any, Grid, PointRow, in_fence, reaches, StaffRow, row_of, with_row, without_row, Register, greatest_number, steps_in, steps_of, has_any_hold}
+use Rattle.clr_rules.proofs.Common.{has_some_hold, holds_of, first_of_each, places_of, after_edits, new_steps, touching_names, held_among, hindering_hold, after_all}
 use Rattle.clr_rules.specs.Live.{is_shut}
-use Rattle.clr_rules.specs.declared.point_state.PointState.{PointState}
-use Rattle.clr_rules.specs.Register.{Register}
-use Rattle.clr_rules.specs.Records.{greatest_number}
-use Rattle.clr_rules.specs.Steps.{steps_in, steps_of}
-use Rattle.clr_rules.specs.Holds.{has_any_hold, has_some_hold, holds_of, first_of_each, places_of}
-use Rattle.clr_rules.specs.Edits.{after_edits}
-use Rattle.clr_rules.specs.Changes.{new_steps}
-use Rattle.clr_rules.specs.Fences.{touching_names}
-use Rattle.clr_rules.specs.Holds.{held_among, hindering_hold}
-use Rattle.clr_rules.specs.Run.{after_all}
 use Rattle.clr_rules.specs.Shown.{covers, own_answers, items_shown}
 use Rattle.clr_examples.proofs.isolation.disagreements.Goals as goal
+use Rattle.clr_rules.specs.declared.point_state.PointState.{PointState}
 
 all_lockable : Register → Bool
 all_lockable R = list_all (λ (p : PointRow). p.lockable) (Grid.points R.net)

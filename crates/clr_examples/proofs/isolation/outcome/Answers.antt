@@ -1,16 +1,7 @@
 use Rattle.std.proofs.Common.{◌≡◌, [], refl, sym, ◌∙◌}
-use Rattle.clr_net.specs.Fence.{in_fence, reaches}
-use Rattle.clr_shelf.specs.Rows.{row_of, with_row, without_row}
-use Rattle.clr_rules.specs.Changes.{new_steps}
-use Rattle.clr_rules.specs.Register.{Register}
-use Rattle.clr_rules.specs.Records.{greatest_number}
-use Rattle.clr_rules.specs.Steps.{steps_in, steps_of}
-use Rattle.clr_rules.specs.Holds.{has_any_hold, has_some_hold, holds_of, first_of_each, places_of}
-use Rattle.clr_rules.specs.Edits.{after_edits}
+use Rattle.clr_rules.proofs.Common.{in_fence, reaches, row_of, with_row, without_row, new_steps, Register, greatest_number, steps_in, steps_of, has_any_hold, has_some_hold, holds_of, first_of_each}
+use Rattle.clr_rules.proofs.Common.{places_of, after_edits, touching_names, held_among, hindering_hold, after_all}
 use Rattle.clr_examples.specs.Isolation.{OneEndsSo, TheAnswersAreTheSame, TwoEndsSo, list_two, register_one, register_two, with_s4_switched}
-use Rattle.clr_rules.specs.Fences.{touching_names}
-use Rattle.clr_rules.specs.Holds.{held_among, hindering_hold}
-use Rattle.clr_rules.specs.Run.{after_all}
 use Rattle.clr_rules.specs.Shown.{covers, own_answers, items_shown}
 use Rattle.clr_examples.specs.Worked.{JONES, jones_1}
 use Rattle.clr_examples.proofs.isolation.outcome.Goals as goal

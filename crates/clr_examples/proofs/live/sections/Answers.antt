@@ -1,15 +1,7 @@
-use Rattle.std.specs.Prelude.{refl}
-use Rattle.clr_net.specs.Fence.{in_fence, reaches}
-use Rattle.clr_shelf.specs.Rows.{row_of, with_row, without_row}
-use Rattle.clr_rules.specs.Changes.{new_steps}
-use Rattle.clr_rules.specs.Records.{greatest_number}
-use Rattle.clr_rules.specs.Steps.{steps_in, steps_of}
-use Rattle.clr_rules.specs.Holds.{has_any_hold, has_some_hold, holds_of, first_of_each, places_of}
-use Rattle.clr_rules.specs.Edits.{after_edits}
-use Rattle.clr_rules.specs.Fences.{touching_names}
-use Rattle.clr_rules.specs.Holds.{held_among, hindering_hold}
+use Rattle.std.proofs.Common.{refl}
+use Rattle.clr_rules.proofs.Common.{in_fence, reaches, row_of, with_row, without_row, new_steps, greatest_number, steps_in, steps_of, has_any_hold, has_some_hold, holds_of, first_of_each, places_of}
+use Rattle.clr_rules.proofs.Common.{after_edits, touching_names, held_among, hindering_hold, after_all}
 use Rattle.clr_rules.specs.Live.{is_live, open_points}
-use Rattle.clr_rules.specs.Run.{after_all}
 use Rattle.clr_examples.proofs.live.sections.Goals as goal
 
 pub returns : goal.returns
