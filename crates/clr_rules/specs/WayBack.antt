@@ -1,7 +1,8 @@
 -- THE WAY BACK: commands by which the staff closes a record that is not Closed, without closing or
 -- opening a point. Each is asked at the last moment of the record that it is about.
 use Rattle.std.specs.Prelude.{◌≡◌, ℕ, Bool, true, false, not, ◌&&◌, if◌then◌else◌, List, [], ◌∷◌}
-use Rattle.std.specs.Prelude.{◌++◌, map, find, Option, None, Some, ◌⊎◌, zero, suc}
+use Rattle.std.specs.List.{list_any}
+use Rattle.std.specs.Prelude.{◌+◌, ◌*◌, ◌++◌, length, map, find, Option, None, Some, ◌⊎◌, zero, suc}
 use Rattle.clr_net.specs.Name.{same_name}
 use Rattle.clr_net.specs.Names.{has_name}
 use Rattle.clr_order.specs.Needed.{undoing}
@@ -17,6 +18,7 @@ use Rattle.clr_rules.specs.Answer.{Answer, answer}
 use Rattle.clr_rules.specs.Changes.{step_moved}
 use Rattle.clr_rules.specs.Checks.{is_field, is_operator}
 use Rattle.clr_rules.specs.Holds.{held_among}
+use Rattle.clr_rules.specs.Prelude.{Edit, SetPosition}
 use Rattle.clr_rules.specs.Prelude.{Command, Kind, HoldKind, Ground, Crew, Phase, Requested, Ordered}
 use Rattle.clr_rules.specs.Prelude.{Granted, Released, Restoring, Switching, Closed, Record, Reply}
 use Rattle.clr_rules.specs.Prelude.{StepRow, Id, same_id, Register, hand_of, position_of, record_of}
@@ -125,10 +127,19 @@ moves_of R (Some r) = moves_in R r r.phase
 abbrev pub next_moves : Register → Id → List Command
 next_moves R c = moves_of R (record_of R.records c)
 
--- so many moves on the way, each from the register that the earlier ones left
-unfoldable pub moves : ℕ → Register → Id → List Command
-moves zero R c = []
-moves (suc n) R c = next_moves R c ++ moves n (after_all R (next_moves R c)) c
+-- the moves of so many turns, each from the register that the earlier ones left
+unfoldable pub turns : ℕ → Register → Id → List Command
+turns zero R c = []
+turns (suc n) R c = next_moves R c ++ turns n (after_all R (next_moves R c)) c
+
+-- turns that are enough: one for each hold; five for each step of the second round, and for each of
+-- the 256 that a restoring order still to come may have; and five before that order
+abbrev pub enough_turns : Register → Id → ℕ
+enough_turns R c = 5 * (257 + length (steps_in R.steps c 2)) + length R.holds
+
+-- THE WAY BACK of a record
+abbrev pub way_back : Register → Id → List Command
+way_back R c = turns (enough_turns R c) R c
 
 -- ---- what they come to
 
@@ -136,11 +147,20 @@ abbrev pub is_accepted : Reply → Bool
 is_accepted (Accepted card) = true
 is_accepted _ = false
 
--- each of the commands is accepted, one after the other
-unfoldable pub AllAccepted : Register → List Command → Type 0
-AllAccepted R [] = Unit {0}
-AllAccepted R (q ∷ commands) =
-    (is_accepted (Answer.reply (answer R q)) ≡ true) × AllAccepted (after R q) commands
+-- whether an edit opens or closes a point
+abbrev pub sets_position : Edit → Bool
+sets_position (SetPosition p position) = true
+sets_position _ = false
+
+-- A MOVE: the command is accepted, and opens and closes no point
+pub record IsMove (R : Register) (q : Command) : Type 0 where
+  pub accepted : is_accepted (Answer.reply (answer R q)) ≡ true
+  pub moves_no_point : list_any sets_position (Answer.edits (answer R q)) ≡ false
+
+-- each of the commands is a move, one after the other
+unfoldable pub AreMoves : Register → List Command → Type 0
+AreMoves R [] = Unit {0}
+AreMoves R (q ∷ commands) = IsMove R q × AreMoves (after R q) commands
 
 -- a step is as it was, or it was given out at one of these points, and waits again
 abbrev pub IsBack : (List ℕ → Bool) → StepRow → StepRow → Type 0
@@ -165,11 +185,11 @@ pub record StaysBut (among : List ℕ → Bool) (R S : Register) (d : Id) : Type
 abbrev pub is_point_of : Register → Id → List ℕ → Bool
 is_point_of R c = has_name (points_of (steps_of R.steps c))
 
--- COMMANDS CLOSE A RECORD ALONE: all are accepted, and the record is Closed after them; no point is
--- closed or opened; every other record stays as it is, but for steps that are given out at points
--- of this one
+-- COMMANDS CLOSE A RECORD ALONE: all are accepted, one after the other, none opens or closes a
+-- point, and the record is Closed after them; every point is where it was, and every other record
+-- stays as it is, but for steps that are given out at points of this one
 pub record ClosesAlone (R : Register) (c : Id) (commands : List Command) : Type 0 where
-  pub accepted : AllAccepted R commands
+  pub moves : AreMoves R commands
   pub now : Record
   pub recorded : record_of (Register.records (after_all R commands)) c ≡ Some now
   pub closed : is_closed now.phase ≡ true
@@ -178,10 +198,10 @@ pub record ClosesAlone (R : Register) (c : Id) (commands : List Command) : Type 
   pub others : (d : Id) → same_id d c ≡ false
       → StaysBut (is_point_of R c) R (after_all R commands) d
 
--- THERE IS A WAY BACK from every register that is reached, for every record: enough moves close it,
--- where the staff has a field employee, or no step of the record is given out
+-- THERE IS A WAY BACK from every register that is reached, for every record: it closes the record
+-- alone, where the staff has a field employee, or no step of the record is given out
 abbrev pub ThereIsAWayBack : Type 0
 ThereIsAWayBack =
     (R : Register) → IsReached R → (c : Id) (r : Record) → record_of R.records c ≡ Some r
     → (has_some_role R.staff is_field ≡ true) ⊎ (some_active (steps_of R.steps c) ≡ false)
-    → (n : ℕ) × ClosesAlone R c (moves n R c)
+    → ClosesAlone R c (way_back R c)

@@ -1,5 +1,6 @@
 -- A command whose checks all pass is accepted, and what it makes of the register.
 use Rattle.std.proofs.Common.{◌≡◌, ℕ, Bool, true, false, nat_lt, List, [], ◌∷◌, Option, Some, None, is_some, Contains, refl, sym, ◌∙◌, ap, arith}
+use Rattle.std.specs.List.{list_any}
 use Rattle.std.proofs.lemmas.Bool.{false≢true, le-ltb}
 use Rattle.clr_net.proofs.Walks.{one_name, same_itself}
 use Rattle.clr_net.specs.Name.{same_name}
@@ -16,7 +17,7 @@ use Rattle.clr_rules.specs.laws.Edits.{refusal_of}
 use Rattle.clr_rules.specs.Prelude.{Edit, Command, Kind, Phase, Record, Refusal, StepRow, Id, Register, record_of, present_steps, step_at, after_edits}
 use Rattle.clr_rules.specs.Run.{after}
 use Rattle.clr_rules.specs.Staffed.{first_of_role, has_some_role}
-use Rattle.clr_rules.specs.WayBack.{is_accepted, one_of_role}
+use Rattle.clr_rules.specs.WayBack.{IsMove, is_accepted, one_of_role, sets_position}
 use Rattle.clr_rules.proofs.edits.Passing.{Pass}
 use Rattle.clr_rules.proofs.edits.Refusing.{edited_all-has_record}
 use Rattle.clr_rules.proofs.good.PutHolds.{found_there, one_of_name}
@@ -29,7 +30,12 @@ none_refuses (check ∷ rest) h = rw h.0 (none_refuses rest h.1)
 -- what an accepted command makes: its edits
 pub record Made (R : Register) (q : Command) (edits : List Edit) : Type 0 where
   pub accepted : is_accepted (Answer.reply (answer R q)) ≡ true
+  pub edits_are : Answer.edits (answer R q) ≡ edits
   pub is_after : after R q ≡ after_edits edits R
+
+-- and that it is a move, where none of its edits sets a position
+pub is_move : (R : Register) (q : Command) (edits : List Edit) → Made R q edits → list_any sets_position edits ≡ false → IsMove R q
+is_move R q edits m none = record { accepted = m.accepted; moves_no_point = ap (list_any sets_position) m.edits_are ∙ none }
 
 -- the reply is that of an accepted command, where the clearance has a record
 abbrev pub Accepts : Kind → Id → Type 0
@@ -51,6 +57,7 @@ made R q c edits accepts has passes are =
     let (s, found) = record_is (after_edits own R) c (edited_all-has_record own R c has) in
     record {
       accepted = ap (λ refusal. is_accepted (Answer.reply (answer_by_checks k R q refusal))) passed ∙ accepts k (after_edits own R) q.caller s found;
+      edits_are = ap (λ refusal. Answer.edits (answer_by_checks k R q refusal)) passed ∙ are;
       is_after = ap (λ refusal. after_edits (Answer.edits (answer_by_checks k R q refusal)) R) passed ∙ ap (λ edits. after_edits edits R) are;
     }
 

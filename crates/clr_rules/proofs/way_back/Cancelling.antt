@@ -1,5 +1,5 @@
 -- A record that was not granted is cancelled by its holder, once no step of it is given out.
-use Rattle.std.proofs.Common.{◌≡◌, ℕ, Bool, true, false, cond, ◌&&◌, List, [], ◌∷◌, Option, Some, None, find, is_some, refl, sym, ◌∙◌, ap, subst, ◌⊎◌, ⊎_elim}
+use Rattle.std.proofs.Common.{arith, ◌≡◌, ℕ, Bool, true, false, cond, ◌&&◌, List, [], ◌∷◌, Option, Some, None, find, is_some, refl, sym, ◌∙◌, ap, subst, ◌⊎◌, ⊎_elim}
 use Rattle.std.proofs.lemmas.Bool.{both_ways, false≢true}
 use Rattle.clr_net.specs.Names.{has_name}
 use Rattle.clr_net.proofs.Walks.{any_from}
@@ -27,14 +27,14 @@ use Rattle.clr_rules.proofs.keeps.EveryKind.{reached_are_good}
 use Rattle.clr_rules.proofs.lists.RoundSteps.{own_id}
 use Rattle.clr_rules.proofs.staffed.EveryKind.{reached_are_staffed}
 use Rattle.clr_rules.proofs.staffed.Puts.{found_any}
-use Rattle.clr_rules.proofs.way_back.Accepting.{HasEmployee, Made, employee_of, holder_passes, made, record_edits}
-use Rattle.clr_rules.proofs.way_back.ComingBack.{own_undone, reached2, repeat_accepted, repeating, report_accepted, reporting, split, undone_recorded, undone_steps}
+use Rattle.clr_rules.proofs.way_back.Accepting.{HasEmployee, Made, employee_of, holder_passes, made, record_edits, is_move}
+use Rattle.clr_rules.proofs.way_back.ComingBack.{own_undone, reached2, repeating, reporting, split, undone_recorded, undone_steps, repeat_move, undone_move}
 use Rattle.clr_rules.proofs.way_back.InWork.{active_in_work, is_present, reached_after}
-use Rattle.clr_rules.proofs.way_back.Staying.{Stays, WayOut, is_out, moved_one, moved_two, stays_after}
+use Rattle.clr_rules.proofs.way_back.Staying.{Stays, WayOut, is_out, moved_one, moved_two, stays_after, wider}
 
 -- what is left to do of a Released record
 abbrev pub ReleasedGoOut : Type 0
-ReleasedGoOut = (R : Register) → IsReached R → (r : Record) → record_of R.records r.id ≡ Some r → is_released r.phase ≡ true → WayOut R r.id
+ReleasedGoOut = (R : Register) → IsReached R → (r : Record) → record_of R.records r.id ≡ Some r → is_released r.phase ≡ true → WayOut 1281 R r.id
 
 may_cancel : (work : Option (List ℕ)) (role : Role) → fits_holder work role ≡ true → is_charge_or_operator role ≡ true
 may_cancel None Operator h = refl
@@ -100,12 +100,12 @@ module _ (released_go_out : ReleasedGoOut) where
     stays : Stays r.id R (after R cancelling)
     stays = stays_after R good r.id cancelling refl after_it.positions (λ p of_it. ap (λ steps. has_name (points_of (steps_of steps r.id)) p) (sym after_it.steps) ∙ of_it)
 
-    out_by : (b : Bool) → (is_ordered r.phase && has_any_hold R.holds r.id) ≡ b → WayOut (after R cancelling) r.id
+    out_by : (b : Bool) → (is_ordered r.phase && has_any_hold R.holds r.id) ≡ b → WayOut 1281 (after R cancelling) r.id
     out_by true e = released_go_out (after R cancelling) (reached_after R reached cancelling) next after_it.recorded (ap (λ b. is_released (cond b Released Closed)) e)
-    out_by false e = is_out (after R cancelling) r.id next after_it.recorded (ap (λ b. is_closed (cond b Released Closed)) e)
+    out_by false e = is_out 1281 (after R cancelling) r.id next after_it.recorded (ap (λ b. is_closed (cond b Released Closed)) e)
 
-    pub cancelled_out : next_moves R r.id ≡ ask r r.holder (kinds.Cancel r.id) ∷ [] → WayOut R r.id
-    cancelled_out are = moved_one R r.id cancelling are cancel_made.accepted stays (out_by (is_ordered r.phase && has_any_hold R.holds r.id) refl)
+    pub cancelled_out : next_moves R r.id ≡ ask r r.holder (kinds.Cancel r.id) ∷ [] → WayOut 1282 R r.id
+    cancelled_out are = moved_one 1281 R r.id cancelling are (is_move R cancelling (PutRecord next ∷ []) cancel_made refl) stays (out_by (is_ordered r.phase && has_any_hold R.holds r.id) refl)
 
   -- the moves of such a record
   cancel_moves : (R : Register) (r : Record) → is_cancellable r.phase ≡ true → record_of R.records r.id ≡ Some r
@@ -120,11 +120,12 @@ module _ (released_go_out : ReleasedGoOut) where
 
   -- A RECORD THAT WAS NOT GRANTED goes out
   pub not_granted_go_out : (R : Register) → IsReached R → (r : Record) → record_of R.records r.id ≡ Some r → is_cancellable r.phase ≡ true
-      → (has_some_role R.staff is_field ≡ true) ⊎ (some_active (steps_of R.steps r.id) ≡ false) → WayOut R r.id
+      → (has_some_role R.staff is_field ≡ true) ⊎ (some_active (steps_of R.steps r.id) ≡ false) → WayOut 1283 R r.id
   not_granted_go_out R reached r found fits who = at (find (λ (row : StepRow). is_active row.step.state) (steps_of R.steps r.id)) refl
     where
-      at : (o : Option StepRow) → find (λ (row : StepRow). is_active row.step.state) (steps_of R.steps r.id) ≡ o → WayOut R r.id
-      at None e = cancelled_out R reached r found fits (none_active_found (steps_of R.steps r.id) e) (cancel_moves R r fits found ∙ ap (cancelled R r) e)
+      at : (o : Option StepRow) → find (λ (row : StepRow). is_active row.step.state) (steps_of R.steps r.id) ≡ o → WayOut 1283 R r.id
+      at None e = wider 1282 1283 (omega arith) R r.id
+          (cancelled_out R reached r found fits (none_active_found (steps_of R.steps r.id) e) (cancel_moves R r fits found ∙ ap (cancelled R r) e))
       at (Some row) e =
           let among = found_there (λ (row : StepRow). is_active row.step.state) (steps_of R.steps r.id) row e in
           let active = found_passes (λ (row : StepRow). is_active row.step.state) (steps_of R.steps r.id) row e in
@@ -138,8 +139,8 @@ module _ (released_go_out : ReleasedGoOut) where
           let rests : some_active (steps_of (Register.steps S) r.id) ≡ false = ap some_active (undone_steps R reached r found row among active some)
           ∙ some_active_is s.before s.after row (step_moved Waiting None row) row.round
           (active_midst R by_phase r.id r found row (is_present R r row w) s.before s.after s.was active) refl in
-          moved_two R r.id (repeating R reached r found row among active some) (reporting R reached r found row among active some false)
+          moved_two 1282 R r.id (repeating R reached r found row among active some) (reporting R reached r found row among active some false)
           (cancel_moves R r fits found ∙ ap (cancelled R r) e)
-          (repeat_accepted R reached r found row among active some) (report_accepted R reached r found row among active some false) (own_undone R reached r found row among active some)
+          (repeat_move R reached r found row among active some) (undone_move R reached r found row among active some) (own_undone R reached r found row among active some)
           (cancelled_out S (reached2 R reached r found row among active some false) r recorded fits rests
           (cancel_moves S r fits recorded ∙ ap (cancelled S r) (no_active_found (steps_of (Register.steps S) r.id) rests)))

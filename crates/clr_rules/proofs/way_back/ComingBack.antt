@@ -1,6 +1,6 @@
 -- A step that is given out is repeated and reported: what the register is then.
 use Rattle.std.proofs.Common.{◌≡◌, ℕ, Bool, true, false, cond, List, [], ◌∷◌, ◌++◌, Option, Some, None, is_some, Contains, refl, sym, ◌∙◌, ap, subst, inl, inr}
-use Rattle.std.specs.List.{AllByRecursion}
+use Rattle.std.specs.List.{AllByRecursion, list_any}
 use Rattle.std.proofs.lemmas.Bool.{false≢true}
 use Rattle.std.proofs.lemmas.List.Elements.{All-contains}
 use Rattle.clr_net.specs.Grid.{Grid, point_names}
@@ -11,7 +11,6 @@ use Rattle.clr_order.specs.Texts.{step_text}
 use Rattle.clr_order.specs.declared.action.Action.{Action}
 use Rattle.clr_order.specs.declared.action.Action.TheVariants as actions
 use Rattle.clr_order.specs.declared.step.StepState.TheVariants.{Waiting, Repeated, Done}
-use Rattle.clr_rules.specs.Answer.{Answer, answer}
 use Rattle.clr_rules.specs.Changes.{done_edits, phase_after, step_moved, undone_edits}
 use Rattle.clr_rules.specs.Checks.{employee, is_field}
 use Rattle.clr_rules.specs.Good.{IsGood}
@@ -21,7 +20,7 @@ use Rattle.clr_rules.specs.Prelude.{hand_of, position_of, record_of, is_active, 
 use Rattle.clr_rules.specs.Records.{is_switch_order}
 use Rattle.clr_rules.specs.Run.{IsReached, after}
 use Rattle.clr_rules.specs.Staffed.{has_some_role}
-use Rattle.clr_rules.specs.WayBack.{AllBack, StaysBut, ask, is_accepted, is_point_of, one_of_role}
+use Rattle.clr_rules.specs.WayBack.{IsMove, sets_position, AllBack, StaysBut, ask, is_point_of, one_of_role}
 use Rattle.clr_rules.specs.declared.command.Kind.TheVariants as kinds
 use Rattle.clr_rules.proofs.edits.EditReading.{record_of-put}
 use Rattle.clr_rules.proofs.edits.PutSteps.{put_step}
@@ -29,7 +28,7 @@ use Rattle.clr_rules.proofs.keeps.EveryKind.{reached_are_good}
 use Rattle.clr_rules.proofs.lists.RoundSteps.{one_id, own_id}
 use Rattle.clr_rules.proofs.lists.StateFacts.{hand_of-handed, state_is_known, with_hand}
 use Rattle.clr_rules.proofs.staffed.EveryKind.{done_list, done_records, done_steps}
-use Rattle.clr_rules.proofs.way_back.Accepting.{HasEmployee, Made, one_there}
+use Rattle.clr_rules.proofs.way_back.Accepting.{HasEmployee, Made, is_move, one_there}
 use Rattle.clr_rules.proofs.way_back.InWork.{InWork, StepMade, active_in_work, made_alone, made_handed, own_there, reached_after, repeat_made, report_made}
 use Rattle.clr_rules.proofs.way_back.Rows.{SplitAt, in_the_midst, points_swap, split_again, split_of}
 use Rattle.clr_rules.proofs.way_back.Staying.{SetsNone, Stays, all_stay, none_are_set, others_stay, stays_as}
@@ -90,8 +89,8 @@ module _ (R : Register) (reached : IsReached R) (r : Record) (found : record_of 
   made_first : Made R (ask r (one_of_role R is_field) (kinds.Repeat r.id row.ordinal (step_text (task row.step)))) (PutRecord r ∷ PutStep (step_moved Repeated (Some (one_of_role R is_field)) row) ∷ [])
   made_first = repeat_made R r row w f caller active
 
-  pub repeat_accepted : is_accepted (Answer.reply (answer R (ask r (one_of_role R is_field) (kinds.Repeat r.id row.ordinal (step_text (task row.step)))))) ≡ true
-  repeat_accepted = made_first.accepted
+  pub repeat_move : IsMove R (ask r (one_of_role R is_field) (kinds.Repeat r.id row.ordinal (step_text (task row.step))))
+  repeat_move = is_move R repeating (PutRecord r ∷ PutStep repeated ∷ []) made_first refl
 
   first : StepMade R R1 r repeated
   first = made_alone R repeating r repeated made_first
@@ -128,9 +127,6 @@ module _ (R : Register) (reached : IsReached R) (r : Record) (found : record_of 
   made_second : (done : Bool) → Made R1 (ask r (one_of_role R is_field) (kinds.Report r.id row.ordinal done)) (cond done (done_edits R1 r.last r repeated) (undone_edits r.last r repeated))
   made_second done = report_made R1 r repeated w1 f (same_employee R R1 f first.staff caller) refl refl done
 
-  pub report_accepted : (done : Bool) → is_accepted (Answer.reply (answer R1 (reporting done))) ≡ true
-  report_accepted done = Made.accepted (made_second done)
-
   pub reached2 : (done : Bool) → IsReached (after R1 (reporting done))
   reached2 done = reached_after R1 reached1 (reporting done)
 
@@ -144,6 +140,9 @@ module _ (R : Register) (reached : IsReached R) (r : Record) (found : record_of 
 
   second : StepMade R1 (after R1 (reporting false)) r back
   second = made_handed R1 (reporting false) r row.step.point None back (made_second false)
+
+  pub undone_move : IsMove R1 (reporting false)
+  undone_move = is_move R1 (reporting false) (SetHand row.step.point None ∷ PutRecord r ∷ PutStep back ∷ []) (made_second false) refl
 
   pub undone_recorded : record_of (Register.records (after R1 (reporting false))) r.id ≡ Some r
   undone_recorded = second.recorded
@@ -226,6 +225,15 @@ module _ (R : Register) (reached : IsReached R) (r : Record) (found : record_of 
   sets_none switching actions.Open other = absurd (false≢true (sym other))
   sets_none switching actions.Close other = absurd (false≢true (sym other))
   sets_none switching _ other = (tt, (tt, (tt, (tt, tt))))
+
+  none_set : (switching : Bool) (a : Action) → is_switching a ≡ false → list_any sets_position (done_list switching r.id a row.step.point done_record done_row) ≡ false
+  none_set switching actions.Open other = absurd (false≢true (sym other))
+  none_set switching actions.Close other = absurd (false≢true (sym other))
+  none_set switching _ other = refl
+
+  pub done_move : is_switching row.step.action ≡ false → IsMove R1 (reporting true)
+  done_move other = is_move R1 (reporting true) (done_list (is_switch_order r) r.id row.step.action row.step.point done_record done_row) (made_second true)
+      (none_set (is_switch_order r) row.step.action other)
 
   pub own_done : is_switching row.step.action ≡ false → Stays r.id R (after R1 (reporting true))
   own_done other = record {

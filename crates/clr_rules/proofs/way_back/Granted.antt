@@ -1,6 +1,7 @@
 -- A Granted record is given up by its holder: the crews are signed off, the grounds taken, and it is released.
-use Rattle.std.proofs.Common.{◌≡◌, ℕ, zero, suc, ◌<◌, ◌≤◌, Bool, true, false, cond, not, ◌&&◌, List, [], ◌∷◌, ◌++◌, length, map, filter, Option, Some, None, is_some, Contains, refl, sym, ◌∙◌, ap, subst, arith, ◌⊎◌, inl, inr}
+use Rattle.std.proofs.Common.{◌+◌, ◌≡◌, ℕ, zero, suc, ◌<◌, ◌≤◌, Bool, true, false, cond, not, ◌&&◌, List, [], ◌∷◌, ◌++◌, length, map, filter, Option, Some, None, is_some, Contains, refl, sym, ◌∙◌, ap, subst, arith, ◌⊎◌, inl, inr}
 use Rattle.std.specs.Ordering.{is_eq}
+use Rattle.std.specs.List.{list_any}
 use Rattle.std.proofs.lemmas.Bool.{and_parts, false≢true, false_from_ne_true}
 use Rattle.std.proofs.lemmas.Cmp.{tied_itself}
 use Rattle.std.proofs.lemmas.List.Elements.{All-contains, filter_passes}
@@ -9,7 +10,6 @@ use Rattle.clr_net.specs.Name.{same_name}
 use Rattle.clr_net.specs.Names.{has_name}
 use Rattle.clr_shelf.proofs.Lists.{Contains-cases, Contains-here}
 use Rattle.clr_shelf.specs.Rows.{in_key_order, without_row}
-use Rattle.clr_rules.specs.Answer.{Answer, answer}
 use Rattle.clr_rules.specs.Checks.{any_ground, crew_is_off, crews_on, crews_on_work, is_charge, no_ground, not_attested, outside_fence, refuse, where_some}
 use Rattle.clr_rules.specs.Fences.{clearance_fence}
 use Rattle.clr_rules.specs.Good.{IsGood}
@@ -18,7 +18,7 @@ use Rattle.clr_rules.specs.Prelude.{position_of, record_of, is_granted, points_o
 use Rattle.clr_rules.specs.Run.{IsReached, after}
 use Rattle.clr_rules.specs.Staffed.{IsStaffed, fits_holder}
 use Rattle.clr_rules.specs.laws.Frame.{subject_of}
-use Rattle.clr_rules.specs.WayBack.{ask, given_up, is_accepted, moves_in, moves_of, next_moves}
+use Rattle.clr_rules.specs.WayBack.{ask, given_up, moves_in, moves_of, next_moves, IsMove, sets_position}
 use Rattle.clr_rules.specs.declared.command.Kind.TheVariants as kinds
 use Rattle.clr_rules.specs.declared.refusal.Refusal.TheVariants.{CrewState, CrewsOn, Grounded, NotGrounded, OutsideFence}
 use Rattle.clr_rules.proofs.edits.EditReading.{record_of-put}
@@ -32,10 +32,10 @@ use Rattle.clr_rules.proofs.lists.HoldMembers.{hold_had, hold_there}
 use Rattle.clr_rules.proofs.lists.NamedRows.{Contains-filter}
 use Rattle.clr_rules.proofs.lists.RoundSteps.{one_id, own_id}
 use Rattle.clr_rules.proofs.staffed.EveryKind.{reached_are_staffed, some_found}
-use Rattle.clr_rules.proofs.way_back.Accepting.{HasEmployee, Made, employee_of, holder_passes, made, record_edits}
+use Rattle.clr_rules.proofs.way_back.Accepting.{HasEmployee, Made, employee_of, holder_passes, made, record_edits, is_move}
 use Rattle.clr_rules.proofs.way_back.InWork.{reached_after}
 use Rattle.clr_rules.proofs.way_back.Releasing.{released_out}
-use Rattle.clr_rules.proofs.way_back.Staying.{WayOut, moved_one, stays_after}
+use Rattle.clr_rules.proofs.way_back.Staying.{WayOut, moved_one, stays_after, wider}
 use Rattle.clr_rules.proofs.way_back.Undoing.{and_none}
 
 -- ---- the holds of a kind
@@ -65,7 +65,7 @@ none_placed holds c kind none = false_from_ne_true (has_some_hold holds c kind) 
 
 -- ---- a hold that is taken leaves fewer
 
-not_more : {X : Type 0} (f : X → Bool) (xs : List X) → length (filter f xs) ≤ length xs
+pub not_more : {X : Type 0} (f : X → Bool) (xs : List X) → length (filter f xs) ≤ length xs
 not_more f [] = omega arith
 not_more f (x ∷ xs) = at (f x) refl (not_more f xs)
   where
@@ -141,6 +141,10 @@ all_taken : (R : Register) (c : Id) (places : List (List ℕ)) (next : Record)
 all_taken R c places next = subst (λ (S : Register). TakenWith R S next (taken_all c places R.holds)) (sym (takes_edited c places (PutRecord next ∷ []) R))
     (put_alone R next (taken_all c places R.holds))
 
+no_position : (c : Id) (places : List (List ℕ)) (next : Record) → list_any sets_position (map (λ place. TakeHold (hold_of c Tested place)) places ++ PutRecord next ∷ []) ≡ false
+no_position c [] next = refl
+no_position c (place ∷ places) next = no_position c places next
+
 off_work : (holds : List Hold) (c : Id) (section : List ℕ) → has_some_hold holds c Crew ≡ false → (work : Option (List ℕ))
     → where_some work (λ work. refuse (same_name work section && has_some_hold holds c Crew) CrewsOn) ≡ None
 off_work holds c section none None = refl
@@ -170,26 +174,26 @@ module _ (R : Register) (reached : IsReached R) (r : Record) (found : record_of 
       by_phase _ h = absurd (false≢true h)
 
   -- one move more
-  module _ (more : (S : Register) → IsReached S → record_of S.records r.id ≡ Some r → length S.holds < length R.holds → WayOut S r.id) where
-    on_by : (q : Command) (holds : List Hold) → next_moves R r.id ≡ q ∷ [] → is_accepted (Answer.reply (answer R q)) ≡ true → subject_of R q ≡ r.id
-        → TakenWith R (after R q) r holds → length holds < length R.holds → WayOut R r.id
-    on_by q holds are accepted about taken less = moved_one R r.id q are accepted
+  module _ (most : ℕ) (at_least : 1281 ≤ most) (more : (S : Register) → IsReached S → record_of S.records r.id ≡ Some r → length S.holds < length R.holds → WayOut most S r.id) where
+    on_by : (q : Command) (holds : List Hold) → next_moves R r.id ≡ q ∷ [] → IsMove R q → subject_of R q ≡ r.id
+        → TakenWith R (after R q) r holds → length holds < length R.holds → WayOut (suc most) R r.id
+    on_by q holds are move about taken less = moved_one most R r.id q are move
         (stays_after R good r.id q about taken.positions (λ p of_it. ap (λ steps. has_name (points_of (steps_of steps r.id)) p) (sym taken.steps) ∙ of_it))
         (more (after R q) (reached_after R reached q) taken.recorded (subst (λ (holds : List Hold). length holds < length R.holds) (sym taken.now) less))
 
-    sign_off : (crew : List ℕ) → has_hold R.holds r.id Crew crew ≡ true → next_moves R r.id ≡ ask r r.holder (kinds.SignOff r.id crew) ∷ [] → WayOut R r.id
+    sign_off : (crew : List ℕ) → has_hold R.holds r.id Crew crew ≡ true → next_moves R r.id ≡ ask r r.holder (kinds.SignOff r.id crew) ∷ [] → WayOut (suc most) R r.id
     sign_off crew has are =
         let q = ask r r.holder (kinds.SignOff r.id crew) in
         let m : Made R q (TakeHold (hold_of r.id Crew crew) ∷ PutRecord r ∷ []) =
         made R q r.id (TakeHold (hold_of r.id Crew crew) ∷ PutRecord r ∷ []) (λ k S by s found. rw found refl) (ap is_some found)
         (holder_passes R r.id r found r.holder is_charge is_granted (crew_is_off R r.id crew ∷ []) holder refl fits (ap (λ b. refuse (not b) CrewState) has, tt))
         (record_edits R r.id r (λ s. TakeHold (hold_of r.id Crew crew) ∷ PutRecord (record s { last = r.last }) ∷ []) found) in
-        on_by q (without_row hold_cmp hold_key (hold_of r.id Crew crew) R.holds) are m.accepted refl
+        on_by q (without_row hold_cmp hold_key (hold_of r.id Crew crew) R.holds) are (is_move R q (TakeHold (hold_of r.id Crew crew) ∷ PutRecord r ∷ []) m refl) refl
         (subst (λ (S : Register). TakenWith R S r (without_row hold_cmp hold_key (hold_of r.id Crew crew) R.holds)) (sym m.is_after) (one_taken R (hold_of r.id Crew crew) r))
         (taken_fewer R.holds r.id Crew crew has)
 
     unground : (section : List ℕ) → has_hold R.holds r.id Ground section ≡ true → has_some_hold R.holds r.id Crew ≡ false
-        → next_moves R r.id ≡ ask r r.holder (kinds.Unground r.id section) ∷ [] → WayOut R r.id
+        → next_moves R r.id ≡ ask r r.holder (kinds.Unground r.id section) ∷ [] → WayOut (suc most) R r.id
     unground section has off are =
         let q = ask r r.holder (kinds.Unground r.id section) in
         let holds = without_row hold_cmp hold_key (hold_of r.id Tested section) (without_row hold_cmp hold_key (hold_of r.id Ground section) R.holds) in
@@ -203,12 +207,12 @@ module _ (R : Register) (reached : IsReached R) (r : Record) (found : record_of 
           ),
         ))
         (record_edits R r.id r (λ s. TakeHold (hold_of r.id Ground section) ∷ TakeHold (hold_of r.id Tested section) ∷ PutRecord (record s { last = r.last }) ∷ []) found) in
-        on_by q holds are m.accepted refl
+        on_by q holds are (is_move R q (TakeHold (hold_of r.id Ground section) ∷ TakeHold (hold_of r.id Tested section) ∷ PutRecord r ∷ []) m refl) refl
         (subst (λ (S : Register). TakenWith R S r holds) (sym m.is_after) (two_taken R (hold_of r.id Ground section) (hold_of r.id Tested section) r))
         (let less = taken_fewer R.holds r.id Ground section has in
         let no_more = taken_not_more (without_row hold_cmp hold_key (hold_of r.id Ground section) R.holds) r.id Tested section in omega arith)
 
-    release : has_some_hold R.holds r.id Crew ≡ false → has_some_hold R.holds r.id Ground ≡ false → next_moves R r.id ≡ ask r r.holder (kinds.Release r.id true true) ∷ [] → WayOut R r.id
+    release : has_some_hold R.holds r.id Crew ≡ false → has_some_hold R.holds r.id Ground ≡ false → next_moves R r.id ≡ ask r r.holder (kinds.Release r.id true true) ∷ [] → WayOut (suc most) R r.id
     release off clear are =
         let q = ask r r.holder (kinds.Release r.id true true) in
         let next = record r { phase = Released } in
@@ -221,14 +225,14 @@ module _ (R : Register) (reached : IsReached R) (r : Record) (found : record_of 
         (record_edits R r.id r (λ s. map (λ place. TakeHold (hold_of r.id Tested place)) (places_of R.holds r.id Tested) ++ PutRecord (record s { phase = Released; last = r.last }) ∷ []) found) in
         let taken : TakenWith R (after R q) (record r { phase = Released }) holds =
         subst (λ (S : Register). TakenWith R S (record r { phase = Released }) holds) (sym m.is_after) (all_taken R r.id (places_of R.holds r.id Tested) (record r { phase = Released })) in
-        moved_one R r.id q are m.accepted
+        moved_one most R r.id q are (is_move R q edits m (no_position r.id (places_of R.holds r.id Tested) (record r { phase = Released })))
         (stays_after R good r.id q refl taken.positions (λ p of_it. ap (λ steps. has_name (points_of (steps_of steps r.id)) p) (sym taken.steps) ∙ of_it))
-        (released_out (after R q) (reached_after R reached q) (record r { phase = Released }) taken.recorded refl)
+        (wider 1281 most at_least (after R q) r.id (released_out (after R q) (reached_after R reached q) (record r { phase = Released }) taken.recorded refl))
 
-    given_up_one : WayOut R r.id
+    given_up_one : WayOut (suc most) R r.id
     given_up_one = by (places_of R.holds r.id Crew) refl (places_of R.holds r.id Ground) refl
       where
-        by : (crews : List (List ℕ)) → places_of R.holds r.id Crew ≡ crews → (grounds : List (List ℕ)) → places_of R.holds r.id Ground ≡ grounds → WayOut R r.id
+        by : (crews : List (List ℕ)) → places_of R.holds r.id Crew ≡ crews → (grounds : List (List ℕ)) → places_of R.holds r.id Ground ≡ grounds → WayOut (suc most) R r.id
         by (crew ∷ crews) e grounds f = sign_off crew
             (place_held R.holds r.id Crew crew good.said.in_order.holds (subst (λ (places : List (List ℕ)). Contains places crew) (sym e) (Contains-here crew crews)))
             (moves_are ∙ ap (λ crews. given_up r crews (places_of R.holds r.id Ground)) e)
@@ -238,10 +242,11 @@ module _ (R : Register) (reached : IsReached R) (r : Record) (found : record_of 
         by [] e [] f = release (none_placed R.holds r.id Crew e) (none_placed R.holds r.id Ground f)
             (moves_are ∙ ap (λ crews. given_up r crews (places_of R.holds r.id Ground)) e ∙ ap (given_up r []) f)
 
-go_out : (n : ℕ) (R : Register) → IsReached R → (r : Record) → record_of R.records r.id ≡ Some r → is_granted r.phase ≡ true → length R.holds ≤ n → WayOut R r.id
-go_out zero R reached r found fits most = given_up_one R reached r found fits (λ S again read less. absurd (omega arith))
-go_out (suc n) R reached r found fits most = given_up_one R reached r found fits (λ S again read less. go_out n S again r read fits (omega arith))
+go_out : (n : ℕ) (R : Register) → IsReached R → (r : Record) → record_of R.records r.id ≡ Some r → is_granted r.phase ≡ true → length R.holds ≤ n → WayOut (1282 + n) R r.id
+go_out zero R reached r found fits most = given_up_one R reached r found fits 1281 (omega arith) (λ S again read less. absurd (omega arith))
+go_out (suc n) R reached r found fits most = wider (suc (1282 + n)) (1282 + suc n) (omega arith) R r.id
+    (given_up_one R reached r found fits (1282 + n) (omega arith) (λ S again read less. go_out n S again r read fits (omega arith)))
 
 -- A GRANTED RECORD goes out
-pub granted_out : (R : Register) → IsReached R → (r : Record) → record_of R.records r.id ≡ Some r → is_granted r.phase ≡ true → WayOut R r.id
+pub granted_out : (R : Register) → IsReached R → (r : Record) → record_of R.records r.id ≡ Some r → is_granted r.phase ≡ true → WayOut (1282 + length R.holds) R r.id
 granted_out R reached r found fits = go_out (length R.holds) R reached r found fits (omega arith)

@@ -1,5 +1,5 @@
 -- A Released record is restored: what it holds is undone, and each of its points left open.
-use Rattle.std.proofs.Common.{◌≡◌, ℕ, ◌<◌, ◌≤◌, true, cond, nat_eq, List, [], ◌∷◌, length, Some, is_some, Contains, refl, sym, ◌∙◌, ap, subst, arith}
+use Rattle.std.proofs.Common.{◌*◌, false, ◌≡◌, ℕ, ◌<◌, ◌≤◌, true, cond, nat_eq, List, [], ◌∷◌, length, Some, is_some, Contains, refl, sym, ◌∙◌, ap, subst, arith}
 use Rattle.std.proofs.lemmas.Bool.{and_from, false≢true}
 use Rattle.std.proofs.lemmas.List.Elements.{All-contains}
 use Rattle.clr_net.proofs.KeptRows.{mapped_from, there_mapped}
@@ -20,10 +20,10 @@ use Rattle.clr_rules.specs.Refusals.{order_refusal}
 use Rattle.clr_rules.specs.Run.{IsReached, after}
 use Rattle.clr_rules.specs.Staffed.{IsStaffed}
 use Rattle.clr_rules.specs.Steps.{is_of_round}
-use Rattle.clr_rules.specs.WayBack.{ask, is_point_of, moves_in, moves_of, next_moves, one_of_role, restored, undoing_steps}
+use Rattle.clr_rules.specs.WayBack.{ask, is_point_of, moves_in, moves_of, next_moves, one_of_role, restored, undoing_steps, sets_position}
 use Rattle.clr_rules.specs.declared.command.Kind.TheVariants as kinds
 use Rattle.clr_rules.proofs.edits.EditReading.{record_of-put}
-use Rattle.clr_rules.proofs.edits.NewRounds.{All-own, round_put, with_round}
+use Rattle.clr_rules.proofs.edits.NewRounds.{All-own, round_put, with_round, new_tasks, new_wait, round_is}
 use Rattle.clr_rules.proofs.good.GoodToPhases.{to_phases}
 use Rattle.clr_rules.proofs.good.PhaseFacts.{hold_facts}
 use Rattle.clr_rules.proofs.good.PutHolds.{kept_there}
@@ -34,11 +34,20 @@ use Rattle.clr_rules.proofs.lists.NamedRows.{has_name-row, row_named}
 use Rattle.clr_rules.proofs.lists.RoundSteps.{All-from_each, of_round_is, own_id}
 use Rattle.clr_rules.proofs.staffed.EveryKind.{reached_are_staffed}
 use Rattle.clr_rules.proofs.staffed.Puts.{some_there}
-use Rattle.clr_rules.proofs.way_back.Accepting.{HasEmployee, Made, made, one_there, record_edits, role_passes}
+use Rattle.clr_rules.proofs.way_back.Accepting.{HasEmployee, Made, made, one_there, record_edits, role_passes, is_move}
 use Rattle.clr_rules.proofs.way_back.InWork.{reached_after}
+use Rattle.std.specs.List.{list_any}
+use Rattle.std.proofs.lemmas.List.{length-map}
+use Rattle.clr_rules.specs.Good.{steps_left_of}
+use Rattle.clr_rules.proofs.lists.StepSplits.{left_waiting}
+use Rattle.clr_rules.proofs.way_back.Restoring.{left_count}
 use Rattle.clr_rules.proofs.way_back.Running.{restoring_go_out}
-use Rattle.clr_rules.proofs.way_back.Staying.{WayOut, moved_one, stays_after}
+use Rattle.clr_rules.proofs.way_back.Staying.{WayOut, moved_one, stays_after, wider}
 use Rattle.clr_rules.proofs.way_back.Undoing.{held_apart, held_fit, undoing_restores}
+
+no_position : (rows : List StepRow) → list_any sets_position (put_steps rows) ≡ false
+no_position [] = refl
+no_position (row ∷ rows) = no_position rows
 
 some_held : (held : List Held) (p : List ℕ) → has_name (held_points held) p ≡ true → 0 < length held
 some_held [] p there = absurd (false≢true there)
@@ -152,8 +161,22 @@ module _ (R : Register) (reached : IsReached R) (r : Record) (found : record_of 
       by_phase_of Released h = refl
       by_phase_of _ h = absurd (false≢true h)
 
+  -- so many steps are left then
+  left_most : left_count (after R restoring) r.id ≤ 256
+  left_most =
+      let fits_it = restores.steps_fit in
+      let second : steps_in (Register.steps (with_round R next 2 tasks)) r.id 2 ≡ new_steps r.id 2 1 tasks =
+      sym (of_round_is (Register.steps (with_round R next 2 tasks)) r.id 2)
+      ∙ round_is R by_phase next 2 tasks (ready R r r.last tasks by_phase in_released.0 in_released.2 restores) in
+      let count : left_count (after R restoring) r.id ≡ length tasks = ap (λ (S : Register). left_count S r.id) after_it
+      ∙ ap (λ rows. length (steps_left_of rows)) second ∙ ap length (left_waiting (new_steps r.id 2 1 tasks) (new_wait r.id 2 1 tasks))
+      ∙ sym (length-map (new_steps r.id 2 1 tasks) (λ (row : StepRow). task row.step)) ∙ ap length (new_tasks r.id 2 1 tasks) in
+      omega arith
+
   -- A RELEASED RECORD goes out
-  pub released_out : WayOut R r.id
-  released_out = moved_one R r.id restoring moves_are restore_made.accepted
+  pub released_out : WayOut 1281 R r.id
+  released_out = moved_one 1280 R r.id restoring moves_are
+      (is_move R restoring (PutRecord next ∷ put_steps (new_steps r.id 2 1 tasks)) restore_made (no_position (new_steps r.id 2 1 tasks)))
       (stays_after R good r.id restoring refl (λ p. ap (λ (S : Register). position_of S.states p) after_it) points_stay)
-      (restoring_go_out (after R restoring) (reached_after R reached restoring) next recorded refl)
+      (wider (5 * left_count (after R restoring) r.id) 1280 (let most = left_most in omega arith) (after R restoring) r.id
+      (restoring_go_out (after R restoring) (reached_after R reached restoring) next recorded refl))

@@ -1,5 +1,5 @@
 -- A Restoring record runs each step that is left, and so it goes out.
-use Rattle.std.proofs.Common.{◌≡◌, ℕ, zero, suc, Bool, true, false, cond, not, ◌&&◌, List, [], ◌∷◌, ◌++◌, length, Option, Some, None, find, is_some, Contains, refl, sym, ◌∙◌, ap, subst}
+use Rattle.std.proofs.Common.{◌*◌, arith, ◌≡◌, ℕ, zero, suc, Bool, true, false, cond, not, ◌&&◌, List, [], ◌∷◌, ◌++◌, length, Option, Some, None, find, is_some, Contains, refl, sym, ◌∙◌, ap, subst}
 use Rattle.std.proofs.lemmas.Bool.{and_parts, false≢true}
 use Rattle.clr_net.proofs.Walks.{one_name}
 use Rattle.clr_net.specs.Name.{same_name}
@@ -26,16 +26,16 @@ use Rattle.clr_rules.proofs.keeps.EveryKind.{reached_are_good}
 use Rattle.clr_rules.proofs.lists.RoundSteps.{of_round_is, own_id, record_id}
 use Rattle.clr_rules.proofs.staffed.EveryKind.{reached_are_staffed}
 use Rattle.clr_rules.proofs.staffed.Puts.{first_left, found_any}
-use Rattle.clr_rules.proofs.way_back.Accepting.{Made, record_is}
-use Rattle.clr_rules.proofs.way_back.ComingBack.{R1, back, done_own_steps, done_record, done_recorded, done_row, others2, other_undone, own_done, own_undone, reached2, repeat_accepted, repeating, report_accepted, reporting, split, undone_hand, undone_recorded, undone_steps}
+use Rattle.clr_rules.proofs.way_back.Accepting.{Made, record_is, is_move}
+use Rattle.clr_rules.proofs.way_back.ComingBack.{R1, back, done_own_steps, done_record, done_recorded, done_row, others2, other_undone, own_done, own_undone, reached2, repeating, reporting, split, undone_hand, undone_recorded, undone_steps, repeat_move, undone_move, done_move}
 use Rattle.clr_rules.proofs.way_back.InWork.{StepMade, amend_made, instruct_made, made_alone, made_handed, reached_after}
 use Rattle.clr_rules.proofs.way_back.Restoring.{IsFirstLeft, among, count_again, count_less, first_again, here, left, left_count, moves_are, operator, restoring_ends, round, some_field, split_here, switches_not, turn, w, waits_by}
 use Rattle.clr_rules.proofs.way_back.Rows.{SplitAt, points_swap, split_again}
-use Rattle.clr_rules.proofs.way_back.Staying.{WayOut, is_out, moved_one, moved_two, none_are_set, stays_after}
+use Rattle.clr_rules.proofs.way_back.Staying.{WayOut, is_out, moved_one, moved_two, none_are_set, stays_after, wider}
 
 -- what is so of Restoring records with so many steps left
 abbrev pub RestoringGoOut : ℕ → Type 0
-RestoringGoOut n = (R : Register) → IsReached R → (r : Record) → record_of R.records r.id ≡ Some r → is_restoring r.phase ≡ true → left_count R r.id ≡ n → WayOut R r.id
+RestoringGoOut n = (R : Register) → IsReached R → (r : Record) → record_of R.records r.id ≡ Some r → is_restoring r.phase ≡ true → left_count R r.id ≡ n → WayOut (5 * n) R r.id
 
 found_active : (steps : List StepRow) (d : Id) (p : List ℕ) → is_active_at steps d p ≡ true → is_some (given_out_at steps d p) ≡ true
 unfolding is_active_at
@@ -62,20 +62,20 @@ one_less m n k e f = cc
 module _ (n : ℕ) (more : RestoringGoOut n) where
   -- a step that is given out, and is no Close, is done
   run_active : (R : Register) (reached : IsReached R) (r : Record) (found : record_of R.records r.id ≡ Some r) (restoring : is_restoring r.phase ≡ true) (row : StepRow)
-      (first : IsFirstLeft R r.id row) → left_count R r.id ≡ suc n → is_close row.step.action ≡ false → is_active row.step.state ≡ true → WayOut R r.id
+      (first : IsFirstLeft R r.id row) → left_count R r.id ≡ suc n → is_close row.step.action ≡ false → is_active row.step.state ≡ true → WayOut (suc (5 * n)) R r.id
   run_active R reached r found restoring row first count opens active =
       let there = among R reached r found restoring row first in
       let some = some_field R reached r found restoring row first in
-      moved_two R r.id (repeating R reached r found row there active some) (reporting R reached r found row there active some true)
+      moved_two (5 * n) R r.id (repeating R reached r found row there active some) (reporting R reached r found row there active some true)
       (moves_are R reached r found restoring row first ∙ rw (active, opens) refl)
-      (repeat_accepted R reached r found row there active some) (report_accepted R reached r found row there active some true)
+      (repeat_move R reached r found row there active some) (done_move R reached r found row there active some (switches_not R reached r found restoring row first opens))
       (own_done R reached r found row there active some (switches_not R reached r found restoring row first opens))
       (out_by there some (all_done (present_steps (put_step (done_row R reached r found row there active some) (Register.steps (R1 R reached r found row there active some))) r.id)) refl)
     where
       out_by : (there : Contains (steps_of R.steps r.id) row) (some : has_some_role R.staff is_field ≡ true) (b : Bool)
           → all_done (present_steps (put_step (done_row R reached r found row there active some) (Register.steps (R1 R reached r found row there active some))) r.id) ≡ b
-          → WayOut (after (R1 R reached r found row there active some) (reporting R reached r found row there active some true)) r.id
-      out_by there some true e = is_out (after (R1 R reached r found row there active some) (reporting R reached r found row there active some true)) r.id
+          → WayOut (5 * n) (after (R1 R reached r found row there active some) (reporting R reached r found row there active some true)) r.id
+      out_by there some true e = is_out (5 * n) (after (R1 R reached r found row there active some) (reporting R reached r found row there active some true)) r.id
           (done_record R reached r found row there active some) (done_recorded R reached r found row there active some)
           (closed_then r.phase restoring (all_done (present_steps (put_step (done_row R reached r found row there active some) (Register.steps (R1 R reached r found row there active some))) r.id)) e)
       out_by there some false e = more (after (R1 R reached r found row there active some) (reporting R reached r found row there active some true))
@@ -90,9 +90,10 @@ module _ (n : ℕ) (more : RestoringGoOut n) where
   -- a step that waits is given out, where its point is free
   run_free : (R : Register) (reached : IsReached R) (r : Record) (found : record_of R.records r.id ≡ Some r) (restoring : is_restoring r.phase ≡ true) (row : StepRow)
       (first : IsFirstLeft R r.id row) → left_count R r.id ≡ suc n → is_close row.step.action ≡ false → is_active row.step.state ≡ false
-      → other_hand r.id (hand_of R.states row.step.point) ≡ None → WayOut R r.id
+      → other_hand r.id (hand_of R.states row.step.point) ≡ None → WayOut (suc (suc (5 * n))) R r.id
   run_free R reached r found restoring row first count opens waits free =
-      moved_one R r.id q (moves_are R reached r found restoring row first ∙ rw (waits, opens) (instruct_next R r row (hand_of R.states row.step.point) free)) m.accepted
+      moved_one (suc (5 * n)) R r.id q (moves_are R reached r found restoring row first ∙ rw (waits, opens) (instruct_next R r row (hand_of R.states row.step.point) free))
+      (is_move R q (SetHand row.step.point (Some r.id) ∷ PutRecord r ∷ PutStep new ∷ []) m refl)
       (stays_after R good r.id q refl
       (λ p. ap (λ (S : Register). position_of S.states p) m.is_after ∙ none_are_set (SetHand row.step.point (Some r.id) ∷ PutRecord r ∷ PutStep new ∷ []) R (tt, (tt, (tt, tt))) p)
       (λ p of_it. ap (λ points. has_name points p) (sym (ap points_of steps_are ∙ points_swap s.before row new s.after refl ∙ ap points_of (sym s.was))) ∙ of_it))
@@ -130,11 +131,11 @@ module _ (n : ℕ) (more : RestoringGoOut n) where
       (first : IsFirstLeft R r.id row) → left_count R r.id ≡ suc n → is_close row.step.action ≡ false → is_active row.step.state ≡ false
       → (d : Id) → hand_of R.states row.step.point ≡ Some d → same_id r.id d ≡ false
       → (x : StepRow) → given_out_at R.steps d row.step.point ≡ Some x
-      → (s : Record) → record_of R.records d ≡ Some s → WayOut R r.id
+      → (s : Record) → record_of R.records d ≡ Some s → WayOut (suc (suc (suc (5 * n)))) R r.id
   run_let_go R reached r found restoring row first count opens waits d hand differs x found_x s read =
-      moved_two R r.id (repeating R reached s found_s x among_x active_x some) (reporting R reached s found_s x among_x active_x some false)
+      moved_two (suc (suc (5 * n))) R r.id (repeating R reached s found_s x among_x active_x some) (reporting R reached s found_s x among_x active_x some false)
       (moves_are R reached r found restoring row first ∙ rw (waits, opens, hand, differs, read, found_x) refl)
-      (repeat_accepted R reached s found_s x among_x active_x some) (report_accepted R reached s found_s x among_x active_x some false)
+      (repeat_move R reached s found_s x among_x active_x some) (undone_move R reached s found_s x among_x active_x some)
       (other_undone R reached s found_s x among_x active_x some r.id apart (ap (is_point_of R r.id) (sym point) ∙ here R reached r found restoring row first))
       (run_free S (reached2 R reached s found_s x among_x active_x some false) r (ap (λ (v : Outlook). v.clearance) same ∙ found) restoring row
       (ap (find (λ (row : StepRow). not (is_done row.step.state))) same_second ∙ first)
@@ -177,7 +178,7 @@ module _ (n : ℕ) (more : RestoringGoOut n) where
       same_second = sym (of_round_is (Register.steps S) r.id 2) ∙ ap (λ (v : Outlook). of_round v.steps 2) same ∙ of_round_is R.steps r.id 2
 
   run_waiting : (R : Register) (reached : IsReached R) (r : Record) (found : record_of R.records r.id ≡ Some r) (restoring : is_restoring r.phase ≡ true) (row : StepRow)
-      (first : IsFirstLeft R r.id row) → left_count R r.id ≡ suc n → is_close row.step.action ≡ false → is_active row.step.state ≡ false → WayOut R r.id
+      (first : IsFirstLeft R r.id row) → left_count R r.id ≡ suc n → is_close row.step.action ≡ false → is_active row.step.state ≡ false → WayOut (suc (suc (suc (5 * n)))) R r.id
   run_waiting R reached r found restoring row first count opens waits = at (hand_of R.states row.step.point) refl
     where
       good : IsGood R
@@ -186,25 +187,25 @@ module _ (n : ℕ) (more : RestoringGoOut n) where
       active_at : (d : Id) → hand_of R.states row.step.point ≡ Some d → is_active_at R.steps d row.step.point ≡ true
       active_at d e = sym (good.said.hand_matches_step.hand d row.step.point) ∙ ap (is_hand d) e ∙ own_id d
 
-      let_go : (d : Id) → hand_of R.states row.step.point ≡ Some d → same_id r.id d ≡ false → (o : Option StepRow) → given_out_at R.steps d row.step.point ≡ o → is_some o ≡ true → WayOut R r.id
+      let_go : (d : Id) → hand_of R.states row.step.point ≡ Some d → same_id r.id d ≡ false → (o : Option StepRow) → given_out_at R.steps d row.step.point ≡ o → is_some o ≡ true → WayOut (suc (suc (suc (5 * n)))) R r.id
       let_go d e differs None f there = absurd (false≢true there)
       let_go d e differs (Some x) f there =
           let (s, read) = record_is R d (good.said.numbers_have_no_gaps.hands_recorded d row.step.point (ap (is_hand d) e ∙ own_id d)) in
           run_let_go R reached r found restoring row first count opens waits d e differs x f s read
 
-      by_id : (d : Id) → hand_of R.states row.step.point ≡ Some d → (b : Bool) → same_id r.id d ≡ b → WayOut R r.id
-      by_id d e true same = run_free R reached r found restoring row first count opens waits (ap (other_hand r.id) e ∙ rw same refl)
+      by_id : (d : Id) → hand_of R.states row.step.point ≡ Some d → (b : Bool) → same_id r.id d ≡ b → WayOut (suc (suc (suc (5 * n)))) R r.id
+      by_id d e true same = wider (suc (suc (5 * n))) (suc (suc (suc (5 * n)))) (omega arith) R r.id (run_free R reached r found restoring row first count opens waits (ap (other_hand r.id) e ∙ rw same refl))
       by_id d e false differs = let_go d e differs (given_out_at R.steps d row.step.point) refl (found_active R.steps d row.step.point (active_at d e))
 
-      at : (o : Option Id) → hand_of R.states row.step.point ≡ o → WayOut R r.id
-      at None e = run_free R reached r found restoring row first count opens waits (ap (other_hand r.id) e)
+      at : (o : Option Id) → hand_of R.states row.step.point ≡ o → WayOut (suc (suc (suc (5 * n)))) R r.id
+      at None e = wider (suc (suc (5 * n))) (suc (suc (suc (5 * n)))) (omega arith) R r.id (run_free R reached r found restoring row first count opens waits (ap (other_hand r.id) e))
       at (Some d) e = by_id d e (same_id r.id d) refl
 
   -- a Close that waits becomes a Leave
   run_close : (R : Register) (reached : IsReached R) (r : Record) (found : record_of R.records r.id ≡ Some r) (restoring : is_restoring r.phase ≡ true) (row : StepRow)
-      (first : IsFirstLeft R r.id row) → left_count R r.id ≡ suc n → is_close row.step.action ≡ true → is_active row.step.state ≡ false → WayOut R r.id
+      (first : IsFirstLeft R r.id row) → left_count R r.id ≡ suc n → is_close row.step.action ≡ true → is_active row.step.state ≡ false → WayOut (suc (suc (suc (suc (5 * n))))) R r.id
   run_close R reached r found restoring row first count closes waits =
-      moved_one R r.id q (moves_are R reached r found restoring row first ∙ rw (waits, closes) refl) m.accepted
+      moved_one (suc (suc (suc (5 * n)))) R r.id q (moves_are R reached r found restoring row first ∙ rw (waits, closes) refl) (is_move R q (PutRecord r ∷ PutStep new ∷ []) m refl)
       (stays_after R good r.id q refl
       (λ p. ap (λ (S : Register). position_of S.states p) m.is_after ∙ none_are_set (PutRecord r ∷ PutStep new ∷ []) R (tt, (tt, tt)) p)
       (λ p of_it. ap (λ points. has_name points p) (sym (ap points_of steps_are ∙ points_swap s.before row new s.after refl ∙ ap points_of (sym s.was))) ∙ of_it))
@@ -242,11 +243,11 @@ module _ (n : ℕ) (more : RestoringGoOut n) where
 
   -- a Close that is given out comes back first
   run_back : (R : Register) (reached : IsReached R) (r : Record) (found : record_of R.records r.id ≡ Some r) (restoring : is_restoring r.phase ≡ true) (row : StepRow)
-      (first : IsFirstLeft R r.id row) → left_count R r.id ≡ suc n → is_close row.step.action ≡ true → is_active row.step.state ≡ true → WayOut R r.id
+      (first : IsFirstLeft R r.id row) → left_count R r.id ≡ suc n → is_close row.step.action ≡ true → is_active row.step.state ≡ true → WayOut (suc (suc (suc (suc (suc (5 * n)))))) R r.id
   run_back R reached r found restoring row first count closes active =
-      moved_two R r.id (repeating R reached r found row there active some) (reporting R reached r found row there active some false)
+      moved_two (suc (suc (suc (suc (5 * n))))) R r.id (repeating R reached r found row there active some) (reporting R reached r found row there active some false)
       (moves_are R reached r found restoring row first ∙ rw (active, closes) refl)
-      (repeat_accepted R reached r found row there active some) (report_accepted R reached r found row there active some false)
+      (repeat_move R reached r found row there active some) (undone_move R reached r found row there active some)
       (own_undone R reached r found row there active some)
       (run_close S (reached2 R reached r found row there active some false) r (undone_recorded R reached r found row there active some) restoring (back R reached r found row there active some)
       (first_again R good.said.in_order.steps r.id row s here_round first S (back R reached r found row there active some) here_round (undone_steps R reached r found row there active some) refl)
@@ -273,14 +274,14 @@ module _ (n : ℕ) (more : RestoringGoOut n) where
 
   -- one step more
   run_one : (R : Register) (reached : IsReached R) (r : Record) (found : record_of R.records r.id ≡ Some r) (restoring : is_restoring r.phase ≡ true) (row : StepRow)
-      (first : IsFirstLeft R r.id row) → left_count R r.id ≡ suc n → WayOut R r.id
+      (first : IsFirstLeft R r.id row) → left_count R r.id ≡ suc n → WayOut (suc (suc (suc (suc (suc (5 * n)))))) R r.id
   run_one R reached r found restoring row first count = at (is_close row.step.action) refl (is_active row.step.state) refl
     where
-      at : (a : Bool) → is_close row.step.action ≡ a → (b : Bool) → is_active row.step.state ≡ b → WayOut R r.id
-      at false e true f = run_active R reached r found restoring row first count e f
-      at false e false f = run_waiting R reached r found restoring row first count e f
+      at : (a : Bool) → is_close row.step.action ≡ a → (b : Bool) → is_active row.step.state ≡ b → WayOut (suc (suc (suc (suc (suc (5 * n)))))) R r.id
+      at false e true f = wider (suc (5 * n)) (suc (suc (suc (suc (suc (5 * n)))))) (omega arith) R r.id (run_active R reached r found restoring row first count e f)
+      at false e false f = wider (suc (suc (suc (5 * n)))) (suc (suc (suc (suc (suc (5 * n)))))) (omega arith) R r.id (run_waiting R reached r found restoring row first count e f)
       at true e true f = run_back R reached r found restoring row first count e f
-      at true e false f = run_close R reached r found restoring row first count e f
+      at true e false f = wider (suc (suc (suc (suc (5 * n))))) (suc (suc (suc (suc (suc (5 * n)))))) (omega arith) R r.id (run_close R reached r found restoring row first count e f)
 
 none_left : (R : Register) (c : Id) (row : StepRow) → IsFirstLeft R c row → left_count R c ≡ zero → ⊥
 none_left R c row first count = some_left (steps_in R.steps c 2) row first count
@@ -299,8 +300,9 @@ go_out zero R reached r found restoring count =
     absurd (none_left R r.id row first count)
 go_out (suc n) R reached r found restoring count =
     let (row, first) = first_left (steps_in R.steps r.id 2) (IsStaffed.restoring (reached_are_staffed R reached) r.id r found restoring) in
-    run_one n (go_out n) R reached r found restoring row first count
+    wider (suc (suc (suc (suc (suc (5 * n)))))) (5 * suc n) (omega arith) R r.id (run_one n (go_out n) R reached r found restoring row first count)
 
 -- A RESTORING RECORD goes out
-pub restoring_go_out : (R : Register) → IsReached R → (r : Record) → record_of R.records r.id ≡ Some r → is_restoring r.phase ≡ true → WayOut R r.id
+pub restoring_go_out : (R : Register) → IsReached R → (r : Record) → record_of R.records r.id ≡ Some r → is_restoring r.phase ≡ true
+    → WayOut (5 * left_count R r.id) R r.id
 restoring_go_out R reached r found restoring = go_out (left_count R r.id) R reached r found restoring refl

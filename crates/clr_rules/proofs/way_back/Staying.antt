@@ -1,18 +1,18 @@
 -- What stays of other clearances on the way back, and how its moves follow one another.
-use Rattle.std.proofs.Common.{◌≡◌, ℕ, zero, suc, Bool, true, false, List, [], ◌∷◌, ◌++◌, Some, None, refl, sym, ◌∙◌, ap, subst, inl, inr}
+use Rattle.std.proofs.Common.{◌≤◌, arith, ◌≡◌, ℕ, zero, suc, Bool, true, false, List, [], ◌∷◌, ◌++◌, Some, None, refl, sym, ◌∙◌, ap, subst, inl, inr}
 use Rattle.std.specs.List.{AllByRecursion}
 use Rattle.std.proofs.lemmas.Bool.{false≢true}
 use Rattle.clr_order.specs.declared.step.StepState.TheVariants.{Waiting}
-use Rattle.clr_rules.specs.Answer.{Answer, answer}
 use Rattle.clr_rules.specs.Changes.{step_moved}
 use Rattle.clr_rules.specs.Good.{IsGood}
 use Rattle.clr_rules.specs.GoodByPhase.{Outlook, outlook_of}
 use Rattle.clr_rules.specs.laws.Frame.{subject_of}
+use Rattle.clr_rules.specs.Prelude.{Closed, Phase}
 use Rattle.clr_rules.specs.Prelude.{Edit, SetPosition, SetHand, AddPoint, Command, Record, StepRow, Id, same_id, Register}
 use Rattle.clr_rules.specs.Prelude.{position_of, record_of, is_active, steps_of, after_edit, after_edits}
 use Rattle.clr_rules.specs.Records.{is_closed}
 use Rattle.clr_rules.specs.Run.{after, after_all}
-use Rattle.clr_rules.specs.WayBack.{AllAccepted, AllBack, ClosesAlone, IsBack, StaysBut, is_accepted, is_point_of, moves, next_moves}
+use Rattle.clr_rules.specs.WayBack.{AllBack, AreMoves, ClosesAlone, IsBack, IsMove, StaysBut, is_point_of, moves_in, moves_of, next_moves, turns}
 use Rattle.clr_rules.proofs.edits.Runs.{runs_go_on}
 use Rattle.clr_rules.proofs.isolation.OthersEdits.{one_outlook_changes}
 use Rattle.clr_rules.proofs.lists.StateFacts.{position_of-handed}
@@ -117,49 +117,83 @@ stays_after R good c q about positions points = record {
   points = points;
 }
 
--- ---- move after move
+-- ---- turn after turn
 
-accepted_then : (R : Register) (first later : List Command) → AllAccepted R first → AllAccepted (after_all R first) later → AllAccepted R (first ++ later)
-unfolding AllAccepted after_all
-accepted_then R [] later h k = k
-accepted_then R (q ∷ first) later h k = (h.0, accepted_then (after R q) first later h.1 k)
+moves_then : (R : Register) (first later : List Command) → AreMoves R first → AreMoves (after_all R first) later → AreMoves R (first ++ later)
+unfolding AreMoves after_all
+moves_then R [] later h k = k
+moves_then R (q ∷ first) later h k = (h.0, moves_then (after R q) first later h.1 k)
 
 -- commands close the record, and all else stays
 pub record Closes (R : Register) (c : Id) (commands : List Command) : Type 0 where
-  pub accepted : AllAccepted R commands
+  pub moves : AreMoves R commands
   pub now : Record
   pub recorded : record_of (Register.records (after_all R commands)) c ≡ Some now
   pub closed : is_closed now.phase ≡ true
   pub stays : Stays c R (after_all R commands)
 
--- A WAY OUT: so many moves close the record
-abbrev pub WayOut : Register → Id → Type 0
-WayOut R c = (n : ℕ) × Closes R c (moves n R c)
+-- A WAY OUT: at most so many turns close the record
+abbrev pub WayOut : ℕ → Register → Id → Type 0
+WayOut most R c = (n : ℕ) × (n ≤ most) × Closes R c (turns n R c)
 
-pub moved_on : (R : Register) (c : Id) (commands : List Command) → next_moves R c ≡ commands → AllAccepted R commands → Stays c R (after_all R commands)
-    → WayOut (after_all R commands) c → WayOut R c
-unfolding moves
-moved_on R c commands are accepted stays (n, out) = (
+pub wider : (most more : ℕ) → most ≤ more → (R : Register) (c : Id) → WayOut most R c → WayOut more R c
+wider most more fits R c (n, within, out) = (n, omega arith, out)
+
+pub moved_on : (most : ℕ) (R : Register) (c : Id) (commands : List Command) → next_moves R c ≡ commands → AreMoves R commands → Stays c R (after_all R commands)
+    → WayOut most (after_all R commands) c → WayOut (suc most) R c
+unfolding turns
+moved_on most R c commands are moves stays (n, within, out) = (
   suc n,
-  subst (λ (first : List Command). Closes R c (first ++ moves n (after_all R first) c)) (sym are) (record {
-    accepted = accepted_then R commands (moves n (after_all R commands) c) accepted out.accepted;
+  omega arith,
+  subst (λ (first : List Command). Closes R c (first ++ turns n (after_all R first) c)) (sym are) (record {
+    moves = moves_then R commands (turns n (after_all R commands) c) moves out.moves;
     now = out.now;
     recorded = subst (λ (S : Register). record_of S.records c ≡ Some out.now) (sym together) out.recorded;
     closed = out.closed;
-    stays = subst (Stays c R) (sym together) (stays_then c R (after_all R commands) (after_all (after_all R commands) (moves n (after_all R commands) c)) stays out.stays);
+    stays = subst (Stays c R) (sym together) (stays_then c R (after_all R commands) (after_all (after_all R commands) (turns n (after_all R commands) c)) stays out.stays);
   }),
 )
   where
-    together : after_all R (commands ++ moves n (after_all R commands) c) ≡ after_all (after_all R commands) (moves n (after_all R commands) c)
-    together = (runs_go_on R commands (moves n (after_all R commands) c)).register
+    together : after_all R (commands ++ turns n (after_all R commands) c) ≡ after_all (after_all R commands) (turns n (after_all R commands) c)
+    together = (runs_go_on R commands (turns n (after_all R commands) c)).register
 
-pub is_out : (R : Register) (c : Id) (r : Record) → record_of R.records c ≡ Some r → is_closed r.phase ≡ true → WayOut R c
-unfolding moves AllAccepted after_all
-is_out R c r found closed = (zero, record { accepted = tt; now = r; recorded = found; closed = closed; stays = stays_itself c R })
+pub is_out : (most : ℕ) (R : Register) (c : Id) (r : Record) → record_of R.records c ≡ Some r → is_closed r.phase ≡ true → WayOut most R c
+unfolding turns AreMoves after_all
+is_out most R c r found closed = (zero, omega arith, record { moves = tt; now = r; recorded = found; closed = closed; stays = stays_itself c R })
+
+-- ---- enough turns
+
+-- a Closed record has no next moves
+none_next : (R : Register) (c : Id) (r : Record) → record_of R.records c ≡ Some r → is_closed r.phase ≡ true → next_moves R c ≡ []
+none_next R c r found closed = ap (moves_of R) found ∙ by_phase r.phase closed
+  where
+    by_phase : (phase : Phase) → is_closed phase ≡ true → moves_in R r phase ≡ []
+    by_phase Closed h = refl
+    by_phase _ h = absurd (false≢true h)
+
+none_more : (n : ℕ) (R : Register) (c : Id) (r : Record) → record_of R.records c ≡ Some r → is_closed r.phase ≡ true → turns n R c ≡ []
+unfolding turns after_all
+none_more zero R c r found closed = refl
+none_more (suc n) R c r found closed =
+    ap (λ (first : List Command). first ++ turns n (after_all R first) c) (none_next R c r found closed) ∙ none_more n R c r found closed
+
+-- more turns add no command, once the record is Closed
+more_turns : (n m : ℕ) → n ≤ m → (R : Register) (c : Id) (r : Record) → record_of (Register.records (after_all R (turns n R c))) c ≡ Some r → is_closed r.phase ≡ true
+    → turns m R c ≡ turns n R c
+unfolding turns after_all
+more_turns zero m less R c r found closed = none_more m R c r found closed
+more_turns (suc n) zero less R c r found closed = absurd (omega arith)
+more_turns (suc n) (suc m) less R c r found closed =
+    let first = next_moves R c in
+    ap (λ (later : List Command). first ++ later) (more_turns n m (omega arith) (after_all R first) c r
+    (sym (ap (λ (S : Register). record_of S.records c) (runs_go_on R first (turns n (after_all R first) c)).register) ∙ found) closed)
+
+pub enough : (most : ℕ) (R : Register) (c : Id) → WayOut most R c → Closes R c (turns most R c)
+enough most R c (n, within, out) = subst (Closes R c) (sym (more_turns n most within R c out.now out.recorded out.closed)) out
 
 pub closes_alone : (R : Register) (c : Id) (commands : List Command) → Closes R c commands → ClosesAlone R c commands
 closes_alone R c commands h = record {
-  accepted = h.accepted;
+  moves = h.moves;
   now = h.now;
   recorded = h.recorded;
   closed = h.closed;
@@ -167,30 +201,30 @@ closes_alone R c commands h = record {
   others = h.stays.others;
 }
 
--- one command
-pub one_accepted : (R : Register) (q : Command) → is_accepted (Answer.reply (answer R q)) ≡ true → AllAccepted R (q ∷ [])
-unfolding AllAccepted
-one_accepted R q h = (h, tt)
+-- ---- a turn of one command, and of two
+
+one_move : (R : Register) (q : Command) → IsMove R q → AreMoves R (q ∷ [])
+unfolding AreMoves
+one_move R q h = (h, tt)
 
 pub after_one : (R : Register) (q : Command) → after_all R (q ∷ []) ≡ after R q
 unfolding after_all
 after_one R q = refl
 
-pub two_accepted : (R : Register) (q p : Command) → is_accepted (Answer.reply (answer R q)) ≡ true → is_accepted (Answer.reply (answer (after R q) p)) ≡ true → AllAccepted R (q ∷ p ∷ [])
-unfolding AllAccepted
-two_accepted R q p h k = (h, (k, tt))
+two_moves : (R : Register) (q p : Command) → IsMove R q → IsMove (after R q) p → AreMoves R (q ∷ p ∷ [])
+unfolding AreMoves
+two_moves R q p h k = (h, (k, tt))
 
-pub after_two : (R : Register) (q p : Command) → after_all R (q ∷ p ∷ []) ≡ after (after R q) p
+after_two : (R : Register) (q p : Command) → after_all R (q ∷ p ∷ []) ≡ after (after R q) p
 unfolding after_all
 after_two R q p = refl
 
--- a move of one command, and of two
-pub moved_one : (R : Register) (c : Id) (q : Command) → next_moves R c ≡ q ∷ [] → is_accepted (Answer.reply (answer R q)) ≡ true → Stays c R (after R q)
-    → WayOut (after R q) c → WayOut R c
-moved_one R c q are accepted stays out = moved_on R c (q ∷ []) are (one_accepted R q accepted) (subst (Stays c R) (sym (after_one R q)) stays)
-    (subst (λ (S : Register). WayOut S c) (sym (after_one R q)) out)
+pub moved_one : (most : ℕ) (R : Register) (c : Id) (q : Command) → next_moves R c ≡ q ∷ [] → IsMove R q → Stays c R (after R q)
+    → WayOut most (after R q) c → WayOut (suc most) R c
+moved_one most R c q are move stays out = moved_on most R c (q ∷ []) are (one_move R q move) (subst (Stays c R) (sym (after_one R q)) stays)
+    (subst (λ (S : Register). WayOut most S c) (sym (after_one R q)) out)
 
-pub moved_two : (R : Register) (c : Id) (q p : Command) → next_moves R c ≡ q ∷ p ∷ [] → is_accepted (Answer.reply (answer R q)) ≡ true
-    → is_accepted (Answer.reply (answer (after R q) p)) ≡ true → Stays c R (after (after R q) p) → WayOut (after (after R q) p) c → WayOut R c
-moved_two R c q p are first second stays out = moved_on R c (q ∷ p ∷ []) are (two_accepted R q p first second) (subst (Stays c R) (sym (after_two R q p)) stays)
-    (subst (λ (S : Register). WayOut S c) (sym (after_two R q p)) out)
+pub moved_two : (most : ℕ) (R : Register) (c : Id) (q p : Command) → next_moves R c ≡ q ∷ p ∷ [] → IsMove R q → IsMove (after R q) p → Stays c R (after (after R q) p)
+    → WayOut most (after (after R q) p) c → WayOut (suc most) R c
+moved_two most R c q p are first second stays out = moved_on most R c (q ∷ p ∷ []) are (two_moves R q p first second) (subst (Stays c R) (sym (after_two R q p)) stays)
+    (subst (λ (S : Register). WayOut most S c) (sym (after_two R q p)) out)
