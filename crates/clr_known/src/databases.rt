@@ -48,8 +48,8 @@ KIM,charge,
 BOSS,charge,
 ";
 
-/// The database at `jones.db` has that register, and every other is empty. No database keeps what is
-/// written to it.
+/// The database at `jones.db` has that register, and every other is empty. No database keeps what
+/// is written to it.
 impl<'f> Databases for Known<'f> {
     ghost use Rattle.std.specs.Prelude.{IfSome, ⊤};
     ghost use Rattle.clr_load.specs.Stored.{HasTables};

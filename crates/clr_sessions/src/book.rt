@@ -1,5 +1,5 @@
-//! The commands of a session, answered by a book step by step: the decision, room for its change, the
-//! change.
+//! The commands of a session, answered by a book step by step: the decision, room for its change,
+//! the change.
 use clr_book::Book;
 use clr_csv::{read_points, read_sections, read_staff};
 use clr_net::Network;

@@ -94,8 +94,8 @@ impl Moments {
         longest
     }
 
-    /// What a crash leaves, as the dice fall: of some or all of the written sectors each has what it
-    /// had at a moment of its own, or noise, and the length is that of a moment or between two.
+    /// What a crash leaves, as the dice fall: of some or all of the written sectors each has what
+    /// it had at a moment of its own, or noise, and the length is that of a moment or between two.
     fn crashed(&self, alloc: Global, written: &[usize], dice: &mut Dice) -> Result<Vec<u8>, Fail> {
         let mut bytes = self.longest().to_vec(alloc)?;
         if let Some(last) = self.contents.last() {

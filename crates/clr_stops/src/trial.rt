@@ -19,8 +19,8 @@ pub trait Trial {
     /// Does the work over files, of which one stops after so many calls.
     fn act(&self, alloc: Global, before: &Held, part: Part, calls: u64) -> Result<Stop, Fail>;
 
-    /// Whether files hold what stands after so many steps, or after one more, and what is left to do
-    /// is done from there as if nothing had stopped.
+    /// Whether files hold what is there after this many steps, or after one more, and what is left
+    /// to do is done from there as if nothing had stopped.
     fn is_sound(&self, alloc: Global, held: &Held, answered: usize) -> Result<bool, Fail>;
 }
 

@@ -5,7 +5,8 @@ use clr_worked::{POINTS, SECTIONS};
 use std::alloc::Global;
 use std::test::Fail;
 
-/// The fault that was told, if one was. Out of memory ends the test, of a reader that has not failed.
+/// The fault that was reported, if one was. Out of memory ends the test, of a reader that has not
+/// failed.
 fn fault_in<T: Drop>(told: Result<T, CsvFault>, failures: u64) -> Result<Option<CsvFault>, Fail> {
     let fault = told.err();
     if fault == Some(CsvFault::NoMemory) && failures == 0 {
