@@ -5,14 +5,12 @@ use Rattle.std.specs.Option.{is_some}
 use Rattle.clr_staff.specs.declared.employee.Role.{Role}
 use Rattle.clr_staff.specs.declared.employee.StaffRow.{StaffRow}
 use Rattle.clr_rules.specs.Checks.{employee, has_role, is_charge, is_field, is_operator}
-use Rattle.clr_rules.specs.Good.{IsGood}
-use Rattle.clr_rules.specs.Prelude.{Command, HoldKind, HeldOpen, Record, Id, Register, record_of}
+use Rattle.clr_rules.specs.Prelude.{HoldKind, HeldOpen, Record, Id, Register, record_of}
 use Rattle.clr_rules.specs.Prelude.{is_restoring, all_done, is_some_step, steps_in, is_point_kind}
 use Rattle.clr_rules.specs.Prelude.{has_hold}
 use Rattle.clr_rules.specs.Records.{is_released}
-use Rattle.clr_rules.specs.Run.{IsReached, after}
 
--- the first employee whose role fits; the staff stand in the order of their names
+-- the first employee whose role fits; the staff are in the order of their names
 abbrev pub first_of_role : List StaffRow → (Role → Bool) → Option StaffRow
 first_of_role staff fits = find (λ row. fits row.role) staff
 
@@ -40,12 +38,3 @@ pub record IsStaffed (R : Register) : Type 0 where
       → (p : List ℕ) × (has_hold R.holds c HeldOpen p ≡ true)
   pub restoring : (c : Id) (r : Record) → record_of R.records c ≡ Some r
       → is_restoring r.phase ≡ true → all_done (steps_in R.steps c 2) ≡ false
-
--- EVERY COMMAND KEEPS A REGISTER STAFFED that is good
-abbrev pub CommandsKeepStaffed : Type 0
-CommandsKeepStaffed =
-    (R : Register) (q : Command) → IsGood R → IsStaffed R → IsStaffed (after R q)
-
--- EVERY REGISTER THAT IS REACHED IS STAFFED
-abbrev pub ReachedRegistersAreStaffed : Type 0
-ReachedRegistersAreStaffed = (R : Register) → IsReached R → IsStaffed R

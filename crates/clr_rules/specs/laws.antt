@@ -12,6 +12,8 @@ pub mod Near
 pub mod Opening
 pub mod Own
 pub mod Runs
+pub mod Staffed
 pub mod Steps
 pub mod Tags
+pub mod WayBack
 pub mod Work

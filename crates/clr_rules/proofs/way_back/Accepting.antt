@@ -17,7 +17,8 @@ use Rattle.clr_rules.specs.laws.Edits.{refusal_of}
 use Rattle.clr_rules.specs.Prelude.{Edit, Command, Kind, Phase, Record, Refusal, StepRow, Id, Register, record_of, present_steps, step_at, after_edits}
 use Rattle.clr_rules.specs.Run.{after}
 use Rattle.clr_rules.specs.Staffed.{first_of_role, has_some_role}
-use Rattle.clr_rules.specs.WayBack.{IsMove, is_accepted, one_of_role, sets_position}
+use Rattle.clr_rules.specs.WayBack.{one_of_role}
+use Rattle.clr_rules.specs.laws.WayBack.{IsMove, is_accepted, sets_position}
 use Rattle.clr_rules.proofs.edits.Passing.{Pass}
 use Rattle.clr_rules.proofs.edits.Refusing.{edited_all-has_record}
 use Rattle.clr_rules.proofs.good.PutHolds.{found_there, one_of_name}

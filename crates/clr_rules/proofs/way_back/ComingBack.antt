@@ -20,7 +20,8 @@ use Rattle.clr_rules.specs.Prelude.{hand_of, position_of, record_of, is_active, 
 use Rattle.clr_rules.specs.Records.{is_switch_order}
 use Rattle.clr_rules.specs.Run.{IsReached, after}
 use Rattle.clr_rules.specs.Staffed.{has_some_role}
-use Rattle.clr_rules.specs.WayBack.{IsMove, sets_position, AllBack, StaysBut, ask, is_point_of, one_of_role}
+use Rattle.clr_rules.specs.WayBack.{ask, one_of_role}
+use Rattle.clr_rules.specs.laws.WayBack.{IsMove, sets_position, AllBack, StaysBut, is_point_of}
 use Rattle.clr_rules.specs.declared.command.Kind.TheVariants as kinds
 use Rattle.clr_rules.proofs.edits.EditReading.{record_of-put}
 use Rattle.clr_rules.proofs.edits.PutSteps.{put_step}
@@ -167,7 +168,7 @@ module _ (R : Register) (reached : IsReached R) (r : Record) (found : record_of 
   undone_positions p = ap (λ (S : Register). position_of S.states p) (Made.is_after (made_second false))
       ∙ none_are_set (SetHand row.step.point None ∷ PutRecord r ∷ PutStep back ∷ []) R1 (tt, (tt, (tt, tt))) p ∙ positions1 p
 
-  -- all else of a register stays, where the step is the clearance's own
+  -- the rest of a register stays, where the step is the clearance's own
   pub own_undone : Stays r.id R (after R1 (reporting false))
   own_undone = record {
     positions = undone_positions;

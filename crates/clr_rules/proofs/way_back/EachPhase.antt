@@ -6,7 +6,8 @@ use Rattle.clr_rules.specs.Records.{is_cancellable, is_closed, is_released}
 use Rattle.clr_rules.specs.Run.{IsReached}
 use Rattle.clr_rules.specs.Staffed.{has_some_role}
 use Rattle.clr_rules.specs.Steps.{some_active}
-use Rattle.clr_rules.specs.WayBack.{ClosesAlone, ThereIsAWayBack, enough_turns, way_back}
+use Rattle.clr_rules.specs.WayBack.{enough_turns, way_back}
+use Rattle.clr_rules.specs.laws.WayBack.{ClosesAlone, ThereIsAWayBack}
 use Rattle.clr_rules.proofs.lists.RoundSteps.{record_id}
 use Rattle.clr_rules.proofs.way_back.Cancelling.{not_granted_go_out}
 use Rattle.clr_rules.proofs.way_back.Granted.{granted_out, not_more}

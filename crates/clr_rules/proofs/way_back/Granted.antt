@@ -18,7 +18,8 @@ use Rattle.clr_rules.specs.Prelude.{position_of, record_of, is_granted, points_o
 use Rattle.clr_rules.specs.Run.{IsReached, after}
 use Rattle.clr_rules.specs.Staffed.{IsStaffed, fits_holder}
 use Rattle.clr_rules.specs.laws.Frame.{subject_of}
-use Rattle.clr_rules.specs.WayBack.{ask, given_up, moves_in, moves_of, next_moves, IsMove, sets_position}
+use Rattle.clr_rules.specs.WayBack.{ask, given_up, moves_in, moves_of, next_moves}
+use Rattle.clr_rules.specs.laws.WayBack.{IsMove, sets_position}
 use Rattle.clr_rules.specs.declared.command.Kind.TheVariants as kinds
 use Rattle.clr_rules.specs.declared.refusal.Refusal.TheVariants.{CrewState, CrewsOn, Grounded, NotGrounded, OutsideFence}
 use Rattle.clr_rules.proofs.edits.EditReading.{record_of-put}

@@ -20,7 +20,8 @@ use Rattle.clr_rules.specs.Refusals.{order_refusal}
 use Rattle.clr_rules.specs.Run.{IsReached, after}
 use Rattle.clr_rules.specs.Staffed.{IsStaffed}
 use Rattle.clr_rules.specs.Steps.{is_of_round}
-use Rattle.clr_rules.specs.WayBack.{ask, is_point_of, moves_in, moves_of, next_moves, one_of_role, restored, undoing_steps, sets_position}
+use Rattle.clr_rules.specs.WayBack.{ask, moves_in, moves_of, next_moves, one_of_role, restored, undoing_steps}
+use Rattle.clr_rules.specs.laws.WayBack.{is_point_of, sets_position}
 use Rattle.clr_rules.specs.declared.command.Kind.TheVariants as kinds
 use Rattle.clr_rules.proofs.edits.EditReading.{record_of-put}
 use Rattle.clr_rules.proofs.edits.NewRounds.{All-own, round_put, with_round, new_tasks, new_wait, round_is}
@@ -134,7 +135,7 @@ module _ (R : Register) (reached : IsReached R) (r : Record) (found : record_of 
   recorded = ap (λ (S : Register). record_of S.records r.id) after_it
       ∙ record_of-put next r.id R.records ∙ ap (λ b. cond b (Some next) (record_of R.records r.id)) (own_id r.id)
 
-  -- its steps stand at points that it had
+  -- its steps are at points that it had
   points_stay : (p : List ℕ) → is_point_of (after R restoring) r.id p ≡ true → is_point_of R r.id p ≡ true
   points_stay p of_it =
       let S = with_round R next 2 tasks in
@@ -161,7 +162,7 @@ module _ (R : Register) (reached : IsReached R) (r : Record) (found : record_of 
       by_phase_of Released h = refl
       by_phase_of _ h = absurd (false≢true h)
 
-  -- so many steps are left then
+  -- at most 256 steps are left then
   left_most : left_count (after R restoring) r.id ≤ 256
   left_most =
       let fits_it = restores.steps_fit in

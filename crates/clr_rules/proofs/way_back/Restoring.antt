@@ -24,7 +24,8 @@ use Rattle.clr_rules.specs.Records.{ends_with_steps}
 use Rattle.clr_rules.specs.Run.{IsReached}
 use Rattle.clr_rules.specs.Staffed.{IsStaffed, has_some_role}
 use Rattle.clr_rules.specs.Steps.{is_close, is_in_turn, is_of_round}
-use Rattle.clr_rules.specs.WayBack.{is_point_of, moves_in, moves_of, next_moves, one_of_role, stepped}
+use Rattle.clr_rules.specs.WayBack.{moves_in, moves_of, next_moves, one_of_role, stepped}
+use Rattle.clr_rules.specs.laws.WayBack.{is_point_of}
 use Rattle.clr_rules.proofs.good.PhaseFacts.{second_present}
 use Rattle.clr_rules.proofs.good.PutHolds.{found_there, kept_there}
 use Rattle.clr_rules.proofs.good.StepsInTurn.{Rises, round_rises}

@@ -18,7 +18,8 @@ use Rattle.clr_rules.specs.Run.{IsReached, after}
 use Rattle.clr_rules.specs.States.{is_hand}
 use Rattle.clr_rules.specs.Staffed.{IsStaffed, has_some_role}
 use Rattle.clr_rules.specs.Steps.{is_close}
-use Rattle.clr_rules.specs.WayBack.{ask, given_out, given_out_at, is_point_of, one_of_role}
+use Rattle.clr_rules.specs.WayBack.{ask, given_out, given_out_at, one_of_role}
+use Rattle.clr_rules.specs.laws.WayBack.{is_point_of}
 use Rattle.clr_rules.specs.declared.command.Kind.TheVariants as kinds
 use Rattle.clr_rules.proofs.edits.PutSteps.{put_step}
 use Rattle.clr_rules.proofs.good.PutHolds.{found_there}
@@ -33,7 +34,7 @@ use Rattle.clr_rules.proofs.way_back.Restoring.{IsFirstLeft, among, count_again,
 use Rattle.clr_rules.proofs.way_back.Rows.{SplitAt, points_swap, split_again}
 use Rattle.clr_rules.proofs.way_back.Staying.{WayOut, is_out, moved_one, moved_two, none_are_set, stays_after, wider}
 
--- what is so of Restoring records with so many steps left
+-- what is so of Restoring records with n steps left
 abbrev pub RestoringGoOut : ℕ → Type 0
 RestoringGoOut n = (R : Register) → IsReached R → (r : Record) → record_of R.records r.id ≡ Some r → is_restoring r.phase ≡ true → left_count R r.id ≡ n → WayOut (5 * n) R r.id
 

@@ -12,7 +12,8 @@ use Rattle.clr_rules.specs.Prelude.{Edit, SetPosition, SetHand, AddPoint, Comman
 use Rattle.clr_rules.specs.Prelude.{position_of, record_of, is_active, steps_of, after_edit, after_edits}
 use Rattle.clr_rules.specs.Records.{is_closed}
 use Rattle.clr_rules.specs.Run.{after, after_all}
-use Rattle.clr_rules.specs.WayBack.{AllBack, AreMoves, ClosesAlone, IsBack, IsMove, StaysBut, is_point_of, moves_in, moves_of, next_moves, turns}
+use Rattle.clr_rules.specs.WayBack.{moves_in, moves_of, next_moves, turns}
+use Rattle.clr_rules.specs.laws.WayBack.{AllBack, AreMoves, ClosesAlone, IsBack, IsMove, StaysBut, is_point_of}
 use Rattle.clr_rules.proofs.edits.Runs.{runs_go_on}
 use Rattle.clr_rules.proofs.isolation.OthersEdits.{one_outlook_changes}
 use Rattle.clr_rules.proofs.lists.StateFacts.{position_of-handed}
@@ -124,7 +125,7 @@ unfolding AreMoves after_all
 moves_then R [] later h k = k
 moves_then R (q ∷ first) later h k = (h.0, moves_then (after R q) first later h.1 k)
 
--- commands close the record, and all else stays
+-- commands close the record, and the rest stays
 pub record Closes (R : Register) (c : Id) (commands : List Command) : Type 0 where
   pub moves : AreMoves R commands
   pub now : Record
@@ -132,7 +133,7 @@ pub record Closes (R : Register) (c : Id) (commands : List Command) : Type 0 whe
   pub closed : is_closed now.phase ≡ true
   pub stays : Stays c R (after_all R commands)
 
--- A WAY OUT: at most so many turns close the record
+-- A WAY OUT: a number of turns within a bound closes the record
 abbrev pub WayOut : ℕ → Register → Id → Type 0
 WayOut most R c = (n : ℕ) × (n ≤ most) × Closes R c (turns n R c)
 

@@ -20,7 +20,7 @@ use Rattle.clr_rules.proofs.keeps.Restore.{held_names}
 use Rattle.clr_rules.proofs.lists.NamedRows.{has_name-filter, has_name-row}
 use Rattle.clr_rules.proofs.lists.RoundSteps.{All-from_each}
 
--- ---- names that stand once
+-- ---- names that come once
 
 abbrev pub Apart : List (List ℕ) → Type 0
 Apart [] = Unit {0}

@@ -1,5 +1,5 @@
 //! Laws of staffed registers: commands keep a register staffed, so every reached register is.
-ghost use Rattle.clr_rules.specs.Staffed.{CommandsKeepStaffed, ReachedRegistersAreStaffed};
+ghost use Rattle.clr_rules.specs.laws.Staffed.{CommandsKeepStaffed, ReachedRegistersAreStaffed};
 
 /// Every command keeps a good register staffed: it is so of each kind, accepted, shown or refused.
 pub fn commands_keep_staffed()
