@@ -14,3 +14,4 @@ pub mod Refusals
 pub mod Runs
 pub mod Sequence
 pub mod Sight
+pub mod WayBack

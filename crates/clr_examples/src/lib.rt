@@ -16,3 +16,4 @@ pub mod refusals;
 pub mod runs;
 pub mod sequence;
 pub mod sight;
+pub mod way_back;
