@@ -1,5 +1,5 @@
 -- A row of a point that does not read is told by the table that it is read for.
-use Rattle.std.proofs.Common.{◌≡◌, ◌∙◌, ℕ, ◌+◌, Bool, true, false, nat_le, if◌then◌else◌, List, [], ◌∷◌, Option, None, Some, Result, Ok, Err, pos, negsuc, ap, refl, sym}
+use Rattle.std.proofs.Common.{◌≡◌, ℕ, ◌+◌, Bool, true, false, nat_le, if◌then◌else◌, List, [], ◌∷◌, Option, None, Some, Result, Ok, Err, pos, negsuc, ap, sym}
 use Rattle.std.specs.Prelude.{ok_or}
 use Rattle.sqlite.specs.Order.{Row, column}
 use Rattle.sqlite.specs.declared.types.Value.{Value}
@@ -7,7 +7,7 @@ use Rattle.sqlite.specs.declared.types.Value.TheVariants.{Null, Int, Real, Text,
 use Rattle.clr_net.specs.NameText.{read_name}
 use Rattle.clr_net.specs.declared.name.NameFault.{NameFault}
 use Rattle.clr_result.specs.Results.{◌>>=◌}
-use Rattle.clr_rules.specs.Id.{Id, new_id}
+use Rattle.clr_rules.specs.Id.{new_id}
 use Rattle.clr_tables.specs.RowsRead.{all_read, flag_at, hand_at, id_at, id_unless_null, name_at, name_if_read, number_at, number_of, number_within, position_at, position_if, read_placed, text_at, text_of}
 use Rattle.clr_tables.specs.declared.table_name.TableName.{TableName}
 

@@ -94,11 +94,6 @@ values_all zero (v ∷ row) h = absurd (omega arith)
 values_all (suc n) [] h = absurd (omega arith)
 values_all (suc n) (v ∷ row) h = ap (λ l. v ∷ l) (values_shift n 0 v row ∙ values_all n row (omega arith))
 
--- the parameters, as terms
-pub given_values : (n at : ℕ) (row : Row) → eval_all (terms_from 0 at n) (row ∷ []) ≡ values_from at n row
-given_values zero at row = refl
-given_values (suc n) at row = ap (λ l. column row at ∷ l) (given_values n (suc at) row)
-
 -- the columns of the row that is met, as terms
 pub met_values : (n at : ℕ) (params row : Row) → eval_all (terms_from 1 at n) (params ∷ row ∷ []) ≡ values_from at n row
 met_values zero at params row = refl

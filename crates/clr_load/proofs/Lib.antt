@@ -1,3 +1,4 @@
+pub mod Inside
 pub mod Texts
 pub mod Columns
 pub mod Causes

@@ -1,5 +1,5 @@
 -- What the listing of a table shows.
-use Rattle.std.proofs.Common.{◌≡◌, ◌≤◌, ◌-◌, ◌^◌, ℕ, zero, suc, List, [], ◌∷◌, map, take, drop, length, Bool, true, false, if◌then◌else◌, nat_le, slice_get, unwrap_or, ◌⊎◌, inl, inr, Option, Some, None, Err, IsTrue, refl, sym, ap, subst, ◌∙◌, arith}
+use Rattle.std.proofs.Common.{◌≡◌, ◌≤◌, ◌-◌, ◌^◌, ℕ, zero, suc, List, [], ◌∷◌, map, take, drop, length, Bool, true, false, if◌then◌else◌, nat_le, slice_get, unwrap_or, ◌⊎◌, inl, inr, Option, Some, None, Err, Ok, Result, IsTrue, refl, sym, ap, subst, ◌∙◌, arith}
 use Rattle.std.specs.List.{AllByRecursion, flat_map, list_all}
 use Rattle.std.specs.List.Sorted.{IsPermutation}
 use Rattle.std.specs.Ordering.{is_lt}
@@ -14,7 +14,10 @@ use Rattle.sqlite.specs.Clock.{timed}
 use Rattle.sqlite.specs.Effect.{Database}
 use Rattle.sqlite.specs.Listing.{understood}
 use Rattle.sqlite.specs.State.{State, HasCleanDisk, Survives, Shown, ShowsRows, IsUnchanged, IsRolledBack, KeepsCommit, RunsCommand, FailsToShow, FailsToQuery, IsNotRun, IsTooLate}
+use Rattle.sqlite.specs.Held.{state}
+use Rattle.sqlite.specs.Store.{Ghosts}
 use Rattle.sqlite.specs.declared.error.Error.{Error}
+use Rattle.sqlite.specs.declared.transaction.Transaction.{Transaction}
 use Rattle.sqlite_resolve.specs.declared.compiled.Compiled.{Compiled}
 use Rattle.sqlite_schema.specs.declared.command.Returning.{Returning}
 use Rattle.sqlite.specs.Term.{eval_all}
@@ -28,14 +31,14 @@ use Rattle.clr_shelf.specs.Rows.{in_key_order}
 use Rattle.clr_tables.specs.Tables.{Tables}
 use Rattle.clr_tables.specs.declared.table_name.TableName.{TableName}
 use Rattle.clr_tables.specs.declared.table_name.TableName.TheVariants.{Meta, Section, Point, Staff, Clearance, Step, Hold, NetworkPoint}
-use Rattle.clr_load.specs.Found.{Fails, Finds}
-use Rattle.clr_load.specs.Listed.{both_of}
+use Rattle.clr_load.specs.Found.{Fails, Finds, Lists}
 use Rattle.clr_load.specs.Layout.{AsMade, AsMoved, Layout, OfOne, has_table, is_two, names_in, tree_in}
 use Rattle.clr_load.specs.Schema.{behind_meta, columns_in, keys_in, no_schema, schema_in, schema_of}
 use Rattle.clr_load.specs.Sql.{select_sql}
 use Rattle.clr_load.specs.Stored.{HasMeta, HasRows, HasTablesIn, Holds, IsInOrder, bodies, fits_columns, rows_in}
 use Rattle.clr_load.specs.declared.fault.StoreFault.{StoreFault}
 use Rattle.clr_load.proofs.Causes.{then_cause}
+use Rattle.clr_load.proofs.Inside.{fails_on, fails_so, runs_on}
 use Rattle.clr_load.proofs.Columns.{both_true, fits_length, key_order, met_values, values_all, values_from, values_shift, values_take}
 use Rattle.clr_load.proofs.Texts.{listing, meta_is, meta_unlisted, order_from, select_is, select_unknown, select_unlisted, width_of}
 
@@ -182,10 +185,10 @@ has_meta l db t has = record {
     first AsMoved = refl
 
 -- ---- what a query inside a transaction leaves of the last commit
-unchanged_keeps : (old new : State) → IsUnchanged old new → KeepsCommit old new
+pub unchanged_keeps : (old new : State) → IsUnchanged old new → KeepsCommit old new
 unchanged_keeps old new h = record { was_open = λ _. h.0.was_open; committed = λ _. h.0.committed_is }
 
-undone_keeps : (old new : State) → IsRolledBack old new → KeepsCommit old new
+pub undone_keeps : (old new : State) → IsRolledBack old new → KeepsCommit old new
 undone_keeps old new h = record { was_open = h.was_open; committed = λ is_open. (h.undone is_open).1 }
 
 -- what a query that showed rows tells of the connection
@@ -285,37 +288,60 @@ both_in_two OfOne two = absurd cc
 both_in_two AsMade two = refl
 both_in_two AsMoved two = refl
 
--- the rows of all tables, found one after the other, are the tables
-pub all_found : (old a b c new : State) (meta sections points staff clearances steps holds : List Row)
-    → Finds old a is_two (λ l t. rows_in l Meta t) meta → Finds a b is_two (both_of Section NetworkPoint) (sections, points)
-    → Finds b c is_two (both_of Staff Clearance) (staff, clearances) → Finds c new is_two (both_of Step Hold) (steps, holds)
-    → Finds {A = Tables} old new is_two (λ l t. t) (record {
-      meta = meta;
-      sections = sections;
-      points = points;
-      staff = staff;
-      clearances = clearances;
-      steps = steps;
-      holds = holds;
-    })
-all_found old a b c new meta sections points staff clearances steps holds p q r s = record {
-  was_open = p.was_open;
-  inside = s.inside;
-  kept = then_kept old c new (then_kept old b c (then_kept old a b p.kept q.kept) r.kept) s.kept;
-  found_is = λ l two t has ordered.
-      let one = p.found_is l two t has ordered in
-      let both = q.found_is l two t one.1 ordered in
-      let three = r.found_is l two t both.1 ordered in
-      let four = s.found_is l two t three.1 ordered in (
-        λ i. record {
-          meta = one.0 i;
-          sections = (both.0 i).0;
-          points = (both.0 i).1;
-          staff = (three.0 i).0;
-          clearances = (three.0 i).1;
-          steps = (four.0 i).0;
-          holds = (four.0 i).1;
-        },
-        four.1,
-      );
+-- ---- what calls list, in turn
+-- what is listed in some layouts is listed in fewer
+pub lists_in : {S A X : Type 0} (g : Ghosts S) (a b : Transaction S) (F : StoreFault → Type 0) (f h : Layout → Bool) (fewer : (l : Layout) → h l ≡ true → f l ≡ true)
+    (of : Layout → Tables → A) (items : X → A) (r : Result X StoreFault) → Lists g a b F f of items r → Lists g a b F h of items r
+lists_in g a b F f h fewer of items (Ok x) it = record {
+  same_reference = it.same_reference;
+  step = λ clean inside. finds_in f h fewer (state g a.conn.now) (state g b.conn.now) of (items x) (it.step clean inside);
+  fault = tt;
+  survives = it.survives;
+}
+lists_in g a b F f h fewer of items (Err e) it = record {
+  same_reference = it.same_reference;
+  step = λ clean inside. fails_in f h fewer (state g a.conn.now) (state g b.conn.now) e (it.step clean inside);
+  fault = it.fault;
+  survives = it.survives;
+}
+
+pub lists_pair : {S A B X Y : Type 0} (g : Ghosts S) (a b c : Transaction S) (F : StoreFault → Type 0) (fits : Layout → Bool) (of : Layout → Tables → A) (next : Layout → Tables → B)
+    (items : X → A) (others : Y → B) (x : X) (y : Y) → Lists g a b F fits of items (Ok x) → Lists g b c F fits next others (Ok y)
+    → Lists {A = A × B} {X = X × Y} g a c F fits (λ l t. (of l t, next l t)) (λ p. (items p.0, others p.1)) (Ok (x, y))
+lists_pair g a b c F fits of next items others x y first second =
+    runs_on g a b c F F F _ _ _ _ _ _ x y (x, y) first second (λ found. found.inside)
+    (λ early p q. then_finds (state g a.conn.now) (state g b.conn.now) (state g c.conn.now) fits of next (items x) (others y) p q)
+
+-- something is listed, and then a call fails
+pub lists_stop : {S A B C X Y Z : Type 0} (g : Ghosts S) (a b c : Transaction S) (F : StoreFault → Type 0) (fits : Layout → Bool) (of : Layout → Tables → A) (next : Layout → Tables → B)
+    (all : Layout → Tables → C) (items : X → A) (others : Y → B) (told : Z → C) (x : X) (e : StoreFault)
+    → Lists g a b F fits of items (Ok x) → Lists g b c F fits next others (Err e) → Lists g a c F fits all told (Err e)
+lists_stop g a b c F fits of next all items others told x e first second =
+    fails_on g a b c F F F _ _ _ _ _ _ x e first second (λ found. found.inside)
+    (λ early found failed. then_fails (state g a.conn.now) (state g b.conn.now) (state g c.conn.now) fits of (items x) e _ found first.survives early second.survives.counts failed)
+    (λ fault. fault)
+
+-- a call that failed has listed nothing else either
+pub lists_none : {S A B X Y : Type 0} (g : Ghosts S) (a b : Transaction S) (F : StoreFault → Type 0) (fits : Layout → Bool) (of : Layout → Tables → A) (all : Layout → Tables → B)
+    (items : X → A) (told : Y → B) (e : StoreFault) → Lists g a b F fits of items (Err e) → Lists g a b F fits all told (Err e)
+lists_none g a b F fits of all items told e failed = fails_so g a b F F _ _ _ _ e failed (λ stops. stops) (λ fault. fault)
+
+-- what is listed, seen otherwise
+pub lists_as : {S A B X Y : Type 0} (g : Ghosts S) (a b : Transaction S) (F : StoreFault → Type 0) (fits : Layout → Bool) (of : Layout → Tables → A) (all : Layout → Tables → B)
+    (items : X → A) (told : Y → B) (view : A → B) (x : X) (y : Y) → ((l : Layout) (t : Tables) → view (of l t) ≡ all l t) → view (items x) ≡ told y
+    → Lists g a b F fits of items (Ok x) → Lists g a b F fits all told (Ok y)
+lists_as g a b F fits of all items told view x y same seen it = record {
+  same_reference = it.same_reference;
+  step = λ clean inside.
+      let found = it.step clean inside in
+      record {
+        was_open = found.was_open;
+        inside = found.inside;
+        kept = found.kept;
+        found_is = λ l fit t has ordered.
+            let one = found.found_is l fit t has ordered in
+            (sym seen ∙ ap view one.0 ∙ same l t, one.1);
+      };
+  fault = tt;
+  survives = it.survives;
 }

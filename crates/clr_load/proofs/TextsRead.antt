@@ -1,5 +1,5 @@
 -- What a column reads as, where its bytes are no text: no name and no word.
-use Rattle.std.proofs.Common.{◌≡◌, ◌∙◌, ◌<◌, ℕ, zero, suc, arith, Bool, true, false, ◌&&◌, if◌then◌else◌, List, [], ◌∷◌, Option, Some, None, Result, Ok, Err, refl, sym, ap}
+use Rattle.std.proofs.Common.{◌≡◌, ◌∙◌, ◌<◌, ℕ, zero, suc, arith, Bool, true, false, if◌then◌else◌, List, [], ◌∷◌, Option, None, Result, Ok, Err, refl, sym, ap}
 use Rattle.std.specs.Prelude.{find, nat_lt, ok_or}
 use Rattle.std.specs.List.{list_all}
 use Rattle.std.specs.Str.{IsAscii, IsUtf8, bytes_eq, is_utf8}
@@ -17,10 +17,10 @@ use Rattle.clr_tables.proofs.ColumnsRead.{name_is_not_read}
 use Rattle.clr_rules.specs.HoldKind.{all_hold_kinds, hold_kind_named, hold_kind_text}
 use Rattle.clr_rules.specs.Phase.{all_phases, phase_named, phase_text}
 use Rattle.clr_order.specs.Action.{all_actions}
-use Rattle.clr_tables.specs.RowsRead.{id_at, id_unless_null, name_at, name_if_read, name_unless_null, text_of, word_at}
+use Rattle.clr_tables.specs.RowsRead.{name_at, name_if_read, text_of, word_at}
 use Rattle.clr_tables.specs.Words.{action_name, action_named, all_roles, all_states, role_word, role_worded, state_name, state_named}
 use Rattle.clr_tables.specs.declared.table_name.TableName.{TableName}
-use Rattle.clr_load.specs.Reading.{is_null, utf8_at}
+use Rattle.clr_load.specs.Reading.{utf8_at}
 use Rattle.clr_load.proofs.Columns.{both_true}
 
 -- what is not text is no name
@@ -97,29 +97,6 @@ state_by_text = word_by_text state_named (apart state_name all_states refl)
 
 pub kind_by_text : (t : TableName) (place : ℕ) (row : Row) → (utf8_at t place row >>= λ word. ok_or (hold_kind_named word) t) ≡ word_at hold_kind_named t place row
 kind_by_text = word_by_text hold_kind_named (apart hold_kind_text all_hold_kinds refl)
-
--- a column that is not NULL has to have a name
-pub name_unless : (t : TableName) (v : Value) → is_null v ≡ false → name_unless_null t v ≡ ((text_of t v >>= λ text. name_if_read t (read_name text)) >>= λ name. Ok (Some name))
-name_unless t Null h = absurd (true≢false h)
-name_unless t (Int n) h = refl
-name_unless t (Real n) h = refl
-name_unless t (Text text) h = at (name_if_read t (read_name text))
-  where
-    at : (r : Result (List ℕ) TableName) → (r >>= λ name. Ok (Some name)) ≡ (r >>= λ name. Ok (Some name))
-    at r = refl
-name_unless t (Blob b) h = refl
-
--- columns that are not both NULL have to have a clearance
-pub id_unless : (t : TableName) (v w : Value) (row : Row) → (is_null v && is_null w) ≡ false → id_unless_null t v w row ≡ (id_at t 6 row >>= λ c. Ok (Some c))
-id_unless t Null Null row h = absurd (true≢false h)
-id_unless t Null (Int n) row h = refl
-id_unless t Null (Real n) row h = refl
-id_unless t Null (Text n) row h = refl
-id_unless t Null (Blob n) row h = refl
-id_unless t (Int n) w row h = refl
-id_unless t (Real n) w row h = refl
-id_unless t (Text n) w row h = refl
-id_unless t (Blob n) w row h = refl
 
 pub is_text_at : (t : TableName) (place : ℕ) (row : Row) (text : List ℕ) → column row place ≡ Text text → IsUtf8 text → utf8_at t place row ≡ Ok text
 is_text_at t place row text is utf8 = rw (is, is_utf8-from_IsUtf8 text utf8) refl

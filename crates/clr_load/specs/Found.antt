@@ -1,8 +1,12 @@
 -- What a call finds in the tables, inside a transaction.
-use Rattle.std.specs.Prelude.{◌≡◌, Bool, true, IsTrue, Result, MatchResult}
-use Rattle.sqlite.specs.State.{State, HasCleanDisk, KeepsCommit}
+use Rattle.std.specs.Prelude.{◌≡◌, Bool, true, IsTrue, Result}
+use Rattle.sqlite.specs.Held.{state}
+use Rattle.sqlite.specs.State.{State, KeepsCommit}
+use Rattle.sqlite.specs.declared.transaction.Transaction.{Transaction}
+use Rattle.sqlite.specs.Store.{Ghosts}
 use Rattle.clr_tables.specs.Tables.{Tables}
 use Rattle.clr_load.specs.Cause.{SqlHasCause}
+use Rattle.clr_load.specs.Inside.{RunsInside}
 use Rattle.clr_load.specs.Layout.{Layout}
 use Rattle.clr_load.specs.Stored.{Holds, IsInOrder}
 use Rattle.clr_load.specs.declared.fault.StoreFault.{StoreFault}
@@ -24,8 +28,10 @@ pub record Fails (old new : State) (fits : Layout → Bool) (fault : StoreFault)
       → SqlHasCause old new fault
 
 -- a call inside a transaction finds it, or fails; it commits nothing
-abbrev pub Lists : {A X : Type 0} → State → State → (Layout → Bool) → (Layout → Tables → A)
-    → (X → A) → Result X StoreFault → Type 0
-Lists old new fits tells items result =
-    HasCleanDisk new → IsTrue old.in_transaction
-    → MatchResult result (λ listed. Finds old new fits tells (items listed)) (Fails old new fits)
+abbrev pub Lists : {S A X : Type 0} → Ghosts S → Transaction S → Transaction S
+    → (StoreFault → Type 0) → (Layout → Bool) → (Layout → Tables → A) → (X → A)
+    → Result X StoreFault → Type 0
+Lists g old new IsFault fits tells items result =
+    RunsInside g old new IsFault
+    (λ listed. Finds (state g old.conn.now) (state g new.conn.now) fits tells (items listed))
+    (Fails (state g old.conn.now) (state g new.conn.now) fits) result

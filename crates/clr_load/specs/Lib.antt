@@ -4,6 +4,7 @@ pub mod Sql
 pub mod Stored
 pub mod Fault
 pub mod Cause
+pub mod Inside
 pub mod Found
 pub mod Contract
 pub mod Reading

@@ -2,7 +2,7 @@
 ghost use Rattle.std.specs.Prelude.{◌≡◌, [], List, IfErr, IfOk, IsTrue};
 ghost use Rattle.sqlite.specs.Held.{state};
 ghost use Rattle.sqlite.specs.Order.{Row as SqlRow};
-ghost use Rattle.sqlite.specs.State.{HasCleanDisk, Shown, Survives};
+ghost use Rattle.sqlite.specs.State.{HasCleanDisk, Shown};
 ghost use Rattle.clr_load.specs.Cause.{SqlHasCause};
 ghost use Rattle.clr_load.specs.Fault.{IsOfDatabase};
 ghost use Rattle.clr_load.specs.Found.{Lists};
@@ -45,20 +45,16 @@ pub(crate) fn list_rows<S: Alter>(
     tx: &mut Transaction<'_, S>,
     table: TableName,
 ) -> Result<Vec<Row>, StoreFault>
-    ensures same_reference { tx.new.conn.ghost_name ≡ tx.old.conn.ghost_name }
-    ensures step { Lists (state S.Store tx.old.conn.now) (state S.Store tx.new.conn.now)
-        (λ l. has_table l table) (λ l t. rows_in l table t) (λ rows. rows.items) result }
+    ensures lists { Lists S.Store tx.old tx.new IsOfDatabase (λ l. has_table l table)
+        (λ l t. rows_in l table t) (λ rows. rows.items) result }
     ensures shown { HasCleanDisk (state S.Store tx.new.conn.now) → IfOk result (λ rows.
         Shown (select_sql table) [] (state S.Store tx.old.conn.now)
         (state S.Store tx.new.conn.now) rows.items) }
-    ensures fault { IfErr result IsOfDatabase }
     ensures cause { HasCleanDisk (state S.Store tx.new.conn.now)
         → IsTrue (state S.Store tx.old.conn.now).in_transaction → table ≡ TableName.Meta
         → (meta : List SqlRow) → HasMeta (state S.Store tx.old.conn.now).now meta
         → IfErr result (SqlHasCause (state S.Store tx.old.conn.now)
         (state S.Store tx.new.conn.now)) }
-    ensures survives { Survives (state S.Store tx.old.conn.now) (state S.Store tx.new.conn.now)
-        (λ _. ⊥) }
 {
     let rows = tx.query_all(select_sql(table), &[])?;
     Ok(rows)

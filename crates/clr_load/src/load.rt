@@ -41,12 +41,8 @@ fn list_both<S: Alter>(
     one: TableName,
     other: TableName,
 ) -> Result<(Vec<Row>, Vec<Row>), StoreFault>
-    ensures same_reference { tx.new.conn.ghost_name ≡ tx.old.conn.ghost_name }
-    ensures step { Lists (state S.Store tx.old.conn.now) (state S.Store tx.new.conn.now)
-        (both_fit one other) (both_of one other) (λ listed. (listed.0.items, listed.1.items)) result }
-    ensures fault { IfErr result IsOfDatabase }
-    ensures survives { Survives (state S.Store tx.old.conn.now) (state S.Store tx.new.conn.now)
-        (λ _. ⊥) }
+    ensures { Lists S.Store tx.old tx.new IsOfDatabase (both_fit one other) (both_of one other)
+        (λ listed. (listed.0.items, listed.1.items)) result }
 {
     let first = list_rows(tx, one)?;
     let second = list_rows(tx, other)?;
@@ -55,12 +51,7 @@ fn list_both<S: Alter>(
 
 /// Lists the rows of all tables.
 fn list_tables<S: Alter>(tx: &mut Transaction<'_, S>) -> Result<Listed, StoreFault>
-    ensures same_reference { tx.new.conn.ghost_name ≡ tx.old.conn.ghost_name }
-    ensures step { Lists (state S.Store tx.old.conn.now) (state S.Store tx.new.conn.now) is_two
-        (λ l t. t) tables_in result }
-    ensures fault { IfErr result IsOfDatabase }
-    ensures survives { Survives (state S.Store tx.old.conn.now) (state S.Store tx.new.conn.now)
-        (λ _. ⊥) }
+    ensures { Lists S.Store tx.old tx.new IsOfDatabase is_two (λ l t. t) tables_in result }
 {
     let meta = list_rows(tx, TableName::Meta)?;
     let network = list_both(tx, TableName::Section, TableName::NetworkPoint)?;

@@ -1,7 +1,7 @@
 //! The points of version 1, read before the tables are moved to version 2.
 ghost use Rattle.std.specs.Prelude.{◌≡◌, ◌⊎◌, IfErr, IsErrAnd, IsTrue, is_ok, true};
 ghost use Rattle.sqlite.specs.Held.{state};
-ghost use Rattle.sqlite.specs.State.{HasCleanDisk, Survives};
+ghost use Rattle.sqlite.specs.State.{HasCleanDisk};
 ghost use Rattle.clr_tables.specs.Tables.{Tables};
 ghost use Rattle.clr_load.specs.Contract.{RefusesPoints, old_points};
 ghost use Rattle.clr_load.specs.Fault.{IsOfDatabase, IsOfPoints};
@@ -20,10 +20,8 @@ use sqlite::{Alter, Transaction};
 /// `BadRow` of `point` where a row reads no value of its type, `Sql` where the database refuses or
 /// fails, `NoMemory` where memory runs out.
 pub fn check_old_points<S: Alter>(tx: &mut Transaction<'_, S>) -> Result<(), StoreFault>
-    ensures same_reference { tx.new.conn.ghost_name ≡ tx.old.conn.ghost_name }
-    ensures step { Lists (state S.Store tx.old.conn.now) (state S.Store tx.new.conn.now) is_one
-        (λ l t. is_ok (old_points t)) (λ _. true) result }
-    ensures fault { IfErr result IsOfPoints }
+    ensures lists { Lists S.Store tx.old tx.new IsOfPoints is_one (λ l t. is_ok (old_points t))
+        (λ _. true) result }
     ensures was_open { HasCleanDisk (state S.Store tx.new.conn.now)
         → IsTrue (state S.Store tx.old.conn.now).in_transaction
         → IsTrue (state S.Store tx.old.conn.now).is_open ⊎ IsErrAnd result IsOfDatabase }
@@ -31,8 +29,6 @@ pub fn check_old_points<S: Alter>(tx: &mut Transaction<'_, S>) -> Result<(), Sto
         → IsTrue (state S.Store tx.old.conn.now).in_transaction → (t : Tables)
         → HasOldTables (state S.Store tx.old.conn.now).now t
         → IfErr result (RefusesPoints (old_points t)) }
-    ensures survives { Survives (state S.Store tx.old.conn.now) (state S.Store tx.new.conn.now)
-        (λ _. ⊥) }
 {
     let rows = list_rows(tx, TableName::Point)?;
     let alloc = *rows.allocator();

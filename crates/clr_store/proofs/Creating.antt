@@ -14,7 +14,10 @@ use Rattle.sqlite.specs.Command.TheVariants.{CreateTable}
 use Rattle.sqlite.specs.Does.{Tally, lacks_sequence}
 use Rattle.sqlite.specs.Effect.{Database, IsDatabase}
 use Rattle.sqlite.specs.Order.{Row, row_cmp, value_cmp}
+use Rattle.sqlite.specs.Held.{state}
 use Rattle.sqlite.specs.State.{State, Writes, KeepsCommit, ExecutesInside}
+use Rattle.sqlite.specs.Store.{Ghosts}
+use Rattle.sqlite.specs.declared.transaction.Transaction.{Transaction}
 use Rattle.sqlite.specs.Tree.{Trees}
 use Rattle.sqlite.specs.declared.types.Value.TheVariants.{Text}
 use Rattle.sqlite.proofs.Callers.{runs_as}
@@ -37,16 +40,18 @@ use Rattle.std.proofs.lemmas.Cmp.{nat_list_cmp_total}
 use Rattle.clr_tables.specs.Tables.{Tables, jumper_row, section_row, staff_row, state_at, tables_of}
 use Rattle.clr_tables.specs.declared.table_name.TableName.{TableName}
 use Rattle.clr_tables.specs.declared.table_name.TableName.TheVariants.{Meta, Section, Point, Staff, Clearance, Step, Hold, NetworkPoint}
-use Rattle.clr_store.specs.Change.{Changes, HasEmpty, Makes, added, filled, opening_points, tables_with, with_rows}
+use Rattle.clr_store.specs.Change.{Changes, Does, HasEmpty, Makes, Reaches, added, filled, opening_points, tables_with, with_rows}
 use Rattle.clr_load.specs.Layout.{AsMade, AsMoved, Layout, OfOne, has_table, is_two, names_before, names_in, place_in, tree_in}
 use Rattle.clr_load.specs.Schema.{columns_in, no_schema, schema_of, table_at, table_in}
 use Rattle.clr_load.specs.Sql.{create_sql}
 use Rattle.clr_load.specs.Stored.{HasEachRow, HasRows, HasTables, Holds, IsInOrder, rows_in}
 use Rattle.clr_load.specs.declared.fault.StoreFault.{StoreFault}
+use Rattle.clr_load.specs.Fault.{IsOfDatabase}
+use Rattle.clr_load.proofs.Inside.{runs_none, runs_on, then_runs}
 use Rattle.clr_store.proofs.Effects.{went}
 use Rattle.clr_load.proofs.AllRead.{same_value}
 use Rattle.clr_load.proofs.Loading.{then_kept}
-use Rattle.clr_store.proofs.Inside.{in_any_order}
+use Rattle.clr_store.proofs.Inside.{in_any_order, then_changes}
 use Rattle.clr_load.proofs.Texts.{create_is, create_text, created_is, defines}
 use Rattle.clr_store.proofs.Layouts.{all_at, named_at, nothing, rows_with, twice, two_rows}
 
@@ -152,6 +157,12 @@ pub then_ends : {X : Type 0} (a b c : State) (F G H : Database → Type 0) (r : 
 then_ends a b c F G H (Ok x) p q = then_makes a b c F G H p q
 then_ends a b c F G H (Err e) p q = then_kept a b c p.kept q
 
+pub then_reaches : {S X Y : Type 0} (g : Ghosts S) (a b c : Transaction S) (F G H : Database → Type 0) (x : X) (r : Result Y StoreFault)
+    → Reaches g a b F G (Ok x) → Reaches g b c G H r → Reaches g a c F H r
+then_reaches g a b c F G H x r first second =
+    then_runs g a b c IsOfDatabase IsOfDatabase IsOfDatabase _ _ _ _ _ _ x r first second (λ made. made.inside)
+    (λ early made next. then_ends (state g a.conn.now) (state g b.conn.now) (state g c.conn.now) F G H r made next) (λ fault. fault)
+
 -- ---- rows put in front
 pub added_more : (news rows : List Row) (k : ℕ) (row : Row) → k < length news → row ≡ get_or news k row → added (take (k + 1) news) rows ≡ row ∷ added (take k news) rows
 added_more news rows k row within is = fold_more (λ had row. row ∷ had) rows news k row within ∙ ap (λ r. r ∷ added (take k news) rows) (sym is)
@@ -177,10 +188,29 @@ one_more_of old new name row items k item here within is both =
     let long : k < length (map row items) = omega (arith, length-map items row) in
     one_more_row old new name (map row items) k (row item) here long (ap row is ∙ sym (get_or-map row items k item (row item) within)) both
 
+-- the same of calls, of which the last added the row of the item
+pub adds_more : {S A X : Type 0} (g : Ghosts S) (a b c : Transaction S) (name : TableName) (row : A → Row) (items : List A) (k : ℕ) (item : A) (x : X) → has_table AsMade name ≡ true
+    → k < length items → item ≡ get_or items k item → Does {X = Unit {0}} g a b (with_rows name (added (take k (map row items)))) (Ok tt)
+    → Does g b c (with_rows name (λ rows. row item ∷ rows)) (Ok x) → Does {X = Unit {0}} g a c (with_rows name (added (take (k + 1) (map row items)))) (Ok tt)
+adds_more g a b c name row items k item x here within is first second =
+    runs_on g a b c IsOfDatabase IsOfDatabase IsOfDatabase _ _ _ _ _ _ tt x tt first second (λ done. done.inside)
+    (λ early done next.
+    one_more_of (state g a.conn.now) (state g c.conn.now) name row items k item here within is
+    (then_changes (state g a.conn.now) (state g b.conn.now) (state g c.conn.now) _ _ done next))
+
 pub all_taken : {A : Type 0} (old new : State) (name : TableName) (row : A → Row) (items : List A) (k : ℕ) → length items ≤ k
     → Changes old new (with_rows name (added (take k (map row items)))) → Changes old new (with_rows name (added (map row items)))
 all_taken old new name row items k whole changes =
     subst (λ l. Changes old new (with_rows name (added l))) (take_all k (map row items) (omega (arith, length-map items row))) changes
+
+pub adds_all : {S A : Type 0} (g : Ghosts S) (a b : Transaction S) (name : TableName) (row : A → Row) (items : List A) (k : ℕ) → length items ≤ k
+    → Does {X = Unit {0}} g a b (with_rows name (added (take k (map row items)))) (Ok tt) → Does {X = Unit {0}} g a b (with_rows name (added (map row items))) (Ok tt)
+adds_all g a b name row items k whole it = record {
+  same_reference = it.same_reference;
+  step = λ clean inside. all_taken (state g a.conn.now) (state g b.conn.now) name row items k whole (it.step clean inside);
+  fault = tt;
+  survives = it.survives;
+}
 
 pub no_rows : (s : State) (name : TableName) → IsTrue s.in_transaction → Changes s s (with_rows name (added []))
 no_rows s name inside = record {
@@ -188,6 +218,9 @@ no_rows s name inside = record {
   kept = record { was_open = λ is_open. is_open; committed = λ _. refl };
   tables = λ l two t has. subst (Holds l s.now) (sym (nothing name t)) has;
 }
+
+pub adds_none : {S : Type 0} (g : Ghosts S) (tx : Transaction S) (name : TableName) → Does {X = Unit {0}} g tx tx (with_rows name (added [])) (Ok tt)
+adds_none g tx name = runs_none g tx IsOfDatabase _ _ tt (λ inside. no_rows (state g tx.conn.now) name inside)
 
 -- ---- the opening register
 abbrev pub no_tables : Tables

@@ -1,9 +1,6 @@
 -- What parameters are, as values.
-use Rattle.std.proofs.Common.{◌≡◌, Bool, true, false, ℕ, List, Option, Some, None, take, refl, sym, ap, ◌∙◌}
-use Rattle.std.proofs.lemmas.List.{take-map}
-use Rattle.sqlite.specs.Values.{bound, bound_value}
-use Rattle.sqlite_value.specs.Value.{owned}
-use Rattle.sqlite_value.specs.declared.value.ValueRef.{ValueRef}
+use Rattle.std.proofs.Common.{◌≡◌, Bool, true, false, ℕ, List, Option, Some, None, refl}
+use Rattle.sqlite.specs.Values.{bound_value}
 use Rattle.clr_net.specs.declared.point.Position.{Position}
 use Rattle.clr_net.specs.declared.point.Position.TheVariants.{Opened, Closed}
 use Rattle.sqlite.specs.Kind.TheVariants.{Integer}
@@ -30,7 +27,3 @@ flag_fits false = refl
 pub bound_name : (name : Option (List ℕ)) → bound_value (name_or_null name) ≡ name_or_null name
 bound_name None = refl
 bound_name (Some name) = refl
-
--- the first of the parameters
-pub bound_first : (given : List ValueRef) (k n : ℕ) → k ≡ n → bound (take k given) ≡ take n (bound given)
-bound_first given k n is = ap (λ m. bound (take m given)) is ∙ sym (take-map (λ v. bound_value (owned v)) n given)

@@ -1,5 +1,5 @@
 -- What INSERT and DELETE make of the tables, inside a transaction.
-use Rattle.std.proofs.Common.{◌≡◌, ℕ, zero, suc, List, [], ◌∷◌, map, drop, take, length, Bool, true, false, cond, not, if◌then◌else◌, Ok, Err, Result, refl, sym, ap, subst, ◌∙◌, ◌++◌, ◌+◌, ◌<◌, ◌&&◌, IsTrue, inl, get_or, arith}
+use Rattle.std.proofs.Common.{◌≡◌, ℕ, zero, suc, List, [], ◌∷◌, map, drop, take, length, Bool, true, false, cond, not, if◌then◌else◌, Ok, Err, Result, refl, sym, ap, subst, ◌∙◌, ◌++◌, ◌+◌, ◌<◌, ◌&&◌, IsTrue, inl, inr, get_or, arith}
 use Rattle.std.specs.Prelude.{filter, slice_set, MatchResult}
 use Rattle.std.specs.List.{list_all}
 use Rattle.std.specs.List.Sorted.{IsPermutation}
@@ -16,6 +16,8 @@ use Rattle.sqlite.specs.State.{State, ExecutesInside, HasCleanDisk, KeepsCommit,
 use Rattle.sqlite.specs.Effect.{Database}
 use Rattle.sqlite.specs.Held.{Held, state}
 use Rattle.sqlite.specs.Store.{Ghosts}
+use Rattle.sqlite.specs.declared.error.Error.{Error}
+use Rattle.sqlite.specs.declared.transaction.Transaction.{Transaction}
 use Rattle.sqlite.proofs.Callers.{survives_begin}
 use Rattle.sqlite.proofs.StateLemmas.{survives_then}
 use Rattle.sqlite.specs.Term.{col, holds, op2}
@@ -39,7 +41,10 @@ use Rattle.clr_tables.specs.Tables.{Tables, clearance_row, hand_values, hold_row
 use Rattle.clr_tables.specs.declared.table_name.TableName.{TableName}
 use Rattle.clr_tables.specs.declared.table_name.TableName.TheVariants.{Section, Clearance, Step, Hold, NetworkPoint}
 use Rattle.clr_store.specs.Contract.{AreEdited}
-use Rattle.clr_store.specs.Change.{Changes, with_rows}
+use Rattle.clr_store.specs.Change.{Changes, Does, Replaces, after_replace, with_rows}
+use Rattle.clr_load.specs.Cause.{fault_of}
+use Rattle.clr_load.specs.Fault.{IsOfDatabase}
+use Rattle.clr_load.specs.Inside.{RunsInside}
 use Rattle.clr_load.specs.Layout.{AsMade, Layout, has_table, is_two, tree_in}
 use Rattle.clr_load.specs.Schema.{columns_in, keys_in}
 use Rattle.clr_load.specs.Sql.{insert_sql, delete_sql}
@@ -47,7 +52,9 @@ use Rattle.clr_load.specs.declared.fault.StoreFault.{StoreFault}
 use Rattle.clr_load.specs.Stored.{HasEachRow, HasRows, HasTables, Holds, IsInOrder, bodies, fits_columns, rows_in}
 use Rattle.clr_load.proofs.Columns.{sets_from, tests_are}
 use Rattle.clr_load.proofs.Texts.{tests_from}
-use Rattle.clr_load.proofs.Loading.{then_kept}
+use Rattle.clr_load.proofs.Causes.{told_of_database}
+use Rattle.clr_load.proofs.Inside.{then_runs}
+use Rattle.clr_load.proofs.Loading.{then_kept, unchanged_keeps, undone_keeps}
 use Rattle.clr_load.proofs.Reopened.{left_of}
 use Rattle.clr_store.proofs.RowLemmas.{put_fresh, shaped-filter}
 use Rattle.clr_store.proofs.Effects.{Wrote, deletes, inserts, is_met_in}
@@ -182,6 +189,42 @@ puts a b c name row (Ok x) here p q = record {
 }
 puts a b c name row (Err e) here p q = then_kept a b c p.kept q
 
+-- ---- calls in turn
+pub then_does : {S X Y : Type 0} (g : Ghosts S) (a b c : Transaction S) (f h : Tables → Tables) (x : X) (r : Result Y StoreFault)
+    → Does g a b f (Ok x) → Does g b c h r → Does g a c (λ t. h (f t)) r
+then_does g a b c f h x r first second =
+    then_runs g a b c IsOfDatabase IsOfDatabase IsOfDatabase _ _ _ _ _ _ x r first second (λ done. done.inside)
+    (λ early done next. then_step (state g a.conn.now) (state g b.conn.now) (state g c.conn.now) f h r done next) (λ fault. fault)
+
+-- no row of the key was there, and then the row is inserted
+pub then_puts : {S X : Type 0} (g : Ghosts S) (a b c : Transaction S) (name : TableName) (row : Row) (n : ℕ) (r : Result X StoreFault) → n ≡ 0 → has_table AsMade name ≡ true
+    → Replaces g a b name row (Ok n) → Does g b c (with_rows name (λ rows. row ∷ rows)) r → Does g a c (with_rows name (with_table_row (keys_in name) row)) r
+then_puts g a b c name row n r none here first second =
+    then_runs g a b c IsOfDatabase IsOfDatabase IsOfDatabase _ _ _ _ _ _ n r first second (λ done. done.inside)
+    (λ early done next.
+    let without = subst (λ (k : ℕ). Changes (state g a.conn.now) (state g b.conn.now) (with_rows name (after_replace k name row))) none done in
+    puts (state g a.conn.now) (state g b.conn.now) (state g c.conn.now) name row r here without next) (λ fault. fault)
+
+-- a statement that fails commits nothing
+statement_keeps : (sql : List ℕ) (params : Row) (old new : State) (e : Error) → ExecutesInside 0 sql params old new (Err e) → KeepsCommit old new
+statement_keeps sql params old new e (inl (ran, inl same)) = unchanged_keeps old new same
+statement_keeps sql params old new e (inl (ran, inr undone)) = undone_keeps old new undone
+statement_keeps sql params old new e (inr h) = unchanged_keeps old new h.2
+
+pub statement_fails : {S X : Type 0} (g : Ghosts S) (old new : Transaction S) (sql : List ℕ) (params : Row) (e : Error) (Done : X → Type 0) (r : Result X StoreFault)
+    → new.conn.ghost_name ≡ old.conn.ghost_name
+    → (HasCleanDisk (state g new.conn.now) → IsTrue (state g old.conn.now).in_transaction → ExecutesInside 0 sql params (state g old.conn.now) (state g new.conn.now) (Err e))
+    → Survives (state g old.conn.now) (state g new.conn.now) (λ _. ⊥) → r ≡ Err (fault_of e)
+    → RunsInside g old new IsOfDatabase Done (λ _. KeepsCommit (state g old.conn.now) (state g new.conn.now)) r
+statement_fails g old new sql params e Done r same ran survives told =
+    subst (λ (r : Result _ StoreFault). RunsInside g old new IsOfDatabase Done (λ _. KeepsCommit (state g old.conn.now) (state g new.conn.now)) r) (sym told)
+    (record {
+      same_reference = same;
+      step = λ clean inside. statement_keeps sql params (state g old.conn.now) (state g new.conn.now) e (ran clean inside);
+      fault = told_of_database e (fault_of e) refl;
+      survives = survives;
+    })
+
 tables_more : (xs : List Edit) (e : Edit) (t : Tables) → tables_edited (xs ++ e ∷ []) t ≡ table_edited e (tables_edited xs t)
 unfolding tables_edited
 tables_more [] e t = refl
@@ -201,9 +244,6 @@ one_more old new es k e within is both = record {
 pub no_edits : (s : State) → IsTrue s.in_transaction → Changes s s (tables_edited [])
 unfolding tables_edited
 no_edits s inside = record { inside = inside; kept = record { was_open = λ open_now. open_now; committed = λ _. refl }; tables = λ l two t has. has }
-
-pub survives_still : (s : State) → Survives s s (λ _. ⊥)
-survives_still s = record { clean = omega arith; shield = λ shielded. shielded; counts = omega arith; limit = refl; closes = λ _ is_open. inl is_open; crash = λ _ db left. inl left }
 
 -- ---- the order of keys
 order_changed : (l : Layout) → is_two l ≡ true → (name : TableName) (change : List Row → List Row) (t : Tables) → has_table AsMade name ≡ true → IsInOrder l t

@@ -1,6 +1,6 @@
 -- What the statements of a move make of the tables: version 1 becomes version 2.
 use Rattle.std.proofs.Common.{◌≡◌, ◌∙◌, ◌⊎◌, inl, inr, pos, IsTrue, arith, ℕ, List, [], ◌∷◌, ◌++◌, map, drop, take, Bool, true, false, not, ◌&&◌, if◌then◌else◌, None, Ok, Err, Result, refl, sym, ap, subst, append-nil}
-use Rattle.std.specs.Prelude.{MatchResult, OnOk, codes, filter, is_ok}
+use Rattle.std.specs.Prelude.{IfErr, MatchResult, OnOk, codes, filter, is_ok}
 use Rattle.std.specs.List.{list_all}
 use Rattle.std.specs.List.Sorted.{IsPermutation}
 use Rattle.std.specs.Ordering.{is_lt}
@@ -25,6 +25,7 @@ use Rattle.sqlite.specs.State.{State, mode_of, ExecutesInside, HasCleanDisk, Kee
 use Rattle.sqlite.specs.Store.{Ghosts}
 use Rattle.sqlite.specs.Term.{eval_all}
 use Rattle.sqlite.specs.Tree.{Trees, put_row, rowid}
+use Rattle.sqlite.specs.declared.transaction.Transaction.{Transaction}
 use Rattle.sqlite.specs.declared.types.Value.TheVariants.{Int, Null}
 use Rattle.sqlite.proofs.Callers.{runs_as, statement_of}
 use Rattle.sqlite.proofs.StateLemmas.{survives_then}
@@ -42,10 +43,10 @@ use Rattle.clr_tables.specs.Tables.{Tables, flag_value, version_row}
 use Rattle.clr_tables.specs.declared.table_name.TableName.{TableName}
 use Rattle.clr_tables.specs.declared.table_name.TableName.TheVariants.{Meta, Section, Point, Staff, Clearance, Step, Hold, NetworkPoint}
 use Rattle.clr_store.specs.Change.{Changes, Makes, is_same, with_rows}
-use Rattle.clr_store.specs.Moving.{AreMoved, IsMoving, LeavesMoved, MovesTables, moved_points, rows_moving}
+use Rattle.clr_store.specs.Moving.{AreMoved, IsMoving, LeavesMoved, Moves, MovesTables, moved_points, rows_moving}
 use Rattle.clr_load.specs.Cause.{SqlHasCause}
 use Rattle.clr_load.specs.Contract.{old_points}
-use Rattle.clr_load.specs.Found.{Finds}
+use Rattle.clr_load.specs.Found.{Finds, Lists}
 use Rattle.clr_load.specs.Layout.{AsMoved, Layout, OfOne, has_table, is_one, place_in, tree_in}
 use Rattle.clr_load.specs.Schema.{columns_in, needed, schema_in, table_at, table_in}
 use Rattle.clr_load.specs.Sql.{copy_sql, create_sql, empty_sql}
@@ -56,7 +57,9 @@ use Rattle.clr_load.proofs.Causes.{has_cause, then_cause}
 use Rattle.clr_load.proofs.Columns.{both_true, cast_fits, fits_length, values_all, values_from}
 use Rattle.clr_load.proofs.Reopened.{left_of}
 use Rattle.clr_load.proofs.Texts.{copied, copy_is, copying, create_is, create_text, created_is, defines, empty_is}
-use Rattle.clr_store.proofs.Creating.{empty_rows, lacks, next_is, then_ends, then_makes}
+use Rattle.clr_load.proofs.Inside.{fails_on, then_runs}
+use Rattle.clr_load.proofs.Loading.{then_kept}
+use Rattle.clr_store.proofs.Creating.{empty_rows, lacks, next_is, no_tables, then_makes}
 use Rattle.clr_store.proofs.Effects.{Wrote, deleted, is_met, one_write, shown_rows, task_on, went, wrote}
 use Rattle.clr_store.proofs.Inside.{crash_leaves, list_all-permutation}
 use Rattle.clr_store.proofs.Layouts.{all_at, apart, at_place}
@@ -355,12 +358,33 @@ pub on_ok : {X : Type 0} (r : Result X StoreFault) (P : Type 0) → P → OnOk r
 on_ok (Ok x) P holds = holds
 on_ok (Err fault) P holds = tt
 
-pub moves_points : {X : Type 0} (old a b c new : State) (t : Tables) (r : Result X StoreFault) → Finds old a is_one (λ l t. is_ok (old_points t)) true
-    → Makes a b (λ db. Holds OfOne db t) (IsMoving t.points [] t) → Makes b c (IsMoving t.points [] t) (IsMoving t.points (moved_points t.points) t)
-    → MatchResult r (λ _. Makes c new (IsMoving t.points (moved_points t.points) t) (IsMoving [] (moved_points t.points) t)) (λ _. KeepsCommit c new)
-    → MatchResult r (λ _. Makes old new (λ db. HasOldTables db t) (IsMoving [] (moved_points t.points) t)) (λ _. KeepsCommit old new)
-moves_points old a b c new t r found one two three =
-    then_ends old c new _ _ _ r (then_makes old b c _ _ _ (then_makes old a b _ _ _ (points_read old a t found) one) two) three
+both_make : {X : Type 0} (a b c : State) (From Mid To : Tables → Database → Type 0) (r : Result X StoreFault) → ((t : Tables) → Makes a b (From t) (Mid t))
+    → MatchResult r (λ _. (t : Tables) → Makes b c (Mid t) (To t)) (λ _. KeepsCommit b c) → MatchResult r (λ _. (t : Tables) → Makes a c (From t) (To t)) (λ _. KeepsCommit a c)
+both_make a b c From Mid To (Ok x) first second = λ t. then_makes a b c (From t) (Mid t) (To t) (first t) (second t)
+both_make a b c From Mid To (Err e) first kept = then_kept a b c (first no_tables).kept kept
+
+pub reads_move : {S X : Type 0} (g : Ghosts S) (a b : Transaction S) (F G : StoreFault → Type 0) (told : X → Bool) (x : X) → told x ≡ true
+    → Lists g a b F is_one (λ l t. is_ok (old_points t)) told (Ok x) → Moves {X = Unit {0}} g a b G (λ t db. HasOldTables db t) (λ t db. Holds OfOne db t) (Ok tt)
+reads_move g a b F G told x said it = record {
+  same_reference = it.same_reference;
+  step = λ clean inside t.
+      points_read (state g a.conn.now) (state g b.conn.now) t
+      (subst (λ found. Finds (state g a.conn.now) (state g b.conn.now) is_one (λ l t. is_ok (old_points t)) found) said (it.step clean inside));
+  fault = tt;
+  survives = it.survives;
+}
+
+pub then_moves : {S X Y : Type 0} (g : Ghosts S) (a b c : Transaction S) (F G H : StoreFault → Type 0) (From Mid To : Tables → Database → Type 0) (x : X) (r : Result Y StoreFault)
+    → Moves g a b F From Mid (Ok x) → Moves g b c G Mid To r → (IfErr r G → IfErr r H) → Moves g a c H From To r
+then_moves g a b c F G H From Mid To x r first second wider =
+    then_runs g a b c F G H _ _ _ _ _ _ x r first second (λ done. (done no_tables).inside)
+    (λ early done next. both_make (state g a.conn.now) (state g b.conn.now) (state g c.conn.now) From Mid To r done next) wider
+
+pub then_stops : {S X Y : Type 0} (g : Ghosts S) (a b c : Transaction S) (F G H : StoreFault → Type 0) (From Mid To All : Tables → Database → Type 0) (x : X) (e : StoreFault)
+    → Moves g a b F From Mid (Ok x) → Moves {X = Y} g b c G Mid To (Err e) → (G e → H e) → Moves {X = Y} g a c H From All (Err e)
+then_stops g a b c F G H From Mid To All x e first second wider =
+    fails_on g a b c F G H _ _ _ _ _ _ x e first second (λ done. (done no_tables).inside)
+    (λ early done kept. then_kept (state g a.conn.now) (state g b.conn.now) (state g c.conn.now) (done no_tables).kept kept) wider
 
 -- with the version told anew they are the tables of version 2
 pub told_anew : (before : Database) (old new : State) (t : Tables) → HasOldTables before t → IsMoving [] (moved_points t.points) t old.now
@@ -391,17 +415,6 @@ surely_open (inl is) = is
 surely_open (inr none) = absurd none
 
 -- ---- a version that was read, and what comes then
--- where nothing more is done nothing more is left
-pub leaves_none : (old new : State) (P : Trees → Type 0) → Survives old new (λ _. ⊥) → Survives old new P
-leaves_none old new P s = record {
-  clean = s.clean;
-  shield = s.shield;
-  counts = s.counts;
-  limit = s.limit;
-  closes = s.closes;
-  crash = λ clean db may. elim (s.crash clean db may) [ inl before ↦ inl before | inr none ↦ absurd none ];
-}
-
 -- `Sql` that the later of two calls tells, of a connection that the first left open, has a cause in
 -- both
 pub opened_cause : {One Two : Trees → Type 0} (s t u : State) (fault : StoreFault) → Survives s t One → Survives t u Two → HasCleanDisk u

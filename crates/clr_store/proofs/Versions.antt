@@ -45,13 +45,6 @@ move_of_version NoMemory is = tt
 move_of_version (BadRow table) is = subst (λ t. IsOfMove (BadRow t)) (sym is) tt
 move_of_version (WrongVersion n) is = absurd is
 
--- by the points
-pub move_stopped : (read : Result ℤ TableName) (fault : StoreFault) → IsOfPoints fault → read ≡ Ok (pos 1) → RefusesToMove read fault
-move_stopped read Sql is one = tt
-move_stopped read NoMemory is one = tt
-move_stopped read (BadRow table) is one = subst (λ t. RefusesToMove read (BadRow t)) (sym is) one
-move_stopped read (WrongVersion n) is one = absurd is
-
 pub old_stopped : (t : Tables) (fault : StoreFault) → IsOfPoints fault → read_version t.meta ≡ Ok (pos 1) → RefusesPoints (old_points t) fault → RefusesMove t fault
 old_stopped t Sql is one h = tt
 old_stopped t NoMemory is one h = tt

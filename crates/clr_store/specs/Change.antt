@@ -1,12 +1,15 @@
 -- What statements make of the tables, inside a transaction.
-use Rattle.std.specs.Prelude.{◌≡◌, ℕ, zero, suc, IsTrue, Bool, true, Result, MatchResult}
+use Rattle.std.specs.Prelude.{◌≡◌, ℕ, zero, suc, IsTrue, Bool, true, Result}
 use Rattle.std.specs.Prelude.{if◌then◌else◌, ◌==◌, List, [], take}
 use Rattle.std.specs.Prelude.{◌∷◌}
 use Rattle.std.specs.Prelude.{fold, map}
 use Rattle.std.specs.List.{AllByRecursion}
 use Rattle.sqlite.specs.Effect.{Database, IsDatabase}
 use Rattle.sqlite.specs.Order.{Row}
-use Rattle.sqlite.specs.State.{State, HasCleanDisk, KeepsCommit}
+use Rattle.sqlite.specs.Held.{state}
+use Rattle.sqlite.specs.State.{State, KeepsCommit}
+use Rattle.sqlite.specs.Store.{Ghosts}
+use Rattle.sqlite.specs.declared.transaction.Transaction.{Transaction}
 use Rattle.clr_net.specs.declared.section.SectionRow.{SectionRow}
 use Rattle.clr_net.specs.declared.point.PointRow.{PointRow}
 use Rattle.clr_staff.specs.declared.employee.StaffRow.{StaffRow}
@@ -17,6 +20,8 @@ use Rattle.clr_tables.specs.declared.table_name.TableName.{TableName}
 use Rattle.clr_tables.specs.declared.table_name.TableName.TheVariants.{Meta, Section, Staff}
 use Rattle.clr_tables.specs.declared.table_name.TableName.TheVariants.{Clearance, Step, Hold}
 use Rattle.clr_tables.specs.declared.table_name.TableName.TheVariants.{NetworkPoint}
+use Rattle.clr_load.specs.Fault.{IsOfDatabase}
+use Rattle.clr_load.specs.Inside.{RunsInside}
 use Rattle.clr_load.specs.Layout.{AsMade, AsMoved, Layout, is_two, place_in, tree_in}
 use Rattle.clr_load.specs.Schema.{keys_in, schema_of}
 use Rattle.clr_load.specs.Stored.{Holds, rows_in}
@@ -56,10 +61,13 @@ pub record Changes (old new : State) (change : Tables → Tables) : Type 0 where
   pub tables : (l : Layout) → is_two l ≡ true → (t : Tables) → Holds l old.now t
       → Holds l new.now (change t)
 
--- a call inside a transaction makes the change, or fails; it commits nothing
-abbrev pub Steps : {X : Type 0} → State → State → (Tables → Tables) → Result X StoreFault → Type 0
-Steps old new change result = HasCleanDisk new → IsTrue old.in_transaction
-    → MatchResult result (λ _. Changes old new change) (λ _. KeepsCommit old new)
+-- A CALL INSIDE A TRANSACTION DOES THIS CHANGE, or fails; it commits nothing
+abbrev pub Does : {S X : Type 0} → Ghosts S → Transaction S → Transaction S → (Tables → Tables)
+    → Result X StoreFault → Type 0
+Does g old new change result =
+    RunsInside g old new IsOfDatabase
+    (λ _. Changes (state g old.conn.now) (state g new.conn.now) change)
+    (λ _. KeepsCommit (state g old.conn.now) (state g new.conn.now)) result
 
 -- what the database has goes from one thing to another inside the transaction, its catalogue lists
 -- what there is, and nothing is committed
@@ -69,10 +77,13 @@ pub record Makes (old new : State) (From To : Database → Type 0) : Type 0 wher
   pub makes : From old.now → To new.now
   pub sound : From old.now → IsDatabase new.now
 
-abbrev pub StepsTo : {X : Type 0} → State → State → (Database → Type 0) → (Database → Type 0)
-    → Result X StoreFault → Type 0
-StepsTo old new From To result = HasCleanDisk new → IsTrue old.in_transaction
-    → MatchResult result (λ _. Makes old new From To) (λ _. KeepsCommit old new)
+-- a call inside a transaction takes what the database has from one thing to another, or fails
+abbrev pub Reaches : {S X : Type 0} → Ghosts S → Transaction S → Transaction S
+    → (Database → Type 0) → (Database → Type 0) → Result X StoreFault → Type 0
+Reaches g old new From To result =
+    RunsInside g old new IsOfDatabase
+    (λ _. Makes (state g old.conn.now) (state g new.conn.now) From To)
+    (λ _. KeepsCommit (state g old.conn.now) (state g new.conn.now)) result
 
 -- the database has these tables of a layout alone, and they are empty
 pub record HasEmpty (l : Layout) (names : List TableName) (db : Database) : Type 0 where
@@ -103,7 +114,10 @@ after_replace zero name row rows =
 after_replace (suc n) name row rows = with_table_row (keys_in name) row rows
 
 -- a call inside a transaction replaces the row of a key and says how many there were, or fails
-abbrev pub Replaces : State → State → TableName → Row → Result ℕ StoreFault → Type 0
-Replaces old new name row result = HasCleanDisk new → IsTrue old.in_transaction
-    → MatchResult result (λ n. Changes old new (with_rows name (after_replace n name row)))
-    (λ _. KeepsCommit old new)
+abbrev pub Replaces : {S : Type 0} → Ghosts S → Transaction S → Transaction S → TableName → Row
+    → Result ℕ StoreFault → Type 0
+Replaces g old new name row result =
+    RunsInside g old new IsOfDatabase
+    (λ n. Changes (state g old.conn.now) (state g new.conn.now)
+    (with_rows name (after_replace n name row)))
+    (λ _. KeepsCommit (state g old.conn.now) (state g new.conn.now)) result

@@ -2,8 +2,12 @@
 use Rattle.std.specs.Prelude.{false, ℤ, pos, ◌≡◌, ◌≢◌, ⊤, List, [], ◌∷◌, ◌++◌, map, Result, Ok, Err}
 use Rattle.std.specs.Prelude.{IsTrue, is_ok}
 use Rattle.sqlite.specs.Effect.{Database}
+use Rattle.sqlite.specs.Held.{state}
 use Rattle.sqlite.specs.Order.{Row}
+use Rattle.sqlite.specs.State.{KeepsCommit}
+use Rattle.sqlite.specs.Store.{Ghosts}
 use Rattle.sqlite.specs.Tree.{Trees}
+use Rattle.sqlite.specs.declared.transaction.Transaction.{Transaction}
 use Rattle.clr_tables.specs.RowsRead.{read_version}
 use Rattle.clr_tables.specs.TableEdits.{tables_moved}
 use Rattle.clr_tables.specs.Tables.{Tables, flag_value}
@@ -11,7 +15,9 @@ use Rattle.clr_tables.specs.declared.table_name.TableName.{TableName}
 use Rattle.clr_tables.specs.declared.table_name.TableName.TheVariants.{Meta, Section, Point, Staff}
 use Rattle.clr_tables.specs.declared.table_name.TableName.TheVariants.{Clearance, Step, Hold}
 use Rattle.clr_tables.specs.declared.table_name.TableName.TheVariants.{NetworkPoint}
+use Rattle.clr_store.specs.Change.{Makes}
 use Rattle.clr_load.specs.Contract.{old_points}
+use Rattle.clr_load.specs.Inside.{RunsInside}
 use Rattle.clr_load.specs.Layout.{AsMoved}
 use Rattle.clr_load.specs.Stored.{AreTables, HasMeta, HasOldTables, HasTables, Keeps}
 use Rattle.clr_load.specs.declared.fault.StoreFault.{StoreFault}
@@ -35,6 +41,15 @@ rows_moving olds news t NetworkPoint = news
 
 abbrev pub IsMoving : List Row → List Row → Tables → Database → Type 0
 IsMoving olds news t db = Keeps AsMoved db (rows_moving olds news t)
+
+-- a call inside a transaction takes whatever tables there are from one thing to another, or fails
+abbrev pub Moves : {S X : Type 0} → Ghosts S → Transaction S → Transaction S
+    → (StoreFault → Type 0) → (Tables → Database → Type 0) → (Tables → Database → Type 0)
+    → Result X StoreFault → Type 0
+Moves g old new IsFault From To result =
+    RunsInside g old new IsFault
+    (λ _. (t : Tables) → Makes (state g old.conn.now) (state g new.conn.now) (From t) (To t))
+    (λ _. KeepsCommit (state g old.conn.now) (state g new.conn.now)) result
 
 -- whatever tables of version 1 there were, each of their points reads, and they are now moved
 abbrev pub MovesTables : Database → Database → Type 0

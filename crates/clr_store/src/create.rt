@@ -5,7 +5,7 @@ ghost use Rattle.sqlite.specs.State.{HasCleanDisk, Survives};
 ghost use Rattle.clr_rules.specs.Register.{first_state, opening};
 ghost use Rattle.clr_tables.specs.Tables.{jumper_row, section_row, staff_row, tables_of};
 ghost use Rattle.clr_tables.specs.Tables.{version_row};
-ghost use Rattle.clr_store.specs.Change.{HasEmpty, Steps, StepsTo, added, opening_points, filled};
+ghost use Rattle.clr_store.specs.Change.{Does, HasEmpty, Reaches, added, opening_points, filled};
 ghost use Rattle.clr_store.specs.Change.{with_rows};
 ghost use Rattle.clr_load.specs.Fault.{IsOfDatabase};
 ghost use Rattle.clr_load.specs.Contract.{IsSaved};
@@ -25,25 +25,16 @@ use sqlite_schema::schema::Schema;
 
 fn make_table<S: Alter>(tx: &mut Transaction<'_, S>, table: TableName) -> Result<(), StoreFault>
     requires { has_table AsMade table ≡ true }
-    ensures same_reference { tx.new.conn.ghost_name ≡ tx.old.conn.ghost_name }
-    ensures step { StepsTo (state S.Store tx.old.conn.now) (state S.Store tx.new.conn.now)
-        (HasEmpty AsMade (names_before AsMade table))
+    ensures { Reaches S.Store tx.old tx.new (HasEmpty AsMade (names_before AsMade table))
         (HasEmpty AsMade (names_before AsMade table ++ table ∷ [])) result }
-    ensures fault { IfErr result IsOfDatabase }
-    ensures survives { Survives (state S.Store tx.old.conn.now) (state S.Store tx.new.conn.now)
-        (λ _. ⊥) }
 {
     tx.execute(create_sql(table), &[])?;
     Ok(())
 }
 
 fn make_first_tables<S: Alter>(tx: &mut Transaction<'_, S>) -> Result<(), StoreFault>
-    ensures same_reference { tx.new.conn.ghost_name ≡ tx.old.conn.ghost_name }
-    ensures step { StepsTo (state S.Store tx.old.conn.now) (state S.Store tx.new.conn.now)
-        (HasEmpty AsMade []) (HasEmpty AsMade (names_before AsMade TableName.Staff)) result }
-    ensures fault { IfErr result IsOfDatabase }
-    ensures survives { Survives (state S.Store tx.old.conn.now) (state S.Store tx.new.conn.now)
-        (λ _. ⊥) }
+    ensures { Reaches S.Store tx.old tx.new (HasEmpty AsMade [])
+        (HasEmpty AsMade (names_before AsMade TableName.Staff)) result }
 {
     make_table(tx, TableName::Meta)?;
     make_table(tx, TableName::Section)?;
@@ -51,13 +42,8 @@ fn make_first_tables<S: Alter>(tx: &mut Transaction<'_, S>) -> Result<(), StoreF
 }
 
 fn make_next_tables<S: Alter>(tx: &mut Transaction<'_, S>) -> Result<(), StoreFault>
-    ensures same_reference { tx.new.conn.ghost_name ≡ tx.old.conn.ghost_name }
-    ensures step { StepsTo (state S.Store tx.old.conn.now) (state S.Store tx.new.conn.now)
-        (HasEmpty AsMade (names_before AsMade TableName.Staff))
+    ensures { Reaches S.Store tx.old tx.new (HasEmpty AsMade (names_before AsMade TableName.Staff))
         (HasEmpty AsMade (names_before AsMade TableName.Hold)) result }
-    ensures fault { IfErr result IsOfDatabase }
-    ensures survives { Survives (state S.Store tx.old.conn.now) (state S.Store tx.new.conn.now)
-        (λ _. ⊥) }
 {
     make_table(tx, TableName::Staff)?;
     make_table(tx, TableName::Clearance)?;
@@ -66,12 +52,8 @@ fn make_next_tables<S: Alter>(tx: &mut Transaction<'_, S>) -> Result<(), StoreFa
 
 /// Makes the seven tables, without a row.
 fn make_tables<S: Alter>(tx: &mut Transaction<'_, S>) -> Result<(), StoreFault>
-    ensures same_reference { tx.new.conn.ghost_name ≡ tx.old.conn.ghost_name }
-    ensures step { StepsTo (state S.Store tx.old.conn.now) (state S.Store tx.new.conn.now)
-        (HasEmpty AsMade []) (HasEmpty AsMade (names_in AsMade)) result }
-    ensures fault { IfErr result IsOfDatabase }
-    ensures survives { Survives (state S.Store tx.old.conn.now) (state S.Store tx.new.conn.now)
-        (λ _. ⊥) }
+    ensures { Reaches S.Store tx.old tx.new (HasEmpty AsMade [])
+        (HasEmpty AsMade (names_in AsMade)) result }
 {
     make_first_tables(tx)?;
     make_next_tables(tx)?;
@@ -79,12 +61,8 @@ fn make_tables<S: Alter>(tx: &mut Transaction<'_, S>) -> Result<(), StoreFault>
 }
 
 fn add_version<S: Alter>(tx: &mut Transaction<'_, S>) -> Result<(), StoreFault>
-    ensures same_reference { tx.new.conn.ghost_name ≡ tx.old.conn.ghost_name }
-    ensures step { Steps (state S.Store tx.old.conn.now) (state S.Store tx.new.conn.now)
-        (with_rows TableName.Meta (λ rows. version_row 2 ∷ rows)) result }
-    ensures fault { IfErr result IsOfDatabase }
-    ensures survives { Survives (state S.Store tx.old.conn.now) (state S.Store tx.new.conn.now)
-        (λ _. ⊥) }
+    ensures { Does S.Store tx.old tx.new (with_rows TableName.Meta (λ rows. version_row 2 ∷ rows))
+        result }
 {
     let row = [text_value("version"), number_value(2)];
     insert_row(tx, TableName::Meta, &row)
@@ -94,12 +72,8 @@ fn add_section<S: Alter>(
     tx: &mut Transaction<'_, S>,
     section: &SectionRow,
 ) -> Result<(), StoreFault>
-    ensures same_reference { tx.new.conn.ghost_name ≡ tx.old.conn.ghost_name }
-    ensures step { Steps (state S.Store tx.old.conn.now) (state S.Store tx.new.conn.now)
+    ensures { Does S.Store tx.old tx.new
         (with_rows TableName.Section (λ rows. section_row section.now ∷ rows)) result }
-    ensures fault { IfErr result IsOfDatabase }
-    ensures survives { Survives (state S.Store tx.old.conn.now) (state S.Store tx.new.conn.now)
-        (λ _. ⊥) }
 {
     let row = [name_value(&section.name), flag_value(section.source)];
     insert_row(tx, TableName::Section, &row)
@@ -109,12 +83,8 @@ fn add_sections<S: Alter>(
     tx: &mut Transaction<'_, S>,
     sections: &[SectionRow],
 ) -> Result<(), StoreFault>
-    ensures same_reference { tx.new.conn.ghost_name ≡ tx.old.conn.ghost_name }
-    ensures step { Steps (state S.Store tx.old.conn.now) (state S.Store tx.new.conn.now)
+    ensures { Does S.Store tx.old tx.new
         (with_rows TableName.Section (added (map section_row sections.now))) result }
-    ensures fault { IfErr result IsOfDatabase }
-    ensures survives { Survives (state S.Store tx.old.conn.now) (state S.Store tx.new.conn.now)
-        (λ _. ⊥) }
 {
     for section in sections {
         add_section(tx, section)?;
@@ -124,25 +94,17 @@ fn add_sections<S: Alter>(
 
 /// Adds a point in the position of its row, in nobody's hand.
 fn add_point<S: Alter>(tx: &mut Transaction<'_, S>, point: &PointRow) -> Result<(), StoreFault>
-    ensures same_reference { tx.new.conn.ghost_name ≡ tx.old.conn.ghost_name }
-    ensures step { Steps (state S.Store tx.old.conn.now) (state S.Store tx.new.conn.now)
+    ensures { Does S.Store tx.old tx.new
         (with_rows TableName.NetworkPoint
         (λ rows. jumper_row point.now (first_state point.now) ∷ rows)) result }
-    ensures fault { IfErr result IsOfDatabase }
-    ensures survives { Survives (state S.Store tx.old.conn.now) (state S.Store tx.new.conn.now)
-        (λ _. ⊥) }
 {
     let row = point_values(point, point.position);
     insert_row(tx, TableName::NetworkPoint, &row)
 }
 
 fn add_points<S: Alter>(tx: &mut Transaction<'_, S>, points: &[PointRow]) -> Result<(), StoreFault>
-    ensures same_reference { tx.new.conn.ghost_name ≡ tx.old.conn.ghost_name }
-    ensures step { Steps (state S.Store tx.old.conn.now) (state S.Store tx.new.conn.now)
+    ensures { Does S.Store tx.old tx.new
         (with_rows TableName.NetworkPoint (added (opening_points points.now))) result }
-    ensures fault { IfErr result IsOfDatabase }
-    ensures survives { Survives (state S.Store tx.old.conn.now) (state S.Store tx.new.conn.now)
-        (λ _. ⊥) }
 {
     for point in points {
         add_point(tx, point)?;
@@ -154,12 +116,8 @@ fn add_employee<S: Alter>(
     tx: &mut Transaction<'_, S>,
     employee: &StaffRow,
 ) -> Result<(), StoreFault>
-    ensures same_reference { tx.new.conn.ghost_name ≡ tx.old.conn.ghost_name }
-    ensures step { Steps (state S.Store tx.old.conn.now) (state S.Store tx.new.conn.now)
+    ensures { Does S.Store tx.old tx.new
         (with_rows TableName.Staff (λ rows. staff_row employee.now ∷ rows)) result }
-    ensures fault { IfErr result IsOfDatabase }
-    ensures survives { Survives (state S.Store tx.old.conn.now) (state S.Store tx.new.conn.now)
-        (λ _. ⊥) }
 {
     let row = [
         name_value(&employee.name),
@@ -170,12 +128,8 @@ fn add_employee<S: Alter>(
 }
 
 fn add_staff<S: Alter>(tx: &mut Transaction<'_, S>, staff: &[StaffRow]) -> Result<(), StoreFault>
-    ensures same_reference { tx.new.conn.ghost_name ≡ tx.old.conn.ghost_name }
-    ensures step { Steps (state S.Store tx.old.conn.now) (state S.Store tx.new.conn.now)
+    ensures { Does S.Store tx.old tx.new
         (with_rows TableName.Staff (added (map staff_row staff.now))) result }
-    ensures fault { IfErr result IsOfDatabase }
-    ensures survives { Survives (state S.Store tx.old.conn.now) (state S.Store tx.new.conn.now)
-        (λ _. ⊥) }
 {
     for employee in staff {
         add_employee(tx, employee)?;
@@ -189,13 +143,9 @@ fn add_network<S: Alter>(
     sections: &[SectionRow],
     points: &[PointRow],
 ) -> Result<(), StoreFault>
-    ensures same_reference { tx.new.conn.ghost_name ≡ tx.old.conn.ghost_name }
-    ensures step { Steps (state S.Store tx.old.conn.now) (state S.Store tx.new.conn.now)
+    ensures { Does S.Store tx.old tx.new
         (λ t. with_rows TableName.NetworkPoint (added (opening_points points.now))
         (with_rows TableName.Section (added (map section_row sections.now)) t)) result }
-    ensures fault { IfErr result IsOfDatabase }
-    ensures survives { Survives (state S.Store tx.old.conn.now) (state S.Store tx.new.conn.now)
-        (λ _. ⊥) }
 {
     add_sections(tx, sections)?;
     add_points(tx, points)
@@ -208,12 +158,7 @@ fn fill<S: Alter>(
     points: &[PointRow],
     staff: &[StaffRow],
 ) -> Result<(), StoreFault>
-    ensures same_reference { tx.new.conn.ghost_name ≡ tx.old.conn.ghost_name }
-    ensures step { Steps (state S.Store tx.old.conn.now) (state S.Store tx.new.conn.now)
-        (filled sections.now points.now staff.now) result }
-    ensures fault { IfErr result IsOfDatabase }
-    ensures survives { Survives (state S.Store tx.old.conn.now) (state S.Store tx.new.conn.now)
-        (λ _. ⊥) }
+    ensures { Does S.Store tx.old tx.new (filled sections.now points.now staff.now) result }
 {
     add_version(tx)?;
     add_network(tx, sections, points)?;

@@ -7,7 +7,7 @@ ghost use Rattle.clr_rules.specs.declared.change.Edit.TheVariants.{SetPosition, 
 ghost use Rattle.clr_rules.specs.declared.change.Edit.TheVariants.{TakeHold, PutRecord, PutStep};
 ghost use Rattle.clr_rules.specs.declared.change.Edit.TheVariants.{AddSection, AddPoint};
 ghost use Rattle.clr_tables.specs.TableEdits.{table_edited, tables_edited, with_table_row};
-ghost use Rattle.clr_store.specs.Change.{Steps, with_rows};
+ghost use Rattle.clr_store.specs.Change.{Does, with_rows};
 ghost use Rattle.clr_load.specs.Fault.{IsOfDatabase};
 ghost use Rattle.clr_load.specs.Layout.{AsMade, has_table};
 ghost use Rattle.clr_load.specs.Schema.{columns_in, keys_in};
@@ -33,12 +33,8 @@ pub(crate) fn put_row<S: Alter>(
     requires there { has_table AsMade table ≡ true }
     requires fits { fits_columns (columns_in table) (bound row.now) ≡ true }
     requires keyed { has_key (keys_in table) (take (keys_in table) (bound row.now)) ≡ true }
-    ensures same_reference { tx.new.conn.ghost_name ≡ tx.old.conn.ghost_name }
-    ensures step { Steps (state S.Store tx.old.conn.now) (state S.Store tx.new.conn.now)
+    ensures { Does S.Store tx.old tx.new
         (with_rows table (with_table_row (keys_in table) (bound row.now))) result }
-    ensures fault { IfErr result IsOfDatabase }
-    ensures survives { Survives (state S.Store tx.old.conn.now) (state S.Store tx.new.conn.now)
-        (λ _. ⊥) }
 {
     if replace_row(tx, table, row)? == 0 {
         insert_row(tx, table, row)
@@ -48,12 +44,7 @@ pub(crate) fn put_row<S: Alter>(
 }
 
 fn put_hold<S: Alter>(tx: &mut Transaction<'_, S>, hold: &Hold) -> Result<(), StoreFault>
-    ensures same_reference { tx.new.conn.ghost_name ≡ tx.old.conn.ghost_name }
-    ensures step { Steps (state S.Store tx.old.conn.now) (state S.Store tx.new.conn.now)
-        (table_edited (PutHold hold.now)) result }
-    ensures fault { IfErr result IsOfDatabase }
-    ensures survives { Survives (state S.Store tx.old.conn.now) (state S.Store tx.new.conn.now)
-        (λ _. ⊥) }
+    ensures { Does S.Store tx.old tx.new (table_edited (PutHold hold.now)) result }
 {
     let requester = hold.id.requester();
     let row = [
@@ -66,12 +57,7 @@ fn put_hold<S: Alter>(tx: &mut Transaction<'_, S>, hold: &Hold) -> Result<(), St
 }
 
 fn take_hold<S: Alter>(tx: &mut Transaction<'_, S>, hold: &Hold) -> Result<(), StoreFault>
-    ensures same_reference { tx.new.conn.ghost_name ≡ tx.old.conn.ghost_name }
-    ensures step { Steps (state S.Store tx.old.conn.now) (state S.Store tx.new.conn.now)
-        (table_edited (TakeHold hold.now)) result }
-    ensures fault { IfErr result IsOfDatabase }
-    ensures survives { Survives (state S.Store tx.old.conn.now) (state S.Store tx.new.conn.now)
-        (λ _. ⊥) }
+    ensures { Does S.Store tx.old tx.new (table_edited (TakeHold hold.now)) result }
 {
     let requester = hold.id.requester();
     let key = [
@@ -84,12 +70,7 @@ fn take_hold<S: Alter>(tx: &mut Transaction<'_, S>, hold: &Hold) -> Result<(), S
 }
 
 fn put_record<S: Alter>(tx: &mut Transaction<'_, S>, row: &Record) -> Result<(), StoreFault>
-    ensures same_reference { tx.new.conn.ghost_name ≡ tx.old.conn.ghost_name }
-    ensures step { Steps (state S.Store tx.old.conn.now) (state S.Store tx.new.conn.now)
-        (table_edited (PutRecord row.now)) result }
-    ensures fault { IfErr result IsOfDatabase }
-    ensures survives { Survives (state S.Store tx.old.conn.now) (state S.Store tx.new.conn.now)
-        (λ _. ⊥) }
+    ensures { Does S.Store tx.old tx.new (table_edited (PutRecord row.now)) result }
 {
     let requester = row.id.requester();
     let values = [
@@ -104,12 +85,7 @@ fn put_record<S: Alter>(tx: &mut Transaction<'_, S>, row: &Record) -> Result<(),
 }
 
 fn put_step<S: Alter>(tx: &mut Transaction<'_, S>, row: &StepRow) -> Result<(), StoreFault>
-    ensures same_reference { tx.new.conn.ghost_name ≡ tx.old.conn.ghost_name }
-    ensures step { Steps (state S.Store tx.old.conn.now) (state S.Store tx.new.conn.now)
-        (table_edited (PutStep row.now)) result }
-    ensures fault { IfErr result IsOfDatabase }
-    ensures survives { Survives (state S.Store tx.old.conn.now) (state S.Store tx.new.conn.now)
-        (λ _. ⊥) }
+    ensures { Does S.Store tx.old tx.new (table_edited (PutStep row.now)) result }
 {
     let requester = row.id.requester();
     let values = [
@@ -130,12 +106,7 @@ fn set_position<S: Alter>(
     point: &Name,
     position: Position,
 ) -> Result<(), StoreFault>
-    ensures same_reference { tx.new.conn.ghost_name ≡ tx.old.conn.ghost_name }
-    ensures step { Steps (state S.Store tx.old.conn.now) (state S.Store tx.new.conn.now)
-        (table_edited (SetPosition point.now position)) result }
-    ensures fault { IfErr result IsOfDatabase }
-    ensures survives { Survives (state S.Store tx.old.conn.now) (state S.Store tx.new.conn.now)
-        (λ _. ⊥) }
+    ensures { Does S.Store tx.old tx.new (table_edited (SetPosition point.now position)) result }
 {
     let given = [name_value(point), position_value(position)];
     tx.execute(
@@ -146,12 +117,7 @@ fn set_position<S: Alter>(
 }
 
 fn clear_hand<S: Alter>(tx: &mut Transaction<'_, S>, point: &Name) -> Result<(), StoreFault>
-    ensures same_reference { tx.new.conn.ghost_name ≡ tx.old.conn.ghost_name }
-    ensures step { Steps (state S.Store tx.old.conn.now) (state S.Store tx.new.conn.now)
-        (table_edited (SetHand point.now None)) result }
-    ensures fault { IfErr result IsOfDatabase }
-    ensures survives { Survives (state S.Store tx.old.conn.now) (state S.Store tx.new.conn.now)
-        (λ _. ⊥) }
+    ensures { Does S.Store tx.old tx.new (table_edited (SetHand point.now None)) result }
 {
     let given = [name_value(point), ValueRef::Null, ValueRef::Null];
     tx.execute(
@@ -166,12 +132,7 @@ fn give_hand<S: Alter>(
     point: &Name,
     id: ClearanceId,
 ) -> Result<(), StoreFault>
-    ensures same_reference { tx.new.conn.ghost_name ≡ tx.old.conn.ghost_name }
-    ensures step { Steps (state S.Store tx.old.conn.now) (state S.Store tx.new.conn.now)
-        (table_edited (SetHand point.now (Some id))) result }
-    ensures fault { IfErr result IsOfDatabase }
-    ensures survives { Survives (state S.Store tx.old.conn.now) (state S.Store tx.new.conn.now)
-        (λ _. ⊥) }
+    ensures { Does S.Store tx.old tx.new (table_edited (SetHand point.now (Some id))) result }
 {
     let requester = id.requester();
     let number = number_value(u64::from(id.number()));
@@ -188,12 +149,7 @@ fn set_hand<S: Alter>(
     point: &Name,
     hand: Option<ClearanceId>,
 ) -> Result<(), StoreFault>
-    ensures same_reference { tx.new.conn.ghost_name ≡ tx.old.conn.ghost_name }
-    ensures step { Steps (state S.Store tx.old.conn.now) (state S.Store tx.new.conn.now)
-        (table_edited (SetHand point.now hand)) result }
-    ensures fault { IfErr result IsOfDatabase }
-    ensures survives { Survives (state S.Store tx.old.conn.now) (state S.Store tx.new.conn.now)
-        (λ _. ⊥) }
+    ensures { Does S.Store tx.old tx.new (table_edited (SetHand point.now hand)) result }
 {
     match hand {
         Some(id) => give_hand(tx, point, id),
@@ -205,24 +161,14 @@ fn add_section<S: Alter>(
     tx: &mut Transaction<'_, S>,
     section: &SectionRow,
 ) -> Result<(), StoreFault>
-    ensures same_reference { tx.new.conn.ghost_name ≡ tx.old.conn.ghost_name }
-    ensures step { Steps (state S.Store tx.old.conn.now) (state S.Store tx.new.conn.now)
-        (table_edited (AddSection section.now)) result }
-    ensures fault { IfErr result IsOfDatabase }
-    ensures survives { Survives (state S.Store tx.old.conn.now) (state S.Store tx.new.conn.now)
-        (λ _. ⊥) }
+    ensures { Does S.Store tx.old tx.new (table_edited (AddSection section.now)) result }
 {
     let row = [name_value(&section.name), flag_value(section.source)];
     put_row(tx, TableName::Section, &row)
 }
 
 fn add_point<S: Alter>(tx: &mut Transaction<'_, S>, point: &PointRow) -> Result<(), StoreFault>
-    ensures same_reference { tx.new.conn.ghost_name ≡ tx.old.conn.ghost_name }
-    ensures step { Steps (state S.Store tx.old.conn.now) (state S.Store tx.new.conn.now)
-        (table_edited (AddPoint point.now)) result }
-    ensures fault { IfErr result IsOfDatabase }
-    ensures survives { Survives (state S.Store tx.old.conn.now) (state S.Store tx.new.conn.now)
-        (λ _. ⊥) }
+    ensures { Does S.Store tx.old tx.new (table_edited (AddPoint point.now)) result }
 {
     let row = point_values(point, Position::Opened);
     put_row(tx, TableName::NetworkPoint, &row)
@@ -230,12 +176,7 @@ fn add_point<S: Alter>(tx: &mut Transaction<'_, S>, point: &PointRow) -> Result<
 
 /// Makes one edit.
 fn make<S: Alter>(tx: &mut Transaction<'_, S>, edit: &Edit) -> Result<(), StoreFault>
-    ensures same_reference { tx.new.conn.ghost_name ≡ tx.old.conn.ghost_name }
-    ensures step { Steps (state S.Store tx.old.conn.now) (state S.Store tx.new.conn.now)
-        (table_edited edit.now) result }
-    ensures fault { IfErr result IsOfDatabase }
-    ensures survives { Survives (state S.Store tx.old.conn.now) (state S.Store tx.new.conn.now)
-        (λ _. ⊥) }
+    ensures { Does S.Store tx.old tx.new (table_edited edit.now) result }
 {
     match edit {
         Edit::SetPosition { point, position } => set_position(tx, point, *position),
@@ -254,12 +195,7 @@ pub(crate) fn make_all<S: Alter>(
     tx: &mut Transaction<'_, S>,
     edits: &[Edit],
 ) -> Result<(), StoreFault>
-    ensures same_reference { tx.new.conn.ghost_name ≡ tx.old.conn.ghost_name }
-    ensures step { Steps (state S.Store tx.old.conn.now) (state S.Store tx.new.conn.now)
-        (tables_edited edits.now) result }
-    ensures fault { IfErr result IsOfDatabase }
-    ensures survives { Survives (state S.Store tx.old.conn.now) (state S.Store tx.new.conn.now)
-        (λ _. ⊥) }
+    ensures { Does S.Store tx.old tx.new (tables_edited edits.now) result }
 {
     for edit in edits {
         make(tx, edit)?;

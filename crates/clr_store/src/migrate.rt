@@ -5,8 +5,8 @@ ghost use Rattle.sqlite.specs.Held.{state};
 ghost use Rattle.sqlite.specs.State.{HasCleanDisk, Survives};
 ghost use Rattle.clr_tables.specs.TableEdits.{tables_moved, with_table_row};
 ghost use Rattle.clr_tables.specs.Tables.{Tables, version_row};
-ghost use Rattle.clr_store.specs.Change.{Steps, StepsTo, with_rows};
-ghost use Rattle.clr_store.specs.Moving.{AreMoved, IsMoving, MovesTables, moved_points};
+ghost use Rattle.clr_store.specs.Change.{Does, with_rows};
+ghost use Rattle.clr_store.specs.Moving.{AreMoved, IsMoving, Moves, MovesTables, moved_points};
 ghost use Rattle.clr_load.specs.Cause.{SqlHasCause};
 ghost use Rattle.clr_load.specs.Contract.{IsSaved, RefusesPoints, old_points};
 ghost use Rattle.clr_load.specs.Fault.{IsOfDatabase, IsOfPoints};
@@ -22,12 +22,8 @@ use sqlite::{Alter, Connection, Transaction};
 
 /// Makes the table of points of version 2, without a row.
 fn make_points<S: Alter>(tx: &mut Transaction<'_, S>) -> Result<(), StoreFault>
-    ensures same_reference { tx.new.conn.ghost_name ≡ tx.old.conn.ghost_name }
-    ensures step { (t : Tables) → StepsTo (state S.Store tx.old.conn.now)
-        (state S.Store tx.new.conn.now) (λ db. Holds OfOne db t) (IsMoving t.points [] t) result }
-    ensures fault { IfErr result IsOfDatabase }
-    ensures survives { Survives (state S.Store tx.old.conn.now) (state S.Store tx.new.conn.now)
-        (λ _. ⊥) }
+    ensures { Moves S.Store tx.old tx.new IsOfDatabase (λ t db. Holds OfOne db t)
+        (λ t. IsMoving t.points [] t) result }
 {
     tx.execute(create_sql(TableName::NetworkPoint), &[])?;
     Ok(())
@@ -35,13 +31,8 @@ fn make_points<S: Alter>(tx: &mut Transaction<'_, S>) -> Result<(), StoreFault>
 
 /// Copies each point of version 1, as no jumper.
 fn copy_points<S: Alter>(tx: &mut Transaction<'_, S>) -> Result<(), StoreFault>
-    ensures same_reference { tx.new.conn.ghost_name ≡ tx.old.conn.ghost_name }
-    ensures step { (t : Tables) → StepsTo (state S.Store tx.old.conn.now)
-        (state S.Store tx.new.conn.now) (IsMoving t.points [] t)
-        (IsMoving t.points (moved_points t.points) t) result }
-    ensures fault { IfErr result IsOfDatabase }
-    ensures survives { Survives (state S.Store tx.old.conn.now) (state S.Store tx.new.conn.now)
-        (λ _. ⊥) }
+    ensures { Moves S.Store tx.old tx.new IsOfDatabase (λ t. IsMoving t.points [] t)
+        (λ t. IsMoving t.points (moved_points t.points) t) result }
 {
     tx.execute(
         "INSERT INTO network_point SELECT name, from_end, to_end, lockable, remote, position, \
@@ -53,13 +44,9 @@ fn copy_points<S: Alter>(tx: &mut Transaction<'_, S>) -> Result<(), StoreFault>
 
 /// Takes all points of version 1 away.
 fn empty_points<S: Alter>(tx: &mut Transaction<'_, S>) -> Result<(), StoreFault>
-    ensures same_reference { tx.new.conn.ghost_name ≡ tx.old.conn.ghost_name }
-    ensures step { (t : Tables) → StepsTo (state S.Store tx.old.conn.now)
-        (state S.Store tx.new.conn.now) (IsMoving t.points (moved_points t.points) t)
-        (IsMoving [] (moved_points t.points) t) result }
-    ensures fault { IfErr result IsOfDatabase }
-    ensures survives { Survives (state S.Store tx.old.conn.now) (state S.Store tx.new.conn.now)
-        (λ _. ⊥) }
+    ensures { Moves S.Store tx.old tx.new IsOfDatabase
+        (λ t. IsMoving t.points (moved_points t.points) t)
+        (λ t. IsMoving [] (moved_points t.points) t) result }
 {
     tx.execute("DELETE FROM point", &[])?;
     Ok(())
@@ -67,12 +54,8 @@ fn empty_points<S: Alter>(tx: &mut Transaction<'_, S>) -> Result<(), StoreFault>
 
 /// Tells the version anew.
 fn set_version<S: Alter>(tx: &mut Transaction<'_, S>) -> Result<(), StoreFault>
-    ensures same_reference { tx.new.conn.ghost_name ≡ tx.old.conn.ghost_name }
-    ensures step { Steps (state S.Store tx.old.conn.now) (state S.Store tx.new.conn.now)
+    ensures { Does S.Store tx.old tx.new
         (with_rows TableName.Meta (with_table_row 1 (version_row 2))) result }
-    ensures fault { IfErr result IsOfDatabase }
-    ensures survives { Survives (state S.Store tx.old.conn.now) (state S.Store tx.new.conn.now)
-        (λ _. ⊥) }
 {
     let row = [text_value("version"), number_value(2)];
     put_row(tx, TableName::Meta, &row)
@@ -80,15 +63,12 @@ fn set_version<S: Alter>(tx: &mut Transaction<'_, S>) -> Result<(), StoreFault>
 
 /// Moves the points of version 1, where each of them reads.
 fn move_points<S: Alter>(tx: &mut Transaction<'_, S>) -> Result<(), StoreFault>
-    ensures same_reference { tx.new.conn.ghost_name ≡ tx.old.conn.ghost_name }
-    ensures step { (t : Tables) → StepsTo (state S.Store tx.old.conn.now)
-        (state S.Store tx.new.conn.now) (λ db. HasOldTables db t)
-        (IsMoving [] (moved_points t.points) t) result }
+    ensures moves { Moves S.Store tx.old tx.new IsOfPoints (λ t db. HasOldTables db t)
+        (λ t. IsMoving [] (moved_points t.points) t) result }
     ensures read { HasCleanDisk (state S.Store tx.new.conn.now)
         → IsTrue (state S.Store tx.old.conn.now).in_transaction → (t : Tables)
         → HasOldTables (state S.Store tx.old.conn.now).now t
         → OnOk result (IsTrue (is_ok (old_points t))) }
-    ensures fault { IfErr result IsOfPoints }
     ensures cause { HasCleanDisk (state S.Store tx.new.conn.now)
         → IsTrue (state S.Store tx.old.conn.now).in_transaction → (t : Tables)
         → HasOldTables (state S.Store tx.old.conn.now).now t → is_ok (old_points t) ≡ false
@@ -101,8 +81,6 @@ fn move_points<S: Alter>(tx: &mut Transaction<'_, S>) -> Result<(), StoreFault>
         → IsTrue (state S.Store tx.old.conn.now).in_transaction → (t : Tables)
         → HasOldTables (state S.Store tx.old.conn.now).now t
         → IfErr result (RefusesPoints (old_points t)) }
-    ensures survives { Survives (state S.Store tx.old.conn.now) (state S.Store tx.new.conn.now)
-        (λ _. ⊥) }
 {
     check_old_points(tx)?;
     make_points(tx)?;

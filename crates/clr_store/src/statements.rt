@@ -4,7 +4,7 @@ ghost use Rattle.sqlite.specs.Held.{state};
 ghost use Rattle.sqlite.specs.State.{Survives};
 ghost use Rattle.sqlite.specs.Values.{bound};
 ghost use Rattle.clr_tables.specs.TableEdits.{without_table_row};
-ghost use Rattle.clr_store.specs.Change.{Replaces, Steps, with_rows};
+ghost use Rattle.clr_store.specs.Change.{Does, Replaces, with_rows};
 ghost use Rattle.clr_load.specs.Fault.{IsOfDatabase};
 ghost use Rattle.clr_load.specs.Layout.{AsMade, has_table};
 ghost use Rattle.clr_load.specs.Schema.{columns_in, keys_in};
@@ -24,12 +24,7 @@ pub(crate) fn insert_row<S: Alter>(
 ) -> Result<(), StoreFault>
     requires there { has_table AsMade table ≡ true }
     requires fits { fits_columns (columns_in table) (bound row.now) ≡ true }
-    ensures same_reference { tx.new.conn.ghost_name ≡ tx.old.conn.ghost_name }
-    ensures step { Steps (state S.Store tx.old.conn.now) (state S.Store tx.new.conn.now)
-        (with_rows table (λ rows. bound row.now ∷ rows)) result }
-    ensures fault { IfErr result IsOfDatabase }
-    ensures survives { Survives (state S.Store tx.old.conn.now) (state S.Store tx.new.conn.now)
-        (λ _. ⊥) }
+    ensures { Does S.Store tx.old tx.new (with_rows table (λ rows. bound row.now ∷ rows)) result }
 {
     tx.execute(insert_sql(table), row)?;
     Ok(())
@@ -43,12 +38,8 @@ pub(crate) fn delete_row<S: Alter>(
 ) -> Result<(), StoreFault>
     requires there { has_table AsMade table ≡ true }
     requires keyed { has_key (keys_in table) (bound key.now) ≡ true }
-    ensures same_reference { tx.new.conn.ghost_name ≡ tx.old.conn.ghost_name }
-    ensures step { Steps (state S.Store tx.old.conn.now) (state S.Store tx.new.conn.now)
+    ensures { Does S.Store tx.old tx.new
         (with_rows table (without_table_row (keys_in table) (bound key.now))) result }
-    ensures fault { IfErr result IsOfDatabase }
-    ensures survives { Survives (state S.Store tx.old.conn.now) (state S.Store tx.new.conn.now)
-        (λ _. ⊥) }
 {
     tx.execute(delete_sql(table), key)?;
     Ok(())
@@ -64,12 +55,7 @@ pub(crate) fn replace_row<S: Alter>(
     requires there { has_table AsMade table ≡ true }
     requires fits { fits_columns (columns_in table) (bound row.now) ≡ true }
     requires keyed { has_key (keys_in table) (take (keys_in table) (bound row.now)) ≡ true }
-    ensures same_reference { tx.new.conn.ghost_name ≡ tx.old.conn.ghost_name }
-    ensures step { Replaces (state S.Store tx.old.conn.now) (state S.Store tx.new.conn.now) table
-        (bound row.now) result }
-    ensures fault { IfErr result IsOfDatabase }
-    ensures survives { Survives (state S.Store tx.old.conn.now) (state S.Store tx.new.conn.now)
-        (λ _. ⊥) }
+    ensures { Replaces S.Store tx.old tx.new table (bound row.now) result }
 {
     Ok(tx.execute(replace_sql(table), row)?)
 }

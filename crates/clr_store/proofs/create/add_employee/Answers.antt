@@ -1,6 +1,6 @@
 use Rattle.clr_store.proofs.Given.{bound_name}
 use Rattle.clr_store.proofs.create.add_employee.Goals as goal
 
-pub returns-clause-step : goal.returns-clause-step
-returns-clause-step g c clean inside =
-    rw (c.name_value.ensures, c.text_value.ensures, c.role_word.ensures, c.name_or_null.ensures, bound_name c.args.employee.now.supervisor) at (c.insert_row.ensures.step clean inside)
+pub returns : goal.returns
+returns g c =
+    rw (c.name_value.ensures, c.text_value.ensures, c.role_word.ensures, c.name_or_null.ensures, bound_name c.args.employee.now.supervisor) at c.insert_row.ensures

@@ -1,17 +1,9 @@
-use Rattle.std.proofs.Common.{◌≡◌, map, take, IsTrue}
-use Rattle.sqlite.specs.Held.{state}
-use Rattle.sqlite.specs.State.{Survives, HasCleanDisk}
+use Rattle.std.proofs.Common.{Ok, map, take}
 use Rattle.clr_tables.specs.declared.table_name.TableName.TheVariants.{Staff}
-use Rattle.clr_store.specs.Change.{Changes, added, with_rows}
 use Rattle.clr_tables.specs.Tables.{staff_row}
+use Rattle.clr_store.specs.Change.{Does, added, with_rows}
 use Rattle.clr_store.proofs.create.add_staff.Given as goal
 
 abbrev pub invariant-loop-employee : goal.invariant-loop-employee
 invariant-loop-employee g l =
-    let old = state g.S.Store l.fn.tx.conn.now in
-    let now = state g.S.Store l.tx.conn.now in
-    record {
-      same : l.tx.conn.ghost_name ≡ l.fn.tx.conn.ghost_name;
-      survives : Survives old now (λ _. ⊥);
-      changes : HasCleanDisk now → IsTrue old.in_transaction → Changes old now (with_rows Staff (added (take l.employee-index (map staff_row l.staff))));
-    }
+    Does {X = Unit {0}} g.S.Store l.fn.tx l.tx (with_rows Staff (added (take l.employee-index (map staff_row l.staff)))) (Ok tt)

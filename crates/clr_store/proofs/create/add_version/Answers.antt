@@ -1,4 +1,4 @@
 use Rattle.clr_store.proofs.create.add_version.Goals as goal
 
-pub returns-clause-step : goal.returns-clause-step
-returns-clause-step g c clean inside = rw (c.text_value.ensures, c.number_value.ensures) at (c.insert_row.ensures.step clean inside)
+pub returns : goal.returns
+returns g c = rw (c.text_value.ensures, c.number_value.ensures) at c.insert_row.ensures

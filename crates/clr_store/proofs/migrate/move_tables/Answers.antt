@@ -25,7 +25,7 @@ returns-clause-moved g c clean t has =
     let late : HasCleanDisk (state g.S.Store end) = search rules in
     let middle : HasCleanDisk (state g.S.Store mid) = omega (arith, c.commit.ensures.survives.clean) in
     let early : HasCleanDisk (state g.S.Store first) = omega (arith, c.set_version.ensures.survives.clean) in
-    let made = rw begun at (c.in_ok-move_points.ensures.step t early (rw begun refl)) in
+    let made = rw begun at (c.in_ok-move_points.ensures.moves.step early (rw begun refl) t) in
     let read = rw begun at (c.in_ok-move_points.ensures.read early (rw begun refl)) in
     let told = told_anew (state g.S.Store old).now (state g.S.Store first) (state g.S.Store mid) t has (made.makes has) (c.in_ok-set_version.ensures.step middle made.inside) in
     let moved = subst (λ (d : Database). HasTables d (tables_moved t)) (sym (c.in_ok-commit.ensures.ok late).1.now_is) told in
@@ -40,13 +40,13 @@ returns-clause-crash g c =
     let begun = c.transaction-tx.ensures.begun in
     let same : end ≡ c.conn-2-1.given.0 = search rules in
     subst (λ h. Survives (state g.S.Store old) (state g.S.Store h) (λ trees. IsTrue (state g.S.Store old).is_open × AreMoved (state g.S.Store old).now trees)) same
-    (move_crash g.S.Store old first mid end (rw begun at c.move_points.ensures.survives) c.set_version.ensures.survives c.commit.ensures.survives
+    (move_crash g.S.Store old first mid end (rw begun at c.move_points.ensures.moves.survives) c.set_version.ensures.survives c.commit.ensures.survives
     (λ clean.
     let early : HasCleanDisk (state g.S.Store first) = omega (arith, c.set_version.ensures.survives.clean) in
     let here : IsTrue (state g.S.Store old).is_open = surely_open (rw begun at (c.in_ok-move_points.ensures.was_open early (rw begun refl))) in (
       here,
       λ t has.
-          let made = rw begun at (c.in_ok-move_points.ensures.step t early (rw begun refl)) in
+          let made = rw begun at (c.in_ok-move_points.ensures.moves.step early (rw begun refl) t) in
           let read = rw begun at (c.in_ok-move_points.ensures.read early (rw begun refl)) in (
             read t has,
             told_anew (state g.S.Store old).now (state g.S.Store first) (state g.S.Store mid) t has (made.makes has) (c.in_ok-set_version.ensures.step clean made.inside),
@@ -62,13 +62,13 @@ returns-in_err-commit-clause-crash g c =
     let begun = c.transaction-tx.ensures.begun in
     let same : end ≡ c.conn-2-1.given.0 = search rules in
     subst (λ h. Survives (state g.S.Store old) (state g.S.Store h) (λ trees. IsTrue (state g.S.Store old).is_open × AreMoved (state g.S.Store old).now trees)) same
-    (move_crash g.S.Store old first mid end (rw begun at c.move_points.ensures.survives) c.set_version.ensures.survives c.commit.ensures.survives
+    (move_crash g.S.Store old first mid end (rw begun at c.move_points.ensures.moves.survives) c.set_version.ensures.survives c.commit.ensures.survives
     (λ clean.
     let early : HasCleanDisk (state g.S.Store first) = omega (arith, c.set_version.ensures.survives.clean) in
     let here : IsTrue (state g.S.Store old).is_open = surely_open (rw begun at (c.in_ok-move_points.ensures.was_open early (rw begun refl))) in (
       here,
       λ t has.
-          let made = rw begun at (c.in_ok-move_points.ensures.step t early (rw begun refl)) in
+          let made = rw begun at (c.in_ok-move_points.ensures.moves.step early (rw begun refl) t) in
           let read = rw begun at (c.in_ok-move_points.ensures.read early (rw begun refl)) in (
             read t has,
             told_anew (state g.S.Store old).now (state g.S.Store first) (state g.S.Store mid) t has (made.makes has) (c.in_ok-set_version.ensures.step clean made.inside),
@@ -112,7 +112,7 @@ returns-in_err-move_points-clause-none g c clean is_open =
     let begun = c.transaction-tx.ensures.begun in
     let late : HasCleanDisk (state g.S.Store c.drop-tx.new.self.0) = search rules in
     let early : HasCleanDisk (state g.S.Store c.move_points.new.tx.conn.now) = omega (arith, c.drop-tx.ensures.survives.clean) in
-    let kept = c.in_err-move_points.ensures.step no_tables early (rw begun refl) in
+    let kept = c.in_err-move_points.ensures.moves.step early (rw begun refl) in
     search rules
 
 pub returns-in_err-set_version-clause-none : goal.returns-in_err-set_version-clause-none
@@ -124,7 +124,7 @@ returns-in_err-set_version-clause-none g c clean is_open =
     let late : HasCleanDisk (state g.S.Store c.drop-tx-in_err-set_version.new.self.0) = search rules in
     let middle : HasCleanDisk mid = omega (arith, c.drop-tx-in_err-set_version.ensures.survives.clean) in
     let early : HasCleanDisk first = omega (arith, c.set_version.ensures.survives.clean) in
-    let made = c.in_ok-move_points.ensures.step no_tables early (rw begun refl) in
+    let made = c.in_ok-move_points.ensures.moves.step early (rw begun refl) no_tables in
     let kept = then_kept tx first mid made.kept (c.in_err-set_version.ensures.step middle made.inside) in
     search rules
 
@@ -137,7 +137,7 @@ returns-in_err-commit-clause-none g c clean is_open =
     let late : HasCleanDisk (state g.S.Store c.commit.new.self.0) = search rules in
     let middle : HasCleanDisk mid = omega (arith, c.commit.ensures.survives.clean) in
     let early : HasCleanDisk first = omega (arith, c.set_version.ensures.survives.clean) in
-    let made = c.in_ok-move_points.ensures.step no_tables early (rw begun refl) in
+    let made = c.in_ok-move_points.ensures.moves.step early (rw begun refl) no_tables in
     let kept = then_kept tx first mid made.kept (c.in_ok-set_version.ensures.step middle made.inside).kept in
     search rules
 
@@ -146,7 +146,7 @@ returns-in_err-move_points-clause-open_before g c clean is_open =
     let begun = c.transaction-tx.ensures.begun in
     let late : HasCleanDisk (state g.S.Store c.drop-tx.new.self.0) = search rules in
     let early : HasCleanDisk (state g.S.Store c.move_points.new.tx.conn.now) = omega (arith, c.drop-tx.ensures.survives.clean) in
-    let kept = c.in_err-move_points.ensures.step no_tables early (rw begun refl) in
+    let kept = c.in_err-move_points.ensures.moves.step early (rw begun refl) in
     search rules
 
 pub returns-in_err-set_version-clause-open_before : goal.returns-in_err-set_version-clause-open_before
@@ -158,7 +158,7 @@ returns-in_err-set_version-clause-open_before g c clean is_open =
     let late : HasCleanDisk (state g.S.Store c.drop-tx-in_err-set_version.new.self.0) = search rules in
     let middle : HasCleanDisk mid = omega (arith, c.drop-tx-in_err-set_version.ensures.survives.clean) in
     let early : HasCleanDisk first = omega (arith, c.set_version.ensures.survives.clean) in
-    let made = c.in_ok-move_points.ensures.step no_tables early (rw begun refl) in
+    let made = c.in_ok-move_points.ensures.moves.step early (rw begun refl) no_tables in
     let kept = then_kept tx first mid made.kept (c.in_err-set_version.ensures.step middle made.inside) in
     search rules
 
@@ -171,7 +171,7 @@ returns-in_err-commit-clause-open_before g c clean is_open =
     let late : HasCleanDisk (state g.S.Store c.commit.new.self.0) = search rules in
     let middle : HasCleanDisk mid = omega (arith, c.commit.ensures.survives.clean) in
     let early : HasCleanDisk first = omega (arith, c.set_version.ensures.survives.clean) in
-    let made = c.in_ok-move_points.ensures.step no_tables early (rw begun refl) in
+    let made = c.in_ok-move_points.ensures.moves.step early (rw begun refl) no_tables in
     let kept = then_kept tx first mid made.kept (c.in_ok-set_version.ensures.step middle made.inside).kept in
     search rules
 
