@@ -1,29 +1,21 @@
 -- Steps and holds that suit a phase are those of a clearance in its place, and the other way round.
 use Rattle.std.proofs.Common.{◌≡◌, ℕ, Bool, true, false, not, ◌&&◌, List, [], Option, Some, None, refl, sym, ◌∙◌, ap, subst}
-use Rattle.std.specs.List.{list_all}
-use Rattle.std.proofs.lemmas.Bool.{and_from, and_parts, false≢true, false_from_ne_true, not-true, not_from_false}
-use Rattle.clr_net.specs.Names.{has_name}
-use Rattle.clr_net.specs.declared.point.Position.TheVariants.{Opened}
-use Rattle.clr_order.specs.Action.{is_switching}
-use Rattle.clr_rules.specs.Good.{put_by}
+use Rattle.clr_rules.proofs.Common.{list_all, and_from, and_parts, false≢true, false_from_ne_true, not-true, not_from_false, has_name, Opened, is_switching, put_by, Id, Register, position_of}
+use Rattle.clr_rules.proofs.Common.{list_all-from_each, is_granted, all_done, is_some_step, points_of, steps_of, is_point_kind, has_hold, hold_of, some_active}
 use Rattle.clr_rules.specs.GoodByPhase.{HasNoWork, HoldsAsPut, HoldsNothing, InPhase, of_round, outlook_of, present_of}
-use Rattle.clr_rules.specs.Prelude.{Id, Register, position_of}
-use Rattle.clr_rules.specs.Prelude.{is_granted, all_done, is_some_step, points_of, steps_of, is_point_kind, has_hold, hold_of}
-use Rattle.clr_rules.specs.declared.hold_kind.HoldKind.{HoldKind}
-use Rattle.clr_rules.specs.declared.phase.Phase.{Phase}
-use Rattle.clr_rules.specs.declared.step_row.StepRow.{StepRow}
-use Rattle.clr_rules.specs.declared.hold_kind.HoldKind.TheVariants.{HeldOpen, Block, Control, Tag}
-use Rattle.clr_rules.specs.declared.hold_kind.HoldKind.TheVariants.{Tested, Ground, Crew}
-use Rattle.clr_rules.specs.declared.phase.Phase.TheVariants.{Requested, Ordered, Granted, Released}
-use Rattle.clr_rules.specs.declared.phase.Phase.TheVariants.{Restoring, Switching, Closed}
-use Rattle.clr_rules.specs.Steps.{some_active}
 use Rattle.clr_rules.proofs.lists.RoundSteps.{no_step_there}
 use Rattle.clr_good.specs.Clearances.{work_fits}
 use Rattle.clr_good.specs.Holds.{all_put_stands, holds_suit, is_opened, is_undone_at, kind_suits, point_hold_suits, work_hold_suits}
 use Rattle.clr_good.specs.Steps.{active_within, isolates, steps_suit}
 use Rattle.clr_good.proofs.HoldsSay.{held_then_put, put_then_held, round_points, undone_each}
 use Rattle.clr_good.proofs.StepsSay.{active_said, active_say, isolates_said, isolates_say}
-use Rattle.clr_good.proofs.Tests.{All_from_list_all, list_all_from, list_all_from_All, same_tests}
+use Rattle.clr_net.proofs.Walks.{same_tests}
+use Rattle.clr_good.proofs.Tests.{All_from_list_all, list_all_from_All}
+use Rattle.clr_rules.specs.declared.hold_kind.HoldKind.{HoldKind}
+use Rattle.clr_rules.specs.declared.phase.Phase.{Phase}
+use Rattle.clr_rules.specs.declared.step_row.StepRow.{StepRow}
+use Rattle.clr_rules.specs.declared.hold_kind.HoldKind.TheVariants.{HeldOpen, Tested, Ground, Crew}
+use Rattle.clr_rules.specs.declared.phase.Phase.TheVariants.{Requested, Ordered, Granted, Released, Restoring, Switching, Closed}
 
 -- the holds that a clearance has suit a phase
 abbrev pub HoldsSuit : Register → Id → Phase → Option (List ℕ) → Type 0
@@ -161,12 +153,7 @@ module _ (R : Register) (c : Id) where
   works_fit Restoring (Some work) h = refl
   works_fit Switching None h = refl
   works_fit Closed work h = refl
-  works_fit Switching (Some work) h = absurd h
-  works_fit Requested None h = absurd h
-  works_fit Ordered None h = absurd h
-  works_fit Granted None h = absurd h
-  works_fit Released None h = absurd h
-  works_fit Restoring None h = absurd h
+  works_fit _ _ h = absurd h
 
   no_rows : (rows : List StepRow) → rows ≡ [] → not (is_some_step rows) ≡ true
   no_rows rows none = ap (λ (rows : List StepRow). not (is_some_step rows)) none
@@ -200,12 +187,7 @@ module _ (R : Register) (c : Id) where
       (and_from (not (is_some_step (of_round own_steps 2))) (active_within (present_of own_steps) own_steps) (no_rows (of_round own_steps 2) h.one_round)
       (active_said (present_of own_steps) own_steps h.given_out))
   steps_are Closed work h = not_from_false (some_active own_steps) h.none_active
-  steps_are Switching (Some work) h = absurd h
-  steps_are Requested None h = absurd h
-  steps_are Ordered None h = absurd h
-  steps_are Granted None h = absurd h
-  steps_are Released None h = absurd h
-  steps_are Restoring None h = absurd h
+  steps_are _ _ h = absurd h
 
   all_stand : HoldsAsPut (outlook_of R c) → all_put_stands R.holds c (of_round own_steps 1) ≡ true
   all_stand put = held_then_put R.holds c (of_round own_steps 1) (λ kind p at_point is. put kind p at_point ∙ is)
@@ -215,15 +197,10 @@ module _ (R : Register) (c : Id) where
   holds_are Ordered (Some work) h = all_stand h.as_put
   holds_are Granted (Some work) h = all_stand h.as_put
   holds_are Released (Some work) h = all_stand h.as_put
-  holds_are Restoring (Some work) h = list_all_from (is_undone_at R.holds c (of_round own_steps 2)) (points_of own_steps) (λ p there. h.undone p)
+  holds_are Restoring (Some work) h = list_all-from_each (is_undone_at R.holds c (of_round own_steps 2)) (points_of own_steps) (λ p there. h.undone p)
   holds_are Switching None h = refl
   holds_are Closed work h = refl
-  holds_are Switching (Some work) h = absurd h
-  holds_are Requested None h = absurd h
-  holds_are Ordered None h = absurd h
-  holds_are Granted None h = absurd h
-  holds_are Released None h = absurd h
-  holds_are Restoring None h = absurd h
+  holds_are _ _ h = absurd h
 
   -- what a hold needs, by the phase
   abbrev Needs : Phase → Option (List ℕ) → HoldKind → List ℕ → Bool → Type 0
@@ -242,9 +219,7 @@ module _ (R : Register) (c : Id) where
   granted_work work h Ground p at_work has = h.grounded_inside p has
   granted_work work h Crew p at_work has = h.crews_grounded p has
   granted_work work h HeldOpen p at_work has = absurd (false≢true (sym at_work))
-  granted_work work h Block p at_work has = absurd (false≢true (sym at_work))
-  granted_work work h Control p at_work has = absurd (false≢true (sym at_work))
-  granted_work work h Tag p at_work has = absurd (false≢true (sym at_work))
+  granted_work work h _ p at_work has = absurd (false≢true (sym at_work))
 
   needs_met : (phase : Phase) (work : Option (List ℕ)) → InPhase R.net phase work (outlook_of R c) → (kind : HoldKind) (p : List ℕ) → has_hold R.holds c kind p ≡ true
       → (b : Bool) → is_point_kind kind ≡ b → Needs phase work kind p b
@@ -261,12 +236,7 @@ module _ (R : Register) (c : Id) where
   needs_met Restoring (Some work) h kind p has false e = unworked kind p h.no_work e has
   needs_met Switching None h kind p has b e = unheld kind p h.no_hold has
   needs_met Closed work h kind p has b e = unheld kind p h.no_hold has
-  needs_met Switching (Some work) h kind p has b e = absurd h
-  needs_met Requested None h kind p has b e = absurd h
-  needs_met Ordered None h kind p has b e = absurd h
-  needs_met Granted None h kind p has b e = absurd h
-  needs_met Released None h kind p has b e = absurd h
-  needs_met Restoring None h kind p has b e = absurd h
+  needs_met _ _ h kind p has b e = absurd h
 
   needed_suits : (phase : Phase) (work : Option (List ℕ)) (kind : HoldKind) (p : List ℕ) (b : Bool) → (b ≡ true → position_of R.states p ≡ Some Opened)
       → Needs phase work kind p b → kind_suits R phase work (hold_of c kind p) b ≡ true

@@ -1,20 +1,11 @@
 -- What it says that the list of clearances fits.
 use Rattle.std.proofs.Common.{◌≡◌, ℕ, Bool, true, false, ◌&&◌, List, length, Some, None, IsTrue, All, refl, sym, subst}
 use Rattle.std.specs.List.{list_all, range_with_len}
-use Rattle.std.proofs.lemmas.Bool.{and_from, and_parts}
-use Rattle.std.proofs.lemmas.List.Elements.{All-contains}
-use Rattle.clr_net.specs.Grid.{Grid, section_names}
-use Rattle.clr_shelf.proofs.Lists.{list_all-contains}
-use Rattle.clr_shelf.proofs.Members.{member-row_of, row_of-member}
-use Rattle.clr_shelf.specs.Rows.{in_key_order}
-use Rattle.clr_rules.specs.Good.{is_known_work, is_operators}
-use Rattle.clr_rules.specs.Prelude.{Id, Register, id_cmp, id_cmp_total, record_key, record_of}
-use Rattle.clr_rules.specs.declared.record.Record.{Record}
-use Rattle.clr_rules.specs.Records.{is_switch_order, numbers_of}
-use Rattle.clr_rules.proofs.lists.RoundSteps.{All-from_each, record_id}
+use Rattle.clr_rules.proofs.Common.{and_from, and_parts, All-contains, Grid, section_names, list_all-contains, member-row_of, row_of-member, in_key_order, is_known_work, is_operators, Id, Register}
+use Rattle.clr_rules.proofs.Common.{list_all-from_each, id_cmp, id_cmp_total, record_key, record_of, is_switch_order, numbers_of, All-from_each, record_id}
 use Rattle.clr_good.specs.Clearances.{answers_alike, clearances_fit, numbers_fit, record_fits, work_fits}
 use Rattle.clr_good.proofs.NumbersSay.{numbers_said, numbers_say}
-use Rattle.clr_good.proofs.Tests.{list_all_from}
+use Rattle.clr_rules.specs.declared.record.Record.{Record}
 
 pub record ClearancesSay (R : Register) : Type 0 where
   pub numbered : (requester : List ℕ) → numbers_of R.records requester ≡ range_with_len 1 (length (numbers_of R.records requester))
@@ -68,7 +59,7 @@ pub clearances_said : (R : Register) → in_key_order id_cmp record_key R.record
 clearances_said R ordered say =
     and_from (numbers_fit None R.records) (list_all (record_fits R) R.records)
     (numbers_said None R.records tt ordered say.numbered)
-    (list_all_from (record_fits R) R.records (λ r there.
+    (list_all-from_each (record_fits R) R.records (λ r there.
     let found = row_of-member id_cmp record_key id_cmp_total r R.records ordered there in
     record_back R r (say.works r.id r found)
     (All-contains (λ (r : Record). is_known_work (section_names (Grid.sections R.net)) r.work ≡ true) R.records r say.work_known there)

@@ -1,31 +1,19 @@
 -- Facts that the code rests on: rows behind references, positions that play no part, and rows of a group.
-use Rattle.std.proofs.Common.{◌≡◌, ℕ, Bool, true, false, not, ◌&&◌, ◌==◌, arith, length, Bor, List, [], ◌∷◌, map, filter, find, option_copied, Option, Some, None, is_some, refl, sym, ◌∙◌, ap}
-use Rattle.std.specs.List.{list_any}
-use Rattle.std.specs.Result.{is_ok}
-use Rattle.std.proofs.lemmas.Bool.{and_parts, ne_eqb, not_from_false}
+use Rattle.std.proofs.Common.{◌≡◌, ℕ, Bool, true, false, not, ◌&&◌, ◌==◌, arith, length, Bor, List, [], ◌∷◌, map, filter, find, option_copied, Option, Some, None, is_some, refl, sym, ◌∙◌, ap, is_ok}
+use Rattle.std.proofs.Common.{ne_eqb}
+use Rattle.clr_rules.proofs.Common.{list_any, and_parts, not_from_false, FenceRows, fence_of, in_fence, touches, Grid, section_names, unplaced, same_name, has_name, PointRow, SectionRow}
+use Rattle.clr_rules.proofs.Common.{isolating_fault, Task, task, work_fence, hinders, Id, first_of_each, is_point_kind, is_some_step, points_of, tasks_of, unplaced_net}
 use Rattle.std.proofs.lemmas.Map.Views.{any-filter_same}
-use Rattle.clr_net.specs.Fence.{FenceRows, fence_of, in_fence, touches}
-use Rattle.clr_net.specs.Grid.{Grid, section_names, unplaced}
-use Rattle.clr_net.specs.Name.{same_name}
-use Rattle.clr_net.specs.Names.{has_name}
-use Rattle.clr_net.specs.declared.point.PointRow.{PointRow}
-use Rattle.clr_net.specs.declared.section.SectionRow.{SectionRow}
-use Rattle.clr_order.specs.Isolating.{isolating_fault}
 use Rattle.clr_order.specs.OrderFault.{answer_of}
-use Rattle.clr_order.specs.Step.{Task, task}
 use Rattle.clr_order.specs.declared.order_fault.OrderFault.{OrderFault}
-use Rattle.clr_rules.specs.Fences.{work_fence}
 use Rattle.clr_rules.specs.Hold.{is_in_hold_group}
-use Rattle.clr_rules.specs.Holds.{hinders}
-use Rattle.clr_rules.specs.Prelude.{Id, first_of_each, is_point_kind, is_some_step, points_of, tasks_of}
-use Rattle.clr_rules.specs.declared.hold.Hold.{Hold}
-use Rattle.clr_rules.specs.declared.step_row.StepRow.{StepRow}
-use Rattle.clr_rules.specs.Register.{unplaced_net}
 use Rattle.clr_rules.specs.declared.hold.HoldGroup.TheVariants.{AtPoint}
 use Rattle.clr_rules.proofs.lists.RoundSteps.{some_step_there}
 use Rattle.clr_book.proofs.NearFacts.{fence_unplaced, in_fence_unplaced}
 use Rattle.clr_answer.proofs.OrderPositions.{fault_unplaced, touching_unplaced}
 use Rattle.clr_good.specs.Steps.{isolates}
+use Rattle.clr_rules.specs.declared.hold.Hold.{Hold}
+use Rattle.clr_rules.specs.declared.step_row.StepRow.{StepRow}
 
 -- whether a row of a name is found, is whether the name is among them
 pub found_named : {X : Type 0} (name_of : X → List ℕ) (rows : List X) (n : List ℕ) → is_some (find (λ row. same_name n (name_of row)) rows) ≡ has_name (map name_of rows) n

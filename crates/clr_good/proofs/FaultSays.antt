@@ -1,9 +1,6 @@
 -- No list is at fault exactly where the register is good.
 use Rattle.std.proofs.Common.{◌≡◌, ◌↔◌, Bool, true, false, ◌&&◌, None, refl, sym}
-use Rattle.std.proofs.lemmas.Bool.{false≢true}
-use Rattle.std.proofs.lemmas.Option.{none-some}
-use Rattle.clr_rules.specs.Good.{IsGood}
-use Rattle.clr_rules.specs.Prelude.{Register}
+use Rattle.clr_rules.proofs.Common.{false≢true, none-some, IsGood, Register}
 use Rattle.clr_good.specs.Points.{points_fit}
 use Rattle.clr_good.specs.Clearances.{clearances_fit}
 use Rattle.clr_good.specs.Steps.{steps_fit}

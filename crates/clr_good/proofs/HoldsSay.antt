@@ -1,32 +1,19 @@
 -- What it says that the list of holds fits.
 use Rattle.std.proofs.Common.{◌≡◌, ℕ, Bool, true, false, not, cond, ◌&&◌, ◌||◌, nat_eq, List, [], ◌∷◌, filter, Option, Some, None, ⊎_elim, refl, sym, ◌∙◌, ap, subst}
-use Rattle.std.specs.List.{list_all}
+use Rattle.clr_rules.proofs.Common.{list_all, same_name, has_name, Position, any_from, one_name, same_itself, some_from, actions_at, Action, list_all-contains, member-row_of, row_of-member}
+use Rattle.clr_rules.proofs.Common.{list_all-from_each, in_key_order, put_by, puts, steps_left_of, of_round, Id, Register, id_cmp, id_cmp_total, record_key, record_of, hold_cmp, hold_key, is_done}
+use Rattle.clr_rules.proofs.Common.{points_of, steps_of, tasks_of, is_point_kind, has_hold, hold_of, name_says, record_id}
 use Rattle.std.proofs.lemmas.Bool.{and_from, and_parts, both_ways, false≢true, false_from_ne_true, or_cases, or_left, or_right, or_parts}
-use Rattle.clr_net.specs.Name.{same_name}
-use Rattle.clr_net.specs.Names.{has_name}
-use Rattle.clr_net.specs.declared.point.Position.{Position}
 use Rattle.clr_net.specs.declared.point.Position.TheVariants.{Opened, Closed as Shut}
-use Rattle.clr_net.proofs.Walks.{any_from, one_name, same_itself, some_from}
-use Rattle.clr_order.specs.Step.{actions_at}
-use Rattle.clr_order.specs.declared.action.Action.{Action}
+use Rattle.clr_rules.proofs.lists.HoldMembers.{hold_had, hold_there}
+use Rattle.clr_good.specs.Holds.{all_put_stands, hold_fits, holds_fit, holds_suit, is_opened, is_undone_at, kind_suits, put_stands, record_holds_fit, recorded_hold_fits}
+use Rattle.clr_good.proofs.Tests.{asked, asked_from}
 use Rattle.clr_order.specs.declared.action.Action.TheVariants as actions
-use Rattle.clr_shelf.proofs.Lists.{list_all-contains}
-use Rattle.clr_shelf.proofs.Members.{member-row_of, row_of-member}
-use Rattle.clr_shelf.specs.Rows.{in_key_order}
-use Rattle.clr_rules.specs.Good.{put_by, puts, steps_left_of}
-use Rattle.clr_rules.specs.GoodByPhase.{of_round}
-use Rattle.clr_rules.specs.Prelude.{Id, Register, id_cmp, id_cmp_total, record_key, record_of}
-use Rattle.clr_rules.specs.Prelude.{hold_cmp, hold_key, is_done, points_of, steps_of, tasks_of, is_point_kind, has_hold, hold_of}
 use Rattle.clr_rules.specs.declared.hold.Hold.{Hold}
 use Rattle.clr_rules.specs.declared.hold_kind.HoldKind.{HoldKind}
 use Rattle.clr_rules.specs.declared.record.Record.{Record}
 use Rattle.clr_rules.specs.declared.step_row.StepRow.{StepRow}
 use Rattle.clr_rules.specs.declared.hold_kind.HoldKind.TheVariants.{HeldOpen, Block, Control, Tag}
-use Rattle.clr_rules.proofs.lists.Filters.{name_says}
-use Rattle.clr_rules.proofs.lists.HoldMembers.{hold_had, hold_there}
-use Rattle.clr_rules.proofs.lists.RoundSteps.{record_id}
-use Rattle.clr_good.specs.Holds.{all_put_stands, hold_fits, holds_fit, holds_suit, is_opened, is_undone_at, kind_suits, put_stands, record_holds_fit, recorded_hold_fits}
-use Rattle.clr_good.proofs.Tests.{asked, asked_from, list_all_from}
 
 pub record HoldsSay (R : Register) : Type 0 where
   -- a hold has a record, whose phase has it
@@ -63,10 +50,10 @@ holds_say R fits = record {
 pub holds_said : (R : Register) → in_key_order id_cmp record_key R.records ≡ true → in_key_order hold_cmp hold_key R.holds ≡ true → HoldsSay R → holds_fit R ≡ true
 holds_said R ordered holds_ordered say =
     and_from (list_all (hold_fits R) R.holds) (list_all (record_holds_fit R) R.records)
-    (list_all_from (hold_fits R) R.holds (λ h there.
+    (list_all-from_each (hold_fits R) R.holds (λ h there.
     let suits = say.suits h.id h.kind h.place (hold_had R.holds h holds_ordered there) in
     ap (recorded_hold_fits R h) suits.1 ∙ suits.2))
-    (list_all_from (record_holds_fit R) R.records (λ r there. say.stand r.id r (row_of-member id_cmp record_key id_cmp_total r R.records ordered there)))
+    (list_all-from_each (record_holds_fit R) R.records (λ r there. say.stand r.id r (row_of-member id_cmp record_key id_cmp_total r R.records ordered there)))
 
 -- ---- open points
 
@@ -100,7 +87,7 @@ pub held_then_put : (holds : List Hold) (c : Id) (rows : List StepRow)
     → ((kind : HoldKind) (p : List ℕ) → is_point_kind kind ≡ true → put_by rows kind p ≡ true → has_hold holds c kind p ≡ true)
     → all_put_stands holds c rows ≡ true
 held_then_put holds c rows held =
-    list_all_from (λ (row : StepRow). not (is_done row.step.state) || put_stands holds c row.step.action row.step.point) rows (λ row there.
+    list_all-from_each (λ (row : StepRow). not (is_done row.step.state) || put_stands holds c row.step.action row.step.point) rows (λ row there.
     asked_from (is_done row.step.state) (put_stands holds c row.step.action row.step.point) (λ done.
     by_action row (λ kind at_point is. held kind row.step.point at_point
     (any_from (λ (other : StepRow). (is_done other.step.state && puts other.step.action kind) && same_name row.step.point other.step.point) rows row there

@@ -1,23 +1,13 @@
 -- What it says that numbers follow one another.
-use Rattle.std.proofs.Common.{◌≡◌, ◌⊎◌, inl, inr, ℕ, ◌+◌, Bool, true, false, nat_eq, List, [], ◌∷◌, length, map, Option, Some, None, refl, sym, ◌∙◌, ap, subst}
-use Rattle.std.specs.Cmp.Lexicographic.{texts_ties}
+use Rattle.std.proofs.Common.{◌≡◌, ◌⊎◌, inl, inr, ℕ, ◌+◌, Bool, true, false, nat_eq, List, [], ◌∷◌, length, map, Option, Some, None, refl, sym, ◌∙◌, ap, subst, is_eq, is_lt, nat_cmp, Ordering, Less}
+use Rattle.std.proofs.Common.{Equal, Greater, eqb-true, eq-eqb}
+use Rattle.clr_rules.proofs.Common.{texts_ties, ordering_then, and_from, and_parts, false≢true, nat_list_cmp_total, name_cmp, same_name, one_name, same_itself, in_key_order-first, in_key_order-rest}
+use Rattle.clr_rules.proofs.Common.{list_all-contains, in_key_order, Id, id_cmp, id_cmp_total, record_key, numbers_of}
 use Rattle.std.specs.List.{list_all, range_with_len}
-use Rattle.std.specs.Ordering.{is_eq, is_lt, nat_cmp, ordering_then}
-use Rattle.std.specs.declared.cmp.Ordering.{Ordering}
-use Rattle.std.specs.declared.cmp.Ordering.TheVariants.{Less, Equal, Greater}
-use Rattle.std.proofs.lemmas.Bool.{and_from, and_parts, eqb-true, eq-eqb, false≢true}
-use Rattle.std.proofs.lemmas.Cmp.{nat_list_cmp_total}
-use Rattle.clr_net.specs.Name.{name_cmp, same_name}
-use Rattle.clr_net.proofs.Walks.{one_name, same_itself}
 use Rattle.clr_shelf.proofs.Keys.{below_chain, less}
-use Rattle.clr_shelf.proofs.KeyOrder.{in_key_order-first, in_key_order-rest}
-use Rattle.clr_shelf.proofs.Lists.{list_all-contains}
-use Rattle.clr_shelf.specs.Rows.{in_key_order}
-use Rattle.clr_rules.specs.Prelude.{Id, id_cmp, id_cmp_total, record_key}
-use Rattle.clr_rules.specs.declared.record.Record.{Record}
-use Rattle.clr_rules.specs.Records.{numbers_of}
 use Rattle.clr_rules.proofs.lists.Filters.{filter-no_member}
 use Rattle.clr_good.specs.Clearances.{number_after, numbers_fit}
+use Rattle.clr_rules.specs.declared.record.Record.{Record}
 
 -- ---- the order of clearances
 

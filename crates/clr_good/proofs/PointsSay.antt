@@ -1,23 +1,11 @@
 -- What it says that the list of points fits.
 use Rattle.std.proofs.Common.{◌≡◌, ℕ, true, List, [], ◌∷◌, map, Option, Some, None, refl, ◌∙◌, ap, subst}
-use Rattle.std.specs.List.{list_all}
-use Rattle.std.proofs.lemmas.Bool.{and_from, and_parts, false≢true}
-use Rattle.std.proofs.lemmas.Cmp.{nat_list_cmp_total}
-use Rattle.clr_net.specs.Grid.{Grid, point_names}
-use Rattle.clr_net.specs.Name.{name_cmp, same_name}
-use Rattle.clr_net.proofs.Walks.{one_name, same_itself}
-use Rattle.clr_shelf.proofs.Lists.{list_all-contains}
-use Rattle.clr_shelf.proofs.Members.{member-row_of, row_of-member}
-use Rattle.clr_shelf.specs.Rows.{in_key_order}
-use Rattle.clr_rules.specs.GoodByPhase.{active_at}
-use Rattle.clr_rules.specs.Prelude.{Id, Register, has_in_hand, state_key, state_of, steps_of}
-use Rattle.clr_rules.specs.declared.point_state.PointState.{PointState}
-use Rattle.clr_rules.specs.declared.step_row.StepRow.{StepRow}
-use Rattle.clr_rules.specs.States.{hand_in, is_hand}
-use Rattle.clr_rules.proofs.lists.RoundSteps.{one_id, own_id}
+use Rattle.clr_rules.proofs.Common.{list_all, and_from, and_parts, false≢true, nat_list_cmp_total, Grid, point_names, name_cmp, same_name, one_name, same_itself, list_all-contains, member-row_of}
+use Rattle.clr_rules.proofs.Common.{list_all-from_each, row_of-member, in_key_order, active_at, Id, Register, has_in_hand, state_key, state_of, steps_of, hand_in, is_hand, one_id, own_id}
 use Rattle.clr_rules.proofs.lists.StateFacts.{state_of-point}
 use Rattle.clr_good.specs.Points.{hand_fits, points_fit, same_names, state_fits}
-use Rattle.clr_good.proofs.Tests.{list_all_from}
+use Rattle.clr_rules.specs.declared.point_state.PointState.{PointState}
+use Rattle.clr_rules.specs.declared.step_row.StepRow.{StepRow}
 
 -- ---- names
 
@@ -58,7 +46,7 @@ hand_said steps p None each = refl
 hand_said steps p (Some c) each = each c (own_id c)
 
 hands_said : (states : List PointState) (steps : List StepRow) → in_key_order name_cmp state_key states ≡ true → HandsHaveSteps states steps → list_all (state_fits steps) states ≡ true
-hands_said states steps ordered have = list_all_from (state_fits steps) states (λ state there.
+hands_said states steps ordered have = list_all-from_each (state_fits steps) states (λ state there.
     let found = row_of-member name_cmp state_key nat_list_cmp_total state states ordered there in
     hand_said steps state.point state.hand (λ c held. have c state.point (ap (λ (o : Option PointState). is_hand c (hand_in o)) found ∙ held)))
 

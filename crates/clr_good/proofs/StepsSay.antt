@@ -1,35 +1,20 @@
 -- What it says that the list of steps fits.
-use Rattle.std.proofs.Common.{◌≡◌, ℕ, Bool, true, false, not, ◌&&◌, ◌||◌, nat_eq, List, [], ◌∷◌, Option, Some, None, is_some, IsTrue, All, Contains, refl, sym, ◌∙◌, ap, subst}
-use Rattle.std.specs.List.{list_all, list_any}
-use Rattle.std.proofs.lemmas.Bool.{and_from, and_parts, both_ways, eqb-true, eq-eqb, false≢true, false_from_ne_true, not-true, not_from_false}
-use Rattle.std.proofs.lemmas.List.Elements.{All-contains}
-use Rattle.clr_net.specs.Fence.{fence_of}
-use Rattle.clr_net.specs.Grid.{Grid, point_names}
-use Rattle.clr_net.specs.Name.{same_name}
-use Rattle.clr_net.specs.Names.{has_name}
-use Rattle.clr_net.proofs.Walks.{any_from, one_name, same_itself, some_from}
-use Rattle.clr_order.specs.Isolating.{IsSoundOrder, isolating_fault}
+use Rattle.std.proofs.Common.{◌≡◌, ℕ, Bool, true, false, not, ◌&&◌, ◌||◌, nat_eq, List, [], ◌∷◌, Option, Some, None, is_some, IsTrue, All, Contains, refl, sym, ◌∙◌, ap, subst, eqb-true, eq-eqb}
+use Rattle.clr_rules.proofs.Common.{list_all, list_any, and_from, and_parts, both_ways, false≢true, false_from_ne_true, not-true, not_from_false, All-contains, fence_of, Grid, point_names, same_name}
+use Rattle.clr_rules.proofs.Common.{list_all-from_each, has_name, any_from, one_name, same_itself, some_from, IsSoundOrder, isolating_fault, list_all-contains, member-row_of, row_of-member}
+use Rattle.clr_rules.proofs.Common.{in_key_order, has_record, is_closing_at, ActiveInRound, active_at, all_waiting, go_in_turn, of_round, hinders, Id, Register, has_in_hand, id_cmp, id_cmp_total}
+use Rattle.clr_rules.proofs.Common.{record_key, record_of, same_id, hold_cmp, hold_key, is_active, is_done, points_of, steps_of, tasks_of, is_point_kind, has_hold, hold_of, first_of_each, same_kind}
+use Rattle.clr_rules.proofs.Common.{is_close, kept_there}
 use Rattle.clr_order.proofs.SoundOrders.{no_fault_from_sound, sound_from_no_fault}
 use Rattle.clr_order.specs.declared.order_fault.OrderFault.{OrderFault}
-use Rattle.clr_shelf.proofs.Lists.{list_all-contains}
-use Rattle.clr_shelf.proofs.Members.{member-row_of, row_of-member}
-use Rattle.clr_shelf.specs.Rows.{in_key_order}
-use Rattle.clr_rules.specs.Good.{has_record, is_closing_at}
-use Rattle.clr_rules.specs.GoodByPhase.{ActiveInRound, active_at, all_waiting, go_in_turn, of_round}
-use Rattle.clr_rules.specs.Holds.{hinders}
-use Rattle.clr_rules.specs.Prelude.{Id, Register, has_in_hand, id_cmp, id_cmp_total, record_key, record_of, same_id}
-use Rattle.clr_rules.specs.Prelude.{hold_cmp, hold_key, is_active, is_done, points_of, steps_of, tasks_of, is_point_kind, has_hold, hold_of, first_of_each, same_kind}
-use Rattle.clr_rules.specs.declared.hold_kind.HoldKind.{HoldKind}
-use Rattle.clr_rules.specs.declared.record.Record.{Record}
-use Rattle.clr_rules.specs.declared.step_row.StepRow.{StepRow}
-use Rattle.clr_rules.specs.declared.hold_kind.HoldKind.TheVariants.{HeldOpen, Block, Control, Tag}
-use Rattle.clr_rules.specs.declared.hold_kind.HoldKind.TheVariants.{Tested, Ground, Crew}
-use Rattle.clr_rules.specs.Steps.{is_close}
-use Rattle.clr_rules.proofs.lists.Filters.{kept_there}
 use Rattle.clr_rules.proofs.lists.HoldMembers.{hold_had, hold_there}
 use Rattle.clr_rules.proofs.lists.RoundSteps.{All-from_each, among_own, one_id, own_id, record_id}
 use Rattle.clr_good.specs.Steps.{active_within, closing_fits, isolates, record_steps_fit, round_waits, rounds_go_in_turn, step_fits, steps_fit, steps_suit}
-use Rattle.clr_good.proofs.Tests.{asked, asked_from, list_all_from}
+use Rattle.clr_good.proofs.Tests.{asked, asked_from}
+use Rattle.clr_rules.specs.declared.hold_kind.HoldKind.{HoldKind}
+use Rattle.clr_rules.specs.declared.record.Record.{Record}
+use Rattle.clr_rules.specs.declared.step_row.StepRow.{StepRow}
+use Rattle.clr_rules.specs.declared.hold_kind.HoldKind.TheVariants.{HeldOpen, Block}
 
 pub record StepsSay (R : Register) : Type 0 where
   pub recorded : All (λ row. IsTrue (has_record R.records row.id)) R.steps
@@ -88,11 +73,7 @@ hand_there R all c p active =
 held_open_is : (kind : HoldKind) → same_kind HeldOpen kind ≡ true → kind ≡ HeldOpen
 held_open_is HeldOpen h = refl
 held_open_is Block h = absurd (false≢true h)
-held_open_is Control h = absurd (false≢true h)
-held_open_is Tag h = absurd (false≢true h)
-held_open_is Tested h = absurd (false≢true h)
-held_open_is Ground h = absurd (false≢true h)
-held_open_is Crew h = absurd (false≢true h)
+held_open_is _ h = absurd (false≢true h)
 
 -- a hold there that does not hinder is the clearance's own HeldOpen
 own_held_open : (c d : Id) (kind : HoldKind) (p : List ℕ) → is_point_kind kind ≡ true → hinders c p (hold_of d kind p) ≡ false → (d ≡ c) × (kind ≡ HeldOpen)
@@ -224,7 +205,7 @@ active_say round rows all = All-from_each (λ (row : StepRow). is_active row.ste
     (list_all-contains (λ (row : StepRow). not (is_active row.step.state) || nat_eq row.round round) rows row all there) active))
 
 pub active_said : (round : ℕ) (rows : List StepRow) → ActiveInRound rows round → active_within round rows ≡ true
-active_said round rows all = list_all_from (λ (row : StepRow). not (is_active row.step.state) || nat_eq row.round round) rows (λ row there.
+active_said round rows all = list_all-from_each (λ (row : StepRow). not (is_active row.step.state) || nat_eq row.round round) rows (λ row there.
     asked_from (is_active row.step.state) (nat_eq row.round round) (λ active.
     eq-eqb row.round round (All-contains (λ (row : StepRow). is_active row.step.state ≡ true → row.round ≡ round) rows row all there active)))
 
@@ -265,13 +246,13 @@ active_here steps row there active =
 pub steps_said : (R : Register) → in_key_order id_cmp record_key R.records ≡ true → in_key_order hold_cmp hold_key R.holds ≡ true → StepsSay R → steps_fit R ≡ true
 steps_said R ordered holds_ordered say =
     and_from (list_all (step_fits R) R.steps) (list_all (record_steps_fit R) R.records)
-    (list_all_from (step_fits R) R.steps (λ row there.
+    (list_all-from_each (step_fits R) R.steps (λ row there.
     step_back R row
     (All-contains (λ (row : StepRow). has_record R.records row.id ≡ true) R.steps row say.recorded there)
     (All-contains (λ (row : StepRow). has_name (point_names (Grid.points R.net)) row.step.point ≡ true) R.steps row say.known there)
     (λ active. say.in_hand row.id row.step.point (active_here R.steps row there active))
     (closing_back R holds_ordered say.closing row there)))
-    (list_all_from (record_steps_fit R) R.records (λ r there.
+    (list_all-from_each (record_steps_fit R) R.records (λ r there.
     let found = row_of-member id_cmp record_key id_cmp_total r R.records ordered there in
     and_from (rounds_go_in_turn (steps_of R.steps r.id)) (steps_suit R.net r.phase r.work (steps_of R.steps r.id))
     (turns_said (steps_of R.steps r.id) (say.in_turn r.id r found)) (say.suit r.id r found)))

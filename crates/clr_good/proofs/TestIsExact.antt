@@ -1,15 +1,8 @@
 -- Of a register that is kept, the lists fit exactly where it is good.
 use Rattle.std.proofs.Common.{◌≡◌, ◌↔◌, ℕ, Bool, true, false, ◌&&◌, List, [], Option, Some, None, is_some, refl, sym, ◌∙◌, ap, subst}
-use Rattle.std.proofs.lemmas.Bool.{and_from, and_parts, both_ways, false≢true, false_from_ne_true}
-use Rattle.std.proofs.lemmas.List.Elements.{All-weaker}
-use Rattle.std.proofs.lemmas.Option.{same_Some}
-use Rattle.clr_net.specs.declared.point.Position.TheVariants.{Opened}
-use Rattle.clr_rules.specs.Good.{IsGood, has_record}
+use Rattle.clr_rules.proofs.Common.{and_from, and_parts, both_ways, false≢true, false_from_ne_true, All-weaker, same_Some, Opened, IsGood, has_record, Id, Register, has_in_hand, position_of}
+use Rattle.clr_rules.proofs.Common.{record_of, same_id, steps_of, is_point_kind, has_hold, hold_of}
 use Rattle.clr_rules.specs.GoodByPhase.{HoldsNothing, InPhase, InPlaceAs, IsGoodByPhase, active_at, go_in_turn, of_round, outlook_of}
-use Rattle.clr_rules.specs.Prelude.{Id, Register, has_in_hand, position_of, record_of, same_id, steps_of, is_point_kind, has_hold, hold_of}
-use Rattle.clr_rules.specs.declared.hold_kind.HoldKind.{HoldKind}
-use Rattle.clr_rules.specs.declared.record.Record.{Record}
-use Rattle.clr_rules.specs.declared.step_row.StepRow.{StepRow}
 use Rattle.clr_rules.proofs.good.GoodToPhases.{to_phases}
 use Rattle.clr_rules.proofs.good.PhasesToGood.{from_phases}
 use Rattle.clr_rules.proofs.lists.RoundSteps.{no_step_of, one_id}
@@ -23,7 +16,10 @@ use Rattle.clr_good.proofs.ClearancesSay.{ClearancesSay, clearances_said, cleara
 use Rattle.clr_good.proofs.StepsSay.{StepsSay, steps_said, steps_say}
 use Rattle.clr_good.proofs.HoldsSay.{HoldsSay, holds_said, holds_say, opened_is}
 use Rattle.clr_good.proofs.ByPhase.{HoldsSuit, holds_from_phase, phase_from_tests, steps_from_phase, suits_from_phase, work_from_phase}
-use Rattle.clr_good.proofs.Tests.{same_tests}
+use Rattle.clr_net.proofs.Walks.{same_tests}
+use Rattle.clr_rules.specs.declared.hold_kind.HoldKind.{HoldKind}
+use Rattle.clr_rules.specs.declared.record.Record.{Record}
+use Rattle.clr_rules.specs.declared.step_row.StepRow.{StepRow}
 
 -- ---- lists that fit make a good register
 

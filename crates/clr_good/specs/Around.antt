@@ -1,10 +1,8 @@
 -- The fence around the work section of a clearance.
 use Rattle.std.specs.Prelude.{◌≡◌, ℕ, List, Some}
-use Rattle.clr_net.specs.Fence.{FenceRows}
-use Rattle.clr_net.specs.Grid.{section_names}
+use Rattle.clr_rules.specs.Prelude.{FenceRows, section_names, Id, Register, points_of, steps_of}
 use Rattle.clr_rules.specs.Fences.{work_fence}
 use Rattle.clr_rules.specs.GoodByPhase.{of_round}
-use Rattle.clr_rules.specs.Prelude.{Id, Register, points_of, steps_of}
 use Rattle.clr_good.specs.declared.around.Around.{Around}
 
 -- the sections of the fence that the first round of a clearance cuts out around a work section

@@ -3,16 +3,13 @@
 -- and then it is Switching or Closed; and only such a record is Switching.
 use Rattle.std.specs.Prelude.{ℕ, ◌+◌, Bool, true, not, ◌&&◌, ◌==◌, if◌then◌else◌, List, [], ◌∷◌}
 use Rattle.std.specs.Prelude.{Option, None, Some}
-use Rattle.std.specs.List.{list_all}
-use Rattle.clr_net.specs.Grid.{Grid, section_names}
-use Rattle.clr_net.specs.Name.{same_name}
+use Rattle.clr_rules.specs.Prelude.{list_all, Grid, section_names, same_name, Id, Register}
 use Rattle.clr_rules.specs.Good.{is_known_work, is_operators}
-use Rattle.clr_rules.specs.Prelude.{Id, Register}
+use Rattle.clr_rules.specs.Records.{is_switch_order, lacks_work}
 use Rattle.clr_rules.specs.declared.phase.Phase.{Phase}
 use Rattle.clr_rules.specs.declared.record.Record.{Record}
 use Rattle.clr_rules.specs.declared.phase.Phase.TheVariants.{Requested, Ordered, Granted, Released}
 use Rattle.clr_rules.specs.declared.phase.Phase.TheVariants.{Restoring, Switching, Closed}
-use Rattle.clr_rules.specs.Records.{is_switch_order, lacks_work}
 
 -- whether a record of this phase may have this work section, or none
 abbrev pub work_fits : Phase → Option (List ℕ) → Bool

@@ -6,8 +6,7 @@ use Rattle.clr_good.specs.Clearances.{clearances_fit}
 use Rattle.clr_good.specs.Steps.{steps_fit}
 use Rattle.clr_good.specs.Holds.{holds_fit}
 use Rattle.clr_good.specs.declared.fault.ListAtFault.{ListAtFault}
-use Rattle.clr_good.specs.declared.fault.ListAtFault.TheVariants.{Points, Clearances}
-use Rattle.clr_good.specs.declared.fault.ListAtFault.TheVariants.{Steps, Holds}
+use Rattle.clr_good.specs.declared.fault.ListAtFault.TheVariants.{Points, Clearances, Steps, Holds}
 
 -- a list that does not fit, before those that come after it
 abbrev pub unless_fits : Bool → ListAtFault → Option ListAtFault → Option ListAtFault

@@ -2,21 +2,15 @@
 -- there, and a hold at a point stands at an open one; and each record has the holds that its phase
 -- and its steps want.
 use Rattle.std.specs.Prelude.{ℕ, Bool, true, false, not, ◌&&◌, ◌||◌, List, Option, None, Some}
-use Rattle.std.specs.List.{list_all}
-use Rattle.clr_net.specs.Grid.{Grid}
-use Rattle.clr_net.specs.Names.{has_name}
-use Rattle.clr_net.specs.declared.point.Position.{Position}
+use Rattle.clr_rules.specs.Prelude.{list_all, Grid, has_name, Position, actions_at, Action, Id}
+use Rattle.clr_rules.specs.Prelude.{Register, position_of, record_of, is_granted, is_done}
+use Rattle.clr_rules.specs.Prelude.{points_of, steps_of, tasks_of, is_point_kind, has_hold}
 use Rattle.clr_net.specs.declared.point.Position.TheVariants.{Opened, Closed as Shut}
 use Rattle.clr_order.specs.Needed.{undoes}
-use Rattle.clr_order.specs.Step.{actions_at}
-use Rattle.clr_order.specs.declared.action.Action.{Action}
-use Rattle.clr_order.specs.declared.action.Action.TheVariants as actions
 use Rattle.clr_rules.specs.Fences.{work_fence}
 use Rattle.clr_rules.specs.Good.{put_by, steps_left_of, works_on}
 use Rattle.clr_rules.specs.GoodByPhase.{of_round}
-use Rattle.clr_rules.specs.Prelude.{Id, Register, position_of}
-use Rattle.clr_rules.specs.Prelude.{record_of, is_granted, is_done, points_of, steps_of, tasks_of}
-use Rattle.clr_rules.specs.Prelude.{is_point_kind, has_hold}
+use Rattle.clr_order.specs.declared.action.Action.TheVariants as actions
 use Rattle.clr_rules.specs.declared.hold.Hold.{Hold}
 use Rattle.clr_rules.specs.declared.hold_kind.HoldKind.{HoldKind}
 use Rattle.clr_rules.specs.declared.phase.Phase.{Phase}

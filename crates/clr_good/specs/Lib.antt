@@ -2,7 +2,6 @@ pub mod Points
 pub mod Clearances
 pub mod Steps
 pub mod Holds
-pub mod HoldsLeft
 pub mod Around
 pub mod Whole
 pub mod Fault

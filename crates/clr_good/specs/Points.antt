@@ -1,12 +1,10 @@
 -- THE LIST OF POINTS FITS: each point of the network has a state, no other name has one, and a
 -- point is in a hand only where the clearance has a step there that is given out.
 use Rattle.std.specs.Prelude.{ℕ, Bool, true, ◌&&◌, List, map, Option, None, Some}
-use Rattle.std.specs.List.{list_all}
+use Rattle.clr_rules.specs.Prelude.{list_all, Grid, point_names, same_name, Id, Register, state_key}
+use Rattle.clr_rules.specs.Prelude.{steps_of}
 use Rattle.std.specs.Cmp.Lexicographic.{pointwise}
-use Rattle.clr_net.specs.Grid.{Grid, point_names}
-use Rattle.clr_net.specs.Name.{same_name}
 use Rattle.clr_rules.specs.GoodByPhase.{active_at}
-use Rattle.clr_rules.specs.Prelude.{Id, Register, state_key, steps_of}
 use Rattle.clr_rules.specs.declared.point_state.PointState.{PointState}
 use Rattle.clr_rules.specs.declared.step_row.StepRow.{StepRow}
 

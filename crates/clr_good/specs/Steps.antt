@@ -2,27 +2,23 @@
 -- point in hand while it is given out; while a Close is given out, nothing stands at its point but
 -- the clearance's own HeldOpen; the steps of each record go in turn, and are as its phase wants
 -- them.
-use Rattle.std.specs.Prelude.{ℕ, Bool, true, false, not, ◌&&◌, ◌||◌, ◌==◌, List, [], ◌∷◌}
-use Rattle.std.specs.Prelude.{Option, None, Some}
-use Rattle.std.specs.List.{list_all, list_any}
-use Rattle.std.specs.Option.{is_some}
-use Rattle.clr_net.specs.Fence.{fence_of}
-use Rattle.clr_net.specs.Grid.{Grid, point_names}
-use Rattle.clr_net.specs.Names.{has_name}
+use Rattle.std.specs.Prelude.{ℕ, Bool, true, false, not, ◌&&◌, ◌||◌, ◌==◌, List, [], ◌∷◌, Option}
+use Rattle.std.specs.Prelude.{None, Some, is_some}
+use Rattle.clr_rules.specs.Prelude.{list_all, list_any, fence_of, Grid, point_names, has_name}
+use Rattle.clr_rules.specs.Prelude.{Register, has_in_hand, all_done, is_active, is_done}
+use Rattle.clr_rules.specs.Prelude.{is_some_step, is_waiting, points_of, steps_of, tasks_of}
+use Rattle.clr_rules.specs.Prelude.{first_of_each}
 use Rattle.clr_order.specs.Action.{is_switching}
 use Rattle.clr_order.specs.Isolating.{isolating_fault}
 use Rattle.clr_rules.specs.Good.{has_record}
 use Rattle.clr_rules.specs.GoodByPhase.{of_round, present_of}
 use Rattle.clr_rules.specs.Holds.{hinders}
-use Rattle.clr_rules.specs.Prelude.{Register, has_in_hand}
-use Rattle.clr_rules.specs.Prelude.{all_done, is_active, is_done, is_some_step, is_waiting}
-use Rattle.clr_rules.specs.Prelude.{points_of, steps_of, tasks_of, first_of_each}
+use Rattle.clr_rules.specs.Steps.{is_close, some_active}
 use Rattle.clr_rules.specs.declared.phase.Phase.{Phase}
 use Rattle.clr_rules.specs.declared.record.Record.{Record}
 use Rattle.clr_rules.specs.declared.step_row.StepRow.{StepRow}
 use Rattle.clr_rules.specs.declared.phase.Phase.TheVariants.{Requested, Ordered, Granted, Released}
 use Rattle.clr_rules.specs.declared.phase.Phase.TheVariants.{Restoring, Switching, Closed}
-use Rattle.clr_rules.specs.Steps.{is_close, some_active}
 
 -- whether a Close that is given out is kept by no hold from being done
 abbrev pub closing_fits : Register → StepRow → Bool

@@ -1,9 +1,8 @@
 -- WHETHER A REGISTER IS GOOD, AS A TEST: its four lists fit, each row with the others.
 use Rattle.std.specs.Prelude.{Bool, ◌&&◌}
-use Rattle.clr_net.specs.Grid.{IsNetwork}
+use Rattle.clr_rules.specs.Prelude.{IsNetwork, Register}
 use Rattle.clr_staff.specs.Staff.{IsStaff}
 use Rattle.clr_rules.specs.Good.{ListsAreInOrder, NetworkIsUnplaced}
-use Rattle.clr_rules.specs.Prelude.{Register}
 use Rattle.clr_good.specs.Points.{points_fit}
 use Rattle.clr_good.specs.Clearances.{clearances_fit}
 use Rattle.clr_good.specs.Steps.{steps_fit}

@@ -1,4 +1,4 @@
-//! The fence around the work section of a clearance, kept while its tests and grounds are looked at.
+//! The fence around the work section of a clearance, kept while its tests and grounds are read.
 ghost use Rattle.std.specs.Prelude.{◌≡◌, IfOk, IfSome};
 ghost use Rattle.clr_net.specs.Grid.{section_names};
 ghost use Rattle.clr_good.specs.Around.{IsAround, fence_cut};

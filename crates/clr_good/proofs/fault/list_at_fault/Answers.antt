@@ -1,6 +1,5 @@
 use Rattle.std.proofs.Common.{◌≡◌, ◌↔◌, ◌∙◌, None, Option, ap, subst, sym}
-use Rattle.clr_rules.specs.Good.{IsGood}
-use Rattle.clr_rules.specs.Register.{Register}
+use Rattle.clr_rules.proofs.Common.{IsGood, Register}
 use Rattle.clr_good.specs.Fault.{list_at_fault}
 use Rattle.clr_good.specs.Whole.{IsKept}
 use Rattle.clr_good.specs.declared.fault.ListAtFault.{ListAtFault}

@@ -1,8 +1,8 @@
 use Rattle.std.proofs.Common.{map, sym, Bor}
-use Rattle.std.proofs.lemmas.List.Sorted.{IsPermutation-map}
+use Rattle.clr_rules.proofs.Common.{IsPermutation-map}
 use Rattle.clr_net.proofs.Places.{list_all-permuted}
-use Rattle.clr_rules.specs.declared.hold.Hold.{Hold}
 use Rattle.clr_good.proofs.holds.by_clearance.Goals as goal
+use Rattle.clr_rules.specs.declared.hold.Hold.{Hold}
 
 pub returns : goal.returns
 returns c test =

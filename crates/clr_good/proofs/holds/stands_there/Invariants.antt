@@ -1,6 +1,5 @@
 use Rattle.std.proofs.Common.{◌≡◌, map, drop}
-use Rattle.clr_net.specs.Names.{has_name}
-use Rattle.clr_rules.specs.Steps.{points_of}
+use Rattle.clr_rules.proofs.Common.{has_name, points_of}
 use Rattle.clr_good.proofs.holds.stands_there.Given as goal
 
 abbrev pub invariant-loop-row : goal.invariant-loop-row

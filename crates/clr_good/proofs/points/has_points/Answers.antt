@@ -1,9 +1,9 @@
 use Rattle.std.proofs.Common.{◌∙◌, ap, Bor, List, ℕ, map}
-use Rattle.clr_rules.specs.Prelude.{state_key}
-use Rattle.clr_rules.specs.declared.point_state.PointState.{PointState}
+use Rattle.clr_rules.proofs.Common.{state_key}
 use Rattle.clr_good.specs.Points.{same_names}
 use Rattle.clr_good.proofs.CodeFacts.{names_behind}
 use Rattle.clr_good.proofs.points.has_points.Goals as goal
+use Rattle.clr_rules.specs.declared.point_state.PointState.{PointState}
 
 pub returns : goal.returns
 returns c =

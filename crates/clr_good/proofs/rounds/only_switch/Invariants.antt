@@ -1,6 +1,5 @@
 use Rattle.std.proofs.Common.{◌≡◌, map, drop}
-use Rattle.std.specs.List.{list_all}
-use Rattle.clr_order.specs.Action.{is_switching}
+use Rattle.clr_rules.proofs.Common.{list_all, is_switching}
 use Rattle.clr_good.proofs.rounds.only_switch.Given as goal
 
 abbrev pub invariant-loop-row : goal.invariant-loop-row

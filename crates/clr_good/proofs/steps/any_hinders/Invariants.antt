@@ -1,6 +1,5 @@
 use Rattle.std.proofs.Common.{◌≡◌, map, drop}
-use Rattle.std.specs.List.{list_any}
-use Rattle.clr_rules.specs.Holds.{hinders}
+use Rattle.clr_rules.proofs.Common.{list_any, hinders}
 use Rattle.clr_good.proofs.steps.any_hinders.Given as goal
 
 abbrev pub invariant-loop-hold : goal.invariant-loop-hold

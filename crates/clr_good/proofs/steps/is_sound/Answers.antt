@@ -1,7 +1,5 @@
-use Rattle.std.proofs.Common.{◌∙◌, ap, map}
-use Rattle.std.specs.Result.{is_ok}
-use Rattle.clr_order.specs.Isolating.{isolating_fault}
-use Rattle.clr_order.specs.Step.{task}
+use Rattle.std.proofs.Common.{◌∙◌, ap, map, is_ok}
+use Rattle.clr_rules.proofs.Common.{isolating_fault, task}
 use Rattle.clr_good.proofs.CodeFacts.{no_fault_told}
 use Rattle.clr_good.proofs.steps.is_sound.Goals as goal
 

@@ -1,8 +1,6 @@
 use Rattle.std.proofs.Common.{◌≡◌, map, drop}
-use Rattle.clr_order.specs.Step.{actions_at}
-use Rattle.clr_rules.specs.Good.{steps_left_of}
-use Rattle.clr_rules.specs.Steps.{tasks_of}
-use Rattle.clr_good.specs.HoldsLeft.{are_undone}
+use Rattle.clr_rules.proofs.Common.{actions_at, steps_left_of, tasks_of}
+use Rattle.clr_order.specs.HoldsLeft.{are_undone}
 use Rattle.clr_good.proofs.undoing.undo.Given as goal
 
 -- the actions that are left undo what is left exactly where all of them undo all

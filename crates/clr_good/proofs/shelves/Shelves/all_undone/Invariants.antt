@@ -1,6 +1,5 @@
 use Rattle.std.proofs.Common.{◌≡◌, map, drop}
-use Rattle.std.specs.List.{list_all}
-use Rattle.clr_rules.specs.Steps.{points_of}
+use Rattle.clr_rules.proofs.Common.{list_all, points_of}
 use Rattle.clr_good.specs.Holds.{is_undone_at}
 use Rattle.clr_good.proofs.shelves.Shelves.all_undone.Given as goal
 

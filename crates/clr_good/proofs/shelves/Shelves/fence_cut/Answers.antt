@@ -1,10 +1,8 @@
 use Rattle.std.proofs.Common.{◌≡◌, ◌∙◌, ap, map, Bor, List}
-use Rattle.clr_rules.specs.GoodByPhase.{of_round}
-use Rattle.clr_rules.specs.Register.{Register}
-use Rattle.clr_rules.specs.Steps.{points_of, steps_of}
-use Rattle.clr_rules.specs.declared.step_row.StepRow.{StepRow}
+use Rattle.clr_rules.proofs.Common.{of_round, Register, points_of, steps_of}
 use Rattle.clr_good.proofs.CodeFacts.{cut_told, points_behind}
 use Rattle.clr_good.proofs.shelves.Shelves.fence_cut.Goals as goal
+use Rattle.clr_rules.specs.declared.step_row.StepRow.{StepRow}
 
 pub returns : goal.returns
 unfolding steps_of

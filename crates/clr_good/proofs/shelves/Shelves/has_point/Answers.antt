@@ -1,8 +1,5 @@
 use Rattle.std.proofs.Common.{◌∙◌, ap, is_some, sym, List, ℕ}
-use Rattle.clr_net.specs.Grid.{Grid, point_names}
-use Rattle.clr_net.specs.Names.{has_name}
-use Rattle.clr_net.specs.declared.point.PointRow.{PointRow}
-use Rattle.clr_rules.specs.Register.{Register}
+use Rattle.clr_rules.proofs.Common.{Grid, point_names, has_name, PointRow, Register}
 use Rattle.clr_rules.proofs.good.Opening.{unplaced_names}
 use Rattle.clr_good.proofs.CodeFacts.{found_named, is_there}
 use Rattle.clr_good.proofs.shelves.Shelves.has_point.Goals as goal

@@ -1,8 +1,5 @@
 use Rattle.std.proofs.Common.{◌∙◌, ap, is_some}
-use Rattle.clr_net.specs.Grid.{Grid, section_names}
-use Rattle.clr_net.specs.Names.{has_name}
-use Rattle.clr_net.specs.declared.section.SectionRow.{SectionRow}
-use Rattle.clr_rules.specs.Register.{Register}
+use Rattle.clr_rules.proofs.Common.{Grid, section_names, has_name, SectionRow, Register}
 use Rattle.clr_good.proofs.CodeFacts.{found_named, is_there}
 use Rattle.clr_good.proofs.shelves.Shelves.has_section.Goals as goal
 

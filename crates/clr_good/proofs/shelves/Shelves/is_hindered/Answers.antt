@@ -1,10 +1,8 @@
 use Rattle.std.proofs.Common.{◌∙◌, ap, map, Bor, List}
-use Rattle.std.specs.List.{list_any}
-use Rattle.clr_rules.specs.Holds.{hinders}
-use Rattle.clr_rules.specs.Register.{Register}
-use Rattle.clr_rules.specs.declared.hold.Hold.{Hold}
+use Rattle.clr_rules.proofs.Common.{list_any, hinders, Register}
 use Rattle.clr_good.proofs.CodeFacts.{hinders_there}
 use Rattle.clr_good.proofs.shelves.Shelves.is_hindered.Goals as goal
+use Rattle.clr_rules.specs.declared.hold.Hold.{Hold}
 
 pub returns : goal.returns
 returns g c =

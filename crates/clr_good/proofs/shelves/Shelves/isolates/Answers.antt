@@ -1,11 +1,8 @@
 use Rattle.std.proofs.Common.{◌≡◌, ◌∙◌, ap, map, Bor}
-use Rattle.clr_order.specs.Step.{task}
-use Rattle.clr_rules.specs.Holds.{first_of_each}
-use Rattle.clr_rules.specs.Register.{Register}
-use Rattle.clr_rules.specs.Steps.{points_of, tasks_of}
-use Rattle.clr_rules.specs.declared.step_row.StepRow.{StepRow}
+use Rattle.clr_rules.proofs.Common.{task, first_of_each, Register, points_of, tasks_of}
 use Rattle.clr_good.proofs.CodeFacts.{points_behind, sound_told, tasks_behind}
 use Rattle.clr_good.proofs.shelves.Shelves.isolates.Goals as goal
+use Rattle.clr_rules.specs.declared.step_row.StepRow.{StepRow}
 
 pub returns : goal.returns
 returns g c =

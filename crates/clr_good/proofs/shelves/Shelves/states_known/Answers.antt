@@ -1,11 +1,9 @@
 use Rattle.std.proofs.Common.{◌∙◌, ap, sym, Bor, List, ℕ, map}
-use Rattle.clr_net.specs.Grid.{Grid, point_names}
-use Rattle.clr_rules.specs.Prelude.{state_key}
-use Rattle.clr_rules.specs.declared.point_state.PointState.{PointState}
-use Rattle.clr_rules.specs.Register.{Register}
+use Rattle.clr_rules.proofs.Common.{Grid, point_names, state_key, Register}
 use Rattle.clr_rules.proofs.good.Opening.{unplaced_names}
 use Rattle.clr_good.specs.Points.{same_names}
 use Rattle.clr_good.proofs.shelves.Shelves.states_known.Goals as goal
+use Rattle.clr_rules.specs.declared.point_state.PointState.{PointState}
 
 pub returns : goal.returns
 returns g c =
