@@ -1,6 +1,5 @@
 -- What went out to a connection, by what was read and how it was answered.
-use Rattle.std.proofs.Common.{◌≡◌, ℕ, List, Option, Some, ap, arith, inl, inr, refl, sym, subst}
-use Rattle.std.specs.Prelude.{◌≢◌, ◌⊎◌, Result, Ok, Err}
+use Rattle.std.proofs.Common.{◌≡◌, ℕ, List, Option, Some, ap, arith, inl, inr, refl, sym, subst, ◌≢◌, ◌⊎◌, Result, Ok, Err}
 use Rattle.clr_stream.specs.Failures.{Rose, one_more}
 use Rattle.clr_stream.specs.Streams.{Stream}
 use Rattle.clr_http.proofs.Turns.{IsLeft, turn_leaves}
@@ -10,16 +9,16 @@ use Rattle.clr_http.specs.Respond.{Outcome, unchanged}
 use Rattle.clr_http.specs.Response.{Content, content_of, status_of}
 use Rattle.clr_http.specs.Served.{IsConnection, IsServed, IsWritten, http_fault_of}
 use Rattle.clr_http.specs.declared.head.HeadFault.{HeadFault}
-use Rattle.clr_http.specs.declared.head.HeadFault.TheVariants as head_fault
 use Rattle.clr_http.specs.declared.request.ReadFault.{ReadFault}
 use Rattle.clr_http.specs.declared.response.Response.{Response}
-use Rattle.clr_http.specs.declared.response.Response.TheVariants as made
-use Rattle.clr_http.specs.declared.request.ReadFault.TheVariants as read
 use Rattle.clr_http.specs.declared.serve.HttpFault.{HttpFault}
 use Rattle.clr_http.specs.declared.serve.HttpFault.TheVariants.{NoMemory, ReadFailed, WriteFailed}
 use Rattle.clr_http.specs.declared.serve.Served.{Served}
 use Rattle.clr_http.specs.declared.serve.Served.TheVariants.{Answered, Nothing}
 use Rattle.clr_http.specs.declared.target.Target.{Target}
+use Rattle.clr_http.specs.declared.head.HeadFault.TheVariants as head_fault
+use Rattle.clr_http.specs.declared.response.Response.TheVariants as made
+use Rattle.clr_http.specs.declared.request.ReadFault.TheVariants as read
 
 -- what went out is of a wider kind too
 pub wider : (kind other : Content → Type 0) (before behind : Stream) (result : Result Served HttpFault)
@@ -140,10 +139,7 @@ unmade_connection old new stream result e same =
 -- what is asked for is no refusal of a head
 unasked : (e : HeadFault) (a : Target) (body : List ℕ) → refusal_of e ≡ Some (asks a body) → ⊥
 unasked head_fault.BadHead a body e = cc e
-unasked head_fault.HeadTooLarge a body e = cc e
-unasked head_fault.HeadCut a body e = cc e
-unasked head_fault.ReadFailed a body e = cc e
-unasked head_fault.NoMemory a body e = cc e
+unasked _ a body e = cc e
 
 pub asks_unrefused : (known left : Option (List ℕ)) (a : Target) (body : List ℕ) → IsRefusedHead known left (asks a body) → ⊥
 asks_unrefused known left a body (taken, consumed, e, is, explained) = unasked e a body is

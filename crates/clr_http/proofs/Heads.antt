@@ -3,8 +3,7 @@ use Rattle.std.proofs.Common.{◌≡◌, ◌∙◌, sym, ap, ℕ, ◌+◌, ◌�
 use Rattle.std.proofs.lemmas.List.{take-append-le, take-append-drop}
 use Rattle.std.proofs.Math.Seq.{take-append_seam}
 use Rattle.std.specs.Io.KnownBytes.{Consumes}
-use Rattle.httparse.specs.Grammar.{RequestHead, ReadsRequest, print_request, HasNoRequest}
-use Rattle.httparse.specs.Spans.{RequestOverflows}
+use Rattle.httparse.specs.Grammar.{RequestHead, print_request, HasNoRequest}
 use Rattle.clr_http.specs.Head.{HasHead}
 
 some_bytes : (h : RequestHead) → 0 < length (print_request h)
@@ -16,14 +15,6 @@ pub none_at_first : HasNoRequest []
 none_at_first h rest r =
     let e : length (print_request h) + length rest ≡ 0 = sym (length-append (print_request h) rest) ∙ ap length (sym r.1) in
     omega (arith, some_bytes h)
-
--- where no head within the room can follow, the input does not begin with one
-pub overflow : (known new : Option (List ℕ)) (taken : List ℕ) → Consumes known new taken → RequestOverflows 64 taken → HasHead known → ⊥
-overflow None new taken c o h = h
-overflow (Some xs) None taken c o h = c
-overflow (Some xs) (Some ys) taken c o (h, rest, b) =
-    let r : ReadsRequest (taken ++ ys) h rest = rw c at b.reads in
-    omega (arith, o ys h rest r, b.fields)
 
 front_of : (taken ys p rest : List ℕ) → taken ++ ys ≡ p ++ rest → length p ≤ length taken → taken ≡ p ++ drop (length p) taken
 front_of taken ys p rest e le =

@@ -1,8 +1,6 @@
 -- One Content-Length, or several.
-use Rattle.std.proofs.Common.{◌≡◌, ℕ, ◌<◌, Bool, true, false, List, [], ◌∷◌, filter, map, drop, take, get_or, length, ◌-◌, refl, arith}
-use Rattle.std.proofs.lemmas.List.{take_all}
-use Rattle.std.specs.Prelude.{Err, Result, if◌then◌else◌}
-use Rattle.std.specs.List.{list_any}
+use Rattle.std.proofs.Common.{◌≡◌, ℕ, ◌<◌, Bool, true, false, List, [], ◌∷◌, filter, map, drop, take, get_or, length, ◌-◌, refl, arith, take_all, Err, Result, if◌then◌else◌}
+use Rattle.clr_rules.proofs.Common.{list_any}
 use Rattle.clr_http.specs.Length.{Field, length_of_fields, read_length}
 use Rattle.clr_http.specs.declared.length.LengthFault.{LengthFault}
 use Rattle.clr_http.specs.declared.length.LengthFault.TheVariants.{BadLength}

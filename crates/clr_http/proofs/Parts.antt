@@ -1,13 +1,11 @@
 -- The parts of an ASCII target are text, and so is the text of each route.
-use Rattle.std.proofs.Common.{◌≡◌, refl, ℕ, List, [], ◌∷◌, take, drop, ◌-◌, length, Bool, true, false, cond, Option, Some, None, IfSome, zero, suc, subst, rules}
+use Rattle.std.proofs.Common.{◌≡◌, refl, ℕ, List, [], ◌∷◌, take, drop, ◌-◌, length, Bool, true, false, cond, Option, Some, None, IfSome, zero, suc, subst, rules, IsAscii, IsUtf8}
 use Rattle.std.specs.Char.{is_ascii}
-use Rattle.std.specs.List.{list_all}
-use Rattle.std.specs.Str.{IsAscii, IsUtf8}
+use Rattle.clr_rules.proofs.Common.{list_all, and_parts}
 use Rattle.std.proofs.lemmas.Str.{IsUtf8-from_ascii, IsUtf8-nil, IsAscii-take, IsAscii-drop}
 use Rattle.std.proofs.lemmas.Str.Ascii.{IsAscii-nil, IsAscii-cons}
 use Rattle.matchit.proofs.OnLiterals.{matchit_on_literals}
 use Rattle.matchit.specs.Router.{RouteOf}
-use Rattle.std.proofs.lemmas.Bool.{and_parts}
 use Rattle.clr_http.specs.Target.{the_routes}
 use Rattle.clr_http.specs.declared.target.Route.{Route}
 use Rattle.matchit.specs.Params.{walk, part_of, AllText}

@@ -1,11 +1,10 @@
 -- One request: its head, and the body behind it, in the bytes that were taken.
-use Rattle.std.proofs.Common.{◌≡◌, ◌∙◌, sym, ap, refl, subst, ℕ, suc, ◌+◌, ◌≤◌, ◌<◌, ◌-◌, Bool, true, false, nat_le, List, [], ◌∷◌, ◌++◌, length, take, drop, Option, Some, None, arith, rules, length-append}
-use Rattle.std.proofs.lemmas.Bool.{leb-true, le-leb, lt-leb}
+use Rattle.std.proofs.Common.{◌≡◌, ◌∙◌, sym, ap, refl, subst, ℕ, suc, ◌+◌, ◌≤◌, ◌<◌, ◌-◌, true, false, nat_le, List, [], ◌∷◌, ◌++◌, length, take, drop, Option, Some, None, arith, rules, length-append}
+use Rattle.std.proofs.lemmas.Bool.{le-leb, lt-leb}
 use Rattle.std.proofs.lemmas.List.{take-append-le, drop-append-le, length-drop, length-map, length-take-le}
 use Rattle.std.proofs.Math.Seq.{drop-append_seam}
-use Rattle.std.specs.Prelude.{IfOk, Result, Ok, Err, filter, if◌then◌else◌, codes}
+use Rattle.std.specs.Prelude.{Ok, if◌then◌else◌}
 use Rattle.std.specs.Io.KnownBytes.{Consumes, IsAtEnd}
-use Rattle.std.specs.Str.Parse.{digits_value}
 use Rattle.httparse.proofs.GrammarLemmas.{request_unique, ReadsRequest-append}
 use Rattle.httparse.specs.Grammar.{RequestHead, ReadsRequest, print_request}
 use Rattle.httparse.specs.Spans.{IsRequestAt, IsRequestWithin, header_bytes, name_and_value}
@@ -13,39 +12,12 @@ use Rattle.httparse.specs.declared.spans.HeaderSpan.{HeaderSpan}
 use Rattle.httparse.specs.declared.spans.RequestSpans.{RequestSpans}
 use Rattle.clr_http.proofs.Heads.{none_at_first}
 use Rattle.clr_http.specs.Head.{HasHead, IsOutside}
-use Rattle.clr_http.specs.Length.{Field, body_length, is_called, is_length, length_of_fields, within_limit}
 use Rattle.clr_http.specs.Request.{Reading, asks, command_read, refusal_of, refused}
 use Rattle.clr_http.specs.Response.{fault_response}
 use Rattle.clr_http.specs.declared.head.HeadFault.{HeadFault}
 use Rattle.clr_http.specs.declared.head.HeadFault.TheVariants as head_fault
-use Rattle.clr_http.specs.declared.length.LengthFault.{LengthFault}
-use Rattle.clr_http.specs.declared.length.LengthFault.TheVariants.{BadLength, BodyTooLarge, NoLength}
 use Rattle.clr_http.specs.declared.response.Fault.TheVariants as fault
 use Rattle.clr_http.specs.declared.target.Target.TheVariants.{Command}
-
--- a length is at most the limit
-abbrev IsLimited : Result ℕ LengthFault → Type 0
-IsLimited r = IfOk r (λ n. n ≤ 65536)
-
-limited : (n : ℕ) (b : Bool) → nat_le n 65536 ≡ b → IsLimited (if b then Ok n else Err BodyTooLarge)
-limited n true t = leb-true n 65536 t
-limited n false t = tt
-
-value_limited : (n : ℕ) (b : Bool) → IsLimited (if b then within_limit n else Err BadLength)
-value_limited n true = limited n (nat_le n 65536) refl
-value_limited n false = tt
-
-fields_limited : (fields : List Field) → IsLimited (length_of_fields fields)
-fields_limited [] = tt
-fields_limited (field ∷ []) = value_limited (digits_value 10 field.1) (is_length field.1)
-fields_limited (field ∷ other ∷ rest) = tt
-
-choice_limited : (b : Bool) (r : Result ℕ LengthFault) → IsLimited r → IsLimited (if b then Err NoLength else r)
-choice_limited true r l = tt
-choice_limited false r l = l
-
-pub body_limited : (fields : List Field) → IsLimited (body_length fields)
-body_limited fields = choice_limited _ _ (fields_limited (filter (is_called (codes "content-length")) fields))
 
 -- the body of a command, in the bytes taken
 pub body_whole : (input : List ℕ) (left : Option (List ℕ)) (taken : List ℕ) (start size : ℕ)

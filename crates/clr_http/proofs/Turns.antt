@@ -1,21 +1,18 @@
 -- What a turn leaves: the register as it was, or as a command left it. So it stays good, and reached.
-use Rattle.std.proofs.Common.{◌≡◌, ℕ, List, [], ◌∷◌, inl, inr, sym, subst}
-use Rattle.std.specs.Prelude.{◌⊎◌, Option, None, Some, Result, Ok, Err}
+use Rattle.std.proofs.Common.{◌≡◌, ℕ, List, [], ◌∷◌, inl, inr, sym, subst, ◌⊎◌, Option, None, Some, Result, Ok, Err}
 use Rattle.clr_rules.proofs.edits.Runs.{reached_go_on}
 use Rattle.clr_rules.proofs.keeps.EveryKind.{commands_keep_good}
-use Rattle.clr_rules.specs.Good.{IsGood}
-use Rattle.clr_rules.specs.Register.{Register}
-use Rattle.clr_rules.specs.declared.command.Command.{Command}
-use Rattle.clr_rules.specs.Run.{IsReached, after, after_all}
+use Rattle.clr_rules.proofs.Common.{IsGood, Register, IsReached, after, after_all}
 use Rattle.clr_text.specs.Reading.{read_command}
 use Rattle.clr_text.specs.declared.fault.TextFault.{TextFault}
 use Rattle.clr_http.specs.Registrar.{IsTurn, Keeper}
 use Rattle.clr_http.specs.Respond.{Outcome, target_outcome, body_outcome, order_outcome, show_of, view_outcome}
 use Rattle.clr_http.specs.Response.{Content}
 use Rattle.clr_http.specs.declared.target.Target.{Target}
-use Rattle.clr_http.specs.declared.target.Target.TheVariants as asked
 use Rattle.clr_http.specs.declared.target.OrderRequest.{OrderRequest}
 use Rattle.clr_http.specs.declared.target.ViewRequest.{ViewRequest}
+use Rattle.clr_http.specs.declared.target.Target.TheVariants as asked
+use Rattle.clr_rules.specs.declared.command.Command.{Command}
 
 -- the register stays, or is the outcome's
 abbrev pub IsLeft : Outcome → Register → Register → Type 0

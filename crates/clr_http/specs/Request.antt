@@ -1,8 +1,7 @@
 -- THE REQUEST: what the head and the bytes behind it ask for, or how they are refused. The checks
 -- stand in their order: route, method, length, the whole body.
 use Rattle.std.specs.Prelude.{◌≡◌, ◌≢◌, ℕ, nat_eq, nat_le, if◌then◌else◌, List, [], length, map}
-use Rattle.std.specs.Prelude.{take}
-use Rattle.std.specs.Prelude.{Option, Some, None, Result, Ok, Err}
+use Rattle.std.specs.Prelude.{take, Option, Some, None, Result, Ok, Err}
 use Rattle.std.specs.Cmp.Lexicographic.{pointwise}
 use Rattle.httparse.specs.Grammar.{RequestHead}
 use Rattle.httparse.specs.Spans.{name_and_value}
@@ -13,17 +12,17 @@ use Rattle.clr_http.specs.Response.{Content, allow, content_of, fault_response, 
 use Rattle.clr_http.specs.Response.{status_of}
 use Rattle.clr_http.specs.Target.{target_of}
 use Rattle.clr_http.specs.declared.head.HeadFault.{HeadFault}
-use Rattle.clr_http.specs.declared.head.HeadFault.TheVariants as head_fault
 use Rattle.clr_http.specs.declared.length.LengthFault.{LengthFault}
-use Rattle.clr_http.specs.declared.length.LengthFault.TheVariants as length_fault
 use Rattle.clr_http.specs.declared.request.Request.{Request}
-use Rattle.clr_http.specs.declared.request.Request.TheVariants as made
 use Rattle.clr_http.specs.declared.response.Fault.{Fault}
-use Rattle.clr_http.specs.declared.response.Fault.TheVariants as fault
 use Rattle.clr_http.specs.declared.response.Method.{Method}
 use Rattle.clr_http.specs.declared.response.Method.TheVariants.{Get, Post}
 use Rattle.clr_http.specs.declared.target.Target.{Target}
 use Rattle.clr_http.specs.declared.target.Target.TheVariants.{Command, Clearance, Order, Board}
+use Rattle.clr_http.specs.declared.head.HeadFault.TheVariants as head_fault
+use Rattle.clr_http.specs.declared.length.LengthFault.TheVariants as length_fault
+use Rattle.clr_http.specs.declared.request.Request.TheVariants as made
+use Rattle.clr_http.specs.declared.response.Fault.TheVariants as fault
 
 -- the method of a route
 abbrev pub method_of : Target → Method

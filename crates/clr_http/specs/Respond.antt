@@ -4,14 +4,8 @@
 use Rattle.std.specs.Prelude.{◌≡◌, ℕ, List, Option, None, Some, Result, Ok, Err, pos}
 use Rattle.httparse.specs.Grammar.{RequestHead}
 use Rattle.clr_rules.specs.Answer.{Answer, answer}
-use Rattle.clr_rules.specs.Register.{Register}
-use Rattle.clr_rules.specs.Records.{record_of}
+use Rattle.clr_rules.specs.Prelude.{Register, record_of, steps_of}
 use Rattle.clr_rules.specs.Run.{after}
-use Rattle.clr_rules.specs.Steps.{steps_of}
-use Rattle.clr_rules.specs.declared.command.Command.{Command}
-use Rattle.clr_rules.specs.declared.command.Kind.TheVariants.{Show}
-use Rattle.clr_rules.specs.declared.reply.Reply.{Reply}
-use Rattle.clr_rules.specs.declared.reply.Reply.TheVariants.{Accepted, Added, Refused, Shown}
 use Rattle.clr_text.specs.FaultText.{fault_text}
 use Rattle.clr_print.specs.Printed.{board_text, order_text}
 use Rattle.clr_text.specs.Reading.{read_command}
@@ -22,9 +16,13 @@ use Rattle.clr_http.specs.Request.{Reading, asks, refused, request_read}
 use Rattle.clr_http.specs.Response.{Content, json, printed, fault_response}
 use Rattle.clr_http.specs.declared.response.Fault.TheVariants.{NoSuch}
 use Rattle.clr_http.specs.declared.target.Target.{Target}
-use Rattle.clr_http.specs.declared.target.Target.TheVariants as asked
 use Rattle.clr_http.specs.declared.target.OrderRequest.{OrderRequest}
 use Rattle.clr_http.specs.declared.target.ViewRequest.{ViewRequest}
+use Rattle.clr_http.specs.declared.target.Target.TheVariants as asked
+use Rattle.clr_rules.specs.declared.command.Command.{Command}
+use Rattle.clr_rules.specs.declared.command.Kind.TheVariants.{Show}
+use Rattle.clr_rules.specs.declared.reply.Reply.{Reply}
+use Rattle.clr_rules.specs.declared.reply.Reply.TheVariants.{Accepted, Added, Refused, Shown}
 
 -- a response, and the register that it leaves
 pub record Outcome : Type 0 where

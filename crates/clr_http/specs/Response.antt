@@ -1,6 +1,5 @@
 -- THE RESPONSE: its status, what it carries, and its bytes.
-use Rattle.std.specs.Prelude.{ℕ, List, [], ◌++◌, codes, decimal, length, unwrap_or}
-use Rattle.std.specs.String.{string_bytes}
+use Rattle.std.specs.Prelude.{ℕ, List, [], ◌++◌, codes, decimal, length, unwrap_or, string_bytes}
 use Rattle.http.specs.StatusCode.{reason_phrase}
 use Rattle.clr_http.specs.declared.response.Fault.{Fault}
 use Rattle.clr_http.specs.declared.response.Fault.TheVariants.{BadHead, HeadTooLarge, HeadCut}

@@ -3,24 +3,24 @@
 use Rattle.std.specs.Prelude.{ℕ, if◌then◌else◌, List, [], codes, unwrap_or, Option, Some, None}
 use Rattle.std.specs.Prelude.{option_map, Result, Ok, Err}
 use Rattle.std.specs.Char.{is_ascii}
-use Rattle.std.specs.List.{list_all}
+use Rattle.clr_rules.specs.Prelude.{list_all, Id}
 use Rattle.matchit.specs.Order.{placed}
 use Rattle.matchit.specs.Params.{named, walk}
 use Rattle.matchit.specs.Route.{Scan, parse_route}
 use Rattle.matchit.specs.Router.{RouteOf, route_from}
 use Rattle.matchit.specs.Rows.{RowsOf}
-use Rattle.matchit.specs.Seek.{first, same_text}
+use Rattle.matchit.specs.Seek.{first}
 use Rattle.matchit.specs.declared.error.InsertError.{InsertError}
 use Rattle.clr_net.specs.NameText.{read_name}
 use Rattle.clr_net.specs.declared.name.NameFault.{NameFault}
-use Rattle.clr_rules.specs.Id.{Id}
 use Rattle.clr_rules.specs.IdText.{id_of, read_number}
+use Rattle.clr_print.specs.Printed.{read_round}
 use Rattle.clr_http.specs.declared.target.Target.{Target}
-use Rattle.clr_http.specs.declared.target.Target.TheVariants as asked
 use Rattle.clr_http.specs.declared.target.OrderRequest.{OrderRequest}
 use Rattle.clr_http.specs.declared.target.Route.{Route}
 use Rattle.clr_http.specs.declared.target.Route.TheVariants.{Command, Clearance, Order, Board}
 use Rattle.clr_http.specs.declared.target.ViewRequest.{ViewRequest}
+use Rattle.clr_http.specs.declared.target.Target.TheVariants as asked
 
 -- the rows of a router with one route more, where its text reads as one
 abbrev pub with_read : Result Scan InsertError → Route → RowsOf (RouteOf Route)
@@ -55,11 +55,6 @@ part target r key =
 abbrev pub id_at : List ℕ → RouteOf Route → Option Id
 id_at target r = id_of (read_name (part target r (codes "requester")))
     (read_number (part target r (codes "number")))
-
--- a round is written 1 or 2
-abbrev pub read_round : List ℕ → Option ℕ
-read_round text = if same_text text (codes "1") then Some 1 else if same_text text (codes "2")
-    then Some 2 else None
 
 -- what is to be viewed, and by whom, where all parts read
 abbrev pub view_request : Result (List ℕ) NameFault → Option Id → Option ViewRequest

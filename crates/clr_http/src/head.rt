@@ -12,14 +12,14 @@ use httparse::spans::{HeaderSpan, RequestSpans, parse_request};
 use httparse::{Error, Status};
 
 /// The most bytes of a head.
-pub const MAX_HEAD_BYTES: usize = 8192;
+pub(crate) const MAX_HEAD_BYTES: usize = 8192;
 
 /// The most fields of a head.
-pub const MAX_FIELDS: usize = 64;
+pub(crate) const MAX_FIELDS: usize = 64;
 
 /// Why no head was read.
 #[derive(Clone, Copy, Debug, PartialEq, Eq)]
-pub enum HeadFault {
+pub(crate) enum HeadFault {
     /// The bytes are no head, whatever follows them.
     BadHead,
     /// There are more than 8,192 bytes or 64 fields.
@@ -86,7 +86,7 @@ fn head_in(buffer: &[u8], headers: &mut [HeaderSpan]) -> Result<Option<RequestSp
 }
 
 /// Reads as far as the end of the head, or further. `None` where the input is empty.
-pub fn read_head<R: CountedRead>(
+pub(crate) fn read_head<R: CountedRead>(
     reader: &mut R,
     buffer: &mut Vec<u8>,
     headers: &mut [HeaderSpan],

@@ -12,11 +12,11 @@ use httparse::spans::HeaderSpan;
 use std::str::from_utf8;
 
 /// The most bytes of a body.
-pub const MAX_BODY_BYTES: u64 = 65_536;
+pub(crate) const MAX_BODY_BYTES: u64 = 65_536;
 
 /// Why the head gives no length of a body.
 #[derive(Clone, Copy, Debug, PartialEq, Eq)]
-pub enum LengthFault {
+pub(crate) enum LengthFault {
     /// There is a `Transfer-Encoding`, or no `Content-Length`.
     NoLength,
     /// There are several `Content-Length`s, or one that is not 1 to 10 digits.
@@ -103,7 +103,7 @@ fn only_length(buffer: &[u8], headers: &[HeaderSpan]) -> Result<usize, LengthFau
 }
 
 /// The length of the body of a command, by the fields of the head, which lie in the buffer.
-pub fn body_length(buffer: &[u8], headers: &[HeaderSpan]) -> Result<usize, LengthFault>
+pub(crate) fn body_length(buffer: &[u8], headers: &[HeaderSpan]) -> Result<usize, LengthFault>
     requires { All (IsHeaderWithin (length buffer.now)) headers.now }
     ensures { result ≡ body_length (map (header_bytes buffer.now) headers.now) }
 {

@@ -13,10 +13,7 @@ mod service;
 mod target;
 
 pub use registrar::Registrar;
-pub use request::{ReadFault, Request, read_request};
-pub use response::{Fault, Method, Response};
 pub use serve::{HttpFault, Served, serve_one};
 pub use service::{
     headline_holds_of_requests, inputs_are_answered_once, requests_are_runs, serve_all,
 };
-pub use target::{OrderRequest, Route, Target, ViewRequest, target_of};

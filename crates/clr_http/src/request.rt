@@ -27,7 +27,7 @@ use std::str;
 
 /// A request that was read.
 #[derive(Debug, Drop)]
-pub enum Request {
+pub(crate) enum Request {
     /// It is refused, with this response.
     Refused(Response),
     /// It asks for this. The body is a command's, and empty for every other route.
@@ -36,7 +36,7 @@ pub enum Request {
 
 /// Why no request was read.
 #[derive(Clone, Copy, Debug, PartialEq, Eq)]
-pub enum ReadFault {
+pub(crate) enum ReadFault {
     /// The reader failed.
     ReadFailed,
     /// Memory ran out.
@@ -45,7 +45,7 @@ pub enum ReadFault {
 
 impl Target {
     /// The method of the route.
-    pub fn method(&self) -> Method
+    pub(crate) fn method(&self) -> Method
         ensures { result ≡ method_of self.now }
     {
         match self {
@@ -57,7 +57,7 @@ impl Target {
 
 impl LengthFault {
     /// The fault that tells it.
-    pub fn as_fault(self) -> Fault
+    pub(crate) fn as_fault(self) -> Fault
         ensures { result ≡ fault_of_length self }
     {
         match self {
@@ -230,7 +230,7 @@ fn request_in<R: CountedRead>(
 
 /// Reads one request, and no byte that it does not need but those that come with it. `None` where
 /// the input ends before its first byte.
-pub fn read_request<R: CountedRead>(
+pub(crate) fn read_request<R: CountedRead>(
     alloc: Global,
     reader: &mut R,
 ) -> Result<Option<Request>, ReadFault>

@@ -10,7 +10,7 @@ use std::alloc::{AllocError, Global};
 
 /// Why a request is refused by the service, and not by the register.
 #[derive(Clone, Copy, Debug, PartialEq, Eq)]
-pub enum Fault {
+pub(crate) enum Fault {
     /// The bytes are no head: 400.
     BadHead,
     /// The head has more than 8,192 bytes or 64 fields: 400.
@@ -35,7 +35,7 @@ pub enum Fault {
 
 impl Fault {
     /// The status of the response.
-    pub fn status(self) -> StatusCode
+    pub(crate) fn status(self) -> StatusCode
         ensures { result ≡ fault_status self }
     {
         match self {
@@ -49,7 +49,7 @@ impl Fault {
     }
 
     /// The word in the body of the response.
-    pub fn word(self) -> &'static str
+    pub(crate) fn word(self) -> &'static str
         ensures { result.now ≡ fault_word self }
     {
         match self {
@@ -69,14 +69,14 @@ impl Fault {
 
 /// The methods of the routes.
 #[derive(Clone, Copy, Debug, PartialEq, Eq)]
-pub enum Method {
+pub(crate) enum Method {
     Get,
     Post,
 }
 
 impl Method {
     /// The method's word in a request line.
-    pub fn word(self) -> &'static str
+    pub(crate) fn word(self) -> &'static str
         ensures { result.now ≡ method_word self }
     {
         match self {
@@ -88,7 +88,7 @@ impl Method {
 
 /// What is answered to a request.
 #[derive(Debug, Drop)]
-pub enum Response {
+pub(crate) enum Response {
     /// A JSON text, and the status.
     Json(StatusCode, String),
     /// A printed text: 200.
@@ -101,7 +101,7 @@ pub enum Response {
 
 impl Response {
     /// The response that tells a fault.
-    pub fn of_fault(alloc: Global, fault: Fault) -> Result<Response, AllocError>
+    pub(crate) fn of_fault(alloc: Global, fault: Fault) -> Result<Response, AllocError>
         ensures { IfOk result (λ r. content_of r ≡ fault_response fault) }
     {
         let word = fault.word();
@@ -110,7 +110,7 @@ impl Response {
     }
 
     /// The status.
-    pub fn status(&self) -> StatusCode
+    pub(crate) fn status(&self) -> StatusCode
         ensures { result ≡ status_of (content_of self.now) }
     {
         match self {
@@ -122,7 +122,7 @@ impl Response {
     }
 
     /// The bytes that go out.
-    pub fn text(&self, alloc: Global) -> Result<String, AllocError>
+    pub(crate) fn text(&self, alloc: Global) -> Result<String, AllocError>
         ensures { IfOk result (λ text. string_bytes text ≡ response_bytes (content_of self.now)) }
     {
         match self {

@@ -6,17 +6,18 @@ ghost use Rattle.std.specs.List.{list_all};
 ghost use Rattle.matchit.specs.Seek.{first};
 ghost use Rattle.clr_rules.specs.IdText.{id_of, read_number};
 ghost use Rattle.clr_net.specs.NameText.{read_name};
-ghost use Rattle.clr_http.specs.Target.{target_of, target_by, order_request, part, read_round};
+ghost use Rattle.clr_http.specs.Target.{target_of, target_by, order_request, part};
 ghost use Rattle.clr_http.specs.Target.{route_in, the_routes, view_request};
 
 use clr_net::Name;
+use clr_print::read_round;
 use clr_rules::{ClearanceId, read_number};
 use matchit::{InsertError, Params, Router};
 use std::alloc::{AllocError, Global};
 
 /// The routes of the service.
 #[derive(Clone, Copy, Debug, PartialEq, Eq)]
-pub enum Route {
+pub(crate) enum Route {
     /// `POST /command`
     Command,
     /// `GET /clearance/{caller}/{requester}/{number}`
@@ -29,14 +30,14 @@ pub enum Route {
 
 /// Whose view of which clearance is asked for.
 #[derive(Clone, Copy, Debug, PartialEq, Eq)]
-pub struct ViewRequest {
+pub(crate) struct ViewRequest {
     pub caller: Name,
     pub id: ClearanceId,
 }
 
 /// Which round of which clearance is to be printed.
 #[derive(Clone, Copy, Debug, PartialEq, Eq)]
-pub struct OrderRequest {
+pub(crate) struct OrderRequest {
     pub id: ClearanceId,
     pub round: u8,
 }
@@ -44,7 +45,7 @@ pub struct OrderRequest {
 /// What a target asks for. A view or an order is `None` where a name, a number or the round in the
 /// path does not read.
 #[derive(Clone, Copy, Debug, PartialEq, Eq)]
-pub enum Target {
+pub(crate) enum Target {
     Command,
     Clearance(Option<ViewRequest>),
     Order(Option<OrderRequest>),
@@ -68,19 +69,6 @@ fn is_ascii(target: &str) -> bool
     ensures { result ≡ list_all is_ascii target.now }
 {
     target.as_bytes().iter().all(|b| b.is_ascii())
-}
-
-/// The round that a text names.
-fn read_round(text: &str) -> Option<u8>
-    ensures { result ≡ read_round text.now }
-{
-    if text == "1" {
-        Some(1)
-    } else if text == "2" {
-        Some(2)
-    } else {
-        None
-    }
 }
 
 /// The clearance of a requester and a number, where both read.
@@ -166,7 +154,7 @@ fn target_by(target: &str, params: &Params<'_, '_>, route: Route) -> Target
 }
 
 /// What a target asks for. `None` where it takes no route.
-pub fn target_of(alloc: Global, target: &str) -> Result<Option<Target>, AllocError>
+pub(crate) fn target_of(alloc: Global, target: &str) -> Result<Option<Target>, AllocError>
     ensures { IfOk result (λ o. o ≡ target_of target.now) }
 {
     let Ok(router) = routes(alloc) else {

@@ -1,8 +1,6 @@
 -- One turn of a loop that writes a line for each row.
-use Rattle.std.proofs.Common.{◌≡◌, ◌∙◌, ◌<◌, ◌+◌, ◌++◌, ◌∷◌, ℕ, List}
-use Rattle.std.proofs.Common.{length, drop, get_or, map, ap, sym, Bor}
-use Rattle.std.proofs.lemmas.List.{append_assoc, drop_more}
-use Rattle.std.specs.List.{flat_map}
+use Rattle.std.proofs.Common.{◌≡◌, ◌∙◌, ◌<◌, ◌+◌, ◌++◌, ◌∷◌, ℕ, List, length, drop, get_or, map, ap, sym, Bor, append_assoc, flat_map}
+use Rattle.clr_rules.proofs.Common.{drop_more}
 
 -- the lines so far with that of the row, and those of the rows behind it, are all
 pub line_more : {Row : Type 0} (line : Row → List ℕ) (written : List ℕ) (rows : List (Bor Row))

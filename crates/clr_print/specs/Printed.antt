@@ -1,23 +1,24 @@
 -- THE PRINTED TEXTS: a round of an order, of its record and its steps alone, and the board. Each
 -- line ends with a line feed.
-use Rattle.std.specs.Prelude.{ℕ, ◌-◌, ◌==◌, Bool, not, if◌then◌else◌, ℤ, List, ◌++◌}
-use Rattle.std.specs.Prelude.{length, replicate, filter, Option, None, Some, codes, decimal}
-use Rattle.std.specs.List.{flat_map}
-use Rattle.clr_net.specs.declared.point.PointRow.{PointRow}
-use Rattle.clr_net.specs.declared.point.Position.{Position}
+use Rattle.std.specs.Prelude.{ℕ, ◌-◌, ◌==◌, Bool, not, if◌then◌else◌, ℤ, List, ◌++◌, length}
+use Rattle.std.specs.Prelude.{replicate, filter, Option, None, Some, codes, decimal, bytes_eq}
+use Rattle.std.specs.Prelude.{flat_map}
+use Rattle.clr_rules.specs.Prelude.{PointRow, Position, Register, position_of, is_some_step}
 use Rattle.clr_net.specs.declared.point.Position.TheVariants.{Closed, Opened}
 use Rattle.clr_order.specs.Action.{action_word}
 use Rattle.clr_order.specs.Step.{state_text}
 use Rattle.clr_rules.specs.Id.{Id, id_text}
 use Rattle.clr_rules.specs.Phase.{phase_text}
 use Rattle.clr_rules.specs.Records.{is_closed}
-use Rattle.clr_rules.specs.Register.{Register}
-use Rattle.clr_rules.specs.States.{position_of}
-use Rattle.clr_rules.specs.Steps.{is_some_step}
+use Rattle.clr_print.specs.Moments.{moment_text}
 use Rattle.clr_rules.specs.declared.point_state.PointState.{PointState}
 use Rattle.clr_rules.specs.declared.record.Record.{Record}
 use Rattle.clr_rules.specs.declared.step_row.StepRow.{StepRow}
-use Rattle.clr_print.specs.Moments.{moment_text}
+
+-- the round that a text names: 1 or 2
+abbrev pub read_round : List ℕ → Option ℕ
+read_round text = if bytes_eq text (codes "1") then Some 1 else if bytes_eq text (codes "2")
+    then Some 2 else None
 
 -- a text on the left of a column, and on the right of one; a text that is wider stands as it is
 abbrev pub left : ℕ → List ℕ → List ℕ

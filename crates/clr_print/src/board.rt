@@ -42,7 +42,8 @@ fn standing_records<'a>(
     alloc: Global,
     records: &[&'a Record],
 ) -> Result<Vec<&'a Record>, AllocError>
-    ensures { IfOk result (λ standing. standing.items ≡ filter (λ row. is_open row.now) records.now) }
+    ensures { IfOk result (λ standing. standing.items
+        ≡ filter (λ row. is_open row.now) records.now) }
 {
     records
         .iter()

@@ -7,4 +7,4 @@ mod moments;
 mod orders;
 
 pub use board::print_board;
-pub use orders::print_order;
+pub use orders::{print_order, read_round};

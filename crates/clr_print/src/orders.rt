@@ -5,7 +5,7 @@ ghost use Rattle.std.specs.List.{flat_map};
 ghost use Rattle.clr_rules.specs.Records.{record_of};
 ghost use Rattle.clr_rules.specs.Steps.{steps_of};
 ghost use Rattle.clr_print.specs.Printed.{head_text, in_round, order_name, order_text, round_text};
-ghost use Rattle.clr_print.specs.Printed.{step_line};
+ghost use Rattle.clr_print.specs.Printed.{read_round, step_line};
 
 use crate::columns::{id_text, name_or_dash, numeral, push_left, push_line, push_right};
 use crate::moments::{ClockOffset, moment_text};
@@ -40,6 +40,17 @@ pub fn print_order<P: Shelf<PointState>, C: Shelf<Record>, T: Shelf<StepRow>, H:
     let steps = book.steps(id)?;
     let rows = in_round(alloc, steps.as_slice(), round)?;
     round_text(alloc, record, rows.as_slice(), round, clock)
+}
+
+/// The round that a text names, 1 or 2.
+pub fn read_round(text: &str) -> Option<u8>
+    ensures { result ≡ read_round text.now }
+{
+    match text {
+        "1" => Some(1),
+        "2" => Some(2),
+        _ => None,
+    }
 }
 
 /// The steps of a round.

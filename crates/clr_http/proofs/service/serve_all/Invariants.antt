@@ -1,6 +1,5 @@
 use Rattle.std.proofs.Common.{◌<◌, ◌-◌, ◌^◌, map, take}
-use Rattle.clr_rules.specs.Good.{IsGood}
-use Rattle.clr_rules.specs.Run.{IsReached}
+use Rattle.clr_rules.proofs.Common.{IsGood, IsReached}
 use Rattle.clr_http.proofs.Exchanges.{IsFar}
 use Rattle.clr_http.specs.RequestLaws.{ComesAfter}
 use Rattle.clr_http.specs.Service.{HaveHeads}

@@ -1,5 +1,4 @@
-use Rattle.std.proofs.Common.{◌∙◌, sym, subst, refl}
-use Rattle.std.specs.Str.{IsAscii}
+use Rattle.std.proofs.Common.{◌∙◌, sym, subst, refl, IsAscii}
 use Rattle.clr_http.proofs.Parts.{all_text, ascii_from_test}
 use Rattle.clr_http.proofs.target.part.Goals as goal
 

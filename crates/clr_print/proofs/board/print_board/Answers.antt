@@ -1,9 +1,9 @@
 use Rattle.std.proofs.Common.{◌≡◌, ◌∙◌, ◌++◌, ap, Bor, filter, map, string_bytes, FitsSigned, w16, to_z-of_z}
-use Rattle.clr_net.specs.Grid.{Grid, unplaced}
-use Rattle.clr_rules.specs.declared.record.Record.{Record}
+use Rattle.clr_rules.proofs.Common.{Grid, unplaced}
 use Rattle.clr_print.specs.Printed.{board_of, is_open, jumper_lines}
 use Rattle.clr_print.proofs.RowsLent.{now-filter}
 use Rattle.clr_print.proofs.board.print_board.Goals as goal
+use Rattle.clr_rules.specs.declared.record.Record.{Record}
 
 pub returns : goal.returns
 returns g c =

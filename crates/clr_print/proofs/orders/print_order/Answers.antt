@@ -1,11 +1,11 @@
 use Rattle.std.proofs.Common.{◌≡◌, ◌∙◌, ap, List, ℤ, ◌==◌, Option, Some, Bor, map, FitsSigned, w16, to_z-of_z}
 use Rattle.std.proofs.lemmas.Result.{IfOk-weaker}
-use Rattle.clr_rules.specs.Steps.{steps_of}
-use Rattle.clr_rules.specs.declared.record.Record.{Record}
-use Rattle.clr_rules.specs.declared.step_row.StepRow.{StepRow}
+use Rattle.clr_rules.proofs.Common.{steps_of}
 use Rattle.clr_print.specs.Printed.{in_round, order_text, round_text}
 use Rattle.clr_print.proofs.RowsLent.{now-filter}
 use Rattle.clr_print.proofs.orders.print_order.Goals as goal
+use Rattle.clr_rules.specs.declared.record.Record.{Record}
+use Rattle.clr_rules.specs.declared.step_row.StepRow.{StepRow}
 
 pub returns : goal.returns
 returns g c =

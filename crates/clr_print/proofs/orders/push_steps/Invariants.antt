@@ -1,5 +1,4 @@
-use Rattle.std.proofs.Common.{◌≡◌, ◌++◌, map, drop, string_bytes}
-use Rattle.std.specs.List.{flat_map}
+use Rattle.std.proofs.Common.{◌≡◌, ◌++◌, map, drop, string_bytes, flat_map}
 use Rattle.clr_print.specs.Printed.{step_line}
 use Rattle.clr_print.proofs.orders.push_steps.Given as goal
 

@@ -1,10 +1,8 @@
-use Rattle.std.proofs.Common.{◌≡◌, ◌∙◌, sym, ap, List, ℕ, ◌++◌, Some, false, codes}
-use Rattle.clr_rules.specs.declared.step_row.StepRow.{StepRow}
-use Rattle.std.proofs.Common.{Bor, map, length, ◌==◌}
-use Rattle.std.specs.List.{flat_map}
+use Rattle.std.proofs.Common.{◌≡◌, ◌∙◌, sym, ap, List, ℕ, ◌++◌, Some, false, codes, Bor, map, length, ◌==◌, flat_map}
 use Rattle.clr_print.specs.Printed.{step_line}
 use Rattle.clr_print.proofs.RowsLent.{some_rows}
 use Rattle.clr_print.proofs.orders.round_text.Goals as goal
+use Rattle.clr_rules.specs.declared.step_row.StepRow.{StepRow}
 
 pub returns : goal.returns
 returns c =
