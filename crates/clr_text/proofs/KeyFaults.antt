@@ -8,15 +8,15 @@ use Rattle.clr_text.specs.Kinds.{has_key, keys_of, kind_in, states_moment, word_
 use Rattle.clr_text.specs.Keys.{every_key}
 use Rattle.clr_text.specs.Reading.{all_keys, command_in, is_key_of, none_missing, no_others, read_command, text_at_do, value_of, values_in, word_in}
 use Rattle.clr_text.specs.Values.{moment_at, name_at, value_at}
-use Rattle.clr_rules.specs.declared.command.Command.{Command}
-use Rattle.clr_rules.specs.declared.command.Kind.{Kind}
 use Rattle.clr_text.specs.declared.fault.TextFault.{TextFault}
 use Rattle.clr_text.specs.declared.fault.TextFault.TheVariants.{BadValue, MissingKey, NotObject, UnknownCommand, UnknownKey}
 use Rattle.clr_text.specs.declared.key.Key.{Key}
 use Rattle.clr_text.specs.declared.key.Key.TheVariants.{At, By, Do, Section}
 use Rattle.clr_text.specs.declared.word.Word.{Word}
-use Rattle.clr_text.specs.declared.word.Word.TheVariants as word
 use Rattle.clr_text.proofs.KeysInOrder.{keys_stand_in_order, least_is_first}
+use Rattle.clr_text.specs.declared.word.Word.TheVariants as word
+use Rattle.clr_rules.specs.declared.command.Command.{Command}
+use Rattle.clr_rules.specs.declared.command.Kind.{Kind}
 
 -- a fault names the first of the keys that passes a test
 record Names (test : Key → Bool) (keys : List Key) (fault : Key → TextFault) (e : TextFault) : Type 0 where

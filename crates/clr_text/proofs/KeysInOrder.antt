@@ -1,15 +1,8 @@
 -- Keys in the order of their bytes: the first that passes a test is the least that does.
-use Rattle.std.proofs.Common.{◌≡◌, zero, suc, Bool, true, false, List, [], ◌∷◌, Some, refl, subst, inl, inr, find, Contains, arith}
-use Rattle.std.proofs.lemmas.Bool.{and_parts}
-use Rattle.std.proofs.lemmas.Cmp.{nat_list_cmp_total, tied_itself}
+use Rattle.std.proofs.Common.{◌≡◌, zero, suc, Bool, true, false, List, [], ◌∷◌, Some, refl, subst, inl, inr, find, Contains, arith, is_le, is_lt, nat_cmp, Ordering, Less, Equal, Greater}
+use Rattle.clr_rules.proofs.Common.{and_parts, nat_list_cmp_total, tied_itself, list_all, in_key_order, in_key_order-filter}
 use Rattle.std.proofs.lemmas.List.Elements.{Contains-append_cases, Contains-append_right, Contains-append_left}
-use Rattle.std.specs.List.{list_all}
 use Rattle.std.specs.Cmp.Lexicographic.{slice_cmp}
-use Rattle.std.specs.Ordering.{is_le, is_lt, nat_cmp}
-use Rattle.std.specs.declared.cmp.Ordering.{Ordering}
-use Rattle.std.specs.declared.cmp.Ordering.TheVariants.{Less, Equal, Greater}
-use Rattle.clr_shelf.specs.Rows.{in_key_order}
-use Rattle.clr_shelf.proofs.KeyOrder.{in_key_order-filter}
 use Rattle.clr_text.specs.KeyLaws.{IsLeast, KeysStandInOrder}
 use Rattle.clr_text.specs.Keys.{every_key, key_text}
 use Rattle.clr_text.specs.Kinds.{has_key, keys_of}

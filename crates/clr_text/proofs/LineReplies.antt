@@ -1,24 +1,18 @@
 -- What answers lines, from what a run of their commands answers.
-use Rattle.std.proofs.Common.{◌≡◌, ◌∙◌, ℕ, Bool, true, false, List, [], ◌∷◌, Result, Ok, Err, refl, sym, ap, subst, map}
-use Rattle.std.specs.Prelude.{if◌then◌else◌, filter}
-use Rattle.std.proofs.lemmas.Bool.{false≢true}
-use Rattle.clr_rules.specs.Agreement.{Agree}
-use Rattle.clr_rules.specs.Good.{IsGood}
-use Rattle.clr_rules.specs.Answer.{Answer, answer}
+use Rattle.std.proofs.Common.{◌≡◌, ◌∙◌, ℕ, Bool, true, false, List, [], ◌∷◌, Result, Ok, Err, refl, sym, ap, subst, map, if◌then◌else◌, filter}
+use Rattle.clr_rules.proofs.Common.{false≢true, Agree, IsGood, Answer, answer, Id, Register, after, after_all, replies}
 use Rattle.clr_rules.specs.Isolation.{LeftAlone, NothingIsTakenAway, OwnCommandsAlone, SameShownSameAnswers}
-use Rattle.clr_rules.specs.declared.command.Command.{Command}
-use Rattle.clr_rules.specs.Id.{Id}
-use Rattle.clr_rules.specs.Register.{Register}
-use Rattle.clr_rules.specs.declared.reply.Reply.{Reply}
-use Rattle.clr_rules.specs.Run.{after, after_all, replies}
 use Rattle.clr_rules.specs.RunHeadline.{own_replies}
 use Rattle.clr_rules.specs.Shown.{is_own_command, own_answers}
 use Rattle.clr_rules.proofs.isolation.RunReplies.{own_replies_are}
 use Rattle.clr_text.specs.LineLaws.{FaultsAreOfTheLine, LinesAreRuns, OthersLinesTakeNothing, OwnLinesAlone, SameShownSameBytes}
-use Rattle.clr_text.specs.Lines.{after_line, after_lines, answer_text, commands_in, is_others_reading, is_own_line, is_own_reading, line_replies, line_reply, own_line_replies, register_behind, with_command}
+use Rattle.clr_text.specs.Lines.{after_line, after_lines, answer_text, commands_in, is_others_reading, is_own_line, is_own_reading, line_replies, line_reply, own_line_replies, register_behind}
+use Rattle.clr_text.specs.Lines.{with_command}
 use Rattle.clr_text.specs.Reading.{read_command}
 use Rattle.clr_text.specs.Replies.{reply_text}
 use Rattle.clr_text.specs.declared.fault.TextFault.{TextFault}
+use Rattle.clr_rules.specs.declared.command.Command.{Command}
+use Rattle.clr_rules.specs.declared.reply.Reply.{Reply}
 
 behind_step : (told : Result Command TextFault) (R : Register) (lines : List (List ℕ)) (commands : List Command)
     → ((S : Register) → after_lines S lines ≡ after_all S commands)

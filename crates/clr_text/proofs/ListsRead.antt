@@ -1,8 +1,6 @@
 -- What was read of the front of a list, and what its rest is read as.
-use Rattle.std.proofs.Common.{◌≡◌, ◌∙◌, ◌<◌, ◌+◌, ℕ, List, [], ◌∷◌, ◌++◌, Option, None, Some}
-use Rattle.std.proofs.Common.{length, drop, get_or, refl, ap, sym, append_assoc}
-use Rattle.std.proofs.lemmas.List.{drop_more}
-use Rattle.std.specs.Prelude.{option_map}
+use Rattle.std.proofs.Common.{◌≡◌, ◌∙◌, ◌<◌, ◌+◌, ℕ, List, [], ◌∷◌, ◌++◌, Option, None, Some, length, drop, get_or, refl, ap, sym, append_assoc, option_map}
+use Rattle.clr_rules.proofs.Common.{drop_more}
 use Rattle.serde_json.specs.Data.{Data}
 use Rattle.serde_json.specs.View.{items_view, view}
 use Rattle.serde_json.specs.declared.value.Value.{Value}
@@ -16,10 +14,6 @@ pub after-next : {A : Type 0} (front : List A) (x : A) (rest : Option (List A))
     → after (front ++ x ∷ []) rest ≡ after front (option_map (λ xs. x ∷ xs) rest)
 after-next front x None = refl
 after-next front x (Some xs) = ap Some (append_assoc front (x ∷ []) xs)
-
-pub after-none : {A : Type 0} (rest : Option (List A)) → after [] rest ≡ rest
-after-none None = refl
-after-none (Some xs) = refl
 
 -- one more item of a list is read
 pub read_more : {A : Type 0} (reading : Data → Option A) (front : List A) (list : List Value)

@@ -3,18 +3,18 @@ use Rattle.std.proofs.Common.{◌≡◌, List, [], ◌∷◌, Bool, false, ◌||
 use Rattle.serde_json.specs.Data.{Data}
 use Rattle.serde_json.specs.View.{items_of}
 use Rattle.serde_json.specs.Written.{has_float, items_have_float}
-use Rattle.clr_order.specs.declared.step.Step.{Step}
-use Rattle.clr_rules.specs.declared.point_state.PointState.{PointState}
-use Rattle.clr_rules.specs.declared.refusal.Refusal.{Refusal}
-use Rattle.clr_rules.specs.declared.refusal.Refusal.TheVariants as refusals
-use Rattle.clr_rules.specs.declared.reply.Reply.{Reply}
-use Rattle.clr_rules.specs.declared.reply.Reply.TheVariants.{Accepted, Added, Refused, Shown}
+use Rattle.clr_rules.specs.Prelude.{Step}
 use Rattle.clr_text.specs.FaultText.{fault_data}
 use Rattle.clr_text.specs.Json.{hold_data, id_data, name_data, optional_data, point_data, step_data}
 use Rattle.clr_text.specs.RefusalText.{refusal_data}
 use Rattle.clr_text.specs.Replies.{reply_data}
 use Rattle.clr_text.specs.declared.fault.TextFault.{TextFault}
+use Rattle.clr_rules.specs.declared.refusal.Refusal.TheVariants as refusals
 use Rattle.clr_text.specs.declared.fault.TextFault.TheVariants as faults
+use Rattle.clr_rules.specs.declared.point_state.PointState.{PointState}
+use Rattle.clr_rules.specs.declared.refusal.Refusal.{Refusal}
+use Rattle.clr_rules.specs.declared.reply.Reply.{Reply}
+use Rattle.clr_rules.specs.declared.reply.Reply.TheVariants.{Accepted, Added, Refused, Shown}
 
 neither : (a b : Bool) → a ≡ false → b ≡ false → (a || b) ≡ false
 neither a b first second = rw (first, second) refl
@@ -35,40 +35,7 @@ in_step step = neither _ _ (in_optional name_data (λ name. refl) step.reader) r
 
 in_refusal : (r : Refusal) → has_float (refusal_data r) ≡ false
 in_refusal refusals.UnknownCaller = refl
-in_refusal refusals.WrongRole = refl
-in_refusal refusals.UnknownSection = refl
-in_refusal refusals.TooManyClearances = refl
-in_refusal refusals.UnknownClearance = refl
-in_refusal refusals.NotHolder = refl
-in_refusal refusals.Earlier = refl
-in_refusal refusals.WrongPhase = refl
-in_refusal refusals.EmptyOrder = refl
-in_refusal refusals.LongOrder = refl
-in_refusal refusals.PointTwice = refl
-in_refusal (refusals.SourceInside section) = refl
-in_refusal (refusals.NotOnFence point) = refl
-in_refusal (refusals.StepsWrong point) = refl
-in_refusal (refusals.UnknownPoint point) = refl
-in_refusal refusals.NoStep = refl
-in_refusal refusals.OutOfTurn = refl
-in_refusal refusals.StepState = refl
-in_refusal (refusals.InHand by) = refl
-in_refusal (refusals.Held by kind) = refl
-in_refusal refusals.RepeatDiffers = refl
-in_refusal refusals.WrongReporter = refl
-in_refusal refusals.StepsLeft = refl
-in_refusal refusals.OutsideFence = refl
-in_refusal refusals.NotTested = refl
-in_refusal refusals.Grounded = refl
-in_refusal refusals.NotGrounded = refl
-in_refusal refusals.CrewsOn = refl
-in_refusal refusals.CrewState = refl
-in_refusal refusals.BadTransfer = refl
-in_refusal refusals.NotAttested = refl
-in_refusal refusals.PointExists = refl
-in_refusal (refusals.CrossesFence by) = refl
-in_refusal refusals.NetworkFull = refl
-in_refusal refusals.SameEnds = refl
+in_refusal _ = refl
 
 pub in_reply : (reply : Reply) → has_float (reply_data reply) ≡ false
 in_reply (Accepted card) = refl
@@ -85,9 +52,4 @@ in_reply (Added point) = refl
 
 pub in_fault : (fault : TextFault) → has_float (fault_data fault) ≡ false
 in_fault faults.NotJson = refl
-in_fault faults.NotObject = refl
-in_fault (faults.MissingKey key) = refl
-in_fault faults.UnknownKey = refl
-in_fault (faults.BadValue key) = refl
-in_fault faults.UnknownCommand = refl
-in_fault faults.NoMemory = refl
+in_fault _ = refl

@@ -3,11 +3,10 @@ use Rattle.std.specs.Prelude.{ℕ, List, Option, None, Some, codes, map}
 use Rattle.serde_json.specs.Data.{Data, Members, array, member, no_members, null, number, object}
 use Rattle.serde_json.specs.Data.{string, unsigned}
 use Rattle.serde_json.specs.View.{items_of}
-use Rattle.clr_net.specs.declared.point.Position.{Position}
+use Rattle.clr_rules.specs.Prelude.{Position, Step}
 use Rattle.clr_net.specs.declared.point.Position.TheVariants.{Closed, Opened}
 use Rattle.clr_order.specs.Step.{state_text, task}
 use Rattle.clr_order.specs.Texts.{step_text}
-use Rattle.clr_order.specs.declared.step.Step.{Step}
 use Rattle.clr_rules.specs.HoldKind.{hold_kind_text}
 use Rattle.clr_rules.specs.Id.{Id, id_text}
 use Rattle.clr_rules.specs.declared.hold.Hold.{Hold}

@@ -1,11 +1,8 @@
 -- The nineteen commands: the word of each, its keys, and what it asks for.
 use Rattle.std.specs.Prelude.{ℕ, Bool, true, false, List, [], ◌∷◌, codes, filter, find, Option}
-use Rattle.std.specs.Prelude.{Result, Ok}
-use Rattle.std.specs.List.{list_any}
-use Rattle.std.specs.Str.{bytes_eq}
+use Rattle.std.specs.Prelude.{Result, Ok, bytes_eq}
+use Rattle.clr_rules.specs.Prelude.{list_any}
 use Rattle.serde_json.specs.Data.{Data}
-use Rattle.clr_rules.specs.declared.command.Kind.{Kind}
-use Rattle.clr_rules.specs.declared.command.Kind.TheVariants as kind
 use Rattle.clr_result.specs.Results.{◌>>=◌}
 use Rattle.clr_text.specs.Keys.{every_key, key_text}
 use Rattle.clr_text.specs.Values.{clearance_at, flag_at, name_at, points_at, step_at, steps_at}
@@ -17,7 +14,9 @@ use Rattle.clr_text.specs.declared.key.Key.TheVariants.{Done, Emergency, From, L
 use Rattle.clr_text.specs.declared.key.Key.TheVariants.{Point, Points, Remote, Section, Step, Steps}
 use Rattle.clr_text.specs.declared.key.Key.TheVariants.{Text, To}
 use Rattle.clr_text.specs.declared.word.Word.{Word}
+use Rattle.clr_rules.specs.declared.command.Kind.TheVariants as kind
 use Rattle.clr_text.specs.declared.word.Word.TheVariants as word
+use Rattle.clr_rules.specs.declared.command.Kind.{Kind}
 
 -- THE KEYS that are a command's own, beside those that it has in common with others
 abbrev pub own_keys : Word → List Key

@@ -4,9 +4,7 @@ use Rattle.std.specs.Prelude.{◌≡◌, ℕ, Bool, true, List, map, filter, Err
 use Rattle.clr_rules.specs.Agreement.{Agree}
 use Rattle.clr_rules.specs.Good.{IsGood}
 use Rattle.clr_rules.specs.Isolation.{LeftAlone, ShowTheSame, ShowsOwnAlone}
-use Rattle.clr_rules.specs.Id.{Id}
-use Rattle.clr_rules.specs.Register.{Register}
-use Rattle.clr_rules.specs.declared.reply.Reply.{Reply}
+use Rattle.clr_rules.specs.Prelude.{Id, Register}
 use Rattle.clr_rules.specs.RunHeadline.{IsRun, own_replies}
 use Rattle.clr_text.specs.Lines.{after_line, after_lines, commands_in, is_others_line, is_own_line}
 use Rattle.clr_text.specs.Lines.{line_replies, line_reply, own_line_replies}
@@ -14,6 +12,7 @@ use Rattle.clr_text.specs.Reading.{read_command}
 use Rattle.clr_text.specs.FaultText.{fault_text}
 use Rattle.clr_text.specs.Replies.{reply_text}
 use Rattle.clr_text.specs.declared.fault.TextFault.{TextFault}
+use Rattle.clr_rules.specs.declared.reply.Reply.{Reply}
 
 -- LINES ARE A RUN of the commands that they read as: it leaves the same register, and its replies
 -- to a clearance's own commands are, as texts, what answers the clearance's own lines

@@ -3,15 +3,14 @@
 use Rattle.std.specs.Prelude.{ℕ, Bool, false, if◌then◌else◌, List, [], ◌∷◌, Result, Ok, Err}
 use Rattle.clr_rules.specs.Answer.{Answer, answer}
 use Rattle.clr_rules.specs.Isolation.{is_others}
-use Rattle.clr_rules.specs.declared.command.Command.{Command}
-use Rattle.clr_rules.specs.Id.{Id}
-use Rattle.clr_rules.specs.Register.{Register}
+use Rattle.clr_rules.specs.Prelude.{Id, Register}
 use Rattle.clr_rules.specs.Run.{after}
 use Rattle.clr_rules.specs.Shown.{is_own_command}
 use Rattle.clr_text.specs.FaultText.{fault_text}
 use Rattle.clr_text.specs.Reading.{read_command}
 use Rattle.clr_text.specs.Replies.{reply_text}
 use Rattle.clr_text.specs.declared.fault.TextFault.{TextFault}
+use Rattle.clr_rules.specs.declared.command.Command.{Command}
 
 -- the text of the reply to a command; or of the fault, whatever the register
 abbrev pub answer_text : Register → Result Command TextFault → List ℕ

@@ -1,13 +1,11 @@
 -- WHICH COMMAND A TEXT IS, or the first of its faults.
 use Rattle.std.specs.Prelude.{ℕ, ◌&&◌, Bool, true, List, [], ◌∷◌, Result, Ok, Err, Option, None}
-use Rattle.std.specs.Prelude.{is_some, if◌then◌else◌}
-use Rattle.std.specs.List.{list_any}
-use Rattle.std.specs.Option.{ok_or}
+use Rattle.std.specs.Prelude.{is_some, if◌then◌else◌, ok_or}
+use Rattle.clr_rules.specs.Prelude.{list_any}
 use Rattle.std.specs.Str.{bytes_eq, is_utf8}
 use Rattle.serde_json.specs.Data.{Data, Members, member, no_members}
 use Rattle.serde_json.specs.Find.{as_object, as_str}
 use Rattle.serde_json.specs.Read.{read}
-use Rattle.clr_rules.specs.declared.command.Command.{Command}
 use Rattle.clr_result.specs.Results.{◌>>=◌}
 use Rattle.clr_text.specs.Keys.{every_key, key_text}
 use Rattle.clr_text.specs.Kinds.{has_key, keys_of, kind_in, states_moment, word_named}
@@ -19,6 +17,7 @@ use Rattle.clr_text.specs.declared.fault.TextFault.TheVariants.{UnknownKey}
 use Rattle.clr_text.specs.declared.key.Key.{Key}
 use Rattle.clr_text.specs.declared.key.Key.TheVariants.{By, Do}
 use Rattle.clr_text.specs.declared.word.Word.{Word}
+use Rattle.clr_rules.specs.declared.command.Command.{Command}
 
 -- the value of a text: UTF-8, and one JSON value with blanks round it. Of a key that stands twice
 -- the last value stays

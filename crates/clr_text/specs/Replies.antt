@@ -4,13 +4,13 @@ use Rattle.std.specs.Prelude.{ℕ, List, codes}
 use Rattle.serde_json.specs.Data.{Data, member, no_members, object, string}
 use Rattle.serde_json.specs.Written.{compact_text}
 use Rattle.clr_rules.specs.Phase.{phase_text}
-use Rattle.clr_rules.specs.declared.reply.Card.{Card}
-use Rattle.clr_rules.specs.declared.reply.Reply.{Reply}
-use Rattle.clr_rules.specs.declared.reply.Reply.TheVariants.{Accepted, Added, Refused, Shown}
 use Rattle.clr_rules.specs.declared.reply.View.{View}
 use Rattle.clr_text.specs.Json.{hold_data, id_data, list_data, name_data, optional_data, point_data}
 use Rattle.clr_text.specs.Json.{step_data, whole_data}
 use Rattle.clr_text.specs.RefusalText.{refusal_data}
+use Rattle.clr_rules.specs.declared.reply.Card.{Card}
+use Rattle.clr_rules.specs.declared.reply.Reply.{Reply}
+use Rattle.clr_rules.specs.declared.reply.Reply.TheVariants.{Accepted, Added, Refused, Shown}
 
 abbrev pub card_data : Card → Data
 card_data card =

@@ -1,15 +1,12 @@
 -- What the values of a command's keys have to be, and what they are read as.
 use Rattle.std.specs.Prelude.{ℕ, nat_le, Bool, List, [], ◌∷◌, map, Result, Option, Some, None}
-use Rattle.std.specs.Prelude.{option_map, option_and_then, if◌then◌else◌}
-use Rattle.std.specs.Option.{ok_or}
+use Rattle.std.specs.Prelude.{option_map, option_and_then, if◌then◌else◌, ok_or}
 use Rattle.std.specs.Result.{result_ok}
 use Rattle.serde_json.specs.Data.{Data, Items, no_items, item}
 use Rattle.serde_json.specs.Find.{get, as_array, as_bool, as_number, as_str, as_u64}
 use Rattle.clr_net.specs.NameText.{read_name}
-use Rattle.clr_order.specs.Step.{Task, task}
+use Rattle.clr_rules.specs.Prelude.{Task, task, Step, Id}
 use Rattle.clr_order.specs.Texts.{read_step_text}
-use Rattle.clr_order.specs.declared.step.Step.{Step}
-use Rattle.clr_rules.specs.Id.{Id}
 use Rattle.clr_rules.specs.IdText.{read_id}
 use Rattle.clr_rules.specs.Moment.{new_moment}
 use Rattle.clr_text.specs.Keys.{key_text}
