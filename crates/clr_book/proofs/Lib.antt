@@ -2,6 +2,7 @@ pub mod BookEdits
 pub mod BookRooms
 pub mod FenceNames
 pub mod Grouped
+pub mod Lent
 pub mod LookedUp
 pub mod NearFacts
 pub mod NearGroups

@@ -53,11 +53,6 @@ pub first_points_are : (steps : List StepRow) (c : Id)
 unfolding of_round steps_of
 first_points_are steps c = points_map (of_round (steps_of steps c) 1) ∙ ap points_of (of_round_is steps c 1)
 
--- the names of rows that are shown
-pub names_shown : {X : Type 0} (shows : X → SectionRow) (items : List X) → map (λ item. (shows item).name) items ≡ section_names (map shows items)
-names_shown shows [] = refl
-names_shown shows (item ∷ items) = ap (λ names. (shows item).name ∷ names) (names_shown shows items)
-
 -- rows that are kept by what they show
 pub filter_shown : {X Y : Type 0} (shows : X → Y) (test : Y → Bool) (items : List X) → map shows (filter (λ item. test (shows item)) items) ≡ filter test (map shows items)
 filter_shown shows test [] = refl

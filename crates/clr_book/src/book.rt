@@ -2,7 +2,6 @@
 ghost use Rattle.std.specs.Prelude.{◌≡◌, ◌<◌, [], true, IfOk, IsOk, OnOk, map, option_copied};
 ghost use Rattle.clr_net.specs.Additions.{with_point, with_section};
 ghost use Rattle.clr_rules.specs.Edits.{after_edit, after_edits, fit, fits_edit};
-ghost use Rattle.clr_rules.specs.Good.{ListsAreInOrder};
 ghost use Rattle.clr_rules.specs.Records.{record_of};
 ghost use Rattle.clr_rules.specs.Register.{Register, opening, unplaced_net};
 ghost use Rattle.clr_rules.specs.Run.{IsReached};
@@ -99,14 +98,6 @@ impl<P: Shelf<PointState>, C: Shelf<Record>, T: Shelf<StepRow>, H: Shelf<Hold>> 
         ensures { result.now ≡ self.now.register.staff }
     {
         &self.staff
-    }
-
-    /// The rows of a book stand in the order of their keys, one row a key: a law, with nothing to
-    /// do.
-    pub fn stands_in_order(&self)
-        ensures { ListsAreInOrder self.now.register }
-    {
-        let _shelves = self.alloc;
     }
 
     /// The four shelves: the states of the points, the records, the steps and the holds.

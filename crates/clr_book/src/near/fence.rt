@@ -1,40 +1,41 @@
 //! What is known of the register beside its rows: the greatest number of a requester, and the
 //! sections of a fence.
-ghost use Rattle.std.specs.Prelude.{◌≡◌, ◌≤◌, ◌==◌, [], IfOk, map, filter};
+ghost use Rattle.std.specs.Prelude.{◌≡◌, ◌≤◌, ◌==◌, [], IfOk, map, filter, filter_map, slice_get};
 ghost use Rattle.std.specs.List.Sorted.{IsStrictlySortedBy};
-ghost use Rattle.clr_net.specs.Grid.{Grid};
+ghost use Rattle.clr_net.specs.Grid.{Grid, section_names};
 ghost use Rattle.clr_net.specs.Name.{name_cmp};
-ghost use Rattle.clr_net.specs.Names.{has_name};
 ghost use Rattle.clr_rules.specs.Answer.{fence_for, requester_for};
 ghost use Rattle.clr_rules.specs.Command.{named_clearance};
-ghost use Rattle.clr_rules.specs.Fences.{record_fence, touching_names, work_fence};
+ghost use Rattle.clr_rules.specs.Fences.{record_fence, work_fence};
 ghost use Rattle.clr_rules.specs.Records.{greatest_number};
-ghost use Rattle.clr_rules.specs.Steps.{points_of, steps_in};
+ghost use Rattle.clr_book.specs.FencePlaces.{IsFenceAt};
 
 use crate::book::Book;
-use clr_net::{Name, PointRow, SectionRow};
+use clr_net::{Name, RowPlaces, SectionRow};
 use clr_rules::{ClearanceId, Command, Hold, Kind, PointState, Record, StepRow};
 use clr_shelf::Shelf;
 use std::alloc::{AllocError, Global};
 
-/// The names of a fence's sections, in their order, and of the points with an end inside.
+/// The names of a fence's sections, in their order, and where the fence stands in the network.
 #[derive(Drop)]
 pub(crate) struct FenceNames {
     pub(crate) sections: Vec<Name>,
-    pub(crate) touching: Vec<Name>,
+    pub(crate) places: RowPlaces,
 }
 
 impl FenceNames {
     /// Where there is no fence.
     fn none(alloc: Global) -> Self
         ensures sections { result.sections.items ≡ [] }
-        ensures touching { (g : Grid)
-            → result.touching.items ≡ touching_names g (has_name result.sections.items) }
+        ensures places { (g : Grid) → IsFenceAt g result.sections.items result.places }
         ensures rising { IsStrictlySortedBy name_cmp result.sections.items }
     {
         FenceNames {
             sections: Vec::new(alloc),
-            touching: Vec::new(alloc),
+            places: RowPlaces {
+                sections: Vec::new(alloc),
+                touching: Vec::new(alloc),
+            },
         }
     }
 }
@@ -59,8 +60,8 @@ impl<P: Shelf<PointState>, C: Shelf<Record>, T: Shelf<StepRow>, H: Shelf<Hold>> 
     pub(crate) fn fence_for(&self, kind: &Kind) -> Result<FenceNames, AllocError>
         ensures sections { IfOk result (λ fence. fence.sections.items
             ≡ fence_for self.now.register kind.now) }
-        ensures touching { IfOk result (λ fence. fence.touching.items
-            ≡ touching_names self.now.register.net (has_name fence.sections.items)) }
+        ensures places { IfOk result (λ fence.
+            IsFenceAt self.now.network fence.sections.items fence.places) }
         ensures rising { IfOk result (λ fence. IsStrictlySortedBy name_cmp fence.sections.items) }
     {
         let Some(id) = kind.clearance() else {
@@ -80,8 +81,8 @@ impl<P: Shelf<PointState>, C: Shelf<Record>, T: Shelf<StepRow>, H: Shelf<Hold>> 
     pub(crate) fn record_fence(&self, clearance: &Record) -> Result<FenceNames, AllocError>
         ensures sections { IfOk result (λ fence. fence.sections.items
             ≡ record_fence self.now.register.net self.now.register.steps clearance.now) }
-        ensures touching { IfOk result (λ fence. fence.touching.items
-            ≡ touching_names self.now.register.net (has_name fence.sections.items)) }
+        ensures places { IfOk result (λ fence.
+            IsFenceAt self.now.network fence.sections.items fence.places) }
         ensures rising { IfOk result (λ fence. IsStrictlySortedBy name_cmp fence.sections.items) }
     {
         if !clearance.phase.is_fenced() {
@@ -97,19 +98,16 @@ impl<P: Shelf<PointState>, C: Shelf<Record>, T: Shelf<StepRow>, H: Shelf<Hold>> 
     fn work_fence(&self, work: Option<Name>, cut: &[Name]) -> Result<FenceNames, AllocError>
         ensures sections { IfOk result (λ fence. fence.sections.items
             ≡ work_fence self.now.register.net work cut.now) }
-        ensures touching { IfOk result (λ fence. fence.touching.items
-            ≡ touching_names self.now.register.net (has_name fence.sections.items)) }
+        ensures places { IfOk result (λ fence.
+            IsFenceAt self.now.network fence.sections.items fence.places) }
         ensures rising { IfOk result (λ fence. IsStrictlySortedBy name_cmp fence.sections.items) }
     {
         let Some(work) = work else {
             return Ok(FenceNames::none(self.alloc));
         };
-        // The points are read for what is known of them: both ends of each are sections.
-        let _points = self.network.points();
-        let fence = self.network.fence(&work, cut)?;
-        let sections = names_of(self.alloc, fence.sections())?;
-        let touching = names_of_points(self.alloc, fence.touching())?;
-        Ok(FenceNames { sections, touching })
+        let places = self.network.fence_places(&work, cut)?;
+        let sections = names_at(self.alloc, self.network.sections(), &places.sections)?;
+        Ok(FenceNames { sections, places })
     }
 }
 
@@ -139,16 +137,20 @@ fn first_points(alloc: Global, steps: &[&StepRow]) -> Result<Vec<Name>, AllocErr
     Ok(points)
 }
 
-/// The names of these sections.
-fn names_of(alloc: Global, sections: &[&SectionRow]) -> Result<Vec<Name>, AllocError>
-    ensures { IfOk result (λ names. names.items ≡ map (λ row. row.now.name) sections.now) }
+/// The names of the sections at these places.
+fn names_at(
+    alloc: Global,
+    sections: &[SectionRow],
+    places: &[usize],
+) -> Result<Vec<Name>, AllocError>
+    ensures { IfOk result (λ names. names.items
+        ≡ section_names (filter_map (slice_get sections.now) places.now)) }
 {
-    sections.iter().map(|row| row.name).collect(alloc)
-}
-
-/// The names of these points.
-fn names_of_points(alloc: Global, points: &[&PointRow]) -> Result<Vec<Name>, AllocError>
-    ensures { IfOk result (λ names. names.items ≡ map (λ row. row.now.name) points.now) }
-{
-    points.iter().map(|row| row.name).collect(alloc)
+    let mut names = Vec::with_capacity(alloc, places.len())?;
+    for place in places {
+        if let Some(row) = sections.get(*place) {
+            names.push(row.name)?;
+        }
+    }
+    Ok(names)
 }

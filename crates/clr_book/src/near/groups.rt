@@ -18,8 +18,7 @@ pub(crate) fn rows_in<'a, R: Row, S: Shelf<R>>(
 {
     let mut found = Vec::new(alloc);
     for group in groups {
-        let rows = shelf.group(group)?;
-        found.extend_from_slice(&rows)?;
+        shelf.push_group(group, &mut found)?;
     }
     found.sort_unstable_by(|a, b| a.compare_key(&b.key()));
     Ok(found)

@@ -2,7 +2,7 @@
 ghost use Rattle.std.specs.Prelude.{◌≡◌, ◌||◌, ℕ, List, false, IfOk, map, filter};
 ghost use Rattle.std.specs.List.{list_any};
 ghost use Rattle.std.specs.List.Sorted.{IsStrictlySortedBy};
-ghost use Rattle.clr_net.specs.Name.{name_cmp};
+ghost use Rattle.clr_net.specs.Name.{name_cmp, same_name};
 ghost use Rattle.clr_net.specs.Names.{has_name};
 ghost use Rattle.clr_rules.specs.Hold.{hold_group_cmp, is_in_hold_group};
 ghost use Rattle.clr_rules.specs.Holds.{is_near_hold, is_own};
@@ -10,13 +10,15 @@ ghost use Rattle.clr_rules.specs.Command.{is_jumper};
 ghost use Rattle.clr_rules.specs.Near.{is_asked, near_of};
 ghost use Rattle.clr_rules.specs.declared.hold.Hold.{Hold};
 ghost use Rattle.clr_rules.specs.declared.hold.HoldGroup.TheVariants as group;
+ghost use Rattle.clr_book.specs.FencePlaces.{IsFenceAt};
 
 use crate::book::Book;
 use crate::near::fence::FenceNames;
 use crate::near::groups::rows_in;
 use crate::near::named::rows_named;
+use crate::near::points::PointsBeside;
 use clr_answer::{Near, in_order};
-use clr_net::{Name, SectionRow};
+use clr_net::{Name, SectionRow, rows_at};
 use clr_rules::{ClearanceId, Command, Hold, HoldGroup, Kind, PointState, Record, StepRow};
 use clr_shelf::Shelf;
 use std::alloc::{AllocError, Global};
@@ -37,41 +39,64 @@ impl<P: Shelf<PointState>, C: Shelf<Record>, T: Shelf<StepRow>, H: Shelf<Hold>> 
         requires { is_jumper command.now.kind ≡ false }
         ensures { IfOk result (λ near. near ≡ near_of self.now.register command.now) }
     {
+        self.network.is_network();
         let kind = &command.kind;
         let own = kind.clearance();
-        let FenceNames {
-            sections: fence,
-            touching,
-        } = self.fence_for(kind)?;
-        let beside = self.points_beside(kind, touching)?;
+        let fence = self.fence_for(kind)?;
+        let sections = self.sections_near(kind, &fence)?;
+        let PointsBeside {
+            names: beside,
+            rows: points,
+            states,
+        } = self.points_beside(kind, &fence)?;
         let near = Near {
             alloc: self.alloc,
             greatest: self.greatest_for(command),
-            sections: self.sections_near(kind, &fence)?,
-            points: rows_named(self.alloc, self.network.points(), &beside)?,
+            sections,
+            points,
             staff: &self.staff,
-            states: self.states_near(&beside)?,
+            states,
             records: self.own_records(own)?,
             steps: self.own_steps(own)?,
-            holds: self.holds_near(&fence, &beside, own)?,
-            fence,
+            holds: self.holds_near(&fence.sections, &beside, own)?,
+            fence: fence.sections,
             crossed: None,
         };
         Ok(near)
     }
 
     /// The sections of the fence, and the one that a request asks for.
-    fn sections_near(&self, kind: &Kind, fence: &[Name]) -> Result<Vec<&SectionRow>, AllocError>
+    fn sections_near(&self, kind: &Kind, fence: &FenceNames) -> Result<Vec<&SectionRow>, AllocError>
+        requires { IsFenceAt self.now.network fence.now.sections.items fence.now.places }
         ensures { IfOk result (λ found. map (λ row. row.now) found.items
-            ≡ filter (λ row. has_name fence.now row.name
+            ≡ filter (λ row. has_name fence.now.sections.items row.name
             || is_asked kind.now row.name) self.now.register.net.sections) }
     {
-        let listed = listed_sections(self.alloc, kind, fence)?;
+        match kind {
+            Kind::Request { section } => {
+                let found = self.sections_with(&fence.sections, *section)?;
+                Ok(found)
+            }
+            _ => {
+                let places = &fence.places.sections;
+                let found = rows_at(self.alloc, self.network.sections(), places)?;
+                Ok(found)
+            }
+        }
+    }
+
+    /// The sections of a fence and one more. Each is looked up.
+    fn sections_with(&self, fence: &[Name], section: Name) -> Result<Vec<&SectionRow>, AllocError>
+        ensures { IfOk result (λ found. map (λ row. row.now) found.items
+            ≡ filter (λ row. has_name fence.now row.name
+            || same_name section row.name) self.now.register.net.sections) }
+    {
+        let listed = with_section(self.alloc, fence, section)?;
         rows_named(self.alloc, self.network.sections(), &listed)
     }
 
-    /// The positions of these points, and whose order is at work on them.
-    fn states_near(&self, beside: &[Name]) -> Result<Vec<&PointState>, AllocError>
+    /// The states of these points. Each is looked up.
+    pub(crate) fn states_near(&self, beside: &[Name]) -> Result<Vec<&PointState>, AllocError>
         requires { IsStrictlySortedBy name_cmp beside.now }
         ensures { IfOk result (λ found. map (λ row. row.now) found.items
             ≡ filter (λ state. has_name beside.now state.point) self.now.register.states) }
@@ -126,20 +151,15 @@ impl<P: Shelf<PointState>, C: Shelf<Record>, T: Shelf<StepRow>, H: Shelf<Hold>> 
     }
 }
 
-/// The sections of a fence and the one that a request asks for, in order, each once.
-fn listed_sections(alloc: Global, kind: &Kind, fence: &[Name]) -> Result<Vec<Name>, AllocError>
+/// The sections of a fence and one more, in order, each once.
+fn with_section(alloc: Global, fence: &[Name], section: Name) -> Result<Vec<Name>, AllocError>
     ensures rising { IfOk result (λ names. IsStrictlySortedBy name_cmp names.items) }
     ensures same { IfOk result (λ names. (s : List ℕ)
-        → has_name names.items s ≡ (has_name fence.now s || is_asked kind.now s)) }
+        → has_name names.items s ≡ (has_name fence.now s || same_name section s)) }
 {
     let mut names = fence.to_vec(alloc)?;
-    match kind {
-        Kind::Request { section } => {
-            names.push(*section)?;
-            Ok(in_order(names))
-        }
-        _ => Ok(in_order(names)),
-    }
+    names.push(section)?;
+    Ok(in_order(names))
 }
 
 /// The groups of the holds at these points.

@@ -28,10 +28,7 @@ loop-group-preserved g c =
     let so_far = subst (λ (left : List g.row.R-Group.Denot). IsPermutation all (found ++ filter (λ row. list_any (λ group. g.R.Row.is_in group row) left) rows)) step c.loop-group.invariant.1 in
     let more = group_more g.R.Row.group_cmp g.met.R.Row.group_order g.R.Row.is_in (λ row. g.R.Row.group_of (g.R.Row.key_of row)) g.met.R.Row.in_one_group
     group (drop (i + 1) groups) rows all found rise so_far in
-    let now_found : map shows c.extend_from_slice.new.self.items ≡ found ++ filter (g.R.Row.is_in group) rows =
-    ap (map shows) c.in_ok-extend_from_slice.ensures.items
-    ∙ map-append shows c.loop-group.found.items c.deref.result.now
-    ∙ ap (λ (rows : List g.row.R.Denot). found ++ rows) (ap (map shows) c.deref.ensures.value ∙ c.in_ok-rows.ensures) in (
+    let now_found : map shows c.push_group.new.found.items ≡ found ++ filter (g.R.Row.is_in group) rows = c.in_ok-push_group.ensures in (
       rising-rest g.R.Row.group_cmp g.met.R.Row.group_order g.R.Row.is_in (λ row. g.R.Row.group_of (g.R.Row.key_of row)) g.met.R.Row.in_one_group group (drop (i + 1) groups) rise,
       subst (λ (found : List g.row.R.Denot). IsPermutation all (found ++ filter (λ row. list_any (λ group. g.R.Row.is_in group row) (drop (i + 1) groups)) rows)) (sym now_found) more,
     )
