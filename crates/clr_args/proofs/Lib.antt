@@ -1,2 +1,3 @@
-pub mod Asked
+pub mod ArgumentRows
 pub mod Numbers
+pub mod ParsedWords

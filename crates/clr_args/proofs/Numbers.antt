@@ -1,5 +1,5 @@
 -- The numbers that words say, as `parse` reads them.
-use Rattle.std.proofs.Common.{◌≡◌, ◌≤◌, ◌<◌, ◌≤ℤ◌, ◌∙◌, arith, lit<, refl, subst, sym, ℕ, ℤ, Bool, true, false, List, FitsSigned, w16, w64}
+use Rattle.std.proofs.Common.{◌≡◌, ◌≤◌, ◌<◌, ◌≤ℤ◌, arith, refl, subst, ℕ, ℤ, Bool, true, false, List, FitsSigned, w16, w64}
 use Rattle.std.proofs.lemmas.Bool.{leb-true}
 use Rattle.std.specs.Prelude.{Some, neg_ℤ, pos, negsuc, if◌then◌else◌, ◌^◌}
 use Rattle.std.specs.Str.Parse.{IsNumeral, digits_value, signed_digits_value, without_leading_plus, without_leading_sign}
@@ -7,7 +7,7 @@ use lib.Dec.{T}
 use Rattle.clap.specs.ValueTests.{is_signed_in, is_unsigned_in}
 use Rattle.clap.specs.declared.builder.value_parser.ValueParser.TheVariants as vp
 use Rattle.clap.proofs.ValueTestLemmas.{Accepts-accepts, accepts-Accepts}
-use Rattle.clr_args.specs.Asked.{number_in, offset_in}
+use Rattle.clr_args.specs.ArgumentWords.{number_in, offset_in}
 
 passed : (b : Bool) → T b → b ≡ true
 passed true t = refl

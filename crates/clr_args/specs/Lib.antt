@@ -1,2 +1,3 @@
-pub mod Asked
+pub mod ArgumentWords
+pub mod Parsed
 pub mod Syntax

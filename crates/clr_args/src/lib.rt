@@ -1,5 +1,7 @@
-//! The words of a command line: what they may be, and what they give to each argument.
+//! The words of a command line: what they may be, and what they ask for.
 #![tactic(auto)]
 
-pub mod syntax;
-pub mod words;
+pub mod asked;
+pub mod parsing;
+mod syntax;
+mod words;

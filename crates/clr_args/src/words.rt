@@ -1,8 +1,9 @@
 //! The words that a command line gave to its arguments.
 ghost use Rattle.std.specs.Prelude.{◌≡◌, ◌≤ℤ◌, IfOk, Some, codes, map, neg_ℤ, option_map, pos};
 ghost use Rattle.clap.specs.Words.{first_of, found_of, rows_of};
-ghost use Rattle.clr_args.specs.Asked.{number_in, offset_in, word_in, words_in};
+ghost use Rattle.clr_args.specs.ArgumentWords.{number_in, offset_in, word_in, words_in};
 
+use crate::asked::Offset;
 use clap::ArgMatches;
 use std::alloc::{AllocError, Global};
 
@@ -38,16 +39,15 @@ pub fn words_of<'a>(
 
 /// The minutes of `--offset`; 0 where they are not given. clap lets only those from -720 to 840
 /// pass.
-pub fn offset_of(matches: &ArgMatches<'_>) -> i16
-    ensures low { neg_ℤ (pos 720) ≤ℤ result }
-    ensures high { result ≤ℤ pos 840 }
-    ensures named { result
+pub fn offset_of(matches: &ArgMatches<'_>) -> Offset
+    ensures { result.minutes
         ≡ offset_in (first_of (codes "offset") (rows_of (found_of matches.now))) }
 {
-    match option_of(matches, "offset") {
+    let minutes = match option_of(matches, "offset") {
         Some(word) => minutes_of(word),
         None => 0,
-    }
+    };
+    Offset { minutes }
 }
 
 /// The minutes that a word says, where they are within clap's range; else 0.

@@ -2,4 +2,4 @@
 #![tactic(auto)]
 
 pub mod command_line;
-pub mod outcome;
+pub mod report;

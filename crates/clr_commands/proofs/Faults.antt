@@ -1,5 +1,5 @@
 -- What a subcommand may answer is no fault of the output or of listening.
-use Rattle.std.proofs.Common.{◌≡◌, ◌∙◌, ◌⊎◌, ap, inl, inr, refl, subst, sym, Bool, true, false, ℕ, Result, Ok, Err}
+use Rattle.std.proofs.Common.{◌≡◌, ◌∙◌, ap, inl, inr, refl, subst, sym, Bool, true, false, ℕ, List, Result, Ok, Err}
 use Rattle.std.specs.Prelude.{IfErr, IfSome, IsErrAnd, None, Option, Some, option_map}
 use Rattle.clr_net.specs.declared.name.NameFault.{NameFault}
 use Rattle.clr_net.specs.declared.name.NameFault.TheVariants as name
@@ -20,7 +20,12 @@ use Rattle.clr_edge.specs.declared.fault.Fault.{Fault}
 use Rattle.clr_edge.specs.declared.fault.Fault.TheVariants.{Listen, Memory, Output}
 use Rattle.clr_edge.specs.declared.fault.ImportFile.{ImportFile}
 use Rattle.clr_commands.specs.Faults.{HasFailedWriter, IsOfSubcommand}
+use Rattle.clr_rules.specs.Register.{Register}
+use Rattle.clr_rules.specs.declared.reply.Reply.{Reply}
+use Rattle.clr_commands.specs.Replies.{AnswersInput, PrintsAnswers, answers, asked_lines, readings_of}
+use Rattle.clr_commands.specs.Import.{IsOfAnyFile}
 use Rattle.clr_commands.specs.Run.{IsOfInput}
+use Rattle.clr_commands.specs.declared.replies.Printed.{Printed}
 use Rattle.clr_commands.specs.Serve.{FailsServing, IsServing}
 use Rattle.clr_commands.specs.Stored.{IsOfOrder}
 
@@ -94,13 +99,33 @@ pub store_plain : (fault : Fault) → IsOfStore fault → IsOfSubcommand fault
 store_plain fault (inl memory) = memory_plain fault memory
 store_plain fault (inr (cause, is)) = plain_as fault _ is refl
 
-pub input_plain : (fault : Fault) → IsOfInput fault → IsOfSubcommand fault
-input_plain fault (inl memory) = memory_plain fault memory
-input_plain fault (inr (inl failed)) = plain_as fault _ failed refl
-input_plain fault (inr (inr long)) = plain_as fault _ long refl
+pub input_plain : (input : Option (List ℕ)) (fault : Fault) → IsOfInput input fault → IsOfSubcommand fault
+input_plain input fault (inl memory) = memory_plain fault memory
+input_plain input fault (inr (inl failed)) = plain_as fault _ failed refl
+input_plain input fault (inr (inr (long, known))) = plain_as fault _ long refl
+
+-- a fault that was told, if one was
+pub told_plain : (fault : Option Fault) (cause : Option DeskFault) → fault ≡ option_map of_desk cause → IfSome fault IsOfSubcommand
+told_plain fault None e = subst (λ (f : Option Fault). IfSome f IsOfSubcommand) (sym e) tt
+told_plain fault (Some cause) e = subst (λ (f : Option Fault). IfSome f IsOfSubcommand) (sym e) (of_desk_plain cause)
+
+-- the fault that ended what is printed
+printed_plain : (texts : List (List ℕ)) (ended : Option DeskFault) (printed : Printed) → PrintsAnswers texts ended printed → IfSome printed.fault IsOfSubcommand
+printed_plain texts ended printed (inl (all, same)) = told_plain printed.fault ended same
+printed_plain texts ended printed (inr some) = subst (λ (f : Option Fault). IfSome f IsOfSubcommand) (sym some.memory) (plain _ refl)
+
+pub answers_plain : {R S : Register} {input : List ℕ} {told : List Reply} {printed : Printed} → AnswersInput R S input told printed
+    → IfSome printed.fault IsOfSubcommand
+answers_plain {input} {told} {printed} is =
+    printed_plain (answers (readings_of (asked_lines input)) told) is.ended printed is.prints
 
 pub file_plain : (file : ImportFile) (fault : Fault) → IsOfFile file fault → IsOfSubcommand fault
 file_plain file fault (cause, is) = subst (λ (f : Fault). IsOfSubcommand f) (sym is) (of_file_plain file cause)
+
+pub any_file_plain : (fault : Fault) → IsOfAnyFile fault → IsOfSubcommand fault
+any_file_plain fault (inl is) = file_plain _ fault is
+any_file_plain fault (inr (inl is)) = file_plain _ fault is
+any_file_plain fault (inr (inr is)) = file_plain _ fault is
 
 -- a fault that is passed on
 pub passed : {T : Type 0} (result : Result T Fault) (found : Fault) → IsErrAnd result (λ cause. cause ≡ found)
@@ -113,11 +138,6 @@ pub each_plain : {T : Type 0} (result : Result T Fault) (P : Fault → Type 0) �
     → IfErr result P → IfErr result IsOfSubcommand
 each_plain (Ok value) P of is = tt
 each_plain (Err fault) P of is = of fault is
-
--- a fault that was told, if one was
-pub told_plain : (fault : Option Fault) (cause : Option DeskFault) → fault ≡ option_map of_desk cause → IfSome fault IsOfSubcommand
-told_plain fault None e = subst (λ (f : Option Fault). IfSome f IsOfSubcommand) (sym e) tt
-told_plain fault (Some cause) e = subst (λ (f : Option Fault). IfSome f IsOfSubcommand) (sym e) (of_desk_plain cause)
 
 -- a server's fault is of the output only where that failed
 of_output : (fault : Fault) (output output' : Stream) → IsOfSubcommand fault → HasFailedWriter fault output output'

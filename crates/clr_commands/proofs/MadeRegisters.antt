@@ -1,72 +1,66 @@
--- The register that `init` makes of its files.
-use Rattle.std.proofs.Common.{◌≡◌, ◌∙◌, ap, subst, sym, ℕ, List, Option, Result, Ok, Err}
-use Rattle.std.specs.Prelude.{Some, None, IfSome, IsErrAnd, OnOk}
-use Rattle.clr_net.specs.declared.section.SectionRow.{SectionRow}
-use Rattle.clr_net.specs.declared.point.PointRow.{PointRow}
-use Rattle.clr_csv.specs.Points.{points_of}
-use Rattle.clr_csv.specs.Sections.{sections_of}
-use Rattle.clr_csv.specs.StaffRows.{staff_of}
-use Rattle.clr_staff.specs.declared.employee.StaffRow.{StaffRow}
-use Rattle.clr_csv.specs.declared.fault.CsvFault.{CsvFault}
+-- What is answered of the rows of three files, and the register that `init` makes of them.
+use Rattle.std.proofs.Common.{◌≡◌, ◌≢◌, ◌∙◌, ◌⊎◌, ap, inl, inr, subst, sym, ℕ, List}
+use Rattle.std.specs.Prelude.{Some, None, IfErr, IfOk, IsErrAnd, OnOk, Option, Result, Ok, Err, String, string_bytes}
+use Rattle.std.specs.Borrow.{Bor}
+use Rattle.std.specs.declared.alloc.Global.{Global}
 use Rattle.clr_rules.specs.Register.{Register}
-use Rattle.clr_result.specs.Results.{◌>>=◌}
-use Rattle.clr_edge.specs.Files.{told_of}
+use Rattle.clr_args.specs.declared.asked.Files.{Files}
+use Rattle.clr_args.specs.declared.asked.InitArgs.{InitArgs}
+use Rattle.clr_edge.specs.Database.{IsOfLine}
 use Rattle.clr_edge.specs.declared.fault.Fault.{Fault}
-use Rattle.clr_edge.specs.declared.fault.ImportFile.TheVariants.{Sections, Points, Staff}
-use Rattle.clr_commands.specs.Init.{MakesFiles, MakesOfFiles, MakesOfRows, MakesOpening, counts_of}
+use Rattle.clr_edge.specs.declared.fault.Fault.TheVariants.{Memory}
+use Rattle.clr_commands.specs.Answers.{Answers, GivesText, IsMemory}
+use Rattle.clr_commands.specs.Import.{AnswersFiles, AreReadAt, FileRows, lists_of}
+use Rattle.clr_commands.specs.Init.{InitsAt, InitsRows, MakesOpening, counts_of}
+use Rattle.clr_commands.specs.Run.{IsOfInput, IsRunOf, rows_fault}
+use Rattle.clr_commands.specs.declared.import.Rows.{Rows}
+use Rattle.clr_commands.specs.declared.replies.Printed.{Printed}
 
-abbrev value_in : {T : Type 0} → T → Result T Fault → T
-value_in other (Ok value) = value
-value_in other (Err fault) = other
+-- the rows were read
+pub AnswersFiles-rows : {T : Type 0} (bytes_at : List ℕ → Option (List ℕ)) (files : Files) (Is : FileRows → Result T Fault → Type 0) (result : Result T Fault)
+    (rows : Rows) → AreReadAt bytes_at files (Ok (lists_of rows)) → Is (lists_of rows) result → AnswersFiles bytes_at files Is result
+AnswersFiles-rows bytes_at files Is result rows are is = record { read = Ok (lists_of rows); are_read = are; answer = is }
 
-abbrev ok_of : {T : Type 0} → T → Result T Fault
-ok_of value = Ok value
+-- they were not
+pub AnswersFiles-fault : {T : Type 0} (bytes_at : List ℕ → Option (List ℕ)) (files : Files) (Is : FileRows → Result T Fault → Type 0) (result : Result T Fault)
+    (fault : Fault) → AreReadAt bytes_at files (Err fault) → IsErrAnd result (λ cause. cause ≡ fault) → AnswersFiles bytes_at files Is result
+AnswersFiles-fault bytes_at files Is (Ok value) fault are is = absurd is
+AnswersFiles-fault bytes_at files Is (Err cause) fault are is = record { read = Err fault; are_read = are; answer = ap Err is }
 
-same_value : {T : Type 0} {a b : T} → ok_of a ≡ ok_of b → a ≡ b
-same_value {T} {a} {b} e = ap (value_in a) e
+-- no register is made of them
+pub InitsAt-counted : (bytes_at : List ℕ → Option (List ℕ)) (IsMade : List ℕ → Register → Type 0) (args : InitArgs) (result : Result (String Global) Fault)
+    (rows : Rows) → args.database ≡ None → AreReadAt bytes_at args.files (Ok (lists_of rows)) → GivesText IsMemory (counts_of (lists_of rows)) result
+    → InitsAt bytes_at IsMade args result
+InitsAt-counted bytes_at IsMade args result rows none are gives =
+    AnswersFiles-rows bytes_at args.files (InitsRows IsMade args.database) result rows are
+    (subst (λ (d : Option (Bor (List ℕ))). InitsRows IsMade d (lists_of rows) result) (sym none) gives)
 
-made_of_rows : (IsMade : Register → Type 0) (s : Result (List SectionRow) CsvFault) (p : Result (List PointRow) CsvFault)
-    (e : Result (List StaffRow) CsvFault) (sections : List SectionRow) (points : List PointRow) (employees : List StaffRow)
-    → told_of Sections s ≡ Ok sections → told_of Points p ≡ Ok points → told_of Staff e ≡ Ok employees
-    → MakesOpening IsMade sections points employees → MakesOfRows s p e IsMade
-made_of_rows IsMade (Ok a) (Ok b) (Ok c) sections points employees first second third makes =
-    subst (λ (r : List SectionRow). MakesOpening IsMade r b c) (sym (same_value first))
-    (subst (λ (r : List PointRow). MakesOpening IsMade sections r c) (sym (same_value second))
-    (subst (λ (r : List StaffRow). MakesOpening IsMade sections points r) (sym (same_value third)) makes))
-made_of_rows IsMade (Ok a) (Ok b) (Err cause) sections points employees first second third makes = tt
-made_of_rows IsMade (Ok a) (Err cause) e sections points employees first second third makes = tt
-made_of_rows IsMade (Err cause) p e sections points employees first second third makes = tt
+gives_line : (rows : FileRows) (result : Result (String Global) Fault) → IfOk result (λ text. counts_of rows ≡ Ok (string_bytes text))
+    → IfErr result (λ fault. IsOfLine fault ⊎ (counts_of rows ≡ Err fault)) → GivesText IsOfLine (counts_of rows) result
+gives_line rows (Ok text) line fault = line
+gives_line rows (Err cause) line (inl is) = λ other. absurd (other is)
+gives_line rows (Err cause) line (inr same) = λ other. same
 
--- rows that are those of their files, and the register that was made of them
-pub MakesOfFiles-made : {T : Type 0} (so po eo : Option (List ℕ)) (IsMade : Register → Type 0) (sections : List SectionRow) (points : List PointRow)
-    (employees : List StaffRow) (result : Result T Fault)
-    → IfSome so (λ f. told_of Sections (sections_of f) ≡ Ok sections) → IfSome po (λ f. told_of Points (points_of f) ≡ Ok points)
-    → IfSome eo (λ f. told_of Staff (staff_of f) ≡ Ok employees)
-    → OnOk result (MakesOpening IsMade sections points employees) → MakesOfFiles so po eo IsMade result
-MakesOfFiles-made None po eo IsMade sections points employees result first second third makes = tt
-MakesOfFiles-made (Some s) None eo IsMade sections points employees result first second third makes = tt
-MakesOfFiles-made (Some s) (Some p) None IsMade sections points employees result first second third makes = tt
-MakesOfFiles-made (Some s) (Some p) (Some e) IsMade sections points employees (Ok value) first second third makes =
-    made_of_rows IsMade (sections_of s) (points_of p) (staff_of e) sections points employees first second third makes
-MakesOfFiles-made (Some s) (Some p) (Some e) IsMade sections points employees (Err fault) first second third makes = tt
+-- or one is
+pub InitsAt-made : (bytes_at : List ℕ → Option (List ℕ)) (IsMade : List ℕ → Register → Type 0) (args : InitArgs) (result : Result (String Global) Fault)
+    (rows : Rows) (path : Bor (List ℕ)) → args.database ≡ Some path → AreReadAt bytes_at args.files (Ok (lists_of rows))
+    → IfOk result (λ text. counts_of (lists_of rows) ≡ Ok (string_bytes text))
+    → IfErr result (λ fault. IsOfLine fault ⊎ (counts_of (lists_of rows) ≡ Err fault))
+    → OnOk result (MakesOpening (IsMade path.now) (lists_of rows)) → InitsAt bytes_at IsMade args result
+InitsAt-made bytes_at IsMade args result rows path some are line fault made =
+    AnswersFiles-rows bytes_at args.files (InitsRows IsMade args.database) result rows are
+    (subst (λ (d : Option (Bor (List ℕ))). InitsRows IsMade d (lists_of rows) result) (sym some) (gives_line (lists_of rows) result line fault, made))
 
--- a call that answered no line
-pub MakesOfFiles-none : {T : Type 0} (so po eo : Option (List ℕ)) (IsMade : Register → Type 0) (result : Result T Fault) (P : Fault → Type 0)
-    → IsErrAnd result P → MakesOfFiles so po eo IsMade result
-MakesOfFiles-none None po eo IsMade result P is = tt
-MakesOfFiles-none (Some s) None eo IsMade result P is = tt
-MakesOfFiles-none (Some s) (Some p) None IsMade result P is = tt
-MakesOfFiles-none (Some s) (Some p) (Some e) IsMade (Ok value) P is = absurd is
-MakesOfFiles-none (Some s) (Some p) (Some e) IsMade (Err fault) P is = tt
+-- rows of which no run is answered
+pub IsRunOf-rows : (input : Option (List ℕ)) (rows : FileRows) (result : Result Printed Fault) (fault : Fault) → IsErrAnd result (λ cause. cause ≡ fault)
+    → (fault ≢ Memory → rows_fault rows ≡ Err fault) → Answers IsMemory (λ printed. printed) (IsRunOf input rows) result
+IsRunOf-rows input rows (Ok value) fault is told = absurd is
+IsRunOf-rows input rows (Err cause) fault is told =
+    λ other. inl (subst (λ (f : Fault). rows_fault rows ≡ Err f) (sym is) (told (λ memory. other (is ∙ memory))))
 
--- the line of counts of files whose rows were read
-pub MakesFiles-read : {T : Type 0} (so po eo : Option (List ℕ)) (view : T → List ℕ) (sections : List SectionRow) (points : List PointRow)
-    (employees : List StaffRow) (text : T)
-    → IfSome so (λ f. told_of Sections (sections_of f) ≡ Ok sections) → IfSome po (λ f. told_of Points (points_of f) ≡ Ok points)
-    → IfSome eo (λ f. told_of Staff (staff_of f) ≡ Ok employees) → counts_of sections points employees ≡ Ok (view text)
-    → IfSome so (λ s. IfSome po (λ p. IfSome eo (λ e. MakesFiles view s p e (Ok text))))
-MakesFiles-read None po eo view sections points employees text first second third line = tt
-MakesFiles-read (Some s) None eo view sections points employees text first second third line = tt
-MakesFiles-read (Some s) (Some p) None view sections points employees text first second third line = tt
-MakesFiles-read (Some s) (Some p) (Some e) view sections points employees text first second third line =
-    (λ i. first i >>= (λ a. second i >>= (λ b. third i >>= (λ d. counts_of a b d)))) ∙ line
+-- or of which the input is not
+pub IsRunOf-input : (input : Option (List ℕ)) (rows : FileRows) (result : Result Printed Fault) (fault : Fault) → IsErrAnd result (λ cause. cause ≡ fault)
+    → rows_fault rows ≡ Ok tt → IsOfInput input fault → Answers IsMemory (λ printed. printed) (IsRunOf input rows) result
+IsRunOf-input input rows (Ok value) fault is none of = absurd is
+IsRunOf-input input rows (Err cause) fault is none of =
+    λ other. inr (none, subst (λ (f : Fault). IsOfInput input f) (sym is) of)

@@ -1,5 +1,5 @@
 -- What is answered of rows is no fault of a file or of standard input.
-use Rattle.std.proofs.Common.{◌≡◌, ◌∙◌, ◌⊎◌, ap, inl, inr, refl, sym, subst, Bool, true, false, List, [], ◌∷◌, ℕ, Result, Ok, Err}
+use Rattle.std.proofs.Common.{◌≡◌, ◌∙◌, ap, inl, inr, refl, sym, subst, Bool, true, false, List, [], ◌∷◌, ℕ, Result, Ok, Err}
 use Rattle.std.specs.Prelude.{◌≢◌, Option, Some, None, if◌then◌else◌, IfErr, IfSome, IsErrAnd, option_map}
 use Rattle.clr_net.specs.Grid.{Grid, point_names, section_names}
 use Rattle.clr_net.specs.Names.{has_name}
@@ -12,21 +12,22 @@ use Rattle.clr_net.specs.declared.name.NameFault.TheVariants as name
 use Rattle.clr_net.specs.declared.net_fault.NetFault.{NetFault}
 use Rattle.clr_net.specs.declared.net_fault.NetFault.TheVariants as net
 use Rattle.clr_staff.specs.Staff as staff
-use Rattle.clr_staff.specs.declared.employee.StaffRow.{StaffRow}
 use Rattle.clr_csv.specs.declared.fault.CsvFault.{CsvFault}
 use Rattle.clr_staff.specs.declared.staff_fault.StaffFault.{StaffFault}
 use Rattle.clr_staff.specs.declared.staff_fault.StaffFault.TheVariants as staff_fault
 use Rattle.clr_result.specs.Results.{◌>>=◌}
 use Rattle.clr_edge.specs.Answers.{unless}
-use Rattle.clr_edge.specs.Fault.{of_network, of_staff}
+use Rattle.clr_edge.specs.Fault.{of_file, of_network, of_staff}
 use Rattle.clr_commands.specs.Fence.{IsFenceOf, argument, fence_lines, name_among, point_named, points_named, section_named}
 use Rattle.clr_edge.specs.declared.fault.Fault.{Fault}
 use Rattle.clr_edge.specs.declared.fault.Fault.TheVariants.{File, Input, Memory, UnknownPoint, UnknownSection}
 use Rattle.clr_edge.specs.declared.fault.Fault.TheVariants as found
 use Rattle.clr_edge.specs.Files.{HasCause}
-use Rattle.clr_commands.specs.Init.{counts_of}
-use Rattle.clr_edge.specs.Database.{IsOfLine}
+use Rattle.clr_commands.specs.Import.{FileRows, IsOfAnyFile}
+use Rattle.clr_commands.specs.Run.{rows_fault}
 use Rattle.clr_csv.specs.declared.fault.CsvFault.TheVariants.{ReadFailed}
+use Rattle.clr_csv.specs.declared.fault.CsvFault.TheVariants as csv
+use Rattle.clr_edge.specs.declared.fault.InputFault.TheVariants as input
 use Rattle.clr_edge.specs.declared.fault.ImportFile.{ImportFile}
 
 abbrev pub is_of_reader : Fault → Bool
@@ -157,40 +158,28 @@ unless-no_reader : {A : Type 0} (first : Option Fault) (rest : Result A Fault) �
 unless-no_reader None rest none others = others
 unless-no_reader (Some fault) rest none others = none
 
-counts_of-no_reader : (sections : List SectionRow) (points : List PointRow) (employees : List StaffRow)
-    → IsOfNoReader (counts_of sections points employees)
-counts_of-no_reader sections points employees =
-    unless-no_reader (option_map of_network (network.first_fault sections points)) _ (network-no_reader (network.first_fault sections points))
-    (unless-no_reader (option_map of_staff (staff.first_fault employees)) _ (staff-no_reader (staff.first_fault employees)) tt)
+-- a fault of the rows of three files is none of the input
+pub rows_fault-no_input : (rows : FileRows) (fault : Fault) → (fault ≢ Memory → rows_fault rows ≡ Err fault) → fault ≡ Input input.ReadFailed → ⊥
+rows_fault-no_input rows fault is e =
+    let other : fault ≢ Memory = λ m. cc (sym e ∙ m) in
+    let none : IsOfNoReader (rows_fault rows) =
+    unless-no_reader (option_map of_network (network.first_fault rows.sections rows.points)) _ (network-no_reader (network.first_fault rows.sections rows.points))
+    (unless-no_reader (option_map of_staff (staff.first_fault rows.staff)) _ (staff-no_reader (staff.first_fault rows.staff)) tt) in
+    let no : is_of_reader fault ≡ false = subst (λ (r : Result (Unit {0}) Fault). IsOfNoReader r) (is other) none in
+    cc (sym no ∙ ap is_of_reader e)
 
-told-no_reader : {A : Type 0} (fault : Fault) (told : Result A Fault) → IsOfNoReader told → (fault ≢ Memory → told ≡ Err fault)
-    → is_of_reader fault ≡ false
-told-no_reader {A} (File file cause) told none is = let P : Result A Fault → Type 0 = λ r. IsOfNoReader r in subst P (is (λ e. cc e)) none
-told-no_reader {A} (Input cause) told none is = let P : Result A Fault → Type 0 = λ r. IsOfNoReader r in subst P (is (λ e. cc e)) none
-told-no_reader Memory told none is = refl
-told-no_reader (found.Network cause) told none is = refl
-told-no_reader (found.Staff cause) told none is = refl
-told-no_reader (found.Name cause) told none is = refl
-told-no_reader (found.UnknownSection section) told none is = refl
-told-no_reader (found.UnknownPoint point) told none is = refl
-told-no_reader (found.Store cause) told none is = refl
-told-no_reader found.NoSuch told none is = refl
-told-no_reader found.Output told none is = refl
-told-no_reader found.Listen told none is = refl
+-- nor is one of a file
+file-no_input : (file : ImportFile) (cause : CsvFault) (fault : Fault) → fault ≡ of_file file cause → fault ≡ Input input.ReadFailed → ⊥
+file-no_input file csv.ReadFailed fault is e = cc (sym is ∙ e)
+file-no_input file csv.TooLong fault is e = cc (sym is ∙ e)
+file-no_input file csv.Header fault is e = cc (sym is ∙ e)
+file-no_input file (csv.NotText row) fault is e = cc (sym is ∙ e)
+file-no_input file (csv.FieldCount row) fault is e = cc (sym is ∙ e)
+file-no_input file (csv.BadName row column) fault is e = cc (sym is ∙ e)
+file-no_input file (csv.BadWord row column) fault is e = cc (sym is ∙ e)
+file-no_input file csv.NoMemory fault is e = cc (sym is ∙ e)
 
--- a fault of the rows of three files is of no reader
-pub no_reader-from_counts : (fault : Fault) (sections : List SectionRow) (points : List PointRow) (employees : List StaffRow)
-    → (fault ≢ Memory → counts_of sections points employees ≡ Err fault) → is_of_reader fault ≡ false
-no_reader-from_counts fault sections points employees is =
-    told-no_reader fault (counts_of sections points employees) (counts_of-no_reader sections points employees) is
-
--- nor is one of making their register
-pub no_reader-from_making : (fault : Fault) (sections : List SectionRow) (points : List PointRow) (employees : List StaffRow)
-    → IsOfLine fault ⊎ (counts_of sections points employees ≡ Err fault) → is_of_reader fault ≡ false
-no_reader-from_making fault sections points employees is = elim is [
-  | inl line ↦ elim line [
-    | inl memory ↦ ap is_of_reader memory
-    | inr refused ↦ ap is_of_reader refused
-  ]
-  | inr told ↦ no_reader-from_counts fault sections points employees (λ _. told)
-]
+pub any_file-no_input : (fault : Fault) → IsOfAnyFile fault → fault ≡ Input input.ReadFailed → ⊥
+any_file-no_input fault (inl (cause, is)) e = file-no_input _ cause fault is e
+any_file-no_input fault (inr (inl (cause, is))) e = file-no_input _ cause fault is e
+any_file-no_input fault (inr (inr (cause, is))) e = file-no_input _ cause fault is e

@@ -5,7 +5,7 @@ use Rattle.std.proofs.lemmas.List.{append-nil}
 use Rattle.clr_net.specs.Grid.{Grid}
 use Rattle.clr_edge.specs.declared.fault.Fault.{Fault}
 use Rattle.clr_result.specs.Results.{◌>>=◌}
-use Rattle.clr_edge.specs.Answers.{Gives}
+use Rattle.clr_commands.specs.Answers.{Gives, IsMemory}
 use Rattle.clr_commands.specs.Fence.{point_named, points_named}
 
 -- these names, and then those of the other words
@@ -42,6 +42,6 @@ points_named-nil g names = rw append-nil
 
 -- what is told where a fault ends the reading
 pub gives-fault : {A T : Type 0} (view : T → A) (told : Result A Fault) (result : Result T Fault) (fault : Fault)
-    → told ≡ Err fault → IsErrAnd result (λ cause. cause ≡ fault) → Gives view told result
+    → told ≡ Err fault → IsErrAnd result (λ cause. cause ≡ fault) → Gives IsMemory view told result
 gives-fault view told (Ok value) fault e is = absurd is
 gives-fault view told (Err cause) fault e is = λ _. e ∙ ap Err (sym is)

@@ -11,7 +11,7 @@ use Rattle.clr_desk.specs.Faults.{IsOfCommand}
 use Rattle.clr_desk.specs.Kept.{Keeps}
 use Rattle.clr_desk.specs.NearRun.{IsNearRun}
 use Rattle.clr_desk.specs.declared.run.Run.{Run}
-use Rattle.clr_commands.specs.Replies.{AnswersOver, Prints, answers, asked_commands, asked_lines, readings_of}
+use Rattle.clr_commands.specs.Replies.{AnswersOver, PrintsAnswers, answers, asked_commands, asked_lines, readings_of}
 use Rattle.clr_commands.specs.declared.replies.Printed.{Printed}
 use Rattle.clr_commands.specs.declared.replies.Reading.{Reading}
 use Rattle.clr_commands.proofs.AnsweredLines.{answers_are}
@@ -33,7 +33,7 @@ pub record RunsAll (old new : State) (R S : Register) (run : Run) (commands : Li
 pub answers_over : (old new : State) (R S : Register) (input : List ℕ) (run : Run) (commands : List Command)
     (readings : List Reading) (printed : Printed)
     → commands ≡ asked_commands input → readings ≡ readings_of (asked_lines input)
-    → RunsAll old new R S run commands → Prints (answers readings run.replies.items) run.fault printed
+    → RunsAll old new R S run commands → PrintsAnswers (answers readings run.replies.items) run.fault printed
     → AnswersOver old new R S input printed
 answers_over old new R S input run commands readings printed asked read all prints =
     let on = subst (λ (cs : List Command). RunsAll old new R S run cs) asked all in
@@ -49,7 +49,7 @@ answers_over old new R S input run commands readings printed asked read all prin
         headline = on.headline;
         untouched = on.untouched;
         alone = on.alone;
-        prints = subst (λ (rs : List Reading). Prints (answers rs run.replies.items) run.fault printed) read prints;
+        prints = subst (λ (rs : List Reading). PrintsAnswers (answers rs run.replies.items) run.fault printed) read prints;
         lines = λ good. answers_are R S (asked_lines input) run.replies.items (on.ran good);
       };
       keeps = on.keeps;

@@ -1,5 +1,5 @@
 -- What a server comes to, from what its parts do.
-use Rattle.std.proofs.Common.{◌≡◌, ◌⊎◌, inl, inr, refl, subst, sym, ℕ, Result, Ok, Err}
+use Rattle.std.proofs.Common.{◌≡◌, inl, inr, subst, sym, ℕ, Result, Ok, Err}
 use Rattle.std.specs.Prelude.{IfErr, IfSome, IsErrAnd, None, OnOk, Option, Some}
 use Rattle.sqlite.specs.Held.{Held, state}
 use Rattle.sqlite_trees.specs.declared.store.Store.{Ghosts}

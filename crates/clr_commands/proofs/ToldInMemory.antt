@@ -1,6 +1,7 @@
 -- A run over a database in memory, of which a failure is told as out of memory.
-use Rattle.std.proofs.Common.{◌≡◌, ◌≢◌, ◌∙◌, ◌<◌, ap, inl, inr, length, refl, sym, ℕ, List}
-use Rattle.std.specs.Prelude.{IfNone, IfOk, IfSome, IsErrOf, None, Ok, Option, Some, option_map, string_bytes}
+use Rattle.std.proofs.Common.{◌≡◌, ◌≢◌, ◌∙◌, ap, inl, inr, refl, subst, sym, ℕ, List}
+use Rattle.std.specs.Prelude.{IfNone, IfSome, None, Ok, Option, Some, option_map, string_bytes}
+use Rattle.sqlite.specs.State.{State}
 use Rattle.clr_rules.specs.Register.{Register}
 use Rattle.clr_rules.specs.declared.reply.Reply.{Reply}
 use Rattle.clr_load.specs.declared.fault.StoreFault.TheVariants as store
@@ -9,10 +10,10 @@ use Rattle.clr_desk.specs.declared.desk_fault.DeskFault.{DeskFault}
 use Rattle.clr_desk.specs.declared.desk_fault.DeskFault.TheVariants as desk
 use Rattle.clr_edge.specs.Fault.{of_desk}
 use Rattle.clr_edge.specs.declared.fault.Fault.{Fault}
-use Rattle.clr_edge.specs.declared.fault.Fault.TheVariants.{Input, Store}
-use Rattle.clr_edge.specs.declared.fault.InputFault.TheVariants.{TooLong}
-use Rattle.clr_commands.specs.Replies.{AnswersInput, Prints}
-use Rattle.clr_commands.specs.Run.{told_in_memory}
+use Rattle.clr_edge.specs.declared.fault.Fault.TheVariants.{Store}
+use Rattle.clr_commands.specs.Faults.{IsOfSubcommand}
+use Rattle.clr_commands.specs.Replies.{AnswersInput, PrintsAnswers}
+use Rattle.clr_commands.specs.Run.{RunsOnDesk, RunsOver, told_in_memory}
 use Rattle.clr_commands.specs.declared.replies.Printed.{Printed}
 
 -- no fault of a database is told
@@ -57,7 +58,7 @@ ended_stops (Some fault) P is = is
 
 prints_told : (texts : List (List ℕ)) (ended : Option DeskFault) (printed told : Printed) → told.text ≡ printed.text
     → told.fault ≡ option_map told_in_memory printed.fault → IfSome ended (λ fault. IsOfCommand fault)
-    → Prints texts ended printed → Prints texts (option_map ended_by ended) told
+    → PrintsAnswers texts ended printed → PrintsAnswers texts (option_map ended_by ended) told
 prints_told texts ended printed told text fault cause (inl (all, same)) =
     inl (ap string_bytes text ∙ all, fault ∙ ap (option_map told_in_memory) same ∙ ended_told ended cause)
 prints_told texts ended printed told text fault cause (inr some) = inr (record {
@@ -85,17 +86,19 @@ answers_told R S input replies printed told text fault is = record {
 }
 
 -- the input is answered all the same
-pub told_input : (R : Register) (input : Option (List ℕ)) (printed told : Printed) → told.text ≡ printed.text
-    → told.fault ≡ option_map told_in_memory printed.fault
-    → IfOk {E = Fault} (Ok printed) (λ printed. (bytes : List ℕ) × IfSome input (λ known. bytes ≡ known)
-    × (S : Register) × (replies : List Reply) × AnswersInput R S bytes replies printed)
-    → IfOk {E = Fault} (Ok told) (λ told. (bytes : List ℕ) × IfSome input (λ known. bytes ≡ known)
-    × (S : Register) × (replies : List Reply) × AnswersInput R S bytes replies told)
-told_input R input printed told text fault (bytes, same, S, replies, is) =
-    (bytes, same, S, replies, answers_told R S bytes replies printed told text fault is)
+pub RunsOver-told : (old new : State) (R S : Register) (input : Option (List ℕ)) (printed told : Printed) → told.text ≡ printed.text
+    → told.fault ≡ option_map told_in_memory printed.fault → RunsOnDesk old new R S input (Ok printed) → RunsOver R input (Ok told)
+RunsOver-told old new R S input printed told text fault (bytes, is_input, answers) =
+    (bytes, is_input, S, answers.told, answers_told R S bytes answers.told printed told text fault answers.run)
 
--- and was not too long
-pub told_short : (input : Option (List ℕ)) (told : Printed)
-    → IfSome input (λ known. IsErrOf {T = Printed} (Ok told) (Input TooLong) → 16777216 < length known)
-told_short None told = tt
-told_short (Some known) told = λ e. absurd (cc e)
+-- and its fault is a subcommand's
+memory_of : (fault : Fault) → IsOfSubcommand fault → IsOfSubcommand (told_in_memory fault)
+memory_of (Store store.Sql) of = (λ e. cc e, λ e. cc e)
+memory_of (Store (store.WrongVersion n)) of = of
+memory_of (Store (store.BadRow table)) of = of
+memory_of (Store store.NoMemory) of = of
+memory_of _ of = of
+
+pub told_plain_in_memory : (before told : Option Fault) → told ≡ option_map told_in_memory before → IfSome before IsOfSubcommand → IfSome told IsOfSubcommand
+told_plain_in_memory None told is of = subst (λ (f : Option Fault). IfSome f IsOfSubcommand) (sym is) tt
+told_plain_in_memory (Some fault) told is of = subst (λ (f : Option Fault). IfSome f IsOfSubcommand) (sym is) (memory_of fault of)

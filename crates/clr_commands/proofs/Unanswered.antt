@@ -1,6 +1,6 @@
 -- Why nothing came of a database.
-use Rattle.std.proofs.Common.{◌≡◌, ◌⊎◌, inl, inr, subst, sym, ℕ, Result, Ok, Err}
-use Rattle.std.specs.Prelude.{IfErr, OnErr, OnOk}
+use Rattle.std.proofs.Common.{◌⊎◌, inl, inr, ℕ, Result, Ok, Err}
+use Rattle.std.specs.Prelude.{IfErr}
 use Rattle.sqlite.specs.Effect.{Database}
 use Rattle.sqlite.specs.Files.{over_files}
 use Rattle.sqlite.specs.Held.{Held, state}
@@ -22,26 +22,10 @@ unanswered_at g IsAt IsShut IsOwn (Ok value) before after at cause survives = tt
 unanswered_at g IsAt IsShut IsOwn (Err fault) before after at cause survives =
     inr (before, after, at, record { cause = cause; survives = survives })
 
--- the same where that is said of a fault alone
-pub unanswered_behind : {T D : Type 0} (g : disk.Ghosts D) (IsAt : Database → Type 0) (IsShut : Type 0) (IsOwn : Fault → Type 0) (result : Result T Fault)
-    (before after : Held (FileStore D g)) → IsAt (state over_files before).now
-    → IfErr result (λ fault. IsOwn fault ⊎ IsRefused over_files before fault after)
-    → OnErr result (Survives (state over_files before) (state over_files after) (λ _. ⊥)) → IfErr result (UnansweredAt g IsAt IsShut IsOwn)
-unanswered_behind g IsAt IsShut IsOwn (Ok value) before after at cause survives = tt
-unanswered_behind g IsAt IsShut IsOwn (Err fault) before after at cause survives =
-    inr (before, after, at, record { cause = cause; survives = survives })
-
 -- a fault of one kind is of one of two
 pub own_fault : {T : Type 0} (result : Result T Fault) (P Q : Fault → Type 0) → IfErr result P → IfErr result (λ fault. P fault ⊎ Q fault)
 own_fault (Ok value) P Q is = tt
 own_fault (Err fault) P Q is = inl is
-
--- a fault that is told behind the closing is the one that was before
-pub told_behind : {T : Type 0} (before result : Result T Fault) (P : Fault → Type 0) → OnOk before (IfErr result (λ _. ⊥))
-    → IfErr before (λ _. result ≡ before) → IfErr before P → IfErr result P
-told_behind (Ok value) (Ok other) P whole same holds = tt
-told_behind (Ok value) (Err fault) P whole same holds = absurd whole
-told_behind {T} (Err fault) result P whole same holds = subst (λ (r : Result T Fault). IfErr r P) (sym same) holds
 
 -- what a server may meet behind its register
 pub server_fault : (refuses : ℕ → Type 0) (port : ℕ) (fault : Fault) (output output' errors errors' : Stream)

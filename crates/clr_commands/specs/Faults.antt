@@ -1,5 +1,5 @@
 -- Which faults a subcommand may answer.
-use Rattle.std.specs.Prelude.{◌≡◌, ◌≢◌, IfSome}
+use Rattle.std.specs.Prelude.{◌≡◌, ◌≢◌, IfSome, Result, Ok, Err}
 use Rattle.clr_stream.specs.Streams.{HasFailed, Stream}
 use Rattle.clr_edge.specs.declared.fault.Fault.{Fault}
 use Rattle.clr_edge.specs.declared.fault.Fault.TheVariants.{Listen, Output}
@@ -10,9 +10,10 @@ use Rattle.clr_commands.specs.declared.replies.Printed.{Printed}
 abbrev pub IsOfSubcommand : Fault → Type 0
 IsOfSubcommand fault = (fault ≢ Output) × (fault ≢ Listen)
 
--- the fault that ended what is printed, if one did, is such a fault
-abbrev pub StopsAsSubcommand : Printed → Type 0
-StopsAsSubcommand printed = IfSome printed.fault IsOfSubcommand
+-- the same of what `run` answers, and of the fault that ended what is printed, if one did
+abbrev pub FailsAsSubcommand : Result Printed Fault → Type 0
+FailsAsSubcommand (Ok printed) = IfSome printed.fault IsOfSubcommand
+FailsAsSubcommand (Err fault) = IsOfSubcommand fault
 
 -- the same of one that writes as it goes: that the output could not be written is its fault only
 -- where the writer failed

@@ -1,6 +1,7 @@
 -- What `fence` answers over a network: the lines of the fence, or the first fault of its words.
-use Rattle.std.specs.Prelude.{◌≡◌, ◌≢◌, ℕ, if◌then◌else◌, List, [], ◌∷◌, Option, Some, None, Result}
-use Rattle.std.specs.Prelude.{Ok, Err, IfSome, codes}
+use Rattle.std.specs.Prelude.{◌≡◌, ◌⊎◌, ℕ, if◌then◌else◌, List, [], ◌∷◌, Option, Some, None, Result}
+use Rattle.std.specs.Prelude.{Ok, Err, IfSome, String, map}
+use Rattle.std.specs.declared.alloc.Global.{Global}
 use Rattle.clr_net.specs.Names.{has_name}
 use Rattle.clr_net.specs.NameText.{read_name}
 use Rattle.clr_net.specs.Grid.{Grid, section_names, point_names}
@@ -12,16 +13,16 @@ use Rattle.clr_net.specs.declared.section.SectionRow.{SectionRow}
 use Rattle.clr_net.specs.declared.point.PointRow.{PointRow}
 use Rattle.clr_net.specs.declared.net_fault.NetFault.{NetFault}
 use Rattle.clr_net.specs.declared.name.NameFault.{NameFault}
-use Rattle.clap.specs.Words.{Row}
 use Rattle.clr_result.specs.Results.{◌>>=◌}
 use Rattle.clr_edge.specs.Answers.{After}
-use Rattle.clr_args.specs.Asked.{word_in, words_in}
+use Rattle.clr_args.specs.declared.asked.FenceArgs.{FenceArgs}
 use Rattle.clr_edge.specs.Fault.{of_name, of_network}
 use Rattle.clr_edge.specs.Files.{IsUnread, told_of}
+use Rattle.clr_commands.specs.Answers.{IsMemory, Prints}
 use Rattle.clr_commands.specs.Lines.{lines_of}
 use Rattle.clr_edge.specs.declared.fault.ImportFile.TheVariants.{Sections, Points}
 use Rattle.clr_edge.specs.declared.fault.Fault.{Fault}
-use Rattle.clr_edge.specs.declared.fault.Fault.TheVariants.{Memory, UnknownSection, UnknownPoint}
+use Rattle.clr_edge.specs.declared.fault.Fault.TheVariants.{UnknownSection, UnknownPoint}
 
 -- the name that an argument reads as
 abbrev pub argument : Result (List ℕ) NameFault → Result (List ℕ) Fault
@@ -67,13 +68,11 @@ IsFenceOf (Some cause) sections points work cut told = told ≡ Err (of_network 
 IsFenceOf None sections points work cut told = (g : Grid) × IsGridOf sections points g
     × (told ≡ fence_lines g work cut)
 
--- the same of rows, as a call answers it; only out of memory may come in place of the answer
-abbrev pub FencesRows : {T : Type 0} → (T → List ℕ) → List SectionRow → List PointRow → List ℕ
-    → List (List ℕ) → Result T Fault → Type 0
-FencesRows view sections points work cut (Ok value) =
-    IsFenceOf (first_fault sections points) sections points work cut (Ok (view value))
-FencesRows view sections points work cut (Err fault) = fault ≢ Memory
-    → IsFenceOf (first_fault sections points) sections points work cut (Err fault)
+-- the same as a call answers it
+abbrev pub FencesRows : List SectionRow → List PointRow → List ℕ → List (List ℕ)
+    → Result (String Global) Fault → Type 0
+FencesRows sections points work cut =
+    Prints IsMemory (IsFenceOf (first_fault sections points) sections points work cut)
 
 -- What `fence` answers of the bytes of its two files: the first fault of the sections, then that of
 -- the points, else what it answers of their rows.
@@ -84,20 +83,18 @@ IsFenceOfFiles section_file point_file work cut =
     After (told_of Points (points_of point_file)) (λ points.
     IsFenceOf (first_fault sections points) sections points work cut))
 
--- the same of bytes, as a call answers it; only out of memory, or a file that goes unread, may
--- come in place of the answer
-abbrev pub FencesFiles : {T : Type 0} → (T → List ℕ) → List ℕ → List ℕ → List ℕ → List (List ℕ)
-    → Result T Fault → Type 0
-FencesFiles view section_file point_file work cut (Ok value) =
-    IsFenceOfFiles section_file point_file work cut (Ok (view value))
-FencesFiles view section_file point_file work cut (Err fault) = (IsUnread Sections fault → ⊥)
-    → (IsUnread Points fault → ⊥) → IsFenceOfFiles section_file point_file work cut (Err fault)
+-- the same as a call answers it; a file may go unread in place of the answer
+abbrev pub FencesFiles : List ℕ → List ℕ → List ℕ → List (List ℕ) → Result (String Global) Fault
+    → Type 0
+FencesFiles section_file point_file work cut =
+    Prints (λ fault. IsUnread Sections fault ⊎ IsUnread Points fault)
+    (IsFenceOfFiles section_file point_file work cut)
 
--- the same at paths: SECTIONS and POINTS name the files, WORK the section, and each CUT a point
-abbrev pub FencesAt : {T : Type 0} → (T → List ℕ) → (List ℕ → Option (List ℕ)) → List Row
-    → Result T Fault → Type 0
-FencesAt view bytes_at rows result =
-    IfSome (bytes_at (word_in rows (codes "SECTIONS"))) (λ section_file.
-    IfSome (bytes_at (word_in rows (codes "POINTS"))) (λ point_file.
-    FencesFiles view section_file point_file (word_in rows (codes "WORK"))
-    (words_in rows (codes "CUT")) result))
+-- the same of the files at their paths
+abbrev pub FencesAt : (List ℕ → Option (List ℕ)) → FenceArgs → Result (String Global) Fault
+    → Type 0
+FencesAt bytes_at args result =
+    IfSome (bytes_at args.sections.now) (λ section_file.
+    IfSome (bytes_at args.points.now) (λ point_file.
+    FencesFiles section_file point_file args.work.now (map (λ word. word.now) args.cut.items)
+    result))

@@ -1,5 +1,7 @@
+pub mod Answers
 pub mod Faults
 pub mod Fence
+pub mod Import
 pub mod Init
 pub mod Lines
 pub mod Migrate

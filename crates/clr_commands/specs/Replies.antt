@@ -86,8 +86,8 @@ pub record PrintsSome (texts : List (List ℕ)) (text : List ℕ) (fault : Optio
   pub memory : fault ≡ Some Memory
 
 -- the answers are printed, and the fault that ended the commands is told, if one did
-abbrev pub Prints : List (List ℕ) → Option DeskFault → Printed → Type 0
-Prints texts ended printed =
+abbrev pub PrintsAnswers : List (List ℕ) → Option DeskFault → Printed → Type 0
+PrintsAnswers texts ended printed =
     ((string_bytes printed.text ≡ as_lines texts) × (printed.fault ≡ option_map of_desk ended))
     ⊎ PrintsSome texts (string_bytes printed.text) printed.fault
 
@@ -113,7 +113,7 @@ pub record AnswersInput (R S : Register) (input : List ℕ) (told : List Reply) 
   pub headline : OthersChangeNoReply R (answered_commands input told) told S
   pub untouched : OthersTakeNothing R (answered_commands input told)
   pub alone : OwnStandAlone R (answered_commands input told) told
-  pub prints : Prints (answers (readings_of (asked_lines input)) told) ended printed
+  pub prints : PrintsAnswers (answers (readings_of (asked_lines input)) told) ended printed
   pub lines : IsGood R
       → AnswerLines R (asked_lines input) (answers (readings_of (asked_lines input)) told) S
 

@@ -1,6 +1,6 @@
 -- What `serve` tells while it serves: where it listens, and each connection that failed.
 use Rattle.std.specs.Prelude.{◌≡◌, ◌⊎◌, ℕ, zero, suc, ◌+◌, List, [], ◌∷◌, ◌++◌, codes, decimal}
-use Rattle.std.specs.Prelude.{IsTrue, Result, Ok, Err, string_bytes}
+use Rattle.std.specs.Prelude.{IsTrue, Result, Ok, Err}
 use Rattle.sqlite.specs.Effect.{Database}
 use Rattle.sqlite.specs.Files.{over_files}
 use Rattle.sqlite.specs.Held.{Held, state}
@@ -8,14 +8,11 @@ use Rattle.sqlite.specs.State.{Survives}
 use Rattle.sqlite_disk.specs.declared.Disk as disk
 use Rattle.sqlite_store.specs.declared.store.FileStore.{FileStore}
 use Rattle.sqlite_trees.specs.declared.store.Store.{Ghosts}
-use Rattle.clap.specs.Words.{Row, first_of}
 use Rattle.clr_rules.specs.Good.{IsGood}
 use Rattle.clr_rules.specs.Register.{Register}
 use Rattle.clr_rules.specs.Run.{IsReached}
 use Rattle.clr_load.specs.Stored.{HasTables}
 use Rattle.clr_tables.specs.Tables.{tables_of}
-use Rattle.clr_args.specs.Asked.{number_in, word_in}
-use Rattle.clr_commands.specs.declared.serve.ServeArgs.{ServeArgs}
 use Rattle.std.specs.declared.io.ErrorKind.{ErrorKind}
 use Rattle.std.specs.declared.io.ErrorKind.TheVariants.{OutOfMemory}
 use Rattle.clr_http.specs.declared.serve.HttpFault.{HttpFault}
@@ -26,13 +23,6 @@ use Rattle.clr_edge.specs.Database.{HasRegister, IsLeftInFile, IsOfLine, IsOfSto
 use Rattle.clr_edge.specs.Database.{IsUnopened}
 use Rattle.clr_edge.specs.declared.fault.Fault.{Fault}
 use Rattle.clr_edge.specs.declared.fault.Fault.TheVariants.{Listen, Memory, Output}
-
--- what `serve` was asked for: DB names the database, `--port` the port of 127.0.0.1, and `--count`
--- says how many connections are served
-pub record ServesAsked (rows : List Row) (args : ServeArgs) : Type 0 where
-  pub path : string_bytes args.path ≡ word_in rows (codes "DB")
-  pub port : args.port ≡ number_in 65535 (first_of (codes "port") rows)
-  pub count : args.count ≡ number_in 1000000 (first_of (codes "count") rows)
 
 -- the line that a server begins with
 abbrev pub serving_line : ℕ → List ℕ

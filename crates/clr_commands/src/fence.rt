@@ -1,16 +1,14 @@
 //! The subcommand `fence`: the sections that can be reached from one without passing a cut.
 ghost use Rattle.std.specs.Prelude.{◌≡◌, ◌++◌, IfErr, IfOk, IfSome, OnOk, map, string_bytes};
-ghost use Rattle.clap.specs.Words.{found_of, rows_of};
 ghost use Rattle.clr_csv.specs.Sections.{sections_of};
-ghost use Rattle.clr_edge.specs.Answers.{Gives};
+ghost use Rattle.clr_commands.specs.Answers.{Gives, GivesText, IsMemory};
 ghost use Rattle.clr_commands.specs.Faults.{IsOfSubcommand};
 ghost use Rattle.clr_commands.specs.Fence.{FencesAt, FencesFiles, FencesRows, fence_lines};
 ghost use Rattle.clr_commands.specs.Fence.{point_named, points_named, section_named};
 ghost use Rattle.clr_edge.specs.Files.{HasCause, WaitsFor};
 ghost use Rattle.clr_commands.specs.Lines.{line_of, lines_of};
 
-use clap::ArgMatches;
-use clr_args::words::{word_of, words_of};
+use clr_args::asked::FenceArgs;
 use clr_edge::fault::{Fault, ImportFile};
 use clr_edge::files::{Source, points_from, sections_from};
 use clr_edge::paths::Opens;
@@ -21,18 +19,20 @@ use std::alloc::{AllocError, Global};
 pub fn fence<'a, O: Opens<'a>>(
     alloc: Global,
     paths: &O,
-    matches: &ArgMatches<'a>,
+    args: &FenceArgs<'a>,
 ) -> Result<String, Fault>
-    ensures answer { FencesAt (λ text. string_bytes text) (O.bytes_at paths.now)
-        (rows_of (found_of matches.now)) result }
+    ensures answer { FencesAt (O.bytes_at paths.now) args.now result }
     ensures faults { IfErr result IsOfSubcommand }
 {
-    let mut sections = paths.at(word_of(matches, "SECTIONS"));
-    let mut points = paths.at(word_of(matches, "POINTS"));
-    let work = word_of(matches, "WORK");
-    let cut = words_of(alloc, matches, "CUT")?;
-    let text = fence_of_files(alloc, &mut sections, &mut points, work, cut.as_slice())?;
-    Ok(text)
+    let mut sections = paths.at(args.sections);
+    let mut points = paths.at(args.points);
+    fence_of_files(
+        alloc,
+        &mut sections,
+        &mut points,
+        args.work,
+        args.cut.as_slice(),
+    )
 }
 
 /// The printed fence, in the network of two files, of the section that `work` names, cut at the
@@ -46,8 +46,7 @@ pub fn fence_of_files<S: Source, P: Source>(
 ) -> Result<String, Fault>
     ensures answer { IfSome (S.remaining sections.old) (λ section_file.
         IfSome (P.remaining points.old) (λ point_file.
-        FencesFiles (λ text. string_bytes text) section_file point_file
-        work.now (map (λ word. word.now) cut.now) result)) }
+        FencesFiles section_file point_file work.now (map (λ word. word.now) cut.now) result)) }
     ensures sections_cause { HasCause ImportFile.Sections result
         (S.failure_count sections.old) (S.failure_count sections.new) }
     ensures points_cause { HasCause ImportFile.Points result
@@ -71,8 +70,8 @@ pub fn fence_of_rows(
     work: &str,
     cut: &[&str],
 ) -> Result<String, Fault>
-    ensures answer { FencesRows (λ text. string_bytes text) sections.items points.items
-        work.now (map (λ word. word.now) cut.now) result }
+    ensures answer { FencesRows sections.items points.items work.now
+        (map (λ word. word.now) cut.now) result }
     ensures faults { IfErr result IsOfSubcommand }
 {
     let network = Network::build(alloc, sections, points)?;
@@ -87,7 +86,7 @@ pub fn fence_between(
     work: &str,
     cut: &[&str],
 ) -> Result<String, Fault>
-    ensures answer { Gives (λ text. string_bytes text)
+    ensures answer { GivesText IsMemory
         (fence_lines network.now work.now (map (λ word. word.now) cut.now)) result }
     ensures faults { IfErr result IsOfSubcommand }
 {
@@ -124,7 +123,7 @@ fn point_named(network: &Network, word: &str) -> Result<Name, Fault>
 
 /// The switching points that words name. The first word from the left that names none is told.
 fn points_named(alloc: Global, network: &Network, words: &[&str]) -> Result<Vec<Name>, Fault>
-    ensures answer { Gives (λ names. names.items)
+    ensures answer { Gives IsMemory (λ names. names.items)
         (points_named network.now (map (λ word. word.now) words.now)) result }
     ensures faults { IfErr result IsOfSubcommand }
 {

@@ -3,6 +3,7 @@
 
 pub mod board;
 pub mod fence;
+pub mod import;
 pub mod init;
 pub mod migrate;
 pub mod order;

@@ -1,19 +1,15 @@
 //! The subcommand `order`: one round of a clearance or a switch order, as it is printed.
-ghost use Rattle.std.specs.Prelude.{◌≡◌, ◌⊎◌, IfErr, IfOk, OnOk, codes, neg_ℤ, option_map, pos};
-ghost use Rattle.std.specs.Prelude.{string_bytes, ◌≤ℤ◌};
-ghost use Rattle.clr_edge.specs.Answers.{Gives};
+ghost use Rattle.std.specs.Prelude.{◌≡◌, ◌⊎◌, IfErr, IfOk, OnOk, option_map, string_bytes};
+ghost use Rattle.clr_commands.specs.Answers.{GivesText, IsMemory};
 ghost use Rattle.sqlite.specs.Held.{state};
 ghost use Rattle.sqlite.specs.State.{Survives};
-ghost use Rattle.clap.specs.Words.{found_of, rows_of};
-ghost use Rattle.clr_args.specs.Asked.{word_in};
 ghost use Rattle.clr_commands.specs.Faults.{IsOfSubcommand};
 ghost use Rattle.clr_commands.specs.Order.{order_told, read_round};
-ghost use Rattle.clr_commands.specs.Stored.{IsOfOrder, OrdersAt, TellsStored, UnansweredAt};
+ghost use Rattle.clr_commands.specs.Stored.{IsOfOrder, OrdersAt, PrintsStored, UnansweredAt};
 ghost use Rattle.clr_edge.specs.Database.{HasRegister, IsOnlyRead, IsRefused, ReadsAt};
 ghost use Rattle.clr_rules.specs.Register.{Register};
 
-use clap::ArgMatches;
-use clr_args::words::{offset_of, word_of};
+use clr_args::asked::{Offset, OrderArgs};
 use clr_book::Book;
 use clr_edge::database::{Databases, close_read, desk_over};
 use clr_edge::fault::Fault;
@@ -24,21 +20,16 @@ use sqlite::{Alter, Connection};
 use std::alloc::Global;
 
 /// What `order DB CLEARANCE ROUND [--offset MINUTES]` prints.
-pub fn order<R: Databases + AllocGlobal>(rt: &R, matches: &ArgMatches<'_>) -> Result<String, Fault>
-    ensures told { OrdersAt (λ text. string_bytes text) (R.register_at rt.now)
-        (rows_of (found_of matches.now)) result }
-    ensures read { OnOk result (ReadsAt R.Medium.Disk
-        (R.is_at rt.now (word_in (rows_of (found_of matches.now)) (codes "DB")))) }
+pub fn order<R: Databases + AllocGlobal>(rt: &R, args: &OrderArgs<'_>) -> Result<String, Fault>
+    ensures told { OrdersAt (R.register_at rt.now) args.now result }
+    ensures read { OnOk result (ReadsAt R.Medium.Disk (R.is_at rt.now args.now.database.now)) }
     ensures refused { IfErr result (UnansweredAt R.Medium.Disk
-        (R.is_at rt.now (word_in (rows_of (found_of matches.now)) (codes "DB")))
-        (R.is_shut rt.now (word_in (rows_of (found_of matches.now)) (codes "DB"))) IsOfOrder) }
+        (R.is_at rt.now args.now.database.now) (R.is_shut rt.now args.now.database.now)
+        IsOfOrder) }
     ensures faults { IfErr result IsOfSubcommand }
 {
-    let clearance = word_of(matches, "CLEARANCE");
-    let round = word_of(matches, "ROUND");
-    let offset = offset_of(matches);
-    let connection = rt.stored(word_of(matches, "DB"))?;
-    let (told, connection) = order_over(rt.alloc(), connection, clearance, round, offset);
+    let connection = rt.stored(args.database)?;
+    let (told, connection) = order_over(rt.alloc(), connection, args);
     close_read(connection);
     told
 }
@@ -47,14 +38,11 @@ pub fn order<R: Databases + AllocGlobal>(rt: &R, matches: &ArgMatches<'_>) -> Re
 fn order_over<S: Alter + Drop>(
     alloc: Global,
     connection: Connection<S>,
-    clearance: &str,
-    round: &str,
-    offset: i16,
+    args: &OrderArgs<'_>,
 ) -> (Result<String, Fault>, Connection<S>)
-    requires low { neg_ℤ (pos 720) ≤ℤ offset }
-    requires high { offset ≤ℤ pos 840 }
-    ensures told { (R : Register) → HasRegister S.Store R connection → TellsStored
-        (λ text. string_bytes text) (order_told R clearance.now round.now offset) result.0 }
+    ensures told { (R : Register) → HasRegister S.Store R connection
+        → PrintsStored (order_told R args.now.clearance.now
+        args.now.round.now args.now.offset.minutes) result.0 }
     ensures read { OnOk result.0 (IsOnlyRead S.Store connection result.1) }
     ensures survives { Survives (state S.Store connection) (state S.Store result.1) (λ _. ⊥) }
     ensures refused { IfErr result.0 (λ fault. IsOfOrder fault
@@ -63,7 +51,7 @@ fn order_over<S: Alter + Drop>(
 {
     match desk_over(alloc, connection) {
         Ok(desk) => {
-            let told = order_of(alloc, desk.book(), clearance, round, offset);
+            let told = order_of(alloc, desk.book(), args.clearance, args.round, args.offset);
             (told, desk.end().end())
         }
         Err((fault, connection)) => (Err(fault), connection),
@@ -73,23 +61,21 @@ fn order_over<S: Alter + Drop>(
 /// The printed order of a book that two words name.
 ///
 /// `NoSuch` where `clearance` names no clearance, `round` is neither `1` nor `2`, the book has no
-/// such clearance, or that round has no steps. The offset is in minutes east of Greenwich.
+/// such clearance, or that round has no steps.
 pub fn order_of<P, C, T, H>(
     alloc: Global,
     book: &Book<P, C, T, H>,
     clearance: &str,
     round: &str,
-    offset: i16,
+    offset: Offset,
 ) -> Result<String, Fault>
 where
     P: Shelf<PointState>,
     C: Shelf<Record>,
     T: Shelf<StepRow>,
     H: Shelf<Hold>,
-    requires low { neg_ℤ (pos 720) ≤ℤ offset }
-    requires high { offset ≤ℤ pos 840 }
-    ensures answer { Gives (λ text. string_bytes text)
-        (order_told book.now.register clearance.now round.now offset) result }
+    ensures answer { GivesText IsMemory
+        (order_told book.now.register clearance.now round.now offset.minutes) result }
     ensures faults { IfErr result IsOfOrder }
 {
     let Ok(id) = ClearanceId::read(clearance) else {
@@ -98,7 +84,7 @@ where
     let Some(round) = read_round(round) else {
         return Err(Fault::NoSuch);
     };
-    match print_order(alloc, book, &id, round, offset)? {
+    match print_order(alloc, book, &id, round, offset.minutes)? {
         Some(text) => Ok(text),
         None => Err(Fault::NoSuch),
     }

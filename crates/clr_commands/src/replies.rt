@@ -1,19 +1,16 @@
 //! The replies of a run: one line for each line of its input that is not empty.
-ghost use Rattle.std.specs.Prelude.{◌≡◌, ◌++◌, ◌∷◌, [], ◌<◌, ℕ, IfOk, IfSome, OnErr, OnOk};
+ghost use Rattle.std.specs.Prelude.{◌≡◌, ◌++◌, ◌∷◌, [], ◌<◌, ℕ, IfOk, OnErr, OnOk};
 ghost use Rattle.std.specs.Prelude.{filter, length, map, option_map, string_bytes, take};
 ghost use Rattle.clr_edge.specs.Fault.{of_desk};
-ghost use Rattle.sqlite.specs.Held.{state};
 ghost use Rattle.clr_text.specs.Lines.{commands_in};
-ghost use Rattle.clr_commands.specs.Faults.{IsOfSubcommand, StopsAsSubcommand};
-ghost use Rattle.clr_commands.specs.Replies.{AnswersOver, Prints, answers, as_lines};
+ghost use Rattle.clr_commands.specs.Replies.{PrintsAnswers, answers, as_lines};
 ghost use Rattle.clr_commands.specs.Replies.{asked_commands, asked_lines, command_in, input_lines};
 ghost use Rattle.clr_commands.specs.Replies.{is_asked, reading_in, readings_of};
 
-use clr_desk::{Desk, DeskFault, Run};
+use clr_desk::{DeskFault, Run};
 use clr_edge::fault::Fault;
 use clr_rules::{Command, Reply};
 use clr_text::{TextFault, command_of, fault_text, reply_text};
-use sqlite::Alter;
 use std::alloc::{AllocError, Global};
 
 /// What a run prints, and the fault that ended it before its last line, if one did.
@@ -25,7 +22,7 @@ pub struct Printed {
 
 /// What a line of the input reads as.
 #[derive(Clone, Copy, Debug)]
-enum Reading {
+pub(crate) enum Reading {
     /// A command.
     Command,
     /// No command, for this reason.
@@ -34,34 +31,13 @@ enum Reading {
 
 /// The lines of an input that are not empty, in their order, and the commands among them.
 #[derive(Drop)]
-struct Asked {
-    readings: Vec<Reading>,
-    commands: Vec<Command>,
-}
-
-/// Runs the commands of an input as one list, and prints a line for each of its lines that is not
-/// empty: the reply to its command, or why it is no command. The printing ends before the first
-/// command that has no reply, with the fault of the desk, or where memory runs out.
-///
-/// `AllocError` where memory runs out before the first command; then none is run.
-pub fn run_lines<S: Alter + Drop>(
-    alloc: Global,
-    desk: &mut Desk<S>,
-    input: &[u8],
-) -> Result<Printed, AllocError>
-    ensures answer { IfOk result (AnswersOver
-        (state S.Store desk.old.store) (state S.Store desk.new.store)
-        desk.old.book.register desk.new.book.register input.now) }
-    ensures none { OnErr result (desk.new ≡ desk.old) }
-    ensures stops { IfOk result StopsAsSubcommand }
-{
-    let asked = read_lines(alloc, input)?;
-    let run = desk.run(asked.commands);
-    Ok(print(alloc, asked.readings.as_slice(), run))
+pub(crate) struct Asked {
+    pub(crate) readings: Vec<Reading>,
+    pub(crate) commands: Vec<Command>,
 }
 
 /// Reads the lines of an input that are not empty.
-fn read_lines(alloc: Global, input: &[u8]) -> Result<Asked, AllocError>
+pub(crate) fn read_lines(alloc: Global, input: &[u8]) -> Result<Asked, AllocError>
     ensures readings { IfOk result (λ asked.
         asked.readings.items ≡ readings_of (asked_lines input.now)) }
     ensures commands { IfOk result (λ asked.
@@ -116,10 +92,10 @@ fn read_line(alloc: Global, line: &[u8], asked: &mut Asked) -> Result<(), AllocE
     Ok(())
 }
 
-/// Prints the answers to lines, and tells the fault of their run.
-fn print(alloc: Global, readings: &[Reading], run: Run) -> Printed
-    ensures answer { Prints (answers readings.now run.replies.items) run.fault result }
-    ensures stops { StopsAsSubcommand result }
+/// Prints the answers to lines, with the fault of their run: a line for each, up to the first
+/// command that has no reply, or to where memory runs out.
+pub(crate) fn print(alloc: Global, readings: &[Reading], run: Run) -> Printed
+    ensures { PrintsAnswers (answers readings.now run.replies.items) run.fault result }
 {
     let mut text = String::new(alloc);
     match add_answers(alloc, readings, run.replies.as_slice(), &mut text) {
@@ -136,8 +112,7 @@ fn print(alloc: Global, readings: &[Reading], run: Run) -> Printed
 
 /// The fault of a desk, as the program tells it.
 fn fault_told(fault: Option<DeskFault>) -> Option<Fault>
-    ensures told { result ≡ option_map of_desk fault }
-    ensures stops { IfSome result IsOfSubcommand }
+    ensures { result ≡ option_map of_desk fault }
 {
     match fault {
         Some(fault) => Some(Fault::from(fault)),

@@ -1,11 +1,9 @@
 //! The subcommand `serve`: the register of a database, answered over HTTP.
 ghost use Rattle.std.specs.Prelude.{◌≡◌, ◌⊎◌, ℕ, List, Err, IfErr, IfOk, IfSome, OnErr, OnOk};
 ghost use Rattle.std.specs.Prelude.{Result, Some};
-ghost use Rattle.std.specs.Prelude.{string_bytes};
 ghost use Rattle.sqlite.specs.Held.{state};
 ghost use Rattle.sqlite.specs.State.{Survives};
 ghost use Rattle.std.specs.IoError.{error_kind};
-ghost use Rattle.clap.specs.Words.{found_of, rows_of};
 ghost use Rattle.httparse.specs.Grammar.{RequestHead};
 ghost use Rattle.clr_rules.specs.Good.{IsGood};
 ghost use Rattle.clr_rules.specs.Register.{Register};
@@ -18,15 +16,14 @@ ghost use Rattle.clr_http.specs.declared.serve.Served.{Served};
 ghost use Rattle.clr_stream.specs.Streams.{Sends};
 ghost use Rattle.clr_edge.specs.Database.{HasRegister, IsRefused};
 ghost use Rattle.clr_commands.specs.Faults.{HasFailedWriter};
-ghost use Rattle.clr_commands.specs.Serve.{IsOfServing, IsServing, Serves, ServesAsked, ServesAt};
+ghost use Rattle.clr_commands.specs.Serve.{IsOfServing, IsServing, Serves, ServesAt};
 ghost use Rattle.clr_commands.specs.Serve.{IsOfServer, ServesNot, ServesRegister, TakesAt};
 ghost use Rattle.clr_commands.specs.Serve.{TakesFirst, TellsConnection, TellsFirst, TellsNext};
 ghost use Rattle.clr_commands.specs.Serve.{UnservedAt};
 ghost use Rattle.clr_commands.specs.Serve.{accept_fault, connection_line};
 
 use crate::serve_line::{connection_line, serving_line};
-use clap::ArgMatches;
-use clr_args::words::{count_of, port_of, word_of};
+use clr_args::asked::ServeArgs;
 use clr_edge::database::{Databases, close, desk_over};
 use clr_edge::fault::Fault;
 use clr_edge::loopback::{Connection, Loopback};
@@ -34,32 +31,9 @@ use clr_edge::output::write_out;
 use clr_http::{HttpFault, Registrar, serve_one};
 use clr_stream::{Counted, CountedFlush, CountedRead, CountedWrite};
 use sqlite::Alter;
-use std::alloc::{AllocError, Global};
+use std::alloc::Global;
 use std::io;
 use std::io::{Read, Write};
-
-/// What `serve` was asked for.
-#[derive(Debug, Drop)]
-pub struct ServeArgs {
-    /// The path of the database.
-    pub path: String,
-    /// The port.
-    pub port: u16,
-    /// How many connections are served.
-    pub count: usize,
-}
-
-impl ServeArgs {
-    /// What `serve DB --port N --count N` asks for.
-    pub fn of_words(alloc: Global, matches: &ArgMatches<'_>) -> Result<ServeArgs, AllocError>
-        ensures { IfOk result (λ serving. ServesAsked (rows_of (found_of matches.now)) serving) }
-    {
-        let path = String::from_str(alloc, word_of(matches, "DB"))?;
-        let port = port_of(matches);
-        let count = count_of(matches);
-        Ok(ServeArgs { path, port, count })
-    }
-}
 
 /// Opens the register of a database, listens on a port of 127.0.0.1, says so, serves so many
 /// connections, one after the other, and closes the database.
@@ -68,25 +42,25 @@ impl ServeArgs {
 /// where the line cannot be written. A connection that fails is told, and ends nothing.
 pub fn serve<R: Databases + Loopback + AllocGlobal, W: CountedFlush, E: CountedFlush>(
     rt: &R,
-    args: &ServeArgs,
+    args: &ServeArgs<'_>,
     output: &mut W,
     errors: &mut E,
 ) -> Result<(), Fault>
     ensures told { IsServing (R.refuses rt.now) args.now.port args.now.count result
         (W.stream output.old) (W.stream output.new) (E.stream errors.old) (E.stream errors.new) }
-    ensures known { IfSome (R.register_at rt.now (string_bytes args.now.path))
+    ensures known { IfSome (R.register_at rt.now args.now.database.now)
         (λ _. IfErr result IsOfServing) }
     ensures taken { OnOk result (TakesAt (R.stands rt.now) (R.comes rt.now) (R.misses rt.now)
         args.now.port args.now.count (E.stream errors.old) (E.stream errors.new)) }
     ensures served { OnOk result
-        (ServesAt R.Medium.Disk (R.is_at rt.now (string_bytes args.now.path))) }
+        (ServesAt R.Medium.Disk (R.is_at rt.now args.now.database.now)) }
     ensures refused { IfErr result (UnservedAt R.Medium.Disk
-        (R.is_at rt.now (string_bytes args.now.path))
-        (R.is_shut rt.now (string_bytes args.now.path))) }
+        (R.is_at rt.now args.now.database.now)
+        (R.is_shut rt.now args.now.database.now)) }
     ensures faults { IfErr result (λ fault.
         HasFailedWriter fault (W.stream output.old) (W.stream output.new)) }
 {
-    let connection = rt.stored(args.path.as_str())?;
+    let connection = rt.stored(args.database)?;
     let (port, count) = (args.port, args.count);
     let (served, connection) = serve_over(rt.alloc(), rt, connection, port, count, output, errors);
     let closed = close(connection);

@@ -1,4 +1,4 @@
-use Rattle.std.proofs.Common.{rules, ◌≡◌, ◌≤ℤ◌, ◌∙◌, to_z, of_z, to_z-of_z, w16, FitsSigned, neg_ℤ, pos, ℤ}
+use Rattle.std.proofs.Common.{rules, ◌∙◌, to_z-of_z, w16, FitsSigned}
 use Rattle.clr_args.proofs.Numbers.{offset_in-read, offset_in-unread}
 use Rattle.clr_args.proofs.words.minutes_of.Goals as goal
 

@@ -1,7 +1,7 @@
 use Rattle.std.proofs.Common.{rules, ◌≡◌, ◌∙◌}
 use Rattle.std.specs.Prelude.{option_map}
 use Rattle.clap.specs.Words.{first_value, found_of}
-use Rattle.clr_args.proofs.Asked.{first_value-rows}
+use Rattle.clr_args.proofs.ArgumentRows.{first_value-rows}
 use Rattle.clr_args.proofs.words.option_of.Goals as goal
 
 -- the first value, as the rows have it

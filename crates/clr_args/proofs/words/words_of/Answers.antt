@@ -1,8 +1,8 @@
 use Rattle.std.proofs.Common.{rules, ◌≡◌, ◌∙◌, ap, [], map}
 use Rattle.std.specs.Prelude.{option_map, unwrap_or}
 use Rattle.clap.specs.Words.{found_of, matched_of, raw_values, rows_of}
-use Rattle.clr_args.specs.Asked.{words_in}
-use Rattle.clr_args.proofs.Asked.{raw_values-rows}
+use Rattle.clr_args.specs.ArgumentWords.{words_in}
+use Rattle.clr_args.proofs.ArgumentRows.{raw_values-rows}
 use Rattle.clr_args.proofs.words.words_of.Goals as goal
 
 -- the values, as the rows have them

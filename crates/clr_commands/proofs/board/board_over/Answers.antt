@@ -1,9 +1,9 @@
-use Rattle.std.proofs.Common.{◌≡◌, ◌∙◌, ap, rules, subst, sym, to_z, of_z, to_z-of_z, w16, FitsSigned}
+use Rattle.std.proofs.Common.{◌≡◌, ◌∙◌, ap, subst, sym}
 use Rattle.sqlite.specs.Held.{Held}
 use Rattle.clr_book.specs.Book.{Shelved}
 use Rattle.clr_rules.specs.Register.{Register}
 use Rattle.clr_print.specs.Printed.{board_text}
-use Rattle.clr_commands.proofs.Databases.{TellsStored-board}
+use Rattle.clr_commands.proofs.Databases.{PrintsStored-board}
 use Rattle.clr_edge.specs.Database.{IsOnlyRead}
 use Rattle.clr_edge.proofs.Databases.{OnOk-any}
 use Rattle.clr_edge.specs.declared.fault.Fault.TheVariants.{Memory}
@@ -17,9 +17,7 @@ returns-in-Ok-clause-told g c R known =
     let is = c.in-Ok.ensures.register R known in
     let register : c.book.result.now.register ≡ R =
     ap (λ (b : Shelved). b.register) c.book.ensures ∙ is.0 in
-    let fits : FitsSigned w16 c.args.offset = search rules in
-    let offset : to_z w16 (of_z w16 c.args.offset) ≡ c.args.offset = to_z-of_z fits in
-    TellsStored-board _ _ c.board_of-told.result (λ i. board_text (register i) (offset i))
+    PrintsStored-board _ _ c.board_of-told.result (ap (λ (r : Register). board_text r c.args.offset.minutes) register)
     c.board_of-told.ensures.text c.board_of-told.ensures.fault
 
 pub returns-in-Err-clause-told : goal.returns-in-Err-clause-told

@@ -1,10 +1,9 @@
-use Rattle.std.proofs.Common.{◌≡◌, ◌∙◌, ap, rules, subst, sym, to_z, of_z, to_z-of_z, w16, FitsSigned}
-use Rattle.std.specs.Prelude.{string_bytes}
+use Rattle.std.proofs.Common.{◌≡◌, ◌∙◌, ap, subst, sym}
 use Rattle.sqlite.specs.Held.{Held}
 use Rattle.clr_book.specs.Book.{Shelved}
 use Rattle.clr_rules.specs.Register.{Register}
 use Rattle.clr_commands.specs.Order.{order_told}
-use Rattle.clr_commands.proofs.Databases.{TellsStored-gives}
+use Rattle.clr_commands.proofs.Databases.{PrintsStored-gives}
 use Rattle.clr_edge.specs.Database.{IsOnlyRead}
 use Rattle.clr_edge.proofs.Databases.{OnOk-any}
 use Rattle.clr_commands.specs.Stored.{IsOfOrder}
@@ -18,10 +17,9 @@ returns-in-Ok-clause-told g c R known =
     let is = c.in-Ok.ensures.register R known in
     let register : c.book.result.now.register ≡ R =
     ap (λ (b : Shelved). b.register) c.book.ensures ∙ is.0 in
-    let fits : FitsSigned w16 c.args.offset = search rules in
-    let offset : to_z w16 (of_z w16 c.args.offset) ≡ c.args.offset = to_z-of_z fits in
-    TellsStored-gives (λ text. string_bytes text) _ _ c.order_of-told.result
-    (λ i. order_told (register i) c.args.clearance.now c.args.round.now (offset i))
+    let args = c.args.args.now in
+    PrintsStored-gives _ _ c.order_of-told.result
+    (ap (λ (r : Register). order_told r args.clearance.now args.round.now args.offset.minutes) register)
     c.order_of-told.ensures.answer
 
 pub returns-in-Err-clause-told : goal.returns-in-Err-clause-told

@@ -1,44 +1,41 @@
-use Rattle.clr_edge.specs.declared.fault.Fault.{Fault}
-use Rattle.clr_commands.proofs.Databases.{IfSome-from, RunsAtPath-closed, RunsStored-closed}
-use Rattle.clr_commands.proofs.RunAnswers.{closed_cause, closed_waits}
-use Rattle.clr_commands.specs.Faults.{IsOfSubcommand}
-use Rattle.clr_commands.specs.Run.{IsOfInput}
-use Rattle.clr_commands.specs.Stored.{UnansweredAt}
-use Rattle.clr_commands.proofs.Unanswered.{told_behind, unanswered_behind}
+use Rattle.std.proofs.Common.{refl}
+use Rattle.clr_edge.proofs.Databases.{IsOfLine-unopened}
+use Rattle.clr_commands.proofs.Databases.{IfSome-from}
+use Rattle.clr_commands.proofs.Faults.{line_plain}
+use Rattle.clr_commands.proofs.RunAnswers.{FailsAsSubcommand-closed, FailsAsSubcommand-passed, ReadsInput-closed, ReadsInput-other, RunsAtPath-closed, RunsStored-closed, RunsStoredAt-unopened, unanswered_closed, unopened-no_input}
 use Rattle.clr_commands.proofs.run.run_of_database.Goals as goal
 
--- the register of the database, as far as that is known, and the bytes of the input
+-- the database was not opened
+pub returns-in_err-connection-clause-answer : goal.returns-in_err-connection-clause-answer
+returns-in_err-connection-clause-answer g c =
+    RunsStoredAt-unopened g.D.Medium.Disk _ (g.D.Databases.is_at c.args.databases.now c.args.path.now) (g.D.Databases.is_shut c.args.databases.now c.args.path.now)
+    _ _ _ c.from_residual.ensures.1 c.in_err-connection.ensures.fault
+
+pub returns-in_err-connection-clause-input : goal.returns-in_err-connection-clause-input
+returns-in_err-connection-clause-input g c =
+    ReadsInput-other _ _ _ _ _ _ _ (unopened-no_input _ _ c.in_err-connection.ensures.fault) c.from_residual.ensures.1 refl
+
+pub returns-in_err-connection-clause-faults : goal.returns-in_err-connection-clause-faults
+returns-in_err-connection-clause-faults g c =
+    FailsAsSubcommand-passed _ _ c.from_residual.ensures.1 (line_plain _ (IsOfLine-unopened _ _ c.in_err-connection.ensures.fault))
+
+-- the input was answered over its register
 pub returns-clause-answer : goal.returns-clause-answer
-returns-clause-answer g c =
-    IfSome-from _ _ _ (λ R has. IfSome-from _ _ _ (λ bytes is.
-    RunsStored-closed R bytes _ _ c.printed_behind.ensures.printed c.printed_behind.ensures.whole c.printed_behind.ensures.fault is)
-    (c.run_connected-printed.ensures.answer R has)) c.in_ok-connection.ensures.known
+returns-clause-answer g c = record {
+  answer = IfSome-from _ _ _ (λ R has. RunsStored-closed R _ _ c.close-closed.result _ c.printed_after.ensures (c.run_connected-printed.ensures.answer R has))
+      c.in_ok-connection.ensures.known;
+  left = RunsAtPath-closed g.D.Medium.Disk (g.D.Databases.is_at c.args.databases.now c.args.path.now) _ c.in_ok-connection.connection
+      c.run_connected-printed.result.1 c.run_connected-printed.result.0 c.close-closed.result c.printed_after.result c.printed_after.ensures
+      c.in_ok-connection.ensures.at c.run_connected-printed.ensures.left c.close-closed.ensures.left;
+  refused = unanswered_closed g.D.Medium.Disk (g.D.Databases.is_at c.args.databases.now c.args.path.now) (g.D.Databases.is_shut c.args.databases.now c.args.path.now)
+      _ c.in_ok-connection.connection c.run_connected-printed.result.1 c.run_connected-printed.result.0 c.close-closed.result c.printed_after.result
+      c.printed_after.ensures c.in_ok-connection.ensures.at c.run_connected-printed.ensures.left;
+}
 
-pub returns-clause-left : goal.returns-clause-left
-returns-clause-left g c =
-    RunsAtPath-closed g.D.Medium.Disk (g.D.Databases.is_at c.args.databases.now c.args.path.now) _ c.in_ok-connection.connection c.run_connected-printed.result.1 c.run_connected-printed.result.0 c.printed_behind.result
-    c.in_ok-connection.ensures.at c.run_connected-printed.ensures.left c.printed_behind.ensures.printed c.printed_behind.ensures.fault
-    c.close-closed.result c.printed_behind.ensures.closed c.close-closed.ensures.left
-
-pub returns-clause-cause : goal.returns-clause-cause
-returns-clause-cause g c =
-    closed_cause _ _ _ _ c.printed_behind.ensures.whole c.printed_behind.ensures.fault c.run_connected-printed.ensures.cause
-
-pub returns-clause-waits : goal.returns-clause-waits
-returns-clause-waits g c =
-    closed_waits _ _ _ _ c.printed_behind.ensures.whole c.printed_behind.ensures.fault c.run_connected-printed.ensures.waits
-
--- a fault is the one that was told before the closing
-pub returns-clause-refused : goal.returns-clause-refused
-returns-clause-refused g c =
-    let IsAt = g.D.Databases.is_at c.args.databases.now c.args.path.now in
-    let IsShut = g.D.Databases.is_shut c.args.databases.now c.args.path.now in
-    let IsIt : Fault → Type 0 = UnansweredAt g.D.Medium.Disk IsAt IsShut (λ fault. IsOfInput fault) in
-    told_behind c.run_connected-printed.result.0 c.printed_behind.result IsIt c.printed_behind.ensures.whole c.printed_behind.ensures.fault
-    (unanswered_behind g.D.Medium.Disk IsAt IsShut (λ fault. IsOfInput fault) c.run_connected-printed.result.0 c.in_ok-connection.connection
-    c.run_connected-printed.result.1 c.in_ok-connection.ensures.at c.run_connected-printed.ensures.refused c.run_connected-printed.ensures.unrun)
+pub returns-clause-input : goal.returns-clause-input
+returns-clause-input g c =
+    ReadsInput-closed _ _ _ _ _ c.run_connected-printed.result.0 c.close-closed.result _ c.printed_after.ensures c.run_connected-printed.ensures.input
 
 pub returns-clause-faults : goal.returns-clause-faults
 returns-clause-faults g c =
-    told_behind c.run_connected-printed.result.0 c.printed_behind.result (λ fault. IsOfSubcommand fault) c.printed_behind.ensures.whole
-    c.printed_behind.ensures.fault c.run_connected-printed.ensures.faults
+    FailsAsSubcommand-closed _ _ _ _ c.run_connected-printed.result.0 c.close-closed.result _ c.printed_after.ensures c.run_connected-printed.ensures.left

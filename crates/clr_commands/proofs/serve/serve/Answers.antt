@@ -1,8 +1,3 @@
-use Rattle.std.proofs.Common.{List, ℕ, subst}
-use Rattle.std.specs.Prelude.{IfSome, string_bytes}
-use Rattle.sqlite.specs.Files.{over_files}
-use Rattle.sqlite.specs.Held.{state}
-use Rattle.clr_edge.specs.Database.{HasRegister, IsUnopened}
 use Rattle.clr_edge.proofs.Databases.{OnOk-any, OnOk-then, OnOk-was}
 use Rattle.clr_commands.proofs.Databases.{IfSome-from}
 use Rattle.clr_commands.proofs.Serving.{IfSome-all, IsOfServing-failed, IsOfServing-line, IsServing-closed}
@@ -13,12 +8,9 @@ use Rattle.clr_commands.proofs.serve.serve.Goals as goal
 -- the register that the database has is served
 pub returns-in_err-served-clause-known : goal.returns-in_err-served-clause-known
 returns-in_err-served-clause-known g c =
-    let known = subst (λ (path : List ℕ). IfSome (g.R.Databases.register_at c.args.rt.now path)
-    (λ R. HasRegister over_files R c.in_ok-connection.connection))
-    c.as_str.ensures.value c.in_ok-connection.ensures.known in
     IfSome-from _ _ _ (λ R has. IsOfServing-failed c.serve_over-served.result.0 c.from_residual-in_err-served.result
     c.in_err-served.field-0.0 c.in_err-served.was c.from_residual-in_err-served.ensures.1
-    (c.serve_over-served.ensures.known R has)) known
+    (c.serve_over-served.ensures.known R has)) c.in_ok-connection.ensures.known
 
 -- the database is closed behind the last connection
 pub returns-clause-told : goal.returns-clause-told
@@ -32,12 +24,10 @@ returns-clause-known g c = IfSome-all _ _ (λ _. IsOfServing-line c.close-closed
 -- the database is the one at the path
 pub returns-clause-served : goal.returns-clause-served
 returns-clause-served g c =
-    let at = subst (λ (path : List ℕ). g.R.Databases.is_at c.args.rt.now path (state over_files c.in_ok-connection.connection).now)
-    c.as_str.ensures.value c.in_ok-connection.ensures.at in
     OnOk-then c.close-closed.result (λ left. (
       c.in_ok-connection.connection,
       c.serve_over-served.result.1,
-      at,
+      c.in_ok-connection.ensures.at,
       OnOk-was c.serve_over-served.result.0 c.in_ok-served.field-0 _ c.in_ok-served.was c.serve_over-served.ensures.served,
       left,
     )) c.close-closed.ensures.left
@@ -62,26 +52,20 @@ returns-clause-taken g c =
 -- the database was not opened; it was, and no server began; or it was served, and not closed
 pub returns-in_err-connection-clause-refused : goal.returns-in_err-connection-clause-refused
 returns-in_err-connection-clause-refused g c =
-    let shut = subst (λ (path : List ℕ). IsUnopened (g.R.Databases.is_shut c.args.rt.now path) c.in_err-connection.field-0.0)
-    c.as_str.ensures.value c.in_err-connection.ensures.fault in
-    unserved_unopened g.R.Medium.Disk (g.R.Databases.is_at c.args.rt.now (string_bytes c.args.args.now.path))
-    (g.R.Databases.is_shut c.args.rt.now (string_bytes c.args.args.now.path)) c.from_residual.result c.in_err-connection.field-0.0
-    c.from_residual.ensures.1 shut
+    unserved_unopened g.R.Medium.Disk (g.R.Databases.is_at c.args.rt.now c.args.args.now.database.now)
+    (g.R.Databases.is_shut c.args.rt.now c.args.args.now.database.now) c.from_residual.result c.in_err-connection.field-0.0
+    c.from_residual.ensures.1 c.in_err-connection.ensures.fault
 
 pub returns-in_err-served-clause-refused : goal.returns-in_err-served-clause-refused
 returns-in_err-served-clause-refused g c =
-    let at = subst (λ (path : List ℕ). g.R.Databases.is_at c.args.rt.now path (state over_files c.in_ok-connection.connection).now)
-    c.as_str.ensures.value c.in_ok-connection.ensures.at in
-    unserved_failed g.R.Medium.Disk (g.R.Databases.is_at c.args.rt.now (string_bytes c.args.args.now.path))
-    (g.R.Databases.is_shut c.args.rt.now (string_bytes c.args.args.now.path)) c.serve_over-served.result.0 c.from_residual-in_err-served.result
-    c.in_err-served.field-0.0 c.in_ok-connection.connection c.serve_over-served.result.1 c.in_err-served.was c.from_residual-in_err-served.ensures.1 at
+    unserved_failed g.R.Medium.Disk (g.R.Databases.is_at c.args.rt.now c.args.args.now.database.now)
+    (g.R.Databases.is_shut c.args.rt.now c.args.args.now.database.now) c.serve_over-served.result.0 c.from_residual-in_err-served.result
+    c.in_err-served.field-0.0 c.in_ok-connection.connection c.serve_over-served.result.1 c.in_err-served.was c.from_residual-in_err-served.ensures.1 c.in_ok-connection.ensures.at
     c.serve_over-served.ensures.refused c.serve_over-served.ensures.unserved
 
 pub returns-clause-refused : goal.returns-clause-refused
 returns-clause-refused g c =
-    let at = subst (λ (path : List ℕ). g.R.Databases.is_at c.args.rt.now path (state over_files c.in_ok-connection.connection).now)
-    c.as_str.ensures.value c.in_ok-connection.ensures.at in
-    unserved_closed g.R.Medium.Disk (g.R.Databases.is_at c.args.rt.now (string_bytes c.args.args.now.path))
-    (g.R.Databases.is_shut c.args.rt.now (string_bytes c.args.args.now.path)) c.close-closed.result c.in_ok-connection.connection
-    c.serve_over-served.result.1 at c.close-closed.ensures.fault
+    unserved_closed g.R.Medium.Disk (g.R.Databases.is_at c.args.rt.now c.args.args.now.database.now)
+    (g.R.Databases.is_shut c.args.rt.now c.args.args.now.database.now) c.close-closed.result c.in_ok-connection.connection
+    c.serve_over-served.result.1 c.in_ok-connection.ensures.at c.close-closed.ensures.fault
     (OnOk-was c.serve_over-served.result.0 c.in_ok-served.field-0 _ c.in_ok-served.was c.serve_over-served.ensures.served)

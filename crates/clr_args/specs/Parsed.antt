@@ -1,0 +1,146 @@
+-- What the words of a command line come to. Where clap finds nothing wrong it is what the
+-- subcommand that they name is asked for; else help that they ask for, or why they do not parse.
+use Rattle.std.specs.Prelude.{◌≡◌, ◌≢◌, ◌⊎◌, List, [], ◌∷◌, Option, Some, None, codes, map}
+use Rattle.std.specs.Prelude.{option_map, string_bytes}
+use Rattle.clap.specs.Words.{IsAmong, Kinds, Row, Text, fault_of, first_of, subcommand_of}
+use Rattle.clap.specs.declared.error.kind.ErrorKind.{ErrorKind}
+use Rattle.clap.specs.declared.error.kind.ErrorKind.TheVariants.{DisplayHelp, DisplayVersion}
+use Rattle.clr_args.specs.ArgumentWords.{number_in, offset_in, word_in, words_in}
+use Rattle.clr_args.specs.Syntax.{gridclear}
+use Rattle.clr_args.specs.declared.asked.Asked.{Asked}
+use Rattle.clr_args.specs.declared.asked.Asked.TheVariants as asked
+use Rattle.clr_args.specs.declared.asked.BoardArgs.{BoardArgs}
+use Rattle.clr_args.specs.declared.asked.FenceArgs.{FenceArgs}
+use Rattle.clr_args.specs.declared.asked.Files.{Files}
+use Rattle.clr_args.specs.declared.asked.InitArgs.{InitArgs}
+use Rattle.clr_args.specs.declared.asked.OrderArgs.{OrderArgs}
+use Rattle.clr_args.specs.declared.asked.RunArgs.{RunArgs}
+use Rattle.clr_args.specs.declared.asked.RunArgs.TheVariants as over
+use Rattle.clr_args.specs.declared.asked.ServeArgs.{ServeArgs}
+use Rattle.clr_args.specs.declared.parsing.Parsed.{Parsed}
+use Rattle.clr_args.specs.declared.parsing.Parsed.TheVariants as parsed
+
+-- ---- what each subcommand is asked for, by the words of its arguments
+
+-- three words are the paths of these files
+pub record AreFiles (first second third : Text) (files : Files) : Type 0 where
+  pub sections : files.sections.now ≡ first
+  pub points : files.points.now ≡ second
+  pub staff : files.staff.now ≡ third
+
+pub record AsksFence (rows : List Row) (args : FenceArgs) : Type 0 where
+  pub sections : args.sections.now ≡ word_in rows (codes "SECTIONS")
+  pub points : args.points.now ≡ word_in rows (codes "POINTS")
+  pub work : args.work.now ≡ word_in rows (codes "WORK")
+  pub cut : map (λ word. word.now) args.cut.items ≡ words_in rows (codes "CUT")
+
+pub record AsksInit (rows : List Row) (args : InitArgs) : Type 0 where
+  pub files : AreFiles (word_in rows (codes "SECTIONS")) (word_in rows (codes "POINTS"))
+      (word_in rows (codes "STAFF")) args.files
+  pub database : option_map (λ path. path.now) args.database ≡ first_of (codes "db") rows
+
+-- a run is asked for over a database, where no files are named, or over three files
+abbrev pub AsksRunOver : Option Text → List Text → RunArgs → Type 0
+AsksRunOver (Some database) [] (over.Database path) = path.now ≡ database
+AsksRunOver None (sections ∷ points ∷ staff ∷ []) (over.Files files) =
+    AreFiles sections points staff files
+AsksRunOver database files args = ⊥
+
+abbrev pub AsksRun : List Row → RunArgs → Type 0
+AsksRun rows args = AsksRunOver (first_of (codes "db") rows) (words_in rows (codes "FILES")) args
+
+-- no run is asked for: both are named, or neither, or files that are not three
+abbrev pub IsNoRunOver : Option Text → List Text → Type 0
+IsNoRunOver (Some database) [] = ⊥
+IsNoRunOver None (sections ∷ points ∷ staff ∷ []) = ⊥
+IsNoRunOver database files = Unit {0}
+
+abbrev pub IsNoRun : List Row → Type 0
+IsNoRun rows = IsNoRunOver (first_of (codes "db") rows) (words_in rows (codes "FILES"))
+
+pub record AsksOrder (rows : List Row) (args : OrderArgs) : Type 0 where
+  pub database : args.database.now ≡ word_in rows (codes "DB")
+  pub clearance : args.clearance.now ≡ word_in rows (codes "CLEARANCE")
+  pub round : args.round.now ≡ word_in rows (codes "ROUND")
+  pub offset : args.offset.minutes ≡ offset_in (first_of (codes "offset") rows)
+
+pub record AsksBoard (rows : List Row) (args : BoardArgs) : Type 0 where
+  pub database : args.database.now ≡ word_in rows (codes "DB")
+  pub offset : args.offset.minutes ≡ offset_in (first_of (codes "offset") rows)
+
+pub record AsksServe (rows : List Row) (args : ServeArgs) : Type 0 where
+  pub database : args.database.now ≡ word_in rows (codes "DB")
+  pub port : args.port ≡ number_in 65535 (first_of (codes "port") rows)
+  pub count : args.count ≡ number_in 1000000 (first_of (codes "count") rows)
+
+-- THE SUBCOMMAND of this name is asked for, on the words that its arguments were given
+abbrev pub Asks : Text → List Row → Asked → Type 0
+Asks name rows (asked.Fence args) = (name ≡ codes "fence") × AsksFence rows args
+Asks name rows (asked.Init args) = (name ≡ codes "init") × AsksInit rows args
+Asks name rows (asked.Run args) = (name ≡ codes "run") × AsksRun rows args
+Asks name rows (asked.Order args) = (name ≡ codes "order") × AsksOrder rows args
+Asks name rows (asked.Board args) = (name ≡ codes "board") × AsksBoard rows args
+Asks name rows (asked.Serve args) = (name ≡ codes "serve") × AsksServe rows args
+Asks name rows (asked.Migrate path) = (name ≡ codes "migrate")
+    × (path.now ≡ word_in rows (codes "DB"))
+
+-- no subcommand has this name
+pub record IsNoSubcommand (name : Text) : Type 0 where
+  pub fence : name ≢ codes "fence"
+  pub init : name ≢ codes "init"
+  pub run : name ≢ codes "run"
+  pub order : name ≢ codes "order"
+  pub board : name ≢ codes "board"
+  pub serve : name ≢ codes "serve"
+  pub migrate : name ≢ codes "migrate"
+
+-- ---- what words come to
+
+-- help that is asked for
+abbrev pub IsHelp : Parsed → Type 0
+IsHelp (parsed.Asked asked) = ⊥
+IsHelp (parsed.Help text) = Unit {0}
+IsHelp (parsed.Unread text) = ⊥
+
+-- why words do not parse
+abbrev pub IsUnread : Parsed → Type 0
+IsUnread (parsed.Asked asked) = ⊥
+IsUnread (parsed.Help text) = ⊥
+IsUnread (parsed.Unread text) = Unit {0}
+
+-- what is said of words in which clap finds an error of this kind
+abbrev pub IsSaid : ErrorKind → Parsed → Type 0
+IsSaid DisplayHelp result = IsHelp result
+IsSaid DisplayVersion result = IsHelp result
+IsSaid _ result = IsUnread result
+
+-- what is said of a `run` that is not taken
+abbrev pub run_usage : Text
+run_usage = codes "error: run takes three files, or --db FILE and no files\n"
+
+-- what the words of the subcommand of this name come to
+abbrev pub IsParsedAs : Text → List Row → Parsed → Type 0
+IsParsedAs name rows (parsed.Asked asked) = Asks name rows asked
+IsParsedAs name rows (parsed.Help text) = ⊥
+IsParsedAs name rows (parsed.Unread text) = IsNoSubcommand name
+    ⊎ ((name ≡ codes "run") × IsNoRun rows × (string_bytes text ≡ run_usage))
+
+-- WHAT WORDS COME TO, by the kinds of error that clap may find in them and the subcommand that they
+-- name: words that name none do not parse
+abbrev pub IsParsed : Kinds → Option (Text × List Row) → Parsed → Type 0
+IsParsed [] (Some (name, rows)) result = IsParsedAs name rows result
+IsParsed [] None result = IsUnread result
+IsParsed (kind ∷ kinds) named result = (found : ErrorKind) × IsAmong found (kind ∷ kinds)
+    × IsSaid found result
+
+-- the same of words, of which the first is the program's name
+abbrev pub Parses : List Text → Parsed → Type 0
+Parses words result = IsParsed (fault_of gridclear words) (subcommand_of gridclear words) result
+
+-- WORDS MAY HAVE AN ANSWER: clap finds nothing wrong with them, or they ask for help. The kinds are
+-- those of the errors that it may find.
+abbrev pub AllowAnswer : Kinds → Type 0
+AllowAnswer kinds = (kinds ≡ []) ⊎ IsAmong DisplayHelp kinds ⊎ IsAmong DisplayVersion kinds
+
+abbrev pub MayAnswer : List Text → Type 0
+MayAnswer words = AllowAnswer (fault_of gridclear words)

@@ -1,0 +1,97 @@
+//! What a command line asks for: one variant a subcommand, with the values of its arguments.
+ghost use Rattle.std.specs.Prelude.{◌≤ℤ◌, neg_ℤ, pos};
+
+/// What a command line asks for.
+#[derive(Drop)]
+pub enum Asked<'a> {
+    /// The sections that can be reached from one without passing a cut.
+    Fence(FenceArgs<'a>),
+    /// The check of the files of a network and its staff, and a register of them.
+    Init(InitArgs<'a>),
+    /// The answers to the commands of standard input.
+    Run(RunArgs<'a>),
+    /// One round of a clearance or a switch order, printed.
+    Order(OrderArgs<'a>),
+    /// The clearances and switch orders that are not closed, printed.
+    Board(BoardArgs<'a>),
+    /// Answers over HTTP.
+    Serve(ServeArgs<'a>),
+    /// The tables of the register at this path, brought to the version that is read.
+    Migrate(&'a str),
+}
+
+/// The files of a network and its staff, by their paths.
+#[derive(Clone, Copy)]
+pub struct Files<'a> {
+    pub sections: &'a str,
+    pub points: &'a str,
+    pub staff: &'a str,
+}
+
+/// What `fence` is asked for.
+#[derive(Drop)]
+pub struct FenceArgs<'a> {
+    /// The path of the file of sections.
+    pub sections: &'a str,
+    /// The path of the file of switching points.
+    pub points: &'a str,
+    /// The name of the section to work on.
+    pub work: &'a str,
+    /// The names of the switching points that no walk passes.
+    pub cut: Vec<&'a str>,
+}
+
+/// What `init` is asked for.
+#[derive(Clone, Copy)]
+pub struct InitArgs<'a> {
+    pub files: Files<'a>,
+    /// The path of the database to make the register in.
+    pub database: Option<&'a str>,
+}
+
+/// What the commands of `run` are answered over.
+#[derive(Clone, Copy)]
+pub enum RunArgs<'a> {
+    /// The register that three files begin.
+    Files(Files<'a>),
+    /// The register in the database at this path.
+    Database(&'a str),
+}
+
+/// What `order` is asked for.
+#[derive(Clone, Copy)]
+pub struct OrderArgs<'a> {
+    /// The path of the database.
+    pub database: &'a str,
+    /// The word that names the clearance.
+    pub clearance: &'a str,
+    /// The word that names the round.
+    pub round: &'a str,
+    pub offset: Offset,
+}
+
+/// What `board` is asked for.
+#[derive(Clone, Copy)]
+pub struct BoardArgs<'a> {
+    /// The path of the database.
+    pub database: &'a str,
+    pub offset: Offset,
+}
+
+/// What `serve` is asked for.
+#[derive(Clone, Copy)]
+pub struct ServeArgs<'a> {
+    /// The path of the database.
+    pub database: &'a str,
+    pub port: u16,
+    /// How many connections are served.
+    pub count: usize,
+}
+
+/// Minutes east of Greenwich, where a clock stands.
+#[derive(Clone, Copy)]
+pub struct Offset {
+    pub minutes: i16,
+    ghost low: { neg_ℤ (pos 720) ≤ℤ minutes },
+    ghost high: { minutes ≤ℤ pos 840 },
+}

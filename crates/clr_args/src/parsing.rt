@@ -1,0 +1,171 @@
+//! What the words of a command line come to: what they ask for, help, or why they do not parse.
+ghost use Rattle.std.specs.Prelude.{◌≢◌, IfOk, MatchOption, map};
+ghost use Rattle.clap.specs.Words.{found_of, kind_of, rows_of};
+ghost use Rattle.clr_args.specs.Parsed.{AsksBoard, AsksFence, AsksInit, AsksOrder, AsksRun};
+ghost use Rattle.clr_args.specs.Parsed.{AsksServe, IsNoRun, IsParsedAs, IsSaid, Parses};
+
+use crate::asked::{Asked, BoardArgs, FenceArgs, Files, InitArgs, OrderArgs, RunArgs, ServeArgs};
+use crate::syntax;
+use crate::words::{count_of, offset_of, option_of, port_of, word_of, words_of};
+use clap::ArgMatches;
+use clap::error::ErrorKind;
+use std::alloc::{AllocError, Global};
+use std::convert::AsStr;
+
+/// Why a `run` is not taken that names both a database and files, or neither, or files that are not
+/// three.
+const RUN_USAGE: &str = "error: run takes three files, or --db FILE and no files\n";
+
+/// What the words of a command line come to.
+#[derive(Drop)]
+pub enum Parsed<'a> {
+    /// They ask for this.
+    Asked(Asked<'a>),
+    /// They ask for this help, or for the version.
+    Help(String),
+    /// Why they do not parse.
+    Unread(String),
+}
+
+/// Reads the words of a command line, of which the first is the program's name.
+pub fn parse<'a, S: AsStr>(alloc: Global, words: &'a [S]) -> Result<Parsed<'a>, AllocError>
+    ensures { IfOk result (Parses (map S.text words.now)) }
+{
+    let mut command = syntax::command(alloc)?;
+    let matches = match command.try_get_matches_from_mut(words) {
+        Ok(matches) => matches,
+        Err(error) => return unparsed(alloc, &error),
+    };
+    match matches.subcommand() {
+        Some((name, matches)) => asked(alloc, name, matches),
+        None => {
+            let help = command.render_help()?;
+            Ok(Parsed::Unread(help))
+        }
+    }
+}
+
+/// What words come to in which clap found an error, or help that they ask for.
+fn unparsed<'a>(alloc: Global, error: &clap::Error) -> Result<Parsed<'a>, AllocError>
+    ensures said { IfOk result (IsSaid (kind_of error.now)) }
+    ensures memory { IfOk result (λ _. kind_of error.now ≢ ErrorKind.OutOfMemory) }
+{
+    if error.kind() == ErrorKind::OutOfMemory {
+        return Err(AllocError);
+    }
+    let text = format!(in alloc; "{error}")?;
+    if error.use_stderr() {
+        Ok(Parsed::Unread(text))
+    } else {
+        Ok(Parsed::Help(text))
+    }
+}
+
+/// What the words of the subcommand of this name ask for.
+fn asked<'a>(alloc: Global, name: &str, matches: &ArgMatches<'a>) -> Result<Parsed<'a>, AllocError>
+    ensures { IfOk result (IsParsedAs name.now (rows_of (found_of matches.now))) }
+{
+    match name {
+        "fence" => {
+            let args = fence_args(alloc, matches)?;
+            Ok(Parsed::Asked(Asked::Fence(args)))
+        }
+        "init" => Ok(Parsed::Asked(Asked::Init(init_args(matches)))),
+        "run" => match run_args(alloc, matches)? {
+            Some(args) => Ok(Parsed::Asked(Asked::Run(args))),
+            None => {
+                let text = String::from_str(alloc, RUN_USAGE)?;
+                Ok(Parsed::Unread(text))
+            }
+        },
+        "order" => Ok(Parsed::Asked(Asked::Order(order_args(matches)))),
+        "board" => Ok(Parsed::Asked(Asked::Board(board_args(matches)))),
+        "serve" => Ok(Parsed::Asked(Asked::Serve(serve_args(matches)))),
+        "migrate" => Ok(Parsed::Asked(Asked::Migrate(word_of(matches, "DB")))),
+        _ => {
+            let text = format!(in alloc; "error: there is no subcommand {name}\n")?;
+            Ok(Parsed::Unread(text))
+        }
+    }
+}
+
+/// What `fence SECTIONS POINTS WORK [CUT]...` asks for.
+fn fence_args<'a>(alloc: Global, matches: &ArgMatches<'a>) -> Result<FenceArgs<'a>, AllocError>
+    ensures { IfOk result (AsksFence (rows_of (found_of matches.now))) }
+{
+    let sections = word_of(matches, "SECTIONS");
+    let points = word_of(matches, "POINTS");
+    let work = word_of(matches, "WORK");
+    let cut = words_of(alloc, matches, "CUT")?;
+    Ok(FenceArgs {
+        sections,
+        points,
+        work,
+        cut,
+    })
+}
+
+/// What `init SECTIONS POINTS STAFF [--db FILE]` asks for.
+fn init_args<'a>(matches: &ArgMatches<'a>) -> InitArgs<'a>
+    ensures { AsksInit (rows_of (found_of matches.now)) result }
+{
+    InitArgs {
+        files: Files {
+            sections: word_of(matches, "SECTIONS"),
+            points: word_of(matches, "POINTS"),
+            staff: word_of(matches, "STAFF"),
+        },
+        database: option_of(matches, "db"),
+    }
+}
+
+/// What `run [--db FILE] [FILES]...` asks for, if it names a database and no files, or three files
+/// and no database.
+fn run_args<'a>(alloc: Global, matches: &ArgMatches<'a>) -> Result<Option<RunArgs<'a>>, AllocError>
+    ensures { IfOk result (λ args. MatchOption args
+        (IsNoRun (rows_of (found_of matches.now))) (AsksRun (rows_of (found_of matches.now)))) }
+{
+    let files = words_of(alloc, matches, "FILES")?;
+    match (option_of(matches, "db"), files.as_slice()) {
+        (Some(path), []) => Ok(Some(RunArgs::Database(path))),
+        (None, [sections, points, staff]) => Ok(Some(RunArgs::Files(Files {
+            sections: *sections,
+            points: *points,
+            staff: *staff,
+        }))),
+        _ => Ok(None),
+    }
+}
+
+/// What `order DB CLEARANCE ROUND [--offset MINUTES]` asks for.
+fn order_args<'a>(matches: &ArgMatches<'a>) -> OrderArgs<'a>
+    ensures { AsksOrder (rows_of (found_of matches.now)) result }
+{
+    OrderArgs {
+        database: word_of(matches, "DB"),
+        clearance: word_of(matches, "CLEARANCE"),
+        round: word_of(matches, "ROUND"),
+        offset: offset_of(matches),
+    }
+}
+
+/// What `board DB [--offset MINUTES]` asks for.
+fn board_args<'a>(matches: &ArgMatches<'a>) -> BoardArgs<'a>
+    ensures { AsksBoard (rows_of (found_of matches.now)) result }
+{
+    BoardArgs {
+        database: word_of(matches, "DB"),
+        offset: offset_of(matches),
+    }
+}
+
+/// What `serve DB --port N --count N` asks for.
+fn serve_args<'a>(matches: &ArgMatches<'a>) -> ServeArgs<'a>
+    ensures { AsksServe (rows_of (found_of matches.now)) result }
+{
+    ServeArgs {
+        database: word_of(matches, "DB"),
+        port: port_of(matches),
+        count: count_of(matches),
+    }
+}

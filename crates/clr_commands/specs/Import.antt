@@ -1,0 +1,75 @@
+-- The three files of a network and its staff, and their rows.
+use Rattle.std.specs.Prelude.{◌⊎◌, ℕ, List, Option, Result, Ok, Err, IfSome}
+use Rattle.clr_net.specs.declared.section.SectionRow.{SectionRow}
+use Rattle.clr_net.specs.declared.point.PointRow.{PointRow}
+use Rattle.clr_staff.specs.declared.employee.StaffRow.{StaffRow}
+use Rattle.clr_csv.specs.Points.{points_of}
+use Rattle.clr_csv.specs.Sections.{sections_of}
+use Rattle.clr_csv.specs.StaffRows.{staff_of}
+use Rattle.clr_result.specs.Results.{◌>>=◌}
+use Rattle.clr_args.specs.declared.asked.Files.{Files}
+use Rattle.clr_edge.specs.Answers.{After}
+use Rattle.clr_edge.specs.Fault.{IsOfFile}
+use Rattle.clr_edge.specs.Files.{IsUnread, told_of}
+use Rattle.clr_edge.specs.declared.fault.Fault.{Fault}
+use Rattle.clr_edge.specs.declared.fault.ImportFile.TheVariants.{Sections, Points, Staff}
+use Rattle.clr_commands.specs.Answers.{Gives}
+use Rattle.clr_commands.specs.declared.import.Rows.{Rows}
+
+-- the bytes of the three files
+pub record Contents : Type 0 where
+  pub sections : List ℕ
+  pub points : List ℕ
+  pub staff : List ℕ
+
+-- their rows
+pub record FileRows : Type 0 where
+  pub sections : List SectionRow
+  pub points : List PointRow
+  pub staff : List StaffRow
+
+abbrev pub lists_of : Rows → FileRows
+lists_of rows = record {
+  sections = rows.sections.items;
+  points = rows.points.items;
+  staff = rows.staff.items;
+}
+
+-- the rows of three files, or the first fault of the first of them that has one
+abbrev pub rows_of : Contents → Result FileRows Fault
+rows_of files = do
+  sections ← told_of Sections (sections_of files.sections)
+  points ← told_of Points (points_of files.points)
+  staff ← told_of Staff (staff_of files.staff)
+  Ok (record { sections = sections; points = points; staff = staff })
+
+-- one of them went unread, or memory ran out
+abbrev pub IsUnreadFile : Fault → Type 0
+IsUnreadFile fault = IsUnread Sections fault ⊎ IsUnread Points fault ⊎ IsUnread Staff fault
+
+-- the fault is one of a file
+abbrev pub IsOfAnyFile : Fault → Type 0
+IsOfAnyFile fault = IsOfFile Sections fault ⊎ IsOfFile Points fault ⊎ IsOfFile Staff fault
+
+-- what was read of three files: what they give, as far as their bytes are known
+abbrev pub AreRead : Option (List ℕ) → Option (List ℕ) → Option (List ℕ) → Result FileRows Fault
+    → Type 0
+AreRead sections points staff read = IfSome sections (λ s. IfSome points (λ p. IfSome staff (λ e.
+    Gives IsUnreadFile (λ rows. rows) (rows_of (record { sections = s; points = p; staff = e }))
+    read)))
+
+-- the same of the files at three paths
+abbrev pub AreReadAt : (List ℕ → Option (List ℕ)) → Files → Result FileRows Fault → Type 0
+AreReadAt bytes_at files read = AreRead (bytes_at files.sections.now)
+    (bytes_at files.points.now) (bytes_at files.staff.now) read
+
+abbrev pub as_lists : Result Rows Fault → Result FileRows Fault
+as_lists (Ok rows) = Ok (lists_of rows)
+as_lists (Err fault) = Err fault
+
+-- WHAT IS ANSWERED OF THREE FILES: their fault, or what `Is` says of their rows
+pub record AnswersFiles {T : Type 0} (bytes_at : List ℕ → Option (List ℕ)) (files : Files)
+    (Is : FileRows → Result T Fault → Type 0) (result : Result T Fault) : Type 0 where
+  pub read : Result FileRows Fault
+  pub are_read : AreReadAt bytes_at files read
+  pub answer : After read Is result
