@@ -2,6 +2,7 @@
 #![tactic(auto)]
 
 mod behind;
+mod console;
 mod line;
 mod memory_database;
 mod memory_file;
@@ -11,6 +12,7 @@ mod watched;
 mod watched_database;
 
 pub use behind::Behind;
+pub use console::{Console, NoConsole};
 pub use memory_database::database_in_memory;
 pub use memory_file::MemoryFile;
 pub use watch::Watch;

@@ -5,35 +5,37 @@
 ghost use Rattle.std.specs.Prelude.{◌≡◌, ◌<◌, ◌/◌, ◌^◌};
 ghost use Rattle.std.specs.Duration.{as_nanos};
 
+use crate::console::{Console, Errors};
 use crate::opening::Opening;
 use clr_stream::Counted;
 use std::cell::Cell;
-use std::io::IsTerminal;
 use std::time::{Duration, Instant};
 
 /// The watch over an opening. Where standard error is a terminal, it tells there how far an opening
 /// has come that takes more than a second, until it ends.
 #[derive(Drop)]
-pub struct Watch {
-    rt: HostRuntime,
+pub struct Watch<C> {
+    console: C,
     opening: Cell<Option<(Opening, Instant)>>,
 }
 
-impl Watch {
+impl<C: Console> Watch<C> {
     /// A watch that has nothing to tell of.
-    pub fn new(rt: &HostRuntime) -> Watch {
+    pub fn new(console: C) -> Watch<C>
+        ensures { result.console ≡ console }
+    {
         Watch {
-            rt: *rt,
+            console,
             opening: Cell::new(None),
         }
     }
 
     /// The opening of a file of so many bytes begins.
     pub fn begin(&self, size: u64) {
-        let Some(opening) = Opening::begun(self.rt.stderr().is_terminal(), size) else {
+        let Some(opening) = Opening::begun(self.console.is_terminal(), size) else {
             return;
         };
-        if let Ok(since) = Instant::now(&self.rt) {
+        if let Ok(since) = self.console.now() {
             self.opening.set(Some((opening, since)));
         }
     }
@@ -43,18 +45,18 @@ impl Watch {
         let Some((opening, since)) = self.opening.get() else {
             return;
         };
-        if let Ok(spent) = since.elapsed(&self.rt) {
-            let millis = millis_of(spent);
-            let mut errors = Counted::new(self.rt.stderr());
+        if let Ok(now) = self.console.now() {
+            let millis = millis_of(now.saturating_duration_since(since));
+            let mut errors = Counted::new(Errors::new(&self.console));
             let opening = opening.read_on(bytes, millis, &mut errors);
             self.opening.set(Some((opening, since)));
         }
     }
 
-    /// The opening has ended, or the program goes on to what is behind it.
+    /// The opening has ended, or the program goes on to what comes after it.
     pub fn end(&self) {
         if let Some((opening, _)) = self.opening.replace(None) {
-            let mut errors = Counted::new(self.rt.stderr());
+            let mut errors = Counted::new(Errors::new(&self.console));
             opening.end(&mut errors);
         }
     }

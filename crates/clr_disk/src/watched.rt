@@ -1,20 +1,21 @@
 //! A disk whose reads a watch sees.
 ghost use Rattle.std.specs.Prelude.{◌≡◌};
 
+use crate::console::Console;
 use crate::watch::Watch;
 use sqlite_disk::{Disk, Tally};
 use std::io;
 
 /// A disk whose reads a watch sees, if there is one.
 #[derive(Drop)]
-pub struct Watched<'a, D: Disk> {
+pub struct Watched<'a, D: Disk, C: Console> {
     disk: D,
-    watch: Option<&'a Watch>,
+    watch: Option<&'a Watch<C>>,
 }
 
-impl<'a, D: Disk> Watched<'a, D> {
+impl<'a, D: Disk, C: Console> Watched<'a, D, C> {
     /// A disk, and what watches it.
-    pub fn new(disk: D, watch: Option<&'a Watch>) -> Watched<'a, D>
+    pub fn new(disk: D, watch: Option<&'a Watch<C>>) -> Watched<'a, D, C>
         ensures { result.disk ≡ disk }
     {
         Watched { disk, watch }
@@ -29,7 +30,7 @@ impl<'a, D: Disk> Watched<'a, D> {
 }
 
 /// What is said of the disk is said of it when it is watched.
-impl<'a, D: Disk> Disk for Watched<'a, D> {
+impl<'a, D: Disk, C: Console> Disk for Watched<'a, D, C> {
     ghost seen = { λ w. D.Disk.seen w.disk };
 
     ghost may_leave = { λ w. D.Disk.may_leave w.disk };

@@ -1,11 +1,14 @@
 //! The database in a file, opened under a watch.
-ghost use Rattle.std.specs.Prelude.{IfErr, IfOk, IsTrue};
-ghost use Rattle.sqlite.specs.Files.{IsOpened, file_state};
+ghost use Rattle.std.specs.Prelude.{false, true, IfErr, IfOk, IsTrue};
+ghost use Rattle.sqlite.specs.Files.{IsOpened, file_state, image_of};
 ghost use Rattle.sqlite.specs.Held.{IsNew};
 ghost use Rattle.sqlite.specs.Opening.{is_open_error};
+ghost use Rattle.sqlite.specs.Start.{FindsIn};
 ghost use Rattle.sqlite.specs.State.{HasCleanDisk};
-ghost use Rattle.sqlite_std_file.specs.File.{file_is_usable};
+ghost use Rattle.sqlite_std_file.specs.File.{IsFresh, file_is_usable};
+ghost use Rattle.sqlite_wal.specs.Files.{image_at};
 
+use crate::console::Console;
 use crate::watch::Watch;
 use crate::watched::Watched;
 use sqlite::{Connection, Error, ErrorCode, FileFrom, FileStore, Options, Start};
@@ -16,18 +19,23 @@ use std::hash::{BuildHasher, RandomState};
 use std::io::ErrorKind;
 
 /// A database in a file, whose reads a watch sees.
-pub type WatchedDatabase<'a, S> = Connection<FileStore<Watched<'a, FileFrom<S>>>>;
+pub type WatchedDatabase<'a, S, C> = Connection<FileStore<Watched<'a, FileFrom<S>, C>>>;
 
 /// Opens the database in a file, as the kit's `Connection::open_from` does: one that is not there is
-/// made. A watch, if there is one, sees what is read of it.
-pub fn open_watched<'a, S: Start>(
+/// made. A watch, if there is one, sees what is read of it. `S` says what the files held: it is
+/// found where the disk is clean.
+pub fn open_watched<'a, S: Start, C: Console>(
     rt: &HostRuntime,
     path: &str,
     start: S,
-    watch: Option<&'a Watch>,
-) -> Result<WatchedDatabase<'a, S>, Error>
+    watch: Option<&'a Watch<C>>,
+) -> Result<WatchedDatabase<'a, S, C>, Error>
     ensures opened { IfOk result (λ connection. HasCleanDisk (file_state connection)
         → IsOpened connection) }
+    ensures found { IfOk result (λ connection. HasCleanDisk (file_state connection)
+        → FindsIn (image_at S.Start) (file_state connection)) }
+    ensures guarded { IfOk result (λ connection. HasCleanDisk (file_state connection)
+        → (file_state connection).IsShielded) }
     ensures new { IfOk result IsNew }
     ensures fault { IfErr result (λ error. IsTrue (is_open_error error)) }
 {
@@ -51,6 +59,7 @@ fn options(rt: &HostRuntime) -> Result<Options, Error>
 fn files_at<S: Start>(rt: &HostRuntime, path: &str, start: S) -> Result<Files<FileFrom<S>>, Error>
     ensures log { IfOk result (λ files. IsTrue (file_is_usable S.Start files.log)) }
     ensures db { IfOk result (λ files. IsTrue (file_is_usable S.Start files.db)) }
+    ensures fresh { IfOk result (λ files. IsFresh true files.log × IsFresh false files.db) }
     ensures fault { IfErr result (λ error. IsTrue (is_open_error error)) }
 {
     if path == ":memory:" || path.starts_with("file:") {
@@ -75,16 +84,20 @@ fn code_of(error: OpenError) -> ErrorCode
 }
 
 /// Opens the database in its files, whose reads the watch sees.
-fn over_watched<'a, D: Disk + Drop>(
+fn over_watched<'a, D: Disk + Drop, C: Console>(
     alloc: Global,
     files: Files<D>,
     options: Options,
-    watch: Option<&'a Watch>,
-) -> Result<Connection<FileStore<Watched<'a, D>>>, Error>
+    watch: Option<&'a Watch<C>>,
+) -> Result<Connection<FileStore<Watched<'a, D, C>>>, Error>
     requires log { IsTrue (D.Disk.is_usable files.log) }
     requires db { IsTrue (D.Disk.is_usable files.db) }
     ensures opened { IfOk result (λ connection. HasCleanDisk (file_state connection)
         → IsOpened connection) }
+    ensures found { IfOk result (λ connection. HasCleanDisk (file_state connection)
+        → FindsIn (image_of D.Disk files) (file_state connection)) }
+    ensures guarded { IfOk result (λ connection. HasCleanDisk (file_state connection)
+        → (file_state connection).IsShielded) }
     ensures new { IfOk result IsNew }
     ensures fault { IfErr result (λ error. IsTrue (is_open_error error)) }
 {

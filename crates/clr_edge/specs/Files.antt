@@ -1,6 +1,7 @@
 -- The rows that files give, one file after the other.
-use Rattle.std.specs.Prelude.{◌≡◌, ◌≢◌, ◌⊎◌, ℕ, List, Option, Result, Ok, Err, IfSome, IsErrOf}
-use Rattle.std.specs.Prelude.{OnErr}
+use Rattle.std.specs.Prelude.{◌≡◌, ◌≢◌, ◌⊎◌, ℕ, List, None, Option, Some, Result, Ok, Err, IfSome}
+use Rattle.std.specs.Prelude.{IsErrOf, OnErr}
+use Rattle.std.specs.Io.KnownBytes.{ReadConsumes}
 use Rattle.clr_stream.specs.Failures.{Rose}
 use Rattle.clr_csv.specs.declared.fault.CsvFault.{CsvFault}
 use Rattle.clr_csv.specs.declared.fault.CsvFault.TheVariants.{ReadFailed}
@@ -17,6 +18,14 @@ told_of file (Err cause) = Err (of_file file cause)
 -- the file's device failed, or memory ran out
 abbrev pub IsUnread : ImportFile → Fault → Type 0
 IsUnread file fault = (fault ≡ Memory) ⊎ (fault ≡ File file ReadFailed)
+
+-- a read of a file is one of the file that was opened; where none was, there is nothing to read
+abbrev pub ReadsOpened : {F E : Type 0} → (F → Option (List ℕ)) → Option F → Option F → Result ℕ E
+    → List ℕ → Type 0
+ReadsOpened remaining (Some old) (Some new) result bytes =
+    ReadConsumes (remaining old) (remaining new) result bytes
+ReadsOpened remaining None None result bytes = result ≡ Ok 0
+ReadsOpened remaining old new result bytes = ⊥
 
 -- the rows that are told, as `view` shows them, or the fault; only a file that goes unread may come
 -- in its place

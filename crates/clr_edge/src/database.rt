@@ -14,7 +14,7 @@ ghost use Rattle.clr_edge.specs.Database.{IsUnmade, IsUnmoved, IsUnmovedAt, IsUn
 use crate::fault::Fault;
 use crate::machine::Machine;
 use clr_desk::Desk;
-use clr_disk::{MemoryFile, Watched, WatchedDatabase, database_in_memory, open_watched};
+use clr_disk::{Console, MemoryFile, Watched, WatchedDatabase, database_in_memory, open_watched};
 use clr_net::Network;
 use clr_staff::Staff;
 use clr_store::{Back, Store, StoreFault};
@@ -56,10 +56,10 @@ pub trait Databases {
         ensures fault { IfErr result (IsUnopened (is_shut self.now path.now)) };
 }
 
-impl<'a, S: Start + Copy> Databases for Machine<'a, S> {
+impl<'a, S: Start + Copy, C: Console> Databases for Machine<'a, S, C> {
     ghost use Rattle.std.specs.Prelude.{None};
 
-    type Medium = Watched<'a, FileFrom<S>>;
+    type Medium = Watched<'a, FileFrom<S>, C>;
 
     ghost register_at = { λ _ _. None };
 
@@ -67,7 +67,7 @@ impl<'a, S: Start + Copy> Databases for Machine<'a, S> {
 
     ghost is_shut = { λ _ _. ⊤ };
 
-    fn database(&self, path: &str) -> Result<WatchedDatabase<'a, S>, Fault>
+    fn database(&self, path: &str) -> Result<WatchedDatabase<'a, S, C>, Fault>
         ensures at { IfOk result (λ _. ⊤) }
         ensures fault { IfErr result (IsUnopened ⊤) }
     {
@@ -77,7 +77,7 @@ impl<'a, S: Start + Copy> Databases for Machine<'a, S> {
         }
     }
 
-    fn stored(&self, path: &str) -> Result<WatchedDatabase<'a, S>, Fault>
+    fn stored(&self, path: &str) -> Result<WatchedDatabase<'a, S, C>, Fault>
         ensures at { IfOk result (λ _. ⊤) }
         ensures fault { IfErr result (IsUnopened ⊤) }
     {

@@ -8,6 +8,7 @@ ghost use Rattle.clr_edge.specs.declared.loopback.Connection.{Connection as AnyC
 
 use crate::fault::Fault;
 use crate::machine::Machine;
+use clr_disk::Console;
 use sqlite::Start;
 use std::io;
 use std::io::{Read, Write};
@@ -56,7 +57,7 @@ pub struct Connection<S> {
     pub writer: S,
 }
 
-impl<'a, S: Start> Loopback for Machine<'a, S> {
+impl<'a, S: Start, C: Console> Loopback for Machine<'a, S, C> {
     type Listener = TcpListener;
 
     type Stream = TcpStream;

@@ -2,24 +2,24 @@
 ghost use Rattle.std.specs.Prelude.{◌≡◌, [], true};
 
 use crate::paths::{AtPath, Opens, Paths};
-use clr_disk::Watch;
+use clr_disk::{Console, NoConsole, Watch};
 use sqlite::Start;
 use std::alloc::Global;
 
 /// The machine, with what its database files hold.
 #[derive(Drop)]
-pub struct Machine<'a, S: Start> {
+pub struct Machine<'a, S: Start, C: Console> {
     /// What gives memory, opens files and listens.
     pub(crate) rt: &'a HostRuntime,
     /// What the database files hold, which is for contracts alone.
     pub(crate) files: S,
     /// What tells of the opening of a database, if it is told.
-    pub(crate) watch: Option<&'a Watch>,
+    pub(crate) watch: Option<&'a Watch<C>>,
 }
 
-impl<'a, S: Start> Machine<'a, S> {
+impl<'a, S: Start> Machine<'a, S, NoConsole> {
     /// The machine of a runtime. No opening of a database is told.
-    pub fn new(rt: &'a HostRuntime, files: S) -> Machine<'a, S>
+    pub fn new(rt: &'a HostRuntime, files: S) -> Machine<'a, S, NoConsole>
         ensures runtime { result.rt ≡ rt.entry }
         ensures files { result.files ≡ files }
     {
@@ -29,10 +29,12 @@ impl<'a, S: Start> Machine<'a, S> {
             watch: None,
         }
     }
+}
 
+impl<'a, S: Start, C: Console> Machine<'a, S, C> {
     /// The same, where a watch tells of each opening of a database by `stored`. It ends when the
     /// machine listens; what else is behind an opening is to end it.
-    pub fn watched(rt: &'a HostRuntime, files: S, watch: &'a Watch) -> Machine<'a, S>
+    pub fn watched(rt: &'a HostRuntime, files: S, watch: &'a Watch<C>) -> Machine<'a, S, C>
         ensures runtime { result.rt ≡ rt.entry }
         ensures files { result.files ≡ files }
     {
@@ -44,7 +46,7 @@ impl<'a, S: Start> Machine<'a, S> {
     }
 }
 
-impl<'a, S: Start> Alloc for Machine<'a, S> {
+impl<'a, S: Start, C: Console> Alloc for Machine<'a, S, C> {
     type A = Global;
 
     fn alloc(&self) -> Global {
@@ -52,7 +54,7 @@ impl<'a, S: Start> Alloc for Machine<'a, S> {
     }
 }
 
-impl<'a, S: Start> Opens<'a> for Machine<'a, S> {
+impl<'a, S: Start, C: Console> Opens<'a> for Machine<'a, S, C> {
     ghost use Rattle.std.specs.Prelude.{None};
 
     type File = AtPath<'a, HostRuntime>;

@@ -81,6 +81,7 @@ impl<'a, R: Files> Read for AtPath<'a, R> {
     ghost use Rattle.std.specs.Io.{ReadsAtMost};
     ghost use Rattle.std.specs.Io.KnownBytes.{ReadConsumes};
     ghost use Rattle.clr_stream.specs.Failures.{count_after};
+    ghost use Rattle.clr_edge.specs.Files.{ReadsOpened};
 
     ghost remaining = { λ _. None };
 
@@ -88,6 +89,9 @@ impl<'a, R: Files> Read for AtPath<'a, R> {
         ensures bound { ReadsAtMost result buf.new }
         ensures bytes { ReadConsumes None None result buf.new }
         ensures count { self.new.failures ≡ count_after result self.old.failures }
+
+        // So a file ends only where the file itself does, and not where it could not be read on.
+        ensures opened { ReadsOpened R.File.remaining self.old.file self.new.file result buf.new }
     {
         let answer = match &mut self.file {
             Some(file) => file.read(buf),

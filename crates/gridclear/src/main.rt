@@ -5,8 +5,10 @@ ghost use Rattle.std.specs.Prelude.{◌≡◌, ◌≤◌};
 ghost use Rattle.std.specs.Process.{exit_status};
 
 mod input;
+mod terminal;
 
 use crate::input::StandardInput;
+use crate::terminal::Terminal;
 use clr_command_line::command_line::command_line;
 use clr_disk::{Behind, Watch};
 use clr_edge::machine::{AnyFiles, Machine};
@@ -22,12 +24,12 @@ fn main(rt: HostRuntime) -> ExitCode {
 fn program(rt: &HostRuntime) -> ExitCode
     ensures { exit_status result ≤ 2 }
 {
-    let watch = Watch::new(rt);
+    let watch = Watch::new(Terminal::new(rt));
     let machine = Machine::watched(rt, AnyFiles, &watch);
     let words = words_of(rt);
-    let mut input = Counted::new(Behind::new(StandardInput::new(rt.stdin()), &watch));
-    let mut output = Counted::new(Behind::new(rt.stdout(), &watch));
-    let mut errors = Counted::new(Behind::new(rt.stderr(), &watch));
+    let mut input = Behind::new(Counted::new(StandardInput::new(rt.stdin())), &watch);
+    let mut output = Behind::new(Counted::new(rt.stdout()), &watch);
+    let mut errors = Behind::new(Counted::new(rt.stderr()), &watch);
     let status = command_line(&machine, &words, &mut input, &mut output, &mut errors);
     exit_code(status)
 }

@@ -1,0 +1,15 @@
+use Rattle.std.proofs.Common.{ℕ, List, ap, ap₂, subst}
+use Rattle.sqlite_wal.specs.Recovery.{Image}
+use Rattle.sqlite.specs.Files.{file_state}
+use Rattle.sqlite.specs.Start.{FindsIn}
+use Rattle.clr_disk.proofs.watched_database.over_watched.Goals as goal
+
+abbrev image : List ℕ → List ℕ → Image
+image log db = record { log = log; db = db }
+
+-- a watch changes nothing of what the files show
+pub returns-in-Ok-clause-found : goal.returns-in-Ok-clause-found
+returns-in-Ok-clause-found g c clean =
+    let found = c.in-Ok.ensures.found clean in
+    let same = ap₂ image (ap g.D.Disk.seen c.new.ensures) (ap g.D.Disk.seen c.new-2.ensures) in
+    subst (λ i. FindsIn i (file_state c.in-Ok.connection)) same (record { holds = found.holds; reads = found.reads })
