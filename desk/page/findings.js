@@ -67,7 +67,7 @@ function closingFindings(network, states, positions, point) {
 // `now`: it is to go out now; `positions`: those that earlier steps of the same order will have made.
 export function findingsAt({ network, states }, name, { action = null, own = null, now = false, positions = new Map(), known = states() } = {}) {
   const state = known.get(name);
-  if (!state) return [{ text: "not in the files of this page, which knows nothing of it", asks: false }];
+  if (!state) return [{ text: "not in the files of this page, which knows nothing of it", asks: action === "CLOSE" }];
   return [
     ...holdFindings(state, action, own),
     ...handFindings(state, own, now),

@@ -21,6 +21,15 @@ export function living(node, look) {
   return node;
 }
 
+// Findings that are kept up to date.
+export function livingFindings(find) {
+  const node = el("div");
+  return living(node, () => {
+    const list = findingsList(find());
+    if (list?.textContent !== node.firstChild?.textContent) node.replaceChildren(...[list].filter(Boolean));
+  });
+}
+
 export function learn() {
   for (const node of document.querySelectorAll("[data-living]")) node.dispatchEvent(new Event("learn"));
 }

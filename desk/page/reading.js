@@ -4,7 +4,7 @@
 import { el, button } from "./elements.js";
 import { findingsAt } from "./findings.js";
 import { gaveHere, noteGiven } from "./given.js";
-import { findingsList, living, mayGo } from "./notes.js";
+import { livingFindings, mayGo } from "./notes.js";
 import { presentStep } from "./who.js";
 
 function findingsOf(desk, view, step) {
@@ -21,11 +21,7 @@ export async function instruct(desk, view, step, act, by = {}) {
 
 // What is in the way of the present step, kept up to date.
 export function stepNotes(desk, view, step) {
-  const node = el("div");
-  return living(node, () => {
-    const list = findingsList(findingsOf(desk, view, step));
-    if (list?.textContent !== node.firstChild?.textContent) node.replaceChildren(...[list].filter(Boolean));
-  });
+  return livingFindings(() => findingsOf(desk, view, step));
 }
 
 export function instructControl({ view, act, desk }) {

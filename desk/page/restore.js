@@ -5,8 +5,8 @@
 import { positionBefore } from "./before.js";
 import { draft, draftName, keepDraft } from "./drafts.js";
 import { el, button, panel, table } from "./elements.js";
-import { findingsOfSteps } from "./findings.js";
-import { learn, living, mayGo, orderNotes } from "./notes.js";
+import { findingsAt, findingsOfSteps } from "./findings.js";
+import { learn, living, livingFindings, mayGo, orderNotes } from "./notes.js";
 import { StepList } from "./picking.js";
 import { holdWord } from "./words.js";
 
@@ -69,16 +69,15 @@ export class RestoreEditor {
   }
 
   #row(held) {
-    const other = this.#view.holds.filter((hold) => hold.place === held.place && hold.by !== this.#view.card.clearance);
-    const state = this.#desk.states().get(held.place);
-    const normal = state?.point.normal === "open" ? "LEAVE" : "CLOSE";
+    const state = this.#desk.states().get(held.place), { clearance } = this.#view.card;
+    const normal = state?.point.normal === "closed" ? "CLOSE" : "LEAVE";
     const end = (action) => el("label", { class: "radio" },
       el("input", { type: "radio", name: `end-${held.place}`, value: action, checked: this.#ends.get(held.place) === action,
         "data-name": `${action} ${held.place}`, "aria-label": `${action} ${held.place}`, onchange: () => this.#end(held, action) }),
       action, state && action === normal ? el("span", { class: "hint" }, " (normal)") : null);
-    const others = [...new Set(other.map((hold) => hold.by))].join(", ");
     return el("tr", { "data-point": held.place },
-      el("th", { scope: "row" }, held.place, el("p", { class: "hint" }, held.kinds.map(holdWord).join(", "), others ? `; also ${others}` : "")),
+      el("th", { scope: "row" }, held.place, el("p", { class: "hint" }, held.kinds.map(holdWord).join(", ")),
+        livingFindings(() => findingsAt(this.#desk, held.place, { own: clearance }))),
       el("td", { "data-name": "normal", "data-head": "Normally" }, state ? el("strong", {}, state.point.normal) : "not in the files"),
       this.#before(held.place),
       el("td", { class: "choices" }, end(normal), end(normal === "CLOSE" ? "LEAVE" : "CLOSE")));
@@ -90,7 +89,8 @@ export class RestoreEditor {
     return living(cell, () => {
       const state = this.#desk.states().get(name);
       const { position, from } = state ? positionBefore(state, this.#view.card.clearance) : { position: null, from: "not in the files" };
-      panel(cell, [position, from], () => [el("strong", {}, position ?? "not clear"), el("p", { class: "hint" }, from)]);
+      const other = state && position && position !== state.point.normal ? " ≠" : "";
+      panel(cell, [position, from], () => [el("strong", {}, `${position ?? "not clear"}${other}`), el("p", { class: "hint" }, from)]);
     });
   }
 

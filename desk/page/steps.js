@@ -29,11 +29,19 @@ export function stepsTable(view, found) {
   return table(["No", "Step", "State", "Reader"], rows, { class: "steps" });
 }
 
+// Where two texts begin to differ.
+function differenceWords(said, typed) {
+  let place = 0;
+  while (place < said.length && said[place] === typed[place]) place++;
+  const rest = (text) => (text.length > place ? `“${text.slice(place)}”` : "nothing more");
+  return `${place ? `The same as far as “${said.slice(0, place)}”; then the step` : "The step"} has ${rest(said)}, and you typed ${rest(typed)}.`;
+}
+
 // Sends what was heard; where that is not the step's text, only after a question.
 export async function repeatAs(view, step, text, act, by = {}) {
   if (text !== step.text) {
     const answer = await ask("The repeat differs", [
-      `The step says: ${step.text}`, `You typed: ${text || "nothing"}`,
+      `The step says: ${step.text}`, `You typed: ${text || "nothing"}`, differenceWords(step.text, text),
     ], [["send", "Send it as typed"], [null, "Correct it"]]);
     if (answer !== "send") return null;
   }
