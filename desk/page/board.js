@@ -46,7 +46,7 @@ function boardRow(row, staff, chosen) {
     el("th", { scope: "row" }, el("a", { href: `#/clearance/${row.id}`, "data-name": row.id }, row.id)),
     el("td", {}, el("span", { class: `phase ${row.phase}`, title: phaseWord(row.phase) }, row.phase)),
     el("td", {}, row.work === "-" ? "switch order" : row.work, hatched ? el("span", { class: "chip" }, "fence hatched") : null),
-    el("td", {}, stepsWords(view)),
+    el("td", { class: "steps-so-far" }, stepsWords(view)),
     el("td", {}, workWords(view).map(([kind, text], place) => [place ? "; " : "", el("span", { class: kind || null }, text)]).flat()),
     el("td", {}, holderCell(row.holder, row.work, staff)),
     el("td", { class: "moment", title: wholeTime(row.last) }, shortTime(row.last)));

@@ -46,7 +46,7 @@ export function drawAlarms() {
   node.hidden = !found.length;
   panel(node, found.map(({ id, section }) => [id, section]), () => found.map(({ id, section }) =>
     el("p", {}, el("strong", {}, `⚠ TESTED LIVE: ${section}`), ` under `, el("a", { href: `#/clearance/${id}` }, id),
-      ". It is an alarm until the section is tested dead, or the clearance is released.")));
+      el("span", { class: "until" }, ". It is an alarm until the section is tested dead, or the clearance is released."))));
 }
 
 export function startTop() {

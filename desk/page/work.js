@@ -86,6 +86,6 @@ function crewsControl(view, act) {
 export function workControl({ view, act }) {
   const sections = [...view.fence].sort((a, b) => (b === view.work) - (a === view.work));
   return el("div", { class: "offer" },
-    table(["Section", "Now", "Say"], sections.map((section) => sectionRow(view, section, act))),
+    table(["Section", "Now", "Say"], sections.map((section) => sectionRow(view, section, act)), { class: "work" }),
     crewsControl(view, act));
 }
