@@ -31,7 +31,7 @@ export function setMomentField(input) {
   momentField = input;
 }
 
-// Listeners are told when a command goes out and when it is over.
+// Listeners are called when a command goes out and when it is over.
 export function onSending(listener) {
   listeners.push(listener);
 }
@@ -100,7 +100,7 @@ function before(command) {
   return { view: view ? JSON.stringify(view) : null, ids: new Set([...room.closed.keys(), ...room.board.map((row) => row.id)]) };
 }
 
-// Gives the command and tells whether it was accepted, with the clearance's name.
+// Gives the command; the answer is whether it was accepted, with the clearance's name.
 export async function give(parts) {
   const command = { by: caller, ...parts };
   if (sending) {
@@ -120,12 +120,12 @@ export async function give(parts) {
   }
 }
 
-// The command that is under way stands in the tab's storage, so that a page that is loaded anew meanwhile knows of it.
+// The command that is under way is kept in the tab's storage, so that a page that is loaded again meanwhile knows of it.
 function keepPending(pending) {
   try {
     if (pending) sessionStorage.setItem(PENDING, JSON.stringify(pending));
     else sessionStorage.removeItem(PENDING);
-  } catch { /* without storage a page that is loaded anew says nothing of it */ }
+  } catch { /* without storage a page that is loaded again says nothing of it */ }
 }
 
 function pendingBefore() {
@@ -136,14 +136,14 @@ function pendingBefore() {
   }
 }
 
-// What was under way when the page was loaded anew: its reply is lost.
+// What was under way when the page was loaded again: its reply is lost.
 export async function takeUpPending() {
   const pending = pendingBefore();
   if (!pending) return;
   const { command, view, ids } = pending;
   noteSending(true);
   try {
-    await lost(command, "the page was loaded anew before it", { view, ids: new Set(ids) }, () => give(withoutMoment(command)));
+    await lost(command, "the page was loaded again before it", { view, ids: new Set(ids) }, () => give(withoutMoment(command)));
   } finally {
     keepPending(null);
     noteSending(false);

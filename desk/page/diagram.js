@@ -21,7 +21,7 @@ function pointTitle(state, lookedThrough) {
   ].filter(Boolean).join("\n");
 }
 
-// Closed is full, open is hollow with a gap; dashed where the register does not tell it; a question mark where nobody does.
+// Closed is full, open is hollow with a gap; dashed where the register does not say it; a question mark where nobody does.
 function pointSymbol(state, picked, found) {
   const parts = [svg("rect", { class: "hit", x: -16, y: -16, width: 32, height: 32 })];
   if (found) parts.push(svg("circle", { class: "found", r: 17 }));
@@ -71,7 +71,7 @@ export class Diagram {
   #picking = null; #press; #found = new Set(); #finding = el("span", { class: "hint", role: "status" }); #last = null;
   node;
 
-  // `press(kind, name)` is told where nothing is being picked.
+  // `press(kind, name)` is called where nothing is being picked.
   constructor(network, press) {
     this.#network = network;
     this.#press = press;

@@ -1,5 +1,5 @@
 // What is known of each point: its position and where that is known from, whose hand it is in, and its holds.
-// The register tells a point's position in the views of clearances whose fence it touches, by the steps that were done,
+// The register says a point's position in the views of clearances whose fence it touches, by the steps that were done,
 // and of a jumper on the board; of the others the page has the files alone, and says so.
 
 const MOVES = { OPEN: "open", CLOSE: "closed", LEAVE: "open" };
@@ -40,7 +40,7 @@ function addJumper(known, { point, position }) {
   if (state) Object.assign(state, { position, from: "view" });
 }
 
-// Where no view tells a point's position: what the done steps agree on. Records that end differently do not tell it,
+// Where no view has a point's position: what the done steps agree on. Records that end differently do not show it,
 // since their order among each other is not known.
 function settle(state) {
   if (state.from === "view" || state.moved.size === 0) return;

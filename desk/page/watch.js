@@ -1,4 +1,4 @@
-// The watch over the register: the board every few seconds, and the views of what stands on it. All that the page
+// The watch over the register: the board every few seconds, and the views of what is on it. All that the page
 // shows of the register is kept here as it was last answered.
 
 import { contact, getBoard, getView } from "./register.js";
@@ -8,14 +8,14 @@ const PERIOD = 4000;      // between two looks at the board
 const HIDDEN = 20000;     // the same while nobody sees the page
 const AT_ONCE = 25;       // views that are asked for in one turn
 const ALL_AGAIN = 10;     // turns after which each view is asked for again
-const LOOK_THROUGH = 300; // closed records that are asked for without being told to
+const LOOK_THROUGH = 300; // closed records that are asked for by itself
 
 export const room = {
   board: [],            // the board's lines of records: id, phase, work, last, holder, line
   jumpers: [],          // its lines of jumpers: point, from, to, position, line
   read: null,           // when it was answered
   turns: 0,             // how many boards were answered
-  views: new Map(),     // what stands on the board: id to view
+  views: new Map(),     // what is on the board: id to view
   closed: new Map(),    // what is over: id to view
   lookedThrough: false, // whether all closed records are known
   unknownCaller: null,  // a name of the staff file that the register does not know

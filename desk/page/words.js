@@ -11,7 +11,7 @@ const REFUSALS = {
   WRONG_PHASE: ["The clearance is not in a phase in which this may be said.", "Look at its phase, and give the command that comes before."],
   EMPTY_ORDER: ["The order has no points, or no steps.", "Name at least one. A section that no point joins to others can have no order."],
   LONG_ORDER: ["There are more than 64 points, or more than 256 steps.", "Order a smaller part, or split a switch order."],
-  POINT_TWICE: ["A point stands twice among the points of the order.", "Name it once."],
+  POINT_TWICE: ["A point is given twice among the points of the order.", "Name it once."],
   SOURCE_INSIDE: ["A source can be reached from the work section without passing a point of the order.", "Add a point on each way to that source; an open point is a way in, too. A work section that is itself a source can have no order: cancel the request."],
   NOT_ON_FENCE: ["A point of the order is unknown, or has both ends or none inside the fence.", "Look at its name; or leave it out; or, where it lies inside, cut the way round it too."],
   STEPS_WRONG: ["The steps at this point are not exactly the ones that are needed there, or it is no point of the order.", "Isolating: OPEN, BLOCK if lockable, CONTROL if remote, TAG. Restoring: UNTAG, UNCONTROL, UNBLOCK for what is held there, then CLOSE or LEAVE. Switching: OPEN and CLOSE alone."],
@@ -20,48 +20,48 @@ const REFUSALS = {
   OUT_OF_TURN: ["An earlier step of the round is not done.", "Run the earlier steps first."],
   STEP_STATE: ["The step is not in the state that the command needs.", "Look at the steps' states. A step is given out while it waits, repeated when it was given out, reported when it was repeated; only a CLOSE that waits is amended. Before a cancel let a step that is out be repeated, and reported as done or not."],
   IN_HAND: ["Another clearance has the point in hand: its step there is given out.", "Wait for its report."],
-  HELD: ["The point is to be closed, and a hold stands there.", "Wait until that clearance's holds there are off; or amend the CLOSE of a restoring order to a LEAVE; or cancel the switch order."],
+  HELD: ["The point is to be closed, and a hold is there.", "Wait until that clearance's holds there are off; or amend the CLOSE of a restoring order to a LEAVE; or cancel the switch order."],
   REPEAT_DIFFERS: ["The text is not the step's.", "The operator reads the step out again; then repeat it."],
   WRONG_REPORTER: ["The caller is not the one who repeated the step last.", "Let the reader report, or repeat the step first: then the new reader reports."],
   STEPS_LEFT: ["A step of round 1 is not done.", "Run the steps that are left."],
   OUTSIDE_FENCE: ["The section is not in the fence of the clearance, or is unknown.", "Look at the fence; work elsewhere needs its own clearance."],
   NOT_TESTED: ["This clearance has not tested the section and found it dead.", "Test it. Another's test does not serve."],
-  GROUNDED: ["This clearance's ground stands.", "For a ground there is nothing to do; before a release take the grounds off."],
+  GROUNDED: ["This clearance's ground is on.", "For a ground there is nothing to do; before a release take the grounds off."],
   NOT_GROUNDED: ["This clearance has no ground there, or none at its work section.", "Look at the section; or ground the work section first."],
   CREWS_ON: ["A crew is signed on.", "Sign the crews off first, when they have left."],
   CREW_STATE: ["The crew is on already, or is not on.", "Look at the crews."],
   BAD_TRANSFER: ["The one who is named is not in the staff, may not be in charge, or is the holder.", "Name another of the role charge."],
   NOT_ATTESTED: ["It was not attested that all employees are notified and clear.", "Notify all employees, see that all are clear, and say so."],
   POINT_EXISTS: ["The network has a point of this name.", "Give the jumper another name."],
-  CROSSES_FENCE: ["The jumper would have exactly one end in the fence of a clearance that stands: it would be a way in.", "Lay it when that clearance is closed, or between two sections of its fence."],
+  CROSSES_FENCE: ["The jumper would have exactly one end in the fence of a clearance that is not closed: it would be a way in.", "Lay it when that clearance is closed, or between two sections of its fence."],
   NETWORK_FULL: ["There would be more than 10,000 points or 5,000 sections.", "Nothing is ever taken out: a larger network is a new register."],
   SAME_ENDS: ["Both ends are one section.", "Name two sections."],
 };
 
 const FAULTS = {
-  NotJson: ["The register could not read the command.", "This is a fault of the page: look at the clearance, and tell who keeps this desk."],
-  NotObject: ["The register could not read the command.", "This is a fault of the page: tell who keeps this desk."],
-  MissingKey: ["The command lacks a part.", "This is a fault of the page: tell who keeps this desk."],
-  UnknownKey: ["The command has a part too many.", "This is a fault of the page: tell who keeps this desk."],
-  UnknownCommand: ["The register does not know this command.", "The page and the register are of different versions: tell who keeps this desk."],
+  NotJson: ["The register could not read the command.", "This is a fault of the page: look at the clearance, and tell whoever keeps this desk."],
+  NotObject: ["The register could not read the command.", "This is a fault of the page: tell whoever keeps this desk."],
+  MissingKey: ["The command lacks a part.", "This is a fault of the page: tell whoever keeps this desk."],
+  UnknownKey: ["The command has a part too many.", "This is a fault of the page: tell whoever keeps this desk."],
+  UnknownCommand: ["The register does not know this command.", "The page and the register are of different versions: tell whoever keeps this desk."],
   BadValue: ["A part of the command is no value of its kind.", "Names have 1 to 24 of A to Z, 0 to 9 and -. A moment lies between 1970 and 2099."],
   NoSuch: ["There is no such clearance or round.", "Look at the name; a round without steps has no printed order."],
   Unavailable: ["The database or the memory refused. The register is as it was.", "Try again; if it comes back, is the disk full?"],
-  BadHead: ["The request was none of HTTP.", "Is the proxy that of this desk? Tell who keeps it."],
-  HeadTooLarge: ["The head of the request is too long for the register.", "Tell who keeps this desk."],
+  BadHead: ["The request was none of HTTP.", "Is the proxy that of this desk? Tell whoever keeps it."],
+  HeadTooLarge: ["The head of the request is too long for the register.", "Tell whoever keeps this desk."],
   HeadCut: ["The request ended too early. It was not carried out.", "Give the command again."],
-  NoLength: ["The proxy sent the command without its length. It was not carried out.", "Tell who keeps this desk."],
-  BadLength: ["The proxy sent the command with a wrong length. It was not carried out.", "Tell who keeps this desk."],
+  NoLength: ["The proxy sent the command without its length. It was not carried out.", "Tell whoever keeps this desk."],
+  BadLength: ["The proxy sent the command with a wrong length. It was not carried out.", "Tell whoever keeps this desk."],
   BodyCut: ["The command ended too early. It was not carried out.", "Give it again."],
   BodyTooLarge: ["The command is longer than 65,536 bytes.", "Split the order."],
-  NoRoute: ["The register has no such address.", "The page and the register are of different versions: tell who keeps this desk."],
+  NoRoute: ["The register has no such address.", "The page and the register are of different versions: tell whoever keeps this desk."],
 };
 
 const STATUSES = {
   401: ["The proxy asks for a login.", "Load the page again and log in."],
   403: ["The proxy did not let this through.", "Open the page at the address that its keeper named."],
-  404: ["The proxy knows no such address.", "The proxy's configuration is not that of this desk: tell who keeps it."],
-  405: ["The register knows this address for something else.", "The page and the register are of different versions: tell who keeps this desk."],
+  404: ["The proxy knows no such address.", "The proxy's configuration is not that of this desk: tell whoever keeps it."],
+  405: ["The register knows this address for something else.", "The page and the register are of different versions: tell whoever keeps this desk."],
   408: ["The command did not reach the proxy in time. It was not carried out.", "Give it again."],
   413: ["The command is too long for the proxy.", "Split the order."],
 };
@@ -115,7 +115,7 @@ export function faultWords(status, body) {
 }
 
 export function statusWords(status) {
-  const [means, todo] = STATUSES[status] ?? [`The proxy answered with the status ${status}.`, "Tell who keeps this desk."];
+  const [means, todo] = STATUSES[status] ?? [`The proxy answered with the status ${status}.`, "Tell whoever keeps this desk."];
   return { name: `status ${status}`, named: "not passed on to the register", means, todo };
 }
 

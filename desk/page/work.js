@@ -5,7 +5,7 @@ import { ask } from "./ask.js";
 import { drafted, draftName } from "./drafts.js";
 import { el, button, field, table } from "./elements.js";
 
-function stands(view, kind, place) {
+function isThere(view, kind, place) {
   return view.holds.some((hold) => hold.kind === kind && hold.place === place && hold.by === view.card.clearance);
 }
 
@@ -31,9 +31,9 @@ async function groundOff(view, section, give) {
 
 // What is known of a section: its test and its ground, an alarm, and a test that is missing while work goes on.
 export function sectionState(view, section) {
-  const grounded = stands(view, "Ground", section) ? "grounded" : "no ground";
+  const grounded = isThere(view, "Ground", section) ? "grounded" : "no ground";
   if (liveUnder(view.card.clearance).includes(section)) return [el("strong", { class: "live" }, "⚠ TESTED LIVE"), `, ${grounded}`];
-  if (stands(view, "Tested", section)) return [`tested dead, ${grounded}`];
+  if (isThere(view, "Tested", section)) return [`tested dead, ${grounded}`];
   const missing = untested(view).includes(section);
   return [el("span", { class: missing ? "bad" : null }, "not tested"), `, ${grounded}`];
 }
@@ -46,7 +46,7 @@ function sectionRow(view, section, act) {
     el("td", { class: "say" },
       button("Tested dead", () => give({ do: "test", dead: true }), { "data-name": `dead ${section}`, "aria-label": `${section} tested dead` }),
       button("Tested live", () => testedLive(view, section, give), { "data-name": `live ${section}`, "aria-label": `${section} tested live` }),
-      stands(view, "Ground", section)
+      isThere(view, "Ground", section)
         ? button("Ground is off", () => groundOff(view, section, give), { "data-name": `ground ${section}`, "aria-label": `ground of ${section} is off` })
         : button("Ground is on", () => give({ do: "ground" }), { "data-name": `ground ${section}`, "aria-label": `ground of ${section} is on` })));
 }

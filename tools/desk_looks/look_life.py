@@ -162,7 +162,7 @@ def work_part(hand):
         time.sleep(0.5)
         hand.browser.own("POST", "/refresh", {})
         hand.number = 0
-    hand.found("the page was loaded anew", "it was carried out")
+    hand.found("the page was loaded again", "it was carried out")
     hand.press("off C2")
     hand.answer("yes")
     hand.reply("accepted", "sign crew C2 off")
