@@ -10,9 +10,6 @@ const no = (text) => ({ found: "no", text });
 const either = (text) => ({ found: "either", text });
 const unknown = (text) => ({ found: "unknown", text });
 
-const AFTER_GRANT = ["Granted", "Released", "Restoring", "Closed"];
-const AFTER_RELEASE = ["Released", "Restoring", "Closed"];
-
 function has(view, kind, place) {
   return view.holds.some((hold) => hold.kind === kind && hold.place === place && hold.by === view.card.clearance);
 }
@@ -50,11 +47,32 @@ function stepIs(reached, what) {
   };
 }
 
-function phaseIs(phases) {
-  return (command, before, after) => {
-    const now = `${command.clearance} is ${after.card.phase}.`;
-    return trace(phases.includes(before.card.phase), phases.includes(after.card.phase), { there: now, missing: now, before: now });
-  };
+function phaseOf(command, view) {
+  return `${command.clearance} is ${view.card.phase}.`;
+}
+
+// A record that is Released or further on may have been granted, or cancelled before a grant.
+function granted(command, before, after) {
+  const text = phaseOf(command, after), { phase } = after.card;
+  if (before.card.phase !== "Ordered") return unknown(text);
+  if (phase === "Ordered") return no(text);
+  return phase === "Granted" ? yes(text) : unknown(`${text} It was released since, or cancelled.`);
+}
+
+function released(command, before, after) {
+  const text = phaseOf(command, after);
+  if (before.card.phase !== "Granted") return unknown(text);
+  return after.card.phase === "Granted" ? no(text) : yes(text);
+}
+
+// Where a step is left, nothing but a cancel ends a switch order, or gives back what was ordered.
+function cancelled(command, before, after) {
+  const text = phaseOf(command, after), { phase } = after.card;
+  const over = phase === "Released" || phase === "Closed";
+  if (!over) return phase === "Restoring" ? unknown(text) : no(text);
+  if (before.card.phase === phase) return unknown(text);
+  const ended = after.steps.length > 0 && after.steps.every((step) => step.state === "Done");
+  return ended ? unknown(`${text} All its steps are done, which may have ended it too.`) : yes(text);
 }
 
 // An order's steps, where a CLOSE may have been amended since.
@@ -63,27 +81,34 @@ function sameSteps(steps, view) {
   return steps.length === view.steps.length && steps.every((text, place) => plain(text) === plain(view.steps[place].text));
 }
 
-function ordered(phase) {
+// An order is written once in a round: another's steps there are none of this command.
+function ordered(phase, round) {
   return (command, before, after) => {
-    const now = `${command.clearance} is ${after.card.phase}`;
-    if (before.card.phase !== phase) return unknown(`${now}, as it was before.`);
-    if (after.card.phase === phase) return no(`${now}.`);
-    if (sameSteps(command.steps, after)) return yes(`${now}, with the steps of this order.`);
-    return after.steps.length ? no(`${now}, with other steps than those of this order: another desk wrote them.`) : unknown(`${now}.`);
+    const text = phaseOf(command, after);
+    if (before.card.phase !== phase) return unknown(text);
+    if (after.card.round < round) return no(text);
+    if (after.card.round > round) return unknown(`${text} It has a restoring order by now.`);
+    return sameSteps(command.steps, after) ? yes(`${text} Its steps are those of this order.`) : no(`${text} Its steps are another order's.`);
   };
 }
 
+// A test that is gone may have gone with its ground.
+function foundLive(command, before, after) {
+  const withGround = has(before, "Ground", command.section) && !has(after, "Ground", command.section);
+  return withGround ? unknown(`${command.section} has neither test nor ground now.`) : taken("Tested", "tested dead")(command, before, after);
+}
+
 const JUDGES = {
-  order: ordered("Requested"),
-  restore: ordered("Released"),
+  order: ordered("Requested", 1),
+  restore: ordered("Released", 2),
   instruct: stepIs((step) => step.state !== "Waiting", "given out"),
   repeat: stepIs((step, { by }) => step.reader === by, "repeated by the same"),
   report: stepIs((step, { done }) => step.state === (done ? "Done" : "Waiting"), "so"),
   amend: stepIs((step) => step.text.startsWith("LEAVE "), "a LEAVE"),
-  grant: phaseIs(AFTER_GRANT),
-  release: phaseIs(AFTER_RELEASE),
-  cancel: phaseIs(AFTER_RELEASE),
-  test: (command, ...views) => (command.dead ? placed : taken)("Tested", "tested dead")(command, ...views),
+  grant: granted,
+  release: released,
+  cancel: cancelled,
+  test: (command, before, after) => (command.dead ? placed("Tested", "tested dead") : foundLive)(command, before, after),
   ground: placed("Ground", "grounded"),
   unground: taken("Ground", "grounded"),
   sign_on: crewIs(true),
@@ -108,7 +133,7 @@ export function judgeRecord(command, before, after, last) {
     return either(`${text} The last moment is ${shortTime(last)}, not that of this command.`);
   }
   const later = last !== null && last > command.at;
-  if (found === "no" && later && UNDONE_BY[command.do]) {
+  if (found === "no" && later && UNDONE_BY[command.do] && !(command.do === "report" && command.done)) {
     return unknown(`${text} A later command was carried out, at ${shortTime(last)}: this one may have been, and then ${UNDONE_BY[command.do]}.`);
   }
   return { found, text };
