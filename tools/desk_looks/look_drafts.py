@@ -43,6 +43,7 @@ def orders(stage):
         hand.shows("OPEN N15-Q21", "main .steplist")
     hand.press("switch")
     hand.reply("accepted", "DISP1/1")
+    hand.shows("DISP1/1", "main h2")
     hand.turn("switch")
     hand.shows("no steps yet", "main .steplist")
 
