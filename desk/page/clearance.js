@@ -12,7 +12,7 @@ import { instructControl, readingOf } from "./reading.js";
 import { severalControl, withRow } from "./several.js";
 import { amendControl, repeatControl, reportControl, stepsFindings, stepsTable } from "./steps.js";
 import { boardLine, choose, lookAt, viewOf } from "./watch.js";
-import { offersOf } from "./who.js";
+import { offersOf, presentStep } from "./who.js";
 import { holdWord, phaseWord } from "./words.js";
 import { sectionState, workControl } from "./work.js";
 
@@ -98,6 +98,13 @@ function card(view, line, staff) {
     fact("Crews", view.crews.join(", ") || "none"));
 }
 
+// What one who may do nothing here waits for.
+function idleWords(view, caller) {
+  const awaited = { Instructed: "the repeat", Repeated: "the report" }[presentStep(view)?.state];
+  if (!caller) return "Say who you are, above.";
+  return awaited ? `${caller} waits for ${awaited}.` : `${caller} has nothing to do here now.`;
+}
+
 export class ClearancePage {
   #desk; #id; #made = new Map(); #missing = false; #tall = 0;
   #card = el("div", { class: "card-place" }); #reading = el("div"); #next = el("div", { class: "next-body" }); #others = el("div"); #steps = el("div", { class: "steps-place" }); #facts = el("div", { class: "facts-place" });
@@ -169,7 +176,7 @@ export class ClearancePage {
     this.#made = made;
     this.#keepPlace(nodes);
     if (nodes.length) return nodes;
-    return el("p", {}, any ? `${this.#desk.caller?.name ?? "Nobody"} has nothing to do here now.` : "It is over; its record stays.");
+    return el("p", {}, any ? idleWords(view, this.#desk.caller?.name) : "It is over; its record stays.");
   }
 
   // Where the controls of a step were, there is room left when no step is: a grant comes below it.

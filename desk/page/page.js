@@ -97,11 +97,19 @@ function turn(focus = true) {
   if (focus) page.node.querySelector("h2").focus();
 }
 
+// The sections of a clearance; of a switch order those at its first point.
+function placesOf(view) {
+  if (!view) return [];
+  if (view.fence.length) return view.fence;
+  if (view.work) return [view.work];
+  const point = desk.network.points.get(view.steps[0]?.text.split(" ")[1]);
+  return point ? [point.from, point.to] : [];
+}
+
 // Where the network is too large to be read as a whole, the diagram begins at the chosen clearance.
 let looked = "";
 function lookAtChosen() {
-  const view = viewOf(chosen);
-  const names = view?.fence.length ? view.fence : view?.work ? [view.work] : [];
+  const names = placesOf(viewOf(chosen));
   const key = `${location.hash} ${names}`;
   if (looked === key) return;
   looked = key;
