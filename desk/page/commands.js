@@ -170,7 +170,7 @@ async function sendKnowing(command, known) {
   addReply(replyOf(command, answer, now()));
   if (momentField) momentField.value = "";
   const accepted = answer.body?.reply === "accepted";
-  if (accepted && command.do === "instruct") noteGiven(command);
+  if (accepted && command.do === "instruct") noteGiven({ ...command, round: answer.body.card.round });
   if (accepted) {
     noteTest(command, true);
     dropDraftOf(command);

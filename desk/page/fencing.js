@@ -2,7 +2,7 @@
 
 import { el, panel } from "./elements.js";
 import { living } from "./notes.js";
-import { fenceOf, wayWords } from "./grid.js";
+import { wayWords } from "./grid.js";
 
 const MOST_NAMED = 12;
 
@@ -31,10 +31,10 @@ function sourceWords([first, ...others]) {
 }
 
 // What the fence has in it, and each source with the way to it.
-export function fenceNotes(network, work, picked) {
+export function fenceNotes(picked, fence) {
   const node = el("div", { class: "fence-notes", role: "status" });
   return living(node, () => {
-    const { sections, sources } = fenceOf(network, work, picked());
+    const { sections, sources } = fence();
     const names = [...sections].sort();
     panel(node, [picked().size, names, sources], () => (picked().size ? [
       el("p", {}, `The fence of these points, hatched: ${sectionWords(names)}.`),

@@ -41,7 +41,8 @@ function fenceFindings(state, own) {
   return [...room.views].filter(([id, view]) => id !== own && view.fence.length).flatMap(([id, view]) => {
     const inside = ends.filter((end) => view.fence.includes(end)).length;
     if (!inside || (inside === 1 && holders.includes(id))) return [];
-    return [{ text: `${inside === 2 ? "inside" : "at"} the fence of ${nameWords(id)}`, asks: inside === 2 }];
+    const people = inside === 2 && view.crews.length ? ", where people work" : "";
+    return [{ text: `${inside === 2 ? "inside" : "at"} the fence of ${nameWords(id)}${people}`, asks: inside === 2 }];
   });
 }
 

@@ -1,9 +1,14 @@
 // Which steps this desk has given out. A step is read out where its instruct was accepted, and nowhere before that; the
 // tab keeps it through a reload, until somebody has repeated the step.
 
+import { boardLine, room } from "./watch.js";
+import { presentStep } from "./who.js";
+
 const KEPT = "gridclear-given";
 
-const given = readKept(); // clearance to { step, sure, seen }; seen: a view had it as given out since then
+// Clearance to { round, step, at, sure, seen }. `at` is the instruct's moment; `sure`: its reply came; `seen`: a view had
+// the step as given out since then.
+const given = readKept();
 
 function readKept() {
   try {
@@ -20,26 +25,40 @@ function keep() {
 }
 
 // An instruct of this desk was accepted; or its reply was lost, and it is not sure that it was this desk's.
-export function noteGiven({ clearance, step }, sure = true) {
-  given.set(clearance, { step, sure, seen: false });
+export function noteGiven({ clearance, round, step, at }, sure = true) {
+  given.set(clearance, { round, step, at, sure, seen: false });
   keep();
 }
 
-// Whether this desk has given out the step that the view shows as given out: "yes", "perhaps" or "no".
-export function gaveHere(view, present) {
-  const own = given.get(view.card.clearance);
-  if (!own || !present) return "no";
-  if (own.step === present.number && present.state === "Instructed") {
-    if (!own.seen) {
-      own.seen = true;
-      keep();
-    }
-    return own.sure ? "yes" : "perhaps";
+function see(own) {
+  if (own.seen) return;
+  own.seen = true;
+  keep();
+}
+
+// Whether this desk has given out the step that the view shows as given out: "yes", "no", or "perhaps", where the record
+// has a later moment, so that another desk may have given it out again.
+export function gaveHere(view) {
+  const { clearance, round } = view.card;
+  const own = given.get(clearance), present = presentStep(view);
+  if (!own) return "no";
+  const same = own.round === round && own.step === present?.number;
+  if (same && present.state === "Instructed") {
+    see(own);
+    return own.sure && (boardLine(clearance)?.last ?? 0) <= own.at ? "yes" : "perhaps";
   }
-  const before = own.step === present.number && present.state === "Waiting" && !own.seen;
-  if (!before) {
-    given.delete(view.card.clearance);
+  if (!same || present.state !== "Waiting" || own.seen) {
+    given.delete(clearance);
     keep();
   }
   return "no";
+}
+
+// What was repeated since, or is over, is no longer this desk's, whatever page is shown.
+export function watchGiven() {
+  for (const clearance of [...given.keys()]) {
+    const view = room.views.get(clearance);
+    if (view) gaveHere(view);
+    else if (room.closed.has(clearance)) given.delete(clearance);
+  }
 }

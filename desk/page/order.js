@@ -27,7 +27,7 @@ function byAction(points) {
 }
 
 export class OrderEditor {
-  #view; #network; #desk; #picker; #list; #arrange = byAction;
+  #view; #network; #desk; #picker; #list; #arrange = byAction; #fenced = null;
   node;
 
   constructor(view, desk) {
@@ -65,8 +65,11 @@ export class OrderEditor {
     return this.#arrange([...this.#picker.picked].map((name) => this.#network.points.get(name)));
   }
 
+  // Worked out once for what is picked.
   #fence() {
-    return fenceOf(this.#network, this.#view.work, this.#picker.picked);
+    const key = [...this.#picker.picked].join(" ");
+    if (this.#fenced?.key !== key) this.#fenced = { key, found: fenceOf(this.#network, this.#view.work, this.#picker.picked) };
+    return this.#fenced.found;
   }
 
   #draw() {
@@ -76,7 +79,7 @@ export class OrderEditor {
       el("p", {}, `Isolating order of ${clearance} for work on `, el("strong", {}, this.#view.work),
         ". Pick each point that is to be held open; each way to a source has to be among them, an open point too."),
       this.#picker.node,
-      fenceNotes(this.#network, this.#view.work, picked),
+      fenceNotes(picked, () => this.#fence()),
       pickedNotes(this.#desk, picked, { own: clearance, action: "OPEN", more: (name) => offFence(this.#network, this.#fence(), name) }),
       el("h3", {}, "Steps"),
       el("div", { class: "answers" },

@@ -7,6 +7,7 @@ import { ClearancePage } from "./clearance.js";
 import { give, isSending, onSending, setCaller, setMomentField, takeUpPending } from "./commands.js";
 import { Diagram, MOST_DRAWN } from "./diagram.js";
 import { choice, el, field, panel } from "./elements.js";
+import { watchGiven } from "./given.js";
 import { guardPresses } from "./guard.js";
 import { startKeys } from "./keys.js";
 import { MinePage } from "./mine.js";
@@ -123,6 +124,7 @@ function drawDiagram() {
 
 function update() {
   noteBefore();
+  watchGiven();
   drawAlarms();
   page?.update();
   learn();

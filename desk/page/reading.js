@@ -5,6 +5,7 @@ import { el, button } from "./elements.js";
 import { findingsAt } from "./findings.js";
 import { gaveHere, noteGiven } from "./given.js";
 import { livingFindings, mayGo } from "./notes.js";
+import { boardLine } from "./watch.js";
 import { presentStep } from "./who.js";
 
 function findingsOf(desk, view, step) {
@@ -32,19 +33,25 @@ export function instructControl({ view, act, desk }) {
     button(`Instruct step ${step.number}`, () => instruct(desk, view, step, act), { class: "main", "data-name": "instruct" }));
 }
 
+// An operator says that no other desk gave it.
+function claim(step, changed) {
+  noteGiven({ ...step, at: boardLine(step.clearance)?.last ?? 0 });
+  changed();
+}
+
 // What is above the controls while a step is given out. Where it was given, the text; at other desks a word of that. Where
 // the reply was lost, another desk's instruct may have been the one: people have to agree before one of them speaks.
 export function readingOf(view, changed) {
-  const step = presentStep(view), here = gaveHere(view, step);
+  const step = presentStep(view), here = gaveHere(view);
   if (step?.state !== "Instructed") return null;
-  const { clearance } = view.card, name = `Step ${step.number} of ${clearance}`;
+  const { clearance, round } = view.card, name = `Step ${step.number} of ${clearance}`;
   if (here === "yes") {
     return el("div", { class: "read-out", role: "status", "data-name": "read-out" },
       el("p", {}, `Read this out: step ${step.number} of ${clearance}`), el("strong", {}, step.text));
   }
   if (here === "perhaps") {
-    return el("div", { class: "elsewhere" }, el("p", {}, `${name} is given out; this desk's reply was lost. Ask the other desks whether one of them gave it.`),
-      button("No other desk gave it: show the text", () => { noteGiven({ clearance, step: step.number }); changed(); }, { "data-name": "mine" }));
+    return el("div", { class: "elsewhere" }, el("p", {}, `${name} is given out. This desk gave it, but its reply was lost, or there is a later command. Ask the other desks whether one of them gave it.`),
+      button("No other desk gave it: show the text", () => claim({ clearance, round, step: step.number }, changed), { "data-name": "mine" }));
   }
   return el("p", { class: "elsewhere" }, `${name} was given out at another desk, which says it on the line. `
     + "If none did, have it repeated and reported as not done.");

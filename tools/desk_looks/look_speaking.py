@@ -76,6 +76,30 @@ def until_repeated(stage):
     wait_until(lambda: "read this out" not in hand.text().lower(), "no text to be read out any more")
 
 
+def given_again(stage):
+    """A step that came back and that another desk gave out again is not read out where it was given first."""
+    one, two = stage.network(KIM_ORDER, "clearance/KIM/1"), stage.window("clearance/KIM/1")
+    one.speak("DISP1")
+    one.press("instruct")
+    one.reply("accepted")
+    one.shows("Read this out", "main .next")
+    one.turn("board")
+    two.speak("REED")
+    two.browser.type('main [data-name="repeat-text"]', "OPEN N11-Q12")
+    two.press("repeat")
+    two.reply("accepted", "repeat")
+    two.press("not-done")
+    two.reply("accepted", "not done")
+    two.speak("DISP2")
+    two.press("instruct")
+    two.reply("accepted", "instruct step 1")
+    two.shows("Read this out", "main .next")
+    one.shows("given out, not yet repeated")
+    one.turn("clearance/KIM/1")
+    wait_until(lambda: "was given out at another desk" in one.text() or "Ask the other desks" in one.text(), "a word of the other desk")
+    silent(one)
+
+
 def lost_reply(stage):
     """An instruct whose reply was lost may have been another desk's: people agree before one of them reads it out."""
     hand = stage.network(KIM_ORDER, "clearance/KIM/1")
@@ -93,4 +117,4 @@ def lost_reply(stage):
     hand.shows("OPEN N11-Q12", "main .next .read-out strong")
 
 
-LOOKS = {"speak-lost": lost_reply, "speak-refused": refused_close, "speak-one-desk": one_desk, "speak-until-repeated": until_repeated}
+LOOKS = {"speak-again": given_again, "speak-lost": lost_reply, "speak-refused": refused_close, "speak-one-desk": one_desk, "speak-until-repeated": until_repeated}
