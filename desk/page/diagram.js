@@ -130,7 +130,7 @@ export class Diagram {
     if (this.#last) this.update(this.#last);
   }
 
-  // What is being picked: { kind, picked: Set, toggle(name) }, or null.
+  // What is being picked: { kind, picked: Set, toggle(name), way() }, or null.
   pick(picking) {
     this.#picking = picking;
     this.#svg.classList.toggle("picking-points", picking?.kind === "point");
@@ -158,7 +158,17 @@ export class Diagram {
         return sectionParts(this.#plan.spots.get(name), section, own, fenced, found);
       });
     }
+    this.#markWay();
     this.#writing.write({ states, marks, fence, found: this.#found, picked });
+  }
+
+  // The way to a source that the picked points leave open: section, point, section and so on.
+  #markWay() {
+    const way = this.#picking?.way?.() ?? [];
+    for (const [groups, turn] of [[this.#sections, 0], [this.#points, 1]]) {
+      const names = new Set(way.filter((_, place) => place % 2 === turn));
+      for (const [name, { group }] of groups) group.classList.toggle("way", names.has(name));
+    }
   }
 
   #dressPoint(group, state, chosen) {
@@ -203,6 +213,7 @@ function legend() {
     entry(sample("point closed untold"), "dashed: as in the file, the register does not tell"),
     entry(sign("≠"), "not in its normal position"),
     entry(fenceSample(), "in the fence of the chosen clearance, or of the points that are picked"),
+    entry(sample("point closed told way"), "on the way to a source that the picked points leave open"),
     entry(sign("red"), "tested live, until it is tested dead"),
     entry(sign("O B C T"), "held open, blocked, control off, tagged, behind the owner's name"),
     entry(sign("hand"), "its owner's step is given out there")));

@@ -36,6 +36,7 @@ export class OrderEditor {
     this.#desk = desk;
     this.#picker = new PointPicker(desk.network, () => this.#picked());
     this.#picker.fence = () => (this.#picker.picked.size ? this.#fence().sections : new Set());
+    this.#picker.way = () => (this.#picker.picked.size ? this.#fence().sources[0]?.way ?? [] : []);
     this.#list = new StepList(() => this.#keep());
     this.#recall();
     this.node = this.#draw();

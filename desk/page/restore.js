@@ -1,6 +1,6 @@
 // Writing the restoring order of a clearance that was released: at each point that it holds open the page writes the
 // steps that undo what it has there, by the holds that the register shows; CLOSE or LEAVE is the operator's choice. Beside
-// it stand the normal position and the one before the order; nothing is chosen.
+// it are the normal position and the one before the order; nothing is chosen.
 
 import { positionBefore } from "./before.js";
 import { draft, draftName, keepDraft } from "./drafts.js";

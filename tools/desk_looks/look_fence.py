@@ -16,10 +16,14 @@ def fence_of_picked(stage):
     wait_until(lambda: "N12-F13" in hatched(hand), "the hatch over the tie that is missing")
     hand.shows("the source GRID-1 is still reached", ".fence-notes")
     hand.shows("N13-F13 ─ TIE1-N12-N13 ─ N12-F13 ─ N12-Q13 ─ N12-F12", ".fence-notes")
+    if not hand.there('.net .point.way[data-name="TIE1-N12-N13"]') or hand.there('.net .point.way[data-name="N13-Q11"]'):
+        raise Differs("the way to the source is to be red on the diagram, by the tie that is missing")
     hand.picture("fence-open")
     hand.pick("TIE1-N12-N13")
     wait_until(lambda: hatched(hand) == ["N13-F11", "N13-F12", "N13-F13"], "the hatch over three sections")
     hand.shows("No source is reached", ".fence-notes")
+    if hand.there(".net .point.way[data-name]"):
+        raise Differs("no way is left to be red")
     hand.picture("fence-closed")
 
 

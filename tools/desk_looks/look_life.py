@@ -1,4 +1,4 @@
-"""A whole life of JONES/1 beside switch orders, through the page alone; then the tables behind it."""
+"""A whole life of JONES/1 beside switch orders, through the page alone; then the tables under it."""
 
 import contextlib
 import os
@@ -11,7 +11,7 @@ from desk_looks.labels import look_at_labels
 
 
 def compare(desk, work):
-    """The tables behind the page are those of `run` over the same commands."""
+    """The tables under the page are those of `run` over the same commands."""
     second = os.path.join(work, "second.db")
     gridclear("init", *desk.files, "--db", second)
     lines = desk.sent()
@@ -19,7 +19,7 @@ def compare(desk, work):
     own, other = tables(desk.base), tables(second)
     for name in sorted(own.keys() | other.keys()):
         if own.get(name) != other.get(name):
-            raise Differs(f"table {name}: {own.get(name)} behind the page, {other.get(name)} by run")
+            raise Differs(f"table {name}: {own.get(name)} under the page, {other.get(name)} by run")
     if len(own.get("clearance", [])) < 4 or len(own.get("step", [])) < 14:
         raise Differs("the tables have too few rows to say anything")
     say(f"  {len(lines)} commands; the {len(own)} tables are those of run, {sum(map(len, own.values()))} rows")
@@ -302,7 +302,7 @@ def whole_life(stage):
         part(hand)
         hand.browser.complain()
     stage.desk.stop()
-    say("the tables behind the page")
+    say("the tables under the page")
     compare(stage.desk, stage.work)
 
 

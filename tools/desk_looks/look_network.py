@@ -1,4 +1,4 @@
-"""The made network in two windows: what the other looks stand on."""
+"""The made network in two windows: what the other looks begin with."""
 
 from desk_looks.network import granted, ordered
 

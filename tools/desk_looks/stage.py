@@ -1,4 +1,4 @@
-"""What a look stands on: a folder, a register with nginx before it, and windows of Chromium on its page."""
+"""What a look begins with: a folder, a register with nginx before it, and windows of Chromium on its page."""
 
 import json
 import os
