@@ -213,7 +213,7 @@ function legend() {
     entry(sample("point closed untold"), "dashed: as in the file, the register does not tell"),
     entry(sign("≠"), "not in its normal position"),
     entry(fenceSample(), "in the fence of the chosen clearance, or of the points that are picked"),
-    entry(sample("point closed told way"), "on the way to a source that the picked points leave open"),
+    entry(sample("point closed told way"), "purple: on the way to a source that the picked points leave open"),
     entry(sign("red"), "tested live, until it is tested dead"),
     entry(sign("O B C T"), "held open, blocked, control off, tagged, behind the owner's name"),
     entry(sign("hand"), "its owner's step is given out there")));

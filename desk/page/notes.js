@@ -5,7 +5,7 @@ import { el, panel } from "./elements.js";
 import { findingsAt, findingsOfSteps } from "./findings.js";
 
 const MOST_ASKED = 10;
-const OWN = "This is what the page finds by what it knows. The register decides.";
+const OWN = "This is what the page finds by what it knows; a dashed point counts as in the file. The register decides.";
 
 // A list of findings; nothing where there are none.
 export function findingsList(found) {

@@ -25,7 +25,10 @@ def elsewhere(stage):
     """At three widths the grant does not lie over the last Instruct, nor over `is done`."""
     texts = needed(CUT)
     hand = stage.network([*ordered("KIM", "N11-F12", CUT), *steps("KIM/1", texts[:-1])], "clearance/KIM/1")
+    other = stage.window("clearance/KIM/1")
     hand.speak("DISP1")
+    other.speak("DISP2")
+    before = other.rect('main [data-name="instruct"]')
     places = {}
     for width in WIDTHS:
         hand.browser.size(width)
@@ -48,6 +51,9 @@ def elsewhere(stage):
         grant = hand.rect('main [data-name="grant"]')
         if any(lies_over(grant, place) for place in places[width]):
             raise Differs(f"at {width} pixels the grant at {grant} lies over one of {places[width]}")
+    grant = other.rect('main [data-name="grant"]')
+    if lies_over(grant, before):
+        raise Differs(f"at the other desk the grant at {grant} lies over {before}")
 
 
 def after_a_row(stage):

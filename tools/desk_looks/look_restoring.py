@@ -16,8 +16,9 @@ def choices(hand, point):
 
 
 def what_was(stage):
-    hand = stage.network([*BYPASSED, *WEBER], "clearance/WEBER/1")
+    hand, other = stage.network([*BYPASSED, *WEBER], "clearance/WEBER/1"), stage.window("clearance/WEBER/1")
     hand.speak("DISP1")
+    other.speak("DISP2")
     for point, normal, before in (("N13-Q11", "closed", "closed"), ("N13-B1", "open", "closed"), (TIE, "open", "open")):
         row = f'tr[data-point="{point}"]'
         hand.shows(normal, f'{row} [data-name="normal"]')
@@ -26,6 +27,10 @@ def what_was(stage):
         found = choices(hand, point)
         if [one[1] for one in found] != [False, False] or found[0][0] != first:
             raise Differs(f"the choices at {point} are {found}")
+    hand.press(f"LEAVE {TIE}")
+    other.shows("open", f'tr[data-point="{TIE}"] [data-name="normal"]')
+    if any(taken for _, taken in choices(other, TIE)):
+        raise Differs("what one desk chooses is chosen at another")
     for width in WIDTHS:
         hand.browser.size(width)
         hand.picture(f"restore-{width}")

@@ -16,8 +16,9 @@ def going(hand, name):
 
 def row(stage):
     """Six steps by Enter and the repeats alone, each command by the name that was chosen in the row."""
-    hand = stage.network(ordered("KIM", "N11-F12", CUT), "clearance/KIM/1")
+    hand, other = stage.network(ordered("KIM", "N11-F12", CUT), "clearance/KIM/1"), stage.window("clearance/KIM/1")
     hand.speak("DISP3")
+    other.speak("DISP4")
     hand.browser.click("#several")
     for part, name in (("giver", "DISP2"), ("hearer", "DALE")):
         hand.browser.click(f'main [data-name="{part}"] option[value="{name}"]')
@@ -31,6 +32,7 @@ def row(stage):
         hand.shows(text, ".read-out strong")
         if number == 1:
             hand.picture("several")
+            other.shows("was given out at another desk", "main .next")
         going(hand, "repeat-text")
         hand.browser.keys(text.lower() + ENTER)
         hand.reply("accepted", "DALE: repeat", text)

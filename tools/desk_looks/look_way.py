@@ -1,5 +1,6 @@
 """What is in the way of a picked point and of a step: a hold, a hand, another's fence, a position that is not normal."""
 
+from desk_looks.browser import ENTER
 from desk_looks.network import granted, ordered, step, steps, switch
 from desk_looks.look_speaking import HELD, JONES, KIM
 
@@ -9,11 +10,15 @@ INSIDE = "N13-Q23"  # both its ends are in the fence of OWENS/1
 
 def held_close(stage):
     """A held point: said while it is picked, and asked about before a CLOSE is given; a no sends nothing."""
-    hand = stage.network([*JONES, *KIM], "switch")
+    hand, other = stage.network([*JONES, *KIM], "switch"), stage.window("clearance/JONES/1")
     hand.speak("DISP1")
+    other.speak("JONES")
     hand.pick(HELD)
     for name, crew in (("JONES/1", "C1"), ("KIM/1", "C2")):
         hand.shows(f"{name} (Granted, crew {crew} on) has it held open, blocked, tagged; a CLOSE would be refused for it", ".picked-notes")
+    other.browser.type('main [data-name="crew"]', "C9" + ENTER)
+    other.reply("accepted", "sign crew C9 on")
+    hand.shows("JONES/1 (Granted, crews C1, C9 on)", ".picked-notes")
     hand.press(f"CLOSE {HELD}")
     hand.press("switch")
     for name in ("JONES/1", "KIM/1"):
@@ -21,7 +26,7 @@ def held_close(stage):
     hand.shows("The register decides", "dialog")
     hand.picture("question-held")
     hand.answer("null")
-    hand.nothing_sent(0)
+    hand.nothing_sent(1)
 
 
 def others_fence(stage):
