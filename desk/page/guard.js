@@ -1,16 +1,19 @@
-// No press by accident. A control that has just come, or to which the page has just moved the focus, takes none for a
-// moment. One that came under the pointer, instead of the pointer coming to it, takes none until the pointer has left it.
+// No press by accident. A control that has just come, also into the place of another, or to which the page has just moved
+// the focus, takes none for a moment. One that came under the pointer, instead of the pointer coming to it, takes none
+// until the pointer has left it.
 
 const DEAD = 700;      // milliseconds
 const SCROLLED = 500;  // the same, in which what a wheel moves under the pointer was meant
+const BY_HAND = 150;   // the same, after a key or a press, in which it has moved the focus
+const BUTTONS = "main button:not(.steplist button), aside button, dialog button";
 const CONTROLS = "button, summary, input[type=checkbox], input[type=radio]";
 
-const BY_HAND = 150;   // the same, after a key or a press, in which the focus was moved by it
 const arrived = new WeakMap(); // control: when it came
 const focused = new WeakMap(); // field or control: when the page moved the focus there
+let places = new Map();        // a button's name: where it lies on the page
 let last = { x: -1, y: -1, name: "" }; // where the pointer was last moved to, and the control that was there
 let trapped = "";                      // the control that came under it
-let wheel = -SCROLLED, moved = -BY_HAND;
+let wheel = -SCROLLED, moved = -BY_HAND, touched = -DEAD;
 
 function controlOf(node) {
   return node instanceof Element ? node.closest("label")?.control ?? node.closest(CONTROLS) : null;
@@ -33,6 +36,21 @@ function notePointer({ clientX: x, clientY: y, target }) {
   if (control && name !== last.name && name !== trapped && covers(control, last)) trapped = name;
   else if (!still && name !== trapped) trapped = "";
   if (!still) last = { x, y, name };
+}
+
+// A finger is gone between two touches: after a moment it may come to what has come there.
+function onDown(event) {
+  moved = performance.now();
+  if (event.pointerType !== "mouse") {
+    if (moved - touched > DEAD) forgetPointer();
+    touched = moved;
+  }
+  notePointer(event);
+}
+
+function forgetPointer() {
+  last = { x: -1, y: -1, name: "" };
+  trapped = "";
 }
 
 const isRecent = (times, node) => performance.now() - (times.get(node) ?? -DEAD) < DEAD;
@@ -92,10 +110,43 @@ function noteChanges(records) {
     arrived.set(control, before.get(nameOf(control)) ?? performance.now());
     if (isNew(control)) markFresh(control);
   }
+  notePlacesSoon();
+}
+
+function placeOf(control) {
+  const { left, top, right, bottom } = control.getBoundingClientRect();
+  return [left + scrollX, top + scrollY, right + scrollX, bottom + scrollY];
+}
+
+const overlap = (a, b) => a[0] < b[2] && b[0] < a[2] && a[1] < b[3] && b[1] < a[3];
+
+// Where the buttons lie now. One that lies where another did has come there.
+function notePlaces(byChange) {
+  const before = places;
+  places = new Map();
+  for (const control of document.querySelectorAll(BUTTONS)) {
+    const name = nameOf(control), place = placeOf(control), old = before.get(name);
+    places.set(name, place);
+    if (!byChange || !old || (old[0] === place[0] && old[1] === place[1])) continue;
+    if (![...before].some(([other, its]) => other !== name && overlap(its, place))) continue;
+    arrived.set(control, performance.now());
+    markFresh(control);
+  }
+}
+
+let looking = false;
+function notePlacesSoon() {
+  if (looking) return;
+  looking = true;
+  requestAnimationFrame(() => {
+    looking = false;
+    notePlaces(true);
+  });
 }
 
 // What the wheel moved under the pointer was meant to come there.
 function onScroll() {
+  notePlaces(false);
   if (performance.now() - wheel > SCROLLED) return;
   last.name = nameOf(controlOf(document.elementFromPoint(last.x, last.y)));
   trapped = "";
@@ -104,12 +155,11 @@ function onScroll() {
 export function guardPresses() {
   new MutationObserver(noteChanges).observe(document.body, { childList: true, subtree: true });
   addEventListener("pointermove", notePointer, true);
-  addEventListener("pointerdown", notePointer, true);
+  addEventListener("pointerdown", onDown, true);
   addEventListener("click", onClick, true);
   addEventListener("submit", onSubmit, true);
   addEventListener("focusin", onFocus, true);
   addEventListener("keydown", onKey, true);
-  addEventListener("pointerdown", () => { moved = performance.now(); }, true);
   addEventListener("wheel", () => { wheel = performance.now(); }, { capture: true, passive: true });
   addEventListener("scroll", onScroll, true);
 }

@@ -126,6 +126,11 @@ class Browser:
         moves = [{"type": "pointerDown", "button": 0}, {"type": "pointerUp", "button": 0}]
         self.own("POST", "/actions", {"actions": [{"type": "pointer", "id": "mouse", "parameters": {"pointerType": "mouse"}, "actions": moves}]})
 
+    def touch(self, x, y):
+        """A finger's touch."""
+        moves = [{"type": "pointerMove", "duration": 0, "x": x, "y": y}, {"type": "pointerDown", "button": 0}, {"type": "pointerUp", "button": 0}]
+        self.own("POST", "/actions", {"actions": [{"type": "pointer", "id": "finger", "parameters": {"pointerType": "touch"}, "actions": moves}]})
+
     def settled(self, css):
         """It is there; and new controls, which take no press for a moment, have settled."""
         self.find(css)

@@ -53,6 +53,48 @@ def double_press(stage):
     hand.answer("null")
 
 
+def double_touch(stage):
+    """The same by a finger, which needs no other place between two touches, but a moment."""
+    hand = stage.network(granted("KIM", "N13-F12", CUT, ["C1", "C2", "C3"]), "clearance/KIM/1")
+    hand.speak("KIM")
+    name = 'main [data-name="off C1"]'
+    hand.browser.settled(name)
+    place = middle(hand, name)
+    hand.browser.touch(*place)
+    hand.shows("Sign C1 off?", "dialog")
+    wait_until(lambda: not hand.browser.script("return document.querySelector('dialog [data-fresh]') !== null"), "a settled question")
+    hand.browser.script(TOUCHED, *place)
+    hand.reply("accepted", "sign crew C1 off")
+    wait_until(lambda: hand.browser.script("return window.touches") == 2, "two touches")
+    if asked(hand):
+        raise Differs("the second of two quick touches did something")
+    time.sleep(1)
+    hand.browser.touch(*place)
+    hand.shows("off?", "dialog")
+    hand.answer("null")
+
+
+# Says yes; then, as soon as another crew's button lies at this place, touches it twice, 300 ms apart.
+TOUCHED = """
+const [x, y] = arguments;
+window.touches = 0;
+const touch = () => {
+  const node = document.elementFromPoint(x, y), more = { bubbles: true, cancelable: true, clientX: x, clientY: y, pointerType: 'touch', detail: 1 };
+  if (window.touches === 0) window.first = node;
+  for (const kind of ['pointerdown', 'pointerup', 'click']) node.dispatchEvent(new PointerEvent(kind, more));
+  window.touches++;
+};
+document.querySelector('dialog [data-answer=yes]').click();
+const wait = setInterval(() => {
+  const name = document.elementFromPoint(x, y)?.closest('button')?.dataset.name ?? '';
+  if (!name.startsWith('off ') || name === 'off C1') return;
+  clearInterval(wait);
+  touch();
+  setTimeout(touch, 300);
+}, 5);
+"""
+
+
 # Presses a control 450 ms after it has come, as a hand does that meant another.
 SOON = """
 window.tried = false;
@@ -159,4 +201,4 @@ def questions(stage):
     hand.same_reply("accepted", "take the ground off")
 
 
-LOOKS = {"double press": double_press, "new control": new_control, "changed": waiting, "changed field": field, "questions": questions}
+LOOKS = {"double press": double_press, "double touch": double_touch, "new control": new_control, "changed": waiting, "changed field": field, "questions": questions}
