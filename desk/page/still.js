@@ -70,6 +70,8 @@ export function isCurrent(list) {
 }
 
 export function keepStill() {
-  addEventListener("pointermove", ({ clientX: x, clientY: y }) => { pointer = { x, y }; }, { capture: true, passive: true });
+  addEventListener("pointermove", ({ clientX: x, clientY: y, pointerType }) => {
+    pointer = pointerType === "touch" ? null : { x, y }; // a finger does not stay
+  }, { capture: true, passive: true });
   document.documentElement.addEventListener("pointerleave", () => { pointer = null; });
 }

@@ -1,6 +1,7 @@
 """A section that was tested live is an alarm at every desk, until it is tested dead or the clearance is released."""
 
 from desk_looks.browser import Differs, wait_until
+from desk_looks.look_lost import lose
 from desk_looks.network import granted
 
 CUT = ["N13-Q11", "N13-B1", "N13-Q13"]  # of N13-F11 and N13-F12
@@ -103,4 +104,24 @@ def grounded(stage):
         without(hand, "TESTED LIVE", "#alarms")
 
 
-LOOKS = {"live": alarm, "live grounded": grounded}
+def without_reply(stage):
+    """What was found live is an alarm also where the reply is lost, and the register still has the test."""
+    hand = stage.network(granted("KIM", "N13-F12", CUT, ["C1"]), "clearance/KIM/1")
+    hand.speak("KIM")
+
+    def say():
+        hand.press("live N13-F12")
+        hand.answer("yes")
+
+    lose(hand, say, False)
+    hand.found("N13-F12 is still tested dead", "not carried out")
+    hand.shows("TESTED LIVE: N13-F12", "#alarms")
+    hand.browser.click('#replies [data-name$="Give it again"]')
+    hand.reply("accepted", "live")
+    hand.shows("TESTED LIVE: N13-F12", "#alarms")
+    hand.press("dead N13-F12")
+    hand.reply("accepted", "dead")
+    without(hand, "TESTED LIVE", "#alarms")
+
+
+LOOKS = {"live": alarm, "live without reply": without_reply, "live grounded": grounded}
