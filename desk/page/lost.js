@@ -62,7 +62,7 @@ const FOUND = {
 async function tellFound(command, why, known, reply, again) {
   const { found, text } = await asOwn(() => judged(command, known)), isOver = found === "yes" || found === "either";
   if (isOver) dropDraftOf(command);
-  if (found === "yes" && command.do === "instruct") noteGiven({ ...command, round: viewOf(command.clearance)?.card.round }, false);
+  if (isOver && command.do === "instruct") noteGiven({ ...command, round: viewOf(command.clearance)?.card.round }, false);
   const look = async () => {
     await lookNow();
     await tellFound(command, why, known, reply, again);
