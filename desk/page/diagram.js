@@ -210,11 +210,11 @@ function legend() {
   const sign = (text) => el("b", {}, text);
   return el("details", { class: "legend" }, el("summary", {}, "Signs"), el("ul", {},
     entry(sample("point closed told"), "closed"), entry(sample("point open told"), "open"),
-    entry(sample("point closed untold"), "dashed: as in the file, the register does not tell"),
+    entry(sample("point closed untold"), "dashed: as in the file, the register does not say"),
     entry(sign("≠"), "not in its normal position"),
     entry(fenceSample(), "in the fence of the chosen clearance, or of the points that are picked"),
     entry(sample("point closed told way"), "purple: on the way to a source that the picked points leave open"),
     entry(sign("red"), "tested live, until it is tested dead"),
-    entry(sign("O B C T"), "held open, blocked, control off, tagged, behind the owner's name"),
+    entry(sign("O B C T"), "held open, blocked, control off, tagged, after the owner's name"),
     entry(sign("hand"), "its owner's step is given out there")));
 }

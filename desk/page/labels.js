@@ -5,7 +5,7 @@ const CELL = 80;        // of the index of what lies where
 const GAP = 3, PAD = 1; // between a box and its text; around each text
 const RINGS = 5, RING = 13;
 const LINE = 1.18;      // height of a line of text, in sizes
-const ACROSS = 7, ALONG = 2, FARTHER = 4; // what a text costs over a line that lies, over one that rises, one ring farther out
+const ACROSS = 24, ALONG = 2, FARTHER = 4; // what a text costs over a line that lies, over one that rises, one ring farther out
 
 const fonts = document.createElement("canvas").getContext("2d");
 

@@ -55,6 +55,7 @@ def picture(stage):
     hand.turn("board")
     for text in ("Granted", "Switching", "J1", "crews C1"):
         hand.shows(text, "main .board")
+    hand.browser.size(1440, 900)
     hand.browser.point(1, 1)
     hand.browser.script("document.activeElement.blur(); window.scrollTo(0, 0)")
     time.sleep(1)
