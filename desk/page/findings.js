@@ -78,6 +78,18 @@ export function findingsAt({ network, states }, name, { action = null, own = nul
   ];
 }
 
+// The same in a few words, for a list of points to pick from.
+export function flagOf({ states }, name, own = null, known = states()) {
+  const state = known.get(name), holders = holdersOf(state, own);
+  const around = [...room.views].filter(([id, view]) => id !== own && [state.point.from, state.point.to].every((end) => view.fence.includes(end)));
+  return [
+    holders.length ? `held by ${holders.join(", ")}` : "",
+    state.hand && state.hand !== own ? `in hand of ${state.hand}` : "",
+    around.length ? `in the fence of ${around.map(([id]) => id).join(", ")}` : "",
+    isOffNormal(state) ? `${state.position}, normally ${state.point.normal}` : "",
+  ].filter(Boolean).join("; ");
+}
+
 const MADE = { OPEN: "open", LEAVE: "open", CLOSE: "closed" };
 
 // Of each step of an order, by the positions that the steps before it will have made.

@@ -34,7 +34,7 @@ export class OrderEditor {
     this.#view = view;
     this.#network = desk.network;
     this.#desk = desk;
-    this.#picker = new PointPicker(desk.network, () => this.#picked());
+    this.#picker = new PointPicker(desk, () => this.#picked(), view.card.clearance);
     this.#picker.fence = () => (this.#picker.picked.size ? this.#fence().sections : new Set());
     this.#picker.way = () => (this.#picker.picked.size ? this.#fence().sources[0]?.way ?? [] : []);
     this.#list = new StepList(() => this.#keep());

@@ -1,19 +1,24 @@
 // Picking points, from a list or on the diagram, and a list of steps that can be put into another order.
 
 import { el, button, panel } from "./elements.js";
+import { flagOf } from "./findings.js";
 import { marksOf } from "./network.js";
+import { living } from "./notes.js";
 
 const MOST_LISTED = 150;
 
-// A list of all points with a box each; the diagram beside it picks the same.
+// A list of all points with a box each, and a word where something is in the way; the diagram beside it picks the same.
 export class PointPicker {
-  #network; #changed; #filter; #list; #count;
+  #desk; #network; #own; #changed; #filter; #list; #count;
   picked = new Set();
   kind = "point";
   node;
 
-  constructor(network, changed) {
-    this.#network = network;
+  // `own` is the clearance that the points are picked for, if any.
+  constructor(desk, changed, own = null) {
+    this.#desk = desk;
+    this.#network = desk.network;
+    this.#own = own;
     this.#changed = changed;
     this.#filter = el("input", { type: "search", size: 14, "aria-label": "Points or sections with this in their name", placeholder: "point or section", "data-name": "filter" });
     this.#filter.addEventListener("input", () => this.#draw());
@@ -21,7 +26,7 @@ export class PointPicker {
     this.#count = el("span", { class: "hint" });
     this.node = el("fieldset", { class: "picker" }, el("legend", {}, "Points: here, or on the diagram"),
       this.#filter, this.#count, this.#list);
-    this.#draw();
+    living(this.#list, () => this.#draw());
   }
 
   toggle(name) {
@@ -47,13 +52,16 @@ export class PointPicker {
     const first = found.filter((point) => this.picked.has(point.name));
     const shown = [...first, ...found.filter((point) => !this.picked.has(point.name))].slice(0, MOST_LISTED);
     this.#count.textContent = shown.length < found.length ? `the first ${shown.length} of ${found.length}` : `${found.length} ${found.length === 1 ? "point" : "points"}`;
-    panel(this.#list, [shown.map((point) => point.name), [...this.picked]], () => shown.map((point) => this.#row(point)));
+    const known = this.#desk.states();
+    const rows = shown.map((point) => [point.name, this.picked.has(point.name), flagOf(this.#desk, point.name, this.#own, known)]);
+    panel(this.#list, rows, () => rows.map((row) => this.#row(...row)));
   }
 
-  #row(point) {
-    const box = el("input", { type: "checkbox", checked: this.picked.has(point.name), "data-name": `pick ${point.name}`, onchange: () => this.toggle(point.name) });
-    return el("li", {}, el("label", {}, box, el("strong", {}, point.name), ` ${point.from} – ${point.to}`,
-      el("span", { class: "hint" }, `marks: ${marksOf(point)}`)));
+  #row(name, picked, flag) {
+    const point = this.#network.points.get(name);
+    const box = el("input", { type: "checkbox", checked: picked, "data-name": `pick ${name}`, onchange: () => this.toggle(name) });
+    return el("li", {}, el("label", {}, box, el("strong", {}, name), ` ${point.from} – ${point.to} `,
+      el("span", { class: "hint" }, `marks: ${marksOf(point)}`), " ", flag ? el("span", { class: "flag" }, flag) : null));
   }
 }
 

@@ -14,7 +14,7 @@ export class SwitchEditor {
 
   constructor(desk) {
     this.#desk = desk;
-    this.#picker = new PointPicker(desk.network, (name, on) => this.#picked(name, on));
+    this.#picker = new PointPicker(desk, (name, on) => this.#picked(name, on));
     this.#list = new StepList(() => this.#changed(), (place) => this.#list.set(this.#list.steps.filter((_, at) => at !== place)));
     this.node = el("div", { class: "offer editor" },
       el("p", {}, "Pick the points, and say of each whether it is to be opened or closed. A switch order holds nothing."),

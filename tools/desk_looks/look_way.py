@@ -1,6 +1,6 @@
 """What is in the way of a picked point and of a step: a hold, a hand, another's fence, a position that is not normal."""
 
-from desk_looks.browser import ENTER
+from desk_looks.browser import ENTER, wait_until
 from desk_looks.network import granted, ordered, step, steps, switch
 from desk_looks.look_speaking import HELD, JONES, KIM
 
@@ -70,6 +70,9 @@ def not_normal(stage):
     moved = [switch(["OPEN N14-Q12"]), *steps("DISP1/1", ["OPEN N14-Q12"]), *JONES, {"by": "LEE", "do": "request", "section": "N14-F13"}]
     hand = stage.network(moved, "clearance/LEE/1")
     hand.speak("DISP2")
+    hand.browser.type('main [data-name="filter"]', "N14-")
+    for words in ("N14-Q12 N14-F11 – N14-F12 marks: lockable open, normally closed", "TIE1-N13-N14 N13-F13 – N14-F13 marks: lockable held by JONES/1"):
+        wait_until(lambda: words in " ".join(hand.text(".picks").split()), f"in the list: {words}")
     hand.pick("TIE1-N13-N14", "N14-Q12")
     hand.shows("JONES/1 (Granted, crew C1 on) has it held open, blocked, tagged", '.picked-notes [data-at="TIE1-N13-N14"]')
     hand.shows("open now, normally closed", '.picked-notes [data-at="N14-Q12"]')
