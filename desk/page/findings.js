@@ -86,7 +86,7 @@ export function flagOf({ states }, name, own = null, known = states()) {
     holders.length ? `held by ${holders.join(", ")}` : "",
     state.hand && state.hand !== own ? `in hand of ${state.hand}` : "",
     around.length ? `in the fence of ${around.map(([id]) => id).join(", ")}` : "",
-    isOffNormal(state) ? `${state.position}, normally ${state.point.normal}` : "",
+    isOffNormal(state) && !holders.length ? `${state.position}, normally ${state.point.normal}` : "",
   ].filter(Boolean).join("; ");
 }
 
