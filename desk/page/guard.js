@@ -110,7 +110,7 @@ function noteChanges(records) {
     arrived.set(control, before.get(nameOf(control)) ?? performance.now());
     if (isNew(control)) markFresh(control);
   }
-  notePlacesSoon();
+  if (records.some(({ addedNodes, removedNodes }) => [...addedNodes, ...removedNodes].some((node) => node instanceof Element))) notePlaces(true);
 }
 
 function placeOf(control) {
@@ -132,16 +132,6 @@ function notePlaces(byChange) {
     arrived.set(control, performance.now());
     markFresh(control);
   }
-}
-
-let looking = false;
-function notePlacesSoon() {
-  if (looking) return;
-  looking = true;
-  requestAnimationFrame(() => {
-    looking = false;
-    notePlaces(true);
-  });
 }
 
 // What the wheel moved under the pointer was meant to come there.

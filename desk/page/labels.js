@@ -1,49 +1,49 @@
 // Where the texts of the diagram lie. Each has places around its own box, and takes the best that is free: no text lies
 // on another, on a section or on a point. A text that finds none is shortened, and then left out; its title has it.
 
-const CELL = 80;        // of the index of what lies where
+const CELL = 80, ROWS = 1e5; // of the index of what lies where: the size of a cell, and more than there are below one another
 const GAP = 3, PAD = 1; // between a box and its text; around each text
 const RINGS = 5, RING = 13;
 const LINE = 1.18;      // height of a line of text, in sizes
 const ACROSS = 24, ALONG = 2, FARTHER = 4; // what a text costs over a line that lies, over one that rises, one ring farther out
 
 const fonts = document.createElement("canvas").getContext("2d");
+const widths = { true: new Map(), false: new Map() }; // of texts in the size 20, bold and plain
 
 function widthOf(text, size, bold) {
-  fonts.font = `${bold ? "bold " : ""}20px "DejaVu Sans", "Liberation Sans", system-ui, sans-serif`;
-  return (fonts.measureText(text).width * size) / 20;
+  const known = widths[Boolean(bold)];
+  if (!known.has(text)) {
+    fonts.font = `${bold ? "bold " : ""}20px "DejaVu Sans", "Liberation Sans", system-ui, sans-serif`;
+    known.set(text, fonts.measureText(text).width);
+  }
+  return (known.get(text) * size) / 20;
 }
 
 // Rectangles [left, top, right, bottom] by the cells that they touch.
 class Places {
   #cells = new Map();
 
-  #keys([left, top, right, bottom]) {
-    const keys = [];
+  #each([left, top, right, bottom], does) {
     for (let x = Math.floor(left / CELL); x <= Math.floor(right / CELL); x++) {
-      for (let y = Math.floor(top / CELL); y <= Math.floor(bottom / CELL); y++) keys.push(`${x},${y}`);
+      for (let y = Math.floor(top / CELL); y <= Math.floor(bottom / CELL); y++) does(x * ROWS + y);
     }
-    return keys;
   }
 
   add(rect) {
-    for (const key of this.#keys(rect)) (this.#cells.get(key) ?? this.#cells.set(key, []).get(key)).push(rect);
+    this.#each(rect, (cell) => (this.#cells.get(cell) ?? this.#cells.set(cell, []).get(cell)).push(rect));
   }
 
   // Those that lie over this one.
-  *over([left, top, right, bottom]) {
-    const seen = new Set();
-    for (const key of this.#keys([left, top, right, bottom])) {
-      for (const one of this.#cells.get(key) ?? []) {
-        if (seen.has(one)) continue;
-        seen.add(one);
-        if (one[0] < right && left < one[2] && one[1] < bottom && top < one[3]) yield one;
-      }
-    }
+  over(rect) {
+    const [left, top, right, bottom] = rect, found = new Set();
+    this.#each(rect, (cell) => {
+      for (const one of this.#cells.get(cell) ?? []) if (one[0] < right && left < one[2] && one[1] < bottom && top < one[3]) found.add(one);
+    });
+    return found;
   }
 
   isFree(rect) {
-    return this.over(rect).next().done;
+    return this.over(rect).size === 0;
   }
 }
 
@@ -85,11 +85,10 @@ function inside({ inside: size, bold, box: [left, top, right, bottom] }, form) {
 }
 
 export class Labels {
-  #solid = new Places(); #lines = new Places(); #boxes;
+  #solid = new Places(); #lines = new Places();
 
   // Boxes are what no text may lie on; paths are lines, which it had better not.
   constructor(boxes, paths) {
-    this.#boxes = boxes;
     for (const box of boxes) this.#solid.add(box);
     for (const part of paths.flatMap(partsOf)) this.#lines.add(part);
   }
@@ -106,6 +105,7 @@ export class Labels {
     if (within) return within;
     let best = null;
     for (const [x, y, cost, ring] of around(label.box, width, height, label.sides, label.rings ?? RINGS)) {
+      if (best && best.cost <= ring * FARTHER) break;
       if (best && best.cost <= cost) continue;
       const rect = [x - PAD, y - PAD, x + width + PAD, y + height + PAD];
       if (!this.#solid.isFree(rect) || !taken.isFree(rect)) continue;

@@ -16,7 +16,7 @@ const KINDS = ["live", "bad", "plain"];     // of the marks at a section, the wo
 const SIDES = { row: ["above", "below", "right", "left"], upright: ["right", "left", "below", "above"], lane: ["above", "below", "right", "left"] };
 
 export class Writing {
-  #network; #plan; #labels; #factor = 1; #inside = NAME; #seen = null; #key = "";
+  #network; #plan; #labels; #factor = 0; #inside = NAME; #seen = null; #key = "";
   node = svg("g", { class: "writing" });
 
   constructor(network, plan) {
@@ -36,7 +36,7 @@ export class Writing {
     return [x - HALF, y - HALF, x + HALF, y + HALF];
   }
 
-  // The scale at which the drawing is shown.
+  // The scale at which the drawing is shown. Before that is known nothing is written.
   atScale(scale) {
     const factor = Math.max(1, Math.ceil((LEAST / (LABEL * scale)) * PART) / PART);
     const inside = NAME * scale >= LEAST_INSIDE ? NAME : 0;
@@ -49,6 +49,7 @@ export class Writing {
   // What is known now: `picked(kind, name)` is whether it is picked.
   write(seen) {
     this.#seen = seen;
+    if (!this.#factor) return;
     const labels = [...this.#sectionLabels(seen), ...this.#pointLabels(seen)];
     const key = JSON.stringify([this.#factor, this.#inside, labels.map(({ rank, forms, kind }) => [rank, forms, kind])]);
     if (key === this.#key) return;
