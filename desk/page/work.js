@@ -1,6 +1,6 @@
 // Work under a granted clearance: tests, grounds and crews, by its holder.
 
-import { liveUnder, untested } from "./alarm.js";
+import { alarms, liveUnder, untested } from "./alarm.js";
 import { ask } from "./ask.js";
 import { drafted, draftName } from "./drafts.js";
 import { el, button, field, table } from "./elements.js";
@@ -51,12 +51,12 @@ function sectionRow(view, section, act) {
         : button("Ground is on", () => give({ do: "ground" }), { "data-name": `ground ${section}`, "aria-label": `ground of ${section} is on` })));
 }
 
-// Where a section was tested live, a crew is signed on only after a question.
+// Where a section of the fence was tested live, under another clearance too, a crew is signed on only after a question.
 async function signOn(view, crew, act) {
-  const { clearance } = view.card, live = liveUnder(clearance);
+  const { clearance } = view.card, live = alarms().filter(({ id, section }) => id === clearance || view.fence.includes(section));
   if (live.length) {
     const answer = await ask(`Sign ${crew} on beside an alarm?`, [
-      `Tested live under ${clearance}: ${live.join(", ")}.`, `A crew that is signed on works under ${clearance}.`,
+      ...live.map(({ id, section }) => `Tested live under ${id}: ${section}.`), `A crew that is signed on works under ${clearance}.`,
     ], [["yes", `Sign ${crew} on all the same`], [null, "Do not sign it on"]]);
     if (answer !== "yes") return;
   }

@@ -1,6 +1,6 @@
 """A section that was tested live is an alarm at every desk, until it is tested dead or the clearance is released."""
 
-from desk_looks.browser import Differs, wait_until
+from desk_looks.browser import ENTER, Differs, wait_until
 from desk_looks.look_lost import lose
 from desk_looks.network import granted
 
@@ -59,7 +59,7 @@ def alarm(stage):
 
 
 def sign_on_asks(hand):
-    hand.browser.type('main [data-name="crew"]', "C2\ue007")
+    hand.browser.type('main [data-name="crew"]', "C2" + ENTER)
     hand.shows("Tested live under KIM/1: N13-F11", "dialog")
     hand.answer("null")
     if hand.newest()[0] != hand.number:
@@ -104,6 +104,18 @@ def grounded(stage):
         without(hand, "TESTED LIVE", "#alarms")
 
 
+def other_clearance(stage):
+    """A section that was found live under one clearance asks before a crew signs on under another that has it, too."""
+    hand = stage.network([*granted("KIM", "N13-F12", CUT, ["C1"]), *granted("JONES", "N13-F12", CUT, ["C5"])], "clearance/KIM/1")
+    hand.speak("KIM")
+    say_live(hand, "N13-F12")
+    hand.turn("clearance/JONES/1")
+    hand.speak("JONES")
+    hand.browser.type('main [data-name="crew"]', "C6" + ENTER)
+    hand.shows("Tested live under KIM/1: N13-F12", "dialog")
+    hand.answer("null")
+
+
 def without_reply(stage):
     """What was found live is an alarm also where the reply is lost, and the register still has the test."""
     hand = stage.network(granted("KIM", "N13-F12", CUT, ["C1"]), "clearance/KIM/1")
@@ -124,4 +136,4 @@ def without_reply(stage):
     without(hand, "TESTED LIVE", "#alarms")
 
 
-LOOKS = {"live": alarm, "live without reply": without_reply, "live grounded": grounded}
+LOOKS = {"live": alarm, "live elsewhere": other_clearance, "live without reply": without_reply, "live grounded": grounded}
