@@ -91,8 +91,10 @@ function onFocus({ target }) {
   if (target.matches?.("button, input, select")) markFresh(target);
 }
 
-function onKey({ key, altKey }) {
-  if (key === "Tab" || altKey) moved = performance.now();
+// A key that is held down presses once.
+function onKey(event) {
+  if (event.key === "Tab" || event.altKey) moved = performance.now();
+  if (event.repeat && event.key === "Enter") event.preventDefault();
 }
 
 function controlsIn(nodes) {

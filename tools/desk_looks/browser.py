@@ -146,6 +146,18 @@ class Browser:
         steps = [{"type": kind, "value": sign} for sign in text for kind in ("keyDown", "keyUp")]
         self.own("POST", "/actions", {"actions": [{"type": "key", "id": "keys", "actions": steps}]})
 
+    def hold_enter(self, seconds):
+        """Enter, held down for so long."""
+        def key(kind, again):
+            words = {"type": kind, "key": "Enter", "code": "Enter", "windowsVirtualKeyCode": 13, "text": "\r", "autoRepeat": again}
+            self.own("POST", "/goog/cdp/execute", {"cmd": "Input.dispatchKeyEvent", "params": words})
+        end, again = time.monotonic() + seconds, False
+        while time.monotonic() < end:
+            key("keyDown", again)
+            again = True
+            time.sleep(0.03)
+        key("keyUp", False)
+
     def chord(self, held, sign):
         """A key while another is held down."""
         pairs = [("keyDown", held), ("keyDown", sign), ("keyUp", sign), ("keyUp", held)]

@@ -1,9 +1,10 @@
 """One row for a step at a desk that speaks for several."""
 
 import json
+import time
 
 from desk_looks.browser import ENTER, Differs, say, wait_until
-from desk_looks.network import ordered
+from desk_looks.network import needed, ordered, step
 
 CUT = ["N11-Q12", "N11-Q13"]
 
@@ -46,4 +47,18 @@ def row(stage):
     say(f"  {len(texts)} steps: {keys} times Enter beside the repeats, and no change of name")
 
 
-LOOKS = {"several": row}
+def held_key(stage):
+    """Enter that is held down on `is done` does not give out the next step."""
+    texts = needed(CUT)
+    hand = stage.network([*ordered("KIM", "N11-F12", CUT), *step("KIM/1", 1, texts[0], "repeat")], "clearance/KIM/1")
+    hand.speak("DISP1")
+    hand.browser.click("#several")
+    hand.browser.settled('main [data-name="done"]')
+    hand.browser.script("document.querySelector('main [data-name=done]').focus()")
+    time.sleep(1)
+    hand.browser.hold_enter(4)
+    hand.reply("accepted", "report step 1")
+    hand.nothing_sent(1)
+
+
+LOOKS = {"several": row, "several-held-key": held_key}
