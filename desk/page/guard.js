@@ -19,9 +19,9 @@ function controlOf(node) {
   return node instanceof Element ? node.closest("label")?.control ?? node.closest(CONTROLS) : null;
 }
 
-// What a control is to its reader: the same after it was drawn again.
+// What a control is to its reader: the same after it was drawn again. One that was disabled is another.
 function nameOf(control) {
-  return control ? `${control.dataset.name ?? ""} ${control.textContent || control.getAttribute("aria-label") || control.value}` : "";
+  return control ? `${control.disabled ? "disabled " : ""}${control.dataset.name ?? ""} ${control.textContent || control.getAttribute("aria-label") || control.value}` : "";
 }
 
 function covers(control, { x, y }) {

@@ -92,10 +92,10 @@ export function severalControl({ view, act, staff, desk, caller }) {
     part === "giver" ? stepNotes(desk, view, step) : null,
     el("div", { class: "cells" },
       cell("Given by", part === "giver", giver,
-        el("div", { class: "answers" }, button("Instruct", does.giver, { class: "main", "data-name": "instruct", "data-goes": goes("giver") }))),
+        el("div", { class: "answers" }, button(`Instruct step ${step.number}`, does.giver, { class: "main", "data-name": "instruct", "data-goes": goes("giver") }))),
       cell("Repeated by", part === "hearer", hearer,
-        el("div", { class: "answers" }, field("As it was heard", heard), el("button", { class: "main", "data-name": "repeat" }, "Repeat"))),
+        el("div", { class: "answers" }, field("As it was heard", heard), el("button", { class: "main", "data-name": "repeat" }, `Repeat step ${step.number}`))),
       cell("Reported by", part === "reporter", reporter,
-        el("div", { class: "answers" }, button("is done", () => does.reporter(true), { class: "main", "data-name": "done", "data-goes": goes("reporter") }),
-          button("was not done", () => does.reporter(false), { "data-name": "not-done" })))));
+        el("div", { class: "answers" }, button(`Step ${step.number} is done`, () => does.reporter(true), { class: "main", "data-name": "done", "data-goes": goes("reporter") }),
+          button(`Step ${step.number} was not done`, () => does.reporter(false), { "data-name": "not-done" })))));
 }

@@ -4,6 +4,7 @@ import json
 import time
 
 from desk_looks.browser import ENTER, Differs, say, wait_until
+from desk_looks.look_accident import middle
 from desk_looks.network import needed, ordered, step
 
 CUT = ["N11-Q12", "N11-Q13"]
@@ -47,6 +48,22 @@ def row(stage):
     say(f"  {len(texts)} steps: {keys} times Enter beside the repeats, and no change of name")
 
 
+def other_step(stage):
+    """The pointer is on Instruct of step 1, which another desk does meanwhile: what comes there does not give out step 2."""
+    hand = stage.network(ordered("KIM", "N11-F12", CUT), "clearance/KIM/1")
+    hand.speak("DISP1")
+    hand.browser.click("#several")
+    hand.browser.settled('main [data-name="instruct"]')
+    hand.browser.point(1, 1, *middle(hand, 'main [data-name="instruct"]'))
+    for command in step("KIM/1", 1, needed(CUT)[0]):
+        hand.post(command)
+    hand.shows("Step 2 of", "main .several")
+    hand.browser.press()
+    time.sleep(1)
+    hand.browser.press()
+    hand.nothing_sent(3)
+
+
 def held_key(stage):
     """Enter that is held down on `is done` does not give out the next step."""
     texts = needed(CUT)
@@ -61,4 +78,4 @@ def held_key(stage):
     hand.nothing_sent(1)
 
 
-LOOKS = {"several": row, "several-held-key": held_key}
+LOOKS = {"several": row, "several-other-step": other_step, "several-held-key": held_key}
