@@ -77,10 +77,11 @@ export class BoardPage {
     const chosen = this.#desk.chosen();
     const views = room.board.map((row) => viewOf(row.id)).map((view) => [view?.card, view?.fence.length, stepsWords(view), workWords(view)]);
     const lines = [...room.board, ...room.jumpers].map((row) => row.line);
-    panel(this.#rows, [room.read === null, lines, views, chosen], () => {
+    panel(this.#rows, [room.read === null, lines, views, chosen, Boolean(this.#desk.caller)], () => {
       if (room.read === null) return el("p", {}, "The board was not read yet.");
+      const nobody = this.#desk.caller ? null : el("p", { class: "warning" }, "Say who you are, above: without a name no steps, no work and no alarms of other desks are shown.");
       const jumpers = room.jumpers.length ? table(["Jumper", "From", "To", "Position"], room.jumpers.map(jumperRow)) : null;
-      return [recordsTable(staff, chosen), jumpers];
+      return [nobody, recordsTable(staff, chosen), jumpers];
     });
   }
 }

@@ -50,12 +50,12 @@ function focusIn(node) {
   const focus = document.activeElement;
   if (!node.contains(focus) || !focus.dataset.name) return null;
   const text = focus.matches("input[type=text], input:not([type]), textarea");
-  return { name: focus.dataset.name, at: text ? [focus.selectionStart, focus.selectionEnd] : null };
+  return { name: focus.dataset.name, said: focus.matches("button") ? focus.textContent : null, at: text ? [focus.selectionStart, focus.selectionEnd] : null };
 }
 
 // Draws a panel where its key is another than the one that it was drawn with, so that nothing flickers, and nothing
-// that is being typed is lost. The focus stays on the control of the same name where there is one. A list that is under
-// the pointer, or has the focus, waits.
+// that is being typed is lost. The focus stays on the control of the same name where there is one, and where a button
+// says the same as before. A list that is under the pointer, or has the focus, waits.
 export function panel(node, key, draw) {
   const text = JSON.stringify(key);
   if (drawn.get(node) === text) {
@@ -69,6 +69,7 @@ export function panel(node, key, draw) {
   node.replaceChildren(...[content].flat().filter(Boolean));
   if (!focus) return true;
   const control = node.querySelector(`[data-name="${CSS.escape(focus.name)}"]`);
+  if (focus.said !== null && control?.textContent !== focus.said) return true;
   control?.focus();
   if (focus.at && control?.setSelectionRange) control.setSelectionRange(...focus.at);
   return true;
