@@ -1,6 +1,6 @@
 -- Connections one after the other: an input has one outcome, and a connection more goes on where the earlier ones ended.
 use Rattle.std.proofs.Common.{◌≡◌, ◌≤◌, ◌<◌, ◌+◌, ◌-◌, ◌^◌, ◌∙◌, ℕ, List, [], ◌∷◌, ◌++◌, Option, None, Some, inl, inr, refl, sym, ap, subst, arith, get_or, length, map, take, Ok, unwrap_or}
-use Rattle.std.proofs.lemmas.List.{get_or-map, length-map, map-append, take_more}
+use Rattle.std.proofs.lemmas.List.{get_or-map, length-map, map-append, take_all, take_more}
 use Rattle.std.specs.Io.KnownBytes.{Appends}
 use Rattle.httparse.proofs.GrammarLemmas.{request_unique}
 use Rattle.clr_stream.specs.Failures.{one_more}
@@ -105,3 +105,9 @@ module _ {X Y : Type 0} (f : X → List ℕ) (g : Y → List ℕ) where
       let one : IsExchange now next (f (get_or xs i x)) (g y) =
       subst (λ (bytes : List ℕ). IsExchange now next bytes (g y)) same (exchange here) in
       rw (inputs, told) (further first now next _ _ _ _ small far one)
+
+  pub all_far : (first now : Keeper) (xs : List X) (i : ℕ) (told : List (List ℕ)) → length xs ≤ i
+      → IsFar first now (take i (map f xs)) told → now.faults ≡ first.faults → RespondsAll first.register (map f xs) told now.register
+  all_far first now xs i told le far same =
+      let whole : take i (map f xs) ≡ map f xs = take_all i (map f xs) (omega (arith, le, length-map xs f)) in
+      subst (λ (inputs : List (List ℕ)). RespondsAll first.register inputs told now.register) whole (far.same same)
