@@ -1,0 +1,206 @@
+"""The part of tools/try-deb that runs in a Debian of its own, with processes, mounts and ports of its own:
+
+    python3 tools/deb/inside.py ROOT
+
+ROOT has what the package depends on, and in /srv the packages and files. It ends with a line of two counts."""
+
+import lzma
+import os
+import pathlib
+import re
+import subprocess
+import sys
+import time
+
+from tally import Tally
+
+TOP = pathlib.Path(__file__).resolve().parent.parent.parent
+COMMAND = '{"at":1795503600,"by":"JONES","do":"request","section":"L2"}'
+DATA, LOGS, ETC = "var/lib/gridclear", "var/log/gridclear", "etc/gridclear"
+
+
+class Root:
+    def __init__(self, folder):
+        self.folder = pathlib.Path(folder)
+
+    def run(self, line, stdin=""):
+        """A line of a shell in it, in /srv: the status, and all that was printed."""
+        call = ["chroot", str(self.folder), "bash", "-c", f"cd /srv; {line}"]
+        env = {"PATH": "/usr/local/sbin:/usr/local/bin:/usr/sbin:/usr/bin:/sbin:/bin", "HOME": "/root", "LC_ALL": "C.UTF-8", "DEBIAN_FRONTEND": "noninteractive"}
+        done = subprocess.run(call, env=env, input=stdin, stdout=subprocess.PIPE, stderr=subprocess.STDOUT, text=True, check=False)
+        return done.returncode, done.stdout
+
+    def path(self, name):
+        return self.folder / name
+
+    def owner(self, name):
+        """The mode and owners of a path."""
+        return self.run(f"stat -c '%a %U:%G' /{name}")[1].strip()
+
+    def curl(self, path, *words, port=8090):
+        quoted = " ".join(f"'{word}'" for word in words)
+        found = self.run(f"curl -s -m 20 -w ' %{{http_code}}' {quoted} http://127.0.0.1:{port}{path}")[1]
+        body, _, status = found.rpartition(" ")
+        return status, body
+
+    def register(self):
+        """The bytes of the register; it is stopped."""
+        return {one.name: one.read_bytes() for one in self.path(DATA).glob("room.db*")}
+
+
+def guide_lines():
+    """The lines of the guide that install the package."""
+    text = (TOP / "docs" / "OPERATING.md").read_text(encoding="utf-8")
+    return re.search(r"((?:^    .*\n)*^    apt install.*\n(?:^    .*\n)*)", text, re.M).group(1).replace("    ", "").splitlines()
+
+
+def install(root, tally):
+    print("the lines of the guide", flush=True)
+    printed = ""
+    for line in guide_lines():
+        status, out = root.run(line)
+        tally.check(f"{line}", status == 0, out)
+        printed += out
+    tally.check("the files were counted, and looked at", "sections 5 points 5 staff 6" in printed and "KIM BOSS" in printed and "sources: G H" in printed, printed)
+    tally.check("the register answers", root.curl("/board", port=8080) == ("200", "BOARD 0\n"), root.curl("/board", port=8080))
+    status, page = root.curl("/")
+    tally.check("the page is there", status == "200" and "gridclear desk" in page, page)
+    tally.check("and its files", root.curl("/page.js")[0] == "200" and root.curl("/network/staff.csv")[1] == (TOP / "examples" / "staff.csv").read_text())
+    tally.check("a command by the page", root.curl("/command", "-d", COMMAND)[0] == "200")
+    tally.check("a page of another site is refused", root.curl("/board", "-H", "Sec-Fetch-Site: cross-site")[0] == "403")
+    log = root.path(f"{LOGS}/commands.log").read_text()
+    tally.check("the log has it", log.count("\n") == 1 and "JONES" in log, log)
+    wanted = {DATA: "700 gridclear:gridclear", f"{DATA}/room.db": "600 gridclear:gridclear", LOGS: "2750 www-data:adm",
+              f"{LOGS}/commands.log": "640 www-data:adm", ETC: "755 root:root", f"{ETC}/gridclear.conf": "644 root:root"}
+    for name, owner in wanted.items():
+        tally.check(f"/{name} is {owner}", root.owner(name) == owner, root.owner(name))
+    owners = root.run("ps -eo user:20,args | grep -E 'gridclear (serve)|nginx: ' | grep -v grep")[1]
+    tally.check("neither runs as root", len(owners.splitlines()) == 3 and "root" not in owners, owners)
+
+
+def refusals(root, tally):
+    print("gridclear-setup over a register, and with other files", flush=True)
+    root.run("systemctl stop gridclear")
+    before = root.register()
+    status, out = root.run("gridclear-setup")
+    tally.check("it refuses over a register", status == 1 and "is a register already" in out and root.register() == before, out)
+    tally.check("--check makes nothing", root.run("gridclear-setup --check")[0] == 0 and root.register() == before)
+    status, out = root.run("gridclear-setup --board")
+    tally.check("--board prints it", status == 0 and out.startswith("BOARD 1\nJONES/1"), out)
+    status, out = root.run("sed -i 's/^OFFSET=.*/OFFSET=-300/' /etc/gridclear/gridclear.conf; gridclear-setup --board")
+    tally.check("by the clock of OFFSET", status == 0 and "-05:00 JONES" in out, out)
+    root.run("systemctl start gridclear")
+    status, out = root.run("gridclear-setup --board")
+    tally.check("not while it is served", status == 1 and "is served" in out, out)
+    for call in ("--login", "--login A B", "--other"):
+        tally.check(f"{call} is no call", root.run(f"gridclear-setup {call}")[0] == 2)
+    for name, old, new in (("staff", "operator", "field"), ("sections", "yes", "no"), ("points", "S2,", "s2,")):
+        file = root.path(f"{ETC}/network/{name}.csv")
+        text = file.read_text()
+        file.write_text(text.replace(old, new))
+        status, out = root.run("gridclear-setup --check")
+        tally.check(f"{name}.csv with {new} for {old} is refused", status == 1, out)
+        file.write_text(text)
+
+
+def logins(root, tally):
+    print("logins, ports, and the log's rotation", flush=True)
+    status, out = root.run("gridclear-setup --login OPS && gridclear-setup --login OPS && gridclear-setup --login KIM && systemctl restart gridclear-desk", "a word\n")
+    tally.check("an empty password is none", status == 1, out)
+    for name, word in (("OPS", "first"), ("KIM", "other"), ("OPS", "second")):
+        status, out = root.run(f"gridclear-setup --login {name}", f"{word}\n")
+        tally.check(f"a login for {name}", status == 0, out)
+    tally.check("the logins are nginx's alone", root.owner(f"{ETC}/users") == "640 root:www-data", root.owner(f"{ETC}/users"))
+    root.run("systemctl restart gridclear-desk")
+    found = [root.curl("/board", *words)[0] for words in ((), ("-u", "OPS:first"), ("-u", "OPS:second"), ("-u", "KIM:other"))]
+    tally.check("the page asks for it", found == ["401", "401", "200", "200"], found)
+    config = root.path(f"{ETC}/gridclear.conf")
+    config.write_text(config.read_text().replace("=8080", "=8180").replace("=8090", "=8190"))
+    root.run("systemctl restart gridclear gridclear-desk")
+    found = root.curl("/board", port=8180)[0], root.curl("/board", "-u", "OPS:second", port=8190)[0], root.curl("/board")[0]
+    tally.check("other ports", found == ("200", "200", "000"), found)
+    config.write_text(config.read_text().replace("=8180", "=8080").replace("=8190", "=8090"))
+    root.run("rm /etc/gridclear/users; systemctl restart gridclear gridclear-desk")
+    status, out = root.run("logrotate -f /etc/logrotate.d/gridclear")
+    time.sleep(2)
+    root.curl("/command", "-d", COMMAND)
+    time.sleep(2)
+    logs = {one.name: one.read_text().count("\n") for one in root.path(LOGS).iterdir()}
+    tally.check("the log is rotated, and goes on", status == 0 and logs == {"commands.log": 1, "commands.log.1": 1}, f"{out} {logs}")
+    tally.check("the new one is nobody else's", root.owner(f"{LOGS}/commands.log") == "640 www-data:adm", root.owner(f"{LOGS}/commands.log"))
+
+
+def upgrade(root, tally):
+    print("an upgrade, removing, purging, and the package again", flush=True)
+    board = root.curl("/board", port=8080)
+    pid = root.run("cat /run/gridclear.pid /run/gridclear-desk.pid")[1]
+    status, out = root.run("apt install ./next/gridclear_*_amd64.deb")
+    tally.check("the next package is installed over a served register", status == 0, out)
+    tally.check("both were restarted", root.run("cat /run/gridclear.pid /run/gridclear-desk.pid")[1] != pid and root.curl("/board")[0] == "200", out)
+    tally.check("the board is that from before", root.curl("/board", port=8080) == board)
+    tally.check("the old program is kept", root.path("var/backups/gridclear").is_dir() and os.listdir(root.path("var/backups/gridclear")) != [])
+    tally.check("the changed configuration is kept", "OFFSET=-300" in root.path(f"{ETC}/gridclear.conf").read_text())
+    status, out = root.run("apt-get remove -y gridclear")
+    tally.check("removing stops both", status == 0 and root.curl("/board")[0] == "000" and root.curl("/board", port=8080)[0] == "000", out)
+    before, kept = root.register(), sorted(os.listdir(root.path(LOGS)))
+    status, out = root.run("apt-get purge -y gridclear")
+    tally.check("purging says what is left", status == 0 and all(f"/{name} is left as it is" in out for name in (DATA, LOGS, ETC)), out)
+    tally.check("the register and the logs are left", root.register() == before and len(before) == 2 and sorted(os.listdir(root.path(LOGS))) == kept)
+    status, out = root.run("apt install ./gridclear_*_amd64.deb")
+    tally.check("the package is installed again", status == 0 and root.register() == before, out)
+    tally.check("over a register it makes none", root.run("gridclear-setup")[0] == 1 and root.register() == before)
+    root.run("systemctl enable --now gridclear gridclear-desk")
+    tally.check("nothing was lost", root.curl("/board", port=8080) == board, root.curl("/board", port=8080))
+
+
+def old_program(root, board):
+    """A package with a stand-in for a program of version 1, in place of this one."""
+    script = f"#!/bin/sh\ncase $1 in\n  serve) exec sleep 1000 ;;\n  board) cat <<'END'\n{board}END\n  ;;\nesac\n"
+    root.run("rm -rf old; dpkg-deb -R gridclear_*_amd64.deb old; sed -i 's/^Version: .*/Version: 0.9.0/' old/DEBIAN/control")
+    root.path("srv/old/usr/bin/gridclear").write_text(script)
+    return root.run("dpkg-deb --root-owner-group -Znone -b old gridclear_0.9.0.deb && apt-get install -y --allow-downgrades ./gridclear_0.9.0.deb && rm gridclear_0.9.0.deb")
+
+
+def migrate(root, tally):
+    print("a register of an earlier version", flush=True)
+    told = (TOP / "tools" / "try" / "version-1.told").read_text(encoding="utf-8")
+    board = told[:told.index("ORDER ")]
+    root.run("systemctl stop gridclear; rm -rf /var/backups/gridclear /var/lib/gridclear/*")
+    root.path(f"{DATA}/room.db").write_bytes(lzma.decompress((TOP / "tools" / "try" / "version-1.db.xz").read_bytes()))
+    root.run("chown gridclear: /var/lib/gridclear/room.db; chmod 600 /var/lib/gridclear/room.db")
+    before = root.register()
+    status, out = root.run("gridclear-setup --migrate")
+    tally.check("without an old program it is left", status == 1 and root.register()["room.db"] == before["room.db"] and "no old program" in out, out)
+    status, out = old_program(root, board)
+    tally.check("the old package", status == 0, out)
+    root.run("systemctl start gridclear")
+    status, out = root.run("apt install ./gridclear_*_amd64.deb")
+    tally.check("the upgrade leaves it stopped, and says so", status == 0 and "gridclear-setup --migrate" in out and root.run("systemctl is-active gridclear")[0] != 0, out)
+    tally.check("and as it was", root.register()["room.db"] == before["room.db"])
+    root.run("printf '#!/bin/sh\\necho BOARD 7\\n' > /srv/liar; chmod 755 /srv/liar")
+    status, out = root.run("gridclear-setup --migrate /srv/liar")
+    tally.check("another board puts it back", status == 1 and root.register()["room.db"] == before["room.db"] and "another one" in out, out)
+    status, out = root.run("gridclear-setup --migrate")
+    tally.check("it is moved", status == 0 and "the board is that from before" in out, out)
+    copies = [one for one in root.path(DATA).glob("before-*") if one.is_dir()]
+    tally.check("a copy is kept", any((one / "room.db").read_bytes() == before["room.db"] for one in copies))
+    tally.check("its board", root.run("gridclear-setup --board | sed 's/ -05:00/ +00:00/' | wc -l")[1].strip() == str(board.count("\n")))
+    status, out = root.run("gridclear-setup --migrate && systemctl start gridclear && curl -s http://127.0.0.1:8080/board")
+    tally.check("again it moves nothing; and the register answers", status == 0 and "nothing to move" in out and out.endswith(board), out)
+
+
+def main():
+    root, tally = Root(sys.argv[1]), Tally()
+    subprocess.run(["ip", "link", "set", "lo", "up"], check=True)
+    for name, kind in (("proc", "proc"), ("dev", "devtmpfs"), ("run", "tmpfs")):
+        subprocess.run(["mount", "-t", kind, kind, str(root.path(name))], check=True)
+    root.run("mkdir -p /run/systemd/system")
+    for part in (install, refusals, logins, upgrade, migrate):
+        part(root, tally)
+    asked = root.path("run/asked").read_text()
+    tally.check("systemd was asked to read the units again", "--system daemon-reload" in asked, asked)
+    print(f"{tally.passed} {tally.failed}")
+
+
+if __name__ == "__main__":
+    main()
