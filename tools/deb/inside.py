@@ -4,6 +4,7 @@
 
 ROOT has what the package depends on, and in /srv the packages and files. It ends with a line of two counts."""
 
+import json
 import lzma
 import os
 import pathlib
@@ -48,20 +49,25 @@ class Root:
         return {one.name: one.read_bytes() for one in self.path(DATA).glob("room.db*")}
 
 
-def guide_lines():
-    """The lines of the guide that install the package."""
+def guide(mark):
+    """The lines of the guide in the block that has this word."""
     text = (TOP / "docs" / "OPERATING.md").read_text(encoding="utf-8")
-    return re.search(r"((?:^    .*\n)*^    apt install.*\n(?:^    .*\n)*)", text, re.M).group(1).replace("    ", "").splitlines()
+    found = [one for one in re.findall(r"(?:^    .*\n)+", text, re.M) if mark in one]
+    if len(found) != 1:
+        sys.exit(f"try-deb: docs/OPERATING.md has {len(found)} blocks with {mark}")
+    return re.sub(r"^    ", "", found[0], flags=re.M).splitlines()
 
 
 def install(root, tally):
     print("the lines of the guide", flush=True)
     printed = ""
-    for line in guide_lines():
+    for line in guide("apt install"):
         status, out = root.run(line)
         tally.check(f"{line}", status == 0, out)
         printed += out
     tally.check("the files were counted, and looked at", "sections 5 points 5 staff 6" in printed and "KIM BOSS" in printed and "sources: G H" in printed, printed)
+    status, out = root.run("; ".join(guide("gridclear init /etc")))
+    tally.check("the user reads the files", status == 0 and out == "sections 5 points 5 staff 6\n", out)
     tally.check("the register answers", root.curl("/board", port=8080) == ("200", "BOARD 0\n"), root.curl("/board", port=8080))
     status, page = root.curl("/")
     tally.check("the page is there", status == "200" and "gridclear desk" in page, page)
@@ -114,6 +120,7 @@ def logins(root, tally):
     root.run("systemctl restart gridclear-desk")
     found = [root.curl("/board", *words)[0] for words in ((), ("-u", "OPS:first"), ("-u", "OPS:second"), ("-u", "KIM:other"))]
     tally.check("the page asks for it", found == ["401", "401", "200", "200"], found)
+    port_443(root, tally)
     config = root.path(f"{ETC}/gridclear.conf")
     config.write_text(config.read_text().replace("=8080", "=8180").replace("=8090", "=8190"))
     root.run("systemctl restart gridclear gridclear-desk")
@@ -126,8 +133,21 @@ def logins(root, tally):
     root.curl("/command", "-d", COMMAND)
     time.sleep(2)
     logs = {one.name: one.read_text().count("\n") for one in root.path(LOGS).iterdir()}
-    tally.check("the log is rotated, and goes on", status == 0 and logs == {"commands.log": 1, "commands.log.1": 1}, f"{out} {logs}")
+    tally.check("the log is rotated, and goes on", status == 0 and logs == {"commands.log": 1, "commands.log.1": 2}, f"{out} {logs}")
     tally.check("the new one is nobody else's", root.owner(f"{LOGS}/commands.log") == "640 www-data:adm", root.owner(f"{LOGS}/commands.log"))
+
+
+def port_443(root, tally):
+    """Desks on other machines: the package's lines for Debian's own nginx."""
+    certificate = guide("openssl req")[0]
+    status, out = root.run(f"cp /usr/share/gridclear/port-443.conf /etc/nginx/conf.d/register.conf && {certificate} && nginx")
+    tally.check("nginx takes the lines of port 443", status == 0, out)
+    call = "curl -s -m 20 -k --resolve register.example:443:127.0.0.1 -w ' %{http_code}' https://register.example"
+    found = [root.run(f"{call}{words}")[1][-3:] for words in ("/board", "/board -u OPS:first", "/board -u KIM:other", f"/command -u KIM:other -d '{COMMAND}'")]
+    tally.check("port 443 asks for the same logins", found[:3] == ["401", "401", "200"] and found[3] in ("200", "409"), found)
+    logs = [json.loads(root.path(name).read_text().splitlines()[-1]) for name in ("var/log/nginx/register.log", f"{LOGS}/commands.log")]
+    tally.check("both logs have the login, and one id", [one["login"] for one in logs] == ["KIM", "KIM"] and logs[0]["id"] == logs[1]["id"], logs)
+    root.run("nginx -s stop; rm /etc/nginx/conf.d/register.conf")
 
 
 def upgrade(root, tally):

@@ -8,8 +8,8 @@ def escaped(text):
 
 
 def plain(text):
-    """A line of text, with code and bold, and links as their words."""
-    text = re.sub(r"\[((?:[^\]`]|`[^`]*`)*)\]\([^)]*\)", r"\1", text)
+    """A line of text, with code and bold, and links as their words and their file in /usr/share/doc."""
+    text = re.sub(r"\[((?:[^\]`]|`[^`]*`)*)\]\(([A-Z]+\.md)[^)]*\)", r"\1 (\2)", text)
     out = []
     for part in re.split(r"(`[^`]*`|\*\*.*?\*\*)", text, flags=re.S):
         if part.startswith("`"):
