@@ -212,7 +212,7 @@ def migrate(root, tally):
 def main():
     root, tally = Root(sys.argv[1]), Tally()
     subprocess.run(["ip", "link", "set", "lo", "up"], check=True)
-    for name, kind in (("proc", "proc"), ("dev", "devtmpfs"), ("run", "tmpfs")):
+    for name, kind in (("proc", "proc"), ("run", "tmpfs")):
         subprocess.run(["mount", "-t", kind, kind, str(root.path(name))], check=True)
     root.run("mkdir -p /run/systemd/system")
     for part in (install, refusals, logins, upgrade, migrate):
