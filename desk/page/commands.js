@@ -70,9 +70,13 @@ async function notBeforeLast(command, at) {
   return answer === null ? null : { at: answer === "last" ? last : at, asked: far && answer === "last" };
 }
 
+function isNear(at) {
+  return Math.abs(at - meantNow()) <= FAR;
+}
+
 async function nearTheClock(at) {
   const off = at - meantNow();
-  if (Math.abs(off) <= FAR) return true;
+  if (isNear(at)) return true;
   const answer = await ask("The moment is far from the clock", [
     `The moment of this command is ${wholeTime(at)}.`,
     `That is ${span(off)} ${off < 0 ? "before" : "after"} this desk's clock, ${wholeTime(meantNow())}.`,
@@ -170,7 +174,7 @@ async function sendKnowing(command, known) {
   addReply(replyOf(command, answer, now()));
   if (momentField) momentField.value = "";
   const accepted = answer.body?.reply === "accepted";
-  if (accepted && command.do === "instruct") noteGiven({ ...command, round: answer.body.card.round });
+  if (accepted && command.do === "instruct") noteGiven({ ...command, round: answer.body.card.round }, isNear(command.at));
   if (accepted) {
     noteTest(command, true);
     dropDraftOf(command);

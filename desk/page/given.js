@@ -1,13 +1,15 @@
 // Which steps this desk has given out. A step is read out where its instruct was accepted, and nowhere before that; the
 // tab keeps it through a reload, until somebody has repeated the step.
 
+import { now } from "./moments.js";
 import { boardLine, room } from "./watch.js";
 import { presentStep } from "./who.js";
 
 const KEPT = "gridclear-given";
+const GAP = 30; // seconds without a look at the register, in which another desk may have done it all again
 
-// Clearance to { round, step, at, sure, seen }. `at` is the instruct's moment; `sure`: its reply came; `seen`: a view had
-// the step as given out since then.
+// Clearance to { round, step, at, sure, seen, looked }. `at` is the instruct's moment; `sure`: its reply came, at a moment
+// near the clock, and no gap since; `seen`: a view had the step as given out since then; `looked`: the last look.
 const given = readKept();
 
 function readKept() {
@@ -24,9 +26,10 @@ function keep() {
   } catch { /* without storage a reload forgets it */ }
 }
 
-// An instruct of this desk was accepted; or its reply was lost, and it is not sure that it was this desk's.
+// An instruct of this desk was accepted. It is not sure that no other desk gave the same where the reply was lost, or
+// where the moment is far off the clock: then all commands of the record have that moment.
 export function noteGiven({ clearance, round, step, at }, sure = true) {
-  given.set(clearance, { round, step, at, sure, seen: false });
+  given.set(clearance, { round, step, at, sure, seen: false, looked: now() });
   keep();
 }
 
@@ -36,12 +39,21 @@ function see(own) {
   keep();
 }
 
-// Whether this desk has given out the step that the view shows as given out: "yes", "no", or "perhaps", where the record
-// has a later moment, so that another desk may have given it out again.
+// After a gap between two looks it is no longer sure.
+function noteGap(own) {
+  if (room.read === null || room.read === own.looked) return;
+  if (room.read - own.looked > GAP) own.sure = false;
+  own.looked = room.read;
+  keep();
+}
+
+// Whether this desk has given out the step that the view shows as given out: "yes", "no", or "perhaps", where it is not
+// sure or the record has a later moment, so that another desk may have given it out again.
 export function gaveHere(view) {
   const { clearance, round } = view.card;
   const own = given.get(clearance), present = presentStep(view);
   if (!own) return "no";
+  noteGap(own);
   const same = own.round === round && own.step === present?.number;
   if (same && present.state === "Instructed") {
     see(own);

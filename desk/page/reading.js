@@ -40,7 +40,7 @@ function claim(step, changed) {
 }
 
 // What is above the controls while a step is given out. Where it was given, the text; at other desks a word of that. Where
-// the reply was lost, another desk's instruct may have been the one: people have to agree before one of them speaks.
+// another desk's instruct may have been the one, people have to agree before one of them speaks.
 export function readingOf(view, changed) {
   const step = presentStep(view), here = gaveHere(view);
   if (step?.state !== "Instructed") return null;
@@ -50,7 +50,7 @@ export function readingOf(view, changed) {
       el("p", {}, `Read this out: step ${step.number} of ${clearance}`), el("strong", {}, step.text));
   }
   if (here === "perhaps") {
-    return el("div", { class: "elsewhere" }, el("p", {}, `${name} is given out. This desk gave it, but its reply was lost, or there is a later command. Ask the other desks whether one of them gave it.`),
+    return el("div", { class: "elsewhere" }, el("p", {}, `${name} is given out. This desk gave it, and another may have: a reply or a look was missed, or the moments do not show it. Ask the other desks whether one of them gave it.`),
       button("No other desk gave it: show the text", () => claim({ clearance, round, step: step.number }, changed), { "data-name": "mine" }));
   }
   return el("p", { class: "elsewhere" }, `${name} was given out at another desk, which says it on the line. `

@@ -1,8 +1,10 @@
 """Nothing is read out before the register has accepted it, and it is read out at one desk alone."""
 
+import time
+
 from desk_looks.browser import Differs, wait_until
 from desk_looks.look_life import hanging
-from desk_looks.network import granted, ordered, switch
+from desk_looks.network import granted, ordered, step, switch
 
 HELD = "TIE1-N12-N13"
 JONES = granted("JONES", "N13-F13", ["N13-Q13", HELD, "TIE1-N13-N14"], ["C1"])
@@ -117,4 +119,40 @@ def lost_reply(stage):
     hand.shows("OPEN N11-Q12", "main .next .read-out strong")
 
 
-LOOKS = {"speak-again": given_again, "speak-lost": lost_reply, "speak-refused": refused_close, "speak-one-desk": one_desk, "speak-until-repeated": until_repeated}
+def far_moment(stage):
+    """Where a record's last moment is far after the clock, all its commands have that one, and none shows what was since."""
+    hand = stage.network(KIM_ORDER, "clearance/KIM/1")
+    for command in (*step("KIM/1", 1, "OPEN N11-Q12", "repeat"), {"by": "REED", "do": "report", "clearance": "KIM/1", "step": 1, "done": False}):
+        hand.post(command, int(time.time()) + 3600)
+    hand.speak("DISP1")
+    hand.press("instruct")
+    hand.answer("last")
+    hand.reply("accepted", "instruct step 1")
+    hand.shows("Ask the other desks", "main .next")
+    silent(hand)
+
+
+# As if the last look at the register had been two minutes ago.
+LONG_AGO = """
+const given = JSON.parse(sessionStorage.getItem('gridclear-given'));
+for (const [, own] of given) own.looked -= 120;
+sessionStorage.setItem('gridclear-given', JSON.stringify(given));
+"""
+
+
+def gap(stage):
+    """Another desk may have given it again while this one did not look."""
+    hand = stage.network(KIM_ORDER, "clearance/KIM/1")
+    hand.speak("DISP1")
+    hand.press("instruct")
+    hand.reply("accepted", "instruct step 1")
+    hand.shows("Read this out", "main .next")
+    hand.turn("board")
+    hand.browser.script(LONG_AGO + "location.reload()")
+    hand.shows("given out, not yet repeated")
+    hand.turn("clearance/KIM/1")
+    hand.shows("Ask the other desks", "main .next")
+    silent(hand)
+
+
+LOOKS = {"speak-far": far_moment, "speak-gap": gap, "speak-again": given_again, "speak-lost": lost_reply, "speak-refused": refused_close, "speak-one-desk": one_desk, "speak-until-repeated": until_repeated}
