@@ -1,5 +1,6 @@
 // Giving a command: its moment is looked at, it is sent once, and its reply goes to the replies.
 
+import { giveAgain } from "./again.js";
 import { noteTest } from "./alarm.js";
 import { ask } from "./ask.js";
 import { clockIsMeant, meantNow } from "./clock.js";
@@ -147,7 +148,7 @@ export async function takeUpPending() {
   const { command, view, ids } = pending;
   noteSending(true);
   try {
-    await lost(command, "the page was loaded again before it", { view, ids: new Set(ids) }, () => give(withoutMoment(command)));
+    await lost(command, "the page was loaded again before it", { view, ids: new Set(ids) }, () => giveAgain(command, give));
   } finally {
     keepPending(null);
     noteSending(false);
@@ -168,7 +169,7 @@ async function sendKnowing(command, known) {
   const answer = await postCommand(command);
   if (answer.kind === "lost") {
     noteTest(command, false);
-    await lost(command, answer.why, known, () => give(withoutMoment(command)));
+    await lost(command, answer.why, known, () => giveAgain(command, give));
     return { accepted: false };
   }
   addReply(replyOf(command, answer, now()));
@@ -183,9 +184,4 @@ async function sendKnowing(command, known) {
   if (id) await asOwn(() => lookAt(id));
   asOwn(lookNow);
   return { accepted, id };
-}
-
-// The same command once more, with the moment at which it is given again.
-function withoutMoment({ at, ...command }) {
-  return command;
 }

@@ -5,7 +5,7 @@ import { drafted, draftName } from "./drafts.js";
 import { el, button, choice, field } from "./elements.js";
 import { namesOfRole } from "./network.js";
 
-async function grant(view, act) {
+export async function grant(view, act) {
   const { clearance, holder } = view.card;
   const answer = await ask(`Grant ${clearance} to ${holder}?`, [
     `From now on ${holder} may test, ground and sign crews on; nobody takes a grant back, but the holder releases it.`,
@@ -23,7 +23,7 @@ export function grantControl({ view, act }) {
 
 const NO = [null, "No: do not release"];
 
-async function release(view, act) {
+export async function release(view, act) {
   const { clearance } = view.card;
   const notified = await ask(`Release ${clearance}: first of two`, [
     "Releasing gives the line back: from then on it may be switched in.",

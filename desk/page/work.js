@@ -22,7 +22,7 @@ async function testedLive(view, section, give) {
   if (answer === "yes") await give({ do: "test", dead: false });
 }
 
-async function groundOff(view, section, give) {
+export async function groundOff(view, section, give) {
   const answer = await ask(`Ground off ${section}?`, [
     `The ground is off in the field: ${section} is no longer grounded under ${view.card.clearance}, and its test is gone too.`,
   ], [["yes", `The ground of ${section} is off`], [null, "Do not send it"]]);
@@ -52,7 +52,7 @@ function sectionRow(view, section, act) {
 }
 
 // Where a section of the fence was tested live, under another clearance too, a crew is signed on only after a question.
-async function signOn(view, crew, act) {
+export async function signOn(view, crew, act) {
   const { clearance } = view.card, live = alarms().filter(({ id, section }) => id === clearance || view.fence.includes(section));
   if (live.length) {
     const answer = await ask(`Sign ${crew} on beside an alarm?`, [
@@ -63,7 +63,7 @@ async function signOn(view, crew, act) {
   await act({ do: "sign_on", clearance, crew });
 }
 
-async function signOff(view, crew, act) {
+export async function signOff(view, crew, act) {
   const answer = await ask(`Sign ${crew} off?`, [
     `All of ${crew} have left the work, and the line may be given back without them.`,
   ], [["yes", `${crew} is off`], [null, "Leave it on"]]);

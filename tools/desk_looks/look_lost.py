@@ -49,6 +49,11 @@ def crews(stage):
     lose(hand, lambda: sign_off(hand), False, [(dict(other, crew="C7"), 0)])
     hand.found("Crew C1 is still on", "So far it was not carried out")
     hand.picture("lost")
+    give_again(hand)
+    hand.shows("Sign C1 off?", "dialog")
+    hand.answer("null")
+    lose(hand, lambda: sign_off(hand), False)
+    hand.found("Crew C1 is still on")
     leave(hand)
     lose(hand, lambda: sign_off(hand), True, [])
     hand.found("Crew C1 is off", "So it was carried out.")
@@ -60,6 +65,11 @@ def crews(stage):
     lose(hand, lambda: sign_off(hand, "C2"), False, [(dict(other, crew="C9"), 1)])
     hand.found("Crew C2 is still on", "cannot be known")
     leave(hand)
+
+
+def give_again(hand):
+    """What is asked about the first time is asked about again."""
+    hand.browser.click('#replies [data-name$="Give it again"]')
 
 
 def leave(hand):
