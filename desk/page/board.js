@@ -79,7 +79,7 @@ export class BoardPage {
     const lines = [...room.board, ...room.jumpers].map((row) => row.line);
     panel(this.#rows, [room.read === null, lines, views, chosen, Boolean(this.#desk.caller)], () => {
       if (room.read === null) return el("p", {}, "The board was not read yet.");
-      const nobody = this.#desk.caller ? null : el("p", { class: "warning" }, "Say who you are, above: without a name no steps, no work and no alarms of other desks are shown.");
+      const nobody = this.#desk.caller ? null : el("p", { class: "warning" }, "Say who you are, above: without a name no steps and no work are shown.");
       const jumpers = room.jumpers.length ? table(["Jumper", "From", "To", "Position"], room.jumpers.map(jumperRow)) : null;
       return [nobody, recordsTable(staff, chosen), jumpers];
     });

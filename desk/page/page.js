@@ -24,7 +24,7 @@ import { startSeveral } from "./several.js";
 import { fromAfar, keepStill } from "./still.js";
 import { SwitchEditor } from "./switch.js";
 import { drawAlarms, drawContact, startTop } from "./top.js";
-import { onRoom, room, setRequesters, startWatch, viewOf, watchAs } from "./watch.js";
+import { isWatching, onRoom, room, setRequesters, startWatch, viewOf, watchAs } from "./watch.js";
 
 const at = (id) => document.getElementById(id);
 const KEPT = "gridclear-caller"; // the name that this tab speaks in, over a reload
@@ -151,6 +151,7 @@ function speakAs(name) {
     sessionStorage.setItem(KEPT, row?.name ?? "");
   } catch { /* without storage the name is asked for again after a reload */ }
   if (row) watchAs(row.name);
+  at("nameless").hidden = isWatching();
   if (page instanceof FormPage || page instanceof MinePage) turn(false);
   else update();
   if (page instanceof ClearancePage && document.activeElement === document.body) page.focusNext();

@@ -152,6 +152,11 @@ export async function lookAt(id) {
   return answer;
 }
 
+// Whether views are read: the register shows them to a name of the staff.
+export function isWatching() {
+  return caller !== null;
+}
+
 export function watchAs(name) {
   if (caller === name) return;
   const first = caller === null;

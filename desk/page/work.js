@@ -16,7 +16,7 @@ function crewWords(view) {
 async function testedLive(view, section, give) {
   const { clearance } = view.card;
   const answer = await ask(`${section}: tested live?`, [
-    `It was found live: its test is taken away, and every desk shows an alarm until it is tested dead or ${clearance} is released.`,
+    `It was found live: its test is taken away, and every desk that has a name shows an alarm until it is tested dead or ${clearance} is released.`,
     crewWords(view),
   ], [["yes", `${section} is live`], [null, "Do not send it"]]);
   if (answer === "yes") await give({ do: "test", dead: false });

@@ -116,6 +116,22 @@ def other_clearance(stage):
     hand.answer("null")
 
 
+def nameless(stage):
+    """A desk without a name reads no clearance, and says on every page that it shows no alarm."""
+    hidden = "return document.getElementById('nameless').hidden"
+    hand = stage.network(granted("KIM", "N13-F12", CUT, ["C1"]), "board")
+    hand.post({"by": "KIM", "do": "test", "clearance": "KIM/1", "section": "N13-F12", "dead": False})
+    for page in ("board", "diagram", "points", "mine", "switch", "clearance/KIM/1"):
+        hand.turn(page)
+        hand.shows("No name is chosen", "#nameless")
+        if hand.browser.script(hidden):
+            raise Differs(f"{page} does not say that no name is chosen")
+    hand.speak("DISP1")
+    hand.shows("TESTED LIVE: N13-F12", "#alarms")
+    if not hand.browser.script(hidden):
+        raise Differs("a desk with a name says that none is chosen")
+
+
 def without_reply(stage):
     """What was found live is an alarm also where the reply is lost, and the register still has the test."""
     hand = stage.network(granted("KIM", "N13-F12", CUT, ["C1"]), "clearance/KIM/1")
@@ -136,4 +152,4 @@ def without_reply(stage):
     without(hand, "TESTED LIVE", "#alarms")
 
 
-LOOKS = {"live": alarm, "live elsewhere": other_clearance, "live without reply": without_reply, "live grounded": grounded}
+LOOKS = {"live": alarm, "live nameless": nameless, "live elsewhere": other_clearance, "live without reply": without_reply, "live grounded": grounded}
