@@ -95,8 +95,9 @@ export function liveUnder(id) {
   return alarms().filter((alarm) => alarm.id === id).map(({ section }) => section);
 }
 
-export function liveSections() {
-  return new Set(alarms().map(({ section }) => section));
+// The alarms of these sections, under whichever clearance.
+export function liveIn(sections) {
+  return alarms().filter(({ section }) => sections.includes(section)).map(({ id, section }) => ({ id, section }));
 }
 
 // The sections of a clearance without a test while work goes on there: a crew or a ground is on.

@@ -1,6 +1,6 @@
 // One clearance or switch order: its card, who may do what next, its steps, its fence, points, holds and crews.
 
-import { liveUnder } from "./alarm.js";
+import { liveIn } from "./alarm.js";
 import { holderCell } from "./board.js";
 import { el, button, choice, panel, table } from "./elements.js";
 import { cancelControl, emergencyControl, grantControl, releaseControl, transferControl } from "./giving.js";
@@ -27,7 +27,7 @@ const CONTROLS = {
 const SHOWN = {
   order: () => [],
   restore: (view) => view.holds.filter((hold) => hold.by === view.card.clearance),
-  work: (view) => [view.fence, view.holds, view.crews, liveUnder(view.card.clearance)],
+  work: (view) => [view.fence, view.holds, view.crews, liveIn(view.fence)],
   transfer: (view) => view.card.holder,
   emergency: (view) => view.card.holder,
   cancel: (view) => view.card.phase,
@@ -148,7 +148,7 @@ export class ClearancePage {
     this.#drawNext(view);
     const found = stepsFindings(view, this.#desk);
     panel(this.#steps, [view.steps, found], () => (view.steps.length ? [el("h3", {}, `Steps of round ${view.card.round}`), stepsTable(view, found)] : []));
-    panel(this.#facts, [view.points, view.holds, view.fence, view.crews, view.card, liveUnder(this.#id)], () => facts(view));
+    panel(this.#facts, [view.points, view.holds, view.fence, view.crews, view.card, liveIn(view.fence)], () => facts(view));
   }
 
   #drawNext(view) {

@@ -1,6 +1,6 @@
 // Work under a granted clearance: tests, grounds and crews, by its holder.
 
-import { alarms, liveUnder, untested } from "./alarm.js";
+import { liveIn, untested } from "./alarm.js";
 import { ask } from "./ask.js";
 import { drafted, draftName } from "./drafts.js";
 import { el, button, field, table } from "./elements.js";
@@ -31,16 +31,23 @@ export async function groundOff(view, section, give) {
 
 // What is known of a section: its test and its ground, an alarm, and a test that is missing while work goes on.
 export function sectionState(view, section) {
-  const grounded = isThere(view, "Ground", section) ? "grounded" : "no ground";
-  if (liveUnder(view.card.clearance).includes(section)) return [el("strong", { class: "live" }, "⚠ TESTED LIVE"), `, ${grounded}`];
-  if (isThere(view, "Tested", section)) return [`tested dead, ${grounded}`];
+  const grounded = isThere(view, "Ground", section) ? "grounded" : "no ground", tested = isThere(view, "Tested", section);
+  const live = liveIn([section]).map(({ id }) => id);
+  if (live.length) return [el("strong", { class: "live" }, "⚠ TESTED LIVE"), `${liveWords(view, live, tested)}, ${grounded}`];
+  if (tested) return [`tested dead, ${grounded}`];
   const missing = untested(view).includes(section);
   return [el("span", { class: missing ? "bad" : null }, "not tested"), `, ${grounded}`];
 }
 
+// Where another clearance found it live, which, and what this one found.
+function liveWords({ card }, live, tested) {
+  if (live.length === 1 && live[0] === card.clearance) return "";
+  return ` under ${live.join(", ")}${live.includes(card.clearance) ? "" : `, ${tested ? "tested dead" : "not tested"} here`}`;
+}
+
 function sectionRow(view, section, act) {
   const give = (parts) => act({ clearance: view.card.clearance, section, ...parts });
-  return el("tr", { class: liveUnder(view.card.clearance).includes(section) ? "live" : null },
+  return el("tr", { class: liveIn([section]).length ? "live" : null },
     el("th", { scope: "row" }, section, section === view.work ? el("span", { class: "chip" }, "work section") : null),
     el("td", {}, sectionState(view, section)),
     el("td", { class: "say" },
@@ -53,7 +60,7 @@ function sectionRow(view, section, act) {
 
 // Where a section of the fence was tested live, under another clearance too, a crew is signed on only after a question.
 export async function signOn(view, crew, act) {
-  const { clearance } = view.card, live = alarms().filter(({ id, section }) => id === clearance || view.fence.includes(section));
+  const { clearance } = view.card, live = liveIn(view.fence);
   if (live.length) {
     const answer = await ask(`Sign ${crew} on beside an alarm?`, [
       ...live.map(({ id, section }) => `Tested live under ${id}: ${section}.`), `A crew that is signed on works under ${clearance}.`,

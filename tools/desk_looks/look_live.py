@@ -111,6 +111,9 @@ def other_clearance(stage):
     say_live(hand, "N13-F12")
     hand.turn("clearance/JONES/1")
     hand.speak("JONES")
+    for place in ("main .work tr.live", "main .facts-place .live"):
+        hand.shows("TESTED LIVE", place)
+    hand.shows("under KIM/1, tested dead here, grounded", "main .work tr.live")
     hand.browser.type('main [data-name="crew"]', "C6" + ENTER)
     hand.shows("Tested live under KIM/1: N13-F12", "dialog")
     hand.answer("null")
