@@ -50,12 +50,15 @@ export function noteBefore() {
 }
 
 // { position, from }: the position before the order of this clearance, null where it is not clear, and how it is known.
+// Another record that left the point open may have come later than the order, and shows nothing then.
 export function positionBefore(state, clearance) {
   const seen = before.get(`${clearance} ${state.point.name}`);
   if (seen) return { position: seen, from: "seen here when it was ordered" };
   const others = [...state.moved].filter(([id]) => id !== clearance);
   const ends = new Set(others.map(([, end]) => end));
   if (!ends.size) return { position: state.point.normal, from: "by the file" };
-  const ids = others.map(([id]) => id).join(", ");
-  return ends.size === 1 ? { position: [...ends][0], from: `by the steps done under ${ids}` } : { position: null, from: `${ids} left it differently` };
+  const ids = others.map(([id]) => id).join(", "), [end] = ends;
+  if (ends.size > 1) return { position: null, from: `${ids} left it differently` };
+  if (end === "open" && state.point.normal !== "open") return { position: null, from: `${ids} left it open, before this order or after it` };
+  return { position: end, from: `by the steps done under ${ids}` };
 }

@@ -1,7 +1,7 @@
 """A restoring order shows what was; sources that would be joined and loops that would be closed are said and asked about."""
 
 from desk_looks.browser import Differs
-from desk_looks.network import released, steps, switch
+from desk_looks.network import needed, ordered, released, steps, switch
 
 WIDTHS = (1440, 1024, 390)
 TIE = "TIE1-N12-N13"
@@ -39,6 +39,17 @@ def what_was(stage):
             raise Differs(f"the restoring form is {wide} wide on {width} pixels")
 
 
+def opened_later(stage):
+    """Where another clearance has opened the point too, maybe after this one, what was before is not clear."""
+    cut = ["N13-Q11", "N13-B1", "N13-Q13"]
+    later = [*ordered("KIM", "N13-F12", cut), *steps("KIM/1", needed(cut)[:1])]
+    hand = stage.network([*WEBER, *later], "clearance/WEBER/1")
+    hand.speak("DISP1")
+    hand.shows("not clear", 'tr[data-point="N13-Q11"] [data-name="before"]')
+    hand.shows("KIM/1 left it open, before this order or after it", 'tr[data-point="N13-Q11"] [data-name="before"]')
+    hand.shows("open", 'tr[data-point="N13-B1"] [data-name="before"]')
+
+
 def restoring_joins(stage):
     """A normally open tie that would be closed joins two sources: it is said, and asked before the order is given."""
     hand = stage.network(WEBER, "clearance/WEBER/1")
@@ -70,4 +81,4 @@ def switching_joins(stage):
     hand.picture("switch-joins")
 
 
-LOOKS = {"restoring-what-was": what_was, "restoring-joins": restoring_joins, "switching-joins": switching_joins}
+LOOKS = {"restoring-what-was": what_was, "restoring-later": opened_later, "restoring-joins": restoring_joins, "switching-joins": switching_joins}
