@@ -1,6 +1,9 @@
 // What is half written stays in its tab, through a look elsewhere and a reload, until it was given: orders and typed
 // fields, by the clearance and the command that they are for.
 
+import { room } from "./watch.js";
+import { presentStep } from "./who.js";
+
 const PREFIX = "gridclear-draft ";
 
 // The draft of a command: `request` and `switch` have no clearance.
@@ -29,13 +32,25 @@ function dropDraft(name) {
   for (const input of document.querySelectorAll(`[data-draft="${CSS.escape(name)}"]`)) input.value = "";
 }
 
-// All drafts of a clearance whose name begins so.
-function dropAll(begin) {
+function draftNames() {
   const names = [];
   try {
     for (let place = 0; place < sessionStorage.length; place++) names.push(sessionStorage.key(place));
   } catch { /* as above */ }
-  for (const name of names) if (name.startsWith(PREFIX + begin)) dropDraft(name.slice(PREFIX.length));
+  return names.filter((name) => name.startsWith(PREFIX)).map((name) => name.slice(PREFIX.length));
+}
+
+// All drafts of a clearance whose name begins so.
+function dropAll(begin) {
+  for (const name of draftNames()) if (name.startsWith(begin)) dropDraft(name);
+}
+
+// A step that is given out once more is heard once more: what was typed of it before is dropped while it waits.
+export function dropHeard() {
+  for (const name of draftNames()) {
+    const [clearance, what] = name.split(" "), view = room.views.get(clearance);
+    if (what === "repeat" && view && presentStep(view)?.state === "Waiting") dropDraft(name);
+  }
 }
 
 // A field that begins with what was last typed in it, and keeps what is typed.

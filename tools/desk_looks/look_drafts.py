@@ -74,6 +74,20 @@ def fields(stage):
     has(hand, "repeat-text", "OPEN N11")
 
 
+def given_again(stage):
+    """What was typed of a step is gone where it came back meanwhile and is given out once more."""
+    instruct, repeat = step("LEE/1", 1, "OPEN N11-Q13", "repeat")
+    hand = stage.network([*ordered("LEE", "N11-F13", ["N11-Q13", "TIE1-N11-N12"]), instruct], "clearance/LEE/1")
+    hand.speak("REED")
+    hand.browser.type('main [data-name="repeat-text"]', "open n11-q13")
+    hand.post(dict(repeat, by="DALE"))
+    hand.post({"by": "DALE", "do": "report", "clearance": "LEE/1", "step": 1, "done": False})
+    hand.browser.script("document.activeElement.blur()")
+    wait_until(lambda: not hand.there('main [data-name="repeat-text"]'), "a step that waits")
+    hand.post(instruct)
+    has(hand, "repeat-text", "")
+
+
 def example(stage):
     """Not the step that is to be repeated, either."""
     hand = stage.network([*ordered("LEE", "N11-F13", ["N11-Q13", "TIE1-N11-N12"]), *step("LEE/1", 1, "OPEN N11-Q13", "instruct")], "clearance/LEE/1")
@@ -85,4 +99,4 @@ def example(stage):
         raise Differs(f"the example names {name}")
 
 
-LOOKS = {"drafts": orders, "draft-fields": fields, "example": example}
+LOOKS = {"drafts": orders, "draft-again": given_again, "draft-fields": fields, "example": example}
