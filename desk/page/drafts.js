@@ -45,11 +45,15 @@ function dropAll(begin) {
   for (const name of draftNames()) if (name.startsWith(begin)) dropDraft(name);
 }
 
-// A step that is given out once more is heard once more: what was typed of it before is dropped while it waits.
-export function dropHeard() {
+// What was written for a clearance that is no longer on the board is dropped; and what was typed of a step once that
+// waits again, since it is given out, and heard, once more then.
+export function tidyDrafts() {
+  if (room.read === null) return;
+  const present = new Set(room.board.map((row) => row.id));
   for (const name of draftNames()) {
     const [clearance, what] = name.split(" "), view = room.views.get(clearance);
-    if (what === "repeat" && view && presentStep(view)?.state === "Waiting") dropDraft(name);
+    const waits = what === "repeat" && view && presentStep(view)?.state === "Waiting";
+    if (clearance && (waits || !present.has(clearance))) dropDraft(name);
   }
 }
 

@@ -6,7 +6,7 @@ import { BoardPage } from "./board.js";
 import { ClearancePage } from "./clearance.js";
 import { give, isSending, onSending, setCaller, setMomentField, takeUpPending } from "./commands.js";
 import { Diagram, MOST_DRAWN } from "./diagram.js";
-import { dropHeard } from "./drafts.js";
+import { tidyDrafts } from "./drafts.js";
 import { choice, el, field, panel } from "./elements.js";
 import { watchGiven } from "./given.js";
 import { guardPresses } from "./guard.js";
@@ -125,7 +125,7 @@ function drawDiagram() {
 
 function update() {
   noteBefore();
-  dropHeard();
+  tidyDrafts();
   watchGiven();
   drawAlarms();
   page?.update();

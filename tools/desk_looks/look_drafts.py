@@ -88,6 +88,21 @@ def given_again(stage):
     has(hand, "repeat-text", "")
 
 
+def over(stage):
+    """What was written for a clearance that is over, or of a register before this one, does not stay."""
+    names = "return Object.keys(sessionStorage).filter((key) => key.startsWith('gridclear-draft ')).sort()"
+    hand = stage.network([{"by": "KIM", "do": "request", "section": "N13-F12"}], "clearance/KIM/1")
+    hand.speak("DISP1")
+    hand.press("pick N13-Q11")
+    hand.turn("request")
+    hand.speak("LEE")
+    hand.browser.type('main [data-name="section"]', "N11")
+    hand.browser.script("sessionStorage.setItem('gridclear-draft LEE/7 sign_on', '\"C1\"')")
+    wait_until(lambda: hand.browser.script(names) == ["gridclear-draft  request", "gridclear-draft KIM/1 order"], "two drafts")
+    hand.post({"by": "KIM", "do": "cancel", "clearance": "KIM/1"})
+    wait_until(lambda: hand.browser.script(names) == ["gridclear-draft  request"], "one draft")
+
+
 def example(stage):
     """Not the step that is to be repeated, either."""
     hand = stage.network([*ordered("LEE", "N11-F13", ["N11-Q13", "TIE1-N11-N12"]), *step("LEE/1", 1, "OPEN N11-Q13", "instruct")], "clearance/LEE/1")
@@ -99,4 +114,4 @@ def example(stage):
         raise Differs(f"the example names {name}")
 
 
-LOOKS = {"drafts": orders, "draft-again": given_again, "draft-fields": fields, "example": example}
+LOOKS = {"drafts": orders, "draft-over": over, "draft-again": given_again, "draft-fields": fields, "example": example}
