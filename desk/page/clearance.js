@@ -10,6 +10,7 @@ import { printedOrders } from "./printed.js";
 import { RestoreEditor } from "./restore.js";
 import { instructControl, readingOf } from "./reading.js";
 import { severalControl, withRow } from "./several.js";
+import { waits } from "./still.js";
 import { amendControl, repeatControl, reportControl, stepsFindings, stepsTable } from "./steps.js";
 import { boardLine, choose, lookAt, viewOf } from "./watch.js";
 import { offersOf, presentStep } from "./who.js";
@@ -157,10 +158,19 @@ export class ClearancePage {
     const mine = offers.filter((offer) => caller && offer.names.includes(caller));
     const others = offers.filter((offer) => !mine.includes(offer));
     const keys = mine.map(({ does }) => [does, (SHOWN[does] ?? ((seen) => [seen.card, seen.steps]))(view), caller]);
-    const reading = readingOf(view, () => this.#drawNext(view));
-    if (reading?.textContent !== this.#reading.firstChild?.textContent) this.#reading.replaceChildren(...[reading].filter(Boolean));
+    if (!this.#drawReading(view)) return;
     panel(this.#next, [keys, offers.length, caller], () => this.#controls(mine, keys, view, offers.length));
     panel(this.#others, [others, caller], () => (others.length ? [el("h4", {}, caller ? "Others may" : "Who may"), othersList(others, this.#desk)] : []));
+  }
+
+  // Whether it was drawn. That another desk gave the step out comes above the controls, and so waits as a list does.
+  #drawReading(view) {
+    const reading = readingOf(view, () => this.#drawNext(view));
+    if (reading?.textContent === this.#reading.firstChild?.textContent) return true;
+    const isElsewhere = !this.#reading.firstChild && reading?.matches("p.elsewhere");
+    if (isElsewhere && waits(this.#reading.parentNode, () => this.#drawNext(viewOf(this.#id)))) return false;
+    this.#reading.replaceChildren(...[reading].filter(Boolean));
+    return true;
   }
 
   #controls(mine, keys, view, any) {

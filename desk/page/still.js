@@ -45,6 +45,7 @@ function letGo(list) {
 
 function look() {
   for (const [list, { redo, since }] of [...held]) {
+    if (!held.has(list)) continue; // drawn with one before it
     if (list.isConnected && isBusy(list) && performance.now() - since < LONGEST) continue;
     letGo(list);
     if (list.isConnected) redo();

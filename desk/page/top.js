@@ -1,4 +1,4 @@
-// The top of the page: whether the register answers, whether the clocks agree, and the alarms.
+// On every page: whether the register answers, whether the clocks agree, and the alarms.
 
 import { alarms } from "./alarm.js";
 import { clockWords } from "./clock.js";

@@ -161,6 +161,23 @@ def waiting(stage):
         raise Differs("what came under the pointer after 15 seconds took a press")
 
 
+def given_elsewhere(stage):
+    """That another desk gave the step out comes above the controls: it waits while the pointer is on them."""
+    hand = stage.network(ordered("KIM", "N13-F12", CUT), "clearance/KIM/1")
+    hand.speak("DISP1")
+    hand.browser.settled('main [data-name="instruct"]')
+    place = middle(hand, 'main [data-name="instruct"]')
+    hand.browser.point(1, 1, *place)
+    hand.post(step("KIM/1", 1, "OPEN N13-Q11", "instruct")[0])
+    hand.browser.find("main .next[data-changed]")
+    if under(hand, place) != "instruct":
+        raise Differs(f"under the pointer is {under(hand, place)}")
+    hand.browser.point(1, 1)
+    hand.shows("was given out at another desk", "main .next")
+    if hand.there('main [data-name="instruct"]'):
+        raise Differs("a step that is given out is to be given out")
+
+
 def field(stage):
     """Nor under a field that has the focus; and the board does so too."""
     hand = stage.network(granted("KIM", "N13-F12", CUT, ["C2"]), "clearance/KIM/1")
@@ -210,4 +227,4 @@ def questions(stage):
     hand.same_reply("accepted", "take the ground off")
 
 
-LOOKS = {"double press": double_press, "double touch": double_touch, "new control": new_control, "changed": waiting, "changed field": field, "questions": questions}
+LOOKS = {"double press": double_press, "double touch": double_touch, "new control": new_control, "changed": waiting, "changed reading": given_elsewhere, "changed field": field, "questions": questions}

@@ -21,7 +21,7 @@ def say_live(hand, section):
 
 
 def alarmed(hand, section):
-    """On the board, on the diagram, at the clearance, and at the top."""
+    """On the board, on the diagram, at the clearance, and on every page."""
     hand.shows(f"TESTED LIVE: {section}", "#alarms")
     hand.turn("board")
     hand.shows(f"{section} TESTED LIVE", "main tr[data-id='KIM/1']")
@@ -41,7 +41,12 @@ def alarm(stage):
     two.shows("tested dead")
     one.press("live N13-F11")
     one.answer("null")
+    top = "return document.getElementById('frame').getBoundingClientRect().top"
+    before = two.browser.script(top)
     say_live(one, "N13-F11")
+    two.shows("TESTED LIVE: N13-F11", "#alarms")
+    if two.browser.script(top) != before:
+        raise Differs("an alarm has moved the page")
     for hand in (one, two):
         alarmed(hand, "N13-F11")
     one.picture("live-diagram")
