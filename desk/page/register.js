@@ -14,16 +14,21 @@ const PATIENCE = 15000; // the proxy gives up after 10 seconds, and says so
 export const contact = { answered: null, silentSince: null, why: "", trouble: "" };
 
 let last = Promise.resolve();
-let begun = performance.now(); // when it last answered, or when the page began
+let begun = moments(); // when it last answered, or when the page began, by two clocks
 const listeners = [];
 
 export function onContact(listener) {
   listeners.push(listener);
 }
 
+// One clock may stop while the machine sleeps, and the other may be set.
+function moments() {
+  return [performance.now(), Date.now()];
+}
+
 // Whether an answer came just now; a page that nobody sees asks less often.
 export function isFresh() {
-  return document.hidden || performance.now() - begun < FRESH;
+  return document.hidden || moments().every((moment, clock) => moment - begun[clock] < FRESH);
 }
 
 function noteAnswer(answer) {
@@ -33,7 +38,7 @@ function noteAnswer(answer) {
   } else {
     if (answer.kind === "answered") {
       contact.answered = now();
-      begun = performance.now();
+      begun = moments();
     }
     contact.silentSince = null;
     contact.trouble = troubleIn(answer);

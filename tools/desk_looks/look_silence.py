@@ -16,12 +16,14 @@ def is_green(hand):
 
 
 def green(stage):
-    """The top is green only while an answer is younger than 6 seconds."""
+    """The top is green only while an answer is younger than 6 seconds, by either clock of the page."""
     hand = stage.network()
     hand.speak("DISP1")
-    for _ in range(3):
+    for pause in (1.7, 1.7, 0.4):
         wait_until(lambda: is_green(hand), "green")
-        time.sleep(1.7)
+        time.sleep(pause)
+        if pause < 1:
+            hand.browser.script("performance.now = () => 0") # as in a machine that slept
         with hanging(hand.desk.register()):
             begun = time.monotonic()
             wait_until(lambda: not is_green(hand), "another colour than green", SOON)
