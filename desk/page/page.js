@@ -4,6 +4,7 @@ import { noteRoom, onAlarmElsewhere, recallAlarms } from "./alarm.js";
 import { noteBefore } from "./before.js";
 import { BoardPage } from "./board.js";
 import { ClearancePage } from "./clearance.js";
+import { meantNow } from "./clock.js";
 import { give, isSending, onSending, setCaller, setMomentField, takeUpPending } from "./commands.js";
 import { Diagram, MOST_DRAWN } from "./diagram.js";
 import { tidyDrafts } from "./drafts.js";
@@ -12,7 +13,7 @@ import { watchGiven } from "./given.js";
 import { guardPresses } from "./guard.js";
 import { startKeys } from "./keys.js";
 import { MinePage } from "./mine.js";
-import { fieldTime, now, wholeTime } from "./moments.js";
+import { fieldTime, wholeTime } from "./moments.js";
 import { namesOfRole, readNetwork } from "./network.js";
 import { NetList } from "./netlist.js";
 import { learn } from "./notes.js";
@@ -172,7 +173,7 @@ function startMoment() {
   const show = (other) => {
     line.hidden = !other;
     set.hidden = other;
-    field.value = other ? fieldTime(now()) : "";
+    field.value = other ? fieldTime(meantNow()) : "";
     (other ? field : set).focus();
   };
   setMomentField(field);
@@ -183,7 +184,7 @@ function startMoment() {
     line.hidden = true;
     set.hidden = false;
   });
-  const tick = () => { at("clock").textContent = wholeTime(now()); };
+  const tick = () => { at("clock").textContent = wholeTime(meantNow()); };
   setInterval(tick, 1000);
   tick();
 }

@@ -62,6 +62,9 @@ def clock(stage):
         hand.speak("REED")
         hand.browser.type('main [data-name="repeat-text"]', "OPEN N13-Q11" + ENTER)
         hand.reply("accepted", "repeat step 1")
+        shown = hand.browser.script("return new Date(document.getElementById('clock').textContent.replace(' ', 'T').replace(' ', '')).getTime() / 1000")
+        if abs(shown - time.time()) > 60:
+            raise Differs("the clock at the top is not the server's, which was chosen")
     finally:
         restore()
     sent = moments(hand.desk)
