@@ -3,6 +3,7 @@
 // which is kept over a reload; where it saw a test go while the ground stayed as it was; and where a ground is on
 // without a test.
 
+import { keepIn, readKept } from "./kept.js";
 import { now } from "./moments.js";
 
 const KEPT = "gridclear-live";
@@ -12,15 +13,11 @@ const seen = new Map();   // the same, seen here
 const before = new Map(); // clearance: what was tested and grounded there when it was last looked at
 
 function keep() {
-  try {
-    localStorage.setItem(KEPT, JSON.stringify([...own.values()]));
-  } catch { /* without storage a reload loses them */ }
+  keepIn("localStorage", KEPT, [...own.values()]);
 }
 
 export function recallAlarms() {
-  try {
-    for (const alarm of JSON.parse(localStorage.getItem(KEPT)) ?? []) own.set(`${alarm.id} ${alarm.section}`, alarm);
-  } catch { /* as above */ }
+  for (const alarm of readKept("localStorage", KEPT) ?? []) own.set(`${alarm.id} ${alarm.section}`, alarm);
 }
 
 // Another window of this browser has said it.
@@ -78,10 +75,10 @@ export function noteRoom(room) {
   const had = JSON.stringify([...own.values()]);
   for (const [id, view] of room.views) if (before.get(id)?.view !== view) noteView(id, view);
   if (room.read !== null) {
-    const standing = new Map(room.board.map((row) => [row.id, row.phase]));
-    const over = [...own.values(), ...seen.values()].map(({ id }) => id).filter((id) => standing.get(id) !== "Granted");
+    const phases = new Map(room.board.map((row) => [row.id, row.phase]));
+    const over = [...own.values(), ...seen.values()].map(({ id }) => id).filter((id) => phases.get(id) !== "Granted");
     for (const id of over) drop(id, () => true);
-    for (const id of before.keys()) if (!standing.has(id)) before.delete(id);
+    for (const id of before.keys()) if (!phases.has(id)) before.delete(id);
   }
   if (JSON.stringify([...own.values()]) !== had) keep();
 }

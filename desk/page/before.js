@@ -1,25 +1,12 @@
 // The position of a point before an isolating order opened it. The page keeps what the register showed while the order's
 // OPEN was still waiting; without that it goes by the steps of other records, and by the points file.
 
+import { keepIn, readKept } from "./kept.js";
 import { room } from "./watch.js";
 
 const KEPT = "gridclear-before", MOST_KEPT = 200;
 
-const before = readKept(); // "clearance point" to its position
-
-function readKept() {
-  try {
-    return new Map(JSON.parse(localStorage.getItem(KEPT)) ?? []);
-  } catch {
-    return new Map();
-  }
-}
-
-function keep() {
-  try {
-    localStorage.setItem(KEPT, JSON.stringify([...before].slice(-MOST_KEPT)));
-  } catch { /* without storage the file and the records say it */ }
-}
+const before = new Map(readKept("localStorage", KEPT) ?? []); // "clearance point" to its position
 
 function waitingOpens({ card, steps }) {
   if (card.phase !== "Ordered") return [];
@@ -46,7 +33,7 @@ export function noteBefore() {
       any = true;
     }
   }
-  if (any) keep();
+  if (any) keepIn("localStorage", KEPT, [...before].slice(-MOST_KEPT));
 }
 
 // { position, from }: the position before the order of this clearance, null where it is not clear, and how it is known.

@@ -6,6 +6,7 @@ import { ask } from "./ask.js";
 import { clockIsMeant, meantNow } from "./clock.js";
 import { dropDraftOf } from "./drafts.js";
 import { noteGiven } from "./given.js";
+import { keepIn, readKept } from "./kept.js";
 import { lost } from "./lost.js";
 import { now, secondsOfField, shortTime, span, wholeTime } from "./moments.js";
 import { postCommand } from "./register.js";
@@ -127,23 +128,12 @@ export async function give(parts) {
 
 // The command that is under way is kept in the tab's storage, so that a page that is loaded again meanwhile knows of it.
 function keepPending(pending) {
-  try {
-    if (pending) sessionStorage.setItem(PENDING, JSON.stringify(pending));
-    else sessionStorage.removeItem(PENDING);
-  } catch { /* without storage a page that is loaded again says nothing of it */ }
-}
-
-function pendingBefore() {
-  try {
-    return JSON.parse(sessionStorage.getItem(PENDING));
-  } catch {
-    return null;
-  }
+  keepIn("sessionStorage", PENDING, pending);
 }
 
 // What was under way when the page was loaded again: its reply is lost.
 export async function takeUpPending() {
-  const pending = pendingBefore();
+  const pending = readKept("sessionStorage", PENDING);
   if (!pending) return;
   const { command, view, ids } = pending;
   noteSending(true);

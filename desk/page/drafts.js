@@ -1,6 +1,7 @@
 // What is half written stays in its tab, through a look elsewhere and a reload, until it was given: orders and typed
 // fields, by the clearance and the command that they are for.
 
+import { keepIn, keptKeys, readKept } from "./kept.js";
 import { room } from "./watch.js";
 import { presentStep } from "./who.js";
 
@@ -12,32 +13,20 @@ export function draftName(what, clearance = "") {
 }
 
 export function draft(name) {
-  try {
-    return JSON.parse(sessionStorage.getItem(PREFIX + name));
-  } catch {
-    return null;
-  }
+  return readKept("sessionStorage", PREFIX + name);
 }
 
 export function keepDraft(name, value) {
-  try {
-    sessionStorage.setItem(PREFIX + name, JSON.stringify(value));
-  } catch { /* without storage it is gone with the page */ }
+  keepIn("sessionStorage", PREFIX + name, value);
 }
 
 function dropDraft(name) {
-  try {
-    sessionStorage.removeItem(PREFIX + name);
-  } catch { /* as above */ }
+  keepIn("sessionStorage", PREFIX + name, null);
   for (const input of document.querySelectorAll(`[data-draft="${CSS.escape(name)}"]`)) input.value = "";
 }
 
 function draftNames() {
-  const names = [];
-  try {
-    for (let place = 0; place < sessionStorage.length; place++) names.push(sessionStorage.key(place));
-  } catch { /* as above */ }
-  return names.filter((name) => name.startsWith(PREFIX)).map((name) => name.slice(PREFIX.length));
+  return keptKeys("sessionStorage").filter((name) => name.startsWith(PREFIX)).map((name) => name.slice(PREFIX.length));
 }
 
 // All drafts of a clearance whose name begins so.

@@ -1,6 +1,7 @@
 // Which steps this desk has given out. A step is read out where its instruct was accepted, and nowhere before that; the
 // tab keeps it through a reload, until somebody has repeated the step.
 
+import { keepIn, readKept } from "./kept.js";
 import { now } from "./moments.js";
 import { boardLine, room } from "./watch.js";
 import { presentStep } from "./who.js";
@@ -10,20 +11,10 @@ const GAP = 30; // seconds without a look at the register, in which another desk
 
 // Clearance to { round, step, at, sure, seen, looked }. `at` is the instruct's moment; `sure`: its reply came, at a moment
 // near the clock, and no gap since; `seen`: a view had the step as given out since then; `looked`: the last look.
-const given = readKept();
-
-function readKept() {
-  try {
-    return new Map(JSON.parse(sessionStorage.getItem(KEPT)) ?? []);
-  } catch {
-    return new Map();
-  }
-}
+const given = new Map(readKept("sessionStorage", KEPT) ?? []);
 
 function keep() {
-  try {
-    sessionStorage.setItem(KEPT, JSON.stringify([...given]));
-  } catch { /* without storage a reload forgets it */ }
+  keepIn("sessionStorage", KEPT, [...given]);
 }
 
 // An instruct of this desk was accepted. It is not sure that no other desk gave the same where the reply was lost, or

@@ -2,6 +2,7 @@
 // that is chosen there. Enter goes on from one to the next, and nothing goes on by itself.
 
 import { el, button, choice, field } from "./elements.js";
+import { keepIn, readKept } from "./kept.js";
 import { namesOfRole } from "./network.js";
 import { instruct, stepNotes } from "./reading.js";
 import { heardInput, repeatAs } from "./steps.js";
@@ -10,21 +11,11 @@ import { presentStep } from "./who.js";
 const KEPT = "gridclear-several";
 const PARTS = { Waiting: "giver", Instructed: "hearer", Repeated: "reporter" };
 
-const kept = readKept(); // whether the desk speaks for several, and the names that were chosen last
-
-function readKept() {
-  try {
-    return JSON.parse(sessionStorage.getItem(KEPT)) ?? {};
-  } catch {
-    return {};
-  }
-}
+const kept = readKept("sessionStorage", KEPT) ?? {}; // whether the desk speaks for several, and the names that were chosen last
 
 function keep(changes) {
   Object.assign(kept, changes);
-  try {
-    sessionStorage.setItem(KEPT, JSON.stringify(kept));
-  } catch { /* without storage a reload forgets it */ }
+  keepIn("sessionStorage", KEPT, kept);
 }
 
 export function isSeveral() {
