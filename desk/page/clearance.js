@@ -24,7 +24,7 @@ const CONTROLS = {
   work: workControl, release: releaseControl, cancel: cancelControl, transfer: transferControl, emergency: emergencyControl,
 };
 
-// What a control shows of the view: it is made anew only where that has changed, so that nothing typed is lost.
+// What a control shows of the view: it is made again only where that has changed, so that nothing typed is lost.
 const SHOWN = {
   order: () => [],
   restore: (view) => view.holds.filter((hold) => hold.by === view.card.clearance),

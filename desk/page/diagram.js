@@ -172,7 +172,7 @@ export class Diagram {
   }
 
   #dressPoint(group, state, chosen) {
-    const known = state.from === "view" || state.from === "steps" ? "told" : "untold";
+    const known = state.from === "view" || state.from === "steps" ? "known" : "unknown";
     group.setAttribute("class", `point ${state.position ?? "unclear"} ${known}${chosen ? " picked" : ""}`);
     this.#tellPicking(group, "point", chosen, `${state.point.name}, ${state.position ?? "position not clear"}`);
   }
@@ -209,11 +209,11 @@ function legend() {
   const entry = (mark, text) => el("li", {}, mark, el("span", {}, text));
   const sign = (text) => el("b", {}, text);
   return el("details", { class: "legend" }, el("summary", {}, "Signs"), el("ul", {},
-    entry(sample("point closed told"), "closed"), entry(sample("point open told"), "open"),
-    entry(sample("point closed untold"), "dashed: as in the file, the register does not say"),
+    entry(sample("point closed known"), "closed"), entry(sample("point open known"), "open"),
+    entry(sample("point closed unknown"), "dashed: as in the file, the register does not say"),
     entry(sign("≠"), "not in its normal position"),
     entry(fenceSample(), "in the fence of the chosen clearance, or of the points that are picked"),
-    entry(sample("point closed told way"), "purple: on the way to a source that the picked points leave open"),
+    entry(sample("point closed known way"), "purple: on the way to a source that the picked points leave open"),
     entry(sign("red"), "tested live, until it is tested dead"),
     entry(sign("O B C T"), "held open, blocked, control off, tagged, after the owner's name"),
     entry(sign("hand"), "its owner's step is given out there")));

@@ -1,4 +1,4 @@
-// Small makers of page elements, and panels that are drawn anew only when what they show has changed.
+// Small makers of page elements, and panels that are drawn again only when what they show has changed.
 
 import { isCurrent, waits } from "./still.js";
 

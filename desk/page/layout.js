@@ -45,7 +45,7 @@ function spanning({ sections, ways }) {
   return { parent, order, roots };
 }
 
-// Each section's children, the one with the longest way behind it first.
+// Each section's children, the one with the longest way after it first.
 function childrenOf({ parent, order }) {
   const children = new Map(order.map((name) => [name, []])), long = new Map();
   for (const name of [...order].reverse()) {
@@ -151,7 +151,7 @@ function levels(rows, lanes) {
 const boxWidth = (name) => Math.max(40, name.length * LETTER + 16);
 const widest = (names, letter) => Math.max(0, ...names.map((name) => name.length * letter));
 
-// The left side of each column, and in the channel behind it the place of its tracks, its trunk and its points.
+// The left side of each column, and in the channel after it the place of its tracks, its trunk and its points.
 function measure(spots, parent, channels) {
   const columns = [];
   for (const spot of spots.values()) (columns[spot.column] ??= []).push(spot);

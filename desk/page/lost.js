@@ -48,7 +48,7 @@ export async function lost(command, why, known, again) {
       "It may have been carried out, or may still be. It is not sent again by itself; the page looks at the board as soon as the register answers."),
   });
   if (!(await lookUntilAnswered())) return;
-  await tellFound(command, why, known, reply, again);
+  await sayFound(command, why, known, reply, again);
 }
 
 const FOUND = {
@@ -59,13 +59,13 @@ const FOUND = {
 };
 
 // What the board and the clearance say now. What was carried out is not offered again.
-async function tellFound(command, why, known, reply, again) {
+async function sayFound(command, why, known, reply, again) {
   const { found, text } = await asOwn(() => judged(command, known)), isOver = found === "yes" || found === "either";
   if (isOver) dropDraftOf(command);
   if (isOver && command.do === "instruct") noteGiven({ ...command, round: viewOf(command.clearance)?.card.round }, false);
   const look = async () => {
     await lookNow();
-    await tellFound(command, why, known, reply, again);
+    await sayFound(command, why, known, reply, again);
   };
   changeReply(reply, {
     kind: "found",

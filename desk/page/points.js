@@ -42,7 +42,7 @@ function row(state, lookedThrough) {
 }
 
 export class PointsPage {
-  #desk; #filter; #kind = "all"; #rows = el("div", { class: "sheet" }); #told = el("p", { class: "hint" });
+  #desk; #filter; #kind = "all"; #rows = el("div", { class: "sheet" }); #count = el("p", { class: "hint" });
   title = "Points";
   node;
 
@@ -53,7 +53,7 @@ export class PointsPage {
       el("label", { class: "radio" }, el("input", { type: "radio", name: "kind", checked: kind === "all", onchange: () => { this.#kind = kind; this.update(); } }), text)));
     const look = button("Look through all closed records", () => lookThrough(ALL), { "data-name": "look" });
     this.node = el("section", { class: "points" }, el("h2", { tabindex: -1 }, "Points"),
-      el("div", { class: "line" }, field("Point or section", this.#filter), kinds, look), this.#told, this.#rows);
+      el("div", { class: "line" }, field("Point or section", this.#filter), kinds, look), this.#count, this.#rows);
     this.update();
   }
 
@@ -69,7 +69,7 @@ export class PointsPage {
     const states = this.#desk.states();
     const found = this.#found(states), shown = found.slice(0, MOST_LISTED);
     const through = room.lookedThrough ? "All closed records were looked through." : "Not all closed records were looked through: a position from the file may have been changed since.";
-    this.#told.textContent = `${shown.length} of ${found.length} points. ${through}`;
+    this.#count.textContent = `${shown.length} of ${found.length} points. ${through}`;
     panel(this.#rows, [shown.map((state) => [state.point.name, state.position, state.from, state.hand, state.holds, state.steps, [...state.moved]]), room.lookedThrough], () =>
       table(["Point", "Between", "Marks", "Position", "Normally", "In hand of", "Holds", "Steps left"], shown.map((state) => row(state, room.lookedThrough)), { class: "wide" }));
   }

@@ -34,7 +34,7 @@ export function onRoom(listener) {
   listeners.push(listener);
 }
 
-function tell() {
+function report() {
   for (const listener of listeners) listener();
 }
 
@@ -54,7 +54,7 @@ function jumperIn(line) {
   return { point, from, to, position, line };
 }
 
-// The records, and behind them the jumpers: a record's name has a `/` before its first blank.
+// The records, and after them the jumpers: a record's name has a `/` before its first blank.
 function parseBoard(text) {
   const lines = text.split("\n").slice(1).filter(Boolean);
   const isJumper = (line) => line.startsWith("JUMPER ");
@@ -77,12 +77,12 @@ function keepBoard(text) {
   Object.assign(room, parseBoard(text));
   room.read = now();
   room.turns += 1;
-  const standing = new Set(room.board.map((row) => row.id));
+  const present = new Set(room.board.map((row) => row.id));
   const changed = room.board.filter((row) => before.get(row.id) !== row.line).map((row) => row.id);
-  const gone = [...room.views.keys()].filter((id) => !standing.has(id));
+  const gone = [...room.views.keys()].filter((id) => !present.has(id));
   for (const id of [...changed, ...gone]) urgent.add(id);
-  if (changed.length || gone.length || room.turns % ALL_AGAIN === 0) for (const id of standing) stale.add(id);
-  if (chosen && standing.has(chosen) && room.turns % 3 === 0) stale.add(chosen);
+  if (changed.length || gone.length || room.turns % ALL_AGAIN === 0) for (const id of present) stale.add(id);
+  if (chosen && present.has(chosen) && room.turns % 3 === 0) stale.add(chosen);
 }
 
 function keepView(id, view) {
@@ -113,10 +113,10 @@ async function look() {
   const answer = await getBoard();
   if (answer.kind === "answered" && typeof answer.body === "string") {
     keepBoard(answer.body);
-    tell();
+    report();
     if (caller) {
       await readViews();
-      tell();
+      report();
       if (!begun) {
         begun = true;
         lookThrough(LOOK_THROUGH);
@@ -124,7 +124,7 @@ async function look() {
     }
     return true;
   }
-  tell();
+  report();
   return false;
 }
 
@@ -148,7 +148,7 @@ function lookAgain() {
 export async function lookAt(id) {
   stale.add(id);
   const answer = caller ? await readView(id) : null;
-  tell();
+  report();
   return answer;
 }
 
@@ -211,12 +211,12 @@ export async function lookThrough(limit) {
     whole = whole && found.whole;
   }
   room.lookedThrough = room.lookedThrough || whole;
-  tell();
+  report();
   return whole;
 }
 
 // A requester's records, closed ones too.
 export async function recordsOf(name) {
   await lookThroughOf(name, 9999);
-  tell();
+  report();
 }

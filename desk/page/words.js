@@ -39,29 +39,29 @@ const REFUSALS = {
 };
 
 const FAULTS = {
-  NotJson: ["The register could not read the command.", "This is a fault of the page: look at the clearance, and tell whoever keeps this desk."],
-  NotObject: ["The register could not read the command.", "This is a fault of the page: tell whoever keeps this desk."],
-  MissingKey: ["The command lacks a part.", "This is a fault of the page: tell whoever keeps this desk."],
-  UnknownKey: ["The command has a part too many.", "This is a fault of the page: tell whoever keeps this desk."],
-  UnknownCommand: ["The register does not know this command.", "The page and the register are of different versions: tell whoever keeps this desk."],
+  NotJson: ["The register could not read the command.", "This is a fault of the page: look at the clearance, and report it to whoever keeps this desk."],
+  NotObject: ["The register could not read the command.", "This is a fault of the page: report it to whoever keeps this desk."],
+  MissingKey: ["The command lacks a part.", "This is a fault of the page: report it to whoever keeps this desk."],
+  UnknownKey: ["The command has a part too many.", "This is a fault of the page: report it to whoever keeps this desk."],
+  UnknownCommand: ["The register does not know this command.", "The page and the register are of different versions: report it to whoever keeps this desk."],
   BadValue: ["A part of the command is no value of its kind.", "Names have 1 to 24 of A to Z, 0 to 9 and -. A moment lies between 1970 and 2099."],
   NoSuch: ["There is no such clearance or round.", "Look at the name; a round without steps has no printed order."],
   Unavailable: ["The database or the memory refused. The register is as it was.", "Try again; if it comes back, is the disk full?"],
-  BadHead: ["The request was none of HTTP.", "Is the proxy that of this desk? Tell whoever keeps it."],
-  HeadTooLarge: ["The head of the request is too long for the register.", "Tell whoever keeps this desk."],
+  BadHead: ["The request was none of HTTP.", "Is the proxy that of this desk? Report it to whoever keeps it."],
+  HeadTooLarge: ["The head of the request is too long for the register.", "Report it to whoever keeps this desk."],
   HeadCut: ["The request ended too early. It was not carried out.", "Give the command again."],
-  NoLength: ["The proxy sent the command without its length. It was not carried out.", "Tell whoever keeps this desk."],
-  BadLength: ["The proxy sent the command with a wrong length. It was not carried out.", "Tell whoever keeps this desk."],
+  NoLength: ["The proxy sent the command without its length. It was not carried out.", "Report it to whoever keeps this desk."],
+  BadLength: ["The proxy sent the command with a wrong length. It was not carried out.", "Report it to whoever keeps this desk."],
   BodyCut: ["The command ended too early. It was not carried out.", "Give it again."],
   BodyTooLarge: ["The command is longer than 65,536 bytes.", "Split the order."],
-  NoRoute: ["The register has no such address.", "The page and the register are of different versions: tell whoever keeps this desk."],
+  NoRoute: ["The register has no such address.", "The page and the register are of different versions: report it to whoever keeps this desk."],
 };
 
 const STATUSES = {
   401: ["The proxy asks for a login.", "Load the page again and log in."],
   403: ["The proxy did not let this through.", "Open the page at the address that its keeper named."],
-  404: ["The proxy knows no such address.", "The proxy's configuration is not that of this desk: tell whoever keeps it."],
-  405: ["The register knows this address for something else.", "The page and the register are of different versions: tell whoever keeps this desk."],
+  404: ["The proxy knows no such address.", "The proxy's configuration is not that of this desk: report it to whoever keeps it."],
+  405: ["The register knows this address for something else.", "The page and the register are of different versions: report it to whoever keeps this desk."],
   408: ["The command did not reach the proxy in time. It was not carried out.", "Give it again."],
   413: ["The command is too long for the proxy.", "Split the order."],
 };
@@ -115,7 +115,7 @@ export function faultWords(status, body) {
 }
 
 export function statusWords(status) {
-  const [means, todo] = STATUSES[status] ?? [`The proxy answered with the status ${status}.`, "Tell whoever keeps this desk."];
+  const [means, todo] = STATUSES[status] ?? [`The proxy answered with the status ${status}.`, "Report it to whoever keeps this desk."];
   return { name: `status ${status}`, named: "not passed on to the register", means, todo };
 }
 

@@ -102,7 +102,7 @@ class Browser:
         wait_until(lambda: self.clicked(css), f"a press on {css}")
 
     def clicked(self, css):
-        """Whether it was there to be pressed: a panel may be drawn anew just then."""
+        """Whether it was there to be pressed: a panel may be drawn again just then."""
         element = self.find(css)
         try:
             self.script("document.querySelector(arguments[0])?.scrollIntoView({block: 'center'})", css)
