@@ -180,6 +180,20 @@ def given_elsewhere(stage):
         raise Differs("a step that is given out is to be given out")
 
 
+def focused(stage):
+    """The focus is on Instruct of step 1, which another desk does meanwhile: Enter gives nothing out then."""
+    hand = stage.network(ordered("KIM", "N13-F12", CUT), "clearance/KIM/1")
+    hand.speak("DISP1")
+    hand.tab_to("instruct")
+    for command in step("KIM/1", 1, "OPEN N13-Q11"):
+        hand.post(command)
+    hand.shows("Instruct step 2")
+    for _ in range(3):
+        hand.browser.keys(ENTER)
+        time.sleep(0.5)
+    hand.nothing_sent(3)
+
+
 def field(stage):
     """Nor under a field that has the focus; and the board does so too."""
     hand = stage.network(granted("KIM", "N13-F12", CUT, ["C2"]), "clearance/KIM/1")
@@ -229,4 +243,4 @@ def questions(stage):
     hand.same_reply("accepted", "take the ground off")
 
 
-LOOKS = {"double press": double_press, "double touch": double_touch, "new control": new_control, "changed": waiting, "changed reading": given_elsewhere, "changed field": field, "questions": questions}
+LOOKS = {"double press": double_press, "double touch": double_touch, "new control": new_control, "changed": waiting, "changed reading": given_elsewhere, "changed focus": focused, "changed field": field, "questions": questions}

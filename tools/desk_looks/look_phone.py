@@ -1,7 +1,11 @@
 """On a phone: one column, the next act on the first screen, and a clearance that is no roll of paper."""
 
-from desk_looks.browser import Differs, say
-from desk_looks.network import needed, ordered, steps
+import json
+
+from desk_looks.browser import Differs, free_ports, say
+from desk_looks.desk import Desk
+from desk_looks.network import granted, needed, ordered, steps, write_files
+from desk_looks.stage import give
 
 WIDE, HIGH, MOST = 390, 844, 2600
 
@@ -31,4 +35,59 @@ def phone(stage):
         raise Differs(f"a clearance is {long} px long")
 
 
-LOOKS = {"phone": phone}
+def fits(hand, where, wide):
+    found = hand.browser.script("return document.documentElement.scrollWidth")
+    if found > wide:
+        raise Differs(f"{where} is {found} px wide on {wide}")
+
+
+def row(stage):
+    """The row of a desk that speaks for several, in each of its three states."""
+    hand = stage.network(ordered("KIM", "N13-F12", ["N13-Q11", "N13-B1", "N13-Q13"]), "clearance/KIM/1")
+    hand.browser.size(WIDE, HIGH)
+    hand.speak("DISP1")
+    hand.browser.click("#several")
+    hand.browser.click('main [data-name="hearer"] option[value="REED"]')
+    for name, text in (("instruct", ""), ("repeat", "OPEN N13-Q11"), ("done", "")):
+        hand.browser.settled(f'main [data-name="{name}"]')
+        fits(hand, f"the row at {name}", WIDE)
+        hand.picture(f"phone-row-{name}")
+        if text:
+            hand.browser.type('main [data-name="repeat-text"]', text)
+        hand.press(name)
+        hand.reply("accepted")
+
+
+LONGEST = {"N13-F12": "N13-F12-OLD-STATION-ROAD", "N13-Q11": "N13-Q11-NORTH-BUS-SWITCH", "KIM": "KIMBERLEY-VANDERBILT-LEE"}
+
+
+def renamed(text):
+    """The same with names of 24 letters, the most that there may be."""
+    for short, long in LONGEST.items():
+        text = text.replace(short, long)
+    return text
+
+
+def long_names(stage):
+    files = write_files(stage.work)
+    for path in files:
+        with open(path, encoding="utf-8") as file:
+            text = renamed(file.read())
+        with open(path, "w", encoding="utf-8") as file:
+            file.write(text)
+    desk = Desk(stage.work, "desk", files, free_ports(2))
+    give(desk, json.loads(renamed(json.dumps(granted("KIM", "N13-F12", ["N13-Q11", "N13-B1", "N13-Q13"], ["C" * 24])))))
+    hand = stage.begin(desk)
+    name = LONGEST["KIM"]
+    hand.speak(name)
+    for wide in (WIDE, 1024, 1440):
+        hand.browser.size(wide, HIGH)
+        for page in ("board", "mine", "points", f"clearance/{name}/1"):
+            hand.turn(page)
+            hand.shows(f"{name}/1" if page != "points" else LONGEST["N13-Q11"])
+            hand.shows(LONGEST["N13-F12"])
+            fits(hand, page, wide)
+            hand.picture(f"long-{wide}-{page.split('/')[0]}")
+
+
+LOOKS = {"phone": phone, "phone row": row, "long names": long_names}
