@@ -88,6 +88,18 @@ def long_names(stage):
             hand.shows(LONGEST["N13-F12"])
             fits(hand, page, wide)
             hand.picture(f"long-{wide}-{page.split('/')[0]}")
+    alarm_beside_replies(hand, f"{name}/1")
+
+
+def alarm_beside_replies(hand, clearance):
+    """On a phone, too, an alarm lies on no reply."""
+    hand.browser.size(WIDE, HIGH)
+    hand.post({"by": LONGEST["KIM"], "do": "test", "clearance": clearance, "section": LONGEST["N13-F12"], "dead": False})
+    hand.shows("TESTED LIVE", "#alarms")
+    lower, upper = hand.browser.script("return [document.getElementById('alarms').getBoundingClientRect().bottom, document.querySelector('aside').getBoundingClientRect().top]")
+    hand.picture("long-alarm")
+    if lower > upper + 1:
+        raise Differs(f"the alarm ends at {lower:.0f} px, and the replies begin at {upper:.0f}")
 
 
 LOOKS = {"phone": phone, "phone row": row, "long names": long_names}
