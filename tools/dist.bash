@@ -2,7 +2,7 @@
 # kit's line and the sums of the program and of each source that it was built from. Read by tools/gridclear,
 # tools/make-dist and .ci/run, which set `top`, the root of the repository.
 
-# Each crate that gridclear stands on, lowest first, and gridclear.
+# Each crate that gridclear builds on, lowest first, and gridclear.
 crates_of_program() {
   awk -F: '
     /^[a-z]/ { name = $1; sub(/ .*/, "", name); deps[name] = $2 }
@@ -30,7 +30,7 @@ sums_of_sources() {
 }
 
 # Whether dist/ was made from the sources of this tree. Both lists are read whole: a pipe that closes early has xargs
-# complain behind the last line of .ci/run.
+# complain after the last line of .ci/run.
 dist_is_of_tree() {
   [ -f "$top/dist/SOURCES" ] && [ -f "$top/dist/gridclear.xz" ] &&
     [ "$(grep -E '  (crates\.txt|.*\.(rt|antt))$' "$top/dist/SOURCES")" = "$(sums_of_sources)" ]

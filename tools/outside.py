@@ -132,11 +132,11 @@ class Shift:
             self.tables.append(bench.tables(folder))
 
     def go_on(self, folder, least, most, last):
-        """What is left stands after so many commands, which is told, and the others up to the last go on from there."""
+        """The numbers of commands after which the tables are those that are left; the others up to the last go on from there."""
         tables = self.bench.tables(folder)
         places = [place for place in range(least, min(most, last) + 1) if self.tables[place] == tables]
         everywhere = [place for place, known in enumerate(self.tables) if known == tables]
-        expect(places, f"answered {least}, to stand at most {most}: the tables are those after {everywhere}")
+        expect(places, f"answered {least}, at most {most} made: the tables are those after {everywhere}")
         board = self.bench.run(folder, ["board", "room.db"])
         expect(board.status == 0 and board.errors == "", f"board: {board}")
         expect(self.bench.tables(folder) == tables, "board changes the tables")

@@ -82,7 +82,7 @@ export class Diagram {
     this.node = el("div", { class: "diagram" }, this.#tools(), this.#svg, legend());
   }
 
-  // Shows the whole network where that can be read; else these sections in the middle.
+  // Shows the whole network where that can be read; otherwise these sections in the middle.
   lookAt(names) {
     const spots = names.map((name) => this.#plan.spots.get(name)).filter(Boolean);
     const mean = (key) => spots.reduce((sum, spot) => sum + spot[key], 0) / spots.length;

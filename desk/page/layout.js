@@ -181,7 +181,7 @@ function treeEdge(spot, up, from, ends, measures) {
   return { point: up.point, path, x: next - zone / 2, y, kind: "row", dot: from.row === spot.row ? null : [trunk, begin] };
 }
 
-// Where on its line a tie's point is drawn: on the upright part, where that passes below a row, else on its lane.
+// Where on its line a tie's point is drawn: on the upright part, where that passes below a row, otherwise on its lane.
 function tiePlace(tie, x, end, zone, { heights, lane }) {
   const top = Math.ceil(Math.min(end, tie.a.row)), last = Math.max(end, tie.a.row) - 1;
   if (last < top) return { x: zone - (tie.sub ?? 0) * 22, y: lane(tie), kind: "lane" };

@@ -61,7 +61,7 @@ export class Zoom {
     this.#centre(this.#size.width / 2, this.#size.height / 2, this.#whole());
   }
 
-  // The whole drawing where it can be read so; else its middle, or its beginning.
+  // The whole drawing where it can be read so; otherwise its middle, or its beginning.
   #begin() {
     if (!this.#drawing.clientWidth) return;
     if (this.#byHand) this.#show();

@@ -35,7 +35,7 @@ def green(stage):
         raise Differs(f"green for {took:.1f} seconds after the register stopped")
 
 
-# The page's clock, so many milliseconds ahead.
+# The page's clock, n milliseconds ahead.
 AHEAD = "{ const real = Date.now.bind(Date), Plain = Date; Date = class extends Plain { constructor(...parts) { parts.length ? super(...parts) : super(real() + %d); } static now() { return real() + %d; } }; }"
 
 

@@ -34,7 +34,7 @@ rm "$work/longest"
 try 'no command of it was run' 0 "~BOARD 1$feed" '' board "$work/limit.db"
 
 # Many commands as one list; and a database that fails in the middle of them, by a limit on the size of files: the
-# replies before the fault are printed, their commands stand, and the others were not run.
+# replies before the fault are printed, their commands were carried out, and the others were not run.
 yes "$request" | head -n 10000 >"$work/many"
 bounded run "${three[@]}" <"$work/many" >"$work/replies" 2>"$work/errors"
 found=$?
@@ -51,7 +51,7 @@ replies=$(wc -l <"$work/replies")
 grep -v '"reply":"accepted"}$' "$work/replies" >"$work/output"
 judge 'a database that fails in the middle of a run' 1 '' "$no_store" "$found"
 bounded board "$work/full.db" >"$work/output" 2>"$work/errors"
-judge "the board behind its $replies replies" $((replies == 0 || replies == 400)) "~BOARD $replies$feed" '' $?
+judge "the board after its $replies replies" $((replies == 0 || replies == 400)) "~BOARD $replies$feed" '' $?
 
 # The register is opened before a clearance is read.
 try 'an order of no register' 1 '' "$no_store" order "$work/none.db" JONES/01 9

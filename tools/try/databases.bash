@@ -56,7 +56,7 @@ each_reader no_register 'no file beside a log' "$place/room.db"
 rm "$place/room.db-wal"
 
 # keeps_file FAULT TITLE WORD..: a run that ends with this fault of the store, and leaves the database as it was. A log
-# may stand beside it.
+# may be beside it.
 keeps_file() {
   local fault=$1 title=$2
   shift 2
@@ -160,7 +160,7 @@ cp "$work/killed.db" "$place/other.db"
 cp "$work/killed.db-wal" "$place/other.db-wal"
 board=$(bounded board "$place/other.db")
 order=$(bounded order "$place/other.db" JONES/1 1)
-expect 'the board behind a killed server' test "${board%%$feed*}" = 'BOARD 1'
+expect 'the board after a killed server' test "${board%%$feed*}" = 'BOARD 1'
 on_full_disk 'the board' "$board$feed" board "$place/room.db"
 on_full_disk 'the order' "$order$feed" order "$place/room.db" JONES/1 1
 rm -f "$place"/*

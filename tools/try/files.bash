@@ -17,8 +17,8 @@ keeping "$room" try 'init, a directory for the database' 1 '' "$no_store" init "
 keeping "$room" try 'init, a database in a file' 1 '' "$no_store" init "${three[@]}" --db "$room/staff.csv/new.db"
 keeping "$room" try 'init, a database in no directory' 1 '' "$no_store" init "${three[@]}" --db "$room/none/new.db"
 
-# from_pipes TITLE STATUS OUTPUT ERRORS COUNT: an import whose three files are pipes. The points' pipe ends behind so
-# many bytes, and the others at their end.
+# from_pipes TITLE STATUS OUTPUT ERRORS COUNT: an import whose three files are pipes. The points' pipe ends after
+# COUNT bytes, and the others at their end.
 from_pipes() {
   local title=$1 status=$2 output=$3 errors=$4 count=$5
   bounded init <(cat "${three[0]}") <(head -c "$count" "${three[1]}") <(cat "${three[2]}") \
@@ -29,7 +29,7 @@ from_pipes() {
 from_pipes 'three pipes' 0 "$imported" '' 1000
 from_pipes 'a pipe without a byte' 1 '' "fault: points Header$feed" 0
 from_pipes 'a pipe that ends within the header' 1 '' "fault: points Header$feed" 30
-from_pipes 'a pipe that ends behind the header' 0 "sections 5 points 0 staff 6$feed" '' 39
+from_pipes 'a pipe that ends after the header' 0 "sections 5 points 0 staff 6$feed" '' 39
 from_pipes 'a pipe that ends within the first row' 1 '' "fault: points FieldCount row 1$feed" 45
 from_pipes 'a pipe that ends within a word' 1 '' "fault: points BadWord row 1 column 6$feed" 57
 bounded fence "$files/sections.csv" <(cat "$files/points.csv") L2 S2 S3 >"$work/output" 2>"$work/errors"
@@ -38,9 +38,9 @@ mkfifo "$room/pipe"
 keeping "$room" try 'init, a pipe for the database' 1 '' "$no_store" init "${three[@]}" --db "$room/pipe"
 rm "$room/pipe"
 
-# A file that shrinks to nothing behind the first bytes that are read of it: those bytes are what it had.
+# A file that shrinks to nothing after the first bytes that are read of it: those bytes are what it had.
 if command -v gcc >/dev/null && gcc -O1 -shared -fPIC -o "$work/shrinks.so" "$tools/try/shrinks.c"; then
-  # shrinks TITLE STATUS OUTPUT ERRORS NAME COUNT: an import of which this file has so many bytes, and then no more.
+  # shrinks TITLE STATUS OUTPUT ERRORS NAME COUNT: an import of which this file has COUNT bytes, and then no more.
   shrinks() {
     local title=$1 status=$2 output=$3 errors=$4 name=$5 count=$6
     cp "${three[@]}" "$room"
@@ -49,11 +49,11 @@ if command -v gcc >/dev/null && gcc -O1 -shared -fPIC -o "$work/shrinks.so" "$to
     judge "$title" "$status" "$output" "$errors" $?
     expect "$title: it has shrunk" test ! -s "$room/$name"
   }
-  shrinks 'sections shrink behind L1' 1 '' "fault: network UnknownEnd row 2$feed" sections.csv 27
+  shrinks 'sections shrink after L1' 1 '' "fault: network UnknownEnd row 2$feed" sections.csv 27
   shrinks 'sections shrink within a row' 1 '' "fault: sections FieldCount row 2$feed" sections.csv 23
   shrinks 'points shrink within the header' 1 '' "fault: points Header$feed" points.csv 20
   shrinks 'staff shrinks before BOSS' 1 '' "fault: staff UnknownSupervisor row 4$feed" staff.csv 93
-  shrinks 'staff shrinks behind DALE' 0 "sections 5 points 5 staff 3$feed" '' staff.csv 63
+  shrinks 'staff shrinks after DALE' 0 "sections 5 points 5 staff 3$feed" '' staff.csv 63
   cp "${three[@]}" "$room"
 else
   left_out 'a file that shrinks' 'gcc is not installed'

@@ -1,7 +1,7 @@
 # A server on loopback: connections that are answered, that send nothing and that fail, and what has its port or its
 # register already. Read by tools/try-program.
 
-# serving NAME COUNT: starts a server of $work/NAME.db for so many connections, and waits for its line.
+# serving NAME COUNT: starts a server of $work/NAME.db for COUNT connections, and waits for its line.
 serving() {
   : >"$work/told"
   "$program" serve "$work/$1.db" --port "$port" --count "$2" >"$work/told" 2>"$work/faults" &
@@ -40,7 +40,7 @@ Connection: close
 
 {"fault":"NoRoute"}' '' $?
 served 'a server' ''
-try 'the board behind it' 0 '~JONES/1                       Requested L2' '' board "$work/room.db"
+try 'the board after it' 0 '~JONES/1                       Requested L2' '' board "$work/room.db"
 try 'a server of no register' 1 '' "$no_store" serve "$work/none.db" --port "$port" --count 1
 try 'a server without a count' 2 '' '~--count' serve "$work/room.db" --port "$port"
 try 'a port that is none' 2 '' '~65536' serve "$work/room.db" --port 65536 --count 1
@@ -60,13 +60,13 @@ Connection: close
 {"point":"J1","reply":"added"}' '' $?
 ask 'GET /board HTTP/1.1' '' >"$work/output"
 judge 'its line over HTTP' 0 "~BOARD 0$feed$laid$feed" '' $?
-served 'a server that was told of a jumper' ''
-try 'the board behind a jumper' 0 "BOARD 0$feed$laid$feed" '' board "$work/jumper.db"
+served 'a server that was given a jumper' ''
+try 'the board after a jumper' 0 "BOARD 0$feed$laid$feed" '' board "$work/jumper.db"
 
 # failing HOW.. : connections that fail, one after the other, while a first one holds the server up, so that each has
 # failed before its turn comes:
 #   cut     sends the first bytes of a request, and is reset: its request is not read
-#   reset   sends a command, and is reset: its response does not go out, and the command stands
+#   reset   sends a command, and is reset: its response does not go out, and the command was carried out
 #   asked   asks for the board, which it prints
 failing() {
   python3 - "$port" "$request" "$@" <<'END'
@@ -108,15 +108,15 @@ BOARD 0
 new_register "$work/failing.db"
 serving failing 6
 failing cut asked reset cut asked >"$work/output"
-judge 'those behind connections that fail' 0 "~$empty_board" '' $?
-expect 'a command whose response did not go out stands' grep -qxF 'BOARD 1' "$work/output"
+judge 'those after connections that fail' 0 "~$empty_board" '' $?
+expect 'a command whose response did not go out was carried out' grep -qxF 'BOARD 1' "$work/output"
 served 'a server whose connections fail' "connection 2 ReadFailed
 connection 4 WriteFailed
 connection 5 ReadFailed
 "
-try 'the board behind it, of one request' 0 "~BOARD 1$feed" '' board "$work/failing.db"
+try 'the board after it, of one request' 0 "~BOARD 1$feed" '' board "$work/failing.db"
 
-# What cannot be told on standard error is lost, and the next connection is served.
+# What cannot be printed on standard error is lost, and the next connection is served.
 new_register "$work/failing.db"
 : >"$work/told"
 "$program" serve "$work/failing.db" --port "$port" --count 3 >"$work/told" 2>&- &
@@ -124,9 +124,9 @@ server=$!
 for _ in $(seq 100); do [ -s "$work/told" ] || sleep 0.1; done
 : >"$work/faults"
 failing cut asked >"$work/output"
-judge 'those behind a connection that fails, standard error closed' 0 "$empty_board" '' $?
+judge 'those after a connection that fails, standard error closed' 0 "$empty_board" '' $?
 served 'a server with standard error closed' ''
-try 'the board behind it, of none' 0 "BOARD 0$feed" '' board "$work/failing.db"
+try 'the board after it, of none' 0 "BOARD 0$feed" '' board "$work/failing.db"
 
 # A database that shrinks under its server: no reply is given that is not kept, and the server ends by itself.
 new_register "$work/shrinking.db"

@@ -1,4 +1,4 @@
-/* Loaded before the C library: the first read of the file SHRINKS gives no more than SHRINKS_AT bytes, and behind it the
+/* Loaded before the C library: the first read of the file SHRINKS gives no more than SHRINKS_AT bytes, and after it the
    file has none. Built by tools/try/files.bash. */
 #define _GNU_SOURCE
 #include <stdio.h>

@@ -51,7 +51,7 @@ unread_output() {
 # What was to be kept is kept: the register is made, the command was run.
 left_by_output() {
   try "$1: init --db made the register" 0 "BOARD 0$feed" '' board "$work/made.db"
-  try "$1: the command of run --db stands" 0 "~BOARD 1$feed" '' board "$work/run.db"
+  try "$1: the command of run --db was carried out" 0 "~BOARD 1$feed" '' board "$work/run.db"
 }
 
 each_subcommand full_output

@@ -1,6 +1,6 @@
 # Databases whose rows read, but give a register that no commands lead to: each is refused by the name of the first
 # table, in the order network_point, clearance, step, hold, whose rows do not fit the others. Read by tools/try-program,
-# behind databases.bash.
+# after databases.bash.
 
 # after COUNT PATH: the register that the first commands of the shift leave.
 after() {
@@ -65,7 +65,7 @@ line='{"at":1795509700,"by":"KIM","do":"request","section":"L3"}'
 ask 'POST /command HTTP/1.1' "Content-Length: ${#line}" "$line" >/dev/null
 kill -9 "$server"
 wait "$server" 2>/dev/null
-# Each subcommand finds the two files so, since a clean end folds the log into the file, behind this fault too.
+# Each subcommand finds the two files so, since a clean end folds the log into the file, after this fault too.
 refuses_mixture() {
   cp "$work/mixed.db-wal" "$place/room.db-wal"
   cp "$work/monday.db" "$place/room.db"
