@@ -7,20 +7,13 @@ import time
 from desk_looks.browser import free_ports
 from desk_looks.desk import EXAMPLES, FILES, Desk, gridclear
 
-STEPS = ["OPEN S2", "OPEN S3", "BLOCK S2", "BLOCK S3", "TAG S2", "TAG S3"]
 MORE = {"sections.csv": "X1,no\n", "points.csv": "J1,L1,X1,yes,no,open\n", "staff.csv": ""}  # what the page's copies have
 
 
 def shift():
-    commands = [{"by": "OPS", "do": "jumper", "from": "L1", "lockable": True, "point": "J1", "remote": False, "to": "X1"},
-                {"by": "JONES", "do": "request", "section": "L2"},
-                {"by": "OPS", "clearance": "JONES/1", "do": "order", "points": ["S2", "S3"], "steps": STEPS}]
-    for number, text in enumerate(STEPS, 1):
-        own = {"clearance": "JONES/1", "step": number}
-        commands += [dict(own, by="OPS", do="instruct"), dict(own, by="REED", do="repeat", text=text), dict(own, by="REED", do="report", done=True)]
-    work = {"by": "JONES", "clearance": "JONES/1"}
-    return commands + [{"by": "OPS", "clearance": "JONES/1", "do": "grant"}, dict(work, do="test", section="L2", dead=True),
-                       dict(work, do="ground", section="L2"), dict(work, do="sign_on", crew="C1")]
+    """The shift of README, but its last two commands, which the page sends."""
+    with open(os.path.join(os.path.dirname(EXAMPLES[0]), "held.jsonl"), encoding="utf-8") as file:
+        return [json.loads(line) for line in file][:-2]
 
 
 def with_jumper(work):
