@@ -196,7 +196,7 @@ async function lookThroughOf(name, limit) {
   }
 }
 
-// Asks for all closed records, up to a number of names and numbers.
+// Asks for all closed records, up to a limit of names and numbers.
 export async function lookThrough(limit) {
   let left = limit;
   let whole = caller !== null;
