@@ -4,3 +4,10 @@ pub mod NoFloats
 pub mod LineReplies
 pub mod KeysInOrder
 pub mod KeyFaults
+pub mod PlainTexts
+pub mod SaidReads
+pub mod CommandsRead
+pub mod ContentTexts
+pub mod TextsRead
+pub mod SaidTaken
+pub mod CommandsSent

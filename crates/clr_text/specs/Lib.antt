@@ -10,3 +10,6 @@ pub mod Replies
 pub mod FaultText
 pub mod Lines
 pub mod LineLaws
+pub mod CommandText
+pub mod CommandLaws
+pub mod CommandExamples

@@ -1,4 +1,8 @@
 //! Laws of the definitions: the contract of each function is the law.
+ghost use Rattle.clr_text.specs.CommandLaws.{CommandValuesArePlain, CommandValuesReadBack};
+ghost use Rattle.clr_text.specs.CommandLaws.{CommandsAtKeysCanBeSent, CommandsReadBack};
+ghost use Rattle.clr_text.specs.CommandLaws.{PlainValuesReadBack};
+ghost use Rattle.clr_text.specs.CommandLaws.{ReadCommandsCanBeSent, ValuesAreOneLine};
 ghost use Rattle.clr_text.specs.KeyLaws.{KeysStandInOrder, LeastBadValueIsNamed};
 ghost use Rattle.clr_text.specs.KeyLaws.{LeastMissingIsNamed};
 ghost use Rattle.clr_text.specs.LineLaws.{FaultsAreOfTheLine, LinesAreRuns, SameShownSameBytes};
@@ -42,3 +46,27 @@ pub fn headline_holds_of_lines()
     nothing_is_taken_away();
     own_commands_stand_alone();
 }
+
+/// A command that can be sent is read from the text that is written for it, and from its value.
+pub fn commands_read_back()
+    ensures texts { CommandsReadBack }
+    ensures values { CommandValuesReadBack }
+{}
+
+/// Each command that was read can be sent, also one that was read at a key of another value.
+pub fn read_commands_can_be_sent()
+    ensures lines { ReadCommandsCanBeSent }
+    ensures parts { CommandsAtKeysCanBeSent }
+{}
+
+/// A value of texts, whole numbers, `true`, `false`, null and objects whose keys are in order is
+/// what its text reads as; the value of a command that can be sent is one.
+pub fn plain_values_read_back()
+    ensures values { PlainValuesReadBack }
+    ensures commands { CommandValuesArePlain }
+{}
+
+/// The text of a value has no line feed, so it is one line among others.
+pub fn values_are_one_line()
+    ensures { ValuesAreOneLine }
+{}

@@ -1,21 +1,26 @@
-//! Commands read from JSON, and replies and faults as JSON.
+//! Commands read from JSON, and commands, replies and faults as JSON.
 #![tactic(auto)]
 
+mod commands;
 mod fault;
 mod fault_texts;
-mod json;
 mod key;
 mod kinds;
 pub mod laws;
+mod parts;
 mod reading;
 mod refusal_text;
 mod replies;
+mod said;
+mod sent;
 mod values;
 mod word;
 
 pub use clr_print::{print_board, print_order};
+pub use commands::{command_text, command_value};
 pub use fault::TextFault;
 pub use fault_texts::fault_text;
 pub use key::Key;
-pub use reading::command_of;
-pub use replies::reply_text;
+pub use reading::{command_in, command_of};
+pub use replies::{reply_text, reply_value};
+pub use sent::can_be_sent;

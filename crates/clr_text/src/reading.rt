@@ -49,9 +49,9 @@ fn value_in(alloc: Global, bytes: &[u8]) -> Result<Value, TextFault>
     }
 }
 
-/// The command of a JSON value.
+/// The command of a JSON value, as a part of another.
 #[tactic(auto, unfolding(crate::specs::Reading::command_in))]
-fn command_in(alloc: Global, value: &Value) -> Result<Command, TextFault>
+pub fn command_in(alloc: Global, value: &Value) -> Result<Command, TextFault>
     ensures { Gives result (command_in (view value.now)) }
 {
     let Some(members) = value.as_object() else {

@@ -6,7 +6,7 @@ ghost use Rattle.clr_rules.specs.HoldKind.{hold_kind_text};
 ghost use Rattle.clr_text.specs.Json.{id_data, name_data, whole_data};
 ghost use Rattle.clr_text.specs.RefusalText.{refusal_data, refusal_name};
 
-use crate::json::ToJson;
+use crate::parts::ToJson;
 use clr_net::Name;
 use clr_rules::{ClearanceId, HoldKind, Refusal};
 use serde_json::{Value, json};

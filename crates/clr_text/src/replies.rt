@@ -3,7 +3,7 @@ ghost use Rattle.std.specs.Prelude.{◌≡◌, IfOk, string_bytes};
 ghost use Rattle.serde_json.specs.View.{view};
 ghost use Rattle.clr_text.specs.Replies.{card_data, reply_data, reply_text, view_data};
 
-use crate::json::{ToJson, list_value, optional_value};
+use crate::parts::{ToJson, list_value, optional_value};
 use crate::refusal_text::refusal_value;
 use clr_net::Name;
 use clr_rules::{Card, Reply, View};
@@ -19,7 +19,8 @@ pub fn reply_text(alloc: Global, reply: &Reply) -> Result<String, AllocError>
     value.to_string(alloc)
 }
 
-fn reply_value(alloc: Global, reply: &Reply) -> Result<Value, AllocError>
+/// The JSON value of a reply, as a part of another.
+pub fn reply_value(alloc: Global, reply: &Reply) -> Result<Value, AllocError>
     ensures { IfOk result (λ value. view value ≡ reply_data reply.now) }
 {
     match reply {

@@ -2,11 +2,13 @@
 ghost use Rattle.std.specs.Prelude.{◌≡◌};
 ghost use Rattle.std.specs.List.{list_any};
 ghost use Rattle.std.specs.Str.{bytes_eq};
+ghost use Rattle.clr_text.specs.CommandText.{word_of};
 ghost use Rattle.clr_text.specs.Keys.{key_text};
 ghost use Rattle.clr_text.specs.Kinds.{has_key, own_keys, states_moment, word_named};
 ghost use Rattle.clr_text.specs.Kinds.{word_text};
 
 use crate::key::Key;
+use clr_rules::Kind;
 
 /// The word at `do`, which says which of the nineteen commands it is.
 #[derive(Clone, Copy, Debug, PartialEq, Eq)]
@@ -56,6 +58,33 @@ impl Word {
         Word::Jumper,
     ];
 
+    /// The word of a command of this kind.
+    pub(crate) fn of(kind: &Kind) -> Word
+        ensures { result ≡ word_of kind.now }
+    {
+        match kind {
+            Kind::Request { .. } => Word::Request,
+            Kind::Order { .. } => Word::Order,
+            Kind::Instruct { .. } => Word::Instruct,
+            Kind::Repeat { .. } => Word::Repeat,
+            Kind::Report { .. } => Word::Report,
+            Kind::Grant { .. } => Word::Grant,
+            Kind::Test { .. } => Word::Test,
+            Kind::Ground { .. } => Word::Ground,
+            Kind::Unground { .. } => Word::Unground,
+            Kind::SignOn { .. } => Word::SignOn,
+            Kind::SignOff { .. } => Word::SignOff,
+            Kind::Transfer { .. } => Word::Transfer,
+            Kind::Release { .. } => Word::Release,
+            Kind::Cancel { .. } => Word::Cancel,
+            Kind::Restore { .. } => Word::Restore,
+            Kind::Amend { .. } => Word::Amend,
+            Kind::Switch { .. } => Word::Switch,
+            Kind::Show { .. } => Word::Show,
+            Kind::Jumper { .. } => Word::Jumper,
+        }
+    }
+
     /// The word that a text is.
     pub(crate) fn named(text: &str) -> Option<Word>
         ensures { result ≡ word_named text.now }
@@ -64,7 +93,7 @@ impl Word {
     }
 
     /// The word as it is written.
-    fn text(self) -> &'static str
+    pub(crate) fn text(self) -> &'static str
         ensures { result.now ≡ word_text self }
     {
         match self {

@@ -1,6 +1,6 @@
 use Rattle.std.proofs.Common.{◌≡◌, take, map}
 use Rattle.serde_json.specs.View.{view}
-use Rattle.clr_text.proofs.json.list_value.Given as goal
+use Rattle.clr_text.proofs.parts.list_value.Given as goal
 
 abbrev pub invariant-loop-item : goal.invariant-loop-item
 invariant-loop-item g l = map view l.list.items ≡ map g.T.ToJson.json_data (take l.item-index l.items)

@@ -1,0 +1,145 @@
+-- What is said at a key reads as what it was, and its value is plain.
+use Rattle.std.proofs.Common.{◌≡◌, ◌∙◌, ◌≤◌, ◌^◌, ℕ, Bool, true, List, [], ◌∷◌, Option, Some, Ok, IsUtf8, length, nat_le, decimal, refl, ap, arith, map, option_map, option_and_then, ok_or, le-ltb, lt-ltb, leb-true, ne_eqb}
+use Rattle.std.proofs.lemmas.Bool.{and_from, and_parts}
+use Rattle.std.proofs.lemmas.Str.{IsUtf8-append, is_utf8-from_IsUtf8}
+use Rattle.std.specs.List.{list_all}
+use Rattle.std.specs.Str.{is_utf8}
+use Rattle.json.proofs.Printed.Utf8.{IsUtf8-are_ascii}
+use Rattle.serde_json.specs.Data.{Data, boolean, depth, items_depth, string}
+use Rattle.serde_json.specs.View.{items_of}
+use Rattle.clr_net.specs.Name.{is_name}
+use Rattle.clr_net.specs.NameText.{read_name}
+use Rattle.clr_net.proofs.Names.{name_has_none, name_is_text, name_parts}
+use Rattle.clr_order.proofs.StepTexts.{step_texts_are_read}
+use Rattle.clr_order.specs.Action.{action_word}
+use Rattle.clr_order.specs.Texts.{step_text, waiting_step}
+use Rattle.clr_order.specs.declared.action.Action.{Action}
+use Rattle.clr_order.specs.declared.action.Action.TheVariants.{Open}
+use Rattle.clr_rules.proofs.IdTexts.{written_reads}
+use Rattle.clr_rules.specs.Id.{id_text, is_clearance_number, is_id}
+use Rattle.clr_rules.specs.Moment.{is_moment}
+use Rattle.clr_rules.specs.Prelude.{Id, Task, task}
+use Rattle.clr_text.proofs.PlainTexts.{decimal_is_text}
+use Rattle.clr_text.specs.CommandLaws.{is_plain, items_are_plain}
+use Rattle.clr_text.specs.CommandText.{Said, clearance, flag, is_taken, moment, name, names, number, said_data, task_data, tasks, text}
+use Rattle.clr_text.specs.Json.{id_data, list_data, name_data, whole_data}
+use Rattle.clr_text.specs.Values.{all_read, at_key, clearance_at, flag_at, moment_at, name_at, point_in, points_at, step_at, step_in, steps_at, text_at, value_at}
+use Rattle.clr_text.specs.declared.fault.TextFault.TheVariants.{BadValue}
+use Rattle.clr_text.specs.declared.key.Key.{Key}
+use Rattle.clr_text.specs.declared.key.Key.TheVariants.{At, Clearance, Points, Step, Steps, Text}
+
+reads : {A : Type 0} (reading : Data → Option A) (key : Key) (d v : Data) (x : A) → value_at key d ≡ Some v → reading v ≡ Some x
+    → at_key reading key d ≡ Ok x
+reads reading key d v x there is =
+    ap (λ o. ok_or (option_and_then reading o) (BadValue key)) there ∙ ap (λ o. ok_or o (BadValue key)) is
+
+name_reads : (s : List ℕ) → is_name s ≡ true → read_name s ≡ Ok s
+name_reads s h =
+    let parts = name_parts s h in
+    let some = ne_eqb (length s) 0 (λ e. omega arith) in
+    let few = le-ltb 24 (length s) parts.1 in
+    rw (some, few, name_has_none s h) refl
+
+name_in : (s : List ℕ) → is_name s ≡ true → point_in (name_data s) ≡ Some s
+name_in s h = rw (name_reads s h) refl
+
+names_in : (list : List (List ℕ)) → list_all is_name list ≡ true → all_read point_in (items_of (map name_data list)) ≡ Some list
+names_in [] h = refl
+names_in (s ∷ list) h =
+    let parts = and_parts (is_name s) (list_all is_name list) h in
+    rw (name_in s parts.0, names_in list parts.1) refl
+
+task_in : (t : Task) → is_name t.point ≡ true → step_in (task_data t) ≡ Some (waiting_step t)
+task_in t h = rw (step_texts_are_read t h) refl
+
+tasks_in : (list : List Task) → list_all (λ t. is_name t.point) list ≡ true
+    → all_read step_in (items_of (map task_data list)) ≡ Some (map waiting_step list)
+tasks_in [] h = refl
+tasks_in (t ∷ list) h =
+    let parts = and_parts (is_name t.point) (list_all (λ u. is_name u.point) list) h in
+    rw (task_in t parts.0, tasks_in list parts.1) refl
+
+tasks_again : (list : List Task) → map task (map waiting_step list) ≡ list
+tasks_again [] = refl
+tasks_again (t ∷ list) = ap (λ rest. t ∷ rest) (tasks_again list)
+
+module _ (d : Data) where
+  pub moment_is : (seconds : ℕ) → value_at At d ≡ Some (whole_data seconds) → is_moment seconds ≡ true → moment_at d ≡ Ok seconds
+  moment_is seconds there h = reads _ At d (whole_data seconds) seconds there (rw h refl)
+
+  pub name_is : (key : Key) (s : List ℕ) → value_at key d ≡ Some (name_data s) → is_name s ≡ true → name_at key d ≡ Ok s
+  name_is key s there h = reads _ key d (name_data s) s there (name_in s h)
+
+  pub clearance_is : (id : Id) → value_at Clearance d ≡ Some (id_data id) → is_id id ≡ true → clearance_at d ≡ Ok id
+  clearance_is id there h = reads _ Clearance d (id_data id) id there (written_reads id h)
+
+  pub number_is : (n : ℕ) → value_at Step d ≡ Some (whole_data n) → nat_le n 65535 ≡ true → step_at d ≡ Ok n
+  number_is n there h = reads _ Step d (whole_data n) n there (rw h refl)
+
+  pub flag_is : (key : Key) (b : Bool) → value_at key d ≡ Some (boolean b) → flag_at key d ≡ Ok b
+  flag_is key b there = reads _ key d (boolean b) b there refl
+
+  pub text_is : (s : List ℕ) → value_at Text d ≡ Some (string s) → text_at d ≡ Ok s
+  text_is s there = reads _ Text d (string s) s there refl
+
+  pub names_are : (list : List (List ℕ)) → value_at Points d ≡ Some (list_data name_data list) → list_all is_name list ≡ true → points_at d ≡ Ok list
+  names_are list there h = reads _ Points d (list_data name_data list) list there (names_in list h)
+
+  pub tasks_are : (list : List Task) → value_at Steps d ≡ Some (list_data task_data list) → list_all (λ t. is_name t.point) list ≡ true → steps_at d ≡ Ok list
+  tasks_are list there h =
+      reads _ Steps d (list_data task_data list) list there (ap (option_map (map task)) (tasks_in list h) ∙ ap Some (tasks_again list))
+
+-- ---- the value of what is said is plain
+
+name_is_utf8 : (s : List ℕ) → is_name s ≡ true → is_utf8 s ≡ true
+name_is_utf8 s h = is_utf8-from_IsUtf8 s (name_is_text s h)
+
+id_is_utf8 : (id : Id) → is_id id ≡ true → is_utf8 (id_text id) ≡ true
+id_is_utf8 id h =
+    let parts = and_parts (is_name id.requester) (is_clearance_number id.number) h in
+    let number = IsUtf8-append (47 ∷ []) (decimal id.number) (IsUtf8-are_ascii (47 ∷ []) refl) (decimal_is_text id.number) in
+    is_utf8-from_IsUtf8 (id_text id) (IsUtf8-append id.requester _ (name_is_text id.requester parts.0) number)
+
+word_is_text : (a : Action) → IsUtf8 (action_word a)
+word_is_text Open = IsUtf8-are_ascii (action_word Open) refl
+word_is_text a = IsUtf8-are_ascii (action_word a) refl
+
+task_is_utf8 : (t : Task) → is_name t.point ≡ true → is_utf8 (step_text t) ≡ true
+task_is_utf8 t h =
+    let point = IsUtf8-append (32 ∷ []) t.point (IsUtf8-are_ascii (32 ∷ []) refl) (name_is_text t.point h) in
+    is_utf8-from_IsUtf8 (step_text t) (IsUtf8-append (action_word t.action) _ (word_is_text t.action) point)
+
+all_plain : {A : Type 0} (seen : A → Data) (test : A → Bool) → ((x : A) → test x ≡ true → is_plain (seen x) ≡ true)
+    → (list : List A) → list_all test list ≡ true → items_are_plain (items_of (map seen list)) ≡ true
+all_plain seen test each [] h = refl
+all_plain seen test each (x ∷ list) h =
+    let parts = and_parts (test x) (list_all test list) h in
+    and_from _ _ (each x parts.0) (all_plain seen test each list parts.1)
+
+pub said_is_plain : (said : Said) → is_taken said ≡ true → is_plain (said_data said) ≡ true
+said_is_plain (moment seconds) h = let small = leb-true seconds 4102444799 h in lt-ltb seconds (2 ^ 64) (omega arith)
+said_is_plain (name s) h = name_is_utf8 s h
+said_is_plain (clearance id) h = id_is_utf8 id h
+said_is_plain (number n) h = let small = leb-true n 65535 h in lt-ltb n (2 ^ 64) (omega arith)
+said_is_plain (flag b) h = refl
+said_is_plain (text s) h = h
+said_is_plain (names list) h = all_plain name_data is_name name_is_utf8 list h
+said_is_plain (tasks list) h = all_plain task_data (λ t. is_name t.point) task_is_utf8 list h
+
+names_are_flat : (list : List (List ℕ)) → items_depth (items_of (map name_data list)) ≤ 0
+names_are_flat [] = omega arith
+names_are_flat (s ∷ list) = omega (arith, names_are_flat list)
+
+tasks_are_flat : (list : List Task) → items_depth (items_of (map task_data list)) ≤ 0
+tasks_are_flat [] = omega arith
+tasks_are_flat (t ∷ list) = omega (arith, tasks_are_flat list)
+
+pub said_is_flat : (said : Said) → depth (said_data said) ≤ 1
+said_is_flat (moment seconds) = omega arith
+said_is_flat (name s) = omega arith
+said_is_flat (clearance id) = omega arith
+said_is_flat (number n) = omega arith
+said_is_flat (flag b) = omega arith
+said_is_flat (text s) = omega arith
+said_is_flat (names list) = omega (arith, names_are_flat list)
+said_is_flat (tasks list) = omega (arith, tasks_are_flat list)
