@@ -17,6 +17,7 @@ use Rattle.clr_args.specs.declared.asked.OrderArgs.{OrderArgs}
 use Rattle.clr_args.specs.declared.asked.RunArgs.{RunArgs}
 use Rattle.clr_args.specs.declared.asked.RunArgs.TheVariants as over
 use Rattle.clr_args.specs.declared.asked.ServeArgs.{ServeArgs}
+use Rattle.clr_args.specs.declared.asked.WayBackArgs.{WayBackArgs}
 use Rattle.clr_args.specs.declared.parsing.Parsed.{Parsed}
 use Rattle.clr_args.specs.declared.parsing.Parsed.TheVariants as parsed
 
@@ -68,6 +69,10 @@ pub record AsksBoard (rows : List Row) (args : BoardArgs) : Type 0 where
   pub database : args.database.now ≡ word_in rows (codes "DB")
   pub offset : args.offset.minutes ≡ offset_in (first_of (codes "offset") rows)
 
+pub record AsksWayBack (rows : List Row) (args : WayBackArgs) : Type 0 where
+  pub database : args.database.now ≡ word_in rows (codes "DB")
+  pub clearance : args.clearance.now ≡ word_in rows (codes "CLEARANCE")
+
 pub record AsksServe (rows : List Row) (args : ServeArgs) : Type 0 where
   pub database : args.database.now ≡ word_in rows (codes "DB")
   pub port : args.port ≡ number_in 65535 (first_of (codes "port") rows)
@@ -80,6 +85,7 @@ Asks name rows (asked.Init args) = (name ≡ codes "init") × AsksInit rows args
 Asks name rows (asked.Run args) = (name ≡ codes "run") × AsksRun rows args
 Asks name rows (asked.Order args) = (name ≡ codes "order") × AsksOrder rows args
 Asks name rows (asked.Board args) = (name ≡ codes "board") × AsksBoard rows args
+Asks name rows (asked.WayBack args) = (name ≡ codes "wayback") × AsksWayBack rows args
 Asks name rows (asked.Serve args) = (name ≡ codes "serve") × AsksServe rows args
 Asks name rows (asked.Migrate path) = (name ≡ codes "migrate")
     × (path.now ≡ word_in rows (codes "DB"))
@@ -91,6 +97,7 @@ pub record IsNoSubcommand (name : Text) : Type 0 where
   pub run : name ≢ codes "run"
   pub order : name ≢ codes "order"
   pub board : name ≢ codes "board"
+  pub wayback : name ≢ codes "wayback"
   pub serve : name ≢ codes "serve"
   pub migrate : name ≢ codes "migrate"
 

@@ -58,6 +58,12 @@ order =
 abbrev pub board : App
 board = with_rule (with_rule (new_app (codes "board")) (required_rule (codes "DB"))) offset_rule
 
+-- `wayback DB CLEARANCE`
+abbrev pub wayback : App
+wayback =
+    with_rule (with_rule (new_app (codes "wayback")) (required_rule (codes "DB")))
+    (required_rule (codes "CLEARANCE"))
+
 -- `serve DB --port N --count N`
 abbrev pub serve : App
 serve =
@@ -80,6 +86,6 @@ top = record {
 -- the program with its subcommands
 abbrev pub gridclear : App
 gridclear =
-    with_subcommand (with_subcommand (with_subcommand
+    with_subcommand (with_subcommand (with_subcommand (with_subcommand
     (with_subcommand (with_subcommand (with_subcommand (with_subcommand top fence.top) init.top)
-    run.top) order.top) board.top) serve.top) migrate.top
+    run.top) order.top) board.top) wayback.top) serve.top) migrate.top

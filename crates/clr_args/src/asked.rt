@@ -14,6 +14,8 @@ pub enum Asked<'a> {
     Order(OrderArgs<'a>),
     /// The clearances and switch orders that are not closed, printed.
     Board(BoardArgs<'a>),
+    /// The commands that give a clearance or a switch order back, printed.
+    WayBack(WayBackArgs<'a>),
     /// Answers over HTTP.
     Serve(ServeArgs<'a>),
     /// The tables of the register at this path, brought to the version that is read.
@@ -76,6 +78,15 @@ pub struct BoardArgs<'a> {
     /// The path of the database.
     pub database: &'a str,
     pub offset: Offset,
+}
+
+/// What `wayback` is asked for.
+#[derive(Clone, Copy)]
+pub struct WayBackArgs<'a> {
+    /// The path of the database.
+    pub database: &'a str,
+    /// The word that names the clearance.
+    pub clearance: &'a str,
 }
 
 /// What `serve` is asked for.

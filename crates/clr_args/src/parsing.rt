@@ -2,9 +2,12 @@
 ghost use Rattle.std.specs.Prelude.{◌≢◌, IfOk, MatchOption, map};
 ghost use Rattle.clap.specs.Words.{found_of, kind_of, rows_of};
 ghost use Rattle.clr_args.specs.Parsed.{AsksBoard, AsksFence, AsksInit, AsksOrder, AsksRun};
-ghost use Rattle.clr_args.specs.Parsed.{AsksServe, IsNoRun, IsParsedAs, IsSaid, Parses};
+ghost use Rattle.clr_args.specs.Parsed.{AsksServe, AsksWayBack, IsNoRun, IsParsedAs, IsSaid};
+ghost use Rattle.clr_args.specs.Parsed.{Parses};
 
-use crate::asked::{Asked, BoardArgs, FenceArgs, Files, InitArgs, OrderArgs, RunArgs, ServeArgs};
+use crate::asked::{
+    Asked, BoardArgs, FenceArgs, Files, InitArgs, OrderArgs, RunArgs, ServeArgs, WayBackArgs,
+};
 use crate::syntax;
 use crate::words::{count_of, offset_of, option_of, port_of, word_of, words_of};
 use clap::ArgMatches;
@@ -80,6 +83,7 @@ fn asked<'a>(alloc: Global, name: &str, matches: &ArgMatches<'a>) -> Result<Pars
         },
         "order" => Ok(Parsed::Asked(Asked::Order(order_args(matches)))),
         "board" => Ok(Parsed::Asked(Asked::Board(board_args(matches)))),
+        "wayback" => Ok(Parsed::Asked(Asked::WayBack(way_back_args(matches)))),
         "serve" => Ok(Parsed::Asked(Asked::Serve(serve_args(matches)))),
         "migrate" => Ok(Parsed::Asked(Asked::Migrate(word_of(matches, "DB")))),
         _ => {
@@ -156,6 +160,16 @@ fn board_args<'a>(matches: &ArgMatches<'a>) -> BoardArgs<'a>
     BoardArgs {
         database: word_of(matches, "DB"),
         offset: offset_of(matches),
+    }
+}
+
+/// What `wayback DB CLEARANCE` asks for.
+fn way_back_args<'a>(matches: &ArgMatches<'a>) -> WayBackArgs<'a>
+    ensures { AsksWayBack (rows_of (found_of matches.now)) result }
+{
+    WayBackArgs {
+        database: word_of(matches, "DB"),
+        clearance: word_of(matches, "CLEARANCE"),
     }
 }
 

@@ -11,6 +11,7 @@ mod migrate;
 mod order;
 mod run;
 mod serve;
+mod wayback;
 
 use clap::Command;
 use std::alloc::{AllocError, Global};
@@ -47,8 +48,10 @@ pub fn command<'a>(alloc: Global) -> Result<Command<'a>, AllocError>
     let with_order = with_run.subcommand(order)?;
     let board = board::command(alloc)?;
     let with_board = with_order.subcommand(board)?;
+    let wayback = wayback::command(alloc)?;
+    let with_wayback = with_board.subcommand(wayback)?;
     let serve = serve::command(alloc)?;
-    let with_serve = with_board.subcommand(serve)?;
+    let with_serve = with_wayback.subcommand(serve)?;
     let migrate = migrate::command(alloc)?;
     let command = with_serve.subcommand(migrate)?;
     Ok(command)

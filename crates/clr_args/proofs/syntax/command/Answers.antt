@@ -1,7 +1,7 @@
 use Rattle.std.proofs.Common.{◌≡◌, ◌∙◌, ap, ap₂}
 use Rattle.clap.specs.Words.{App, Shape, shape_of, with_subcommand}
 use Rattle.clap.proofs.SimpleLemmas.{plain_fields}
-use Rattle.clr_args.specs.Syntax.{board, fence, init, migrate, order, run, serve}
+use Rattle.clr_args.specs.Syntax.{board, fence, init, migrate, order, run, serve, wayback}
 use Rattle.clr_args.proofs.syntax.command.Goals as goal
 
 -- each subcommand is a plain one, so it has no global argument
@@ -17,6 +17,8 @@ returns c =
     let order_plain = plain_fields c.in_ok-order.order (ap (λ (s : Shape). s.is_plain) order_is) in
     let board_is : shape_of c.in_ok-board.board ≡ board.top = ap (λ (a : App). a.top) c.in_ok-board.ensures in
     let board_plain = plain_fields c.in_ok-board.board (ap (λ (s : Shape). s.is_plain) board_is) in
+    let wayback_is : shape_of c.in_ok-wayback.wayback ≡ wayback.top = ap (λ (a : App). a.top) c.in_ok-wayback.ensures in
+    let wayback_plain = plain_fields c.in_ok-wayback.wayback (ap (λ (s : Shape). s.is_plain) wayback_is) in
     let serve_is : shape_of c.in_ok-serve.serve ≡ serve.top = ap (λ (a : App). a.top) c.in_ok-serve.ensures in
     let serve_plain = plain_fields c.in_ok-serve.serve (ap (λ (s : Shape). s.is_plain) serve_is) in
     let migrate_is : shape_of c.in_ok-migrate.migrate ≡ migrate.top = ap (λ (a : App). a.top) c.in_ok-migrate.ensures in
@@ -26,5 +28,6 @@ returns c =
     let with_run = c.in_ok-with_run.ensures.shape run_plain.globals ∙ ap₂ with_subcommand with_init run_is in
     let with_order = c.in_ok-with_order.ensures.shape order_plain.globals ∙ ap₂ with_subcommand with_run order_is in
     let with_board = c.in_ok-with_board.ensures.shape board_plain.globals ∙ ap₂ with_subcommand with_order board_is in
-    let with_serve = c.in_ok-with_serve.ensures.shape serve_plain.globals ∙ ap₂ with_subcommand with_board serve_is in
+    let with_wayback = c.in_ok-with_wayback.ensures.shape wayback_plain.globals ∙ ap₂ with_subcommand with_board wayback_is in
+    let with_serve = c.in_ok-with_serve.ensures.shape serve_plain.globals ∙ ap₂ with_subcommand with_wayback serve_is in
     c.in_ok-command.ensures.shape migrate_plain.globals ∙ ap₂ with_subcommand with_serve migrate_is

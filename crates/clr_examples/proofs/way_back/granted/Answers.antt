@@ -14,4 +14,4 @@ use Rattle.clr_examples.proofs.way_back.granted.Goals as goal
 
 pub returns : goal.returns
 unfolding in_fence reaches row_of with_row without_row new_steps holds_of places_of has_some_hold has_any_hold hindering_hold held_among first_of_each steps_in steps_of greatest_number touching_names after_edits after_all replies turns undoing_steps
-returns c = refl
+returns c = record { crew = refl; released = refl; closed = refl }

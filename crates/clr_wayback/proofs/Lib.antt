@@ -1,0 +1,5 @@
+pub mod Closing
+pub mod Found
+pub mod Moments
+pub mod SentBack
+pub mod Walking

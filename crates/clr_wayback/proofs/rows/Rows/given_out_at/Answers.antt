@@ -1,0 +1,13 @@
+use Rattle.std.proofs.Common.{◌≡◌, ◌∙◌, ◌&&◌, Bor, rules, List, ap, sym, map, find, filter, not, option_copied, option_map}
+use Rattle.clr_order.proofs.Finds.{find_behind, find-map}
+use Rattle.clr_net.specs.Name.{same_name}
+use Rattle.clr_rules.specs.Steps.{is_active, is_done, is_of_round, steps_in, steps_of}
+use Rattle.clr_rules.specs.declared.step_row.StepRow.{StepRow}
+use Rattle.clr_wayback.proofs.Found.{find-filter, first-filter, round_of}
+use Rattle.clr_wayback.proofs.rows.Rows.given_out_at.Goals as goal
+
+pub returns : goal.returns
+returns g c =
+    let p = λ (row : StepRow). is_active row.step.state && same_name c.args.point row.step.point in
+    let lent : map (λ (row : Bor StepRow). row.now) c.deref.result.now ≡ steps_of c.args.self.now.steps c.args.id = search rules in
+    ap option_copied c.first_given_out_at.ensures ∙ find_behind p c.deref.result.now ∙ ap (find p) lent

@@ -1,0 +1,8 @@
+use Rattle.std.proofs.Common.{◌≡◌, drop}
+use Rattle.clr_rules.specs.Good.{IsGood}
+use Rattle.clr_rules.specs.Run.{after_all}
+use Rattle.clr_wayback.proofs.walk.carry_out_all.Given as goal
+
+-- the commands that are left lead where all do
+abbrev pub invariant-loop-command : goal.invariant-loop-command
+invariant-loop-command g l = IsGood l.book.register × (after_all l.book.register (drop l.command-index l.fn.commands) ≡ after_all l.fn.book.register l.fn.commands)

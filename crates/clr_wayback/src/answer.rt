@@ -1,0 +1,88 @@
+//! The commands that give a clearance back.
+ghost use Rattle.std.specs.Prelude.{◌≡◌, IfOk, IsTrue};
+ghost use Rattle.std.specs.List.{list_all};
+ghost use Rattle.clr_net.specs.Name.{is_name};
+ghost use Rattle.clr_rules.specs.Good.{IsGood};
+ghost use Rattle.clr_rules.specs.Run.{IsReached};
+ghost use Rattle.clr_wayback.specs.Answer.{GivesBack, way_back_answer};
+
+use crate::rows::Rows;
+use crate::walk::walk;
+use clr_book::Book;
+use clr_rules::{ClearanceId, Command, Hold, Items, PointState, Record, StepRow};
+use clr_shelf::Shelf;
+use clr_staff::StaffRow;
+use std::alloc::{AllocError, Global};
+
+/// What is answered to one who asks for the way back of a clearance.
+#[derive(Debug, Drop)]
+pub enum WayBack {
+    /// The commands that close it, in their order; none where it is Closed.
+    Commands(Items<Command>),
+    /// There is no such clearance or switch order.
+    NoSuch,
+    /// The staff has nobody who gives one of the commands: a step is given out, and there is no
+    /// field employee.
+    NoWay,
+}
+
+/// The commands by which the staff closes the record of a clearance or a switch order, whatever its
+/// phase is, without closing or opening a point. They are all accepted, if they are given one after
+/// the other and no other command between them.
+///
+/// The book has to be good. It is used up: the commands are tried in it.
+pub fn way_back<P, C, T, H>(
+    alloc: Global,
+    book: Book<P, C, T, H>,
+    id: &ClearanceId,
+) -> Result<WayBack, AllocError>
+where
+    P: Shelf<PointState>,
+    C: Shelf<Record>,
+    T: Shelf<StepRow>,
+    H: Shelf<Hold>,
+    requires { IsGood book.register }
+    ensures answer { IfOk result (λ answer. answer ≡ way_back_answer book.register id.now) }
+    ensures closes { IsReached book.register
+        → IfOk result (GivesBack book.register id.now) }
+{
+    all_named(book.staff().rows());
+    let answer = answer_of(alloc, book, id)?;
+    Ok(answer)
+}
+
+/// The way back of a clearance of a book.
+fn answer_of<P, C, T, H>(
+    alloc: Global,
+    mut book: Book<P, C, T, H>,
+    id: &ClearanceId,
+) -> Result<WayBack, AllocError>
+where
+    P: Shelf<PointState>,
+    C: Shelf<Record>,
+    T: Shelf<StepRow>,
+    H: Shelf<Hold>,
+    requires { IsGood book.register }
+    ensures { IfOk result (λ answer. answer ≡ way_back_answer book.register id.now) }
+{
+    if book.record(id).is_none() {
+        return Ok(WayBack::NoSuch);
+    }
+    let rows = Rows { alloc, book: &book };
+    if rows.hangs(*id)? {
+        return Ok(WayBack::NoWay);
+    }
+    match walk(alloc, &mut book, id)? {
+        Some(commands) => Ok(WayBack::Commands(Items::new(commands))),
+        None => Ok(WayBack::NoWay),
+    }
+}
+
+/// Each employee has a name: a law, with nothing to do.
+fn all_named(staff: &[StaffRow])
+    ensures { IsTrue (list_all (λ row. is_name row.name) staff.now) }
+{
+    for row in staff {
+        let _name = row.name.as_str();
+    }
+}
