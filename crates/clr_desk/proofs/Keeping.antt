@@ -1,15 +1,14 @@
 -- What is kept by no command, by one, and by two parts of a run one after the other.
 use Rattle.std.proofs.Common.{⊎_elim, inl, inr, arith, Result, Ok, Err, refl, sym, subst}
 use Rattle.sqlite.specs.Effect.{Database}
-use Rattle.sqlite.specs.Held.{state}
 use Rattle.sqlite.specs.State.{State}
-use Rattle.sqlite_trees.specs.declared.store.Store.{Ghosts}
 use Rattle.clr_rules.specs.Good.{IsGood}
 use Rattle.clr_rules.specs.Register.{Register}
 use Rattle.clr_rules.specs.declared.command.Command.{Command}
 use Rattle.clr_rules.specs.declared.reply.Reply.{Reply}
 use Rattle.clr_rules.proofs.keeps.EveryKind.{commands_keep_good}
 use Rattle.clr_load.specs.Stored.{HasTables}
+use Rattle.clr_load.specs.declared.fault.StoreFault.{StoreFault}
 use Rattle.clr_tables.specs.Tables.{tables_of}
 use Rattle.clr_tables.specs.TypedRows.{IsTyped}
 use Rattle.clr_tables.proofs.TypedEdits.{commands_keep_typed}
@@ -47,9 +46,9 @@ keeps_on s t u R S T first later = record {
 }
 
 -- one command, whose fault leaves what the open store shows
-pub one_keeps : {S : Type 0} (g : Ghosts S) (old new : Desk S) (q : Command) (result : Result Reply DeskFault) → CarriesOut g old new q result
-    → Keeps (state g old.store) old.book.register (state g new.store) new.book.register
-one_keeps g old new q (Ok reply) carried = record {
+pub one_keeps : {K : Type 0} (kept : K → State) (fails : StoreFault → Type 0) (old new : Desk K) (q : Command) (result : Result Reply DeskFault) → CarriesOut kept fails old new q result
+    → Keeps (kept old.store) old.book.register (kept new.store) new.book.register
+one_keeps kept fails old new q (Ok reply) carried = record {
   good = λ good. subst IsGood (sym (carried.register good)) (commands_keep_good old.book.register q good);
   typed = λ good typed. subst IsTyped (sym (carried.register good)) (commands_keep_typed old.book.register q typed carried.typed);
   clean = λ clean. omega (arith, carried.survives.clean);
@@ -59,14 +58,14 @@ one_keeps g old new q (Ok reply) carried = record {
   counts = carried.survives.counts;
   closes = carried.survives.closes;
 }
-one_keeps g old new q (Err fault) carried = record {
+one_keeps kept fails old new q (Err fault) carried = record {
   good = λ good. subst IsGood (sym (carried.unchanged refl)) good;
   typed = λ good typed. subst IsTyped (sym (carried.unchanged refl)) typed;
   clean = λ clean. omega (arith, carried.survives.clean);
   was_open = carried.was_open;
   tables = λ clean shown good has.
       subst (λ (db : Database). HasTables db (tables_of new.book.register)) (sym (carried.unwritten refl clean shown))
-      (subst (λ (X : Register). HasTables (state g old.store).now (tables_of X)) (sym (carried.unchanged refl)) has);
+      (subst (λ (X : Register). HasTables (kept old.store).now (tables_of X)) (sym (carried.unchanged refl)) has);
   saved = carried.still_saved;
   counts = carried.survives.counts;
   closes = carried.survives.closes;

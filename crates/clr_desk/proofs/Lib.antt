@@ -9,3 +9,4 @@ pub mod RunSteps
 pub mod Reopenings
 pub mod Keeping
 pub mod NearRuns
+pub mod KeptNowhere

@@ -1,7 +1,6 @@
 -- One command: what its answer changes in the register, in the tables and in what a crash leaves.
-use Rattle.std.proofs.Common.{◌≡◌, ◌∙◌, false, List, [], Result, Ok, Err, sym, ap, subst}
-use Rattle.std.specs.Prelude.{IfOk, OnOk}
-use Rattle.sqlite.specs.Effect.{Database}
+use Rattle.std.proofs.Common.{◌≡◌, ◌∙◌, false, List, [], Result, sym, ap, subst}
+use Rattle.std.specs.Prelude.{OnOk}
 use Rattle.sqlite.specs.State.{State, Survives}
 use Rattle.sqlite.proofs.StateLemmas.{survives_weaker}
 use Rattle.clr_net.specs.Grid.{Grid}
@@ -20,13 +19,13 @@ use Rattle.clr_rules.proofs.near.NewAnswers.{near_is_enough}
 use Rattle.clr_book.specs.Growth.{network_after_all}
 use Rattle.clr_book.proofs.BookEdits.{plain_network}
 use Rattle.clr_store.specs.Contract.{AreEdited}
-use Rattle.clr_load.specs.Stored.{AreTables, HasTables}
+use Rattle.clr_load.specs.Stored.{AreTables}
 use Rattle.clr_tables.specs.TableEdits.{tables_edited}
 use Rattle.clr_tables.specs.Tables.{tables_of}
 use Rattle.clr_tables.proofs.TableChanges.{tables_follow_edits}
 use Rattle.clr_desk.specs.Asking.{near_after, near_answer, near_network}
 use Rattle.clr_desk.specs.Crash.{AreAfter}
-use Rattle.clr_desk.specs.Faults.{IsOfCommand, of_store}
+use Rattle.clr_desk.specs.Faults.{IsOfCommand, IsOfKeeper, of_store}
 use Rattle.clr_desk.specs.declared.desk_fault.DeskFault.{DeskFault}
 use Rattle.clr_load.specs.Fault.{IsOfDatabase}
 use Rattle.clr_load.specs.declared.fault.StoreFault.{StoreFault}
@@ -61,21 +60,9 @@ near_is_whole R q good = sym (near_is_enough R q good.said good.besides.switch_o
 pub near_after_is_after : (R : Register) (q : Command) → IsGood R → near_after R q ≡ after R q
 near_after_is_after R q good = ap (λ (a : Answer). after_edits a.edits R) (near_is_whole R q good)
 
--- the same of what a call answers
-pub replies_whole : (R : Register) (q : Command) (result : Result Reply DeskFault) → IsGood R
-    → IfOk result (λ reply. reply ≡ Answer.reply (near_answer R q)) → IfOk result (λ reply. reply ≡ Answer.reply (answer R q))
-replies_whole R q result good =
-    subst (λ (a : Answer). IfOk result (λ reply. reply ≡ Answer.reply a)) (near_is_whole R q good)
-
 pub leaves_whole : (R S : Register) (q : Command) (result : Result Reply DeskFault) → IsGood R
     → OnOk result (S ≡ near_after R q) → OnOk result (S ≡ after R q)
 leaves_whole R S q result good = subst (λ (X : Register). OnOk result (S ≡ X)) (near_after_is_after R q good)
-
--- the tables of the register that is left
-pub tables_left : (db : Database) (S X : Register) (result : Result Reply DeskFault) → OnOk result (S ≡ X)
-    → OnOk result (HasTables db (tables_of X)) → OnOk result (HasTables db (tables_of S))
-tables_left db S X (Ok reply) left has = subst (λ (Y : Register). HasTables db (tables_of Y)) (sym left) has
-tables_left db S X (Err fault) left has = tt
 
 -- the edited tables are those of the register after the command
 pub tables_after : (R : Register) (q : Command) (edits : List Edit) → edits ≡ Answer.edits (near_answer R q) → IsGood R
@@ -93,12 +80,12 @@ crash_after old new R q edits is survives =
 
 -- ---- a fault
 
--- a fault of the database is one that a command may meet
-pub of_database : (cause : StoreFault) → IsOfDatabase cause → IsOfCommand (of_store cause)
-of_database Sql h = tt
-of_database NoMemory h = tt
-of_database (WrongVersion n) h = absurd h
-of_database (BadRow name) h = absurd h
+-- a fault of what keeps the changes is one that a command may meet
+pub of_fails : (fails : StoreFault → Type 0) (cause : StoreFault) → fails cause → IsOfKeeper fails (of_store cause)
+of_fails fails Sql h = h
+of_fails fails NoMemory h = tt
+of_fails fails (WrongVersion n) h = h
+of_fails fails (BadRow name) h = h
 
 pub of_command : (cause : StoreFault) (fault : DeskFault) → IsOfDatabase cause → fault ≡ of_store cause → IsOfCommand fault
-of_command cause fault h is = subst IsOfCommand (sym is) (of_database cause h)
+of_command cause fault h is = subst IsOfCommand (sym is) (of_fails IsOfDatabase cause h)

@@ -1,9 +1,7 @@
--- CARRYING OUT A COMMAND: what it does to the register and the network of a desk, to its tables, and
--- to what a crash leaves.
+-- CARRYING OUT A COMMAND: what it does to the register and the network of a desk, to what keeps its
+-- changes, and to what a crash leaves.
 use Rattle.std.specs.Prelude.{◌≡◌, false, IfErr, IfOk, IsTrue, OnErr, OnOk, Result}
-use Rattle.sqlite.specs.Held.{state}
-use Rattle.sqlite.specs.State.{HasCleanDisk, Survives}
-use Rattle.sqlite_trees.specs.declared.store.Store.{Ghosts}
+use Rattle.sqlite.specs.State.{HasCleanDisk, State, Survives}
 use Rattle.clr_answer.specs.Decision.{is_accepted}
 use Rattle.clr_rules.specs.Answer.{Answer, answer}
 use Rattle.clr_rules.specs.Command.{is_jumper}
@@ -13,18 +11,19 @@ use Rattle.clr_rules.specs.declared.command.Command.{Command}
 use Rattle.clr_rules.specs.declared.reply.Reply.{Reply}
 use Rattle.clr_load.specs.Contract.{IsSaved}
 use Rattle.clr_load.specs.Stored.{HasTables}
+use Rattle.clr_load.specs.declared.fault.StoreFault.{StoreFault}
 use Rattle.clr_tables.specs.Tables.{tables_of}
 use Rattle.clr_tables.specs.TypedRows.{is_typed_command}
 use Rattle.clr_desk.specs.Answering.{has_accepted}
 use Rattle.clr_desk.specs.Asking.{near_after, near_answer, near_network}
 use Rattle.clr_desk.specs.Crash.{AreAfter}
-use Rattle.clr_desk.specs.Faults.{IsOfCommand}
+use Rattle.clr_desk.specs.Faults.{IsOfKeeper}
 use Rattle.clr_desk.specs.declared.desk.Desk.{Desk}
 use Rattle.clr_desk.specs.declared.desk_fault.DeskFault.{DeskFault}
 
 -- A DESK CARRIES OUT A COMMAND, and what came of it is this
-pub record CarriesOut {S : Type 0} (g : Ghosts S) (old new : Desk S) (q : Command)
-    (result : Result Reply DeskFault) : Type 0 where
+pub record CarriesOut {K : Type 0} (kept : K → State) (fails : StoreFault → Type 0)
+    (old new : Desk K) (q : Command) (result : Result Reply DeskFault) : Type 0 where
   -- the reply and the register are those of the command's near part, whatever the register,
   pub near : IfOk result (λ reply. reply ≡ Answer.reply (near_answer old.book.register q))
   pub changed : OnOk result (new.book.register ≡ near_after old.book.register q)
@@ -41,24 +40,24 @@ pub record CarriesOut {S : Type 0} (g : Ghosts S) (old new : Desk S) (q : Comman
   pub same_network : has_accepted result ≡ false → new.book.network ≡ old.book.network
   -- only a jumper adds to it
   pub plain : is_jumper q.kind ≡ false → new.book.network ≡ old.book.network
-  pub cause : IfErr result IsOfCommand
+  pub cause : IfErr result (IsOfKeeper fails)
   -- each value of the command is within its type, as every value of the program is
   pub typed : IsTrue (is_typed_command q)
-  -- a store that had the tables of the register has them, and a fault leaves what it shows
-  pub tables : HasCleanDisk (state g new.store) → IsGood old.book.register
-      → HasTables (state g old.store).now (tables_of old.book.register)
-      → OnOk result (HasTables (state g new.store).now (tables_of new.book.register))
-  pub unwritten : has_accepted result ≡ false → HasCleanDisk (state g new.store)
-      → IsTrue (state g new.store).is_open → (state g new.store).now ≡ (state g old.store).now
-  -- a command that is refused or shown does not touch the store
+  -- what showed the tables of the register shows them, and a fault leaves what is shown
+  pub tables : HasCleanDisk (kept new.store) → IsGood old.book.register
+      → HasTables (kept old.store).now (tables_of old.book.register)
+      → OnOk result (HasTables (kept new.store).now (tables_of new.book.register))
+  pub unwritten : has_accepted result ≡ false → HasCleanDisk (kept new.store)
+      → IsTrue (kept new.store).is_open → (kept new.store).now ≡ (kept old.store).now
+  -- a command that is refused or shown does not touch what is kept
   pub asked : IfOk result (λ reply. is_accepted reply ≡ false → new.store ≡ old.store)
-  pub was_open : HasCleanDisk (state g new.store) → IsTrue (state g new.store).is_open
-      → IsTrue (state g old.store).is_open
+  pub was_open : HasCleanDisk (kept new.store) → IsTrue (kept new.store).is_open
+      → IsTrue (kept old.store).is_open
   -- what is shown is committed again
-  pub saved : HasCleanDisk (state g new.store) → IsSaved (state g old.store)
-      → OnOk result (IsSaved (state g new.store))
-  pub still_saved : HasCleanDisk (state g new.store) → IsTrue (state g new.store).is_open
-      → IsSaved (state g old.store) → OnErr result (IsSaved (state g new.store))
+  pub saved : HasCleanDisk (kept new.store) → IsSaved (kept old.store)
+      → OnOk result (IsSaved (kept new.store))
+  pub still_saved : HasCleanDisk (kept new.store) → IsTrue (kept new.store).is_open
+      → IsSaved (kept old.store) → OnErr result (IsSaved (kept new.store))
   -- a crash leaves what it left before, or the tables after the command
-  pub survives : Survives (state g old.store) (state g new.store)
-      (AreAfter (state g old.store).now old.book.register q)
+  pub survives : Survives (kept old.store) (kept new.store)
+      (AreAfter (kept old.store).now old.book.register q)

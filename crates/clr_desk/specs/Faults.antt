@@ -1,5 +1,6 @@
 -- THE FAULTS OF A DESK, and how they are counted.
 use Rattle.std.specs.Prelude.{ℕ, ◌+◌, ◌-◌, ◌^◌, min, Option, None, Some, ⊤}
+use Rattle.clr_load.specs.Fault.{IsOfDatabase}
 use Rattle.clr_load.specs.declared.fault.StoreFault.{StoreFault}
 use Rattle.clr_load.specs.declared.fault.StoreFault.TheVariants.{Sql, WrongVersion, BadRow}
 use Rattle.clr_load.specs.declared.fault.StoreFault.TheVariants.{NoMemory as NoMemoryThere}
@@ -19,10 +20,15 @@ abbrev pub count_after : Option DeskFault → ℕ → ℕ
 count_after None faults = faults
 count_after (Some fault) faults = min (faults + 1) (2 ^ 64 - 1)
 
--- why a command is not carried out: the database refused or failed, or memory ran out
+-- why a command is not carried out: what keeps its change answered one of these faults, or memory
+-- ran out
+abbrev pub IsOfKeeper : (StoreFault → Type 0) → DeskFault → Type 0
+IsOfKeeper fails (Store Sql) = fails Sql
+IsOfKeeper fails (Store (WrongVersion n)) = fails (WrongVersion n)
+IsOfKeeper fails (Store (BadRow name)) = fails (BadRow name)
+IsOfKeeper fails (Store NoMemoryThere) = ⊥
+IsOfKeeper fails NoMemory = ⊤
+
+-- the same over a store: the database refused or failed, or memory ran out
 abbrev pub IsOfCommand : DeskFault → Type 0
-IsOfCommand (Store Sql) = ⊤
-IsOfCommand (Store (WrongVersion n)) = ⊥
-IsOfCommand (Store (BadRow name)) = ⊥
-IsOfCommand (Store NoMemoryThere) = ⊥
-IsOfCommand NoMemory = ⊤
+IsOfCommand fault = IsOfKeeper IsOfDatabase fault

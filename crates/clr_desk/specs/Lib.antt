@@ -5,6 +5,7 @@ pub mod Opening
 pub mod AtFault
 pub mod Faults
 pub mod Answering
+pub mod Commit
 pub mod Crash
 pub mod Reopening
 pub mod Carrying

@@ -15,7 +15,7 @@ use std::alloc::AllocError;
 /// made yet.
 ///
 /// Where memory runs out the book has the rows that it had, and so has its network.
-pub fn prepare(book: &mut DeskBook, command: &Command) -> Result<Decision, AllocError>
+pub(crate) fn prepare(book: &mut DeskBook, command: &Command) -> Result<Decision, AllocError>
     ensures answer { IfOk result
         (λ d. answer_of_decision d ≡ near_answer book.old.register command.now) }
     ensures nothing { IfOk result ChangesIfAccepted }

@@ -10,7 +10,7 @@ use std::alloc::{AllocError, Global};
 
 /// The first table of a book whose rows do not fit the others, in the order of points, clearances,
 /// steps and holds; none exactly where the register is good.
-pub fn table_in(alloc: Global, book: &DeskBook) -> Result<Option<TableName>, AllocError>
+pub(crate) fn table_in(alloc: Global, book: &DeskBook) -> Result<Option<TableName>, AllocError>
     ensures good { IfOk result (λ table. (table ≡ None) ↔ IsGood book.now.register) }
     ensures first { IfOk result (λ table. table ≡ table_at_fault book.now.register) }
 {

@@ -25,7 +25,11 @@ pub type DeskBook = Book<
 
 /// The book of an opening register: each point in the position that its row gives, in nobody's
 /// hand, and no clearance.
-pub fn opening_book(alloc: Global, network: Network, staff: Staff) -> Result<DeskBook, AllocError>
+pub(crate) fn opening_book(
+    alloc: Global,
+    network: Network,
+    staff: Staff,
+) -> Result<DeskBook, AllocError>
     ensures register { IfOk result (λ book. book.register ≡ opening network staff) }
     ensures network { IfOk result (λ book. book.network ≡ network) }
     ensures reached { IfOk result (λ book. IsReached book.register) }
@@ -38,21 +42,21 @@ pub fn opening_book(alloc: Global, network: Network, staff: Staff) -> Result<Des
 }
 
 /// The network of a book.
-pub fn network_of(book: &DeskBook) -> &Network
+pub(crate) fn network_of(book: &DeskBook) -> &Network
     ensures { result.now ≡ book.now.network }
 {
     book.network()
 }
 
 /// The staff of a book.
-pub fn staff_of(book: &DeskBook) -> &Staff
+pub(crate) fn staff_of(book: &DeskBook) -> &Staff
     ensures { result.now ≡ book.now.register.staff }
 {
     book.staff()
 }
 
 /// Makes a change for which there is room, and which the network takes.
-pub fn apply(book: &mut DeskBook, change: Change)
+pub(crate) fn apply(book: &mut DeskBook, change: Change)
     requires room { Fits (needs change.edits.items) book.old.room }
     requires fits { fit book.old.register.net change.edits.items ≡ true }
     ensures register { book.new.register ≡ after_edits change.edits.items book.old.register }

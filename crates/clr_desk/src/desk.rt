@@ -1,4 +1,4 @@
-//! The desk: a book and its store.
+//! The desk: a book, and what keeps its changes.
 ghost use Rattle.std.specs.Prelude.{◌≡◌, ◌⊎◌, ◌↔◌, ◌<◌, false, [], ◌∷◌, length, IfErr, IfOk, IfNone};
 ghost use Rattle.std.specs.Prelude.{IfSome, IsErr, IsTrue, MatchResult, None, Ok, Err, true};
 ghost use Rattle.std.specs.List.{list_all, list_any};
@@ -24,13 +24,14 @@ ghost use Rattle.clr_desk.specs.AtFault.{table_at_fault};
 ghost use Rattle.clr_desk.specs.Opening.{HasNetworkOf, OpensAs};
 ghost use Rattle.clr_desk.specs.Answering.{fault_of, replies_of};
 ghost use Rattle.clr_desk.specs.Carrying.{CarriesOut};
-ghost use Rattle.clr_desk.specs.Faults.{IsOfCommand, count_after, of_store};
+ghost use Rattle.clr_desk.specs.Faults.{IsOfCommand, IsOfKeeper, count_after, of_store};
 ghost use Rattle.clr_desk.specs.Kept.{Keeps};
 ghost use Rattle.clr_desk.specs.NearRun.{IsNearRun, near_network_all};
 
 use crate::asking::prepare;
 use crate::at_fault::table_in;
 use crate::book::{DeskBook, apply, network_of, opening_book, staff_of};
+use crate::commit::{Commit, Unkept};
 use crate::desk_fault::DeskFault;
 use crate::opening::book_in;
 use crate::run::Run;
@@ -44,15 +45,15 @@ use clr_tables::TableName;
 use sqlite::{Alter, Connection};
 use std::alloc::{AllocError, Global};
 
-/// A book in memory and the store of its tables.
+/// A book in memory, and what keeps its changes: a store of its tables, or nothing.
 #[derive(Drop)]
-pub struct Desk<S: Alter + Drop> {
+pub struct Desk<K: Commit> {
     book: DeskBook,
-    store: Store<S>,
+    store: K,
     faults: u64,
 }
 
-impl<S: Alter + Drop> Desk<S> {
+impl<S: Alter + Drop> Desk<Store<S>> {
     /// Makes the tables of an opening register in an empty database, and opens the desk over them.
     ///
     /// `Store(Sql)` where anything is in the database already, a transaction is open, or the
@@ -63,7 +64,7 @@ impl<S: Alter + Drop> Desk<S> {
         connection: Connection<S>,
         network: Network,
         staff: Staff,
-    ) -> Result<Desk<S>, (DeskFault, Connection<S>)>
+    ) -> Result<Desk<Store<S>>, (DeskFault, Connection<S>)>
         ensures register { IfOk result (λ desk. desk.book.register ≡ opening network staff) }
         ensures network { IfOk result (λ desk. desk.book.network ≡ network) }
         ensures reached { IfOk result (λ desk. IsReached desk.book.register) }
@@ -102,7 +103,7 @@ impl<S: Alter + Drop> Desk<S> {
     /// `Store(BadRow)` names the table with a row that does not read, or whose rows are no network
     /// or no staff; `Store(Sql)` where the database fails; `NoMemory` where memory runs out. A
     /// fault hands the store back.
-    pub fn open(mut store: Store<S>) -> Result<Desk<S>, (DeskFault, Store<S>)>
+    pub fn open(mut store: Store<S>) -> Result<Desk<Store<S>>, (DeskFault, Store<S>)>
         ensures opened { IfOk result (λ desk. HasCleanDisk (state S.Store desk.store) → (t : Tables)
             → HasTables (state S.Store store).now t
             → OpensAs (λ (book : Shelved). book.register) (rows_read t) (Ok desk.book)) }
@@ -146,9 +147,25 @@ impl<S: Alter + Drop> Desk<S> {
             Err(fault) => Err((DeskFault::from(fault), store)),
         }
     }
+}
 
+impl Desk<Unkept> {
+    /// Opens a desk with the opening register, whose changes are kept nowhere.
+    pub fn unkept(alloc: Global, network: Network, staff: Staff) -> Result<Desk<Unkept>, AllocError>
+        ensures register { IfOk result (λ desk. desk.book.register ≡ opening network staff) }
+        ensures network { IfOk result (λ desk. desk.book.network ≡ network) }
+        ensures reached { IfOk result (λ desk. IsReached desk.book.register) }
+        ensures typed { IfOk result (λ desk. IsTyped desk.book.register) }
+        ensures faults { IfOk result (λ desk. desk.faults ≡ 0) }
+    {
+        let book = opening_book(alloc, network, staff)?;
+        Ok(Desk::over(book, Unkept))
+    }
+}
+
+impl<K: Commit> Desk<K> {
     /// A desk that has met no fault yet.
-    fn over(book: DeskBook, store: Store<S>) -> Desk<S>
+    fn over(book: DeskBook, store: K) -> Desk<K>
         ensures book { result.book ≡ book }
         ensures store { result.store ≡ store }
         ensures faults { result.faults ≡ 0 }
@@ -160,11 +177,20 @@ impl<S: Alter + Drop> Desk<S> {
         }
     }
 
-    /// Ends the desk, and hands back its store.
-    pub fn end(self) -> Store<S>
+    /// Ends the desk, and hands back what kept its changes.
+    pub fn end(self) -> K
         ensures { result ≡ self.store }
     {
         self.store
+    }
+
+    /// Ends the desk, and hands back its book, which keeps nothing from here on, and what kept its
+    /// changes.
+    pub fn parted(self) -> (DeskBook, K)
+        ensures book { result.0 ≡ self.book }
+        ensures kept { result.1 ≡ self.store }
+    {
+        (self.book, self.store)
     }
 
     /// The book, as the last command left it.
@@ -193,7 +219,7 @@ impl<S: Alter + Drop> Desk<S> {
 
     /// Carries out one command, but for the count of faults: answer, room, commit, change.
     fn carry_out(&mut self, command: &Command) -> Result<Reply, DeskFault>
-        ensures carried { CarriesOut S.Store self.old self.new command.now result }
+        ensures carried { CarriesOut K.kept K.fails self.old self.new command.now result }
         ensures faults { self.new.faults ≡ self.old.faults }
     {
         command.typed();
@@ -202,14 +228,14 @@ impl<S: Alter + Drop> Desk<S> {
         if !is_accepted(&reply) {
             return Ok(reply);
         }
-        self.store.commit(&change)?;
+        self.store.commit(command, &reply, &change)?;
         apply(&mut self.book, change);
         Ok(reply)
     }
 
     /// Carries out one command, and counts the fault, if it met one.
     fn answer(&mut self, command: &Command) -> Result<Reply, DeskFault>
-        ensures carried { CarriesOut S.Store self.old self.new command.now result }
+        ensures carried { CarriesOut K.kept K.fails self.old self.new command.now result }
         ensures faults { self.new.faults ≡ count_after (fault_of result) self.old.faults }
     {
         match self.carry_out(command) {
@@ -221,13 +247,14 @@ impl<S: Alter + Drop> Desk<S> {
         }
     }
 
-    /// Carries out a command: it is answered, and where it is accepted its change is committed, in
-    /// one transaction, and made. A command that is refused, and `show`, commits nothing.
+    /// Carries out a command: it is answered, and where it is accepted its change is committed, as
+    /// one, and made. A command that is refused, and `show`, commits nothing.
     ///
-    /// `Store(Sql)` where the database refuses or fails, `NoMemory` where memory runs out. A fault
-    /// leaves the register as it was, and is counted.
+    /// `Store` where what keeps the changes fails, as `Store(Sql)` where a database refuses or
+    /// fails; `NoMemory` where memory runs out. A fault leaves the register as it was, and is
+    /// counted.
     pub fn one(&mut self, command: Command) -> Result<Reply, DeskFault>
-        ensures carried { CarriesOut S.Store self.old self.new command result }
+        ensures carried { CarriesOut K.kept K.fails self.old self.new command result }
         ensures ran { IsGood self.old.book.register
             → IsRun self.old.book.register
             (with_reply (command ∷ []) (replies_of result)) (replies_of result)
@@ -240,11 +267,11 @@ impl<S: Alter + Drop> Desk<S> {
         ensures alone { OwnStandAlone self.old.book.register
             (with_reply (command ∷ []) (replies_of result)) (replies_of result) }
         ensures faults { self.new.faults ≡ count_after (fault_of result) self.old.faults }
-        ensures keeps { Keeps (state S.Store self.old.store) self.old.book.register
-            (state S.Store self.new.store) self.new.book.register }
-        ensures crash { HasCleanDisk (state S.Store self.new.store)
-            → LeavesSome (state S.Store self.old.store)
-            (state S.Store self.new.store) self.old.book.register (command ∷ [])
+        ensures keeps { Keeps (K.kept self.old.store) self.old.book.register
+            (K.kept self.new.store) self.new.book.register }
+        ensures crash { HasCleanDisk (K.kept self.new.store)
+            → LeavesSome (K.kept self.old.store)
+            (K.kept self.new.store) self.old.book.register (command ∷ [])
             (length (replies_of result)) }
     {
         self.answer(&command)
@@ -277,19 +304,19 @@ impl<S: Alter + Drop> Desk<S> {
             (with_reply commands.items result.replies.items) result.replies.items }
         ensures typed { IsTrue (list_all is_typed_command commands.items) }
         ensures faults { self.new.faults ≡ count_after result.fault self.old.faults }
-        ensures cause { IfSome result.fault IsOfCommand }
+        ensures cause { IfSome result.fault (IsOfKeeper K.fails) }
         ensures unwritten { list_any is_accepted result.replies.items ≡ false
-            → HasCleanDisk (state S.Store self.new.store)
-            → IsTrue (state S.Store self.new.store).is_open
-            → (state S.Store self.new.store).now ≡ (state S.Store self.old.store).now }
-        ensures keeps { Keeps (state S.Store self.old.store) self.old.book.register
-            (state S.Store self.new.store) self.new.book.register }
-        ensures saved { HasCleanDisk (state S.Store self.new.store)
-            → IsSaved (state S.Store self.old.store)
-            → IfNone result.fault (IsSaved (state S.Store self.new.store)) }
-        ensures crash { HasCleanDisk (state S.Store self.new.store)
-            → LeavesSome (state S.Store self.old.store)
-            (state S.Store self.new.store) self.old.book.register commands.items
+            → HasCleanDisk (K.kept self.new.store)
+            → IsTrue (K.kept self.new.store).is_open
+            → (K.kept self.new.store).now ≡ (K.kept self.old.store).now }
+        ensures keeps { Keeps (K.kept self.old.store) self.old.book.register
+            (K.kept self.new.store) self.new.book.register }
+        ensures saved { HasCleanDisk (K.kept self.new.store)
+            → IsSaved (K.kept self.old.store)
+            → IfNone result.fault (IsSaved (K.kept self.new.store)) }
+        ensures crash { HasCleanDisk (K.kept self.new.store)
+            → LeavesSome (K.kept self.old.store)
+            (K.kept self.new.store) self.old.book.register commands.items
             (length result.replies.items) }
     {
         all_typed(commands.as_slice());

@@ -3,7 +3,7 @@ ghost use Rattle.std.specs.Prelude.{◌≡◌};
 ghost use Rattle.clr_desk.specs.Faults.{of_store};
 ghost use Rattle.clr_desk.specs.declared.desk_fault.DeskFault.TheVariants.{NoMemory};
 
-use clr_store::StoreFault;
+use clr_load::StoreFault;
 use std::alloc::{AllocError, AllocFailed};
 
 /// Why the desk did not carry out a command, or was not opened.

@@ -4,6 +4,7 @@
 mod asking;
 mod at_fault;
 mod book;
+mod commit;
 mod desk;
 mod desk_fault;
 pub mod laws;
@@ -11,7 +12,8 @@ mod opening;
 mod run;
 mod typed;
 
-pub use book::{DeskBook, opening_book};
+pub use book::DeskBook;
+pub use commit::{Commit, Unkept};
 pub use desk::Desk;
 pub use desk_fault::DeskFault;
 pub use run::Run;

@@ -24,10 +24,11 @@ ghost use Rattle.clr_load.specs.declared.fault.StoreFault.TheVariants.{BadRow, N
 
 use crate::book::{DeskBook, apply, opening_book};
 use crate::typed::Typed;
+use clr_load::{Rows, StoreFault};
 use clr_net::{MAX_SECTIONS, NetFault, Network, PointRow, SectionRow};
 use clr_rules::{Change, Edit, Hold, PointState, Record, StepRow};
 use clr_staff::{Staff, StaffFault, StaffRow};
-use clr_store::{Rows, Store, StoreFault};
+use clr_store::Store;
 use clr_tables::TableName;
 use sqlite::Alter;
 use std::alloc::{AllocError, Global};
@@ -174,7 +175,7 @@ fn book_of(rows: Rows) -> Result<DeskBook, StoreFault>
 ///
 /// `BadRow` names the table with a row that does not read, or whose rows are no network or staff;
 /// `Sql` where the database fails; `NoMemory` where memory runs out.
-pub fn book_in<S: Alter + Drop>(store: &mut Store<S>) -> Result<DeskBook, StoreFault>
+pub(crate) fn book_in<S: Alter + Drop>(store: &mut Store<S>) -> Result<DeskBook, StoreFault>
     ensures tables { HasCleanDisk (state S.Store store.new) → (t : Tables)
         → HasTables (state S.Store store.old).now t
         → OpensAs (λ (book : Shelved). book.register) (rows_read t) result }

@@ -12,17 +12,17 @@ ghost use Rattle.clr_tables.specs.TypedRows.{is_typed_state, is_typed_step, is_t
 ghost use Rattle.clr_desk.specs.Typed.{has_typed_point, is_typed_network, is_typed_staff};
 ghost use Rattle.clr_desk.specs.Typed.{is_typed_loaded};
 
+use clr_load::Rows;
 use clr_net::{Name, Network, PointRow, SectionRow};
 use clr_order::Step;
 use clr_rules::{
     ClearanceId, Command, Hold, Kind, Moment, Names, PointState, Record, StepRow, Tasks,
 };
 use clr_staff::{Staff, StaffRow};
-use clr_store::Rows;
 
 /// A value within its type: a name has 1 to 24 bytes of its alphabet, a moment is not past 2099,
 /// and so on.
-pub trait Typed {
+pub(crate) trait Typed {
     /// Whether a value, as contracts see it, is within the type.
     ghost is_typed: { Self → Bool };
 
@@ -32,7 +32,7 @@ pub trait Typed {
 }
 
 /// Each of these values is within its type.
-pub fn all_typed<T: Typed>(values: &[T])
+pub(crate) fn all_typed<T: Typed>(values: &[T])
     ensures { IsTrue (list_all T.is_typed values.now) }
 {
     for value in values {

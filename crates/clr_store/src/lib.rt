@@ -10,5 +10,4 @@ mod statements;
 mod store;
 mod values;
 
-pub use clr_load::{Rows, StoreFault};
 pub use store::{Back, Store};

@@ -1,5 +1,4 @@
 use Rattle.std.proofs.Common.{rules, ◌≡◌, ◌∙◌, false, ap, subst, sym}
-use Rattle.sqlite.specs.Held.{state}
 use Rattle.clr_rules.specs.Answer.{Answer}
 use Rattle.clr_rules.specs.Edits.{after_edits}
 use Rattle.clr_rules.specs.Register.{Register}
@@ -7,7 +6,8 @@ use Rattle.clr_load.specs.Stored.{HasTables}
 use Rattle.clr_tables.specs.Tables.{Tables, tables_of}
 use Rattle.clr_answer.specs.Decision.{is_accepted}
 use Rattle.clr_book.specs.Growth.{network_after_all}
-use Rattle.clr_desk.proofs.OneCommand.{crash_after, near_after_is_after, near_is_whole, nothing_added, nothing_changes, only_jumpers_add, tables_after}
+use Rattle.clr_desk.specs.Faults.{IsOfKeeper, of_store}
+use Rattle.clr_desk.proofs.OneCommand.{crash_after, near_after_is_after, near_is_whole, nothing_added, nothing_changes, of_fails, only_jumpers_add, tables_after}
 use Rattle.clr_desk.proofs.desk.Desk.carry_out.Goals as goal
 
 -- a command that is refused or shown
@@ -15,7 +15,7 @@ pub returns-then-not-is_accepted-clause-carried : goal.returns-then-not-is_accep
 returns-then-not-is_accepted-clause-carried g c =
     let R = c.args.self.now.book.register in
     let q = c.args.command.now in
-    let db = (state g.S.Store c.args.self.now.store).now in
+    let db = (g.K.Commit.kept c.args.self.now.store).now in
     let refused : is_accepted c.in_ok-decision.decision.reply ≡ false = search rules in
     let told = ap (λ (a : Answer). a.reply) c.in_ok-decision.ensures.answer in
     let same = c.prepare.ensures.register
@@ -54,7 +54,9 @@ returns-in_err-commit-clause-carried g c = record {
   network = search rules;
   same_network = λ _. c.prepare.ensures.network;
   plain = λ _. c.prepare.ensures.network;
-  cause = search rules;
+  cause =
+      let told : IsOfKeeper g.K.Commit.fails (of_store c.in_err-commit.field-0.0) = of_fails g.K.Commit.fails c.in_err-commit.field-0.0 c.in_err-commit.ensures.fault in
+      search rules;
   typed = c.typed.ensures;
   tables = search rules;
   unwritten = search rules;
@@ -62,8 +64,8 @@ returns-in_err-commit-clause-carried g c = record {
   was_open = search rules;
   saved = search rules;
   still_saved = search rules;
-  survives = crash_after (state g.S.Store c.args.self.now.store) (state g.S.Store c.commit.new.self) c.args.self.now.book.register c.args.command.now
-      c.in_ok-decision.decision.change.edits.items (ap (λ (a : Answer). a.edits) c.in_ok-decision.ensures.answer) c.commit.ensures.crash;
+  survives = crash_after (g.K.Commit.kept c.args.self.now.store) (g.K.Commit.kept c.commit.new.self) c.args.self.now.book.register c.args.command.now
+      c.in_ok-decision.decision.change.edits.items (ap (λ (a : Answer). a.edits) c.in_ok-decision.ensures.answer) c.commit.ensures.commits.crash;
 }
 
 -- a change that is committed, and then made
@@ -71,7 +73,7 @@ pub returns-clause-carried : goal.returns-clause-carried
 returns-clause-carried g c =
     let R = c.args.self.now.book.register in
     let q = c.args.command.now in
-    let db = (state g.S.Store c.commit.new.self).now in
+    let db = (g.K.Commit.kept c.commit.new.self).now in
     let edits = ap (λ (a : Answer). a.edits) c.in_ok-decision.ensures.answer in
     let told = ap (λ (a : Answer). a.reply) c.in_ok-decision.ensures.answer in
     let changed = c.apply.ensures.register ∙ (λ i. after_edits (edits i) (c.prepare.ensures.register i)) in
@@ -90,12 +92,12 @@ returns-clause-carried g c =
       tables = λ clean good has.
           subst (λ (t : Tables). HasTables db t)
           (tables_after R q c.in_ok-decision.decision.change.edits.items edits good ∙ ap tables_of (sym (changed ∙ near_after_is_after R q good)))
-          (c.in_ok-commit.ensures.made clean (tables_of R) has);
+          (c.in_ok-commit.ensures.commits.made clean (tables_of R) has);
       unwritten = search rules;
       asked = search rules;
       was_open = search rules;
       saved = search rules;
       still_saved = search rules;
-      survives = crash_after (state g.S.Store c.args.self.now.store) (state g.S.Store c.commit.new.self) R q
-          c.in_ok-decision.decision.change.edits.items edits c.commit.ensures.crash;
+      survives = crash_after (g.K.Commit.kept c.args.self.now.store) (g.K.Commit.kept c.commit.new.self) R q
+          c.in_ok-decision.decision.change.edits.items edits c.commit.ensures.commits.crash;
     }

@@ -1,5 +1,4 @@
 use Rattle.std.proofs.Common.{◌∷◌, [], inl, inr, ⊎_elim}
-use Rattle.sqlite.specs.Held.{state}
 use Rattle.clr_rules.specs.RunHeadline.{with_reply}
 use Rattle.clr_rules.proofs.isolation.RunReplies.{others_take_nothing}
 use Rattle.clr_desk.specs.Answering.{replies_of}
@@ -27,13 +26,13 @@ returns-clause-alone g c =
     c.answer.new.self.book.register (returns-clause-ran g c)
 
 pub returns-clause-keeps : goal.returns-clause-keeps
-returns-clause-keeps g c = one_keeps g.S.Store c.args.self.now c.answer.new.self c.args.command c.answer.result c.answer.ensures.carried
+returns-clause-keeps g c = one_keeps g.K.Commit.kept g.K.Commit.fails c.args.self.now c.answer.new.self c.args.command c.answer.result c.answer.ensures.carried
 
 pub returns-clause-crash : goal.returns-clause-crash
 returns-clause-crash g c clean saved good has trees may =
     let carried = c.answer.ensures.carried in
-    one_survives (state g.S.Store c.args.self.now.store) (state g.S.Store c.answer.new.self.store) c.args.self.now.book.register
+    one_survives (g.K.Commit.kept c.args.self.now.store) (g.K.Commit.kept c.answer.new.self.store) c.args.self.now.book.register
     c.answer.new.self.book.register c.args.command c.answer.result trees saved has (carried.register good) (carried.saved clean saved)
     (carried.tables clean good has)
-    (g.met.S.Store.settled c.args.self.now.store.store trees) (g.met.S.Store.settled c.answer.new.self.store.store trees)
+    (g.met.K.Commit.settled c.args.self.now.store trees) (g.met.K.Commit.settled c.answer.new.self.store trees)
     may (⊎_elim (λ before. inl before) (λ made. inr (made good has)) (carried.survives.crash clean trees may))

@@ -1,5 +1,4 @@
 use Rattle.std.proofs.Common.{rules, ◌≡◌, ◌∙◌, ◌<◌, ◌∷◌, ◌++◌, [], false, List, length, take, ap, arith, get_or, refl, subst, sym, ⊎_elim}
-use Rattle.sqlite.specs.Held.{state}
 use Rattle.sqlite.specs.State.{HasCleanDisk}
 use Rattle.clr_rules.specs.Good.{IsGood}
 use Rattle.clr_rules.specs.Register.{Register}
@@ -44,7 +43,7 @@ pub returns-then-is_err-clause-unwritten : goal.returns-then-is_err-clause-unwri
 returns-then-is_err-clause-unwritten g c none clean shown = refl
 
 pub returns-then-is_err-clause-keeps : goal.returns-then-is_err-clause-keeps
-returns-then-is_err-clause-keeps g c = keeps_itself (state g.S.Store c.args.self.now.store) c.args.self.now.book.register
+returns-then-is_err-clause-keeps g c = keeps_itself (g.K.Commit.kept c.args.self.now.store) c.args.self.now.book.register
 
 pub returns-then-is_err-clause-headline : goal.returns-then-is_err-clause-headline
 returns-then-is_err-clause-headline g c =
@@ -63,11 +62,11 @@ pub returns-then-is_err-clause-crash : goal.returns-then-is_err-clause-crash
 returns-then-is_err-clause-crash g c clean saved good has trees may =
     let R = c.args.self.now.book.register in
     let commands = c.args.commands.items in
-    let old = state g.S.Store c.args.self.now.store in
+    let old = g.K.Commit.kept c.args.self.now.store in
     let none : c.reserve.new.self.items ≡ [] = c.reserve.ensures.items ∙ c.new-replies.ensures.items in
     saved_left old old R R commands c.reserve.new.self.items 0 (ap length none) (omega arith)
     (run_of_none R (take 0 commands) c.reserve.new.self.items (none_taken commands) none) saved has trees
-    (g.met.S.Store.settled c.args.self.now.store.store trees saved.0 may)
+    (g.met.K.Commit.settled c.args.self.now.store trees saved.0 may)
 
 -- ---- the loop
 
@@ -83,7 +82,7 @@ loop-command-init g c =
       ran = λ good. run_of_none c.args.self.now.book.register (take 0 c.args.commands.items) c.reserve.new.self.items (none_taken c.args.commands.items) none;
       near = near_run_of_none c.args.self.now.book.register (take 0 c.args.commands.items) c.reserve.new.self.items (none_taken c.args.commands.items) none;
       network = network_of_none c.args.self.now.book.register (take 0 c.args.commands.items) c.args.self.now.book.network (none_taken c.args.commands.items);
-      keeps = keeps_itself (state g.S.Store c.args.self.now.store) c.args.self.now.book.register;
+      keeps = keeps_itself (g.K.Commit.kept c.args.self.now.store) c.args.self.now.book.register;
       unwritten = λ none clean shown. refl;
       clean = λ clean. clean;
       saved = λ clean saved. saved;
@@ -99,8 +98,8 @@ loop-command-preserved g c =
     let i = c.loop-command.command-index in
     let q = c.command-item.result in
     let inv = c.loop-command.invariant in
-    let mid = state g.S.Store c.loop-command.self.store in
-    let new = state g.S.Store c.answer.new.self.store in
+    let mid = g.K.Commit.kept c.loop-command.self.store in
+    let new = g.K.Commit.kept c.answer.new.self.store in
     let same = c.as_slice-command-items.ensures.value in
     let within : i < length commands = subst (λ (l : List Command). i < length l) same c.loop-command-test.true in
     let at : q ≡ get_or commands i q = c.command-item.is ∙ ap (λ (l : List Command). get_or l i q) same in
@@ -120,8 +119,8 @@ loop-command-preserved g c =
           (search rules) inv.near c.in-Ok.ensures.carried.near c.in-Ok.ensures.carried.changed;
       network = network_of_next R X c.args.self.now.book.network c.loop-command.self.book.network c.answer.new.self.book.network commands i q within at
           inv.near.register inv.network c.in-Ok.ensures.carried.network;
-      keeps = keeps_on (state g.S.Store c.args.self.now.store) mid new R X Y inv.keeps
-          (one_keeps g.S.Store c.loop-command.self c.answer.new.self q c.answer.result carried);
+      keeps = keeps_on (g.K.Commit.kept c.args.self.now.store) mid new R X Y inv.keeps
+          (one_keeps g.K.Commit.kept g.K.Commit.fails c.loop-command.self c.answer.new.self q c.answer.result carried);
       unwritten = λ none clean shown.
           let grown : c.push.new.self.items ≡ c.loop-command.replies.items ++ c.in-Ok.reply ∷ [] = search rules in
           let both = none_before is_accepted c.loop-command.replies.items c.in-Ok.reply
@@ -150,15 +149,15 @@ returns-in-Err-clause-network g c =
 
 pub returns-in-Err-clause-unwritten : goal.returns-in-Err-clause-unwritten
 returns-in-Err-clause-unwritten g c none clean shown =
-    let early : HasCleanDisk (state g.S.Store c.loop-command.self.store) = omega (arith, c.answer.ensures.carried.survives.clean) in
+    let early : HasCleanDisk (g.K.Commit.kept c.loop-command.self.store) = omega (arith, c.answer.ensures.carried.survives.clean) in
     c.in-Err.ensures.carried.unwritten refl clean shown
     ∙ c.loop-command.invariant.unwritten none early (c.answer.ensures.carried.was_open clean shown)
 
 pub returns-in-Err-clause-keeps : goal.returns-in-Err-clause-keeps
 returns-in-Err-clause-keeps g c =
-    keeps_on (state g.S.Store c.args.self.now.store) (state g.S.Store c.loop-command.self.store) (state g.S.Store c.answer.new.self.store)
+    keeps_on (g.K.Commit.kept c.args.self.now.store) (g.K.Commit.kept c.loop-command.self.store) (g.K.Commit.kept c.answer.new.self.store)
     c.args.self.now.book.register c.loop-command.self.book.register c.answer.new.self.book.register c.loop-command.invariant.keeps
-    (one_keeps g.S.Store c.loop-command.self c.answer.new.self c.command-item.result c.answer.result c.answer.ensures.carried)
+    (one_keeps g.K.Commit.kept g.K.Commit.fails c.loop-command.self c.answer.new.self c.command-item.result c.answer.result c.answer.ensures.carried)
 
 pub returns-in-Err-clause-headline : goal.returns-in-Err-clause-headline
 returns-in-Err-clause-headline g c =
@@ -189,7 +188,7 @@ returns-in-Err-clause-crash g c clean saved good has trees may =
     let i = c.loop-command.command-index in
     let q = c.command-item.result in
     let inv = c.loop-command.invariant in
-    let mid = state g.S.Store c.loop-command.self.store in
+    let mid = g.K.Commit.kept c.loop-command.self.store in
     let same = c.as_slice-command-items.ensures.value in
     let within : i < length commands = subst (λ (l : List Command). i < length l) same c.loop-command-test.true in
     let at : q ≡ get_or commands i q = c.command-item.is ∙ ap (λ (l : List Command). get_or l i q) same in
@@ -198,7 +197,7 @@ returns-in-Err-clause-crash g c clean saved good has trees may =
     let mid_has = inv.tables early good has in
     ⊎_elim
     (λ before. saved_left mid mid R X commands told i inv.counted (omega arith) (inv.ran good) mid_saved mid_has trees
-    (g.met.S.Store.settled c.loop-command.self.store.store trees mid_saved.0 before))
+    (g.met.K.Commit.settled c.loop-command.self.store trees mid_saved.0 before))
     (λ after. next_left R X commands told i q inv.counted within at (inv.ran good) trees (after (inv.good good) mid_has))
     (c.answer.ensures.carried.survives.crash clean trees may)
 
@@ -239,7 +238,7 @@ returns-clause-crash g c clean saved good has trees may =
     let X = c.loop-command.self.book.register in
     let commands = c.args.commands.items in
     let inv = c.loop-command.invariant in
-    let mid = state g.S.Store c.loop-command.self.store in
+    let mid = g.K.Commit.kept c.loop-command.self.store in
     let mid_saved = inv.saved clean saved in
     saved_left mid mid R X commands c.loop-command.replies.items c.loop-command.command-index inv.counted (search rules) (inv.ran good) mid_saved
-    (inv.tables clean good has) trees (g.met.S.Store.settled c.loop-command.self.store.store trees mid_saved.0 may)
+    (inv.tables clean good has) trees (g.met.K.Commit.settled c.loop-command.self.store trees mid_saved.0 may)

@@ -3,7 +3,6 @@ use Rattle.std.specs.List.{list_any}
 use Rattle.clr_answer.specs.Decision.{is_accepted}
 use Rattle.clr_desk.specs.Kept.{Keeps}
 use Rattle.clr_desk.specs.NearRun.{IsNearRun, near_network_all}
-use Rattle.sqlite.specs.Held.{state}
 use Rattle.sqlite.specs.State.{HasCleanDisk}
 use Rattle.clr_rules.specs.Good.{IsGood}
 use Rattle.clr_rules.specs.RunHeadline.{IsRun}
@@ -16,8 +15,8 @@ use Rattle.clr_desk.proofs.desk.Desk.run.Given as goal
 abbrev pub invariant-loop-command : goal.invariant-loop-command
 invariant-loop-command g l =
     let R = l.fn.self.book.register in
-    let old = state g.S.Store l.fn.self.store in
-    let now = state g.S.Store l.self.store in
+    let old = g.K.Commit.kept l.fn.self.store in
+    let now = g.K.Commit.kept l.self.store in
     record {
       counted : length l.replies.items ≡ l.command-index;
       filled : vec_len l.replies ≡ l.command-index;

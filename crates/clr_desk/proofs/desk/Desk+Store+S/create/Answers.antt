@@ -9,7 +9,7 @@ use Rattle.clr_tables.specs.Tables.{tables_of}
 use Rattle.clr_tables.specs.TypedRows.{IsTyped}
 use Rattle.clr_book.specs.Book.{Shelved}
 use Rattle.clr_desk.proofs.OneCommand.{of_command}
-use Rattle.clr_desk.proofs.desk.Desk.create.Goals as goal
+use Rattle.clr_desk.proofs.desk.Desk+Store+S.create.Goals as goal
 
 pub returns-in-Ok-create-clause-register : goal.returns-in-Ok-create-clause-register
 returns-in-Ok-create-clause-register g c =

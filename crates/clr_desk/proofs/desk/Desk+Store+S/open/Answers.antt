@@ -8,7 +8,7 @@ use Rattle.clr_desk.specs.Opening.{HasNetworkOf, OpensAs}
 use Rattle.clr_desk.proofs.RowsOpened.{fails_by_database, opened_again}
 use Rattle.clr_desk.proofs.OneCommand.{of_command}
 use Rattle.clr_desk.proofs.Opened.{shut_or_open}
-use Rattle.clr_desk.proofs.desk.Desk.open.Goals as goal
+use Rattle.clr_desk.proofs.desk.Desk+Store+S.open.Goals as goal
 
 pub returns-in-Ok-clause-opened : goal.returns-in-Ok-clause-opened
 returns-in-Ok-clause-opened g c clean t has =
