@@ -1,4 +1,4 @@
--- The line that an opening is told by at a terminal, and what takes it away.
+-- The line that a terminal shows of an opening, and what takes it away.
 use Rattle.std.specs.Prelude.{ℕ, ◌++◌, ◌∷◌, [], List, codes, decimal}
 
 -- from the start of the line on: the MiB of the file, those that were read, and the seconds

@@ -7,7 +7,7 @@ use clr_stream::{CountedFlush, CountedRead, CountedWrite};
 use std::io;
 use std::io::{Read, Write};
 
-/// A reader or a writer that is used after an opening: its first use ends what is told of it. Each
+/// A reader or a writer that is used after an opening: its first use ends what is shown of it. Each
 /// call is handed on, a flush too.
 #[derive(Drop)]
 pub struct Behind<'a, T, C> {

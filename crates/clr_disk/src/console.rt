@@ -19,7 +19,7 @@ pub trait Console {
         ensures { WritesAtMost result bytes.now };
 }
 
-/// No terminal: nothing is told.
+/// No terminal: nothing is shown.
 #[derive(Clone, Copy)]
 pub struct NoConsole;
 

@@ -1,4 +1,4 @@
-//! The line of an opening. It is made in place: what is told takes no memory.
+//! The line of an opening. It is made in place, and takes no memory.
 ghost use Rattle.std.specs.Prelude.{◌≡◌, ◌+◌, ◌++◌, ◌≤◌, decimal, length};
 ghost use Rattle.arrayvec.specs.ArrayString.{array_string_len};
 ghost use Rattle.clr_disk.specs.Line.{opening_line};

@@ -104,7 +104,7 @@ impl Disk for MemoryFile {
     }
 }
 
-/// The outcome of a call as a disk tells it, and a fault where memory ran out.
+/// The outcome of a call as a disk reports it, and a fault where memory ran out.
 fn counted(outcome: Result<(), AllocError>, faults: &mut u64) -> io::Result<()>
     ensures variant { is_ok result ≡ is_ok outcome }
     ensures kind { finds_no_room result ≡ false }

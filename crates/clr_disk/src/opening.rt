@@ -1,4 +1,4 @@
-//! An opening that is told while it lasts.
+//! The progress of an opening, shown while it lasts.
 ghost use Rattle.std.specs.Prelude.{◌≡◌, ◌+◌, ◌<◌, ◌≤◌, ◌/◌, ◌^◌, IfSome, None};
 ghost use Rattle.std.specs.Prelude.{false, true, IsSome};
 ghost use Rattle.clr_disk.specs.Line.{no_line, opening_line};
@@ -7,10 +7,10 @@ ghost use Rattle.clr_disk.specs.Puts.{Puts};
 use crate::line::opening_line;
 use clr_stream::{CountedWrite, write_whole};
 
-/// So many milliseconds an opening takes before it is told.
+/// How many milliseconds an opening takes before it is shown.
 const QUIET_MILLIS: u64 = 1000;
 
-/// So many milliseconds a line stands before the next.
+/// How many milliseconds pass between a line and the next.
 const LINE_MILLIS: u64 = 250;
 
 /// The bytes of a MiB.
@@ -27,8 +27,8 @@ pub(crate) struct Opening {
 }
 
 impl Opening {
-    /// An opening that begins, of a file of so many bytes. Where there is no terminal there is none
-    /// to tell of.
+    /// An opening that begins, of a file of `size` bytes. Where there is no terminal there is none
+    /// to show.
     pub(crate) fn begun(is_terminal: bool, size: u64) -> Option<Opening>
         ensures silent { is_terminal ≡ false → result ≡ None }
         ensures watched { is_terminal ≡ true → IsSome result }
@@ -46,8 +46,8 @@ impl Opening {
         })
     }
 
-    /// The same when so many bytes more were read, in this millisecond of it. If its line is due, it
-    /// is written over the one before.
+    /// The same after `bytes` more were read, in this millisecond of it. If its line is due,
+    /// it is written over the one before.
     pub(crate) fn read_on<W: CountedWrite>(
         self,
         bytes: usize,
@@ -77,7 +77,7 @@ impl Opening {
         }
     }
 
-    /// Takes the line away when the opening has ended, if it was told.
+    /// Takes the line away when the opening has ended, if one was shown.
     pub(crate) fn end<W: CountedWrite>(self, errors: &mut W)
         ensures untold { self.is_told ≡ false → W.stream errors.new ≡ W.stream errors.old }
         ensures told { self.is_told ≡ true

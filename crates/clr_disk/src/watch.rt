@@ -1,6 +1,6 @@
 //! The watch over the opening of a database.
 //!
-//! Of what a cell holds, and of a terminal, no clause speaks: what is told, and when, the clauses of
+//! Of what a cell holds, and of a terminal, no clause speaks: what is shown, and when, the clauses of
 //! `Opening` say.
 ghost use Rattle.std.specs.Prelude.{◌≡◌, ◌<◌, ◌/◌, ◌^◌};
 ghost use Rattle.std.specs.Duration.{as_nanos};
@@ -11,7 +11,7 @@ use clr_stream::Counted;
 use std::cell::Cell;
 use std::time::{Duration, Instant};
 
-/// The watch over an opening. Where standard error is a terminal, it tells there how far an opening
+/// The watch over an opening. Where standard error is a terminal, it shows there how far an opening
 /// has come that takes more than a second, until it ends.
 #[derive(Drop)]
 pub struct Watch<C> {
@@ -20,7 +20,7 @@ pub struct Watch<C> {
 }
 
 impl<C: Console> Watch<C> {
-    /// A watch that has nothing to tell of.
+    /// A watch that has nothing to show yet.
     pub fn new(console: C) -> Watch<C>
         ensures { result.console ≡ console }
     {
@@ -30,7 +30,7 @@ impl<C: Console> Watch<C> {
         }
     }
 
-    /// The opening of a file of so many bytes begins.
+    /// The opening of a file of `size` bytes begins.
     pub fn begin(&self, size: u64) {
         let Some(opening) = Opening::begun(self.console.is_terminal(), size) else {
             return;
@@ -40,7 +40,7 @@ impl<C: Console> Watch<C> {
         }
     }
 
-    /// So many bytes were read. Where no opening is under way nothing is told.
+    /// This many bytes were read. Where no opening is under way nothing is shown.
     pub fn read(&self, bytes: usize) {
         let Some((opening, since)) = self.opening.get() else {
             return;

@@ -71,7 +71,7 @@ fn files_at<S: Start>(rt: &HostRuntime, path: &str, start: S) -> Result<Files<Fi
     }
 }
 
-/// The code by which an error of the files is told.
+/// The code for an error of the files.
 fn code_of(error: OpenError) -> ErrorCode
     ensures { IsTrue (is_open_error (Error.SqliteFailure result)) }
 {

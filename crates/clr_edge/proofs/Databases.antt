@@ -1,13 +1,8 @@
 -- Faults of databases that are known to have a register.
-use Rattle.std.proofs.Common.{◌≡◌, ◌↔◌, ◌∙◌, ◌⊎◌, IsTrue, None, Option, Some, ⊎_elim, arith, inl, inr, refl, subst, sym, ℤ, Result, Ok, Err}
+use Rattle.std.proofs.Common.{◌≡◌, ◌↔◌, ◌∙◌, ◌⊎◌, None, Option, Some, ⊎_elim, arith, inl, inr, refl, subst, sym, ℤ, Result, Ok, Err}
 use Rattle.std.proofs.lemmas.Option.{none-some}
-use Rattle.std.specs.Prelude.{IfErr, IfSome, IsErrAnd, OnOk, pos}
-use Rattle.sqlite.specs.Effect.{Database}
-use Rattle.sqlite.specs.Files.{over_files}
-use Rattle.sqlite.specs.Held.{Held, state}
+use Rattle.std.specs.Prelude.{IfErr, IsErrAnd, OnOk, pos}
 use Rattle.sqlite.specs.State.{HasCleanDisk, State, Survives}
-use Rattle.sqlite_disk.specs.declared.Disk as disk
-use Rattle.sqlite_store.specs.declared.store.FileStore.{FileStore}
 use Rattle.sqlite_trees.specs.Tree.{Trees}
 use Rattle.clr_tables.specs.declared.table_name.TableName.{TableName}
 use Rattle.clr_tables.specs.declared.table_name.TableName.TheVariants as tables
@@ -31,7 +26,8 @@ use Rattle.clr_tables.specs.RowsRead.{read_version, rows_read}
 use Rattle.clr_tables.specs.Tables.{Tables, tables_of}
 use Rattle.clr_edge.specs.Fault.{of_desk, of_store}
 use Rattle.clr_edge.specs.declared.fault.Fault.{Fault}
-use Rattle.clr_edge.specs.Database.{IsMoved, IsOfLine, IsOfUnfit, IsUnmovedAt, IsUnopened, RefusesTables}
+use Rattle.clr_edge.specs.Database.{IsOfLine, IsOfStore, IsOfUnfit, RefusesTables}
+use Rattle.clr_edge.specs.Visit.{Done, both}
 
 -- a fault of the desk's commands is told as one of a line
 pub IsOfLine-of_command : (fault : DeskFault) → IsOfCommand fault → IsOfLine (of_desk fault)
@@ -103,16 +99,6 @@ line_of_error _ = inr refl
 pub was_clean : (s t : State) (Commits : Trees → Type 0) → Survives s t Commits → HasCleanDisk t → HasCleanDisk s
 was_clean s t Commits survives clean = omega (arith, survives.clean, clean)
 
--- what is known of a fault, whatever is known of the register
-pub IfSome-line : {T A : Type 0} (o : Option A) (result : Result T Fault) → IfErr result IsOfLine → IfSome o (λ _. IfErr result IsOfLine)
-IfSome-line None result line = tt
-IfSome-line (Some a) result line = line
-
--- what follows of the register that is known
-pub IfSome-then : {A : Type 0} (o : Option A) (P : A → Type 0) (Q : Type 0) → ((a : A) → P a → Q) → IfSome o P → IfSome o (λ _. Q)
-IfSome-then None P Q from is = tt
-IfSome-then (Some a) P Q from is = from a is
-
 -- a fault that was told, and one that is passed on
 pub IfErr-was : {T : Type 0} (told : Result T Fault) (fault : Fault) (P : Fault → Type 0) → told ≡ Err fault → IfErr told P → P fault
 IfErr-was {T} told fault P was holds = let Q : Result T Fault → Type 0 = λ r. IfErr r P in subst Q was holds
@@ -121,11 +107,6 @@ pub IfErr-passed : {T : Type 0} (result : Result T Fault) (fault : Fault) (P : F
     → IfErr result P
 IfErr-passed (Ok value) fault P is holds = absurd is
 IfErr-passed (Err cause) fault P is holds = subst P (sym is) holds
-
--- a database that is not opened is told as one of a line
-pub IsOfLine-unopened : (IsShut : Type 0) (fault : Fault) → IsUnopened IsShut fault → IsOfLine fault
-IsOfLine-unopened IsShut fault (inl memory) = inl memory
-IsOfLine-unopened IsShut fault (inr (sql, shut)) = inr sql
 
 -- a fault of the store, told by the desk
 pub of_desk-of_store : (cause : StoreFault) → of_desk (desk_of_store cause) ≡ of_store cause
@@ -148,14 +129,6 @@ OnOk-then (Err fault) from is = tt
 pub OnOk-any : {T : Type 0} (result : Result T Fault) (P : Type 0) → P → OnOk result P
 OnOk-any (Ok value) P holds = holds
 OnOk-any (Err fault) P holds = tt
-
--- why a move is told as a fault behind the closing: the tables were not moved, or they were, and the
--- closing failed
-pub IsUnmovedAt-closing : {T D : Type 0} (g : disk.Ghosts D) (IsAt : Database → Type 0) (IsShut : Type 0) (closed : Result T Fault)
-    (before after : Held (FileStore D g)) → IsAt (state over_files before).now → IsMoved over_files before after
-    → IfErr closed IsOfLine → IfErr closed (IsUnmovedAt g IsAt IsShut)
-IsUnmovedAt-closing g IsAt IsShut (Ok value) before after at moved line = tt
-IsUnmovedAt-closing g IsAt IsShut (Err fault) before after at moved line = inr (before, after, at, inr (line, moved))
 
 pub OnOk-was : {T : Type 0} (result : Result T Fault) (value : T) (P : Type 0) → result ≡ Ok value → OnOk result P → P
 OnOk-was {T} result value P was holds = let Q : Result T Fault → Type 0 = λ r. OnOk r P in subst Q was holds
@@ -185,3 +158,26 @@ unfit_told R found table is told exact = record {
   first = sym told ∙ is;
   named = refl;
 }
+
+-- the first of two faults is one of either
+pub both-fault : (told closed result : Done) (P : Fault → Type 0) → result ≡ both told closed → IfErr told P → IfErr closed P → IfErr result P
+both-fault told closed result P is one other = let Q : Done → Type 0 = λ r. IfErr r P in subst Q (sym is) (first_of told closed P one other)
+  where
+    first_of : (told closed : Done) (P : Fault → Type 0) → IfErr told P → IfErr closed P → IfErr (both told closed) P
+    first_of (Ok value) closed P one other = other
+    first_of (Err fault) closed P one other = one
+
+pub IfErr-from : {T : Type 0} (result : Result T Fault) (P Q : Fault → Type 0) → ((fault : Fault) → P fault → Q fault) → IfErr result P → IfErr result Q
+IfErr-from (Ok value) P Q from is = tt
+IfErr-from (Err fault) P Q from is = from fault is
+
+-- a fault of the store
+pub IsOfStore-of : (cause : StoreFault) (fault : Fault) → fault ≡ of_store cause → IsOfStore fault
+IsOfStore-of store.Sql fault is = inr (store.Sql, is)
+IsOfStore-of (store.WrongVersion n) fault is = inr (store.WrongVersion n, is)
+IsOfStore-of (store.BadRow table) fault is = inr (store.BadRow table, is)
+IsOfStore-of store.NoMemory fault is = inl is
+
+pub IsOfStore-line : (fault : Fault) → IsOfLine fault → IsOfStore fault
+IsOfStore-line fault (inl memory) = inl memory
+IsOfStore-line fault (inr sql) = inr (store.Sql, sql)

@@ -1,16 +1,9 @@
 -- Registers that databases have, and faults of the databases themselves.
 use Rattle.std.specs.Prelude.{◌≡◌, ◌≢◌, ◌⊎◌, false, is_ok, IsTrue, List, Some, Ok, Err, pos}
-use Rattle.sqlite.specs.Closing.{IsCopied}
-use Rattle.sqlite.specs.Effect.{Database}
-use Rattle.sqlite.specs.Files.{over_files}
 use Rattle.sqlite.specs.Held.{Held, state}
 use Rattle.sqlite.specs.Order.{Row}
 use Rattle.sqlite.specs.State.{HasCleanDisk, Survives}
-use Rattle.sqlite_disk.specs.declared.Disk as disk
-use Rattle.sqlite_disk.specs.declared.Files.{Files}
-use Rattle.sqlite_store.specs.declared.store.FileStore.{FileStore}
 use Rattle.sqlite_trees.specs.declared.store.Store.{Ghosts}
-use Rattle.sqlite_wal.specs.Reads.{AreClean}
 use Rattle.clr_rules.specs.Good.{IsGood}
 use Rattle.clr_rules.specs.Register.{Register}
 use Rattle.clr_load.specs.Cause.{SqlHasCause}
@@ -37,22 +30,17 @@ use Rattle.clr_edge.specs.declared.fault.Fault.TheVariants.{Memory, Store}
 abbrev pub IsOfLine : Fault → Type 0
 IsOfLine fault = (fault ≡ Memory) ⊎ (fault ≡ Store Sql)
 
--- a database was not opened: memory ran out, or the file refused or failed, and `IsShut` says so
-abbrev pub IsUnopened : Type 0 → Fault → Type 0
-IsUnopened IsShut fault = (fault ≡ Memory) ⊎ ((fault ≡ Store Sql) × IsShut)
-
 -- memory ran out, or the database is at fault, or what it has
 abbrev pub IsOfStore : Fault → Type 0
 IsOfStore fault = (fault ≡ Memory) ⊎ ((cause : StoreFault) × (fault ≡ Store cause))
 
 -- What is known of a database: it has the tables of a good register, whose values are of their
--- types, and its files give back what was written.
+-- types.
 pub record HasRegister {S : Type 0} (g : Ghosts S) (R : Register) (connection : Held S)
     : Type 0 where
   pub good : IsGood R
   pub typed : IsTyped R
   pub tables : HasTables (state g connection).now (tables_of R)
-  pub clean : (after : Held S) → HasCleanDisk (state g after)
 
 -- a database of version 2 was read, and not changed: its tables are the same where the disk is
 -- clean and the connection open, and a crash leaves what it left before
@@ -62,11 +50,6 @@ pub record IsOnlyRead {S : Type 0} (g : Ghosts S) (before after : Held S) : Type
   pub same : HasCleanDisk (state g after) → IsTrue (state g after).is_open
       → (state g after).now ≡ (state g before).now
   pub survives : Survives (state g before) (state g after) (λ _. ⊥)
-
--- the same of a database that was opened at a path
-abbrev pub ReadsAt : {D : Type 0} → disk.Ghosts D → (Database → Type 0) → Type 0
-ReadsAt {D} g IsAt = (before : Held (FileStore D g)) × (after : Held (FileStore D g))
-    × IsAt (state over_files before).now × IsOnlyRead over_files before after
 
 -- the tables of a register were made in a database: where the disk is clean they are there and
 -- saved, and a crash leaves them, or what it left before
@@ -84,18 +67,6 @@ pub record IsUnmade {S : Type 0} (g : Ghosts S) (before : Held S) (R : Register)
       → (state g after).now ≡ (state g before).now
   pub survives : Survives (state g before) (state g after)
       (λ trees. AreTables trees (tables_of R))
-
--- A CONNECTION WAS CLOSED, and these are its files: where they gave back what was written, it was
--- clean and open, and the database file alone has what it committed last, now and after a crash
-abbrev pub IsLeftInFile : {D : Type 0} → (g : disk.Ghosts D) → Held (FileStore D g) → Type 0
-IsLeftInFile {D} g after = (files : Files D)
-    × (AreClean g files.log files.db → IsCopied after files)
-
--- they were made in a database that was opened at a path, and closed
-abbrev pub IsMadeAt : {D : Type 0} → disk.Ghosts D → (Database → Type 0) → Register → Type 0
-IsMadeAt {D} g IsAt R = (before : Held (FileStore D g)) × (after : Held (FileStore D g))
-    × IsAt (state over_files before).now × IsMade over_files before R after
-    × IsLeftInFile g after
 
 -- the fault of a register that is not good: it names the table of the first list that does not fit
 pub record IsOfUnfit (R : Register) (cause : StoreFault) : Type 0 where
@@ -116,8 +87,8 @@ RefusesTables t cause = RefusesVersion (read_version t.meta) cause
     ⊎ OpensAs (λ (book : Shelved). book.register) (rows_read t) (Err cause)
     ⊎ RefusesUnfit t cause
 
--- the fault that is told of a database that is not opened. Of tables that are there it is theirs,
--- another version is told as what it is, and `Sql` has a cause
+-- the fault that is reported of a database that is not opened. Of tables that are there it is
+-- theirs, another version is reported as what it is, and `Sql` has a cause
 pub record IsRefused {S : Type 0} (g : Ghosts S) (before : Held S) (told : Fault) (after : Held S)
     : Type 0 where
   pub fault : StoreFault
@@ -151,8 +122,8 @@ pub record IsMoved {S : Type 0} (g : Ghosts S) (before after : Held S) : Type 0 
   pub survives : Survives (state g before) (state g after) (LeavesMoved (state g before).now)
 
 -- they were not moved: where the disk is clean and the connection open, the database is as before.
--- Of tables that are there the fault that is told is theirs. `Sql` has a cause where the version is
--- another than 1, and where a point of version 1 does not read
+-- Of tables that are there the fault that is reported is theirs. `Sql` has a cause where the
+-- version is another than 1, and where a point of version 1 does not read
 pub record IsUnmoved {S : Type 0} (g : Ghosts S) (before : Held S) (told : Fault) (after : Held S)
     : Type 0 where
   pub fault : StoreFault
@@ -170,18 +141,3 @@ pub record IsUnmoved {S : Type 0} (g : Ghosts S) (before : Held S) (told : Fault
   pub same : HasCleanDisk (state g after) → IsTrue (state g after).is_open
       → (state g after).now ≡ (state g before).now
   pub survives : Survives (state g before) (state g after) (LeavesMoved (state g before).now)
-
--- they were moved in a database that was opened at a path, and closed
-abbrev pub IsMovedAt : {D : Type 0} → disk.Ghosts D → (Database → Type 0) → Type 0
-IsMovedAt {D} g IsAt = (before : Held (FileStore D g)) × (after : Held (FileStore D g))
-    × IsAt (state over_files before).now × IsMoved over_files before after × IsLeftInFile g after
-
--- why no move is told: the database at the path was not opened, its tables were not moved, or they
--- were, and the database was not closed
-abbrev pub IsUnmovedAt : {D : Type 0} → disk.Ghosts D → (Database → Type 0) → Type 0 → Fault
-    → Type 0
-IsUnmovedAt {D} g IsAt IsShut fault = IsUnopened IsShut fault
-    ⊎ ((before : Held (FileStore D g)) × (after : Held (FileStore D g))
-    × IsAt (state over_files before).now
-    × (IsUnmoved over_files before fault after
-    ⊎ (IsOfLine fault × IsMoved over_files before after)))

@@ -44,6 +44,7 @@ subject_of (fault.UnknownPoint point) = codes "network"
 subject_of (fault.Input cause) = codes "input"
 subject_of (fault.Store cause) = codes "store"
 subject_of fault.NoSuch = codes "clearance"
+subject_of fault.NoWay = codes "clearance"
 subject_of fault.Output = codes "output"
 subject_of fault.Listen = codes "listen"
 
@@ -101,6 +102,7 @@ name_of (fault.UnknownPoint point) = codes "UnknownPoint"
 name_of (fault.Input cause) = input_fault_name cause
 name_of (fault.Store cause) = store_fault_name cause
 name_of fault.NoSuch = codes "NoSuch"
+name_of fault.NoWay = codes "NoWay"
 name_of fault.Output = codes "WriteFailed"
 name_of fault.Listen = codes "BindFailed"
 

@@ -1,6 +1,6 @@
 -- The rows that files give, one file after the other.
 use Rattle.std.specs.Prelude.{◌≡◌, ◌≢◌, ◌⊎◌, ℕ, List, None, Option, Some, Result, Ok, Err, IfSome}
-use Rattle.std.specs.Prelude.{IsErrOf, OnErr}
+use Rattle.std.specs.Prelude.{IsErr, IsErrOf, OnErr}
 use Rattle.std.specs.Io.KnownBytes.{ReadConsumes}
 use Rattle.clr_stream.specs.Failures.{Rose}
 use Rattle.clr_csv.specs.declared.fault.CsvFault.{CsvFault}
@@ -10,7 +10,7 @@ use Rattle.clr_edge.specs.declared.fault.Fault.{Fault}
 use Rattle.clr_edge.specs.declared.fault.Fault.TheVariants.{Memory, File}
 use Rattle.clr_edge.specs.Fault.{of_file}
 
--- what the rows of a file come to, its faults told of it
+-- what the rows of a file come to, its faults with its name
 abbrev pub told_of : {A : Type 0} → ImportFile → Result A CsvFault → Result A Fault
 told_of file (Ok rows) = Ok rows
 told_of file (Err cause) = Err (of_file file cause)
@@ -19,27 +19,27 @@ told_of file (Err cause) = Err (of_file file cause)
 abbrev pub IsUnread : ImportFile → Fault → Type 0
 IsUnread file fault = (fault ≡ Memory) ⊎ (fault ≡ File file ReadFailed)
 
--- a read of a file is one of the file that was opened; where none was, there is nothing to read
+-- a read of a file is one of the file that was opened; where none was, it fails
 abbrev pub ReadsOpened : {F E : Type 0} → (F → Option (List ℕ)) → Option F → Option F → Result ℕ E
     → List ℕ → Type 0
 ReadsOpened remaining (Some old) (Some new) result bytes =
     ReadConsumes (remaining old) (remaining new) result bytes
-ReadsOpened remaining None None result bytes = result ≡ Ok 0
+ReadsOpened remaining None None result bytes = IsErr result
 ReadsOpened remaining old new result bytes = ⊥
 
--- the rows that are told, as `view` shows them, or the fault; only a file that goes unread may come
--- in its place
+-- the rows that are given, as `view` shows them, or the fault; only a file that goes unread may
+-- come in its place
 abbrev pub GivesRows : {A T : Type 0} → ImportFile → (T → List A) → Result (List A) Fault
     → Result T Fault → Type 0
 GivesRows file view told (Ok rows) = told ≡ Ok (view rows)
 GivesRows file view told (Err fault) = (IsUnread file fault → ⊥) → told ≡ Err fault
 
--- a file is told as unread only where its count of failures rose in the call
+-- a file is reported as unread only where its count of failures rose in the call
 abbrev pub HasCause : {T : Type 0} → ImportFile → Result T Fault → ℕ → ℕ → Type 0
 HasCause file result before after = IsErrOf result (File file ReadFailed) → Rose before after
 
 -- A file waits for an earlier one: where that has a fault of its own, this one stays as it was, and
--- is not told as unread.
+-- is not reported as unread.
 abbrev pub WaitsFor : {A T X : Type 0} → Option (List ℕ) → (List ℕ → Result A CsvFault) → ImportFile
     → Result T Fault → X → X → Type 0
 WaitsFor earlier read file result before after =

@@ -1,115 +1,140 @@
 //! The databases that registers are stored in, each opened when its turn comes, and closed.
-ghost use Rattle.std.specs.Prelude.{◌≡◌, ◌⊎◌, ℕ, List, Option, IfErr, IfOk, IfSome, OnErr};
-ghost use Rattle.std.specs.Prelude.{OnOk, ⊤};
-ghost use Rattle.sqlite.specs.Effect.{Database};
+ghost use Rattle.std.specs.Prelude.{◌≡◌, ◌⊎◌, ℕ, List, IfErr, IfOk, OnErr, OnOk, ⊤};
 ghost use Rattle.sqlite.specs.Files.{over_files};
-ghost use Rattle.sqlite.specs.Held.{IsNew, state};
-ghost use Rattle.sqlite.specs.State.{Survives};
+ghost use Rattle.sqlite.specs.Held.{state};
+ghost use Rattle.sqlite.specs.State.{HasCleanDisk, Survives};
+ghost use Rattle.sqlite_disk.specs.declared.Disk as disk;
+ghost use Rattle.sqlite_disk.specs.declared.Files.{Files as DiskFiles};
+ghost use Rattle.sqlite_wal.specs.Files.{image_at};
+ghost use Rattle.clr_load.specs.Cause.{fault_of};
 ghost use Rattle.clr_rules.specs.Good.{IsGood};
 ghost use Rattle.clr_rules.specs.Register.{Register, opening};
-ghost use Rattle.clr_edge.specs.Database.{HasRegister, IsMade, IsMadeAt, IsMoved, IsMovedAt};
-ghost use Rattle.clr_edge.specs.Database.{IsLeftInFile, IsOfLine, IsOfUnfit, IsOnlyRead, IsRefused};
-ghost use Rattle.clr_edge.specs.Database.{IsUnmade, IsUnmoved, IsUnmovedAt, IsUnopened};
+ghost use Rattle.clr_edge.specs.Database.{HasRegister, IsMade, IsMoved, IsOfLine, IsOfUnfit};
+ghost use Rattle.clr_edge.specs.Database.{IsOfStore, IsOnlyRead, IsRefused, IsUnmade, IsUnmoved};
+ghost use Rattle.clr_edge.specs.Fault.{of_store};
+ghost use Rattle.clr_edge.specs.Visit.{Alone, Comes, Ends, IsLeft, IsOpenedOver};
+ghost use Rattle.clr_edge.specs.Visit.{MakesRegister, MovesRegister, Over, both};
+ghost use Rattle.clr_edge.specs.declared.fault.Fault.{Fault as AnyFault};
 
 use crate::fault::Fault;
 use crate::machine::Machine;
 use clr_desk::Desk;
-use clr_disk::{Console, MemoryFile, Watched, WatchedDatabase, database_in_memory, open_watched};
+use clr_disk::{Console, Watched, WatchedDatabase, open_watched};
+use clr_load::StoreFault;
 use clr_net::Network;
 use clr_staff::Staff;
-use clr_store::{Back, Store, StoreFault};
+use clr_store::{Back, Store};
 use sqlite::{Alter, Connection, Error, FileFrom, FileStore, Start};
-use sqlite_disk::Disk;
-use std::alloc::{AllocError, Global};
-use std::rt::Files;
+use sqlite_disk::{Disk, Files};
+use std::alloc::Global;
 use std::{fs, io};
 
-/// What opens the database in a file.
+/// What opens the databases that are there, and takes their files back. Each step leads from one
+/// state of it to the next, so a clause that names the steps names all that was opened.
 pub trait Databases {
     /// What a database lies in.
     type Medium: Disk + Drop;
 
-    /// The register that the database in a file has, where that is known.
-    ghost register_at: { Self → List ℕ → Option Register };
+    /// That the database at a path was opened, and how the connection began. Only `stored` says so.
+    ghost opens: { Self → List ℕ → (g : disk.Ghosts Self.Medium) → Over g → Self → Type 0 };
 
-    /// That the database in a file was opened, and showed this. Only `database` says so.
-    ghost is_at: { Self → List ℕ → Database → Type 0 };
+    /// That the database at a path could not be opened. Only `stored` and `database` say so.
+    ghost shuts: { Self → List ℕ → AnyFault → Self → Type 0 };
 
-    /// That the database in a file could not be opened. Only `database` and `stored` say so.
-    ghost is_shut: { Self → List ℕ → Type 0 };
+    /// That the files of a database that was closed came back. Only `give_back` says so.
+    ghost ends: { Self → DiskFiles Self.Medium → Self → Type 0 };
 
-    /// Opens the database in a file. A file that is not there is made, and its database is empty.
-    fn database(&self, path: &str) -> Result<Connection<FileStore<Self::Medium>>, Fault>
-        ensures at { IfOk result (λ connection.
-            is_at self.now path.now (state over_files connection).now) }
-        ensures known { IfSome (register_at self.now path.now) (λ R. IfOk result (λ connection.
-            HasRegister over_files R connection)) }
-        ensures fault { IfErr result (IsUnopened (is_shut self.now path.now)) };
+    /// Opens the database in a file. A file that is not there, or is empty, is refused, and no file
+    /// is made or changed.
+    fn stored(&mut self, path: &str) -> Result<Connection<FileStore<Self::Medium>>, Fault>
+        ensures opens { IfOk result (λ connection.
+            opens self.old path.now Self.Medium.Disk connection self.new) }
+        ensures shuts { IfErr result (λ fault. shuts self.old path.now fault self.new) }
+        ensures fault { IfErr result IsOfLine };
 
-    /// The same of a file that has a database already. One that is not there, or is empty, is
-    /// refused, and no file is made or changed.
-    fn stored(&self, path: &str) -> Result<Connection<FileStore<Self::Medium>>, Fault>
-        ensures at { IfOk result (λ connection.
-            is_at self.now path.now (state over_files connection).now) }
-        ensures known { IfSome (register_at self.now path.now) (λ R. IfOk result (λ connection.
-            HasRegister over_files R connection)) }
-        ensures fault { IfErr result (IsUnopened (is_shut self.now path.now)) };
+    /// Lets the files of a database go.
+    fn give_back(&mut self, files: Files<Self::Medium>)
+        ensures { ends self.old files self.new };
 }
 
-impl<'a, S: Start + Copy, C: Console> Databases for Machine<'a, S, C> {
-    ghost use Rattle.std.specs.Prelude.{None};
+/// What makes databases too, for the one subcommand that may.
+pub trait Makes: Databases {
+    /// That the database at a path was opened, or made. Only `database` says so.
+    ghost makes: { Self → List ℕ → (g : disk.Ghosts Self.Medium) → Over g → Self → Type 0 };
 
+    /// Opens the database in a file. A file that is not there is made, and its database is empty.
+    fn database(&mut self, path: &str) -> Result<Connection<FileStore<Self::Medium>>, Fault>
+        ensures makes { IfOk result (λ connection.
+            makes self.old path.now Self.Medium.Disk connection self.new) }
+        ensures shuts { IfErr result (λ fault. Self.shuts self.old path.now fault self.new) }
+        ensures fault { IfErr result IsOfLine };
+}
+
+/// What is found is what the files held. Of their paths no clause can speak.
+impl<'a, S: Start + Copy, C: Console> Databases for Machine<'a, S, C> {
     type Medium = Watched<'a, FileFrom<S>, C>;
 
-    ghost register_at = { λ _ _. None };
+    ghost opens = { λ _ _ _ connection _. IsOpenedOver (image_at S.Start) connection };
 
-    ghost is_at = { λ _ _ _. ⊤ };
+    ghost shuts = { λ _ _ _ _. ⊤ };
 
-    ghost is_shut = { λ _ _. ⊤ };
+    ghost ends = { λ _ _ _. ⊤ };
 
-    fn database(&self, path: &str) -> Result<WatchedDatabase<'a, S, C>, Fault>
-        ensures at { IfOk result (λ _. ⊤) }
-        ensures fault { IfErr result (IsUnopened ⊤) }
+    fn stored(&mut self, path: &str) -> Result<WatchedDatabase<'a, S, C>, Fault>
+        ensures opens { IfOk result (IsOpenedOver (image_at S.Start)) }
+        ensures shuts { IfErr result (λ _. ⊤) }
+        ensures fault { IfErr result IsOfLine }
+    {
+        let size = expect_bytes(self.rt, path)?;
+        if let Some(watch) = self.watch {
+            watch.begin(size);
+        }
+        self.opened(path)
+    }
+
+    fn give_back(&mut self, files: Files<Watched<'a, FileFrom<S>, C>>)
+        ensures { ⊤ }
+    {
+        drop(files);
+    }
+}
+
+impl<'a, S: Start + Copy, C: Console> Makes for Machine<'a, S, C> {
+    ghost makes = { λ _ _ _ connection _. IsOpenedOver (image_at S.Start) connection };
+
+    fn database(&mut self, path: &str) -> Result<WatchedDatabase<'a, S, C>, Fault>
+        ensures makes { IfOk result (IsOpenedOver (image_at S.Start)) }
+        ensures shuts { IfErr result (λ _. ⊤) }
+        ensures fault { IfErr result IsOfLine }
+    {
+        self.opened(path)
+    }
+}
+
+impl<'a, S: Start + Copy, C: Console> Machine<'a, S, C> {
+    /// The database in a file, which is made if it is not there.
+    fn opened(&self, path: &str) -> Result<WatchedDatabase<'a, S, C>, Fault>
+        ensures opens { IfOk result (IsOpenedOver (image_at S.Start)) }
+        ensures fault { IfErr result IsOfLine }
     {
         match open_watched(self.rt, path, self.files, self.watch) {
             Ok(connection) => Ok(connection),
             Err(error) => Err(fault_of(error)),
         }
     }
-
-    fn stored(&self, path: &str) -> Result<WatchedDatabase<'a, S, C>, Fault>
-        ensures at { IfOk result (λ _. ⊤) }
-        ensures fault { IfErr result (IsUnopened ⊤) }
-    {
-        let size = expect_bytes(self.rt, path)?;
-        if let Some(watch) = self.watch {
-            watch.begin(size);
-        }
-        self.database(path)
-    }
 }
 
-/// The fault by which an error of a database is told.
+/// The fault of an error of a database.
 fn fault_of(error: Error) -> Fault
-    ensures { IsOfLine result }
+    ensures value { result ≡ of_store (fault_of error) }
+    ensures line { IsOfLine result }
 {
     Fault::from(StoreFault::from(error))
 }
 
-/// Opens an empty database in memory. Its files fail where they are refused a growth, and else
-/// never: so any failure of theirs is told as out of memory.
-pub fn in_memory(alloc: Global) -> Result<Connection<FileStore<MemoryFile>>, AllocError>
-    ensures { IfOk result IsNew }
-{
-    match database_in_memory(alloc) {
-        Ok(connection) => Ok(connection),
-        Err(_) => Err(AllocError),
-    }
-}
-
 /// How many bytes a file has. Refuses one that is not there, cannot be looked at or is empty: it has
 /// no database.
-fn expect_bytes<R: Files>(files: &R, path: &str) -> Result<u64, Fault>
+fn expect_bytes<R: std::rt::Files>(files: &R, path: &str) -> Result<u64, Fault>
     ensures { IfErr result IsOfLine }
 {
     match fs::metadata(files, path) {
@@ -119,44 +144,58 @@ fn expect_bytes<R: Files>(files: &R, path: &str) -> Result<u64, Fault>
     }
 }
 
-/// Closes a database that was only read. What was read of it stands, also where it cannot be
-/// closed, as on a full disk.
-pub fn close_read<F: Disk + Drop>(connection: Connection<FileStore<F>>) {
-    let _closed = close(connection);
-}
-
-/// Closes a database, of which everything is in its file then, and nothing in the log.
-pub fn close<F: Disk + Drop>(connection: Connection<FileStore<F>>) -> Result<(), Fault>
-    ensures left { OnOk result (IsLeftInFile F.Disk connection) }
+/// Closes a database, and gives its files back, also where it cannot be closed. Once it is closed,
+/// everything is in its file, and nothing in the log.
+pub fn close<R: Databases>(
+    rt: &mut R,
+    connection: Connection<FileStore<R::Medium>>,
+) -> Result<(), Fault>
+    ensures ends { Ends R.ends connection result rt.old rt.new }
     ensures fault { IfErr result IsOfLine }
 {
+    let (closed, files) = close_over(connection);
+    rt.give_back(files);
+    closed
+}
+
+/// Closes a database over files, which are given back.
+fn close_over<D: Disk + Drop>(connection: Connection<FileStore<D>>) -> (Result<(), Fault>, Files<D>)
+    ensures left { IsLeft connection result.1 result.0 }
+    ensures fault { IfErr result.0 IsOfLine }
+{
     match connection.close_files() {
-        Ok(_files) => Ok(()),
-        Err((error, store)) => {
-            drop(store.close());
-            Err(fault_of(error))
-        }
+        Ok(files) => (Ok(()), files),
+        Err((error, store)) => (Err(fault_of(error)), store.close()),
+    }
+}
+
+/// The first of two faults.
+fn both(told: Result<(), Fault>, closed: Result<(), Fault>) -> Result<(), Fault>
+    ensures { result ≡ both told closed }
+{
+    match told {
+        Ok(()) => closed,
+        Err(fault) => Err(fault),
     }
 }
 
 /// Makes the tables of an opening register in the database at a path, which has to be empty, and
-/// closes it.
-pub fn store_register<D: Databases>(
+/// closes it. A file that is not there is made.
+pub fn store_register<R: Makes>(
     alloc: Global,
-    databases: &D,
+    rt: &mut R,
     path: &str,
     network: Network,
     staff: Staff,
 ) -> Result<(), Fault>
-    ensures made { OnOk result
-        (IsMadeAt D.Medium.Disk (D.is_at databases.now path.now) (opening network staff)) }
+    ensures visit { Comes R.Medium.Disk R.makes R.shuts R.ends path.now
+        (Alone (MakesRegister over_files (opening network staff))) result rt.old rt.new }
     ensures fault { IfErr result IsOfLine }
 {
-    let connection = databases.database(path)?;
+    let connection = rt.database(path)?;
     let (made, connection) = register_made(alloc, connection, network, staff);
-    let closed = close(connection);
-    made?;
-    closed
+    let closed = close(rt, connection);
+    both(made, closed)
 }
 
 /// Makes the tables of an opening register in a database, which has to be empty.
@@ -182,18 +221,15 @@ fn register_made<S: Alter + Drop>(
 ///
 /// Of the rows only the points are looked at. Whether they are those of a good register is asked
 /// at each opening of a desk (`desk_over`).
-pub fn move_register<D: Databases>(databases: &D, path: &str) -> Result<(), Fault>
-    ensures moved { OnOk result
-        (IsMovedAt D.Medium.Disk (D.is_at databases.now path.now)) }
-    ensures unmoved { IfErr result (IsUnmovedAt D.Medium.Disk
-        (D.is_at databases.now path.now) (D.is_shut databases.now path.now)) }
-    ensures known { IfSome (D.register_at databases.now path.now) (λ _. IfErr result IsOfLine) }
+pub fn move_register<R: Databases>(rt: &mut R, path: &str) -> Result<(), Fault>
+    ensures visit { Comes R.Medium.Disk R.opens R.shuts R.ends path.now
+        (Alone (MovesRegister over_files)) result rt.old rt.new }
+    ensures fault { IfErr result IsOfStore }
 {
-    let connection = databases.stored(path)?;
+    let connection = rt.stored(path)?;
     let (moved, connection) = register_moved(connection);
-    let closed = close(connection);
-    moved?;
-    closed
+    let closed = close(rt, connection);
+    both(moved, closed)
 }
 
 /// Brings the tables of a register to the version that is read.
@@ -202,7 +238,7 @@ fn register_moved<S: Alter + Drop>(connection: Connection<S>) -> (Result<(), Fau
     ensures unmoved { IfErr result.0 (λ fault.
         IsUnmoved S.Store connection fault result.1) }
     ensures known { (R : Register) → HasRegister S.Store R connection
-        → IfErr result.0 IsOfLine }
+        → HasCleanDisk (state S.Store result.1) → IfErr result.0 IsOfLine }
 {
     match Store::migrate(connection) {
         Ok(store) => (Ok(()), store.end()),
@@ -218,13 +254,13 @@ fn register_moved<S: Alter + Drop>(connection: Connection<S>) -> (Result<(), Fau
 pub fn desk_over<S: Alter + Drop>(
     alloc: Global,
     connection: Connection<S>,
-) -> Result<Desk<S>, (Fault, Connection<S>)>
+) -> Result<Desk<Store<S>>, (Fault, Connection<S>)>
     ensures good { IfOk result (λ desk. IsGood desk.book.register) }
     ensures register { (R : Register) → HasRegister S.Store R connection → IfOk result (λ desk.
-        (desk.book.register ≡ R) × IsGood R) }
+        HasCleanDisk (state S.Store desk.store) → desk.book.register ≡ R) }
     ensures read { IfOk result (λ desk. IsOnlyRead S.Store connection desk.store) }
-    ensures fault { (R : Register) → HasRegister S.Store R connection
-        → IfErr result (λ back. IsOfLine back.0) }
+    ensures fault { (R : Register) → HasRegister S.Store R connection → IfErr result (λ back.
+        HasCleanDisk (state S.Store back.1) → IsOfLine back.0) }
     ensures told { IfErr result (λ back. IsRefused S.Store connection back.0 back.1) }
     ensures unread { IfErr result (λ back. Survives (state S.Store connection)
         (state S.Store back.1) (λ _. ⊥)) }
@@ -244,7 +280,7 @@ pub fn desk_over<S: Alter + Drop>(
 }
 
 /// Refuses a register that is not good.
-fn expect_good<S: Alter + Drop>(alloc: Global, desk: &Desk<S>) -> Result<(), StoreFault>
+fn expect_good<S: Alter + Drop>(alloc: Global, desk: &Desk<Store<S>>) -> Result<(), StoreFault>
     ensures good { OnOk result (IsGood desk.now.book.register) }
     ensures fault { IfErr result (λ cause. (cause ≡ StoreFault.NoMemory)
         ⊎ IsOfUnfit desk.now.book.register cause) }

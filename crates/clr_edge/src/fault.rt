@@ -8,9 +8,9 @@ ghost use Rattle.clr_edge.specs.Fault.{store_fault_name};
 
 use clr_csv::CsvFault;
 use clr_desk::DeskFault;
+use clr_load::StoreFault;
 use clr_net::{Name, NameFault, NetFault};
 use clr_staff::StaffFault;
-use clr_store::StoreFault;
 use clr_stream::ReadFault;
 use clr_tables::TableName;
 use std::alloc::{AllocError, AllocFailed};
@@ -73,6 +73,9 @@ pub enum Fault {
     Store(StoreFault),
     /// An argument names no clearance, or none that has steps in the round that is named.
     NoSuch,
+    /// The clearance cannot be given back before the staff has a field employee, since a step of it
+    /// is given out.
+    NoWay,
     /// The answer could not be written to standard output.
     Output,
     /// The port could not be listened on.
@@ -224,7 +227,7 @@ impl Fault {
             Fault::Name(_) => "name",
             Fault::Input(_) => "input",
             Fault::Store(_) => "store",
-            Fault::NoSuch => "clearance",
+            Fault::NoSuch | Fault::NoWay => "clearance",
             Fault::Output => "output",
             Fault::Listen => "listen",
         }
@@ -246,6 +249,7 @@ impl Fault {
             Fault::Input(fault) => input_fault_name(fault),
             Fault::Store(fault) => store_fault_name(fault),
             Fault::NoSuch => "NoSuch",
+            Fault::NoWay => "NoWay",
             Fault::Output => "WriteFailed",
             Fault::Listen => "BindFailed",
         }
@@ -256,8 +260,8 @@ impl Fault {
         ensures { result ≡ detail_of self.now }
     {
         match *self {
-            Fault::Memory | Fault::Input(_) | Fault::NoSuch => Detail::Nothing,
-            Fault::Output | Fault::Listen => Detail::Nothing,
+            Fault::Memory | Fault::Input(_) => Detail::Nothing,
+            Fault::NoSuch | Fault::NoWay | Fault::Output | Fault::Listen => Detail::Nothing,
             Fault::File(_, fault) => file_fault_detail(fault),
             Fault::Network(fault) => network_fault_detail(fault),
             Fault::Staff(fault) => staff_fault_detail(fault),

@@ -30,7 +30,7 @@ pub trait Source: CountedRead {
             → Self.failure_count self.new ≡ Self.failure_count self.old };
 }
 
-/// A reader that stands at its start is open already.
+/// A reader at its start is open already.
 impl<R: Read> Source for Counted<R> {
     fn open(&mut self) -> Result<(), CsvFault> {
         Ok(())
@@ -103,7 +103,7 @@ fn staff_in<S: Source>(alloc: Global, source: &mut S) -> Result<Vec<StaffRow>, C
     Ok(rows)
 }
 
-/// The rows of a file; a fault is told with the file that has it.
+/// The rows of a file; a fault names the file that has it.
 fn told_of<T>(file: ImportFile, rows: Result<T, CsvFault>) -> Result<T, Fault>
     ensures { result ≡ told_of file rows }
 {

@@ -1,4 +1,4 @@
-//! The line that tells a fault. It is made whole, in place, before any of it is written.
+//! The line of a fault. It is made whole, in place, before any of it is written.
 ghost use Rattle.std.specs.Prelude.{◌≡◌, ◌+◌, ◌++◌, ◌≤◌, codes, decimal, length};
 ghost use Rattle.std.specs.Fmt.{signed_decimal};
 ghost use Rattle.clr_tables.specs.TableText.{table_text};
@@ -65,7 +65,7 @@ fn table_word(table: TableName) -> &'static str
     table.text()
 }
 
-/// Adds a version, behind a blank.
+/// Adds a version, after a blank.
 fn push_version(line: &mut Line, version: i64)
     requires { array_string_len line.old + 21 ≤ 96 }
     ensures text { line.new.bytes ≡ line.old.bytes ++ (codes " " ++ signed_decimal version) }

@@ -1,107 +1,151 @@
 //! What takes connections on the machine itself.
-ghost use Rattle.std.specs.Prelude.{◌≡◌, ◌⊎◌, ◌∷◌, ℕ, [], IfErr, IfOk, ⊤};
+ghost use Rattle.std.specs.Prelude.{◌≡◌, ℕ, IfErr, IfOk, ⊤};
 ghost use Rattle.std.specs.IoError.{error_kind};
-ghost use Rattle.std.specs.Net.Addr.{IsV4And, ipv4_octets};
-ghost use Rattle.std.specs.Net.Socket.{socket_ip, socket_port};
 ghost use Rattle.std.specs.declared.io.ErrorKind.{ErrorKind};
+ghost use Rattle.std.specs.declared.net.socket_addr.SocketAddr.{SocketAddr as AnySocketAddr};
+ghost use Rattle.clr_edge.specs.Loopback.{IsLocal, RefusesOn, StandsOn, listen_fault};
 ghost use Rattle.clr_edge.specs.declared.loopback.Connection.{Connection as AnyConnection};
 
 use crate::fault::Fault;
 use crate::machine::Machine;
 use clr_disk::Console;
+use clr_stream::{Counted, CountedFlush, CountedRead};
 use sqlite::Start;
 use std::io;
-use std::io::{Read, Write};
 use std::net::{IpAddr, Ipv4Addr, SocketAddr, TcpListener, TcpStream};
 
-/// What takes connections on 127.0.0.1, and on no other address.
+/// What takes connections. Each step leads from one state of it to the next, and each connection
+/// that came is let go by `hang_up`.
 pub trait Loopback {
-    /// What stands on a port and takes its connections.
+    /// What listens on a port and takes its connections.
     type Listener: Drop;
 
-    /// A handle of a connection.
-    type Stream: Read + Write + Drop;
+    /// What the request of a connection is read from. Nothing can be written to it.
+    type Reader: CountedRead + Drop;
 
-    /// That a port could not be had. Only `listen` says so.
-    ghost refuses: { Self → ℕ → Type 0 };
+    /// What the response is written to.
+    type Writer: CountedFlush + Drop;
 
-    /// That a listener stands on a port. Only `listen` says so.
-    ghost stands: { Self → Self.Listener → ℕ → Type 0 };
+    /// That an address could not be had, for this reason. Only `bind` says so.
+    ghost refuses: { Self → AnySocketAddr → ErrorKind → Self → Type 0 };
+
+    /// That a listener was had on an address. Only `bind` says so.
+    ghost stands: { Self → AnySocketAddr → Self.Listener → Self → Type 0 };
 
     /// That a connection came to a listener. Only `accept` says so.
-    ghost comes: { Self → Self.Listener → AnyConnection Self.Stream → Type 0 };
+    ghost comes: { Self → Self.Listener → AnyConnection Self.Reader Self.Writer → Self
+        → Type 0 };
 
     /// That a connection could not be taken, for this reason. Only `accept` says so.
-    ghost misses: { Self → Self.Listener → ErrorKind → Type 0 };
+    ghost misses: { Self → Self.Listener → ErrorKind → Self → Type 0 };
 
-    /// Listens on a port. `Listen` where another does, or where the system allows none; `Memory`
-    /// where memory ran out.
-    fn listen(&self, port: u16) -> Result<Self::Listener, Fault>
-        ensures stands { IfOk result (λ listener. stands self.now listener port) }
-        ensures fault { IfErr result (λ fault. (fault ≡ Fault.Memory)
-            ⊎ ((fault ≡ Fault.Listen) × refuses self.now port)) };
+    /// That a connection was let go as it was then. Only `hang_up` says so.
+    ghost hangs_up: { Self → AnyConnection Self.Reader Self.Writer → Self → Type 0 };
 
-    /// Waits for the next connection on a port.
-    fn accept(&self, listener: &Self::Listener) -> io::Result<Connection<Self::Stream>>
-        ensures comes { IfOk result (comes self.now listener.now) }
+    /// Listens on an address.
+    fn bind(&mut self, address: SocketAddr) -> io::Result<Self::Listener>
+        ensures stands { IfOk result (λ listener. stands self.old address listener self.new) }
+        ensures refuses { IfErr result (λ error.
+            refuses self.old address (error_kind error) self.new) };
+
+    /// Waits for the next connection to a listener.
+    fn accept(
+        &mut self,
+        listener: &Self::Listener,
+    ) -> io::Result<Connection<Self::Reader, Self::Writer>>
+        ensures comes { IfOk result (λ connection.
+            comes self.old listener.now connection self.new) }
         ensures misses { IfErr result (λ error.
-            misses self.now listener.now (error_kind error)) };
+            misses self.old listener.now (error_kind error) self.new) };
+
+    /// Lets a connection go, which closes it.
+    fn hang_up(&mut self, connection: Connection<Self::Reader, Self::Writer>)
+        ensures { hangs_up self.old connection self.new };
 }
 
 /// A connection, which is closed once both handles are let go.
 #[derive(Drop)]
-pub struct Connection<S> {
+pub struct Connection<R, W> {
     /// What the request is read from.
-    pub reader: S,
+    pub reader: R,
     /// What the response is written to.
-    pub writer: S,
+    pub writer: W,
 }
 
 impl<'a, S: Start, C: Console> Loopback for Machine<'a, S, C> {
     type Listener = TcpListener;
 
-    type Stream = TcpStream;
+    type Reader = Counted<TcpStream>;
 
-    ghost refuses = { λ _ _. ⊤ };
+    type Writer = Counted<TcpStream>;
 
-    ghost stands = { λ _ _ _. ⊤ };
+    ghost refuses = { λ _ _ _ _. ⊤ };
 
-    ghost comes = { λ _ _ _. ⊤ };
+    ghost stands = { λ _ _ _ _. ⊤ };
 
-    ghost misses = { λ _ _ _. ⊤ };
+    ghost comes = { λ _ _ _ _. ⊤ };
 
-    fn listen(&self, port: u16) -> Result<TcpListener, Fault>
+    ghost misses = { λ _ _ _ _. ⊤ };
+
+    ghost hangs_up = { λ _ _ _. ⊤ };
+
+    fn bind(&mut self, address: SocketAddr) -> io::Result<TcpListener>
         ensures stands { IfOk result (λ _. ⊤) }
-        ensures fault { IfErr result (λ fault. (fault ≡ Fault.Memory)
-            ⊎ ((fault ≡ Fault.Listen) × ⊤)) }
+        ensures refuses { IfErr result (λ _. ⊤) }
     {
         if let Some(watch) = self.watch {
             watch.end();
         }
-        match TcpListener::bind(self.rt, local_address(port)) {
-            Ok(listener) => Ok(listener),
-            Err(error) => match error.kind() {
-                io::ErrorKind::OutOfMemory => Err(Fault::Memory),
-                _ => Err(Fault::Listen),
-            },
-        }
+        TcpListener::bind(self.rt, address)
     }
 
-    fn accept(&self, listener: &TcpListener) -> io::Result<Connection<TcpStream>>
+    fn accept(
+        &mut self,
+        listener: &TcpListener,
+    ) -> io::Result<Connection<Counted<TcpStream>, Counted<TcpStream>>>
         ensures comes { IfOk result (λ _. ⊤) }
         ensures misses { IfErr result (λ _. ⊤) }
     {
         let (reader, _) = listener.accept()?;
         let writer = reader.try_clone()?;
-        Ok(Connection { reader, writer })
+        Ok(Connection {
+            reader: Counted::new(reader),
+            writer: Counted::new(writer),
+        })
+    }
+
+    fn hang_up(&mut self, connection: Connection<Counted<TcpStream>, Counted<TcpStream>>)
+        ensures { ⊤ }
+    {
+        drop(connection);
+    }
+}
+
+/// Listens on a port of 127.0.0.1, and on no other address. `Listen` where another does, or where
+/// the system allows none; `Memory` where memory ran out.
+pub fn listen<L: Loopback>(net: &mut L, port: u16) -> Result<L::Listener, Fault>
+    ensures stands { IfOk result (λ listener. StandsOn L.stands net.old port listener net.new) }
+    ensures fault { IfErr result (λ fault. RefusesOn L.refuses net.old port fault net.new) }
+{
+    match net.bind(local_address(port)) {
+        Ok(listener) => Ok(listener),
+        Err(error) => Err(listen_fault(&error)),
+    }
+}
+
+/// The fault of a port that could not be had.
+fn listen_fault(error: &io::Error) -> Fault
+    ensures { result ≡ listen_fault (error_kind error.now) }
+{
+    match error.kind() {
+        io::ErrorKind::OutOfMemory => Fault::Memory,
+        _ => Fault::Listen,
     }
 }
 
 /// A port of 127.0.0.1.
 pub fn local_address(port: u16) -> SocketAddr
-    ensures ip { IsV4And (socket_ip result)
-        (λ address. ipv4_octets address ≡ 127 ∷ 0 ∷ 0 ∷ 1 ∷ []) }
-    ensures port { socket_port result ≡ port }
+    ensures { IsLocal result port }
 {
     SocketAddr::new(IpAddr::V4(Ipv4Addr::new(127, 0, 0, 1)), port)
 }

@@ -13,12 +13,12 @@ pub struct Machine<'a, S: Start, C: Console> {
     pub(crate) rt: &'a HostRuntime,
     /// What the database files hold, which is for contracts alone.
     pub(crate) files: S,
-    /// What tells of the opening of a database, if it is told.
+    /// What shows the opening of a database at a terminal, if anything does.
     pub(crate) watch: Option<&'a Watch<C>>,
 }
 
 impl<'a, S: Start> Machine<'a, S, NoConsole> {
-    /// The machine of a runtime. No opening of a database is told.
+    /// The machine of a runtime. No opening of a database is shown.
     pub fn new(rt: &'a HostRuntime, files: S) -> Machine<'a, S, NoConsole>
         ensures runtime { result.rt ≡ rt.entry }
         ensures files { result.files ≡ files }
@@ -32,8 +32,8 @@ impl<'a, S: Start> Machine<'a, S, NoConsole> {
 }
 
 impl<'a, S: Start, C: Console> Machine<'a, S, C> {
-    /// The same, where a watch tells of each opening of a database by `stored`. It ends when the
-    /// machine listens; what else is behind an opening is to end it.
+    /// The same, where a watch shows each opening of a database by `stored`. It ends when the
+    /// machine listens; what else comes after an opening is to end it.
     pub fn watched(rt: &'a HostRuntime, files: S, watch: &'a Watch<C>) -> Machine<'a, S, C>
         ensures runtime { result.rt ≡ rt.entry }
         ensures files { result.files ≡ files }

@@ -12,7 +12,7 @@ use std::{fs, io};
 pub trait Opens<'a> {
     type File: Source + Drop;
 
-    /// What stands in the file at a path, where that is known.
+    /// What the file at a path holds, where that is known.
     ghost bytes_at: { Self → List ℕ → Option (List ℕ) };
 
     /// The file at a path. It is not opened yet.
@@ -90,12 +90,13 @@ impl<'a, R: Files> Read for AtPath<'a, R> {
         ensures bytes { ReadConsumes None None result buf.new }
         ensures count { self.new.failures ≡ count_after result self.old.failures }
 
-        // So a file ends only where the file itself does, and not where it could not be read on.
+        // So a file ends only where the file itself does, and not where it could not be read on, or
+        // was not opened.
         ensures opened { ReadsOpened R.File.remaining self.old.file self.new.file result buf.new }
     {
         let answer = match &mut self.file {
             Some(file) => file.read(buf),
-            None => Ok(0),
+            None => Err(io::Error::from(io::ErrorKind::NotFound)),
         };
         self.count(&answer);
         answer
@@ -115,7 +116,21 @@ impl<'a, R: Files> CountedRead for AtPath<'a, R> {
 }
 
 impl<'a, R: Files> Source for AtPath<'a, R> {
-    fn open(&mut self) -> Result<(), CsvFault> {
+    ghost use Rattle.std.specs.Prelude.{◌≢◌, IfErr, IsErrOf, IsSome, OnOk, ⊤};
+    ghost use Rattle.clr_stream.specs.Failures.{Rose};
+
+    fn open(&mut self) -> Result<(), CsvFault>
+        ensures bytes { ⊤ }
+        ensures fault { IfErr result (λ fault.
+            (fault ≡ CsvFault.NoMemory) ⊎ (fault ≡ CsvFault.ReadFailed)) }
+        ensures cause { IsErrOf result CsvFault.ReadFailed
+            → Rose self.old.failures self.new.failures }
+        ensures others { result ≢ Err CsvFault.ReadFailed
+            → self.new.failures ≡ self.old.failures }
+
+        // So one that could not be opened is never taken for an empty file.
+        ensures opened { OnOk result (IsSome self.new.file) }
+    {
         match fs::open(self.rt, self.path) {
             Ok(file) => {
                 self.file = Some(file);

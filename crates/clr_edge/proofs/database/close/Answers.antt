@@ -1,5 +1,4 @@
 use Rattle.clr_edge.proofs.database.close.Goals as goal
 
--- the files that were given back
-pub returns-in-Ok-clause-left : goal.returns-in-Ok-clause-left
-returns-in-Ok-clause-left g c = (c.in-Ok._files, c.in-Ok.ensures.copied)
+pub returns-clause-ends : goal.returns-clause-ends
+returns-clause-ends g c = (c.close_over-closed.result.1, c.close_over-closed.ensures.left, c.give_back.ensures)

@@ -18,29 +18,27 @@ use Rattle.clr_edge.proofs.database.desk_over.Goals as goal
 
 -- the version is the one that is read
 pub returns-in-Err-clause-fault : goal.returns-in-Err-clause-fault
-returns-in-Err-clause-fault g c R known =
+returns-in-Err-clause-fault g c R known clean =
     subst (λ fault. IsOfLine fault) (sym c.from.ensures)
-    (IsOfLine-of_version R _ (c.in-Err.ensures.refused
-    (known.clean c.in-Err.field-0.connection) (tables_of R) known.tables))
+    (IsOfLine-of_version R _ (c.in-Err.ensures.refused clean (tables_of R) known.tables))
 
 -- the rows are those of a good register
 pub returns-in-Ok-expect_good-clause-register : goal.returns-in-Ok-expect_good-clause-register
-returns-in-Ok-expect_good-clause-register g c R known =
-    let was_open = c.in-Ok-open.ensures.was_open (known.clean c.in-Ok-open.desk.store) in
-    let same = c.in-Ok.ensures.opened (known.clean c.in-Ok.store) was_open in (
-      c.in-Ok-open.ensures.again (known.clean c.in-Ok-open.desk.store) R known.good
-          (subst (λ db. HasTables db (tables_of R)) (sym same) known.tables),
-      known.good,
-    )
+returns-in-Ok-expect_good-clause-register g c R known clean =
+    let was_open = c.in-Ok-open.ensures.was_open clean in
+    let same = c.in-Ok.ensures.opened (was_clean _ _ _ c.in-Ok-open.ensures.survives clean) was_open in
+    c.in-Ok-open.ensures.again clean R known.good (subst (λ db. HasTables db (tables_of R)) (sym same) known.tables)
 
 pub returns-in-Err-open-clause-fault : goal.returns-in-Err-open-clause-fault
-returns-in-Err-open-clause-fault g c R known =
+returns-in-Err-open-clause-fault g c R known clean_back =
+    let clean = subst (λ h. HasCleanDisk (state g.S.Store h)) c.end.ensures.connection clean_back in
+    let clean_before = was_clean _ _ _ c.in-Err-open.ensures.survives_too clean in
     subst (λ fault. IsOfLine fault) (sym c.from-in-Err-open.ensures)
     (IsOfLine-of_command _ (IsOfCommand-shut _ _
-    (c.in-Err-open.ensures.shut (known.clean c.in-Err-open.store))
-    (λ was_open. c.in-Err-open.ensures.cause (known.clean c.in-Err-open.store) R known.good
+    (c.in-Err-open.ensures.shut clean)
+    (λ was_open. c.in-Err-open.ensures.cause clean R known.good
     known.typed (subst (λ db. HasTables db (tables_of R))
-    (sym (c.in-Ok.ensures.opened (known.clean c.in-Ok.store) was_open)) known.tables))))
+    (sym (c.in-Ok.ensures.opened clean_before was_open)) known.tables))))
 
 -- the fault is the one that was answered
 pub returns-in-Err-clause-told : goal.returns-in-Err-clause-told
@@ -90,11 +88,13 @@ returns-in-Ok-expect_good-clause-read g c = record {
 
 -- a register that is known is good
 pub returns-in-Err-expect_good-clause-fault : goal.returns-in-Err-expect_good-clause-fault
-returns-in-Err-expect_good-clause-fault g c R known =
-    let was_open = c.in-Ok-open.ensures.was_open (known.clean c.in-Ok-open.desk.store) in
-    let same = c.in-Ok.ensures.opened (known.clean c.in-Ok.store) was_open in
+returns-in-Err-expect_good-clause-fault g c R known clean_back =
+    let back : c.end-in-Err-expect_good-2.result ≡ c.in-Ok-open.desk.store = cc in
+    let clean = subst (λ (h : Held g.row.S.Denot). HasCleanDisk (state g.S.Store h)) back clean_back in
+    let was_open = c.in-Ok-open.ensures.was_open clean in
+    let same = c.in-Ok.ensures.opened (was_clean _ _ _ c.in-Ok-open.ensures.survives clean) was_open in
     let is : c.in-Ok-open.desk.book.register ≡ R =
-    c.in-Ok-open.ensures.again (known.clean c.in-Ok-open.desk.store) R known.good
+    c.in-Ok-open.ensures.again clean R known.good
     (subst (λ db. HasTables db (tables_of R)) (sym same) known.tables) in
     subst (λ fault. IsOfLine fault) (sym c.from-in-Err-expect_good.ensures)
     (IsOfLine-unfit c.in-Ok-open.desk.book.register c.in-Err-expect_good.cause

@@ -1,47 +1,37 @@
-use Rattle.std.proofs.Common.{inl, inr}
-use Rattle.clr_edge.specs.Database.{IsOfLine, IsUnmovedAt}
-use Rattle.clr_edge.proofs.Databases.{IfErr-passed, IfErr-was, IfSome-line, IfSome-then, IsOfLine-unopened, IsUnmovedAt-closing, OnOk-then, OnOk-was}
+use Rattle.std.proofs.Common.{inr, refl}
+use Rattle.clr_edge.specs.Database.{IsOfLine, IsOfStore}
+use Rattle.clr_edge.proofs.Databases.{IfErr-from, IfErr-passed, IsOfStore-line, IsOfStore-of, both-fault}
 use Rattle.clr_edge.proofs.database.move_register.Goals as goal
 
--- the database was not opened
-pub returns-in_err-connection-clause-known : goal.returns-in_err-connection-clause-known
-returns-in_err-connection-clause-known g c =
-    IfSome-line _ _ (IfErr-passed _ _ (λ fault. IsOfLine fault) c.from_residual.ensures.1
-    (IsOfLine-unopened _ _ c.in_err-connection.ensures.fault))
+-- they were moved over the connection to that database, or not, and it was closed
+pub returns-clause-visit : goal.returns-clause-visit
+returns-clause-visit g c = inr (record {
+  before = c.in_ok-connection.connection;
+  after = c.register_moved-moved.result.1;
+  closed = c.close-closed.result;
+  middle = c.stored.new.self;
+  later = c.stored.new.self;
+  opened = c.in_ok-connection.ensures.opens;
+  does = (
+    refl,
+    record {
+      told = c.register_moved-moved.result.0;
+      moved = c.register_moved-moved.ensures.moved;
+      unmoved = c.register_moved-moved.ensures.unmoved;
+      known = c.register_moved-moved.ensures.known;
+      result_is = c.both.ensures;
+    },
+  );
+  ended = c.close-closed.ensures.ends;
+})
 
--- its tables were not moved
-pub returns-in_err-moved-clause-unmoved : goal.returns-in_err-moved-clause-unmoved
-returns-in_err-moved-clause-unmoved g c =
-    IfErr-passed _ _ (IsUnmovedAt g.D.Medium.Disk (g.D.Databases.is_at c.args.databases.now c.args.path.now) (g.D.Databases.is_shut c.args.databases.now c.args.path.now))
-    c.from_residual-in_err-moved.ensures.1 (inr (
-      c.in_ok-connection.connection,
-      c.register_moved-moved.result.1,
-      c.in_ok-connection.ensures.at,
-      inl (IfErr-was _ _ _ c.in_err-moved.was c.register_moved-moved.ensures.unmoved),
-    ))
+pub returns-clause-fault : goal.returns-clause-fault
+returns-clause-fault g c =
+    both-fault c.register_moved-moved.result.0 c.close-closed.result _ (λ fault. IsOfStore fault) c.both.ensures
+    (IfErr-from c.register_moved-moved.result.0 _ (λ fault. IsOfStore fault) (λ fault unmoved. IsOfStore-of unmoved.fault fault unmoved.told_is)
+    c.register_moved-moved.ensures.unmoved)
+    (IfErr-from c.close-closed.result (λ fault. IsOfLine fault) (λ fault. IsOfStore fault) IsOfStore-line c.close-closed.ensures.fault)
 
-pub returns-in_err-moved-clause-known : goal.returns-in_err-moved-clause-known
-returns-in_err-moved-clause-known g c =
-    IfSome-then _ _ _ (λ R has.
-    IfErr-passed _ _ (λ fault. IsOfLine fault) c.from_residual-in_err-moved.ensures.1
-    (IfErr-was _ _ (λ fault. IsOfLine fault) c.in_err-moved.was (c.register_moved-moved.ensures.known R has))) c.in_ok-connection.ensures.known
-
--- they were moved, and the database was closed, or not
-pub returns-clause-moved : goal.returns-clause-moved
-returns-clause-moved g c =
-    OnOk-then c.close-closed.result (λ left. (
-      c.in_ok-connection.connection,
-      c.register_moved-moved.result.1,
-      c.in_ok-connection.ensures.at,
-      OnOk-was c.register_moved-moved.result.0 _ _ c.in_ok-moved.was c.register_moved-moved.ensures.moved,
-      left,
-    )) c.close-closed.ensures.left
-
-pub returns-clause-unmoved : goal.returns-clause-unmoved
-returns-clause-unmoved g c =
-    IsUnmovedAt-closing g.D.Medium.Disk (g.D.Databases.is_at c.args.databases.now c.args.path.now) (g.D.Databases.is_shut c.args.databases.now c.args.path.now)
-    c.close-closed.result c.in_ok-connection.connection c.register_moved-moved.result.1 c.in_ok-connection.ensures.at
-    (OnOk-was c.register_moved-moved.result.0 _ _ c.in_ok-moved.was c.register_moved-moved.ensures.moved) c.close-closed.ensures.fault
-
-pub returns-clause-known : goal.returns-clause-known
-returns-clause-known g c = IfSome-line _ _ c.close-closed.ensures.fault
+pub returns-in_err-connection-clause-fault : goal.returns-in_err-connection-clause-fault
+returns-in_err-connection-clause-fault g c =
+    IfErr-passed _ _ (λ fault. IsOfStore fault) c.from_residual.ensures.1 (IsOfStore-line _ c.in_err-connection.ensures.fault)

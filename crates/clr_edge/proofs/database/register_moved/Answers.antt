@@ -1,5 +1,5 @@
 use Rattle.std.proofs.Common.{subst, sym}
-use Rattle.sqlite.specs.Held.{Held, state}
+use Rattle.sqlite.specs.Held.{Held}
 use Rattle.clr_load.proofs.Loading.{has_meta}
 use Rattle.clr_tables.specs.Tables.{tables_of}
 use Rattle.clr_edge.specs.Database.{IsMoved, IsOfLine}
@@ -32,7 +32,7 @@ returns-in-Err-clause-unmoved g c = record {
 
 -- tables of a register are of the version that is read
 pub returns-in-Err-clause-known : goal.returns-in-Err-clause-known
-returns-in-Err-clause-known g c R known =
+returns-in-Err-clause-known g c R known clean =
     subst (λ fault. IsOfLine fault) (sym c.from.ensures)
     (IsOfLine-of_move R _ (c.in-Err.ensures.unread
-    (known.clean c.in-Err.field-0.connection) (tables_of R).meta (has_meta known.tables.layout _ (tables_of R) known.tables.here)))
+    clean (tables_of R).meta (has_meta known.tables.layout _ (tables_of R) known.tables.here)))

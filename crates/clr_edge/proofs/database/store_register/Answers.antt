@@ -1,13 +1,31 @@
-use Rattle.clr_edge.proofs.Databases.{OnOk-then, OnOk-was}
+use Rattle.std.proofs.Common.{inr, refl}
+use Rattle.clr_edge.specs.Database.{IsOfLine}
+use Rattle.clr_edge.proofs.Databases.{both-fault}
 use Rattle.clr_edge.proofs.database.store_register.Goals as goal
 
 -- the register was made over the connection to that database, which was closed
-pub returns-clause-made : goal.returns-clause-made
-returns-clause-made g c =
-    OnOk-then c.close-closed.result (λ left. (
-      c.in_ok-connection.connection,
-      c.register_made-made.result.1,
-      c.in_ok-connection.ensures.at,
-      OnOk-was c.register_made-made.result.0 _ _ c.in_ok-made.was c.register_made-made.ensures.made,
-      left,
-    )) c.close-closed.ensures.left
+pub returns-clause-visit : goal.returns-clause-visit
+returns-clause-visit g c = inr (record {
+  before = c.in_ok-connection.connection;
+  after = c.register_made-made.result.1;
+  closed = c.close-closed.result;
+  middle = c.database.new.self;
+  later = c.database.new.self;
+  opened = c.in_ok-connection.ensures.makes;
+  does = (
+    refl,
+    record {
+      told = c.register_made-made.result.0;
+      made = c.register_made-made.ensures.made;
+      unmade = c.register_made-made.ensures.unmade;
+      fault = c.register_made-made.ensures.fault;
+      result_is = c.both.ensures;
+    },
+  );
+  ended = c.close-closed.ensures.ends;
+})
+
+pub returns-clause-fault : goal.returns-clause-fault
+returns-clause-fault g c =
+    both-fault c.register_made-made.result.0 c.close-closed.result _ (λ fault. IsOfLine fault) c.both.ensures
+    c.register_made-made.ensures.fault c.close-closed.ensures.fault

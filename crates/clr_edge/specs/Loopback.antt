@@ -1,0 +1,31 @@
+-- Ports of the machine itself.
+use Rattle.std.specs.Prelude.{◌≡◌, ◌∷◌, ℕ, []}
+use Rattle.std.specs.Net.Addr.{IsV4And, ipv4_octets}
+use Rattle.std.specs.Net.Socket.{socket_ip, socket_port}
+use Rattle.std.specs.declared.io.ErrorKind.{ErrorKind}
+use Rattle.std.specs.declared.io.ErrorKind.TheVariants.{OutOfMemory}
+use Rattle.std.specs.declared.net.socket_addr.SocketAddr.{SocketAddr}
+use Rattle.clr_edge.specs.declared.fault.Fault.{Fault}
+use Rattle.clr_edge.specs.declared.fault.Fault.TheVariants.{Listen, Memory}
+
+-- the address of a port of 127.0.0.1
+pub record IsLocal (address : SocketAddr) (port : ℕ) : Type 0 where
+  pub ip : IsV4And (socket_ip address) (λ ip. ipv4_octets ip ≡ 127 ∷ 0 ∷ 0 ∷ 1 ∷ [])
+  pub port_is : socket_port address ≡ port
+
+-- the fault of a port that could not be had for this reason
+abbrev pub listen_fault : ErrorKind → Fault
+listen_fault OutOfMemory = Memory
+listen_fault kind = Listen
+
+-- a listener was had on a port of 127.0.0.1
+abbrev pub StandsOn : {M L : Type 0} → (M → SocketAddr → L → M → Type 0) → M → ℕ → L → M → Type 0
+StandsOn stands old port listener new =
+    (address : SocketAddr) × IsLocal address port × stands old address listener new
+
+-- that port could not be had, and the fault says so
+abbrev pub RefusesOn : {M : Type 0} → (M → SocketAddr → ErrorKind → M → Type 0) → M → ℕ → Fault → M
+    → Type 0
+RefusesOn refuses old port fault new =
+    (address : SocketAddr) × (kind : ErrorKind) × IsLocal address port
+    × (fault ≡ listen_fault kind) × refuses old address kind new

@@ -1,0 +1,120 @@
+-- One visit of a database: it is opened, worked on, and closed as it was left; and nothing else.
+use Rattle.std.specs.Prelude.{◌≡◌, ◌⊎◌, ℕ, IfErr, List, OnErr, OnOk, Result, Ok, Err}
+use Rattle.sqlite.specs.Closing.{IsCopied}
+use Rattle.sqlite.specs.Files.{FailsToClose, IsClosed, IsOpened, file_state}
+use Rattle.sqlite.specs.Held.{Held, IsNew, state}
+use Rattle.sqlite.specs.Start.{FindsIn}
+use Rattle.sqlite.specs.State.{HasCleanDisk}
+use Rattle.sqlite.specs.declared.error.Error.{Error}
+use Rattle.sqlite_disk.specs.declared.Disk as disk
+use Rattle.sqlite_disk.specs.declared.Files.{Files}
+use Rattle.sqlite_store.specs.declared.store.FileStore.{FileStore}
+use Rattle.sqlite_store.specs.FileStore.{view}
+use Rattle.sqlite_store.specs.FileStore as store
+use Rattle.sqlite_trees.specs.View.{IsClean}
+use Rattle.sqlite_trees.specs.declared.store.Store.{Ghosts}
+use Rattle.sqlite_wal.specs.Reads.{AreClean}
+use Rattle.sqlite_wal.specs.Recovery.{Image}
+use Rattle.clr_load.specs.Cause.{fault_of}
+use Rattle.clr_rules.specs.Register.{Register}
+use Rattle.clr_edge.specs.Database.{HasRegister, IsMade, IsMoved, IsOfLine, IsUnmade, IsUnmoved}
+use Rattle.clr_edge.specs.Fault.{of_store}
+use Rattle.clr_edge.specs.declared.fault.Fault.{Fault}
+
+-- a connection over files
+abbrev pub Over : {D : Type 0} → disk.Ghosts D → Type 0
+Over {D} g = Held (FileStore D g)
+
+-- what closing gives, or any step that gives nothing else
+abbrev pub Done : Type 0
+Done = Result (Unit {0}) Fault
+
+-- the steps by which a machine opens a database at a path, does not, and takes its files back
+abbrev pub Opening : Type 0 → Type 0 → Type 1
+Opening M D = M → List ℕ → (g : disk.Ghosts D) → Over g → M → Type 0
+
+abbrev pub Shutting : Type 0 → Type 1
+Shutting M = M → List ℕ → Fault → M → Type 0
+
+abbrev pub Ending : Type 0 → Type 0 → Type 1
+Ending M D = M → Files D → M → Type 0
+
+-- A CONNECTION THAT WAS JUST OPENED over files that held this: it is in no transaction, and where its
+-- disk is clean it is able to serve, and shows what the files held
+pub record IsOpenedOver {D : Type 0} {g : disk.Ghosts D} (image : Image) (c : Over g) : Type 0 where
+  pub new : IsNew c
+  pub opened : HasCleanDisk (file_state c) → IsOpened c
+  pub found : HasCleanDisk (file_state c) → FindsIn image (file_state c)
+  pub guarded : HasCleanDisk (file_state c) → (file_state c).IsShielded
+
+-- what was committed last is in the database file, now and after a crash, where the files gave back
+-- what was written; of a closing that failed the fault has its cause
+abbrev pub Copies : {D : Type 0} → (g : disk.Ghosts D) → Over g → FileStore D g → Files D → Done
+    → Type 0
+Copies g c last files (Ok value) = AreClean g files.log files.db → IsCopied c files
+Copies g c last files (Err fault) = (error : Error) × (fault ≡ of_store (fault_of error))
+    × (IsClean (view last) → FailsToClose c last error)
+
+-- A CONNECTION WAS CLOSED AS IT WAS THEN, AND THESE ARE ITS FILES. A crash has no new outcome, and
+-- each that it has is a database
+pub record IsLeft {D : Type 0} {g : disk.Ghosts D} (c : Over g) (files : Files D) (closed : Done)
+    : Type 0 where
+  pub last : FileStore D g
+  pub files_are : store.files last ≡ (files.log, files.db)
+  pub closed_as : IsClosed c last
+  pub copies : Copies g c last files closed
+
+-- the same, and what opened it took the files back
+abbrev pub Ends : {M D : Type 0} {g : disk.Ghosts D} → Ending M D → Over g → Done → M → M → Type 0
+Ends {M} {D} ends c closed old new = (files : Files D) × IsLeft c files closed × ends old files new
+
+-- ONE DATABASE WAS OPENED AT A PATH, WORKED ON, AND CLOSED AS IT WAS LEFT; and nothing else. What was
+-- done over it may be steps of its own
+pub record Visits {M D : Type 0} (g : disk.Ghosts D) (opens : Opening M D) (ends : Ending M D)
+    (path : List ℕ) (Does : M → Over g → Over g → Done → M → Type 0) (old new : M) : Type 0 where
+  pub before : Over g
+  pub after : Over g
+  pub closed : Done
+  pub middle : M
+  pub later : M
+  pub opened : opens old path g before middle
+  pub does : Does middle before after closed later
+  pub ended : Ends ends after closed later new
+
+-- the same, unless it was not opened: memory ran out, or the database refused or failed
+abbrev pub Comes : {M D T : Type 0} → (g : disk.Ghosts D) → Opening M D → Shutting M → Ending M D
+    → List ℕ → (Result T Fault → M → Over g → Over g → Done → M → Type 0) → Result T Fault → M → M
+    → Type 0
+Comes g opens shuts ends path Does result old new =
+    ((fault : Fault) × (result ≡ Err fault) × IsOfLine fault × shuts old path fault new)
+    ⊎ Visits g opens ends path (Does result) old new
+
+-- what was done over a database, with no step beside it
+abbrev pub Alone : {M T H : Type 0} → (Result T Fault → H → H → Done → Type 0) → Result T Fault
+    → M → H → H → Done → M → Type 0
+Alone Does result middle before after closed later =
+    (later ≡ middle) × Does result before after closed
+
+-- the first of two faults
+abbrev pub both : Done → Done → Done
+both (Ok value) closed = closed
+both (Err fault) closed = Err fault
+
+-- the tables of a register were made, or not, and the first fault is the result
+pub record MakesRegister {S : Type 0} (g : Ghosts S) (R : Register) (result : Done)
+    (before after : Held S) (closed : Done) : Type 0 where
+  pub told : Done
+  pub made : OnOk told (IsMade g before R after)
+  pub unmade : OnErr told (IsUnmade g before R after)
+  pub fault : IfErr told IsOfLine
+  pub result_is : result ≡ both told closed
+
+-- the tables were moved, or not, and the first fault is the result
+pub record MovesRegister {S : Type 0} (g : Ghosts S) (result : Done) (before after : Held S)
+    (closed : Done) : Type 0 where
+  pub told : Done
+  pub moved : OnOk told (IsMoved g before after)
+  pub unmoved : IfErr told (λ fault. IsUnmoved g before fault after)
+  pub known : (R : Register) → HasRegister g R before → HasCleanDisk (state g after)
+      → IfErr told IsOfLine
+  pub result_is : result ≡ both told closed
