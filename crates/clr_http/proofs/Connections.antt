@@ -1,22 +1,19 @@
 -- What went out to a connection, by what was read and how it was answered.
-use Rattle.std.proofs.Common.{◌≡◌, ℕ, List, Option, Some, ap, arith, inl, inr, refl, sym, subst, ◌≢◌, ◌⊎◌, Result, Ok, Err}
+use Rattle.std.proofs.Common.{◌≡◌, ℕ, ap, arith, inl, inr, refl, sym, subst, ◌≢◌, ◌⊎◌, Result, Ok, Err}
 use Rattle.clr_stream.specs.Failures.{Rose, one_more}
 use Rattle.clr_stream.specs.Streams.{Stream}
 use Rattle.clr_http.proofs.Turns.{IsLeft, turn_leaves}
 use Rattle.clr_http.specs.Registrar.{Accounts, AccountsFor, CountsFault, IsTurn, Keeper}
-use Rattle.clr_http.specs.Request.{IsNo503, IsRefusedHead, asks, refusal_of, refused}
+use Rattle.clr_http.specs.Request.{IsNo503, refused}
 use Rattle.clr_http.specs.Respond.{Outcome, unchanged}
 use Rattle.clr_http.specs.Response.{Content, content_of, status_of}
 use Rattle.clr_http.specs.Served.{IsConnection, IsServed, IsWritten, http_fault_of}
-use Rattle.clr_http.specs.declared.head.HeadFault.{HeadFault}
 use Rattle.clr_http.specs.declared.request.ReadFault.{ReadFault}
 use Rattle.clr_http.specs.declared.response.Response.{Response}
 use Rattle.clr_http.specs.declared.serve.HttpFault.{HttpFault}
 use Rattle.clr_http.specs.declared.serve.HttpFault.TheVariants.{NoMemory, ReadFailed, WriteFailed}
 use Rattle.clr_http.specs.declared.serve.Served.{Served}
 use Rattle.clr_http.specs.declared.serve.Served.TheVariants.{Answered, Nothing}
-use Rattle.clr_http.specs.declared.target.Target.{Target}
-use Rattle.clr_http.specs.declared.head.HeadFault.TheVariants as head_fault
 use Rattle.clr_http.specs.declared.response.Response.TheVariants as made
 use Rattle.clr_http.specs.declared.request.ReadFault.TheVariants as read
 
@@ -135,11 +132,3 @@ unmade_connection old new stream result e same =
     let none : IsConnection old new stream stream (Err NoMemory) =
     record { written = refl; counted = inl same; unavailable = λ x. cc x; unmade = λ x. same } in
     subst (IsConnection old new stream stream) (sym e) none
-
--- what is asked for is no refusal of a head
-unasked : (e : HeadFault) (a : Target) (body : List ℕ) → refusal_of e ≡ Some (asks a body) → ⊥
-unasked head_fault.BadHead a body e = cc e
-unasked _ a body e = cc e
-
-pub asks_unrefused : (known left : Option (List ℕ)) (a : Target) (body : List ℕ) → IsRefusedHead known left (asks a body) → ⊥
-asks_unrefused known left a body (taken, consumed, e, is, explained) = unasked e a body is

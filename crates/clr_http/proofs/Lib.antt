@@ -5,5 +5,7 @@ pub mod Lengths
 pub mod Requests
 pub mod Turns
 pub mod Connections
-pub mod Exchanges
 pub mod RequestRuns
+pub mod Answers
+pub mod Exchanges
+pub mod Posts

@@ -1,9 +1,9 @@
 -- One request: its head, and the body behind it, in the bytes that were taken.
-use Rattle.std.proofs.Common.{◌≡◌, ◌∙◌, sym, ap, refl, subst, ℕ, suc, ◌+◌, ◌≤◌, ◌<◌, ◌-◌, true, false, nat_le, List, [], ◌∷◌, ◌++◌, length, take, drop, Option, Some, None, arith, rules, length-append}
+use Rattle.std.proofs.Common.{◌≡◌, ◌∙◌, sym, ap, refl, subst, ℕ, suc, ◌+◌, ◌≤◌, ◌<◌, ◌-◌, true, false, nat_le, List, [], ◌∷◌, ◌++◌, length, take, drop, Option, Some, None, arith, rules, length-append, inl, inr}
 use Rattle.std.proofs.lemmas.Bool.{le-leb, lt-leb}
 use Rattle.std.proofs.lemmas.List.{take-append-le, drop-append-le, length-drop, length-map, length-take-le}
 use Rattle.std.proofs.Math.Seq.{drop-append_seam}
-use Rattle.std.specs.Prelude.{Ok, if◌then◌else◌}
+use Rattle.std.specs.Prelude.{Ok}
 use Rattle.std.specs.Io.KnownBytes.{Consumes, IsAtEnd}
 use Rattle.httparse.proofs.GrammarLemmas.{request_unique, ReadsRequest-append}
 use Rattle.httparse.specs.Grammar.{RequestHead, ReadsRequest, print_request}
@@ -11,12 +11,13 @@ use Rattle.httparse.specs.Spans.{IsRequestAt, IsRequestWithin, header_bytes, nam
 use Rattle.httparse.specs.declared.spans.HeaderSpan.{HeaderSpan}
 use Rattle.httparse.specs.declared.spans.RequestSpans.{RequestSpans}
 use Rattle.clr_http.proofs.Heads.{none_at_first}
-use Rattle.clr_http.specs.Head.{HasHead, IsOutside}
-use Rattle.clr_http.specs.Request.{Reading, asks, command_read, refusal_of, refused}
+use Rattle.clr_http.specs.Head.{BeginsWith, HasHead, IsOutside}
+use Rattle.clr_http.specs.Request.{IsReading, IsRefusedHead, Reading, asks, command_read, refusal_of, refused, request_read}
 use Rattle.clr_http.specs.Response.{fault_response}
 use Rattle.clr_http.specs.declared.head.HeadFault.{HeadFault}
 use Rattle.clr_http.specs.declared.head.HeadFault.TheVariants as head_fault
 use Rattle.clr_http.specs.declared.response.Fault.TheVariants as fault
+use Rattle.clr_http.specs.declared.target.Target.{Target}
 use Rattle.clr_http.specs.declared.target.Target.TheVariants.{Command}
 
 -- the body of a command, in the bytes taken
@@ -78,14 +79,17 @@ none_taken None taken c = absurd c
 none_taken (Some ys) [] c = refl
 none_taken (Some ys) (b ∷ taken) c = let e : 0 ≡ suc (length (taken ++ ys)) = ap length c in absurd (omega (arith, e))
 
--- an input that ends before its first byte has no head
-pub nothing_there : (known left : Option (List ℕ)) (taken : List ℕ) → Consumes known left taken → taken ≡ [] → IsAtEnd left → HasHead known → ⊥
-nothing_there None left taken c t e h = h
-nothing_there (Some xs) None taken c t e h = c
-nothing_there (Some xs) (Some ys) taken c t e (h, rest, b) =
-    let none : xs ≡ [] = c ∙ rw (t, e) refl in
-    let r : ReadsRequest [] h rest = subst (λ x. ReadsRequest x h rest) none b.reads in
-    none_at_first h rest r
+-- an input that ends before its first byte is empty
+pub nothing_left : (input : List ℕ) (left : Option (List ℕ)) (taken : List ℕ) → Consumes (Some input) left taken → taken ≡ [] → IsAtEnd left → input ≡ []
+nothing_left input None taken c t e = absurd c
+nothing_left input (Some ys) taken c t e = c ∙ rw (t, e) refl
+
+-- and has no head
+pub no_head : (input : List ℕ) → input ≡ [] → HasHead (Some input) → ⊥
+no_head input e (h, rest, b) = none_at_first h rest (subst (λ x. ReadsRequest x h rest) e b.reads)
+
+pub at_end : (known : Option (List ℕ)) (input : List ℕ) → known ≡ Some input → IsAtEnd known → input ≡ []
+at_end known input e end = subst IsAtEnd e end
 
 -- a fault that says nothing of the bytes is no refusal
 pub outside_unsaid : (e : HeadFault) (reading : Reading) → IsOutside e → refusal_of e ≡ Some reading → ⊥
@@ -94,3 +98,25 @@ outside_unsaid head_fault.HeadTooLarge reading o e = o
 outside_unsaid head_fault.HeadCut reading o e = o
 outside_unsaid head_fault.ReadFailed reading o e = cc e
 outside_unsaid head_fault.NoMemory reading o e = cc e
+
+-- a request that was read is the one of its head
+pub reading_is : (input rest : List ℕ) (head : RequestHead) (left : Option (List ℕ)) (reading : Reading) → IsReading input left reading
+    → BeginsWith input head rest → reading ≡ request_read head rest
+reading_is input rest head left reading (inl (h, later, b, e)) begins =
+    let (one, two) = request_unique input h head later rest b.reads begins.reads in
+    e ∙ (ap (λ x. request_read x later) one ∙ ap (request_read head) two)
+reading_is input rest head left reading (inr (none, refusal)) begins = absurd (none (head, rest, begins))
+
+-- without a head it is a refusal
+pub refusal_is : (input : List ℕ) (left : Option (List ℕ)) (reading : Reading) → IsReading input left reading → ¬ (HasHead (Some input))
+    → IsRefusedHead (Some input) left reading
+refusal_is input left reading (inl (h, later, b, e)) none = absurd (none (h, later, b))
+refusal_is input left reading (inr (headless, refusal)) none = refusal
+
+-- what is asked for is no refusal of a head
+unasked : (e : HeadFault) (a : Target) (body : List ℕ) → refusal_of e ≡ Some (asks a body) → ⊥
+unasked head_fault.BadHead a body e = cc e
+unasked _ a body e = cc e
+
+pub asks_unrefused : (known left : Option (List ℕ)) (a : Target) (body : List ℕ) → IsRefusedHead known left (asks a body) → ⊥
+asks_unrefused known left a body (taken, consumed, e, is, explained) = unasked e a body is

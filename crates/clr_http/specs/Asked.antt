@@ -1,6 +1,6 @@
 -- WHAT REQUESTS ASK: no command or one each, whatever the register; and which responses answer the
 -- commands of a clearance.
-use Rattle.std.specs.Prelude.{◌≡◌, ℕ, Bool, false, if◌then◌else◌, List, [], ◌∷◌}
+use Rattle.std.specs.Prelude.{◌≡◌, ◌⊎◌, IfSome, ℕ, Bool, false, if◌then◌else◌, filter, List, [], ◌∷◌}
 use Rattle.std.specs.Prelude.{Option, None, Some, Result, Ok, Err}
 use Rattle.httparse.specs.Grammar.{RequestHead}
 use Rattle.clr_rules.specs.Id.{Id}
@@ -9,7 +9,7 @@ use Rattle.clr_rules.specs.declared.command.Command.{Command}
 use Rattle.clr_rules.specs.declared.reply.Reply.{Reply}
 use Rattle.clr_text.specs.Reading.{read_command}
 use Rattle.clr_text.specs.declared.fault.TextFault.{TextFault}
-use Rattle.clr_http.specs.Head.{BeginsWith}
+use Rattle.clr_http.specs.Head.{BeginsWith, HasHead}
 use Rattle.clr_http.specs.Request.{Reading, asks, refused, request_read}
 use Rattle.clr_http.specs.Respond.{reply_response, show_of}
 use Rattle.clr_http.specs.Response.{response_bytes}
@@ -43,11 +43,17 @@ reading_asks (asks target body) = target_asks target body
 abbrev pub asked_in : RequestHead → List ℕ → Option Command
 asked_in head rest = reading_asks (request_read head rest)
 
+-- an input without a head asks nothing
 abbrev pub Asks : List ℕ → Option Command → Type 0
-Asks input command = (head : RequestHead) × (rest : List ℕ) × BeginsWith input head rest
-    × (command ≡ asked_in head rest)
+Asks input command = ((head : RequestHead) × (rest : List ℕ) × BeginsWith input head rest
+    × (command ≡ asked_in head rest))
+    ⊎ (¬ (HasHead (Some input)) × (command ≡ None))
 
--- each input asks what stands at its place
+-- an input that may not be known asks this, as far as it is
+abbrev pub MayAsk : Option (List ℕ) → Option Command → Type 0
+MayAsk input command = IfSome input (λ bytes. Asks bytes command)
+
+-- each input asks what is at its place
 unfoldable pub AskEach : List (List ℕ) → List (Option Command) → Type 0
 AskEach [] [] = Unit {0}
 AskEach (input ∷ inputs) (command ∷ later) = Asks input command × AskEach inputs later
@@ -75,6 +81,10 @@ own_among c [] texts = []
 own_among c (command ∷ later) [] = []
 own_among c (command ∷ later) (text ∷ texts) =
     if is_own_request c command then text ∷ own_among c later texts else own_among c later texts
+
+-- what its own inputs ask
+abbrev pub own_asked : Id → List (Option Command) → List (Option Command)
+own_asked c asked = filter (is_own_request c) asked
 
 -- the bytes of the response that has a reply
 abbrev pub reply_bytes : Reply → List ℕ

@@ -6,6 +6,9 @@ pub mod Target
 pub mod Respond
 pub mod Registrar
 pub mod Served
-pub mod Service
 pub mod Asked
+pub mod Carried
+pub mod Answered
+pub mod Service
 pub mod RequestLaws
+pub mod Posted

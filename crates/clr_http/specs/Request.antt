@@ -1,12 +1,12 @@
 -- THE REQUEST: what the head and the bytes behind it ask for, or how they are refused. The checks
 -- stand in their order: route, method, length, the whole body.
-use Rattle.std.specs.Prelude.{◌≡◌, ◌≢◌, ℕ, nat_eq, nat_le, if◌then◌else◌, List, [], length, map}
+use Rattle.std.specs.Prelude.{◌≡◌, ◌≢◌, ◌⊎◌, ℕ, nat_eq, nat_le, if◌then◌else◌, List, [], length, map}
 use Rattle.std.specs.Prelude.{take, Option, Some, None, Result, Ok, Err}
 use Rattle.std.specs.Cmp.Lexicographic.{pointwise}
 use Rattle.httparse.specs.Grammar.{RequestHead}
 use Rattle.httparse.specs.Spans.{name_and_value}
 use Rattle.std.specs.Io.KnownBytes.{Consumes}
-use Rattle.clr_http.specs.Head.{Explains}
+use Rattle.clr_http.specs.Head.{BeginsWith, Explains, HasHead}
 use Rattle.clr_http.specs.Length.{body_length}
 use Rattle.clr_http.specs.Response.{Content, allow, content_of, fault_response, method_word}
 use Rattle.clr_http.specs.Response.{status_of}
@@ -87,3 +87,16 @@ abbrev pub IsRefusedHead : Option (List ℕ) → Option (List ℕ) → Reading �
 IsRefusedHead known left reading =
     (taken : List ℕ) × Consumes known left taken × (e : HeadFault) × (refusal_of e ≡ Some reading)
     × Explains e taken left
+
+-- WHAT A KNOWN INPUT IS READ AS: what its head and the bytes after it ask for; or, where it begins
+-- with no head, a refusal
+abbrev pub IsReading : List ℕ → Option (List ℕ) → Reading → Type 0
+IsReading input left reading =
+    ((head : RequestHead) × (rest : List ℕ) × BeginsWith input head rest
+    × (reading ≡ request_read head rest))
+    ⊎ (¬ (HasHead (Some input)) × IsRefusedHead (Some input) left reading)
+
+-- the same of a request that was read; none is where the input is empty
+abbrev pub IsReadAs : List ℕ → Option (List ℕ) → Option Request → Type 0
+IsReadAs input left None = input ≡ []
+IsReadAs input left (Some r) = IsReading input left (reading r)

@@ -1,21 +1,19 @@
-//! A desk keeps a register that can be served.
+//! A desk keeps a register that can be served, whatever keeps its changes.
 ghost use Rattle.std.specs.Prelude.{◌≡◌};
-ghost use Rattle.sqlite.specs.Held.{state};
 ghost use Rattle.clr_desk.specs.Kept.{Keeps};
 ghost use Rattle.clr_desk.proofs.Keeping.{keeps_itself, keeps_on};
 
 use crate::registrar::Registrar;
-use clr_desk::Desk;
+use clr_desk::{Commit, Desk};
 use clr_print::{print_board, print_order};
 use clr_rules::{ClearanceId, Command, Reply};
-use sqlite::Alter;
 use std::alloc::{AllocError, Global};
 
-impl<S: Alter + Drop> Registrar for Desk<S> {
+impl<K: Commit> Registrar for Desk<K> {
     ghost keeper = { λ d. record { register = d.book.register; faults = d.faults } };
 
-    ghost leads_to = { λ before behind. Keeps (state S.Store before.store) before.book.register
-        (state S.Store behind.store) behind.book.register };
+    ghost leads_to = { λ before behind. Keeps (K.kept before.store) before.book.register
+        (K.kept behind.store) behind.book.register };
 
     ghost stays = { λ _. keeps_itself _ _ };
 

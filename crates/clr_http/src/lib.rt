@@ -15,5 +15,6 @@ mod target;
 pub use registrar::Registrar;
 pub use serve::{HttpFault, Served, serve_one};
 pub use service::{
-    headline_holds_of_requests, inputs_are_answered_once, requests_are_runs, serve_all,
+    headline_holds_of_requests, inputs_are_answered_once, posted_bodies_ask, requests_are_runs,
+    serve_all,
 };

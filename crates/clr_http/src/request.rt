@@ -1,6 +1,6 @@
 //! The request: what its head and the bytes behind it ask for.
 ghost use Rattle.std.specs.Prelude.{◌≡◌, ◌≢◌, ◌≤◌, ◌<◌, ℕ, All, List, [], Option, Some, None, Ok};
-ghost use Rattle.std.specs.Prelude.{Err, IfOk, IfErr, IfSome, IsSomeAnd, drop, length, map, take};
+ghost use Rattle.std.specs.Prelude.{Err, IfOk, IfErr, IfSome, drop, length, map, take};
 ghost use Rattle.std.specs.Prelude.{true, false, vec_len};
 ghost use Rattle.std.specs.Str.{IsUtf8};
 ghost use Rattle.std.specs.Io.KnownBytes.{Consumes, IsAtEnd};
@@ -8,10 +8,10 @@ ghost use Rattle.httparse.specs.Grammar.{RequestHead};
 ghost use Rattle.httparse.specs.Spans.{IsHeaderWithin, IsRequestAt, IsRequestWithin, header_bytes};
 ghost use Rattle.httparse.specs.Spans.{span_bytes};
 ghost use Rattle.clr_stream.specs.Failures.{Rose};
-ghost use Rattle.clr_http.specs.Head.{BeginsWith, HasHead, IsOutside};
+ghost use Rattle.clr_http.specs.Head.{IsOutside};
 ghost use Rattle.clr_http.specs.Length.{body_length};
-ghost use Rattle.clr_http.specs.Request.{IsNo503, IsRefusedHead, command_read, fault_of_length};
-ghost use Rattle.clr_http.specs.Request.{method_of};
+ghost use Rattle.clr_http.specs.Request.{IsNo503, IsReadAs, command_read};
+ghost use Rattle.clr_http.specs.Request.{fault_of_length, method_of};
 ghost use Rattle.clr_http.specs.Request.{reading, refusal_of, refused, request_read};
 ghost use Rattle.clr_http.specs.Response.{fault_response};
 ghost use Rattle.clr_http.specs.Target.{target_of};
@@ -234,15 +234,10 @@ pub(crate) fn read_request<R: CountedRead>(
     alloc: Global,
     reader: &mut R,
 ) -> Result<Option<Request>, ReadFault>
-    ensures whole { (input rest : List ℕ) (head : RequestHead) → R.remaining reader.old ≡ Some input
-        → BeginsWith input head rest
-        → IfOk result (λ o. IsSomeAnd o (λ r. reading r ≡ request_read head rest)) }
+    ensures known { (input : List ℕ) → R.remaining reader.old ≡ Some input
+        → IfOk result (IsReadAs input (R.remaining reader.new)) }
     ensures nothing { result ≡ Ok None → IsAtEnd (R.remaining reader.old) }
     ensures empty { R.remaining reader.old ≡ Some [] → IfOk result (λ o. o ≡ None) }
-    ensures outside { (input : List ℕ) → R.remaining reader.old ≡ Some input
-        → ¬ (HasHead (Some input))
-        → IfOk result (λ o. IfSome o (λ r.
-        IsRefusedHead (Some input) (R.remaining reader.new) (reading r))) }
     ensures plain { IfOk result (λ o. IfSome o (λ r. IsNo503 (reading r))) }
     ensures cause { result ≡ Err ReadFault.ReadFailed
         → Rose (R.failure_count reader.old) (R.failure_count reader.new) }

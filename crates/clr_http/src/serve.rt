@@ -1,16 +1,9 @@
 //! One connection: its request is read and answered, and the response written.
-ghost use Rattle.std.specs.Prelude.{◌≡◌, ◌≢◌, ℕ, List, [], Option, Some, Ok, Err, IfErr, IfOk};
-ghost use Rattle.std.specs.Io.KnownBytes.{IsAtEnd};
-ghost use Rattle.httparse.specs.Grammar.{RequestHead};
-ghost use Rattle.clr_stream.specs.Failures.{Rose};
-ghost use Rattle.clr_rules.specs.Good.{IsGood};
-ghost use Rattle.clr_rules.specs.Run.{IsReached};
-ghost use Rattle.clr_http.specs.Head.{BeginsWith, HasHead};
-ghost use Rattle.clr_http.specs.RequestLaws.{ComesNext};
-ghost use Rattle.clr_http.specs.Respond.{respond_to};
+ghost use Rattle.std.specs.Prelude.{◌≡◌, ◌≢◌, ℕ, List, Some, Ok, Err};
+ghost use Rattle.clr_http.specs.Answered.{IsAnswered};
+ghost use Rattle.clr_http.specs.Head.{HasHead};
 ghost use Rattle.clr_http.specs.Response.{content_of, response_bytes};
-ghost use Rattle.clr_http.specs.Served.{IsConnection, IsRefusal, IsServed, IsWritten};
-ghost use Rattle.clr_http.specs.Served.{http_fault_of};
+ghost use Rattle.clr_http.specs.Served.{IsWritten, http_fault_of};
 ghost use Rattle.clr_http.specs.declared.response.Response.TheVariants.{Unavailable};
 ghost use Rattle.clr_http.specs.declared.serve.HttpFault.TheVariants.{NoMemory};
 
@@ -38,8 +31,8 @@ pub enum HttpFault {
     /// The reader failed. Nothing was written.
     #[error("the request could not be read")]
     ReadFailed,
-    /// The writer failed or took no byte. So many bytes of the response, from the first on, went
-    /// out.
+    /// The writer failed or took no byte. This number of bytes of the response, from the first on,
+    /// went out.
     #[error("the response could not be written")]
     WriteFailed(usize),
     /// Memory ran out. Nothing was written.
@@ -79,39 +72,25 @@ impl From<ReadFault> for HttpFault {
 /// Serves one connection: reads its request, answers it at the desk, and writes the response,
 /// which is whole before its first byte goes out.
 ///
-/// After a fault a command that the desk accepted stands. What comes behind the request is not
-/// looked at.
+/// A command that the desk accepted stays carried out where its response cannot be made or written.
+/// What comes after the request is not looked at.
 pub fn serve_one<D: Registrar, R: CountedRead, W: CountedWrite>(
     alloc: Global,
     desk: &mut D,
     reader: &mut R,
     writer: &mut W,
 ) -> Result<Served, HttpFault>
-    ensures served { (input rest : List ℕ) (head : RequestHead)
-        → R.remaining reader.old ≡ Some input → BeginsWith input head rest
-        → IsGood (D.keeper desk.old).register
-        → IsServed (respond_to (D.keeper desk.old).register head rest)
-        (D.keeper desk.old) (D.keeper desk.new)
+    ensures answered { IsAnswered (D.keeper desk.old) (D.keeper desk.new)
+        (record { remaining = R.remaining reader.old; failures = R.failure_count reader.old })
+        (record { remaining = R.remaining reader.new; failures = R.failure_count reader.new })
         (W.stream writer.old) (W.stream writer.new) result }
-    ensures outside { (input : List ℕ) → R.remaining reader.old ≡ Some input
-        → ¬ (HasHead (Some input))
-        → IsWritten (IsRefusal input (R.remaining reader.new))
-        (W.stream writer.old) (W.stream writer.new) result × (desk.new ≡ desk.old) }
-    ensures always { IsConnection (D.keeper desk.old) (D.keeper desk.new)
-        (W.stream writer.old) (W.stream writer.new) result }
-    ensures nothing { result ≡ Ok Served.Nothing → IsAtEnd (R.remaining reader.old)
-        × (writer.new ≡ writer.old) × (desk.new ≡ desk.old) }
-    ensures empty { R.remaining reader.old ≡ Some []
-        → IfOk result (λ served. served ≡ Served.Nothing) }
+    ensures refused { (input : List ℕ) → R.remaining reader.old ≡ Some input
+        → ¬ (HasHead (Some input)) → desk.new ≡ desk.old }
+    ensures nothing { result ≡ Ok Served.Nothing
+        → (writer.new ≡ writer.old) × (desk.new ≡ desk.old) }
     ensures unread { result ≡ Err HttpFault.ReadFailed
-        → Rose (R.failure_count reader.old) (R.failure_count reader.new)
-        × (writer.new ≡ writer.old) × (desk.new ≡ desk.old) }
+        → (writer.new ≡ writer.old) × (desk.new ≡ desk.old) }
     ensures unmade { result ≡ Err HttpFault.NoMemory → writer.new ≡ writer.old }
-    ensures follows { IsGood (D.keeper desk.old).register
-        → ComesNext (D.keeper desk.old).register (D.keeper desk.new).register }
-    ensures good { IsGood (D.keeper desk.old).register → IsGood (D.keeper desk.new).register }
-    ensures reached { IsReached (D.keeper desk.old).register
-        → IsReached (D.keeper desk.new).register }
     ensures led { D.leads_to desk.old desk.new }
 {
     match read_request(alloc, reader)? {

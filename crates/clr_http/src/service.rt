@@ -1,13 +1,14 @@
 //! The service over requests that lie in memory.
-ghost use Rattle.std.specs.Prelude.{◌≡◌, ◌<◌, ◌-◌, ◌^◌, IfOk, Some, map};
+ghost use Rattle.std.specs.Prelude.{◌≡◌, ◌<◌, ◌-◌, ◌^◌, IfOk, Option, length, map};
 ghost use Rattle.clr_rules.specs.Good.{IsGood};
 ghost use Rattle.clr_rules.specs.Run.{IsReached};
-ghost use Rattle.clr_http.specs.Head.{HasHead};
-ghost use Rattle.clr_http.specs.RequestLaws.{AskedOnce, ComesAfter, ComesNext};
+ghost use Rattle.clr_rules.specs.declared.command.Command.{Command};
+ghost use Rattle.clr_http.specs.Posted.{PostedBodiesAsk};
+ghost use Rattle.clr_http.specs.RequestLaws.{AnswersAreServed, AskedOnce, ComesWithin};
 ghost use Rattle.clr_http.specs.RequestLaws.{CommandsAreAnswered, HasRun};
 ghost use Rattle.clr_http.specs.RequestLaws.{OnlyCommandsChange, OthersRequestsTakeNothing};
 ghost use Rattle.clr_http.specs.RequestLaws.{OwnRequestsAlone, RequestsAreRuns};
-ghost use Rattle.clr_http.specs.RequestLaws.{SameShownSameResponses};
+ghost use Rattle.clr_http.specs.RequestLaws.{SameShownSameResponses, ServedAreAnswers};
 ghost use Rattle.clr_http.specs.Service.{AnsweredOnce, HaveHeads, IsExchange, RespondsAll};
 
 use crate::registrar::Registrar;
@@ -24,10 +25,19 @@ pub fn inputs_are_answered_once()
     ensures { AnsweredOnce }
 {}
 
-/// Requests are answered as a run of the commands that they ask. Each asks one command or none,
-/// whatever the register; one that asks none changes nothing.
+/// A body that is posted to `/command` asks the command that it reads as: a law, so that what is said
+/// of requests that ask commands is said of some.
+pub fn posted_bodies_ask()
+    ensures { PostedBodiesAsk }
+{}
+
+/// Requests are served as a run of the commands of them that are carried out: all that they ask,
+/// where no fault is counted. Each asks one command or none, whatever the register; one that asks
+/// none changes nothing.
 pub fn requests_are_runs()
     ensures runs { RequestsAreRuns }
+    ensures answers { AnswersAreServed }
+    ensures served { ServedAreAnswers }
     ensures once { AskedOnce }
     ensures commands { CommandsAreAnswered }
     ensures others { OnlyCommandsChange }
@@ -47,8 +57,9 @@ pub fn headline_holds_of_requests()
 }
 
 /// Serves requests that lie in memory, each as a connection of its own, one after the other. Gives
-/// the bytes that go out to each. Where the desk counts no fault they are what the definitions
-/// answer, from its register on, and it keeps the register that they leave.
+/// the bytes that go out to each, which are a run of the commands that were carried out. Where the
+/// desk counts no fault they are what the definitions answer, from its register on, and it keeps the
+/// register that they leave.
 pub fn serve_all<D: Registrar>(
     alloc: Global,
     desk: &mut D,
@@ -62,14 +73,12 @@ pub fn serve_all<D: Registrar>(
         (map (λ request. request.items) requests.now)
         (map (λ response. response.items) responses.items) (D.keeper desk.new).register) }
     ensures run { IsGood (D.keeper desk.old).register
-        → HaveHeads (map (λ request. request.items) requests.now)
-        → (D.keeper desk.old).faults < 2 ^ 64 - 1
-        → (D.keeper desk.new).faults ≡ (D.keeper desk.old).faults
-        → IfOk result (λ responses. HasRun (D.keeper desk.old).register
+        → IfOk result (λ responses. HasRun (D.keeper desk.old)
         (map (λ request. request.items) requests.now)
-        (map (λ response. response.items) responses.items) (D.keeper desk.new).register) }
+        (map (λ response. response.items) responses.items) (D.keeper desk.new)) }
     ensures follows { IsGood (D.keeper desk.old).register
-        → ComesAfter (D.keeper desk.old).register (D.keeper desk.new).register }
+        → ComesWithin (length requests.now) (D.keeper desk.old).register
+        (D.keeper desk.new).register }
     ensures reached { IsReached (D.keeper desk.old).register
         → IsReached (D.keeper desk.new).register }
     ensures led { D.leads_to desk.old desk.new }
@@ -89,11 +98,11 @@ fn response_bytes<D: Registrar>(
     desk: &mut D,
     request: &[u8],
 ) -> Result<Vec<u8>, HttpFault>
-    ensures exchange { IsGood (D.keeper desk.old).register → HasHead (Some request.now)
-        → IfOk result (λ response. IsExchange (D.keeper desk.old) (D.keeper desk.new)
-        request.now response.items) }
+    ensures exchange { IsGood (D.keeper desk.old).register
+        → IfOk result (λ response. (carried : Option Command)
+        × IsExchange (D.keeper desk.old) (D.keeper desk.new) request.now carried response.items) }
     ensures follows { IsGood (D.keeper desk.old).register
-        → ComesNext (D.keeper desk.old).register (D.keeper desk.new).register }
+        → ComesWithin 1 (D.keeper desk.old).register (D.keeper desk.new).register }
     ensures good { IsGood (D.keeper desk.old).register → IsGood (D.keeper desk.new).register }
     ensures reached { IsReached (D.keeper desk.old).register
         → IsReached (D.keeper desk.new).register }

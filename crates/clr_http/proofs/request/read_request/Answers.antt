@@ -1,28 +1,44 @@
-use Rattle.std.proofs.Common.{◌≡◌, ◌≤◌, ◌∙◌, sym, ap, subst, arith, rules, [], length, vec_len, Some, IfSome}
+use Rattle.std.proofs.Common.{◌≡◌, ◌≤◌, ◌∙◌, sym, ap, subst, arith, rules, inl, inr, [], length, vec_len, Some, IfSome}
 use Rattle.std.specs.Io.KnownBytes.{Consumes}
 use Rattle.httparse.specs.Spans.{IsRequestAt, IsRequestOf, IsRequestWithin}
 use Rattle.clr_http.specs.Head.{HasHead}
 use Rattle.clr_http.specs.Request.{reading, request_read}
 use Rattle.clr_http.proofs.Heads.{none_at_first}
-use Rattle.clr_http.proofs.Requests.{has_head, none_taken, nothing_there, only_head, outside_unsaid}
+use Rattle.clr_http.proofs.Requests.{has_head, none_taken, nothing_left, only_head, outside_unsaid}
 use Rattle.clr_http.proofs.request.read_request.Goals as goal
 
-pub returns-in-Ok-None-clause-whole : goal.returns-in-Ok-None-clause-whole
-returns-in-Ok-None-clause-whole g c input rest head e b =
+pub returns-in-Ok-None-clause-known : goal.returns-in-Ok-None-clause-known
+returns-in-Ok-None-clause-known g c input e =
     let left = g.R.Read.remaining c.read_head.new.reader in
     let bytes = c.read_head.new.buffer.items in
+    let taken : Consumes (Some input) left bytes = subst (λ k. Consumes k left bytes) e c.read_head.ensures.taken in
     let none = c.in-Ok-None.ensures.nothing (search rules) in
-    nothing_there (g.R.Read.remaining c.args.reader.now) left bytes c.read_head.ensures.taken none.0 none.1 (subst HasHead (sym e) (head, rest, b))
+    nothing_left input left bytes taken none.0 none.1
 
-pub returns-in-Ok-Some-clause-whole : goal.returns-in-Ok-Some-clause-whole
-returns-in-Ok-Some-clause-whole g c input rest head e b =
+pub returns-in-Ok-Some-clause-known : goal.returns-in-Ok-Some-clause-known
+returns-in-Ok-Some-clause-known g c input e =
     let left = g.R.Read.remaining c.read_head.new.reader in
     let bytes = c.read_head.new.buffer.items in
     let taken : Consumes (Some input) left bytes = subst (λ k. Consumes k left bytes) e c.read_head.ensures.taken in
     let (h, at) = subst (λ o. IfSome o (IsRequestOf bytes c.read_head.new.headers)) c.in-Ok-Some.field-0-is c.in-Ok-Some.ensures.head in
+    let within = subst (λ o. IfSome o (IsRequestWithin bytes c.read_head.new.headers)) c.in-Ok-Some.field-0-is c.in-Ok-Some.ensures.within in
+    let len : vec_len c.read_head.new.buffer ≡ length bytes = c.read_head.new.buffer.ok.0 in
+    let small : length bytes ≤ 8192 = omega (arith, len, c.read_head.ensures.size) in
+    let (head, rest, b) = has_head input left bytes _ _ h taken at within small c.read_head.ensures.room in
     let (one, front) = only_head input rest left bytes _ _ h head taken at b.reads in
     let found = c.in_ok-request-in-Ok-Some.ensures.reading head input (subst (IsRequestAt bytes _ _) one at) taken in
-    subst (λ x. reading c.in_ok-request-in-Ok-Some.request ≡ request_read head x) front found
+    inl (head, rest, b, subst (λ x. reading c.in_ok-request-in-Ok-Some.request ≡ request_read head x) front found)
+
+pub returns-clause-known : goal.returns-clause-known
+returns-clause-known g c input e =
+    let left = g.R.Read.remaining c.read_head.new.reader in
+    let bytes = c.read_head.new.buffer.items in
+    let taken : Consumes (Some input) left bytes = subst (λ k. Consumes k left bytes) e c.read_head.ensures.taken in
+    let refusal = c.in_ok-request-in-Err.ensures.reading in
+    inr (
+      λ head. outside_unsaid _ _ (c.in-Err.ensures.found (subst HasHead (sym e) head)) refusal,
+      (bytes, taken, c.in-Err.fault, refusal, c.in-Err.ensures.fault),
+    )
 
 pub returns-in-Ok-Some-clause-empty : goal.returns-in-Ok-Some-clause-empty
 returns-in-Ok-Some-clause-empty g c e =
@@ -35,17 +51,6 @@ returns-in-Ok-Some-clause-empty g c e =
     let small : length bytes ≤ 8192 = omega (arith, len, c.read_head.ensures.size) in
     let (k, rest, b) = has_head [] left bytes _ _ h taken at within small c.read_head.ensures.room in
     absurd (none_at_first k rest b.reads)
-
-pub returns-in-Ok-Some-clause-outside : goal.returns-in-Ok-Some-clause-outside
-returns-in-Ok-Some-clause-outside g c input e no_head =
-    let left = g.R.Read.remaining c.read_head.new.reader in
-    let bytes = c.read_head.new.buffer.items in
-    let taken : Consumes (Some input) left bytes = subst (λ k. Consumes k left bytes) e c.read_head.ensures.taken in
-    let (h, at) = subst (λ o. IfSome o (IsRequestOf bytes c.read_head.new.headers)) c.in-Ok-Some.field-0-is c.in-Ok-Some.ensures.head in
-    let within = subst (λ o. IfSome o (IsRequestWithin bytes c.read_head.new.headers)) c.in-Ok-Some.field-0-is c.in-Ok-Some.ensures.within in
-    let len : vec_len c.read_head.new.buffer ≡ length bytes = c.read_head.new.buffer.ok.0 in
-    let small : length bytes ≤ 8192 = omega (arith, len, c.read_head.ensures.size) in
-    absurd (no_head (has_head input left bytes _ _ h taken at within small c.read_head.ensures.room))
 
 pub returns-clause-empty : goal.returns-clause-empty
 returns-clause-empty g c e =
