@@ -1,5 +1,5 @@
 -- What is reported is what every command line keeps to.
-use Rattle.std.proofs.Common.{◌≡◌, ◌∙◌, ◌⊎◌, ℕ, List, [], ◌∷◌, Result, Ok, Err, arith, inl, inr, refl, subst, sym}
+use Rattle.std.proofs.Common.{◌≡◌, ◌⊎◌, ℕ, List, Result, Ok, Err, arith, inl, inr, refl, subst, sym}
 use Rattle.std.specs.Prelude.{◌≢◌, IfErr, IfSome, Option, Some, None, String}
 use Rattle.std.specs.declared.alloc.Global.{Global}
 use Rattle.std.specs.declared.io.ErrorKind.{ErrorKind}
@@ -10,14 +10,15 @@ use Rattle.clr_args.specs.declared.asked.Asked.{Asked}
 use Rattle.clr_args.specs.declared.asked.Asked.TheVariants as asked
 use Rattle.clr_args.specs.declared.parsing.Parsed.{Parsed}
 use Rattle.clr_args.specs.declared.parsing.Parsed.TheVariants as parsed
+use Rattle.clr_edge.specs.Visit.{Done}
 use Rattle.clr_edge.specs.declared.fault.Fault.{Fault}
 use Rattle.clr_edge.specs.declared.fault.Fault.TheVariants.{Memory, Output}
+use Rattle.clr_commands.specs.Connections.{ReportsFirst}
 use Rattle.clr_commands.specs.Faults.{FailsAsSubcommand, IsOfSubcommand}
-use Rattle.clr_commands.specs.Serve.{FailsServing, IsServing, Serves}
 use Rattle.clr_commands.specs.declared.replies.Printed.{Printed}
-use Rattle.clr_commands.proofs.Faults.{line_plain, memory_plain, store_plain}
+use Rattle.clr_commands.proofs.Written.{Writes, serve_written}
 use Rattle.clr_stream.specs.Streams.{Stream}
-use Rattle.clr_command_line.specs.CommandLine.{Around, CarriesOut, ComesTo, DoesParsed, TellsNoWords}
+use Rattle.clr_command_line.specs.CommandLine.{AnswersNone, Around, CarriesOut, DoesParsed, Moment}
 use Rattle.clr_command_line.specs.Report.{HasServed, IsFaulted, IsReported, Reports, ReportsFault, ReportsRun, ReportsServed, ReportsText}
 
 -- a fault, at which nothing went to the output
@@ -67,46 +68,48 @@ reported_run (Err fault) status output output' errors errors' own (same, line) =
     reported_fault fault status output output' errors errors' own.0 same line
 
 -- what went out before the fault of a server
-served_before : (refuses : ℕ → Type 0) (port count : ℕ) (fault : Fault) (output output' errors middle : Stream)
-    → FailsServing refuses port count fault output output' errors middle
+written_before : (port count : ℕ) (fault : Fault) (output output' errors middle : Stream) → Writes port count (Err fault) output output' errors middle
     → ((middle ≡ errors) × IsFaulted fault output output') ⊎ ((fault ≢ Output) × HasServed output output' errors middle)
-served_before refuses port count fault output output' errors middle (inl (store, same, quiet)) = inl (quiet, inr ((store_plain fault store).0, inl same))
-served_before refuses port count fault output output' errors middle (inr (inl (quiet, inl (memory, same)))) = inl (quiet, inr ((memory_plain fault memory).0, inl same))
-served_before refuses port count fault output output' errors middle (inr (inl (quiet, inr (inl (listen, refused, same))))) = inl (quiet, inr (λ e. cc (sym listen ∙ e), inl same))
-served_before refuses port count fault output output' errors middle (inr (inl (quiet, inr (inr (is_output, cut))))) = inl (quiet, inl (is_output, cut.1))
-served_before refuses port count fault output output' errors middle (inr (inr (line, serves))) = inr ((line_plain fault line).0, (port, count, serves))
+written_before port count fault output output' errors middle (inl (other, same, quiet)) = inl (quiet, inr (other, inl same))
+written_before port count fault output output' errors middle (inr (inl (is_output, cut, quiet))) = inl (quiet, inl (is_output, cut.1))
+written_before port count fault output output' errors middle (inr (inr (other, began, reported))) =
+    inr (other, record { port = port; count = count; began = began; reported = reported })
 
-reported_served : (refuses : ℕ → Type 0) (port count : ℕ) (served : Result (Unit {0}) Fault) (status : ℕ) (output output' errors middle errors' : Stream)
-    → IsServing refuses port count served output output' errors middle → ReportsServed served status middle errors'
-    → IsReported status output output' errors errors'
-reported_served refuses port count (Ok value) status output output' errors middle errors' serves (zero, same) = record {
+-- a server that came to its end
+reported_served : (port count : ℕ) (served : Done) (status : ℕ) (output output' errors middle errors' : Stream)
+    → Writes port count served output output' errors middle → ReportsServed served status middle errors' → IsReported status output output' errors errors'
+reported_served port count (Ok value) status output output' errors middle errors' (began, reported) (zero, same) = record {
   statuses = omega (arith, zero);
-  answered = λ _. (serves.0.1, inr (port, count, subst (λ (s : Stream). Serves port count output output' errors s) (sym same) serves));
+  answered = λ _. (
+    began.1,
+    inr (record { port = port; count = count; began = began; reported = subst (λ (s : Stream). ReportsFirst count errors s) (sym same) reported }),
+  );
   faulted = λ one. absurd (omega (arith, zero, one));
   unread = λ two. absurd (omega (arith, zero, two));
 }
-reported_served refuses port count (Err fault) status output output' errors middle errors' fails (one, line) = record {
+reported_served port count (Err fault) status output output' errors middle errors' wrote (one, line) = record {
   statuses = omega (arith, one);
   answered = λ zero. absurd (omega (arith, zero, one));
-  faulted = λ _. (fault, middle, line, served_before refuses port count fault output output' errors middle fails);
+  faulted = λ _. (fault, middle, line, written_before port count fault output output' errors middle wrote);
   unread = λ two. absurd (omega (arith, one, two));
 }
 
-comes : (Is : Result (String Global) Fault → Type 0) (status : ℕ) (output output' errors errors' : Stream)
-    → ComesTo Is status output output' errors errors' → IsReported status output output' errors errors'
-comes Is status output output' errors errors' (answer, is, own, reports) = reported answer status output output' errors errors' own reports
+module _ (world : Around) (status : ℕ) (before after : Moment world) where
+  abbrev Reported : Type 0
+  Reported = IsReported status before.output after.output before.errors after.errors
 
-carried_out : (world : Around) (what : Asked) (status : ℕ) (output output' errors errors' : Stream)
-    → CarriesOut world what status output output' errors errors' → IsReported status output output' errors errors'
-carried_out world (asked.Fence args) status output output' errors errors' is = comes _ status output output' errors errors' is
-carried_out world (asked.Init args) status output output' errors errors' is = comes _ status output output' errors errors' is
-carried_out world (asked.Run args) status output output' errors errors' (answer, is, own, reports) =
-    reported_run answer status output output' errors errors' own reports
-carried_out world (asked.Order args) status output output' errors errors' is = comes _ status output output' errors errors' is
-carried_out world (asked.Board args) status output output' errors errors' is = comes _ status output output' errors errors' is
-carried_out world (asked.Serve args) status output output' errors errors' (served, middle, serves, taken, at, unserved, reports) =
-    reported_served world.refuses args.port args.count served status output output' errors middle errors' serves reports
-carried_out world (asked.Migrate path) status output output' errors errors' is = comes _ status output output' errors errors' is
+  carried_out : (what : Asked) → CarriesOut world what status before after → Reported
+  carried_out (asked.Fence args) (answer, does, own, untouched, reports) = reported answer status _ _ _ _ own reports
+  carried_out (asked.Init args) (answer, does, own, untouched, reports) = reported answer status _ _ _ _ own reports
+  carried_out (asked.Run args) (answer, does, own, reads, reports) = reported_run answer status _ _ _ _ own reports
+  carried_out (asked.Order args) (answer, does, own, untouched, reports) = reported answer status _ _ _ _ own reports
+  carried_out (asked.Board args) (answer, does, own, untouched, reports) = reported answer status _ _ _ _ own reports
+  carried_out (asked.WayBack args) (answer, does, own, untouched, reports) = reported answer status _ _ _ _ own reports
+  carried_out (asked.Serve args) (served, middle, untouched, serves, reports) =
+      reported_served args.port args.count served status before.output after.output before.errors middle after.errors
+      (serve_written world.net world.seen args.port args.count before.output after.output before.errors middle world.ghosts world.opens world.shuts
+      world.ends args.database.now served before.machine after.machine serves) reports
+  carried_out (asked.Migrate path) (answer, does, own, untouched, reports) = reported answer status _ _ _ _ own reports
 
 unread : (status : ℕ) (output output' errors errors' : Stream) → status ≡ 2 → output' ≡ output → IsReported status output output' errors errors'
 unread status output output' errors errors' two same = record {
@@ -116,27 +119,26 @@ unread status output output' errors errors' two same = record {
   unread = λ _. same;
 }
 
-pub does : (world : Around) (what : Parsed) (status : ℕ) (output output' errors errors' : Stream)
-    → DoesParsed world what status output output' errors errors' → IsReported status output output' errors errors'
-does world (parsed.Asked what) status output output' errors errors' is = carried_out world what status output output' errors errors' is
-does world (parsed.Help text) status output output' errors errors' is = reported_text _ None status output output' errors errors' tt is
-does world (parsed.Unread text) status output output' errors errors' (two, same, line) = unread status output output' errors errors' two same
+pub does : (world : Around) (what : Parsed) (status : ℕ) (before after : Moment world) → DoesParsed world what status before after
+    → IsReported status before.output after.output before.errors after.errors
+does world (parsed.Asked what) status before after is = carried_out world status before after what is
+does world (parsed.Help text) status before after (untouched, is) = reported_text _ None status _ _ _ _ tt is
+does world (parsed.Unread text) status before after (untouched, two, same, line) = unread status _ _ _ _ two same
 
 pub memory_is_no_output : Memory ≢ Output
 memory_is_no_output = λ e. cc e
 
 -- the same where there are no words
-pub IsReported-no_words : (cause : ErrorKind) (status : ℕ) (output output' errors errors' : Stream) → output' ≡ output → TellsNoWords cause status errors errors'
-    → IsReported status output output' errors errors'
-IsReported-no_words OutOfMemory status output output' errors errors' same line =
-    reported_fault Memory status output output' errors errors' memory_is_no_output same line
-IsReported-no_words _ status output output' errors errors' same (two, line) = unread status output output' errors errors' two same
+pub IsReported-no_words : (world : Around) (cause : ErrorKind) (status : ℕ) (before after : Moment world) → AnswersNone world cause status before after
+    → IsReported status before.output after.output before.errors after.errors
+IsReported-no_words world OutOfMemory status before after (untouched, same, line) = reported_fault Memory status _ _ _ _ memory_is_no_output same line
+IsReported-no_words world _ status before after (untouched, same, (two, line)) = unread status _ _ _ _ two same
 
 -- the status is 0 only for words that may have an answer
-pub MayAnswer-does : (world : Around) (words : List (List ℕ)) (what : Parsed) (status : ℕ) (output output' errors errors' : Stream) → Parses words what
-    → DoesParsed world what status output output' errors errors' → status ≡ 0 → MayAnswer words
-MayAnswer-does world words (parsed.Asked what) status output output' errors errors' is is_done zero =
+pub MayAnswer-does : (world : Around) (words : List (List ℕ)) (what : Parsed) (status : ℕ) (before after : Moment world) → Parses words what
+    → DoesParsed world what status before after → status ≡ 0 → MayAnswer words
+MayAnswer-does world words (parsed.Asked what) status before after is is_done zero =
     MayAnswer-parsed words (parsed.Asked what) is (λ unread. unread)
-MayAnswer-does world words (parsed.Help text) status output output' errors errors' is is_done zero =
+MayAnswer-does world words (parsed.Help text) status before after is is_done zero =
     MayAnswer-parsed words (parsed.Help text) is (λ unread. unread)
-MayAnswer-does world words (parsed.Unread text) status output output' errors errors' is (two, same, line) zero = absurd (omega (arith, zero, two))
+MayAnswer-does world words (parsed.Unread text) status before after is (untouched, two, same, line) zero = absurd (omega (arith, zero, two))

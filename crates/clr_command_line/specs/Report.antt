@@ -1,11 +1,12 @@
 -- How answers and faults are reported: the exit status, and the two writers before and after.
-use Rattle.std.specs.Prelude.{ℕ, true, ◌≡◌, ◌≢◌, ◌≤◌, ◌⊎◌, List, Option, Some, None, Result, Ok, Err}
-use Rattle.std.specs.Prelude.{String, string_bytes}
+use Rattle.std.specs.Prelude.{ℕ, true, ◌≡◌, ◌≢◌, ◌≤◌, ◌⊎◌, List, Option, Some, None}
+use Rattle.std.specs.Prelude.{Result, Ok, Err, String, string_bytes}
 use Rattle.std.specs.declared.alloc.Global.{Global}
 use Rattle.clr_edge.specs.Fault.{told_line}
 use Rattle.clr_edge.specs.declared.fault.Fault.{Fault}
 use Rattle.clr_edge.specs.declared.fault.Fault.TheVariants.{Output}
-use Rattle.clr_commands.specs.Serve.{Serves}
+use Rattle.clr_commands.specs.Connections.{ReportsFirst}
+use Rattle.clr_commands.specs.Serve.{serving_line}
 use Rattle.clr_commands.specs.declared.replies.Printed.{Printed}
 use Rattle.clr_stream.specs.Streams.{HasFailed, IsCut, Sends, Stream, WentOut}
 
@@ -52,15 +53,17 @@ IsFaulted fault output output' =
     ⊎ ((fault ≢ Output)
     × ((output' ≡ output) ⊎ ((front : List ℕ) × WentOut output output' front)))
 
--- a server began: the errors were told of connections that failed
-abbrev pub HasServed : Stream → Stream → Stream → Stream → Type 0
-HasServed output output' errors errors' = (port : ℕ) × (count : ℕ)
-    × Serves port count output output' errors errors'
+-- a server began, and reported the connections that failed
+pub record HasServed (output output' errors errors' : Stream) : Type 0 where
+  pub port : ℕ
+  pub count : ℕ
+  pub began : WentOut output output' (serving_line port)
+  pub reported : ReportsFirst count errors errors'
 
 -- WHAT EVERY COMMAND LINE KEEPS TO: the status is 0, 1 or 2; at 0 what was written was flushed, and
 -- nothing went to the errors; at 1 the line of a fault did, that of a failed write exactly where the
 -- output failed, and what went to the output before any other was flushed; at 2 nothing went to the
--- output. Of a server the errors were told of connections that failed, before the line of a fault.
+-- output. A server reports the connections that failed, before the line of a fault.
 pub record IsReported (status : ℕ) (output output' errors errors' : Stream) : Type 0 where
   pub statuses : status ≤ 2
   pub answered : status ≡ 0 → (output'.flushed ≡ true)

@@ -77,7 +77,7 @@ commands_step before now line lines rest split grown =
 
 -- ---- answering
 
--- an answer stands at its place
+-- an answer is at its place
 pub record IsNext (texts : List (List ℕ)) (i : ℕ) (text : List ℕ) (rest : List (List ℕ)) : Type 0 where
   pub within : i < length texts
   pub printed : as_lines (take (i + 1) texts) ≡ as_lines (take i texts) ++ (text ++ 10 ∷ [])

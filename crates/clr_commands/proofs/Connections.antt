@@ -1,51 +1,99 @@
--- What the errors are told of connections, one by one.
-use Rattle.std.proofs.Common.{◌≡◌, ◌⊎◌, ◌+◌, ℕ, suc, List, Option, Result, Ok, Err, arith, inl, inr, refl, subst}
-use Rattle.std.specs.Prelude.{IfErr, IfOk, OnErr, OnOk}
+-- The connections of a port, one by one, and the register that they lead to.
+use Rattle.std.proofs.Common.{◌≡◌, ◌⊎◌, ◌+◌, ◌∙◌, ℕ, zero, suc, List, [], Option, Result, Ok, Err, ap, arith, inl, inr, refl, subst, sym}
+use Rattle.std.specs.Prelude.{IsErrAnd, OnErr, OnOk}
 use Rattle.std.specs.Io.KnownBytes.{Appends}
-use Rattle.std.specs.declared.io.ErrorKind.{ErrorKind}
-use Rattle.clr_commands.specs.Serve.{TakesFirst, TakesNext, TellsConnection, TellsFirst, TellsNext, accept_fault}
-use Rattle.clr_stream.specs.Streams.{AppendsFront, Stream}
+use Rattle.clr_stream.specs.Streams.{AppendsFront, IsCut, Sends, Stream}
+use Rattle.clr_rules.specs.Good.{IsGood}
+use Rattle.clr_rules.specs.Register.{Register}
+use Rattle.clr_rules.specs.Run.{after_all}
+use Rattle.clr_rules.proofs.keeps.EveryKind.{runs_keep_good}
+use Rattle.clr_http.specs.Registrar.{Keeper}
+use Rattle.clr_http.specs.RequestLaws.{ComesWithin}
+use Rattle.clr_http.proofs.RequestRuns.{carried_one, comes_further}
+use Rattle.clr_http.specs.declared.serve.HttpFault.{HttpFault}
+use Rattle.clr_http.specs.declared.serve.Served.{Served}
+use Rattle.clr_edge.specs.Visit.{Done}
 use Rattle.clr_edge.specs.declared.fault.Fault.{Fault}
+use Rattle.clr_edge.specs.declared.fault.Fault.TheVariants.{Output}
+use Rattle.clr_edge.specs.Loopback.{StandsOn}
+use Rattle.clr_edge.specs.declared.loopback.Loopback as loopback
+use Rattle.clr_commands.specs.Connections.{ReportsConnection, Seen, TakesFirst, TakesNext, connection_line}
+use Rattle.clr_commands.specs.Serve.{ServesKeeper, serving_line}
 
--- before the first connection nothing is told
-pub first_told : (errors : Stream) → TellsFirst 0 errors errors
-unfolding TellsFirst
-first_told errors = refl
+none_within : (n : ℕ) (R Q : Register) → Q ≡ R → ComesWithin n R Q
+unfolding after_all
+none_within n R Q e = ([], omega arith, e)
 
-told_after : (n : ℕ) (errors middle errors' : Stream) → TellsFirst n errors middle → TellsNext (n + 1) middle errors' → TellsFirst (suc n) errors errors'
-unfolding TellsFirst
-told_after n errors middle errors' first next = (middle, first, next)
+within_good : (n : ℕ) (R Q : Register) → ComesWithin n R Q → IsGood R → IsGood Q
+within_good n R Q (commands, few, e) good = subst IsGood (sym e) (runs_keep_good R commands good)
 
--- one connection more is told
-pub next_told : (n : ℕ) (errors middle errors' : Stream) → TellsFirst n errors middle → TellsNext (n + 1) middle errors' → TellsFirst (n + 1) errors errors'
-next_told n errors middle errors' first next =
-    let P : ℕ → Type 0 = λ m. TellsFirst m errors errors' in
-    let e : suc n ≡ n + 1 = omega arith in
-    subst P e (told_after n errors middle errors' first next)
+module _ {M L R W : Type 0} (net : loopback.Ghosts M L R W) (seen : Seen R W) (listener : L) where
+  -- before the first connection nothing was done
+  pub first_taken : (k : Keeper) (errors : Stream) (old : M) → TakesFirst net seen listener 0 k k errors errors old old
+  unfolding TakesFirst
+  first_taken k errors old = (refl, refl, refl)
 
--- the same of what is taken from a listener
-pub first_taken : {C : Type 0} (comes : C → Type 0) (misses : ErrorKind → Type 0) (errors : Stream) → TakesFirst comes misses 0 errors errors
-unfolding TakesFirst
-first_taken comes misses errors = refl
+  taken_after : (n : ℕ) (k between k' : Keeper) (errors reported errors' : Stream) (old middle new : M)
+      → TakesFirst net seen listener n k between errors reported old middle
+      → TakesNext net seen listener (n + 1) between k' reported errors' middle new
+      → TakesFirst net seen listener (suc n) k k' errors errors' old new
+  unfolding TakesFirst
+  taken_after n k between k' errors reported errors' old middle new first next = (middle, between, reported, first, next)
 
-taken_after : {C : Type 0} (comes : C → Type 0) (misses : ErrorKind → Type 0) (n : ℕ) (errors middle errors' : Stream)
-    → TakesFirst comes misses n errors middle → TakesNext comes misses (n + 1) middle errors' → TakesFirst comes misses (suc n) errors errors'
-unfolding TakesFirst
-taken_after comes misses n errors middle errors' first next = (middle, first, next)
+  -- one connection more
+  pub next_taken : (n : ℕ) (k between k' : Keeper) (errors reported errors' : Stream) (old middle new : M)
+      → TakesFirst net seen listener n k between errors reported old middle
+      → TakesNext net seen listener (n + 1) between k' reported errors' middle new
+      → TakesFirst net seen listener (n + 1) k k' errors errors' old new
+  next_taken n k between k' errors reported errors' old middle new first next =
+      let P : ℕ → Type 0 = λ m. TakesFirst net seen listener m k k' errors errors' old new in
+      let e : suc n ≡ n + 1 = omega arith in
+      subst P e (taken_after n k between k' errors reported errors' old middle new first next)
 
-pub next_taken : {C : Type 0} (comes : C → Type 0) (misses : ErrorKind → Type 0) (n : ℕ) (errors middle errors' : Stream)
-    → TakesFirst comes misses n errors middle → TakesNext comes misses (n + 1) middle errors' → TakesFirst comes misses (n + 1) errors errors'
-next_taken comes misses n errors middle errors' first next =
-    let P : ℕ → Type 0 = λ m. TakesFirst comes misses m errors errors' in
-    let e : suc n ≡ n + 1 = omega arith in
-    subst P e (taken_after comes misses n errors middle errors' first next)
+  next_follows : (number : ℕ) (k k' : Keeper) (errors errors' : Stream) (old new : M)
+      → TakesNext net seen listener number k k' errors errors' old new → IsGood k.register → ComesWithin 1 k.register k'.register
+  next_follows number k k' errors errors' old new (inl answers) good =
+      let (served, answered, reported) = answers.served in
+      carried_one _ k k' _ _ served (answered.carries good)
+  next_follows number k k' errors errors' old new (inr (kind, missed, kept, reported)) good =
+      none_within 1 k.register k'.register (ap (λ (it : Keeper). it.register) kept)
 
--- what was accepted is served, and why nothing was is told
-pub accepted_next : {C E : Type 0} (comes : C → Type 0) (misses : ErrorKind → Type 0) (kind : E → ErrorKind) (accepted : Result C E) (number : ℕ)
-    (errors errors' : Stream) → IfOk accepted comes → IfErr accepted (λ error. misses (kind error)) → TellsNext number errors errors'
-    → IfErr accepted (λ error. TellsConnection number (Err (accept_fault (kind error))) errors errors') → TakesNext comes misses number errors errors'
-accepted_next comes misses kind (Ok connection) number errors errors' came missed told refused = inl (connection, came, told)
-accepted_next comes misses kind (Err error) number errors errors' came missed told refused = inr (kind error, missed, refused)
+  -- the first connections lead to the register by as many commands at most
+  first_within : (n : ℕ) (k k' : Keeper) (errors errors' : Stream) (old new : M)
+      → TakesFirst net seen listener n k k' errors errors' old new → IsGood k.register → ComesWithin n k.register k'.register
+  unfolding TakesFirst
+  first_within zero k k' errors errors' old new (same, kept, quiet) good =
+      none_within 0 k.register k'.register (ap (λ (it : Keeper). it.register) kept)
+  first_within (suc n) k k' errors errors' old new (middle, between, reported, first, next) good =
+      let far = first_within n k between errors reported old middle first good in
+      comes_further n (suc n) k.register between.register k'.register far
+      (next_follows (n + 1) between k' reported errors' middle new next (within_good n k.register between.register far good))
+      (omega arith)
+
+-- and so does a server, whatever it came to
+pub server_within : {M L R W : Type 0} (net : loopback.Ghosts M L R W) (seen : Seen R W) (port count : ℕ)
+    (output output' errors errors' : Stream) (k k' : Keeper) (served : Done) (old new : M)
+    → ServesKeeper net seen port count output output' errors errors' k k' served old new
+    → IsGood k.register → ComesWithin count k.register k'.register
+server_within net seen port count output output' errors errors' k k' (Ok value) old new (listener, middle, stands, went, taken) good =
+    first_within net seen listener count k k' errors errors' middle new taken good
+server_within net seen port count output output' errors errors' k k' (Err fault) old new (kept, quiet, rest) good =
+    none_within count k.register k'.register (ap (λ (it : Keeper). it.register) kept)
+
+-- a server whose line could not be written
+pub server_cut : {M L R W : Type 0} (net : loopback.Ghosts M L R W) (seen : Seen R W) (port count : ℕ) (output output' errors : Stream)
+    (k : Keeper) (result : Done) (fault : Fault) (text : List ℕ) (listener : L) (old new : M) → IsErrAnd result (λ cause. cause ≡ fault) → fault ≡ Output
+    → StandsOn net.stands old port listener new → text ≡ serving_line port → IsCut output output' text
+    → ServesKeeper net seen port count output output' errors errors k k result old new
+server_cut net seen port count output output' errors k (Ok value) fault text listener old new is of_output stands same cut = absurd is
+server_cut net seen port count output output' errors k (Err cause) fault text listener old new is of_output stands same cut =
+    (refl, refl, inr (listener, stands, is ∙ of_output, subst (λ (t : List ℕ). IsCut output output' t) same cut))
+
+-- a connection that failed is reported
+pub failed_reported : (number : ℕ) (served : Result Served HttpFault) (fault : HttpFault) (errors errors' : Stream) → served ≡ Err fault
+    → Sends errors errors' (connection_line number fault) → ReportsConnection number served errors errors'
+failed_reported number served fault errors errors' is sends =
+    subst (λ (r : Result Served HttpFault). ReportsConnection number r errors errors') (sym is) sends
 
 -- a text that went out, in other words
 pub went_as : (F : Type 0) (old new : Option (List ℕ)) (text line : List ℕ) → text ≡ line → Appends old new text × F → Appends old new line × F

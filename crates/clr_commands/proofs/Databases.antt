@@ -1,36 +1,56 @@
--- Registers that databases are known to have.
-use Rattle.std.proofs.Common.{◌≡◌, ◌∙◌, ap, inl, sym, ℕ, List, Option, Result, Ok, Err}
-use Rattle.std.specs.Prelude.{Some, None, IfErr, IfOk, IfSome, IsOk, OnOk, String, string_bytes}
-use Rattle.std.proofs.lemmas.Bool.{false≢true}
+-- What is printed of registers that databases have, and why nothing is.
+use Rattle.std.proofs.Common.{◌≡◌, ◌∙◌, ap, inl, inr, sym, ℕ, List, Result, Ok, Err}
+use Rattle.std.specs.Prelude.{IfErr, IfOk, IsErrAnd, String, string_bytes}
 use Rattle.std.specs.declared.alloc.Global.{Global}
+use Rattle.sqlite.specs.Held.{Held, state}
+use Rattle.sqlite.specs.State.{HasCleanDisk, Survives}
+use Rattle.sqlite_trees.specs.declared.store.Store.{Ghosts}
+use Rattle.clr_rules.specs.Register.{Register}
+use Rattle.clr_edge.specs.Database.{HasRegister, IsOfLine, IsOnlyRead, IsRefused}
 use Rattle.clr_edge.specs.declared.fault.Fault.{Fault}
 use Rattle.clr_edge.specs.declared.fault.Fault.TheVariants.{Memory}
+use Rattle.clr_edge.proofs.Databases.{OnOk-any}
 use Rattle.clr_commands.specs.Answers.{GivesText, IsMemory}
-use Rattle.clr_commands.specs.Stored.{PrintsStored}
+use Rattle.clr_commands.specs.Stored.{IsUnanswered, PrintsOf}
 
--- what follows of each value that may be there
-pub IfSome-from : {A : Type 0} (o : Option A) (P Q : A → Type 0) → ((a : A) → P a → Q a) → IfSome o P → IfSome o Q
-IfSome-from None P Q from is = tt
-IfSome-from (Some a) P Q from is = from a is
+-- a fault that is passed on is the answer
+pub is_err : {T : Type 0} (result : Result T Fault) (fault : Fault) → IsErrAnd result (λ cause. cause ≡ fault) → result ≡ Err fault
+is_err (Ok value) fault is = absurd is
+is_err (Err cause) fault is = ap Err is
 
--- what follows of the value of an answer
-pub OnOk-from : {T : Type 0} (told : Result T Fault) (P Q : Type 0) → (P → Q) → OnOk told P → OnOk told Q
-OnOk-from (Ok value) P Q from is = from is
-OnOk-from (Err fault) P Q from is = tt
-
--- what is known of an answer that there is
-pub OnOk-of : {T : Type 0} (told : Result T Fault) (P : Type 0) → IsOk told → OnOk told P → P
-OnOk-of (Ok value) P ok is = is
-OnOk-of (Err fault) P ok is = absurd (false≢true ok)
+-- a text, unless memory ran out
+pub GivesText-text : (text : List ℕ) (result : Result (String Global) Fault) → IfOk result (λ printed. string_bytes printed ≡ text)
+    → IfErr result (λ fault. fault ≡ Memory) → GivesText IsMemory (Ok text) result
+GivesText-text text (Ok printed) is memory = ap Ok (sym is)
+GivesText-text text (Err fault) is memory = λ other. absurd (other memory)
 
 -- an answer that only want of memory may come in place of
-pub PrintsStored-gives : (gave expected : Result (List ℕ) Fault) (told : Result (String Global) Fault) → gave ≡ expected → GivesText IsMemory gave told
-    → PrintsStored expected told
-PrintsStored-gives gave expected (Ok value) same gives = sym same ∙ gives
-PrintsStored-gives gave expected (Err fault) same gives = λ other. sym same ∙ gives (λ memory. other (inl memory))
+gives_line : (gave expected : Result (List ℕ) Fault) (result : Result (String Global) Fault) → gave ≡ expected → GivesText IsMemory gave result
+    → GivesText IsOfLine expected result
+gives_line gave expected (Ok value) same gives = sym same ∙ gives
+gives_line gave expected (Err fault) same gives = λ other. sym same ∙ gives (λ memory. other (inl memory))
 
--- the same of a board
-pub PrintsStored-board : (text expected : List ℕ) (told : Result (String Global) Fault) → text ≡ expected
-    → IfOk told (λ printed. string_bytes printed ≡ text) → IfErr told (λ fault. fault ≡ Memory) → PrintsStored (Ok expected) told
-PrintsStored-board text expected (Ok printed) same is memory = ap Ok (sym (is ∙ same))
-PrintsStored-board text expected (Err fault) same is memory = λ other. absurd (other (inl memory))
+unanswered : {T S : Type 0} (g : Ghosts S) (IsOwn : Fault → Type 0) (before after : Held S) (result : Result T Fault) → IfErr result IsOwn
+    → Survives (state g before) (state g after) (λ _. ⊥) → IfErr result (IsUnanswered g before after IsOwn)
+unanswered g IsOwn before after (Ok value) own survives = tt
+unanswered g IsOwn before after (Err fault) own survives = record { cause = inl own; survives = survives }
+
+-- what is printed of the register Q that was read from a database
+pub PrintsOf-read : {S : Type 0} (g : Ghosts S) (IsOwn : Fault → Type 0) (answer : Register → Result (List ℕ) Fault) (result : Result (String Global) Fault)
+    (before after : Held S) (Q : Register) → ((R : Register) → HasRegister g R before → HasCleanDisk (state g after) → Q ≡ R)
+    → IsOnlyRead g before after → GivesText IsMemory (answer Q) result → IfErr result IsOwn → PrintsOf g IsOwn answer result before after
+PrintsOf-read g IsOwn answer result before after Q is_register read gives own = record {
+  known = λ R has clean. gives_line (answer Q) (answer R) result (ap answer (is_register R has clean)) gives;
+  read = OnOk-any result (IsOnlyRead g before after) read;
+  refused = unanswered g IsOwn before after result own read.survives;
+}
+
+-- nothing is printed of one whose tables were refused
+pub PrintsOf-refused : {S : Type 0} (g : Ghosts S) (IsOwn : Fault → Type 0) (answer : Register → Result (List ℕ) Fault) (fault : Fault)
+    (before after : Held S) → ((R : Register) → HasRegister g R before → HasCleanDisk (state g after) → IsOfLine fault)
+    → IsRefused g before fault after → Survives (state g before) (state g after) (λ _. ⊥) → PrintsOf g IsOwn answer (Err fault) before after
+PrintsOf-refused g IsOwn answer fault before after line refused survives = record {
+  known = λ R has clean other. absurd (other (line R has clean));
+  read = tt;
+  refused = record { cause = inr refused; survives = survives };
+}

@@ -5,7 +5,6 @@ use Rattle.clr_net.specs.declared.name.NameFault.{NameFault}
 use Rattle.clr_net.specs.declared.name.NameFault.TheVariants as name
 use Rattle.clr_net.specs.declared.net_fault.NetFault.{NetFault}
 use Rattle.clr_net.specs.declared.net_fault.NetFault.TheVariants as net
-use Rattle.clr_stream.specs.Streams.{Stream}
 use Rattle.clr_csv.specs.declared.fault.CsvFault.{CsvFault}
 use Rattle.clr_csv.specs.declared.fault.CsvFault.TheVariants as csv
 use Rattle.clr_staff.specs.declared.staff_fault.StaffFault.{StaffFault}
@@ -19,15 +18,15 @@ use Rattle.clr_edge.specs.Fault.{IsOfFile, of_desk, of_file, of_name, of_network
 use Rattle.clr_edge.specs.declared.fault.Fault.{Fault}
 use Rattle.clr_edge.specs.declared.fault.Fault.TheVariants.{Listen, Memory, Output}
 use Rattle.clr_edge.specs.declared.fault.ImportFile.{ImportFile}
-use Rattle.clr_commands.specs.Faults.{HasFailedWriter, IsOfSubcommand}
+use Rattle.clr_commands.specs.Faults.{IsOfSubcommand}
 use Rattle.clr_rules.specs.Register.{Register}
 use Rattle.clr_rules.specs.declared.reply.Reply.{Reply}
 use Rattle.clr_commands.specs.Replies.{AnswersInput, PrintsAnswers, answers, asked_lines, readings_of}
 use Rattle.clr_commands.specs.Import.{IsOfAnyFile}
 use Rattle.clr_commands.specs.Run.{IsOfInput}
 use Rattle.clr_commands.specs.declared.replies.Printed.{Printed}
-use Rattle.clr_commands.specs.Serve.{FailsServing, IsServing}
 use Rattle.clr_commands.specs.Stored.{IsOfOrder}
+use Rattle.clr_commands.specs.WayBack.{IsOfWayBack}
 
 abbrev is_plain : Fault → Bool
 is_plain Output = false
@@ -40,7 +39,7 @@ plain fault is = (λ e. cc (sym is ∙ ap is_plain e), λ e. cc (sym is ∙ ap i
 plain_as : (fault found : Fault) → fault ≡ found → is_plain found ≡ true → IsOfSubcommand fault
 plain_as fault found e is = plain fault (ap is_plain e ∙ is)
 
--- the causes, as they are told
+-- the causes, as they are reported
 pub of_network_plain : (cause : NetFault) → IsOfSubcommand (of_network cause)
 of_network_plain net.NoSections = plain _ refl
 of_network_plain net.TooLarge = plain _ refl
@@ -95,6 +94,11 @@ pub order_plain : (fault : Fault) → IsOfOrder fault → IsOfSubcommand fault
 order_plain fault (inl memory) = memory_plain fault memory
 order_plain fault (inr none) = plain_as fault _ none refl
 
+pub way_back_plain : (fault : Fault) → IsOfWayBack fault → IsOfSubcommand fault
+way_back_plain fault (inl memory) = memory_plain fault memory
+way_back_plain fault (inr (inl none)) = plain_as fault _ none refl
+way_back_plain fault (inr (inr hangs)) = plain_as fault _ hangs refl
+
 pub store_plain : (fault : Fault) → IsOfStore fault → IsOfSubcommand fault
 store_plain fault (inl memory) = memory_plain fault memory
 store_plain fault (inr (cause, is)) = plain_as fault _ is refl
@@ -104,7 +108,7 @@ input_plain input fault (inl memory) = memory_plain fault memory
 input_plain input fault (inr (inl failed)) = plain_as fault _ failed refl
 input_plain input fault (inr (inr (long, known))) = plain_as fault _ long refl
 
--- a fault that was told, if one was
+-- a fault that was reported, if one was
 pub told_plain : (fault : Option Fault) (cause : Option DeskFault) → fault ≡ option_map of_desk cause → IfSome fault IsOfSubcommand
 told_plain fault None e = subst (λ (f : Option Fault). IfSome f IsOfSubcommand) (sym e) tt
 told_plain fault (Some cause) e = subst (λ (f : Option Fault). IfSome f IsOfSubcommand) (sym e) (of_desk_plain cause)
@@ -114,8 +118,8 @@ printed_plain : (texts : List (List ℕ)) (ended : Option DeskFault) (printed : 
 printed_plain texts ended printed (inl (all, same)) = told_plain printed.fault ended same
 printed_plain texts ended printed (inr some) = subst (λ (f : Option Fault). IfSome f IsOfSubcommand) (sym some.memory) (plain _ refl)
 
-pub answers_plain : {R S : Register} {input : List ℕ} {told : List Reply} {printed : Printed} → AnswersInput R S input told printed
-    → IfSome printed.fault IsOfSubcommand
+pub answers_plain : {fails : StoreFault → Type 0} {R S : Register} {input : List ℕ} {told : List Reply} {printed : Printed}
+    → AnswersInput fails R S input told printed → IfSome printed.fault IsOfSubcommand
 answers_plain {input} {told} {printed} is =
     printed_plain (answers (readings_of (asked_lines input)) told) is.ended printed is.prints
 
@@ -138,30 +142,3 @@ pub each_plain : {T : Type 0} (result : Result T Fault) (P : Fault → Type 0) �
     → IfErr result P → IfErr result IsOfSubcommand
 each_plain (Ok value) P of is = tt
 each_plain (Err fault) P of is = of fault is
-
--- a server's fault is of the output only where that failed
-of_output : (fault : Fault) (output output' : Stream) → IsOfSubcommand fault → HasFailedWriter fault output output'
-of_output fault output output' of = λ e. absurd (of.0 e)
-
-failed_writer : (refuses : ℕ → Type 0) (port count : ℕ) (fault : Fault) (output output' errors errors' : Stream)
-    → FailsServing refuses port count fault output output' errors errors' → HasFailedWriter fault output output'
-failed_writer refuses port count fault output output' errors errors' (inl (store, same, quiet)) = of_output fault output output' (store_plain fault store)
-failed_writer refuses port count fault output output' errors errors' (inr (inl (quiet, inl (memory, same)))) = of_output fault output output' (memory_plain fault memory)
-failed_writer refuses port count fault output output' errors errors' (inr (inl (quiet, inr (inl (listen, refused, same))))) = λ e. cc (sym listen ∙ e)
-failed_writer refuses port count fault output output' errors errors' (inr (inl (quiet, inr (inr (is_output, cut))))) = λ e. cut.1
-failed_writer refuses port count fault output output' errors errors' (inr (inr (line, serves))) = of_output fault output output' (line_plain fault line)
-
-pub served_output : {T : Type 0} (refuses : ℕ → Type 0) (port count : ℕ) (result : Result T Fault) (output output' errors errors' : Stream)
-    → IsServing refuses port count result output output' errors errors' → IfErr result (λ fault. HasFailedWriter fault output output')
-served_output refuses port count (Ok value) output output' errors errors' is = tt
-served_output refuses port count (Err fault) output output' errors errors' is = failed_writer refuses port count fault output output' errors errors' is
-
--- the same of a fault that is passed on
-pub served_failed : {T U : Type 0} (refuses : ℕ → Type 0) (port count : ℕ) (served : Result T Fault) (result : Result U Fault) (fault : Fault)
-    (output output' errors errors' : Stream) → served ≡ Err fault → IsErrAnd result (λ cause. cause ≡ fault)
-    → IsServing refuses port count served output output' errors errors' → IfErr result (λ cause. HasFailedWriter cause output output')
-served_failed refuses port count served (Ok value) fault output output' errors errors' was is told = absurd is
-served_failed {T} refuses port count served (Err cause) fault output output' errors errors' was is told =
-    let fails : FailsServing refuses port count fault output output' errors errors' =
-    subst (λ (r : Result T Fault). IsServing refuses port count r output output' errors errors') was told in
-    λ e. failed_writer refuses port count fault output output' errors errors' fails (sym is ∙ e)

@@ -8,9 +8,8 @@ pub mod Migrates
 pub mod OfNoReader
 pub mod PointsNamed
 pub mod ReadFiles
+pub mod ReadRows
 pub mod RunAnswers
 pub mod RunOfInput
 pub mod Serving
-pub mod ToldInMemory
-pub mod Unanswered
-pub mod Unserved
+pub mod Written

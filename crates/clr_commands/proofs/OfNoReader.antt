@@ -114,6 +114,7 @@ no_reader-from_rows (Input cause) sections points work cut told =
     is_fence-no_reader _ sections points work cut (Err (Input cause)) (told (λ e. cc e))
 no_reader-from_rows (found.Store cause) sections points work cut told = refl
 no_reader-from_rows found.NoSuch sections points work cut told = refl
+no_reader-from_rows found.NoWay sections points work cut told = refl
 no_reader-from_rows found.Output sections points work cut told = refl
 no_reader-from_rows found.Listen sections points work cut told = refl
 
@@ -121,7 +122,7 @@ fault_in : {T : Type 0} → Fault → Result T Fault → Fault
 fault_in other (Ok value) = other
 fault_in other (Err fault) = fault
 
--- a fault of no reader tells no file as unread
+-- a fault of no reader reports no file as unread
 pub HasCause-none : {T : Type 0} (fault : Fault) (file : ImportFile) (result : Result T Fault) (before after : ℕ)
     → is_of_reader fault ≡ false → IsErrAnd result (λ cause. cause ≡ fault) → HasCause file result before after
 unfolding fault_in
@@ -129,7 +130,7 @@ HasCause-none fault file (Ok value) before after none is = absurd is
 HasCause-none fault file (Err cause) before after none is =
     λ e. absurd (no_reader-absurd fault file ReadFailed none (sym is ∙ ap (fault_in cause) e))
 
--- the answer of rows tells no file as unread
+-- the answer of rows reports no file as unread
 pub HasCause-rows : {T : Type 0} (fault : Fault) (sections : List SectionRow) (points : List PointRow) (work : List ℕ) (cut : List (List ℕ))
     (file : ImportFile) (result : Result T Fault) (before after : ℕ)
     → (fault ≢ Memory → IsFenceOf (network.first_fault sections points) sections points work cut (Err fault))

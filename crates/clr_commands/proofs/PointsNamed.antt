@@ -40,7 +40,7 @@ pub points_named-nil : (g : Grid) (names : List (List ℕ)) → names_after name
 unfolding points_named
 points_named-nil g names = rw append-nil
 
--- what is told where a fault ends the reading
+-- what is answered where a fault ends the reading
 pub gives-fault : {A T : Type 0} (view : T → A) (told : Result A Fault) (result : Result T Fault) (fault : Fault)
     → told ≡ Err fault → IsErrAnd result (λ cause. cause ≡ fault) → Gives IsMemory view told result
 gives-fault view told (Ok value) fault e is = absurd is

@@ -6,8 +6,9 @@ use Rattle.clr_rules.specs.Good.{IsGood}
 use Rattle.clr_rules.specs.Register.{Register}
 use Rattle.clr_rules.specs.RunHeadline.{IsRun, OthersChangeNoReply, OthersTakeNothing, OwnStandAlone, with_reply}
 use Rattle.clr_rules.specs.declared.command.Command.{Command}
+use Rattle.clr_load.specs.declared.fault.StoreFault.{StoreFault}
 use Rattle.clr_desk.specs.Crash.{LeavesSome}
-use Rattle.clr_desk.specs.Faults.{IsOfCommand}
+use Rattle.clr_desk.specs.Faults.{IsOfKeeper}
 use Rattle.clr_desk.specs.Kept.{Keeps}
 use Rattle.clr_desk.specs.NearRun.{IsNearRun}
 use Rattle.clr_desk.specs.declared.run.Run.{Run}
@@ -17,8 +18,8 @@ use Rattle.clr_commands.specs.declared.replies.Reading.{Reading}
 use Rattle.clr_commands.proofs.AnsweredLines.{answers_are}
 
 -- what a desk's run of commands answers
-pub record RunsAll (old new : State) (R S : Register) (run : Run) (commands : List Command) : Type 0 where
-  pub cause : IfSome run.fault (λ fault. IsOfCommand fault)
+pub record RunsAll (fails : StoreFault → Type 0) (old new : State) (R S : Register) (run : Run) (commands : List Command) : Type 0 where
+  pub cause : IfSome run.fault (IsOfKeeper fails)
   pub ends : IfNone run.fault (length run.replies.items ≡ length commands)
   pub stops : IfSome run.fault (λ _. length run.replies.items < length commands)
   pub near : IsNearRun R (with_reply commands run.replies.items) run.replies.items S
@@ -30,13 +31,13 @@ pub record RunsAll (old new : State) (R S : Register) (run : Run) (commands : Li
   pub crash : HasCleanDisk new → LeavesSome old new R commands (length run.replies.items)
 
 -- its commands are those of the input, and its answers are printed
-pub answers_over : (old new : State) (R S : Register) (input : List ℕ) (run : Run) (commands : List Command)
+pub answers_over : (fails : StoreFault → Type 0) (old new : State) (R S : Register) (input : List ℕ) (run : Run) (commands : List Command)
     (readings : List Reading) (printed : Printed)
     → commands ≡ asked_commands input → readings ≡ readings_of (asked_lines input)
-    → RunsAll old new R S run commands → PrintsAnswers (answers readings run.replies.items) run.fault printed
-    → AnswersOver old new R S input printed
-answers_over old new R S input run commands readings printed asked read all prints =
-    let on = subst (λ (cs : List Command). RunsAll old new R S run cs) asked all in
+    → RunsAll fails old new R S run commands → PrintsAnswers (answers readings run.replies.items) run.fault printed
+    → AnswersOver fails old new R S input printed
+answers_over fails old new R S input run commands readings printed asked read all prints =
+    let on = subst (λ (cs : List Command). RunsAll fails old new R S run cs) asked all in
     record {
       told = run.replies.items;
       run = record {

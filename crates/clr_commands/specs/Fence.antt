@@ -20,6 +20,7 @@ use Rattle.clr_edge.specs.Fault.{of_name, of_network}
 use Rattle.clr_edge.specs.Files.{IsUnread, told_of}
 use Rattle.clr_commands.specs.Answers.{IsMemory, Prints}
 use Rattle.clr_commands.specs.Lines.{lines_of}
+use Rattle.clr_commands.specs.Paths.{AtPaths, HasCauseAt}
 use Rattle.clr_edge.specs.declared.fault.ImportFile.TheVariants.{Sections, Points}
 use Rattle.clr_edge.specs.declared.fault.Fault.{Fault}
 use Rattle.clr_edge.specs.declared.fault.Fault.TheVariants.{UnknownSection, UnknownPoint}
@@ -75,7 +76,7 @@ FencesRows sections points work cut =
     Prints IsMemory (IsFenceOf (first_fault sections points) sections points work cut)
 
 -- What `fence` answers of the bytes of its two files: the first fault of the sections, then that of
--- the points, else what it answers of their rows.
+-- the points, or what it answers of their rows.
 abbrev pub IsFenceOfFiles : List ℕ → List ℕ → List ℕ → List (List ℕ) → Result (List ℕ) Fault
     → Type 0
 IsFenceOfFiles section_file point_file work cut =
@@ -90,11 +91,12 @@ FencesFiles section_file point_file work cut =
     Prints (λ fault. IsUnread Sections fault ⊎ IsUnread Points fault)
     (IsFenceOfFiles section_file point_file work cut)
 
--- the same of the files at their paths
-abbrev pub FencesAt : (List ℕ → Option (List ℕ)) → FenceArgs → Result (String Global) Fault
-    → Type 0
-FencesAt bytes_at args result =
-    IfSome (bytes_at args.sections.now) (λ section_file.
-    IfSome (bytes_at args.points.now) (λ point_file.
-    FencesFiles section_file point_file args.work.now (map (λ word. word.now) args.cut.items)
-    result))
+-- the same of the files at their paths, of which one is reported as unread only where it failed
+pub record FencesAt (at : AtPaths) (args : FenceArgs) (result : Result (String Global) Fault)
+    : Type 0 where
+  pub answer : IfSome (at.bytes args.sections.now) (λ section_file.
+      IfSome (at.bytes args.points.now) (λ point_file.
+      FencesFiles section_file point_file args.work.now (map (λ word. word.now) args.cut.items)
+      result))
+  pub sections_cause : HasCauseAt at args.sections.now Sections result
+  pub points_cause : HasCauseAt at args.points.now Points result

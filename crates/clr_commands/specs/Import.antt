@@ -1,5 +1,5 @@
 -- The three files of a network and its staff, and their rows.
-use Rattle.std.specs.Prelude.{◌⊎◌, ℕ, List, Option, Result, Ok, Err, IfSome}
+use Rattle.std.specs.Prelude.{◌⊎◌, ℕ, List, Option, Result, Ok, Err, IfSome, OnErr}
 use Rattle.clr_net.specs.declared.section.SectionRow.{SectionRow}
 use Rattle.clr_net.specs.declared.point.PointRow.{PointRow}
 use Rattle.clr_staff.specs.declared.employee.StaffRow.{StaffRow}
@@ -14,6 +14,7 @@ use Rattle.clr_edge.specs.Files.{IsUnread, told_of}
 use Rattle.clr_edge.specs.declared.fault.Fault.{Fault}
 use Rattle.clr_edge.specs.declared.fault.ImportFile.TheVariants.{Sections, Points, Staff}
 use Rattle.clr_commands.specs.Answers.{Gives}
+use Rattle.clr_commands.specs.Paths.{AtPaths, HasCauseAt}
 use Rattle.clr_commands.specs.declared.import.Rows.{Rows}
 
 -- the bytes of the three files
@@ -58,18 +59,23 @@ AreRead sections points staff read = IfSome sections (λ s. IfSome points (λ p.
     Gives IsUnreadFile (λ rows. rows) (rows_of (record { sections = s; points = p; staff = e }))
     read)))
 
--- the same of the files at three paths
-abbrev pub AreReadAt : (List ℕ → Option (List ℕ)) → Files → Result FileRows Fault → Type 0
-AreReadAt bytes_at files read = AreRead (bytes_at files.sections.now)
-    (bytes_at files.points.now) (bytes_at files.staff.now) read
+-- the same of the files at three paths, of which one is reported as unread only where it failed
+pub record AreReadAt (at : AtPaths) (files : Files) (read : Result FileRows Fault) : Type 0 where
+  pub rows : AreRead (at.bytes files.sections.now) (at.bytes files.points.now)
+      (at.bytes files.staff.now) read
+  pub sections_cause : HasCauseAt at files.sections.now Sections read
+  pub points_cause : HasCauseAt at files.points.now Points read
+  pub staff_cause : HasCauseAt at files.staff.now Staff read
 
 abbrev pub as_lists : Result Rows Fault → Result FileRows Fault
 as_lists (Ok rows) = Ok (lists_of rows)
 as_lists (Err fault) = Err fault
 
--- WHAT IS ANSWERED OF THREE FILES: their fault, or what `Is` says of their rows
-pub record AnswersFiles {T : Type 0} (bytes_at : List ℕ → Option (List ℕ)) (files : Files)
+-- WHAT IS ANSWERED OF THREE FILES: their fault, and then nothing else was done, as `Nothing` says;
+-- or what `Is` says of their rows
+pub record AnswersFiles {T : Type 0} (at : AtPaths) (files : Files) (Nothing : Type 0)
     (Is : FileRows → Result T Fault → Type 0) (result : Result T Fault) : Type 0 where
   pub read : Result FileRows Fault
-  pub are_read : AreReadAt bytes_at files read
+  pub are_read : AreReadAt at files read
   pub answer : After read Is result
+  pub nothing : OnErr read Nothing

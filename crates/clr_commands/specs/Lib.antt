@@ -1,4 +1,5 @@
 pub mod Answers
+pub mod Connections
 pub mod Faults
 pub mod Fence
 pub mod Import
@@ -6,7 +7,9 @@ pub mod Init
 pub mod Lines
 pub mod Migrate
 pub mod Order
+pub mod Paths
 pub mod Replies
 pub mod Run
 pub mod Serve
 pub mod Stored
+pub mod WayBack

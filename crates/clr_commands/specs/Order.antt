@@ -8,6 +8,7 @@ use Rattle.clr_rules.specs.Records.{record_of}
 use Rattle.clr_rules.specs.Register.{Register}
 use Rattle.clr_rules.specs.Steps.{steps_of}
 use Rattle.clr_print.specs.Printed.{order_text}
+use Rattle.clr_args.specs.declared.asked.OrderArgs.{OrderArgs}
 use Rattle.clr_edge.specs.declared.fault.Fault.{Fault}
 use Rattle.clr_edge.specs.declared.fault.Fault.TheVariants.{NoSuch}
 
@@ -32,3 +33,7 @@ order_asked R offset id round =
 abbrev pub order_told : Register → List ℕ → List ℕ → ℤ → Result (List ℕ) Fault
 order_told R clearance round offset =
     ok_or (order_asked R offset (read_id clearance) (read_round round)) NoSuch
+
+-- the same of what `order` was asked for
+abbrev pub order_asked_for : Register → OrderArgs → Result (List ℕ) Fault
+order_asked_for R args = order_told R args.clearance.now args.round.now args.offset.minutes

@@ -11,8 +11,9 @@ use Rattle.clr_rules.specs.RunHeadline.{IsRun, OthersChangeNoReply, OthersTakeNo
 use Rattle.clr_rules.specs.RunHeadline.{OwnStandAlone, with_reply}
 use Rattle.clr_rules.specs.declared.command.Command.{Command}
 use Rattle.clr_rules.specs.declared.reply.Reply.{Reply}
+use Rattle.clr_load.specs.declared.fault.StoreFault.{StoreFault}
 use Rattle.clr_desk.specs.Crash.{LeavesSome}
-use Rattle.clr_desk.specs.Faults.{IsOfCommand}
+use Rattle.clr_desk.specs.Faults.{IsOfKeeper}
 use Rattle.clr_desk.specs.Kept.{Keeps}
 use Rattle.clr_desk.specs.NearRun.{IsNearRun}
 use Rattle.clr_desk.specs.declared.desk_fault.DeskFault.{DeskFault}
@@ -78,21 +79,21 @@ answers (reading.NoCommand fault ∷ lines) told = fault_text fault ∷ answers 
 abbrev pub as_lines : List (List ℕ) → List ℕ
 as_lines texts = flat_map (λ text. text ++ 10 ∷ []) texts
 
--- only the first of the answers are printed, since memory ran out behind them
+-- only the first of the answers are printed, since memory ran out after them
 pub record PrintsSome (texts : List (List ℕ)) (text : List ℕ) (fault : Option Fault) : Type 0 where
   pub count : ℕ
   pub fewer : count < length texts
   pub front : text ≡ as_lines (take count texts)
   pub memory : fault ≡ Some Memory
 
--- the answers are printed, and the fault that ended the commands is told, if one did
+-- the answers are printed, and the fault that ended the commands is reported, if one did
 abbrev pub PrintsAnswers : List (List ℕ) → Option DeskFault → Printed → Type 0
 PrintsAnswers texts ended printed =
     ((string_bytes printed.text ≡ as_lines texts) × (printed.fault ≡ option_map of_desk ended))
     ⊎ PrintsSome texts (string_bytes printed.text) printed.fault
 
 -- TEXTS ANSWER LINES as a run: they are what answers the first of the lines, and the register is
--- the one behind these
+-- the one after these
 pub record AnswerLines (R : Register) (lines texts : List (List ℕ)) (S : Register) : Type 0 where
   pub replied : texts ≡ line_replies R (take (length texts) lines)
   pub register : S ≡ after_lines R (take (length texts) lines)
@@ -101,11 +102,11 @@ pub record AnswerLines (R : Register) (lines texts : List (List ℕ)) (S : Regis
 
 -- THE RUN of an input over the register R: `told` are the replies to its commands, up to a fault,
 -- and S is what these leave. Each line has its answer printed, and what others ask changes no reply
--- and takes nothing away.
-pub record AnswersInput (R S : Register) (input : List ℕ) (told : List Reply) (printed : Printed)
-    : Type 0 where
+-- and takes nothing away. A fault is one that what keeps the changes has, or memory ran out.
+pub record AnswersInput (fails : StoreFault → Type 0) (R S : Register) (input : List ℕ)
+    (told : List Reply) (printed : Printed) : Type 0 where
   pub ended : Option DeskFault
-  pub cause : IfSome ended (λ fault. IsOfCommand fault)
+  pub cause : IfSome ended (IsOfKeeper fails)
   pub ends : IfNone ended (length told ≡ length (asked_commands input))
   pub stops : IfSome ended (λ _. length told < length (asked_commands input))
   pub near : IsNearRun R (answered_commands input told) told S
@@ -117,10 +118,10 @@ pub record AnswersInput (R S : Register) (input : List ℕ) (told : List Reply) 
   pub lines : IsGood R
       → AnswerLines R (asked_lines input) (answers (readings_of (asked_lines input)) told) S
 
--- THE SAME OVER A STORE: what the run keeps of it, and what a crash leaves
-pub record AnswersOver (old new : State) (R S : Register) (input : List ℕ) (printed : Printed)
-    : Type 0 where
+-- THE SAME OVER WHAT KEEPS ITS CHANGES: what is kept of the run, and what a crash leaves
+pub record AnswersOver (fails : StoreFault → Type 0) (old new : State) (R S : Register)
+    (input : List ℕ) (printed : Printed) : Type 0 where
   pub told : List Reply
-  pub run : AnswersInput R S input told printed
+  pub run : AnswersInput fails R S input told printed
   pub keeps : Keeps old R new S
   pub crash : HasCleanDisk new → LeavesSome old new R (asked_commands input) (length told)

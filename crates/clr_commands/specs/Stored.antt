@@ -1,38 +1,21 @@
--- What is printed of registers that databases have, and why nothing is.
-use Rattle.std.specs.Prelude.{◌≡◌, ◌⊎◌, ℕ, IfSome, List, Option, Result, Ok, String}
+-- What `board` and `order` print of registers that databases have, and why nothing is printed.
+use Rattle.std.specs.Prelude.{◌≡◌, ◌⊎◌, ℕ, IfErr, List, Ok, OnOk, Result, String}
 use Rattle.std.specs.declared.alloc.Global.{Global}
-use Rattle.sqlite.specs.Effect.{Database}
 use Rattle.sqlite.specs.Files.{over_files}
 use Rattle.sqlite.specs.Held.{Held, state}
-use Rattle.sqlite.specs.State.{Survives}
+use Rattle.sqlite.specs.State.{HasCleanDisk, Survives}
 use Rattle.sqlite_disk.specs.declared.Disk as disk
-use Rattle.sqlite_store.specs.declared.store.FileStore.{FileStore}
 use Rattle.sqlite_trees.specs.declared.store.Store.{Ghosts}
 use Rattle.clr_rules.specs.Register.{Register}
 use Rattle.clr_print.specs.Printed.{board_text}
 use Rattle.clr_args.specs.declared.asked.BoardArgs.{BoardArgs}
 use Rattle.clr_args.specs.declared.asked.OrderArgs.{OrderArgs}
-use Rattle.clr_commands.specs.Answers.{GivesText}
-use Rattle.clr_commands.specs.Order.{order_told}
-use Rattle.clr_edge.specs.Database.{IsOfLine, IsRefused, IsUnopened}
+use Rattle.clr_edge.specs.Database.{HasRegister, IsOfLine, IsOnlyRead, IsRefused}
+use Rattle.clr_edge.specs.Visit.{Alone, Done, Over}
 use Rattle.clr_edge.specs.declared.fault.Fault.{Fault}
 use Rattle.clr_edge.specs.declared.fault.Fault.TheVariants.{Memory, NoSuch}
-
--- what is printed of a stored register; the database may refuse, or memory run out, in its place
-abbrev pub PrintsStored : Result (List ℕ) Fault → Result (String Global) Fault → Type 0
-PrintsStored answer result = GivesText IsOfLine answer result
-
--- what `order` prints of the register in the database at a path
-abbrev pub OrdersAt : (List ℕ → Option Register) → OrderArgs → Result (String Global) Fault
-    → Type 0
-OrdersAt register_at args result = IfSome (register_at args.database.now) (λ R. PrintsStored
-    (order_told R args.clearance.now args.round.now args.offset.minutes) result)
-
--- what `board` prints of it
-abbrev pub BoardAt : (List ℕ → Option Register) → BoardArgs → Result (String Global) Fault
-    → Type 0
-BoardAt register_at args result = IfSome (register_at args.database.now) (λ R. PrintsStored
-    (Ok (board_text R args.offset.minutes)) result)
+use Rattle.clr_commands.specs.Answers.{GivesText, IsMemory}
+use Rattle.clr_commands.specs.Order.{order_asked_for}
 
 -- why a register has no such order: memory ran out, or it is not there
 abbrev pub IsOfOrder : Fault → Type 0
@@ -45,9 +28,28 @@ pub record IsUnanswered {S : Type 0} (g : Ghosts S) (before after : Held S)
   pub cause : IsOwn fault ⊎ IsRefused g before fault after
   pub survives : Survives (state g before) (state g after) (λ _. ⊥)
 
--- the same of a database at a path, unless it was not opened, as `IsShut` says, or memory ran out
-abbrev pub UnansweredAt : {D : Type 0} → disk.Ghosts D → (Database → Type 0) → Type 0
-    → (Fault → Type 0) → Fault → Type 0
-UnansweredAt {D} g IsAt IsShut IsOwn fault = IsUnopened IsShut fault
-    ⊎ ((before : Held (FileStore D g)) × (after : Held (FileStore D g))
-    × IsAt (state over_files before).now × IsUnanswered over_files before after IsOwn fault)
+-- WHAT IS PRINTED OF A DATABASE while it is open: of the register that it is known to have, unless
+-- the database refuses or memory runs out. It was only read
+pub record PrintsOf {S : Type 0} (g : Ghosts S) (IsOwn : Fault → Type 0)
+    (answer : Register → Result (List ℕ) Fault) (result : Result (String Global) Fault)
+    (before after : Held S) : Type 0 where
+  pub known : (R : Register) → HasRegister g R before → HasCleanDisk (state g after)
+      → GivesText IsOfLine (answer R) result
+  pub read : OnOk result (IsOnlyRead g before after)
+  pub refused : IfErr result (IsUnanswered g before after IsOwn)
+
+-- what is done over a database while it is open, with no step beside it, however it is closed
+abbrev pub WhileOpen : {M T H : Type 0} → (Result T Fault → H → H → Type 0) → Result T Fault → M → H
+    → H → Done → M → Type 0
+WhileOpen Does = Alone (λ result before after closed. Does result before after)
+
+-- what `board` does over a database that is opened for it
+abbrev pub PrintsBoard : {M D : Type 0} {g : disk.Ghosts D} → BoardArgs → Result (String Global) Fault
+    → M → Over g → Over g → Done → M → Type 0
+PrintsBoard args =
+    WhileOpen (PrintsOf over_files IsMemory (λ Q. Ok (board_text Q args.offset.minutes)))
+
+-- what `order` does
+abbrev pub PrintsOrder : {M D : Type 0} {g : disk.Ghosts D} → OrderArgs → Result (String Global) Fault
+    → M → Over g → Over g → Done → M → Type 0
+PrintsOrder args = WhileOpen (PrintsOf over_files IsOfOrder (λ Q. order_asked_for Q args))

@@ -1,16 +1,14 @@
 //! The subcommand `board`: what clearances and switch orders are not closed.
-ghost use Rattle.std.specs.Prelude.{◌≡◌, ◌⊎◌, IfErr, IfOk, Ok, OnOk, string_bytes};
-ghost use Rattle.sqlite.specs.Held.{state};
-ghost use Rattle.sqlite.specs.State.{Survives};
+ghost use Rattle.std.specs.Prelude.{◌≡◌, IfErr, IfOk, Ok, string_bytes};
 ghost use Rattle.clr_print.specs.Printed.{board_text};
+ghost use Rattle.clr_commands.specs.Answers.{IsMemory};
 ghost use Rattle.clr_commands.specs.Faults.{IsOfSubcommand};
-ghost use Rattle.clr_commands.specs.Stored.{BoardAt, PrintsStored, UnansweredAt};
-ghost use Rattle.clr_edge.specs.Database.{HasRegister, IsOnlyRead, IsRefused, ReadsAt};
-ghost use Rattle.clr_rules.specs.Register.{Register};
+ghost use Rattle.clr_commands.specs.Stored.{PrintsBoard, PrintsOf};
+ghost use Rattle.clr_edge.specs.Visit.{Comes};
 
 use clr_args::asked::{BoardArgs, Offset};
 use clr_book::Book;
-use clr_edge::database::{Databases, close_read, desk_over};
+use clr_edge::database::{Databases, close, desk_over};
 use clr_edge::fault::Fault;
 use clr_print::print_board;
 use clr_rules::{Hold, PointState, Record, StepRow};
@@ -18,19 +16,17 @@ use clr_shelf::Shelf;
 use sqlite::{Alter, Connection};
 use std::alloc::Global;
 
-/// What `board DB [--offset MINUTES]` prints.
-pub fn board<R: Databases + AllocGlobal>(rt: &R, args: &BoardArgs<'_>) -> Result<String, Fault>
-    ensures told { BoardAt (R.register_at rt.now) args.now result }
-    ensures read { OnOk result (ReadsAt R.Medium.Disk (R.is_at rt.now args.now.database.now)) }
-    ensures refused { IfErr result (UnansweredAt R.Medium.Disk
-        (R.is_at rt.now args.now.database.now) (R.is_shut rt.now args.now.database.now)
-        (λ fault. fault ≡ Fault.Memory)) }
+/// What `board DB [--offset MINUTES]` prints. It is also printed where the database cannot be closed,
+/// as on a full disk.
+pub fn board<R: Databases>(alloc: Global, rt: &mut R, args: &BoardArgs<'_>) -> Result<String, Fault>
+    ensures visit { Comes R.Medium.Disk R.opens R.shuts R.ends args.now.database.now
+        (PrintsBoard args.now) result rt.old rt.new }
     ensures faults { IfErr result IsOfSubcommand }
 {
     let connection = rt.stored(args.database)?;
-    let (told, connection) = board_over(rt.alloc(), connection, args.offset);
-    close_read(connection);
-    told
+    let (printed, connection) = board_over(alloc, connection, args.offset);
+    let _closed = close(rt, connection);
+    printed
 }
 
 /// The printed board of the register that a database has.
@@ -39,18 +35,14 @@ fn board_over<S: Alter + Drop>(
     connection: Connection<S>,
     offset: Offset,
 ) -> (Result<String, Fault>, Connection<S>)
-    ensures told { (R : Register) → HasRegister S.Store R connection
-        → PrintsStored (Ok (board_text R offset.minutes)) result.0 }
-    ensures read { OnOk result.0 (IsOnlyRead S.Store connection result.1) }
-    ensures survives { Survives (state S.Store connection) (state S.Store result.1) (λ _. ⊥) }
-    ensures refused { IfErr result.0 (λ fault. (fault ≡ Fault.Memory)
-        ⊎ IsRefused S.Store connection fault result.1) }
+    ensures printed { PrintsOf S.Store IsMemory (λ Q. Ok (board_text Q offset.minutes)) result.0
+        connection result.1 }
     ensures faults { IfErr result.0 IsOfSubcommand }
 {
     match desk_over(alloc, connection) {
         Ok(desk) => {
-            let told = board_of(alloc, desk.book(), offset);
-            (told, desk.end().end())
+            let printed = board_of(alloc, desk.book(), offset);
+            (printed, desk.end().end())
         }
         Err((fault, connection)) => (Err(fault), connection),
     }

@@ -7,6 +7,7 @@ ghost use Rattle.clr_commands.specs.Fence.{FencesAt, FencesFiles, FencesRows, fe
 ghost use Rattle.clr_commands.specs.Fence.{point_named, points_named, section_named};
 ghost use Rattle.clr_edge.specs.Files.{HasCause, WaitsFor};
 ghost use Rattle.clr_commands.specs.Lines.{line_of, lines_of};
+ghost use Rattle.clr_commands.specs.Paths.{at_paths};
 
 use clr_args::asked::FenceArgs;
 use clr_edge::fault::{Fault, ImportFile};
@@ -21,7 +22,8 @@ pub fn fence<'a, O: Opens<'a>>(
     paths: &O,
     args: &FenceArgs<'a>,
 ) -> Result<String, Fault>
-    ensures answer { FencesAt (O.bytes_at paths.now) args.now result }
+    ensures answer { FencesAt
+        (at_paths O.File.remaining O.File.failure_count (O.bytes_at paths.now)) args.now result }
     ensures faults { IfErr result IsOfSubcommand }
 {
     let mut sections = paths.at(args.sections);
@@ -121,7 +123,7 @@ fn point_named(network: &Network, word: &str) -> Result<Name, Fault>
     }
 }
 
-/// The switching points that words name. The first word from the left that names none is told.
+/// The switching points that words name. The first word from the left that names none is reported.
 fn points_named(alloc: Global, network: &Network, words: &[&str]) -> Result<Vec<Name>, Fault>
     ensures answer { Gives IsMemory (λ names. names.items)
         (points_named network.now (map (λ word. word.now) words.now)) result }

@@ -4,6 +4,7 @@ ghost use Rattle.clr_csv.specs.Points.{points_of};
 ghost use Rattle.clr_csv.specs.Sections.{sections_of};
 ghost use Rattle.clr_edge.specs.Files.{HasCause, WaitsFor};
 ghost use Rattle.clr_commands.specs.Import.{AreRead, AreReadAt, IsOfAnyFile, as_lists};
+ghost use Rattle.clr_commands.specs.Paths.{at_paths};
 
 use clr_args::asked::Files;
 use clr_edge::fault::{Fault, ImportFile};
@@ -23,7 +24,9 @@ pub struct Rows {
 
 /// The rows of the files at three paths.
 pub fn rows_at<'a, O: Opens<'a>>(alloc: Global, paths: &O, files: &Files<'a>) -> Result<Rows, Fault>
-    ensures rows { AreReadAt (O.bytes_at paths.now) files.now (as_lists result) }
+    ensures rows { AreReadAt
+        (at_paths O.File.remaining O.File.failure_count (O.bytes_at paths.now))
+        files.now (as_lists result) }
     ensures fault { IfErr result IsOfAnyFile }
 {
     let mut sections = paths.at(files.sections);

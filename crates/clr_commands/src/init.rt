@@ -1,14 +1,16 @@
 //! The subcommand `init`: the check of the files of a network and its staff.
-ghost use Rattle.std.specs.Prelude.{◌≡◌, ◌⊎◌, Err, IfErr, IfOk, Ok, OnOk, string_bytes};
+ghost use Rattle.std.specs.Prelude.{◌≡◌, IfErr, IfOk, string_bytes};
+ghost use Rattle.sqlite.specs.Files.{over_files};
 ghost use Rattle.clr_commands.specs.Answers.{GivesText, IsMemory};
 ghost use Rattle.clr_commands.specs.Faults.{IsOfSubcommand};
 ghost use Rattle.clr_commands.specs.Import.{lists_of};
-ghost use Rattle.clr_commands.specs.Init.{InitsAt, MakesOpening, counts_line, counts_of};
-ghost use Rattle.clr_edge.specs.Database.{IsMadeAt, IsOfLine};
+ghost use Rattle.clr_commands.specs.Init.{InitsAt, Stores, counts_line, counts_of};
+ghost use Rattle.clr_commands.specs.Paths.{at_paths};
+ghost use Rattle.clr_edge.specs.Visit.{Alone, Comes, MakesRegister};
 
 use crate::import::{Rows, rows_at};
 use clr_args::asked::InitArgs;
-use clr_edge::database::{Databases, store_register};
+use clr_edge::database::{Makes, store_register};
 use clr_edge::fault::Fault;
 use clr_edge::paths::Opens;
 use clr_net::Network;
@@ -16,35 +18,35 @@ use clr_staff::Staff;
 use std::alloc::{AllocError, Global};
 
 /// What `init SECTIONS POINTS STAFF [--db FILE]` prints. The database is opened after the files.
-pub fn init<'a, R: Databases + AllocGlobal, O: Opens<'a>>(
-    rt: &R,
+pub fn init<'a, R: Makes, O: Opens<'a>>(
+    alloc: Global,
+    rt: &mut R,
     paths: &O,
     args: &InitArgs<'a>,
 ) -> Result<String, Fault>
-    ensures answer { InitsAt (O.bytes_at paths.now)
-        (λ path. IsMadeAt R.Medium.Disk (R.is_at rt.now path)) args.now result }
+    ensures visit { InitsAt
+        (at_paths O.File.remaining O.File.failure_count (O.bytes_at paths.now))
+        (λ path register. Comes R.Medium.Disk R.makes R.shuts R.ends path
+        (Alone (MakesRegister over_files register))) args.now result rt.old rt.new }
     ensures faults { IfErr result IsOfSubcommand }
 {
-    let rows = rows_at(rt.alloc(), paths, &args.files)?;
+    let rows = rows_at(alloc, paths, &args.files)?;
     match args.database {
-        Some(path) => register_of_rows(rt.alloc(), rows, rt, path),
-        None => counts_of_rows(rt.alloc(), rows),
+        Some(path) => register_of_rows(alloc, rt, rows, path),
+        None => counts_of_rows(alloc, rows),
     }
 }
 
 /// The same line as by `counts_of_rows`, once the register of the rows is made in the database at a
 /// path.
-pub fn register_of_rows<D: Databases>(
+pub fn register_of_rows<R: Makes>(
     alloc: Global,
+    rt: &mut R,
     rows: Rows,
-    databases: &D,
     path: &str,
 ) -> Result<String, Fault>
-    ensures line { IfOk result (λ text. counts_of (lists_of rows) ≡ Ok (string_bytes text)) }
-    ensures made { OnOk result (MakesOpening
-        (IsMadeAt D.Medium.Disk (D.is_at databases.now path.now)) (lists_of rows)) }
-    ensures fault { IfErr result (λ fault. IsOfLine fault
-        ⊎ (counts_of (lists_of rows) ≡ Err fault)) }
+    ensures visit { Stores (λ register. Comes R.Medium.Disk R.makes R.shuts R.ends path.now
+        (Alone (MakesRegister over_files register))) (lists_of rows) result rt.old rt.new }
     ensures faults { IfErr result IsOfSubcommand }
 {
     let (section_count, point_count, staff_count) = (
@@ -55,7 +57,7 @@ pub fn register_of_rows<D: Databases>(
     let network = Network::build(alloc, rows.sections, rows.points)?;
     let staff = Staff::build(alloc, rows.staff)?;
     let line = counts_text(alloc, section_count, point_count, staff_count)?;
-    store_register(alloc, databases, path, network, staff)?;
+    store_register(alloc, rt, path, network, staff)?;
     Ok(line)
 }
 

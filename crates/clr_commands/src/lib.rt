@@ -11,3 +11,4 @@ pub mod replies;
 pub mod run;
 pub mod serve;
 pub mod serve_line;
+pub mod wayback;

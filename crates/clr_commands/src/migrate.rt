@@ -1,21 +1,21 @@
 //! The subcommand `migrate`: the tables of a register brought to the version that is read.
-ghost use Rattle.std.specs.Prelude.{IfErr, OnOk};
+ghost use Rattle.std.specs.Prelude.{IfErr};
+ghost use Rattle.sqlite.specs.Files.{over_files};
 ghost use Rattle.clr_commands.specs.Faults.{IsOfSubcommand};
-ghost use Rattle.clr_commands.specs.Migrate.{MigratesAt};
-ghost use Rattle.clr_edge.specs.Database.{IsMovedAt, IsUnmovedAt};
+ghost use Rattle.clr_commands.specs.Migrate.{Migrates};
+ghost use Rattle.clr_edge.specs.Visit.{Alone, Comes, MovesRegister};
 
 use clr_edge::database::{Databases, move_register};
 use clr_edge::fault::Fault;
+use std::alloc::Global;
 
 /// What `migrate DB` prints, once the tables are of the version that is read.
-pub fn migrate<R: Databases + AllocGlobal>(rt: &R, path: &str) -> Result<String, Fault>
-    ensures told { MigratesAt (R.register_at rt.now) path.now result }
-    ensures moved { OnOk result (IsMovedAt R.Medium.Disk (R.is_at rt.now path.now)) }
-    ensures unmoved { IfErr result (IsUnmovedAt R.Medium.Disk
-        (R.is_at rt.now path.now) (R.is_shut rt.now path.now)) }
+pub fn migrate<R: Databases>(alloc: Global, rt: &mut R, path: &str) -> Result<String, Fault>
+    ensures visit { Migrates (Comes R.Medium.Disk R.opens R.shuts R.ends path.now
+        (Alone (MovesRegister over_files))) result rt.old rt.new }
     ensures faults { IfErr result IsOfSubcommand }
 {
-    let line = String::from_str(rt.alloc(), "version 2\n")?;
+    let line = String::from_str(alloc, "version 2\n")?;
     move_register(rt, path)?;
     Ok(line)
 }

@@ -1,17 +1,14 @@
 //! The subcommand `order`: one round of a clearance or a switch order, as it is printed.
-ghost use Rattle.std.specs.Prelude.{◌≡◌, ◌⊎◌, IfErr, IfOk, OnOk, option_map, string_bytes};
+ghost use Rattle.std.specs.Prelude.{◌≡◌, IfErr, option_map};
 ghost use Rattle.clr_commands.specs.Answers.{GivesText, IsMemory};
-ghost use Rattle.sqlite.specs.Held.{state};
-ghost use Rattle.sqlite.specs.State.{Survives};
 ghost use Rattle.clr_commands.specs.Faults.{IsOfSubcommand};
-ghost use Rattle.clr_commands.specs.Order.{order_told, read_round};
-ghost use Rattle.clr_commands.specs.Stored.{IsOfOrder, OrdersAt, PrintsStored, UnansweredAt};
-ghost use Rattle.clr_edge.specs.Database.{HasRegister, IsOnlyRead, IsRefused, ReadsAt};
-ghost use Rattle.clr_rules.specs.Register.{Register};
+ghost use Rattle.clr_commands.specs.Order.{order_asked_for, order_told, read_round};
+ghost use Rattle.clr_commands.specs.Stored.{IsOfOrder, PrintsOf, PrintsOrder};
+ghost use Rattle.clr_edge.specs.Visit.{Comes};
 
 use clr_args::asked::{Offset, OrderArgs};
 use clr_book::Book;
-use clr_edge::database::{Databases, close_read, desk_over};
+use clr_edge::database::{Databases, close, desk_over};
 use clr_edge::fault::Fault;
 use clr_print::print_order;
 use clr_rules::{ClearanceId, Hold, PointState, Record, StepRow};
@@ -19,19 +16,17 @@ use clr_shelf::Shelf;
 use sqlite::{Alter, Connection};
 use std::alloc::Global;
 
-/// What `order DB CLEARANCE ROUND [--offset MINUTES]` prints.
-pub fn order<R: Databases + AllocGlobal>(rt: &R, args: &OrderArgs<'_>) -> Result<String, Fault>
-    ensures told { OrdersAt (R.register_at rt.now) args.now result }
-    ensures read { OnOk result (ReadsAt R.Medium.Disk (R.is_at rt.now args.now.database.now)) }
-    ensures refused { IfErr result (UnansweredAt R.Medium.Disk
-        (R.is_at rt.now args.now.database.now) (R.is_shut rt.now args.now.database.now)
-        IsOfOrder) }
+/// What `order DB CLEARANCE ROUND [--offset MINUTES]` prints. It is also printed where
+/// the database cannot be closed, as on a full disk.
+pub fn order<R: Databases>(alloc: Global, rt: &mut R, args: &OrderArgs<'_>) -> Result<String, Fault>
+    ensures visit { Comes R.Medium.Disk R.opens R.shuts R.ends args.now.database.now
+        (PrintsOrder args.now) result rt.old rt.new }
     ensures faults { IfErr result IsOfSubcommand }
 {
     let connection = rt.stored(args.database)?;
-    let (told, connection) = order_over(rt.alloc(), connection, args);
-    close_read(connection);
-    told
+    let (printed, connection) = order_over(alloc, connection, args);
+    let _closed = close(rt, connection);
+    printed
 }
 
 /// The printed order of the register that a database has.
@@ -40,19 +35,14 @@ fn order_over<S: Alter + Drop>(
     connection: Connection<S>,
     args: &OrderArgs<'_>,
 ) -> (Result<String, Fault>, Connection<S>)
-    ensures told { (R : Register) → HasRegister S.Store R connection
-        → PrintsStored (order_told R args.now.clearance.now
-        args.now.round.now args.now.offset.minutes) result.0 }
-    ensures read { OnOk result.0 (IsOnlyRead S.Store connection result.1) }
-    ensures survives { Survives (state S.Store connection) (state S.Store result.1) (λ _. ⊥) }
-    ensures refused { IfErr result.0 (λ fault. IsOfOrder fault
-        ⊎ IsRefused S.Store connection fault result.1) }
+    ensures printed { PrintsOf S.Store IsOfOrder (λ Q. order_asked_for Q args.now) result.0
+        connection result.1 }
     ensures faults { IfErr result.0 IsOfSubcommand }
 {
     match desk_over(alloc, connection) {
         Ok(desk) => {
-            let told = order_of(alloc, desk.book(), args.clearance, args.round, args.offset);
-            (told, desk.end().end())
+            let printed = order_of(alloc, desk.book(), args.clearance, args.round, args.offset);
+            (printed, desk.end().end())
         }
         Err((fault, connection)) => (Err(fault), connection),
     }

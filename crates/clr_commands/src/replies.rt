@@ -47,7 +47,7 @@ pub(crate) fn read_lines(alloc: Global, input: &[u8]) -> Result<Asked, AllocErro
     read_all(alloc, lines.as_slice())
 }
 
-/// The lines of an input, what stands behind the last line feed among them.
+/// The lines of an input, what follows the last line feed among them.
 fn lines_of(alloc: Global, input: &[u8]) -> Result<Vec<&[u8]>, AllocError>
     ensures { IfOk result (λ lines. map (λ line. line.now) lines.items ≡ input_lines input.now) }
 {
@@ -110,7 +110,7 @@ pub(crate) fn print(alloc: Global, readings: &[Reading], run: Run) -> Printed
     }
 }
 
-/// The fault of a desk, as the program tells it.
+/// The fault of a desk, as the program reports it.
 fn fault_told(fault: Option<DeskFault>) -> Option<Fault>
     ensures { result ≡ option_map of_desk fault }
 {

@@ -1,73 +1,73 @@
 //! The subcommand `run`: the commands of standard input, run as one list over a register in memory
 //! or over a stored one.
-ghost use Rattle.std.specs.Prelude.{◌≡◌, ◌≢◌, Err, IfErr, IfOk, IsErrOf, Ok, OnErr};
-ghost use Rattle.std.specs.Prelude.{OnOk, option_map};
-ghost use Rattle.sqlite.specs.Held.{state};
+ghost use Rattle.std.specs.Prelude.{◌≡◌, ◌≢◌, Err, IfErr, IfOk, IsErrOf, Ok, OnErr, OnOk};
+ghost use Rattle.sqlite.specs.Files.{over_files};
 ghost use Rattle.clr_stream.specs.Failures.{Rose};
-ghost use Rattle.clr_rules.specs.Register.{Register};
 ghost use Rattle.clr_rules.specs.Run.{IsReached};
 ghost use Rattle.clr_commands.specs.Faults.{FailsAsSubcommand, IsOfSubcommand};
 ghost use Rattle.clr_commands.specs.Import.{lists_of};
-ghost use Rattle.clr_commands.specs.Run.{AnswersClosed, IsInput, IsOfInput, IsOpeningOf, ReadsInput};
-ghost use Rattle.clr_commands.specs.Run.{RunsAsked, RunsAt, RunsFrom, RunsOnDesk, RunsStored};
-ghost use Rattle.clr_commands.specs.Run.{RunsStoredAt, rows_fault, told_in_memory};
-ghost use Rattle.clr_edge.specs.Database.{HasRegister, IsOfLine};
+ghost use Rattle.clr_commands.specs.Paths.{at_paths};
+ghost use Rattle.clr_commands.specs.Run.{IsInput, IsOfInput, IsOpeningOf, ReadsInput, RunsAsked};
+ghost use Rattle.clr_commands.specs.Run.{RunsAt, RunsFrom, RunsOnDesk, RunsStored};
+ghost use Rattle.clr_commands.specs.Run.{ended_by, printed_after, rows_fault};
+ghost use Rattle.clr_edge.specs.Visit.{Alone, Comes};
 
 use crate::import::{Rows, rows_at};
 use crate::replies::{Printed, print, read_lines};
 use clr_args::asked::{Files, RunArgs};
-use clr_desk::Desk;
-use clr_disk::MemoryFile;
-use clr_edge::database::{Databases, close, desk_over, in_memory};
+use clr_desk::{Commit, Desk, Unkept};
+use clr_edge::database::{Databases, close, desk_over};
 use clr_edge::fault::{Fault, InputFault};
 use clr_edge::paths::Opens;
 use clr_net::Network;
 use clr_staff::Staff;
-use clr_store::StoreFault;
 use clr_stream::{CountedRead, read_whole};
-use sqlite::{Alter, Connection, FileStore};
+use sqlite::{Alter, Connection};
 use std::alloc::Global;
 
 /// The most bytes of standard input.
 pub const MAX_INPUT_BYTES: usize = 16_777_216;
 
 /// What `run [--db FILE] [FILES]...` prints. The input is read last.
-pub fn run<'a, R: Databases + AllocGlobal, O: Opens<'a>, I: CountedRead>(
-    rt: &R,
+pub fn run<'a, R: Databases, O: Opens<'a>, I: CountedRead>(
+    alloc: Global,
+    rt: &mut R,
     paths: &O,
     args: &RunArgs<'a>,
     input: &mut I,
 ) -> Result<Printed, Fault>
-    ensures answer { RunsAsked R.Medium.Disk (O.bytes_at paths.now) (R.register_at rt.now)
-        (R.is_at rt.now) (R.is_shut rt.now) args.now (I.remaining input.old) result }
+    ensures visit { RunsAsked
+        (at_paths O.File.remaining O.File.failure_count (O.bytes_at paths.now))
+        (λ path. Comes R.Medium.Disk R.opens R.shuts R.ends path
+        (Alone (RunsStored over_files (I.remaining input.old)))) args.now
+        (I.remaining input.old) result rt.old rt.new }
     ensures input { ReadsInput (I.remaining input.old) (I.failure_count input.old)
         (I.failure_count input.new) input.old input.new result }
     ensures faults { FailsAsSubcommand result }
 {
     match args {
-        RunArgs::Files(files) => run_of_files(rt.alloc(), paths, files, input),
-        RunArgs::Database(path) => run_of_database(rt.alloc(), rt, *path, input),
+        RunArgs::Files(files) => run_of_files(alloc, paths, files, input),
+        RunArgs::Database(path) => run_of_database(alloc, rt, *path, input),
     }
 }
 
 /// The replies to the commands of the input, over the register that the database at a path has. The
 /// register is opened before the input is read.
-pub fn run_of_database<D: Databases, I: CountedRead>(
+pub fn run_of_database<R: Databases, I: CountedRead>(
     alloc: Global,
-    databases: &D,
+    rt: &mut R,
     path: &str,
     input: &mut I,
 ) -> Result<Printed, Fault>
-    ensures answer { RunsStoredAt D.Medium.Disk (D.register_at databases.now path.now)
-        (D.is_at databases.now path.now) (D.is_shut databases.now path.now)
-        (I.remaining input.old) result }
+    ensures visit { Comes R.Medium.Disk R.opens R.shuts R.ends path.now
+        (Alone (RunsStored over_files (I.remaining input.old))) result rt.old rt.new }
     ensures input { ReadsInput (I.remaining input.old) (I.failure_count input.old)
         (I.failure_count input.new) input.old input.new result }
     ensures faults { FailsAsSubcommand result }
 {
-    let connection = databases.stored(path)?;
+    let connection = rt.stored(path)?;
     let (printed, connection) = run_connected(alloc, connection, input);
-    let closed = close(connection);
+    let closed = close(rt, connection);
     printed_after(printed, closed)
 }
 
@@ -76,15 +76,25 @@ fn printed_after(
     printed: Result<Printed, Fault>,
     closed: Result<(), Fault>,
 ) -> Result<Printed, Fault>
-    requires { IfErr closed IsOfLine }
-    ensures { AnswersClosed printed closed result }
+    ensures { result ≡ printed_after printed closed }
 {
-    match (printed, closed) {
-        (Ok(Printed { text, fault: None }), Err(fault)) => Ok(Printed {
+    match printed {
+        Ok(Printed { text, fault }) => Ok(Printed {
             text,
-            fault: Some(fault),
+            fault: ended_by(fault, closed),
         }),
-        (printed, _) => printed,
+        Err(fault) => Err(fault),
+    }
+}
+
+/// The fault that ended a run, or that of closing its database.
+fn ended_by(fault: Option<Fault>, closed: Result<(), Fault>) -> Option<Fault>
+    ensures { result ≡ ended_by fault closed }
+{
+    match (fault, closed) {
+        (Some(fault), _) => Some(fault),
+        (None, Err(fault)) => Some(fault),
+        (None, Ok(())) => None,
     }
 }
 
@@ -94,9 +104,7 @@ fn run_connected<S: Alter + Drop, I: CountedRead>(
     connection: Connection<S>,
     input: &mut I,
 ) -> (Result<Printed, Fault>, Connection<S>)
-    ensures answer { (R : Register) → HasRegister S.Store R connection
-        → RunsStored R (I.remaining input.old) result.0 }
-    ensures left { RunsFrom S.Store connection result.1 (I.remaining input.old) result.0 }
+    ensures runs { RunsFrom S.Store (I.remaining input.old) result.0 connection result.1 }
     ensures input { ReadsInput (I.remaining input.old) (I.failure_count input.old)
         (I.failure_count input.new) input.old input.new result.0 }
 {
@@ -115,12 +123,12 @@ fn run_connected<S: Alter + Drop, I: CountedRead>(
 /// fault of the desk, or where memory runs out.
 ///
 /// A fault is of the input, or memory ran out before the first command. Then the desk is as before.
-pub fn run_over<S: Alter + Drop, I: CountedRead>(
+pub fn run_over<K: Commit, I: CountedRead>(
     alloc: Global,
-    desk: &mut Desk<S>,
+    desk: &mut Desk<K>,
     input: &mut I,
 ) -> Result<Printed, Fault>
-    ensures answer { RunsOnDesk (state S.Store desk.old.store) (state S.Store desk.new.store)
+    ensures answer { RunsOnDesk K.fails (K.kept desk.old.store) (K.kept desk.new.store)
         desk.old.book.register desk.new.book.register (I.remaining input.old) result }
     ensures none { OnErr result (desk.new ≡ desk.old) }
     ensures cause { IsErrOf result (Fault.Input InputFault.ReadFailed)
@@ -132,42 +140,29 @@ pub fn run_over<S: Alter + Drop, I: CountedRead>(
     Ok(print(alloc, asked.readings.as_slice(), run))
 }
 
-/// The replies to the commands of the input, over the register that the files at three paths begin.
-/// The input is read after the files.
+/// The replies to the commands of the input, over the register that the files at three paths begin,
+/// whose changes are kept nowhere. The input is read after the files.
 fn run_of_files<'a, O: Opens<'a>, I: CountedRead>(
     alloc: Global,
     paths: &O,
     files: &Files<'a>,
     input: &mut I,
 ) -> Result<Printed, Fault>
-    ensures answer { RunsAt (O.bytes_at paths.now) files.now (I.remaining input.old) result }
+    ensures answer { RunsAt
+        (at_paths O.File.remaining O.File.failure_count (O.bytes_at paths.now))
+        files.now (I.remaining input.old) result }
     ensures input { ReadsInput (I.remaining input.old) (I.failure_count input.old)
         (I.failure_count input.new) input.old input.new result }
     ensures faults { FailsAsSubcommand result }
 {
     let rows = rows_at(alloc, paths, files)?;
-    let mut desk = desk_in_memory(alloc, rows)?;
-    let printed = run_over(alloc, &mut desk, input)?;
-    Ok(told_in_memory(printed))
+    let mut desk = desk_of_rows(alloc, rows)?;
+    run_over(alloc, &mut desk, input)
 }
 
-/// What is printed of a run over a database in memory, of which a failure is that memory ran out.
-fn told_in_memory(printed: Printed) -> Printed
-    ensures text { result.text ≡ printed.text }
-    ensures fault { result.fault ≡ option_map told_in_memory printed.fault }
-{
-    match printed.fault {
-        Some(Fault::Store(StoreFault::Sql)) => Printed {
-            text: printed.text,
-            fault: Some(Fault::Memory),
-        },
-        _ => printed,
-    }
-}
-
-/// A desk over a database in memory, with the register of these rows before the first command, if
-/// they are a network and a staff.
-pub fn desk_in_memory(alloc: Global, rows: Rows) -> Result<Desk<FileStore<MemoryFile>>, Fault>
+/// A desk that keeps its changes nowhere, with the register of these rows before the first command,
+/// if they are a network and a staff.
+pub fn desk_of_rows(alloc: Global, rows: Rows) -> Result<Desk<Unkept>, Fault>
     ensures opens { IfOk result (λ desk. IsOpeningOf (lists_of rows) desk.book.register) }
     ensures reached { IfOk result (λ desk. IsReached desk.book.register) }
     ensures faultless { OnOk result (rows_fault (lists_of rows) ≡ Ok tt) }
@@ -177,11 +172,8 @@ pub fn desk_in_memory(alloc: Global, rows: Rows) -> Result<Desk<FileStore<Memory
 {
     let network = Network::build(alloc, rows.sections, rows.points)?;
     let staff = Staff::build(alloc, rows.staff)?;
-    let connection = in_memory(alloc)?;
-    match Desk::create(alloc, connection, network, staff) {
-        Ok(desk) => Ok(desk),
-        Err(_) => Err(Fault::Memory),
-    }
+    let desk = Desk::unkept(alloc, network, staff)?;
+    Ok(desk)
 }
 
 /// The bytes of the input.

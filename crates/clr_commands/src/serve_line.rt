@@ -1,6 +1,7 @@
-//! The lines that a server tells. They are made whole, in place, before any of it is written.
+//! The lines that a server writes. They are made whole, in place, before any of it is written.
 ghost use Rattle.std.specs.Prelude.{◌≡◌, ◌≤◌, length};
-ghost use Rattle.clr_commands.specs.Serve.{connection_line, http_fault_name, serving_line};
+ghost use Rattle.clr_commands.specs.Connections.{connection_line, http_fault_name};
+ghost use Rattle.clr_commands.specs.Serve.{serving_line};
 
 use clr_edge::line::{Line, push_number};
 use clr_http::HttpFault;
@@ -15,7 +16,7 @@ pub fn serving_line(port: u16) -> Line
     line
 }
 
-/// The line of a connection that failed. It takes no memory, since it may tell that memory ran out.
+/// The line of a connection that failed. It takes no memory, since it may report that memory ran out.
 pub fn connection_line(number: usize, fault: HttpFault) -> Line
     ensures { result.bytes ≡ connection_line number fault }
 {

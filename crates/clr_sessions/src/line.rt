@@ -5,7 +5,7 @@
 pub enum Line<'t> {
     /// A title, a remark, or nothing.
     Remark,
-    /// The network that the session stands on: three files of this name.
+    /// The network of the session: three files of this name.
     Network(&'t str),
     /// The replies to the own commands are those of this earlier session.
     SameAs(&'t str),
@@ -35,7 +35,7 @@ pub enum Line<'t> {
 #[derive(Clone, Copy)]
 pub struct Told<'t> {
     pub stream: Stream,
-    /// Whether this is a whole line of the stream, and not a part of what stands there.
+    /// Whether this is a whole line of the stream, and not a part of what is there.
     pub is_line: bool,
     pub text: &'t str,
 }

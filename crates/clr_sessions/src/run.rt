@@ -66,7 +66,7 @@ pub fn run_line(rt: &HostRuntime, line: &str, input: &str) -> anyhow::Result<Run
     let mut output = Counted::new(Vec::new(rt.alloc()));
     let mut errors = Counted::new(Vec::new(rt.alloc()));
     let status = command_line_over(
-        &Machine::new(rt, AnyFiles),
+        &mut Machine::new(rt, AnyFiles),
         &Paths::new(rt),
         words.as_slice(),
         &mut Counted::new(input.as_bytes()),
@@ -83,7 +83,7 @@ pub fn run_line(rt: &HostRuntime, line: &str, input: &str) -> anyhow::Result<Run
 }
 
 /// The first place where a stream has something else than what must come there; `end` is the line
-/// of the session file behind all that must come.
+/// of the session file after all that must come.
 pub fn compare_stream(
     alloc: Global,
     came: &str,
@@ -99,7 +99,7 @@ pub fn compare_stream(
         }
         let text = it.told.text;
         if it.told.is_line {
-            let next = line_behind(came, &whole);
+            let next = line_after(came, &whole);
             if next != text {
                 return Ok(Some(differs(alloc, it.line, text, next)?));
             }
@@ -115,12 +115,12 @@ pub fn compare_stream(
     if is_part || whole.as_str() == came {
         return Ok(None);
     }
-    let more = line_behind(came, &whole);
+    let more = line_after(came, &whole);
     Ok(Some(differs(alloc, end, "no more", more)?))
 }
 
-/// The line of a text behind its beginning.
-fn line_behind<'t>(text: &'t str, beginning: &str) -> &'t str {
+/// The line of a text after its beginning.
+fn line_after<'t>(text: &'t str, beginning: &str) -> &'t str {
     match text.strip_prefix(beginning) {
         Some(rest) => rest.lines().next().unwrap_or("nothing"),
         None => "other line ends",

@@ -12,6 +12,7 @@ use crate::terminal::Terminal;
 use clr_command_line::command_line::command_line;
 use clr_disk::{Behind, Watch};
 use clr_edge::machine::{AnyFiles, Machine};
+use clr_edge::paths::Paths;
 use clr_stream::Counted;
 use std::process::ExitCode;
 use std::{env, io};
@@ -25,12 +26,20 @@ fn program(rt: &HostRuntime) -> ExitCode
     ensures { exit_status result ≤ 2 }
 {
     let watch = Watch::new(Terminal::new(rt));
-    let machine = Machine::watched(rt, AnyFiles, &watch);
+    let mut machine = Machine::watched(rt, AnyFiles, &watch);
+    let paths = Paths::new(rt);
     let words = words_of(rt);
     let mut input = Behind::new(Counted::new(StandardInput::new(rt.stdin())), &watch);
     let mut output = Behind::new(Counted::new(rt.stdout()), &watch);
     let mut errors = Behind::new(Counted::new(rt.stderr()), &watch);
-    let status = command_line(&machine, &words, &mut input, &mut output, &mut errors);
+    let status = command_line(
+        &mut machine,
+        &paths,
+        &words,
+        &mut input,
+        &mut output,
+        &mut errors,
+    );
     exit_code(status)
 }
 

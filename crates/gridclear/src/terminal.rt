@@ -1,4 +1,4 @@
-//! The terminal that an opening is told at.
+//! The terminal at which an opening is shown.
 use clr_disk::Console;
 use std::io;
 use std::io::{IsTerminal, Write};

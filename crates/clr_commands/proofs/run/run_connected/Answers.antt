@@ -1,30 +1,27 @@
 use Rattle.std.proofs.Common.{◌≡◌, inl, inr, refl}
+use Rattle.sqlite.specs.Held.{Held}
 use Rattle.clr_desk.specs.declared.desk.Desk.{Desk}
-use Rattle.clr_commands.proofs.RunAnswers.{ReadsInput-desk, RunsFrom-run, RunsStored-run, of_store-no_input}
+use Rattle.clr_commands.proofs.RunAnswers.{ReadsInput-desk, RunsFrom-run, of_store-no_input}
 use Rattle.clr_commands.proofs.run.run_connected.Goals as goal
 
 -- the register that the database has is answered over
-pub returns-in-Ok-clause-answer : goal.returns-in-Ok-clause-answer
-returns-in-Ok-clause-answer g c R known =
-    RunsStored-run _ _ _ _ R _ c.run_over-printed.result (c.in-Ok.ensures.register R known).0 c.run_over-printed.ensures.answer
-
-pub returns-in-Ok-clause-left : goal.returns-in-Ok-clause-left
-returns-in-Ok-clause-left g c =
+pub returns-in-Ok-clause-runs : goal.returns-in-Ok-clause-runs
+returns-in-Ok-clause-runs g c =
     let same : c.end-in-Ok.result ≡ c.run_over-printed.new.desk.store = cc in
-    RunsFrom-run g.S.Store (λ (desk : Desk g.row.S.Denot). desk.store) c.args.connection c.end-in-Ok.result c.in-Ok.desk c.run_over-printed.new.desk
+    RunsFrom-run g.S.Store (λ (desk : Desk (Held g.row.S.Denot)). desk.store) c.args.connection c.end-in-Ok.result c.in-Ok.desk c.run_over-printed.new.desk
     c.in-Ok.desk.book.register c.run_over-printed.new.desk.book.register _ c.run_over-printed.result c.in-Ok.ensures.read
-    c.in-Ok.ensures.good (λ R known. (c.in-Ok.ensures.register R known).0) same c.run_over-printed.ensures.answer c.run_over-printed.ensures.none
+    c.in-Ok.ensures.good c.in-Ok.ensures.register same c.run_over-printed.ensures.answer c.run_over-printed.ensures.none
 
 pub returns-in-Ok-clause-input : goal.returns-in-Ok-clause-input
 returns-in-Ok-clause-input g c =
-    ReadsInput-desk _ _ _ _ _ _ _ _ _ c.run_over-printed.result c.run_over-printed.ensures.answer c.run_over-printed.ensures.cause
+    ReadsInput-desk _ _ _ _ _ _ _ _ _ _ c.run_over-printed.result c.run_over-printed.ensures.answer c.run_over-printed.ensures.cause
 
--- the database is refused
-pub returns-in-Err-clause-answer : goal.returns-in-Err-clause-answer
-returns-in-Err-clause-answer g c R known = inl (c.in-Err.ensures.fault R known)
-
-pub returns-in-Err-clause-left : goal.returns-in-Err-clause-left
-returns-in-Err-clause-left g c = record { cause = inr c.in-Err.ensures.told; survives = c.in-Err.ensures.unread }
+-- its tables were refused
+pub returns-in-Err-clause-runs : goal.returns-in-Err-clause-runs
+returns-in-Err-clause-runs g c = record {
+  unanswered = record { cause = inr c.in-Err.ensures.told; survives = c.in-Err.ensures.unread };
+  known = λ R has clean. inl (c.in-Err.ensures.fault R has clean);
+}
 
 -- the input is not read then
 pub returns-in-Err-clause-input : goal.returns-in-Err-clause-input

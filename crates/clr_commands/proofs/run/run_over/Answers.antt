@@ -13,7 +13,7 @@ returns-clause-answer g c =
     let read = c.as_slice.ensures.value in (
       c.in_ok-bytes.bytes.items,
       c.in_ok-bytes.ensures.bytes,
-      answers_over _ _ _ _ c.in_ok-bytes.bytes.items c.run-run.result c.in_ok-asked.asked.commands.items c.as_slice-2.result.now c.print.result
+      answers_over _ _ _ _ _ c.in_ok-bytes.bytes.items c.run-run.result c.in_ok-asked.asked.commands.items c.as_slice-2.result.now c.print.result
           (c.in_ok-asked.ensures.commands ∙ ap asked_commands read)
           (c.as_slice-2.ensures.value ∙ c.in_ok-asked.ensures.readings ∙ ap (λ bytes. readings_of (asked_lines bytes)) read)
           (record {

@@ -1,9 +1,22 @@
 use Rattle.std.proofs.Common.{rules}
-use Rattle.clr_commands.proofs.Connections.{went_as}
+use Rattle.clr_commands.proofs.Connections.{server_cut, went_as}
 use Rattle.clr_commands.proofs.serve.serve_desk.Goals as goal
 
+-- the port was listened on, its line went out, and its connections were taken
 pub returns-clause-served : goal.returns-clause-served
-returns-clause-served g c = (went_as _ _ _ _ _ (search rules) c.in_ok-write_out.ensures.whole, c.serve_connections.ensures.told)
+returns-clause-served g c = (
+  c.in_ok-listener.listener,
+  c.listen.new.net,
+  c.in_ok-listener.ensures.stands,
+  went_as _ _ _ _ _ (search rules) c.in_ok-write_out.ensures.whole,
+  c.serve_connections.ensures.taken,
+)
+
+-- its line could not be written
+pub returns-in_err-write_out-clause-served : goal.returns-in_err-write_out-clause-served
+returns-in_err-write_out-clause-served g c =
+    server_cut _ _ _ _ _ _ _ _ _ c.in_err-write_out.field-0.0 c.as_str.result.now c.in_ok-listener.listener _ _
+    c.from_residual-in_err-write_out.ensures.1 c.in_err-write_out.ensures.fault c.in_ok-listener.ensures.stands (search rules) c.in_err-write_out.ensures.cut
 
 -- a desk that was not asked is as it was
 pub returns-in_err-listener-clause-led : goal.returns-in_err-listener-clause-led
@@ -11,7 +24,3 @@ returns-in_err-listener-clause-led g c = g.met.D.Registrar.stays c.args.desk.now
 
 pub returns-in_err-write_out-clause-led : goal.returns-in_err-write_out-clause-led
 returns-in_err-write_out-clause-led g c = g.met.D.Registrar.stays c.args.desk.now
-
--- the port was listened on, and its connections were taken
-pub returns-clause-taken : goal.returns-clause-taken
-returns-clause-taken g c = (c.in_ok-listener.listener, c.in_ok-listener.ensures.stands, c.serve_connections.ensures.taken)

@@ -1,38 +1,45 @@
-use Rattle.std.proofs.Common.{◌≡◌, inl, refl}
-use Rattle.clr_edge.proofs.Databases.{OnOk-any}
-use Rattle.clr_commands.proofs.Serving.{IsOfServing-desk, IsOfStore-told, IsServing-desk, ServesRegister-led}
-use Rattle.clr_commands.proofs.Unserved.{unserved_survives}
+use Rattle.sqlite.specs.Held.{Held, state}
+use Rattle.std.proofs.Common.{◌≡◌, inl, inr, refl, subst, sym}
+use Rattle.clr_desk.specs.Kept.{Keeps}
 use Rattle.clr_desk.specs.declared.desk.Desk.{Desk}
+use Rattle.clr_http.specs.Registrar.{Keeper}
+use Rattle.clr_commands.specs.Connections.{seen}
+use Rattle.clr_commands.proofs.Connections.{server_within}
+use Rattle.clr_commands.proofs.Serving.{unserved_as}
 use Rattle.clr_commands.proofs.serve.serve_over.Goals as goal
 
-pub returns-in-Ok-clause-told : goal.returns-in-Ok-clause-told
-returns-in-Ok-clause-told g c =
-    IsServing-desk (g.L.Loopback.refuses c.args.net.now) c.args.port c.args.count _ _ _ _ _ c.serve_desk-served.ensures.served c.serve_desk-served.ensures.fault
-
-pub returns-in-Ok-clause-known : goal.returns-in-Ok-clause-known
-returns-in-Ok-clause-known g c R known = IsOfServing-desk (g.L.Loopback.refuses c.args.net.now) c.args.port _ _ _ _ _ c.serve_desk-served.ensures.fault
-
--- the desk went on from the register that was opened
-pub returns-in-Ok-clause-served : goal.returns-in-Ok-clause-served
-returns-in-Ok-clause-served g c =
+-- the desk went on from the register that was opened, and its store is given back
+pub returns-in-Ok : goal.returns-in-Ok
+returns-in-Ok g c =
     let same : c.end-in-Ok.result ≡ c.serve_desk-served.new.desk.store = cc in
-    OnOk-any c.serve_desk-served.result _
-    (ServesRegister-led g.S.Store c.args.connection c.in-Ok.desk.store c.serve_desk-served.new.desk.store c.end-in-Ok.result
-    c.in-Ok.desk.book.register c.serve_desk-served.new.desk.book.register c.in-Ok.ensures.read c.in-Ok.ensures.register
-    c.serve_desk-served.ensures.led c.serve_desk-served.ensures.good c.serve_desk-served.ensures.reached
-    same)
+    let first : Keeper = record { register = c.in-Ok.desk.book.register; faults = c.in-Ok.desk.faults } in
+    let last : Keeper = record { register = c.serve_desk-served.new.desk.book.register; faults = c.serve_desk-served.new.desk.faults } in
+    record {
+      served = inr (record {
+        opened = c.in-Ok.desk.store;
+        read = c.in-Ok.ensures.read;
+        keeper = first;
+        good = c.in-Ok.ensures.good;
+        is_register = c.in-Ok.ensures.register;
+        left = last;
+        serves = c.serve_desk-served.ensures.served;
+        goes_on = server_within g.L.Loopback (seen g.L.Reader.Read.remaining g.L.Reader.CountedRead.failure_count g.L.Writer.CountedWrite.stream)
+            c.args.port c.args.count (g.W.CountedWrite.stream c.args.output.now) (g.W.CountedWrite.stream c.serve_desk-served.new.output)
+            (g.E.CountedWrite.stream c.args.errors.now) (g.E.CountedWrite.stream c.serve_desk-served.new.errors) first last c.serve_desk-served.result
+            c.args.net.now c.serve_desk-served.new.net c.serve_desk-served.ensures.served c.in-Ok.ensures.good;
+        keeps = subst (λ (h : Held g.row.S.Denot). Keeps (state g.S.Store c.in-Ok.desk.store) c.in-Ok.desk.book.register (state g.S.Store h) c.serve_desk-served.new.desk.book.register)
+            (sym same) c.serve_desk-served.ensures.led;
+        unserved = unserved_as c.serve_desk-served.result (λ (d : Desk (Held g.row.S.Denot)). d.store) _ _ _ same c.serve_desk-served.ensures.unserved;
+      });
+    }
 
--- a database that was not opened
-pub returns-in-Err-clause-told : goal.returns-in-Err-clause-told
-returns-in-Err-clause-told g c =
-    inl (IsOfStore-told c.in-Err.ensures.told.fault _ c.in-Err.ensures.told.told_is, refl, refl)
-
-pub returns-in-Err-clause-known : goal.returns-in-Err-clause-known
-returns-in-Err-clause-known g c R known = inl (c.in-Err.ensures.fault R known)
-
--- a server that did not begin left the desk as it was opened
-pub returns-in-Ok-clause-unserved : goal.returns-in-Ok-clause-unserved
-returns-in-Ok-clause-unserved g c =
-    let same : c.end-in-Ok.result ≡ c.serve_desk-served.new.desk.store = cc in
-    unserved_survives g.S.Store c.args.connection c.end-in-Ok.result c.serve_desk-served.result (λ (d : Desk g.row.S.Denot). d.store) c.in-Ok.desk
-    c.serve_desk-served.new.desk c.serve_desk-served.ensures.unserved c.in-Ok.ensures.read same
+-- tables that were refused
+pub returns-in-Err : goal.returns-in-Err
+returns-in-Err g c = record {
+  served = inl (
+    (record { cause = inr c.in-Err.ensures.told; survives = c.in-Err.ensures.unread }, c.in-Err.ensures.fault),
+    refl,
+    refl,
+    refl,
+  );
+}

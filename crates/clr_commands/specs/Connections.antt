@@ -1,0 +1,88 @@
+-- What becomes of the connections of a port: each is answered from the register that the one before
+-- left, and reported if it fails.
+use Rattle.std.specs.Prelude.{◌≡◌, ◌⊎◌, ℕ, zero, suc, ◌+◌, List, [], ◌∷◌, ◌++◌, codes, decimal}
+use Rattle.std.specs.Prelude.{Option, Result, Ok, Err}
+use Rattle.std.specs.declared.io.ErrorKind.{ErrorKind}
+use Rattle.std.specs.declared.io.ErrorKind.TheVariants.{OutOfMemory}
+use Rattle.clr_stream.specs.Streams.{Sends, Stream}
+use Rattle.clr_http.specs.Answered.{IsAnswered, Source}
+use Rattle.clr_http.specs.Registrar.{Keeper}
+use Rattle.clr_http.specs.declared.serve.HttpFault.{HttpFault}
+use Rattle.clr_http.specs.declared.serve.HttpFault.TheVariants.{NoMemory, ReadFailed, WriteFailed}
+use Rattle.clr_http.specs.declared.serve.Served.{Served}
+use Rattle.clr_edge.specs.declared.loopback.Connection.{Connection}
+use Rattle.clr_edge.specs.declared.loopback.Loopback as loopback
+
+-- why a connection got no response, or no whole one
+abbrev pub http_fault_name : HttpFault → List ℕ
+http_fault_name ReadFailed = codes "ReadFailed"
+http_fault_name (WriteFailed count) = codes "WriteFailed"
+http_fault_name NoMemory = codes "NoMemory"
+
+-- why a connection was not accepted: memory ran out, or nothing could be read of it
+abbrev pub accept_fault : ErrorKind → HttpFault
+accept_fault OutOfMemory = NoMemory
+accept_fault _ = ReadFailed
+
+-- the line of a connection that failed; connections count from 1
+abbrev pub connection_line : ℕ → HttpFault → List ℕ
+connection_line number fault = (codes "connection " ++ decimal number)
+    ++ (codes " " ++ (http_fault_name fault ++ 10 ∷ []))
+
+-- what is reported of a connection: nothing, unless it failed
+abbrev pub ReportsConnection : ℕ → Result Served HttpFault → Stream → Stream → Type 0
+ReportsConnection number (Ok served) errors errors' = errors' ≡ errors
+ReportsConnection number (Err fault) errors errors' =
+    Sends errors errors' (connection_line number fault)
+
+-- the same of the first connections, whatever came of each
+unfoldable pub ReportsFirst : ℕ → Stream → Stream → Type 0
+ReportsFirst zero errors errors' = errors' ≡ errors
+ReportsFirst (suc n) errors errors' = (middle : Stream) × ReportsFirst n errors middle
+    × ((served : Result Served HttpFault) × ReportsConnection (n + 1) served middle errors')
+
+-- what is seen of a connection: its reader, and its writer
+pub record Seen (R W : Type 0) : Type 0 where
+  pub source : R → Source
+  pub stream : W → Stream
+
+abbrev pub seen : {R W : Type 0} → (R → Option (List ℕ)) → (R → ℕ) → (W → Stream) → Seen R W
+seen remaining failures stream = record {
+  source = λ reader. record { remaining = remaining reader; failures = failures reader };
+  stream = stream;
+}
+
+-- A CONNECTION OF THIS NUMBER WAS ANSWERED from the register of a keeper, as its reader and its
+-- writer show, and reported if that failed
+abbrev pub Serves : {R W : Type 0} → Seen R W → ℕ → Keeper → Keeper → Connection R W
+    → Connection R W → Stream → Stream → Type 0
+Serves seen number k k' c c' errors errors' = (served : Result Served HttpFault)
+    × IsAnswered k k' (seen.source c.reader) (seen.source c'.reader)
+    (seen.stream c.writer) (seen.stream c'.writer) served
+    × ReportsConnection number served errors errors'
+
+module _ {M L R W : Type 0} (net : loopback.Ghosts M L R W) (seen : Seen R W) (listener : L) where
+  -- a connection came to the listener, was answered, and was let go as that left it
+  pub record Answers (number : ℕ) (k k' : Keeper) (errors errors' : Stream) (old new : M)
+      : Type 0 where
+    pub connection : Connection R W
+    pub answered : Connection R W
+    pub middle : M
+    pub came : net.comes old listener connection middle
+    pub served : Serves seen number k k' connection answered errors errors'
+    pub left : net.hangs_up middle answered new
+
+  -- THE NEXT CONNECTION was answered, or none could be taken, for a reason that is reported
+  abbrev pub TakesNext : ℕ → Keeper → Keeper → Stream → Stream → M → M → Type 0
+  TakesNext number k k' errors errors' old new =
+      Answers number k k' errors errors' old new
+      ⊎ ((kind : ErrorKind) × net.misses old listener kind new × (k' ≡ k)
+      × ReportsConnection number (Err (accept_fault kind)) errors errors')
+
+  -- THE FIRST CONNECTIONS, one after the other
+  unfoldable pub TakesFirst : ℕ → Keeper → Keeper → Stream → Stream → M → M → Type 0
+  TakesFirst zero k k' errors errors' old new = (new ≡ old) × (k' ≡ k) × (errors' ≡ errors)
+  TakesFirst (suc n) k k' errors errors' old new =
+      (middle : M) × (between : Keeper) × (reported : Stream)
+      × TakesFirst n k between errors reported old middle
+      × TakesNext (n + 1) between k' reported errors' middle new

@@ -1,0 +1,44 @@
+-- What `wayback` prints of a register: the commands that give a clearance back, each on a line that
+-- `run` takes.
+use Rattle.std.specs.Prelude.{◌≡◌, ◌⊎◌, ℕ, List, Option, None, Some, Result, Ok, Err, String}
+use Rattle.std.specs.declared.alloc.Global.{Global}
+use Rattle.sqlite.specs.Files.{over_files}
+use Rattle.sqlite_disk.specs.declared.Disk as disk
+use Rattle.clr_rules.specs.Id.{Id}
+use Rattle.clr_rules.specs.IdText.{read_id}
+use Rattle.clr_rules.specs.Register.{Register}
+use Rattle.clr_wayback.specs.Answer.{way_back_answer}
+use Rattle.clr_wayback.specs.Text.{way_back_text}
+use Rattle.clr_wayback.specs.declared.answer.WayBack.{WayBack}
+use Rattle.clr_wayback.specs.declared.answer.WayBack.TheVariants as way
+use Rattle.clr_args.specs.declared.asked.WayBackArgs.{WayBackArgs}
+use Rattle.clr_edge.specs.Visit.{Done, Over}
+use Rattle.clr_edge.specs.declared.fault.Fault.{Fault}
+use Rattle.clr_edge.specs.declared.fault.Fault.TheVariants.{Memory, NoSuch, NoWay}
+use Rattle.clr_commands.specs.Stored.{PrintsOf, WhileOpen}
+
+-- an answer, as it is printed
+abbrev pub way_back_told : WayBack → Result (List ℕ) Fault
+way_back_told (way.Commands commands) = Ok (way_back_text commands)
+way_back_told way.NoSuch = Err NoSuch
+way_back_told way.NoWay = Err NoWay
+
+-- the way back of the clearance that a word names, if it names one
+abbrev pub way_back_to : Register → Option Id → Result (List ℕ) Fault
+way_back_to R None = Err NoSuch
+way_back_to R (Some c) = way_back_told (way_back_answer R c)
+
+-- the same of what `wayback` was asked for
+abbrev pub way_back_asked_for : Register → WayBackArgs → Result (List ℕ) Fault
+way_back_asked_for R args = way_back_to R (read_id args.clearance.now)
+
+-- why there is no way back: memory ran out, there is no such clearance, or nobody can give a command
+-- of it
+abbrev pub IsOfWayBack : Fault → Type 0
+IsOfWayBack fault = (fault ≡ Memory) ⊎ ((fault ≡ NoSuch) ⊎ (fault ≡ NoWay))
+
+-- what `wayback` does over a database that is opened for it
+abbrev pub PrintsWayBack : {M D : Type 0} {g : disk.Ghosts D} → WayBackArgs
+    → Result (String Global) Fault → M → Over g → Over g → Done → M → Type 0
+PrintsWayBack args =
+    WhileOpen (PrintsOf over_files IsOfWayBack (λ Q. way_back_asked_for Q args))

@@ -1,0 +1,91 @@
+//! The subcommand `wayback`: the commands that give a clearance or a switch order back.
+ghost use Rattle.std.specs.Prelude.{◌≡◌, IfErr};
+ghost use Rattle.clr_rules.specs.Good.{IsGood};
+ghost use Rattle.clr_rules.specs.IdText.{read_id};
+ghost use Rattle.clr_commands.specs.Answers.{GivesText, IsMemory};
+ghost use Rattle.clr_commands.specs.Faults.{IsOfSubcommand};
+ghost use Rattle.clr_commands.specs.Stored.{PrintsOf};
+ghost use Rattle.clr_commands.specs.WayBack.{IsOfWayBack, PrintsWayBack, way_back_asked_for};
+ghost use Rattle.clr_commands.specs.WayBack.{way_back_to};
+ghost use Rattle.clr_edge.specs.Visit.{Comes};
+
+use clr_args::asked::WayBackArgs;
+use clr_book::Book;
+use clr_edge::database::{Databases, close, desk_over};
+use clr_edge::fault::Fault;
+use clr_rules::{ClearanceId, Hold, PointState, Record, StepRow};
+use clr_shelf::Shelf;
+use clr_wayback::{WayBack, print_way_back, way_back};
+use sqlite::{Alter, Connection};
+use std::alloc::Global;
+
+/// What `wayback DB CLEARANCE` prints: the commands by which the clearance or switch order is given
+/// back, each on a line that `run` takes; nothing where it is Closed. It is also printed where the
+/// database cannot be closed, as on a full disk.
+pub fn wayback<R: Databases>(
+    alloc: Global,
+    rt: &mut R,
+    args: &WayBackArgs<'_>,
+) -> Result<String, Fault>
+    ensures visit { Comes R.Medium.Disk R.opens R.shuts R.ends args.now.database.now
+        (PrintsWayBack args.now) result rt.old rt.new }
+    ensures faults { IfErr result IsOfSubcommand }
+{
+    let connection = rt.stored(args.database)?;
+    let (printed, connection) = wayback_over(alloc, connection, args);
+    let _closed = close(rt, connection);
+    printed
+}
+
+/// The way back in the register that a database has. The commands are tried in the book alone, so
+/// the database is only read.
+fn wayback_over<S: Alter + Drop>(
+    alloc: Global,
+    connection: Connection<S>,
+    args: &WayBackArgs<'_>,
+) -> (Result<String, Fault>, Connection<S>)
+    ensures printed { PrintsOf S.Store IsOfWayBack (λ Q. way_back_asked_for Q args.now) result.0
+        connection result.1 }
+    ensures faults { IfErr result.0 IsOfSubcommand }
+{
+    match desk_over(alloc, connection) {
+        Ok(desk) => {
+            let (book, store) = desk.parted();
+            let printed = wayback_of(alloc, book, args.clearance);
+            (printed, store.end())
+        }
+        Err((fault, connection)) => (Err(fault), connection),
+    }
+}
+
+/// The way back of the clearance that a word names, in a good book, which is used up.
+///
+/// `NoSuch` where the word names no clearance, or the book has no such clearance; `NoWay` where a
+/// step of it is given out and the staff has no field employee.
+pub fn wayback_of<P, C, T, H>(
+    alloc: Global,
+    book: Book<P, C, T, H>,
+    clearance: &str,
+) -> Result<String, Fault>
+where
+    P: Shelf<PointState>,
+    C: Shelf<Record>,
+    T: Shelf<StepRow>,
+    H: Shelf<Hold>,
+    requires { IsGood book.register }
+    ensures answer { GivesText IsMemory
+        (way_back_to book.register (read_id clearance.now)) result }
+    ensures faults { IfErr result IsOfWayBack }
+{
+    let Ok(id) = ClearanceId::read(clearance) else {
+        return Err(Fault::NoSuch);
+    };
+    match way_back(alloc, book, &id)? {
+        WayBack::Commands(commands) => {
+            let text = print_way_back(alloc, commands.as_slice())?;
+            Ok(text)
+        }
+        WayBack::NoSuch => Err(Fault::NoSuch),
+        WayBack::NoWay => Err(Fault::NoWay),
+    }
+}
