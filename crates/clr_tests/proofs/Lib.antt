@@ -1,1 +1,5 @@
 pub mod Additions
+pub mod Clean
+pub mod OneList
+pub mod WorkedRows
+pub mod JonesRegister

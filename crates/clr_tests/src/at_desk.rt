@@ -2,6 +2,7 @@
 //! a check makes of a desk of this kind is made once, here.
 use clr_desk::Desk;
 use clr_net::Network;
+use clr_store::Store;
 use clr_worked::new_desk;
 use sqlite::Alter;
 use std::alloc::Global;
@@ -14,7 +15,7 @@ pub trait AtDesk {
         &self,
         rt: &R,
         alloc: Global,
-        desk: Desk<S>,
+        desk: Desk<Store<S>>,
     ) -> Result<(), Fail>;
 }
 

@@ -1,26 +1,25 @@
 //! Connections that are served: one over loopback in one process, where the client connects, writes
 //! and ends its writing before it is served; and some on which nothing comes through.
-ghost use Rattle.std.specs.Prelude.{◌≡◌, ◌⊎◌, IfErr, IfOk, ⊤};
+ghost use Rattle.std.specs.Prelude.{◌≡◌, IfErr, IfOk};
+ghost use Rattle.clr_stream.specs.Failures.{one_more};
 
 use crate::worked::{REQUEST, RESPONSE};
 use clr_commands::serve::serve_connections;
-use clr_edge::fault::Fault;
-use clr_edge::loopback::{Connection, Loopback, local_address};
+use clr_edge::loopback::{Connection, Loopback, listen, local_address};
 use clr_edge::machine::{AnyFiles, Machine};
 use clr_stream::Counted;
 use clr_worked::{network, new_desk};
 use std::alloc::Global;
-use std::cell::Cell;
 use std::io;
 use std::io::{Read, Write};
-use std::net::{Shutdown, TcpStream};
+use std::net::{Shutdown, SocketAddr, TcpStream};
 use std::test::Fail;
 
-/// Serves so many connections from a new desk, and gives the lines that tell which failed. Out of
+/// Serves n connections from a new desk, and returns the lines that report which failed. Out of
 /// memory ends the test.
 fn failures<L: Loopback>(
     alloc: Global,
-    net: &L,
+    net: &mut L,
     listener: &L::Listener,
     count: usize,
 ) -> Result<String, Fail> {
@@ -55,10 +54,10 @@ fn response(alloc: Global, mut client: TcpStream) -> Result<String, Fail> {
 
 #[test]
 fn a_request_and_its_response_byte_for_byte(rt: HostRuntime) -> Result<(), Fail> {
-    let machine = Machine::new(&rt, AnyFiles);
-    let listener = machine.listen(0)?;
+    let mut machine = Machine::new(&rt, AnyFiles);
+    let listener = listen(&mut machine, 0)?;
     let client = client(&rt, listener.local_addr()?.port())?;
-    let failures = failures(rt.alloc(), &machine, &listener, 1)?;
+    let failures = failures(rt.alloc(), &mut machine, &listener, 1)?;
     assert_eq!(rt; failures.as_str(), "");
     let response = response(rt.alloc(), client)?;
     assert_eq!(rt; response.as_str(), RESPONSE);
@@ -69,16 +68,18 @@ fn a_request_and_its_response_byte_for_byte(rt: HostRuntime) -> Result<(), Fail>
 /// one cannot be written to.
 #[derive(Drop)]
 struct Torn {
-    accepted: Cell<u8>,
+    /// How many connections were asked for, and how many were let go.
+    asked: u64,
+    let_go: u64,
 }
 
-/// An end of such a connection.
+/// What such a connection is read from.
 #[derive(Drop)]
-struct TornStream {
+struct TornReader {
     input: &'static [u8],
 }
 
-impl Read for TornStream {
+impl Read for TornReader {
     fn read(&mut self, buf: &mut [u8]) -> io::Result<usize> {
         if self.input.is_empty() {
             return Err(io::Error::from(io::ErrorKind::ConnectionReset));
@@ -87,7 +88,11 @@ impl Read for TornStream {
     }
 }
 
-impl Write for TornStream {
+/// What nothing can be written to.
+#[derive(Drop)]
+struct TornWriter;
+
+impl Write for TornWriter {
     fn write(&mut self, _buf: &[u8]) -> io::Result<usize> {
         Err(io::Error::from(io::ErrorKind::BrokenPipe))
     }
@@ -98,53 +103,73 @@ impl Write for TornStream {
 }
 
 impl Loopback for Torn {
+    ghost use Rattle.std.specs.Prelude.{◌≡◌};
+    ghost use Rattle.clr_stream.specs.Failures.{one_more};
+
     type Listener = ();
 
-    type Stream = TornStream;
+    type Reader = Counted<TornReader>;
 
-    ghost refuses = { λ _ _. ⊤ };
+    type Writer = Counted<TornWriter>;
 
-    ghost stands = { λ _ _ _. ⊤ };
+    ghost refuses = { λ _ _ _ _. ⊥ };
 
-    ghost comes = { λ _ _ _. ⊤ };
+    ghost stands = { λ old _ _ new. new ≡ old };
 
-    ghost misses = { λ _ _ _. ⊤ };
+    ghost comes = { λ old _ _ new. new ≡ record old { asked = one_more old.asked } };
 
-    fn listen(&self, _port: u16) -> Result<(), Fault>
-        ensures stands { IfOk result (λ _. ⊤) }
-        ensures fault { IfErr result (λ fault. (fault ≡ Fault.Memory)
-            ⊎ ((fault ≡ Fault.Listen) × ⊤)) }
+    ghost misses = { λ old _ _ new. new ≡ record old { asked = one_more old.asked } };
+
+    ghost hangs_up = { λ old _ new. new ≡ record old { let_go = one_more old.let_go } };
+
+    fn bind(&mut self, _address: SocketAddr) -> io::Result<()>
+        ensures stands { IfOk result (λ _. self.new ≡ self.old) }
+        ensures refuses { IfErr result (λ _. ⊥) }
     {
         Ok(())
     }
 
-    fn accept(&self, _listener: &()) -> io::Result<Connection<TornStream>>
-        ensures comes { IfOk result (λ _. ⊤) }
-        ensures misses { IfErr result (λ _. ⊤) }
+    fn accept(
+        &mut self,
+        _listener: &(),
+    ) -> io::Result<Connection<Counted<TornReader>, Counted<TornWriter>>>
+        ensures comes { IfOk result (λ _.
+            self.new ≡ record self.old { asked = one_more self.old.asked }) }
+        ensures misses { IfErr result (λ _.
+            self.new ≡ record self.old { asked = one_more self.old.asked }) }
     {
-        let before = self.accepted.get();
-        self.accepted.set(before.wrapping_add(1));
+        let before = self.asked;
+        self.asked = before.saturating_add(1);
         let input: &'static [u8] = match before {
             0 => return Err(io::Error::from(io::ErrorKind::ConnectionAborted)),
             1 => b"GET /bo",
             _ => b"GET /board HTTP/1.1\r\n\r\n",
         };
         Ok(Connection {
-            reader: TornStream { input },
-            writer: TornStream { input },
+            reader: Counted::new(TornReader { input }),
+            writer: Counted::new(TornWriter),
         })
+    }
+
+    fn hang_up(&mut self, connection: Connection<Counted<TornReader>, Counted<TornWriter>>)
+        ensures { self.new ≡ record self.old { let_go = one_more self.old.let_go } }
+    {
+        drop(connection);
+        self.let_go = self.let_go.saturating_add(1);
     }
 }
 
 #[test]
-fn connections_that_fail_are_told(rt: HostRuntime) -> Result<(), Fail> {
-    let torn = Torn {
-        accepted: Cell::new(0),
+fn connections_that_fail_are_reported(rt: HostRuntime) -> Result<(), Fail> {
+    let mut torn = Torn {
+        asked: 0,
+        let_go: 0,
     };
-    let failures = failures(rt.alloc(), &torn, &(), 3)?;
+    let failures = failures(rt.alloc(), &mut torn, &(), 3)?;
     assert_eq!(rt;
         failures.as_str(),
         "connection 1 ReadFailed\nconnection 2 ReadFailed\nconnection 3 WriteFailed\n"
     );
+    assert_eq!(rt; (torn.asked, torn.let_go), (3, 2));
     Ok(())
 }

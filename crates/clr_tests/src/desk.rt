@@ -3,6 +3,7 @@ use crate::at_desk::{AtDesk, at_new_desk};
 use crate::worked::chain;
 use clr_desk::{Desk, DeskFault};
 use clr_rules::{Command, Reply};
+use clr_store::Store;
 use clr_text::{command_of, reply_text};
 use clr_worked::network;
 use sqlite::Alter;
@@ -23,7 +24,7 @@ impl<'a> AtDesk for Run<'a> {
         &self,
         rt: &R,
         alloc: Global,
-        mut desk: Desk<S>,
+        mut desk: Desk<Store<S>>,
     ) -> Result<(), Fail> {
         expect_replies(rt, alloc, &mut desk, self)
     }
@@ -33,7 +34,7 @@ impl<'a> AtDesk for Run<'a> {
 fn expect_replies<R: Abort, S: Alter + Drop>(
     rt: &R,
     alloc: Global,
-    desk: &mut Desk<S>,
+    desk: &mut Desk<Store<S>>,
     expected: &Run<'_>,
 ) -> Result<(), Fail> {
     let mut replies = String::new(alloc);
@@ -43,11 +44,11 @@ fn expect_replies<R: Abort, S: Alter + Drop>(
 }
 
 /// Carries out all commands, and adds the replies. Where that is out of memory once, the fault is
-/// counted, the replies before it stand, and the run goes on behind them.
+/// counted, the replies before it are kept, and the run goes on after them.
 fn carry_all<R: Abort, S: Alter + Drop>(
     rt: &R,
     alloc: Global,
-    desk: &mut Desk<S>,
+    desk: &mut Desk<Store<S>>,
     commands: &str,
     replies: &mut String,
 ) -> Result<(), Fail> {
@@ -62,10 +63,10 @@ fn carry_all<R: Abort, S: Alter + Drop>(
     }
 }
 
-/// Carries out the commands behind those that have a reply, and adds the replies.
+/// Carries out the commands after those that have a reply, and adds the replies.
 fn carry_on<S: Alter + Drop>(
     alloc: Global,
-    desk: &mut Desk<S>,
+    desk: &mut Desk<Store<S>>,
     commands: &str,
     replies: &mut String,
 ) -> Result<Option<DeskFault>, Fail> {

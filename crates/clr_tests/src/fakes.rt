@@ -2,7 +2,7 @@
 use std::io;
 use std::io::{Read, Write};
 
-/// Gives up to so many bytes a call, and fails at one call.
+/// Gives up to n bytes a call, and fails at one call.
 #[derive(Drop)]
 pub struct FailsAt<'a> {
     pub bytes: &'a [u8],
@@ -24,7 +24,7 @@ impl<'a> Read for FailsAt<'a> {
     }
 }
 
-/// Takes up to so many bytes a call while there is room, and then none, or fails.
+/// Takes up to n bytes a call while there is room, and then none, or fails.
 #[derive(Drop)]
 pub struct Narrow {
     pub taken: Vec<u8>,

@@ -3,7 +3,7 @@ use crate::hostile::{UNAVAILABLE, nth_response, response};
 use crate::worked::{REQUEST, RESPONSE};
 use clr_desk::DeskFault;
 use clr_http::{HttpFault, Registrar};
-use clr_store::StoreFault;
+use clr_load::StoreFault;
 use clr_worked::{Behind, Held, Part, Work, new_register, opened, over_files};
 use sqlite::{Alter, Connection};
 use std::alloc::Global;
@@ -13,7 +13,7 @@ use std::test::Fail;
 /// More calls than a desk makes of a file to open and to answer one request.
 const MOST_CALLS: u64 = 1000;
 
-/// What a client is told.
+/// What a client gets to know.
 #[derive(Clone, Copy, PartialEq, Eq, Debug)]
 enum Told {
     /// That it has the first clearance, or the second.
@@ -50,7 +50,7 @@ impl<'a> Work for Request<'a> {
     }
 }
 
-/// What a client is told at a desk.
+/// What a client gets to know at a desk.
 fn told_at<D: Registrar>(alloc: Global, desk: &mut D, second: &str) -> Told {
     match response(alloc, desk, REQUEST.as_bytes()) {
         Ok(response) => told_by(response.as_slice(), second),
@@ -59,7 +59,7 @@ fn told_at<D: Registrar>(alloc: Global, desk: &mut D, second: &str) -> Told {
     }
 }
 
-/// What a response tells.
+/// What a response says.
 fn told_by(response: &[u8], second: &str) -> Told {
     if response == RESPONSE.as_bytes() {
         Told::First
@@ -72,7 +72,7 @@ fn told_by(response: &[u8], second: &str) -> Told {
     }
 }
 
-/// What a client is told over files of which one stops after so many calls, and what they hold
+/// What a client gets to know over files of which one stops after n calls, and what they hold
 /// then.
 fn told_over(
     alloc: Global,
@@ -89,7 +89,7 @@ fn told_over(
     }
 }
 
-/// What a client is told while a file stops after so many calls, and the next one, once the file
+/// What a client gets to know while a file stops after n calls, and the next one, once the file
 /// works again. Out of memory ends the test.
 fn two_told(
     alloc: Global,
@@ -114,8 +114,8 @@ fn is_given_once(told: (Told, Told)) -> bool {
     )
 }
 
-/// Stops a file at each call until the request is answered, and tells how often it was answered by
-/// a 503. The command of a 503 may stand: then the next one gets the second number.
+/// Stops a file at each call until the request is answered, and returns how often it was answered by
+/// a 503. The command of a 503 may be carried out: then the next one gets the second number.
 fn unavailable_count<R: Abort>(
     rt: &R,
     alloc: Global,

@@ -70,8 +70,8 @@ fn grown<R: Abort>(
     Ok(network)
 }
 
-/// The sections are those of the worked network and behind them the new one, and the points are the
-/// new one and behind it those of the worked network: so their names stand in order.
+/// The sections are those of the worked network and after them the new one, and the points are the
+/// new one and after it those of the worked network: so their names are in order.
 fn expect_rows<R: Abort>(
     rt: &R,
     alloc: Global,
@@ -91,7 +91,7 @@ fn expect_rows<R: Abort>(
     Ok(())
 }
 
-/// The names in the fence of a section that is cut at two points, each with a blank behind it.
+/// The names in the fence of a section that is cut at two points, each with a blank after it.
 fn inside(alloc: Global, network: &Network, work: &str, cut: (&str, &str)) -> Result<String, Fail> {
     let cut = [Name::read(cut.0)?, Name::read(cut.1)?];
     let fence = network.fence(&Name::read(work)?, &cut)?;

@@ -6,8 +6,9 @@ use crate::fakes::{FailsAt, Narrow};
 use crate::worked::{REQUEST, RESPONSE};
 use clr_desk::Desk;
 use clr_http::{HttpFault, Registrar, Served, serve_one};
+use clr_load::Rows;
 use clr_rules::{ClearanceId, Command, Reply};
-use clr_store::Rows;
+use clr_store::Store;
 use clr_stream::{Counted, CountedRead, CountedWrite};
 use clr_worked::{are_same, network};
 use sqlite::Alter;
@@ -26,7 +27,7 @@ const MAX_FIELDS: usize = 64;
 
 const EMPTY_BOARD: &str = "BOARD 0\n";
 
-/// A response that tells a fault: its status, its length and its word.
+/// A response that reports a fault: its status, its length and its word.
 macro_rules! tells {
     ($status:literal, $length:literal, $fault:literal) => {
         concat!(
@@ -52,7 +53,7 @@ pub const UNAVAILABLE: &str = tells!("503 Service Unavailable", 23, "Unavailable
 const BOARD: &str = "HTTP/1.1 200 OK\r\nContent-Type: text/plain\r\nContent-Length: 8\r\n\
     Connection: close\r\n\r\nBOARD 0\n";
 
-/// A writer with room for so many bytes.
+/// A writer with room for n bytes.
 fn writer(
     alloc: Global,
     bytes_per_call: usize,
@@ -123,7 +124,7 @@ fn expect_response<A: Abort, D: Registrar>(
 }
 
 /// The rows of a desk's tables, and the desk opened again over them.
-fn rows_of<S: Alter + Drop>(desk: Desk<S>) -> Result<(Rows, Desk<S>), Fail> {
+fn rows_of<S: Alter + Drop>(desk: Desk<Store<S>>) -> Result<(Rows, Desk<Store<S>>), Fail> {
     let mut store = desk.end();
     let rows = store.load()?;
     match Desk::open(store) {
@@ -136,11 +137,11 @@ fn rows_of<S: Alter + Drop>(desk: Desk<S>) -> Result<(Rows, Desk<S>), Fail> {
 fn expect_no_change<A: Abort, S: Alter + Drop>(
     rt: &A,
     alloc: Global,
-    mut desk: Desk<S>,
+    mut desk: Desk<Store<S>>,
     rows: &Rows,
     request: &[u8],
     expected: &str,
-) -> Result<Desk<S>, Fail> {
+) -> Result<Desk<Store<S>>, Fail> {
     expect_response(rt, alloc, &mut desk, request, expected)?;
     let (found, desk) = rows_of(desk)?;
     assert!(rt; are_same(&found, rows));
@@ -155,7 +156,7 @@ impl AtDesk for Fronts {
         &self,
         rt: &R,
         alloc: Global,
-        desk: Desk<S>,
+        desk: Desk<Store<S>>,
     ) -> Result<(), Fail> {
         let (rows, mut desk) = rows_of(desk)?;
         for count in 0..REQUEST.len() {
@@ -176,7 +177,7 @@ fn requests_that_are_cut_short(rt: HostRuntime) -> Result<(), Fail> {
     at_new_desk(&rt, rt.alloc(), network(rt.alloc())?, &Fronts)
 }
 
-/// A head that asks for the board, with so many fields, the last of which fills it to so many
+/// A head that asks for the board, with n fields, the last of which fills it to that many
 /// bytes.
 fn board_head(alloc: Global, fields: usize, bytes: usize) -> Result<String, AllocError> {
     let mut head = String::from_str(alloc, "GET /board HTTP/1.1\r\n")?;
@@ -199,7 +200,7 @@ impl AtDesk for Heads {
         &self,
         rt: &R,
         alloc: Global,
-        mut desk: Desk<S>,
+        mut desk: Desk<Store<S>>,
     ) -> Result<(), Fail> {
         expect_head(rt, alloc, &mut desk, 1, MAX_HEAD_BYTES, BOARD)?;
         expect_head(rt, alloc, &mut desk, 1, MAX_HEAD_BYTES + 1, HEAD_TOO_LARGE)?;
@@ -208,7 +209,7 @@ impl AtDesk for Heads {
     }
 }
 
-/// To a head of so many fields, and so many bytes where they are more than 0, this response goes
+/// To a head of n fields, and of that many bytes where they are more than 0, this response goes
 /// out.
 fn expect_head<R: Abort, D: Registrar>(
     rt: &R,
@@ -237,7 +238,7 @@ impl AtDesk for FailingReader {
         &self,
         rt: &R,
         alloc: Global,
-        mut desk: Desk<S>,
+        mut desk: Desk<Store<S>>,
     ) -> Result<(), Fail> {
         for calls_before in 0..REQUEST.len() as u64 {
             expect_unread(rt, alloc, &mut desk, calls_before)?;
@@ -247,7 +248,7 @@ impl AtDesk for FailingReader {
     }
 }
 
-/// Nothing goes out to a reader that fails behind so many calls.
+/// Nothing goes out to a reader that fails after n calls.
 fn expect_unread<R: Abort, D: Registrar>(
     rt: &R,
     alloc: Global,
@@ -271,7 +272,7 @@ fn expect_unread<R: Abort, D: Registrar>(
     Ok(())
 }
 
-/// No clearance stands on the board.
+/// No clearance is on the board.
 fn expect_empty_board<R: Abort, D: Registrar>(rt: &R, alloc: Global, desk: &D) -> Result<(), Fail> {
     let board = desk.board(alloc)?;
     assert_eq!(rt; board.as_str(), EMPTY_BOARD);
@@ -296,7 +297,7 @@ pub fn nth_response(alloc: Global, n: usize) -> Result<String, AllocError> {
     )
 }
 
-/// A writer that fails behind each byte of the response. After each failure the clearance stands:
+/// A writer that fails after each byte of the response. After each failure the clearance is there:
 /// the next response has the next number.
 struct FailingWriter;
 
@@ -305,7 +306,7 @@ impl AtDesk for FailingWriter {
         &self,
         rt: &R,
         alloc: Global,
-        mut desk: Desk<S>,
+        mut desk: Desk<Store<S>>,
     ) -> Result<(), Fail> {
         for room in 0..RESPONSE.len() {
             let fault = HttpFault::WriteFailed(room);
@@ -318,13 +319,13 @@ impl AtDesk for FailingWriter {
     }
 }
 
-/// The request behind the last of these failures is answered too.
+/// The request after the last of these failures is answered too.
 fn expect_last<R: Abort, D: Registrar>(rt: &R, alloc: Global, desk: &mut D) -> Result<(), Fail> {
     let expected = nth_response(alloc, RESPONSE.len() + 1)?;
     expect_response(rt, alloc, desk, REQUEST.as_bytes(), expected.as_str())
 }
 
-/// The request ends with this fault, or with none, and so often the writer has failed. Returns the
+/// The request ends with this fault, or with none, and the writer has failed n times. Returns the
 /// bytes that it has taken.
 fn expect_taken<R: Abort, D: Registrar>(
     rt: &R,
@@ -341,7 +342,7 @@ fn expect_taken<R: Abort, D: Registrar>(
     Ok(writer.into_inner().taken)
 }
 
-/// So many bytes of the response have gone out that tells one clearance more than there are bytes.
+/// The first n bytes have gone out of the response to the request for clearance n + 1.
 fn expect_front<R: Abort>(rt: &R, alloc: Global, taken: &[u8], room: usize) -> Result<(), Fail> {
     let expected = nth_response(alloc, room.saturating_add(1))?;
     assert_eq!(rt; Some(taken), expected.as_bytes().get(..room));
@@ -353,7 +354,7 @@ fn writer_fails_after_each_byte(rt: HostRuntime) -> Result<(), Fail> {
     at_new_desk(&rt, rt.alloc(), network(rt.alloc())?, &FailingWriter)
 }
 
-/// A writer that takes up to so many bytes a call while there is room for so many, and then none.
+/// A writer that takes up to n bytes a call while there is room, and then none.
 #[derive(Drop)]
 struct NarrowWriter {
     bytes_per_call: usize,
@@ -366,7 +367,7 @@ impl AtDesk for NarrowWriter {
         &self,
         rt: &R,
         alloc: Global,
-        mut desk: Desk<S>,
+        mut desk: Desk<Store<S>>,
     ) -> Result<(), Fail> {
         let writer = writer(alloc, self.bytes_per_call, self.room, None)?;
         let taken = expect_taken(rt, alloc, &mut desk, writer, self.fault, 0)?;
@@ -441,7 +442,7 @@ impl AtDesk for NoAnswer {
         &self,
         rt: &R,
         alloc: Global,
-        desk: Desk<S>,
+        desk: Desk<Store<S>>,
     ) -> Result<(), Fail> {
         let mut keeper = Unanswering { desk, faults: 0 };
         expect_unavailable(rt, alloc, &mut keeper, 1)?;
@@ -450,7 +451,7 @@ impl AtDesk for NoAnswer {
     }
 }
 
-/// The request is answered by a 503, and so many were not answered then.
+/// The request is answered by a 503, and then n requests were not answered.
 fn expect_unavailable<R: Abort, D: Registrar>(
     rt: &R,
     alloc: Global,

@@ -3,13 +3,14 @@ use crate::at_desk::{AtDesk, at_new_desk};
 use crate::worked::{REQUEST, RESPONSE};
 use clr_desk::Desk;
 use clr_http::{Registrar, serve_all};
+use clr_store::Store;
 use clr_worked::network;
 use sqlite::Alter;
 use std::alloc::Global;
 use std::process::Abort;
 use std::test::Fail;
 
-/// A head, and behind it 53 bytes: JONES asks for L2.
+/// A head, and after it 53 bytes: JONES asks for L2.
 macro_rules! asks {
     ($head:literal) => {
         concat!(
@@ -46,7 +47,7 @@ macro_rules! answers {
     };
 }
 
-/// That JONES/1 is ordered, so many of its six steps done.
+/// That JONES/1 is ordered, with n of its six steps done.
 macro_rules! stands {
     ($done:literal) => {
         concat!(
@@ -201,13 +202,13 @@ impl<'a> AtDesk for Exchanges<'a> {
         &self,
         rt: &R,
         alloc: Global,
-        mut desk: Desk<S>,
+        mut desk: Desk<Store<S>>,
     ) -> Result<(), Fail> {
         expect_all(rt, alloc, &mut desk, self.all)
     }
 }
 
-/// To each request its response goes out. A 503 is counted, and nothing behind it is accepted, so
+/// To each request its response goes out. A 503 is counted, and nothing after it is accepted, so
 /// that all is answered from there on when it comes again.
 fn expect_all<R: Abort, D: Registrar>(
     rt: &R,
@@ -225,7 +226,7 @@ fn expect_all<R: Abort, D: Registrar>(
 }
 
 /// To each request its response goes out, up to the first 503, which is sent when out of memory.
-/// Tells how many there are.
+/// Returns how many there are.
 fn expect_responses<R: Abort, D: Registrar>(
     rt: &R,
     alloc: Global,

@@ -6,7 +6,7 @@ mod at_desk;
 #[cfg(test)]
 mod connections;
 #[cfg(test)]
-mod csv;
+mod csv_files;
 #[cfg(test)]
 mod desk;
 #[cfg(test)]
@@ -20,9 +20,13 @@ mod hostile;
 #[cfg(test)]
 mod http;
 #[cfg(test)]
+mod known;
+#[cfg(test)]
 mod limits;
 #[cfg(test)]
 mod shelves;
+#[cfg(test)]
+mod stops;
 #[cfg(test)]
 mod store;
 #[cfg(test)]

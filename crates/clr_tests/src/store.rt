@@ -1,7 +1,8 @@
-//! Tables that stand in a database and are not opened.
+//! Tables that a database has and that are not opened.
 use crate::at_desk::{AtDesk, at_new_desk};
 use clr_desk::{Desk, DeskFault};
-use clr_store::{Store, StoreFault};
+use clr_load::StoreFault;
+use clr_store::Store;
 use clr_tables::TableName;
 use clr_worked::network;
 use sqlite::{Alter, Connection};
@@ -21,7 +22,7 @@ impl<'a> AtDesk for Change<'a> {
         &self,
         rt: &R,
         _alloc: Global,
-        desk: Desk<S>,
+        desk: Desk<Store<S>>,
     ) -> Result<(), Fail> {
         let mut connection = desk.end().end();
         connection.execute(self.statement, &[])?;

@@ -1,8 +1,8 @@
 //! Tables of version 1, which somebody else has made by their statements, and their move to version
 //! 2.
 use clr_desk::DeskFault;
+use clr_load::StoreFault;
 use clr_rules::Command;
-use clr_store::StoreFault;
 use clr_tables::TableName;
 use clr_text::{command_of, reply_text};
 use clr_worked::{Held, Part, are_same, move_over, old_register, read_over, run_over, written};
@@ -52,7 +52,7 @@ fn not_moved(alloc: Global, held: &Held) -> Result<StoreFault, Fail> {
 }
 
 /// What two files hold once their tables are moved. Where these files are refused a growth, that is
-/// told as `Sql`.
+/// reported as `Sql`.
 fn moved(alloc: Global, held: &Held) -> Result<Held, Fail> {
     let (fault, behind) = move_over(alloc, held, Part::Log, u64::MAX)?;
     match fault {

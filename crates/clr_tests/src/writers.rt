@@ -7,7 +7,7 @@ use std::test::Fail;
 
 const TEXT: &[u8] = b"JONES/1 Ordered L2\n";
 
-/// A writer with room for so many bytes of the text.
+/// A writer with room for n bytes of the text.
 fn narrow(
     alloc: Global,
     room: usize,

@@ -13,7 +13,7 @@ pub const FIRST_STEP: [&str; 5] = [
     r#"{"at":104,"by":"REED","clearance":"JONES/1","do":"report","done":true,"step":1}"#,
 ];
 
-/// So many of these commands, behind the first few.
+/// Some of these commands: n of them, after the first few.
 pub fn some_commands(alloc: Global, first: usize, count: usize) -> Result<Vec<Command>, Fail> {
     let mut commands = Vec::new(alloc);
     for line in FIRST_STEP.iter().skip(first).take(count) {

@@ -2,16 +2,17 @@
 use crate::files::{network, staff};
 use crate::stopping::{Behind, Held, Part, Work, over_files};
 use clr_desk::{Desk, DeskFault, Run};
+use clr_load::{Rows, StoreFault};
 use clr_net::Network;
 use clr_rules::Command;
 use clr_staff::Staff;
-use clr_store::{Rows, Store, StoreFault};
+use clr_store::Store;
 use sqlite::{Alter, Connection, MemStore};
 use std::alloc::{AllocError, Global};
 use std::test::Fail;
 
 /// A desk over new tables of a network and the worked staff.
-pub fn new_desk(alloc: Global, network: Network) -> Result<Desk<MemStore>, Fail> {
+pub fn new_desk(alloc: Global, network: Network) -> Result<Desk<Store<MemStore>>, Fail> {
     let staff = staff(alloc)?;
     let connection = Connection::open_in_memory(alloc)?;
     match Desk::create(alloc, connection, network, staff) {
@@ -23,7 +24,7 @@ pub fn new_desk(alloc: Global, network: Network) -> Result<Desk<MemStore>, Fail>
 /// The desk over a database, or the connection and why there is none.
 pub fn opened<S: Alter + Drop>(
     connection: Connection<S>,
-) -> Result<Desk<S>, (DeskFault, Connection<S>)> {
+) -> Result<Desk<Store<S>>, (DeskFault, Connection<S>)> {
     match Store::open(connection) {
         Ok(store) => match Desk::open(store) {
             Ok(desk) => Ok(desk),
@@ -95,8 +96,8 @@ impl Work for Reading {
     }
 }
 
-/// Makes the tables of the worked register in two files, of which one stops after so many calls,
-/// or tells why they were not made.
+/// Makes the tables of the worked register in two files, of which one stops after n calls,
+/// or says why they were not made.
 pub fn make_over(
     alloc: Global,
     held: &Held,
@@ -115,7 +116,7 @@ pub fn make_over(
     }
 }
 
-/// Carries out commands over two files, of which one stops after so many calls, where a desk can be
+/// Carries out commands over two files, of which one stops after n calls, where a desk can be
 /// opened.
 pub fn run_over(
     alloc: Global,

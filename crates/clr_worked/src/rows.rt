@@ -1,5 +1,5 @@
 //! What two readings of tables have in common.
-use clr_store::Rows;
+use clr_load::Rows;
 
 /// Whether two readings of the tables have the same rows.
 pub fn are_same(rows: &Rows, others: &Rows) -> bool {

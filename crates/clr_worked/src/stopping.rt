@@ -1,11 +1,11 @@
-//! A log and a database file in memory, of which one stops after so many calls.
-use clr_store::StoreFault;
+//! A log and a database file in memory, of which one stops after n calls.
+use clr_load::StoreFault;
 use sqlite::{Alter, Connection, FileStore, Files, Options};
 use sqlite_disk::{Crash, Disk, Fuse, Memory};
 use std::alloc::{AllocError, Global};
 use std::test::Fail;
 
-/// A file in memory that passes so many calls on, and then fails each.
+/// A file in memory that passes n calls on, and then fails each.
 type Fused = Fuse<Memory>;
 
 /// The bytes of a log and of its database file.
@@ -41,7 +41,7 @@ pub struct Left {
     pub synced: Vec<u8>,
 }
 
-/// A file that holds these bytes, and stops after so many calls.
+/// A file that holds these bytes, and stops after n calls.
 fn fused(alloc: Global, bytes: &[u8], calls: u64) -> Result<Fused, Fail> {
     let mut memory = Memory::new(alloc);
     memory.write_at(0, bytes)?;
@@ -49,7 +49,7 @@ fn fused(alloc: Global, bytes: &[u8], calls: u64) -> Result<Fused, Fail> {
     Ok(Fuse::new(memory, calls))
 }
 
-/// What both files hold behind some work on them.
+/// What both files hold after some work on them.
 #[derive(PartialEq, Drop)]
 pub struct Behind {
     pub log: Left,
@@ -86,9 +86,9 @@ pub trait Work {
     fn go<S: Alter + Drop>(self, connection: Connection<S>) -> (Self::Told, Connection<S>);
 }
 
-/// Does some work over the database of two files, of which one stops after so many calls, where a
+/// Does some work over the database of two files, of which one stops after n calls, where a
 /// connection can be opened. Where none stops it can be, but for refused memory, which ends the
-/// test: a file in memory that is refused a growth fails as a disk does, so that this is told as
+/// test: a file in memory that is refused a growth fails as a disk does, so that the fault is
 /// `Sql`.
 pub fn over_files<W: Work + Drop>(
     alloc: Global,
@@ -121,7 +121,7 @@ fn in_files<D: Disk + Drop, W: Work + Drop>(
     }
 }
 
-/// Both files, of which one stops after so many calls.
+/// Both files, of which one stops after n calls.
 fn files_of(alloc: Global, held: &Held, part: Part, calls: u64) -> Result<Files<Fused>, Fail> {
     let (log_calls, db_calls) = match part {
         Part::Log => (calls, u64::MAX),
@@ -140,7 +140,7 @@ fn connect<D: Disk + Drop>(
     if !files.may_be_used() {
         return Err((StoreFault::Sql, files));
     }
-    // The page cache is made anew at each opening, and these files have few pages.
+    // The page cache is made again at each opening, and these files have few pages.
     let options = Options {
         cache_pages: 64,
         ..Options::new(1)

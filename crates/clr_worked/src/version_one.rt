@@ -1,6 +1,7 @@
 //! The worked register in tables of version 1, made by their statements, and its move to version 2.
 use crate::stopping::{Behind, Held, Part, Work, over_files};
-use clr_store::{Store, StoreFault};
+use clr_load::StoreFault;
+use clr_store::Store;
 use sqlite::{Alter, Connection};
 use std::alloc::{AllocError, Global};
 use std::test::Fail;
@@ -23,7 +24,7 @@ CREATE TABLE step (requester TEXT NOT NULL, number INTEGER NOT NULL, round INTEG
 CREATE TABLE hold (kind TEXT NOT NULL, place TEXT NOT NULL, requester TEXT NOT NULL,
     number INTEGER NOT NULL, PRIMARY KEY (kind, place, requester, number)) STRICT";
 
-/// The rows of the worked register behind the first step of JONES/1.
+/// The rows of the worked register after the first step of JONES/1.
 const ROWS: &str = "
 INSERT INTO meta VALUES ('version', 1);
 INSERT INTO section VALUES ('G', 1), ('H', 1), ('L1', 0), ('L2', 0), ('L3', 0);
@@ -90,13 +91,13 @@ pub fn written(alloc: Global, held: &Held, statements: &str) -> Result<Held, Fai
     }
 }
 
-/// The two files of the worked register in tables of version 1, behind the first step of JONES/1.
+/// The two files of the worked register in tables of version 1, after the first step of JONES/1.
 pub fn old_register(alloc: Global) -> Result<Held, Fail> {
     let tables = written(alloc, &Held::nothing(alloc), TABLES)?;
     written(alloc, &tables, ROWS)
 }
 
-/// Moves the tables in two files to version 2, of which one stops after so many calls, or tells why
+/// Moves the tables in two files to version 2, of which one stops after n calls, or says why
 /// they were not moved.
 pub fn move_over(
     alloc: Global,

@@ -1,0 +1,62 @@
+-- Files whose bytes are known, and a database whose register is known.
+use Rattle.std.specs.Prelude.{ℕ, ◌==◌, Bool, codes, find, if◌then◌else◌, List, [], ◌∷◌, Option}
+use Rattle.std.specs.Prelude.{None, Some, option_map}
+use Rattle.std.specs.Prelude.{◌≡◌, IfSome}
+use Rattle.std.specs.Borrow.{Bor}
+use Rattle.std.specs.Cmp.Lexicographic.{pointwise}
+use Rattle.clr_rules.specs.Register.{Register}
+use Rattle.clr_rules.specs.Run.{after_all}
+use Rattle.clr_examples.specs.Worked.{worked_opening}
+use Rattle.clr_text.specs.Lines.{commands_in}
+use Rattle.sqlite.specs.Files.{over_files}
+use Rattle.sqlite_disk.specs.declared.Disk as disk
+use Rattle.clr_edge.specs.Database.{HasRegister}
+use Rattle.clr_edge.specs.Visit.{Over}
+
+abbrev pub same_path : List ℕ → List ℕ → Bool
+same_path = pointwise ◌==◌
+
+-- what the file at a path has, of files that are given with their paths
+abbrev pub bytes_among : List (Bor (List ℕ) × Bor (List ℕ)) → List ℕ → Option (List ℕ)
+bytes_among files path =
+    option_map (λ file. file.1.now) (find (λ file. same_path file.0.now path) files)
+
+-- JONES asks for L2, OPS orders it, and REED does the first step
+abbrev pub jones_lines : List (List ℕ)
+jones_lines =
+    codes "{\"at\":100,\"by\":\"JONES\",\"do\":\"request\",\"section\":\"L2\"}"
+    ∷ codes "{\"at\":101,\"by\":\"OPS\",\"clearance\":\"JONES/1\",\"do\":\"order\",\"points\":[\"S2\",\"S3\"],\"steps\":[\"OPEN S2\",\"OPEN S3\",\"BLOCK S2\",\"BLOCK S3\",\"TAG S2\",\"TAG S3\"]}"
+    ∷ codes "{\"at\":102,\"by\":\"OPS\",\"clearance\":\"JONES/1\",\"do\":\"instruct\",\"step\":1}"
+    ∷ codes "{\"at\":103,\"by\":\"REED\",\"clearance\":\"JONES/1\",\"do\":\"repeat\",\"step\":1,\"text\":\"OPEN S2\"}"
+    ∷ codes "{\"at\":104,\"by\":\"REED\",\"clearance\":\"JONES/1\",\"do\":\"report\",\"done\":true,\"step\":1}"
+    ∷ []
+
+-- the register that these leave, over the opening one of the worked network
+unfoldable pub jones_register : Register
+jones_register = after_all worked_opening (commands_in jones_lines)
+
+-- the register of the database at a path, which is known of one
+abbrev pub known_register : List ℕ → Option Register
+known_register path = if same_path path (codes "jones.db") then Some jones_register else None
+
+-- a register is known of a path, and the connection has it
+abbrev pub HasKnown : {D : Type 0} {g : disk.Ghosts D} → List ℕ → Over g → Type 0
+HasKnown path connection = (R : Register) × (known_register path ≡ Some R)
+    × HasRegister over_files R connection
+
+-- the connection has the register that is known of a path, if one is
+abbrev pub MayHaveKnown : {D : Type 0} {g : disk.Ghosts D} → List ℕ → Over g → Type 0
+MayHaveKnown path connection =
+    IfSome (known_register path) (λ R. HasRegister over_files R connection)
+
+-- the files of the worked network
+abbrev pub section_file : List ℕ
+section_file = codes "section,source\nG,yes\nL1,no\nL2,no\nL3,no\nH,yes\n"
+
+abbrev pub point_file : List ℕ
+point_file =
+    codes "point,from,to,lockable,remote,position\nS1,G,L1,yes,no,closed\nS2,L1,L2,yes,no,closed\nS3,L2,L3,yes,no,closed\nS4,L3,H,yes,yes,closed\nT1,L1,L3,no,no,open\n"
+
+abbrev pub staff_file : List ℕ
+staff_file =
+    codes "employee,role,supervisor\nOPS,operator,\nREED,field,\nDALE,field,\nJONES,charge,BOSS\nKIM,charge,\nBOSS,charge,\n"

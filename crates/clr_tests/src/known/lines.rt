@@ -1,0 +1,270 @@
+//! Command lines of each subcommand on this machine.
+use crate::known::Known;
+use crate::known::databases::{POINTS, SECTIONS, STAFF};
+use crate::known::files::{Bytes, File, KnownFiles};
+use clr_command_line::command_line::command_line;
+use clr_stream::Counted;
+use std::alloc::Global;
+use std::io;
+use std::process::Abort;
+use std::test::Fail;
+
+const FILES: [File<'static>; 3] = [
+    ("sections.csv", SECTIONS),
+    ("points.csv", POINTS),
+    ("staff.csv", STAFF),
+];
+
+const BOARD: &str = "BOARD 1
+JONES/1                       Ordered   L2                       1970-01-01 00:01:44 +00:00 JONES
+";
+
+/// A request for the board, and the response to it.
+const BOARD_REQUEST: &[u8] = b"GET /board HTTP/1.1\r\n\r\n";
+
+const BOARD_RESPONSE: &[u8] = b"HTTP/1.1 200 OK\r\n\
+    Content-Type: text/plain\r\n\
+    Content-Length: 106\r\n\
+    Connection: close\r\n\
+    \r\n\
+    BOARD 1\n\
+    JONES/1                       Ordered   L2                       1970-01-01 00:01:44 +00:00 JONES\n";
+
+const SHOW: &str = r#"{"by":"JONES","clearance":"JONES/1","do":"show"}"#;
+
+const SHOWN: &str =
+    r#"{"reply":"shown","view":{"card":{"clearance":"JONES/1","done":1,"holder":"JONES","phase":"Ordered","round":1,"steps":6},"crews":[],"fence":["L2"],"holds":[{"by":"JONES/1","kind":"HeldOpen","place":"S2"}],"points":[{"hand":null,"point":"S2","position":"open"},{"hand":null,"point":"S3","position":"closed"}],"steps":[{"reader":"REED","state":"Done","text":"OPEN S2"},{"reader":null,"state":"Waiting","text":"OPEN S3"},{"reader":null,"state":"Waiting","text":"BLOCK S2"},{"reader":null,"state":"Waiting","text":"BLOCK S3"},{"reader":null,"state":"Waiting","text":"TAG S2"},{"reader":null,"state":"Waiting","text":"TAG S3"}],"work":"L2"}}
+"#;
+
+const REQUEST: &str = r#"{"at":100,"by":"JONES","do":"request","section":"L2"}"#;
+
+const REQUESTED: &str =
+    r#"{"card":{"clearance":"JONES/1","done":0,"holder":"JONES","phase":"Requested","round":0,"steps":0},"reply":"accepted"}
+"#;
+
+const ORDER: &str = "ORDER JONES/1 ROUND 1
+WORK L2
+HOLDER JONES
+PHASE Ordered
+LAST 1970-01-01 00:01:44 +00:00
+  1 OPEN      S2                       Done       REED
+  2 OPEN      S3                       Waiting    -
+  3 BLOCK     S2                       Waiting    -
+  4 BLOCK     S3                       Waiting    -
+  5 TAG       S2                       Waiting    -
+  6 TAG       S3                       Waiting    -
+END
+";
+
+/// What a command line gives.
+#[derive(Drop)]
+struct Given {
+    status: u8,
+    output: String,
+    errors: String,
+    /// What went out over the last connection.
+    response: Vec<u8>,
+    /// How many databases were opened, and of how many the files came back.
+    opened: u64,
+    given_back: u64,
+}
+
+/// What a command line gives over these files, with this on standard input. Out of memory ends the
+/// test.
+fn run_line(
+    alloc: Global,
+    files: &[File<'_>],
+    line: &str,
+    input: Option<&[u8]>,
+) -> Result<Given, Fail> {
+    let mut machine = Known::new(alloc, BOARD_REQUEST);
+    let paths = KnownFiles { all: files };
+    let words: Vec<&str> = line.split_whitespace().collect(alloc)?;
+    let words: io::Result<Vec<&str>> = Ok(words);
+    let mut input = Counted::new(Bytes { left: input });
+    let mut output = Counted::new(Vec::new(alloc));
+    let mut errors = Counted::new(Vec::new(alloc));
+    let status = command_line(
+        &mut machine,
+        &paths,
+        &words,
+        &mut input,
+        &mut output,
+        &mut errors,
+    );
+    let output = String::from_utf8(output.into_inner())?;
+    let errors = String::from_utf8(errors.into_inner())?;
+    if errors.as_str().contains("NoMemory") {
+        return Err(Fail::new("out of memory"));
+    }
+    let Known {
+        response,
+        opened,
+        given_back,
+        ..
+    } = machine;
+    Ok(Given {
+        status,
+        output,
+        errors,
+        response,
+        opened,
+        given_back,
+    })
+}
+
+/// This goes to standard output and nothing to the errors, or this is the fault. That many databases
+/// are visited: opened, and closed.
+fn expect<R: Abort>(
+    rt: &R,
+    alloc: Global,
+    line: &str,
+    input: &str,
+    expected: Result<&str, &str>,
+    visits: u64,
+) -> Result<(), Fail> {
+    let given = run_line(alloc, &FILES, line, Some(input.as_bytes()))?;
+    let (status, output, errors) = match expected {
+        Ok(output) => (0, output, ""),
+        Err(fault) => (1, "", fault),
+    };
+    assert_eq!(rt; given.output.as_str(), output, "{line}");
+    assert_eq!(rt; given.errors.as_str(), errors, "{line}");
+    assert_eq!(rt; given.status, status, "{line}");
+    assert_eq!(rt;
+        (given.opened, given.given_back),
+        (visits, visits),
+        "{line}"
+    );
+    Ok(())
+}
+
+const COUNTS: &str = "sections 5 points 5 staff 6\n";
+
+#[test]
+fn each_subcommand(rt: HostRuntime) -> Result<(), Fail> {
+    let cases = [
+        (
+            "gridclear fence sections.csv points.csv L2 S2 S3",
+            "",
+            "L2\n",
+            0,
+        ),
+        (
+            "gridclear init sections.csv points.csv staff.csv",
+            "",
+            COUNTS,
+            0,
+        ),
+        (
+            "gridclear init sections.csv points.csv staff.csv --db new.db",
+            "",
+            COUNTS,
+            1,
+        ),
+        (
+            "gridclear run sections.csv points.csv staff.csv",
+            REQUEST,
+            REQUESTED,
+            0,
+        ),
+        ("gridclear run --db jones.db", SHOW, SHOWN, 1),
+        ("gridclear order jones.db JONES/1 1", "", ORDER, 1),
+        ("gridclear board jones.db", "", BOARD, 1),
+        (
+            "gridclear serve jones.db --port 8080 --count 2",
+            "",
+            "serving 127.0.0.1:8080\n",
+            1,
+        ),
+        ("gridclear migrate jones.db", "", "version 2\n", 1),
+    ];
+    for (line, input, output, visits) in cases {
+        expect(&rt, rt.alloc(), line, input, Ok(output), visits)?;
+    }
+    Ok(())
+}
+
+/// Only the database at `jones.db` has a register, so there is nothing to make there, and nothing to
+/// open elsewhere. A database is closed also after a fault.
+#[test]
+fn each_subcommand_at_fault(rt: HostRuntime) -> Result<(), Fail> {
+    let cases = [
+        (
+            "gridclear init sections.csv points.csv staff.csv --db jones.db",
+            "fault: store Sql\n",
+            1,
+        ),
+        (
+            "gridclear order none.db JONES/01 9",
+            "fault: store Sql\n",
+            0,
+        ),
+        (
+            "gridclear order jones.db JONES/01 1",
+            "fault: clearance NoSuch\n",
+            1,
+        ),
+        (
+            "gridclear order jones.db JONES/1 3",
+            "fault: clearance NoSuch\n",
+            1,
+        ),
+        ("gridclear board none.db", "fault: store Sql\n", 0),
+        ("gridclear migrate none.db", "fault: store Sql\n", 0),
+        (
+            "gridclear serve jones.db --port 1 --count 1",
+            "fault: listen BindFailed\n",
+            1,
+        ),
+        (
+            "gridclear fence sections.csv none.csv L2",
+            "fault: points ReadFailed\n",
+            0,
+        ),
+        (
+            "gridclear fence sections.csv points.csv ABCDEFGHIJKLMNOPQRSTUVWXY",
+            "fault: name TooLong\n",
+            0,
+        ),
+    ];
+    for (line, errors, visits) in cases {
+        expect(&rt, rt.alloc(), line, "", Err(errors), visits)?;
+    }
+    Ok(())
+}
+
+#[test]
+fn the_board_goes_out_over_a_connection(rt: HostRuntime) -> Result<(), Fail> {
+    let line = "gridclear serve jones.db --port 8080 --count 1";
+    let given = run_line(rt.alloc(), &FILES, line, None)?;
+    assert_eq!(rt; given.errors.as_str(), "");
+    if given.response.starts_with(b"HTTP/1.1 503 ") {
+        return Err(Fail::new("out of memory"));
+    }
+    assert_eq!(rt; given.response.as_slice(), BOARD_RESPONSE);
+    Ok(())
+}
+
+#[test]
+fn inputs_that_are_not_read(rt: HostRuntime) -> Result<(), Fail> {
+    let run = "gridclear run --db jones.db";
+    let unread = run_line(rt.alloc(), &FILES, run, None)?;
+    assert_eq!(rt; unread.errors.as_str(), "fault: input ReadFailed\n");
+    assert_eq!(rt; unread.output.as_str(), "");
+
+    let long = vec![in rt.alloc(); b'\n'; 16_777_217]?;
+    let too_long = run_line(rt.alloc(), &FILES, run, Some(long.as_slice()))?;
+    assert_eq!(rt; too_long.errors.as_str(), "fault: input TooLong\n");
+    assert_eq!(rt; too_long.output.as_str(), "");
+
+    let points = vec![in rt.alloc(); b'\n'; 4_194_305]?;
+    let files = [
+        ("sections.csv", SECTIONS),
+        ("points.csv", points.as_slice()),
+    ];
+    let fence = "gridclear fence sections.csv points.csv L2";
+    let too_long = run_line(rt.alloc(), &files, fence, None)?;
+    assert_eq!(rt; too_long.errors.as_str(), "fault: points TooLong\n");
+    Ok(())
+}
