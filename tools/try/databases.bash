@@ -11,6 +11,7 @@ each_reader() {
   "${command[@]}" run --db "$path"
   "${command[@]}" order "$path" JONES/1 1
   "${command[@]}" board "$path"
+  "${command[@]}" wayback "$path" JONES/1
   "${command[@]}" serve "$path" --port "$port" --count 1
   : >"$work/input"
 }

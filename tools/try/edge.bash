@@ -42,6 +42,21 @@ leaves try 'a register made over it' 1 '' "$no_store" init "${three[@]}" --db "$
 leaves try 'a move of it' 0 "version 2$feed" '' migrate "$edge/room.db"
 leaves try 'a port that cannot be had' 2 '' '~65536' serve "$edge/room.db" --port 65536 --count 1
 
+# unread COMMAND..: COMMAND, whose runs of the program have a directory for standard input.
+unread() {
+  rm "$work/input"
+  mkdir "$work/input"
+  "$@"
+  rmdir "$work/input"
+  : >"$work/input"
+}
+unread leaves try 'a run whose input cannot be read' 1 '' "fault: input ReadFailed$feed" run --db "$edge/room.db"
+serving seen 1
+leaves try 'a server whose port is in use' 1 '' "fault: listen BindFailed$feed" \
+  serve "$edge/room.db" --port "$port" --count 1
+ask 'GET /board HTTP/1.1' '' >/dev/null
+served 'the server that has it' ''
+
 # tables_at PATH: all rows of all tables, by SQLite itself, of a copy of the database and its log.
 tables_at() {
   cp "$1" "$edge/copy.db"

@@ -243,7 +243,7 @@ def give_back(room, path, clearance, wanted, waiting):
         expect((status, output, errors) == (1, "", wanted), f"it ends with {status}, {output}{errors}")
     else:
         expect((status, errors) == (0, ""), f"it ends with {status}: {errors}")
-        expect(len(output.splitlines()) == wanted and output.count("\n") == wanted, f"not {wanted} commands but\n{output}")
+        expect(output.count("\n") == wanted == len(output.splitlines()), f"{output.count(chr(10))} commands and not {wanted}: {output[:300]}")
     expect(path.read_bytes() == database and vars(Register(path)) == vars(before), "asking changed the register")
     if isinstance(wanted, str) or not wanted:
         return
