@@ -36,13 +36,13 @@ puts_record : (kind : Kind) → has_no_record kind ≡ false → is_jumper kind 
 puts_record (Jumper point from to lockable remote) changes = cc changes
 puts_record _ changes = refl
 
--- and is told the card
+-- and its reply is the card
 tells_card : (k : Known) (S : Register) (kind : Kind) (r : Record) → has_no_record kind ≡ false → reply_of k S kind (Some r) ≡ Accepted (card_of S r)
 tells_card k S (Show c) r changes = cc changes
 tells_card k S (Jumper point from to lockable remote) r changes = cc changes
 tells_card k S _ r changes = refl
 
--- where its edits end with the record that the command is about, that is the card that is told
+-- where its edits end with the record that the command is about, that is the card of the reply
 pub accepted : (k : Known) (R : Register) (q : Command) (lead : List Edit) (r : Record) (rows : List StepRow)
     → first_refusal (checks k R q.caller q.moment q.kind) ≡ None → has_no_record q.kind ≡ false
     → edits_of k.greatest R q.caller q.moment q.kind ≡ all_edits lead r rows
@@ -60,7 +60,7 @@ pub edits_end : (R : Register) → after_edits [] R ≡ R
 unfolding after_edits
 edits_end R = refl
 
--- one that asks is told of the register as it is
+-- one that asks gets the register as it is
 pub asked : (k : Known) (R : Register) (q : Command) (c : Id) (reply : Reply) → q.kind ≡ Show c → first_refusal (checks k R q.caller q.moment q.kind) ≡ None
     → reply_of k R (Show c) (record_of R.records c) ≡ reply
     → answer_with k R q ≡ answer_of reply []
@@ -71,7 +71,7 @@ asked k R q c reply is passes tells =
     ∙ ap (λ S. answer_of (reply_after k S q.caller (Show c)) []) (edits_end R)
     ∙ ap (λ reply. answer_of reply []) tells
 
--- a jumper is told its point
+-- a jumper gets its point
 pub laid : (k : Known) (R : Register) (q : Command) (point from to : List ℕ) (lockable remote : Bool) → q.kind ≡ Jumper point from to lockable remote
     → first_refusal (checks k R q.caller q.moment q.kind) ≡ None
     → answer_with k R q ≡ answer_of (Added point) (added_edits R (new_jumper point from to lockable remote))

@@ -1,4 +1,4 @@
--- Rows that are lent: their order, and the row of a key, behind references.
+-- Rows that are given: their order, and the row of a key, behind references.
 use Rattle.std.proofs.Common.{◌≡◌, Bool, true, false, ◌&&◌, Bor, List, [], ◌∷◌, map, refl, ap}
 use Rattle.std.specs.List.{find, list_all}
 use Rattle.std.specs.Option.{option_copied}
@@ -16,7 +16,7 @@ module _ {Key Row : Type 0} (compare : Key → Key → Ordering) (key_of : Row �
   same_order [] = refl
   same_order (row ∷ rows) = λ i. all_above (key_of row.now) rows i && same_order rows i
 
-  -- rows behind references stand in key order where the rows do
+  -- rows behind references are in key order where the rows are
   pub in_key_order-lent : (rows : List (Bor Row)) → in_key_order compare key_of (map (λ (row : Bor Row). row.now) rows) ≡ true
       → in_key_order compare (λ (row : Bor Row). key_of row.now) rows ≡ true
   in_key_order-lent rows ordered = rw (same_order rows) ordered

@@ -1,4 +1,4 @@
--- New steps are numbered in rising order, so they stand in key order.
+-- New steps are numbered in rising order, so they are in key order.
 use Rattle.std.proofs.Common.{◌≡◌, ◌<◌, ℕ, ◌+◌, true, None, List, [], ◌∷◌, arith, refl, sym}
 use Rattle.std.specs.Cmp.{IsTotalOrder, nat_cmp_is}
 use Rattle.std.specs.List.{list_all}
@@ -25,7 +25,7 @@ tied Greater h = cc
 itself : {K : Type 0} {compare : K → K → Ordering} → IsTotalOrder compare → (k : K) → compare k k ≡ Equal
 itself {K} {compare} order k = tied (compare k k) (order.antisymm k k)
 
--- a step of a lower number stands before one of the same round
+-- a step of a lower number comes before one of the same round
 below : (c : Id) (round n m : ℕ) (t u : Task) → n < m → step_key_cmp (step_key (numbered c round n t)) (step_key (numbered c round m u)) ≡ Less
 below c round n m t u lower =
     let less : nat_cmp n m ≡ Less = sym (nat_cmp_is n m Less lower) in

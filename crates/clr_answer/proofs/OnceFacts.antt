@@ -1,4 +1,4 @@
--- Names that stand once, and those that are not among others.
+-- Names that come once, and those that are not among others.
 use Rattle.std.proofs.Common.{◌≡◌, ◌<◌, ℕ, ◌+◌, Bool, true, false, cond, not, ◌||◌, List, [], ◌∷◌, ◌++◌, filter, drop, get_or, length, refl, sym, ◌∙◌, ap}
 use Rattle.std.specs.BTreeSet.{BTreeSet, Updates, contains}
 use Rattle.std.specs.Cmp.Lexicographic.{texts_ties}
@@ -78,7 +78,7 @@ met_now kept all names i p inside is new before =
     ∙ ap (λ rest. kept ++ p ∷ rest) (others_more kept p (first_of_each left))
     ∙ ap (λ rest. kept ++ rest) (sym (ap (λ rest. others kept (first_of_each rest)) here ∙ put)) ∙ before
 
--- whether a name was met, as its insertion tells
+-- whether a name was met, as its insertion says
 pub was_met : (met : BTreeSet (List ℕ)) (kept : List (List ℕ)) (p : List ℕ) (added : Bool) → ((q : List ℕ) → contains name_cmp met q ≡ has_name kept q)
     → added ≡ not (contains name_cmp met p) → has_name kept p ≡ not added
 was_met met kept p added same told = sym (same p) ∙ sym (not-not (contains name_cmp met p)) ∙ ap not (sym told)

@@ -16,7 +16,7 @@ use Rattle.clr_rules.specs.Fences.{rows_of_fence}
 use Rattle.clr_rules.specs.Refusals.{order_refusal}
 use Rattle.clr_answer.specs.Orders.{refusal_of}
 
--- what is told of a first refusal is that refusal
+-- what is reported of a first refusal is that refusal
 pub refusal_of_answer : (fault : Option OrderFault) → refusal_of (answer_of fault) ≡ order_refusal fault
 refusal_of_answer None = refl
 refusal_of_answer (Some fault) = refl
@@ -80,7 +80,7 @@ module _ (sections : List SectionRow) (touching : List PointRow) where
 rows_path : (S S' : List SectionRow) (T T' : List PointRow) → S ≡ S' → T ≡ T' → rows S T ≡ rows S' T'
 rows_path S S' T T' sections touching i = record { sections = sections i; touching = touching i }
 
--- the check over rows that were lent is that over the register's network
+-- the check over rows that were given is that over the register's network
 pub order_told : (S : List SectionRow) (T : List PointRow) (names : List (List ℕ)) (fence : FenceRows) (g : Grid) (points : List (List ℕ)) (tasks : List Task)
     → FenceRows.sections fence ≡ filter (λ row. has_name names row.name) S → FenceRows.touching fence ≡ filter (touches (has_name names)) T
     → S ≡ Grid.sections g → map unplaced T ≡ Grid.points g

@@ -60,7 +60,7 @@ module _ {Key Row : Type 0} (compare : Key → Key → Ordering) (key_of : Row �
           (compare (get_or (map key_of (row ∷ rest)) (k + 1) (key_of row)) (get_or (map key_of (row ∷ rest)) k (key_of row))) refl
           (rw (here, next) (sorted k row (omega arith) (omega arith))) apart
 
-  -- rows that are sorted are those that they are a permutation of, if these stand in key order
+  -- rows that are sorted are those that they are a permutation of, if these are in key order
   pub same_from_sorted : (rows sorted : List Row) → in_key_order compare key_of rows ≡ true → IsPermutation rows sorted → IsSortedByKey key_of compare sorted
       → sorted ≡ rows
   same_from_sorted rows sorted ordered moved up =

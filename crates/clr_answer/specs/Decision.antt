@@ -17,7 +17,7 @@ use Rattle.clr_rules.specs.declared.reply.Reply.TheVariants.{Accepted, Shown, Re
 use Rattle.clr_rules.specs.declared.step_row.StepRow.{StepRow}
 use Rattle.clr_answer.specs.declared.decision.Decision.{Decision}
 
--- the first check that applies, by what was lent
+-- the first check that applies, by what was given
 abbrev pub near_refusal : Near → List ℕ → ℕ → Kind → Option Refusal
 near_refusal near by at kind = first_refusal (checks near.known near.rows by at kind)
 

@@ -25,7 +25,7 @@ leaves_rows (PutStep row) = false
 leaves_rows (AddSection row) = true
 leaves_rows (AddPoint p) = true
 
--- an effect on a clearance: the record is its own, and the steps stand in key order
+-- an effect on a clearance: the record is its own, and the steps are in key order
 pub record IsOf (c : Id) (e : Effect) : Type 0 where
   pub own : e.clearance.id ≡ c
   pub lead : list_all leaves_rows e.lead.items ≡ true

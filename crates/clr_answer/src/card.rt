@@ -25,7 +25,7 @@ struct Tally {
     steps: usize,
 }
 
-/// Whether one of the rows, which stand in key order, has the key of this one.
+/// Whether one of the rows, which are in key order, has the key of this one.
 fn is_put(rows: &[StepRow], row: &StepRow) -> bool
     requires { in_key_order step_key_cmp step_key rows.now ≡ true }
     ensures { result ≡ is_put rows.now row.now }

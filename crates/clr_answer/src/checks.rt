@@ -1,4 +1,4 @@
-//! The checks of commands: small questions about what is lent.
+//! The checks of commands: small questions about what is given.
 ghost use Rattle.std.specs.Prelude.{◌≡◌};
 ghost use Rattle.clr_rules.specs.Answer.{first_refusal};
 ghost use Rattle.clr_rules.specs.Checks.{refuse};

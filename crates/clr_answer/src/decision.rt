@@ -45,7 +45,7 @@ pub(crate) fn shown(alloc: Global, view: View) -> Decision
     }
 }
 
-/// Edits, and behind them those that put a record and some steps.
+/// Edits, and after them those that put a record and some steps.
 fn end(edits: Vec<Edit>, clearance: Record, steps: &[StepRow]) -> Result<Vec<Edit>, AllocError>
     ensures { IfOk result (λ all. all.items ≡ all_edits edits.items clearance steps.now) }
 {

@@ -29,7 +29,7 @@ pub(crate) fn is_own(own: Option<ClearanceId>, id: ClearanceId) -> bool
     }
 }
 
-/// Whether a hold stands at one of these sections or points, or is a crew of the clearance that is
+/// Whether a hold is at one of these sections or points, or is a crew of the clearance that is
 /// meant.
 pub(crate) fn is_near_hold(
     fence: &[Name],

@@ -45,7 +45,7 @@ use std::alloc::AllocError;
 /// What a command is answered, and what it changes. Of a good register the near part is enough.
 ///
 /// Independence: good registers with the same near part give the same reply and the same change,
-/// whatever else stands in them (law `near_is_enough` of clr_rules, a part of what a holder may
+/// whatever else is in them (law `near_is_enough` of clr_rules, a part of what a holder may
 /// rely on).
 pub fn decide(near: &Near, command: &Command) -> Result<Decision, AllocError>
     ensures lent { IfOk result (λ d.

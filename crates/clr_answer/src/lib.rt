@@ -1,4 +1,4 @@
-//! What a command is answered, of the rows near it: its checks, what it changes, and what it tells.
+//! What a command is answered, of the rows near it: its checks, what it changes, and its reply.
 #![tactic(auto)]
 
 mod card;

@@ -5,11 +5,11 @@ use clr_staff::Staff;
 use std::alloc::Global;
 use std::marker::Model;
 
-/// What is lent to a decision: rows, each list in the order of its keys, and the greatest number of
+/// What a decision is given: rows, each list in the order of its keys, and the greatest number of
 /// the requester.
 ///
-/// Every field but the allocator stands in its view. A field that the view left out could lend any
-/// row, and no clause would tell; so each field that comes is to be shown there.
+/// Every field but the allocator is in its view. A field that the view left out could give any
+/// row, and no clause would show it; so each field that comes is to be there.
 ///
 /// Numbers go up to 9,999, so that there is one more for a new clearance wherever the caller has
 /// not used them all.

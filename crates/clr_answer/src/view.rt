@@ -1,4 +1,4 @@
-//! The view of a clearance: its card, and all that stands at its fence.
+//! The view of a clearance: its card, and all that is at its fence.
 ghost use Rattle.std.specs.Prelude.{◌≡◌, ◌++◌, [], None, IfOk, filter, map};
 ghost use Rattle.std.specs.List.Sorted.{IsStrictlySortedBy};
 ghost use Rattle.clr_net.specs.Name.{name_cmp};
@@ -96,7 +96,7 @@ fn holds_at(near: &Near, fence: &[Name], touching: &[Name]) -> Result<Vec<Hold>,
     Ok(holds)
 }
 
-/// These holds, and behind them those of a kind.
+/// These holds, and after them those of a kind.
 fn with_kind(first: Vec<Hold>, kind: HoldKind, holds: &[Hold]) -> Result<Vec<Hold>, AllocError>
     ensures { IfOk result (λ all. all.items
         ≡ first.items ++ filter (λ h. same_kind kind h.kind) holds.now) }

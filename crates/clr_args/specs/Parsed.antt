@@ -1,5 +1,5 @@
 -- What the words of a command line come to. Where clap finds nothing wrong it is what the
--- subcommand that they name is asked for; else help that they ask for, or why they do not parse.
+-- subcommand that they name is asked for; otherwise help that they ask for, or why they do not fit.
 use Rattle.std.specs.Prelude.{◌≡◌, ◌≢◌, ◌⊎◌, List, [], ◌∷◌, Option, Some, None, codes, map}
 use Rattle.std.specs.Prelude.{option_map, string_bytes}
 use Rattle.clap.specs.Words.{IsAmong, Kinds, Row, Text, fault_of, first_of, subcommand_of}

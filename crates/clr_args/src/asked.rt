@@ -99,7 +99,7 @@ pub struct ServeArgs<'a> {
     pub count: usize,
 }
 
-/// Minutes east of Greenwich, where a clock stands.
+/// Minutes east of Greenwich, where a clock is.
 #[derive(Clone, Copy)]
 pub struct Offset {
     pub minutes: i16,

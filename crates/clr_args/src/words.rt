@@ -50,7 +50,7 @@ pub fn offset_of(matches: &ArgMatches<'_>) -> Offset
     Offset { minutes }
 }
 
-/// The minutes that a word says, where they are within clap's range; else 0.
+/// The minutes that a word says, where they are within clap's range; otherwise 0.
 fn minutes_of(word: &str) -> i16
     ensures low { neg_ℤ (pos 720) ≤ℤ result }
     ensures high { result ≤ℤ pos 840 }
@@ -73,7 +73,7 @@ pub fn port_of(matches: &ArgMatches<'_>) -> u16
     }
 }
 
-/// The port that a word says, where it is within clap's range; else 1.
+/// The port that a word says, where it is within clap's range; otherwise 1.
 fn port_in(word: &str) -> u16
     ensures { result ≡ number_in 65535 (Some word.now) }
 {
@@ -95,7 +95,7 @@ pub fn count_of(matches: &ArgMatches<'_>) -> usize
     }
 }
 
-/// The count that a word says, where it is within clap's range; else 1.
+/// The count that a word says, where it is within clap's range; otherwise 1.
 fn count_in(word: &str) -> usize
     ensures { result ≡ number_in 1000000 (Some word.now) }
 {

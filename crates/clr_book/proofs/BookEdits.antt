@@ -76,7 +76,7 @@ plain_network (edit ∷ edits) g plain =
     let (one, others) = and_parts (not (adds edit)) (adds_nothing edits) plain in
     ap (network_after_all edits) (plain_network_after edit g (not_false (adds edit) one)) ∙ plain_network edits g others
 
--- a state is put behind those of lower points
+-- a state is put after those of lower points
 pub state_step : (front back : List PointState) (state : PointState) → in_key_order name_cmp state_key (front ++ state ∷ back) ≡ true
     → with_row name_cmp state_key state front ++ back ≡ front ++ state ∷ back
 state_step front back state ordered =

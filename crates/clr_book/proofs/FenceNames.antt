@@ -1,4 +1,4 @@
--- A fence as it is lent: its names, and the rows at its places.
+-- A fence as it is given: its names, and the rows at its places.
 use Rattle.std.proofs.Common.{◌≡◌, ◌∙◌, ◌||◌, List, [], ◌∷◌, ℕ, Some, filter, map, refl, ap}
 use Rattle.std.specs.Prelude.{slice_get}
 use Rattle.std.specs.List.{filter_map}

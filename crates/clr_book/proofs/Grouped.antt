@@ -49,7 +49,7 @@ module _ {Row Group : Type 0} (group_cmp : Group → Group → Ordering) (order 
   unfolding IsStrictlySortedBy
   rising-rest group above rise = rise.1
 
-  -- one group more: its rows stand behind those that were found
+  -- one group more: its rows come after those that were found
   pub group_more : (group : Group) (above : List Group) (rows all found : List Row) → IsStrictlySortedBy group_cmp (group ∷ above)
       → IsPermutation all (found ++ filter (λ row. list_any (λ next. is_in next row) (group ∷ above)) rows)
       → IsPermutation all ((found ++ filter (is_in group) rows) ++ filter (λ row. list_any (λ next. is_in next row) above) rows)

@@ -1,4 +1,4 @@
--- Rows that are lent as they were found: those that a test keeps are those of their names, and what
+-- Rows that are given as they were found: those that a test keeps go by their names, and what
 -- is read at each name in turn is what a filter keeps.
 use Rattle.std.proofs.Common.{◌≡◌, ◌∙◌, ℕ, Bool, true, false, ◌||◌, List, [], ◌∷◌, ◌++◌, Some, None, map, filter, Contains, refl, sym, ap, subst}
 use Rattle.std.specs.Cmp.{IsTotalOrder}

@@ -127,7 +127,7 @@ module _ {Row : Type 0} (name_of : Row → List ℕ) where
       ∙ filter-key name_cmp name_of nat_list_cmp_total name rows (in_key_order-from_sorted name_cmp name_of rows rise)
       ∙ ap (λ p. listed (find p rows)) (λ i (row : Row). (sym (texts_ties (name_of row) name) ∙ nat_list_eq_equiv.symm (name_of row) name) i)
 
-  -- one name more: its row stands behind those that were found
+  -- one name more: its row comes after those that were found
   pub name_more : (name : List ℕ) (above : List (List ℕ)) (rows all found : List Row) (row : Option Row) → IsStrictlySortedBy name_cmp (map name_of rows)
       → IsStrictlySortedBy name_cmp (name ∷ above) → row ≡ find (λ row. same_name name (name_of row)) rows
       → IsPermutation all (found ++ filter (λ row. has_name (name ∷ above) (name_of row)) rows)

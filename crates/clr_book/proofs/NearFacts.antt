@@ -1,4 +1,4 @@
--- What is lent, and the definitions.
+-- What is given, and the definitions.
 use Rattle.std.proofs.Common.{◌≡◌, ◌∙◌, ◌==◌, ◌&&◌, ◌||◌, ℕ, zero, suc, Bool, true, false, Some, ◌++◌, List, [], ◌∷◌, map, filter, length, refl, sym, ap}
 use Rattle.std.proofs.lemmas.List.Folds.{list_any-append}
 use Rattle.clr_net.specs.Fence.{FenceRows, fence_of, in_fence, leads, reaches, touches}
@@ -85,7 +85,7 @@ switched_found R c r steps found switches rows = rw (found, switches) (ap points
 pub has_name-append : (first rest : List (List ℕ)) (p : List ℕ) → has_name (first ++ rest) p ≡ (has_name first p || has_name rest p)
 has_name-append first rest p = list_any-append (same_name p) first rest
 
--- what is lent is a register with what is known of it, if each of its parts is
+-- what is given is a register with what is known of it, if each of its parts is
 pub lent_whole : (near : Near) (known : Known) (R : Register)
     → Known.greatest near.known ≡ known.greatest → Known.fence near.known ≡ known.fence → Known.crossed near.known ≡ known.crossed
     → Grid.sections (Register.net near.rows) ≡ Grid.sections R.net → Grid.points (Register.net near.rows) ≡ Grid.points R.net

@@ -1,4 +1,4 @@
--- The states of points that stand in the order of their names are in key order; an opening register is reached.
+-- The states of points that are in the order of their names are in key order; an opening register is reached.
 use Rattle.std.proofs.Common.{◌≡◌, ℕ, true, List, [], ◌∷◌, map, refl, All}
 use Rattle.std.specs.List.{list_all}
 use Rattle.std.specs.List.Sorted.{IsStrictlySortedBy}

@@ -23,7 +23,7 @@ not_higher Equal h = absurd (true≢false (sym h))
 not_higher Greater h = absurd (true≢false (sym h))
 
 module _ {Key Row : Type 0} (compare : Key → Key → Ordering) (key_of : Row → Key) where
-  -- a row that is put after all others stands at the end
+  -- a row that is put after all others is at the end
   pub with_row-end : (row : Row) (front : List Row) → list_all (λ other. is_lt (compare (key_of other) (key_of row))) front ≡ true
       → with_row compare key_of row front ≡ front ++ row ∷ []
   unfolding with_row
@@ -34,7 +34,7 @@ module _ {Key Row : Type 0} (compare : Key → Key → Ordering) (key_of : Row �
             (list_all-weaker (λ other. is_lt (compare (key_of other) (key_of row))) (λ other. not (is_gt (compare (key_of other) (key_of row)))) (λ other. not_higher (compare (key_of other) (key_of row))) front lower),
       ) refl
 
-  -- in key order, the rows of the front stand before the first of the back
+  -- in key order, the rows of the front come before the first of the back
   pub front_lower : (row : Row) (front back : List Row) → in_key_order compare key_of (front ++ row ∷ back) ≡ true
       → list_all (λ other. is_lt (compare (key_of other) (key_of row))) front ≡ true
   front_lower row [] back ordered = refl

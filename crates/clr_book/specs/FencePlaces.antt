@@ -1,4 +1,4 @@
--- Where a fence stands in a network.
+-- Where a fence is in a network.
 use Rattle.std.specs.Prelude.{◌≡◌, ℕ, List, filter, filter_map, slice_get}
 use Rattle.clr_net.specs.Fence.{touches}
 use Rattle.clr_net.specs.Grid.{Grid}

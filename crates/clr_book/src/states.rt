@@ -10,7 +10,7 @@ use clr_rules::{ClearanceId, PointState};
 use clr_shelf::Shelf;
 use std::alloc::{AllocError, Global};
 
-/// The states of points that stand in the order of their names, before the first command.
+/// The states of points that are in the order of their names, before the first command.
 pub(crate) fn opening_states<P: Shelf<PointState>>(
     alloc: Global,
     points: &[PointRow],

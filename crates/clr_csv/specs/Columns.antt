@@ -44,13 +44,13 @@ name_or_none place (b ∷ bytes) = some_name (name_if_read place (read_name (b �
 abbrev pub name_or_none_in : ℕ → List (List ℕ) → Result (Option (List ℕ)) ColumnFault
 name_or_none_in place fields = name_or_none place (field_in place fields)
 
--- what a word stands for, of a list of words
+-- what a word means, of a list of words
 abbrev pub meaning_of : {A : Type 0} → List (List ℕ × A) → List ℕ → Option A
 meaning_of [] text = None
 meaning_of (entry ∷ words) text = if pointwise ◌==◌ text entry.0 then Some entry.1
     else meaning_of words text
 
--- what the word in a column stands for
+-- what the word in a column means
 abbrev pub word_in : {A : Type 0} → List (List ℕ × A) → ℕ → List (List ℕ) → Result A ColumnFault
 word_in words place fields = ok_or (meaning_of words (field_in place fields)) (column.BadWord place)
 

@@ -14,7 +14,7 @@ use csv::StringRecord;
 pub(crate) enum ColumnFault {
     /// The field is not a name.
     BadName(usize),
-    /// The field is not a word that may stand there.
+    /// The field is not a word that may be there.
     BadWord(usize),
 }
 

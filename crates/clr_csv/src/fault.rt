@@ -27,7 +27,7 @@ pub enum CsvFault {
     /// The field of this row and column is not a name.
     #[error("row {0}, column {1}: no name")]
     BadName(usize, usize),
-    /// The field of this row and column is not a word that may stand there.
+    /// The field of this row and column is not a word that may be there.
     #[error("row {0}, column {1}: not a word that may stand there")]
     BadWord(usize, usize),
     /// Memory ran out.

@@ -64,7 +64,7 @@ put_rows compare key_of [] front = front
 put_rows compare key_of (row ∷ rows) front = put_rows compare key_of rows (with_row compare key_of row front)
 
 module _ {Key Row : Type 0} (compare : Key → Key → Ordering) (key_of : Row → Key) (order : IsTotalOrder compare) where
-  -- rows above the first are put behind it
+  -- rows above the first are put after it
   put_behind : (first : Row) (rows front : List Row) → list_all (λ next. is_lt (compare (key_of first) (key_of next))) rows ≡ true
       → put_rows compare key_of rows (first ∷ front) ≡ first ∷ put_rows compare key_of rows front
   unfolding put_rows

@@ -16,13 +16,13 @@ abbrev pub AreAfter : Database → Register → Command → Trees → Type 0
 AreAfter db R q trees = IsGood R → HasTables db (tables_of R)
     → AreTables trees (tables_of (after R q))
 
--- these trees have the tables after the first commands of a list, so many of them or one more
+-- these trees have the tables after the first commands of a list, this many of them or one more
 abbrev pub AreAfterSome : Register → List Command → ℕ → Trees → Type 0
 AreAfterSome R commands least trees = (n : ℕ) × (least ≤ n) × (n ≤ least + 1)
     × (n ≤ length commands) × AreTables trees (tables_of (after_all R (take n commands)))
 
 -- where a saved store had the tables of a good register, a crash leaves the tables after the first
--- commands, so many of them or one more
+-- commands, this many of them or one more
 abbrev pub LeavesSome : State → State → Register → List Command → ℕ → Type 0
 LeavesSome old new R commands least = IsSaved old → IsGood R → HasTables old.now (tables_of R)
     → (trees : Trees) → new.may_leave trees → AreAfterSome R commands least trees

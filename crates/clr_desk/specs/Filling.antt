@@ -1,5 +1,5 @@
 -- THE EDITS THAT FILL A BOOK: what turns the opening register of a network, each point in the
--- position where it stands now, into the register of rows.
+-- position where it is now, into the register of rows.
 use Rattle.std.specs.Prelude.{List, ◌++◌, map}
 use Rattle.clr_rules.specs.declared.change.Edit.{Edit}
 use Rattle.clr_rules.specs.declared.change.Edit.TheVariants.{SetHand, PutHold, PutRecord, PutStep}

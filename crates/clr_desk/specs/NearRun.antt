@@ -25,7 +25,7 @@ near_network_all R [] g = g
 near_network_all R (q ∷ commands) g =
     near_network_all (near_after R q) commands (near_network R q g)
 
--- these commands were told these replies, and left this register
+-- these commands had these replies, and left this register
 pub record IsNearRun (R : Register) (commands : List Command) (told : List Reply)
     (S : Register) : Type 0 where
   pub replied : told ≡ near_replies R commands

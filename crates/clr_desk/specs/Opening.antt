@@ -57,7 +57,7 @@ abbrev pub bad_network : List SectionRow → Option NetFault → Option TableNam
 bad_network sections None rest = rest
 bad_network sections (Some fault) rest = Some (table_of sections fault)
 
--- THE TABLE AT FAULT: that of the network's first fault, else that of the staff's
+-- THE TABLE AT FAULT: that of the network's first fault, otherwise that of the staff's
 abbrev pub bad_table : Rows → Option TableName
 bad_table rows = bad_network rows.sections (network_fault rows.sections rows.points)
     (bad_staff (staff_fault rows.staff))

@@ -47,7 +47,7 @@ TablesComeBack = (S : Register) → IsGood S → IsTyped S → (db : Database) �
     → AreTables db.trees (tables_of S) → ComesBack S db
 
 -- A RUN GOES ON where a crash left it: the register that its first commands left comes back, those
--- that were answered and at most one more, and with the commands behind them the replies and the
+-- that were answered and at most one more, and with the commands after them the replies and the
 -- register are those of a run without a stop
 pub record GoesOnFrom (R : Register) (commands : List Command) (least : ℕ)
     (db : Database) : Type 0 where

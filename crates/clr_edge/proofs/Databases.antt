@@ -29,7 +29,7 @@ use Rattle.clr_edge.specs.declared.fault.Fault.{Fault}
 use Rattle.clr_edge.specs.Database.{IsOfLine, IsOfStore, IsOfUnfit, RefusesTables}
 use Rattle.clr_edge.specs.Visit.{Done, both}
 
--- a fault of the desk's commands is told as one of a line
+-- a fault of the desk's commands is reported as one of a line
 pub IsOfLine-of_command : (fault : DeskFault) → IsOfCommand fault → IsOfLine (of_desk fault)
 IsOfLine-of_command (desk.Store store.Sql) is = inr refl
 IsOfLine-of_command (desk.Store (store.WrongVersion n)) is = absurd is
@@ -90,16 +90,16 @@ survives_on s t u first later =
       crash = λ c db leaves. ⊎_elim (λ between. first.crash (clean c) db between) (λ none. absurd none) (later.crash c db leaves);
     }
 
--- an error of the database is told as one of a line
+-- an error of the database is reported as one of a line
 pub line_of_error : (e : Error) → IsOfLine (of_store (fault_of e))
 line_of_error (SqliteFailure code.OutOfMemory) = inl refl
 line_of_error _ = inr refl
 
--- the disk was clean before, if it is behind
+-- the disk was clean before, if it is afterwards
 pub was_clean : (s t : State) (Commits : Trees → Type 0) → Survives s t Commits → HasCleanDisk t → HasCleanDisk s
 was_clean s t Commits survives clean = omega (arith, survives.clean, clean)
 
--- a fault that was told, and one that is passed on
+-- a fault that was reported, and one that is passed on
 pub IfErr-was : {T : Type 0} (told : Result T Fault) (fault : Fault) (P : Fault → Type 0) → told ≡ Err fault → IfErr told P → P fault
 IfErr-was {T} told fault P was holds = let Q : Result T Fault → Type 0 = λ r. IfErr r P in subst Q was holds
 
@@ -108,7 +108,7 @@ pub IfErr-passed : {T : Type 0} (result : Result T Fault) (fault : Fault) (P : F
 IfErr-passed (Ok value) fault P is holds = absurd is
 IfErr-passed (Err cause) fault P is holds = subst P (sym is) holds
 
--- a fault of the store, told by the desk
+-- a fault of the store, reported by the desk
 pub of_desk-of_store : (cause : StoreFault) → of_desk (desk_of_store cause) ≡ of_store cause
 of_desk-of_store store.Sql = refl
 of_desk-of_store (store.WrongVersion n) = refl

@@ -16,7 +16,7 @@ pub const LINE_BYTES: usize = 96;
 /// A line, in place.
 pub type Line = ArrayString<LINE_BYTES>;
 
-/// The line of a fault, with its line feed. It takes no memory, since it may tell that memory ran
+/// The line of a fault, with its line feed. It takes no memory, since it may say that memory ran
 /// out.
 pub fn line_of(fault: &Fault) -> Line
     ensures { result.bytes ≡ told_line fault.now }

@@ -215,7 +215,7 @@ SwitchOrdersHoldNothing =
     (SetPosition S4 Opened ∷ SetHand S4 None ∷ PutRecord (ops_record Closed 103)
     ∷ PutStep (step_row ops_1 1 1 (does actions.Open S4) Done (Some REED)) ∷ [])
 
--- what a switch order closes loses the order's own HeldOpen: the edit stands although there is none
+-- what a switch order closes loses the order's own HeldOpen: the edit is made though there is none
 abbrev pub SwitchOrdersClose : Type 0
 SwitchOrdersClose =
     answer_after (says OPS (Switch (does actions.Close S4 ∷ []))
@@ -249,7 +249,7 @@ DeadTestsArePut =
     ≡ accepted (jones_card Granted 1 6 6)
     (PutHold (hold_of jones_1 Tested L2) ∷ PutRecord (jones_record Granted 121) ∷ [])
 
--- a section that is live loses its test: the edit stands although there is none
+-- a section that is live loses its test: the edit is made though there is none
 abbrev pub LiveTestsAreTaken : Type 0
 LiveTestsAreTaken =
     answer_after l2_granted (says JONES (Test jones_1 L2 false))
@@ -403,7 +403,7 @@ ViewsHaveTheFence = answer_after s2_opened (says DALE (Show jones_1)) ≡ record
   edits = [];
 }
 
--- JONES's crew is at work, and KIM holds S3 as well: the holds stand by kind, in the kinds' own
+-- JONES's crew is at work, and KIM holds S3 as well: the holds go by kind, in the kinds' own
 -- order, then by place, then by clearance; KIM's holds at S4 and T1 are elsewhere
 abbrev pub ViewsHaveAllHolds : Type 0
 ViewsHaveAllHolds = answer_after (c1_is_on ++ kim_is_granted) (says KIM (Show jones_1)) ≡ record {

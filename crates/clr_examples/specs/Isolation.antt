@@ -109,7 +109,7 @@ abbrev pub TheAnswersAreTheSame : Type 0
 TheAnswersAreTheSame =
     own_answers jones_1 register_one with_s4_switched ≡ own_answers jones_1 register_two list_two
 
--- what stands near JONES/1 in the end: nothing is held, S2 and S3 are closed, and all twelve steps
+-- what is near JONES/1 in the end: nothing is held, S2 and S3 are closed, and all twelve steps
 -- are done
 abbrev pub near_in_the_end : Register
 near_in_the_end = record {
@@ -148,7 +148,7 @@ abbrev pub AnotherPointDisagrees : Type 0
 AnotherPointDisagrees =
     Agree jones_1 in_l2 register_one (opening (two_net false Shut) worked_staff) → ⊥
 
--- S2 stands open there
+-- S2 is open there
 abbrev pub AnotherPositionDisagrees : Type 0
 AnotherPositionDisagrees =
     Agree jones_1 in_l2 register_one (opening (two_net true Opened) worked_staff) → ⊥

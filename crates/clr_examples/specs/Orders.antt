@@ -34,7 +34,7 @@ pub record IsolatingFaults : Type 0 where
   pub elsewhere : jones_order_tells (S2 ∷ S4 ∷ ZZ ∷ S3 ∷ []) [] (NotOnFence S4)
   pub unknown : jones_order_tells (S2 ∷ ZZ ∷ S4 ∷ S3 ∷ []) [] (NotOnFence ZZ)
   pub inside : jones_order_tells (S1 ∷ S3 ∷ S4 ∷ ZZ ∷ []) [] (NotOnFence S3)
-  -- the first of the points whose steps are not the needed ones, also where an earlier step stands
+  -- the first of the points whose steps are not the needed ones, also where an earlier step is
   -- elsewhere
   pub steps : jones_order_tells (S3 ∷ S2 ∷ []) (does actions.Open S1 ∷ []) (StepsWrong S3)
   pub out_of_order : jones_order_tells (S2 ∷ S3 ∷ [])
@@ -55,7 +55,7 @@ jones_restoring_tells tasks refusal = tells l2_released (says OPS (Restore jones
 pub record RestoringFaults : Type 0 where
   pub empty : jones_restoring_tells [] EmptyOrder
   pub long_steps : jones_restoring_tells too_long LongOrder
-  -- the first of the held points in the order's first round, also where an earlier step stands
+  -- the first of the held points in the order's first round, also where an earlier step is
   -- elsewhere
   pub steps : jones_restoring_tells (does actions.Open S1 ∷ []) (StepsWrong S2)
   pub out_of_order : jones_restoring_tells

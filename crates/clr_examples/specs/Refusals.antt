@@ -46,7 +46,7 @@ OperatorsMayNotRequest = answer_after [] (says OPS (Request L2)) ≡ refused Wro
 abbrev pub SectionsAreKnown : Type 0
 SectionsAreKnown = answer_after [] (says JONES (Request (codes "L9"))) ≡ refused UnknownSection
 
--- the same command, so many times
+-- the same command, n times
 unfoldable pub times : ℕ → Command → List Command
 times zero q = []
 times (suc n) q = q ∷ times n q
@@ -123,7 +123,7 @@ PointsComeOnce =
     answer_after l2_asked (says OPS (Order jones_1 (replicate 64 S2) isolating_l2))
     ≡ refused PointTwice
 
--- L1 is cut at S1 and S2, but H supplies it over the tie T1, which is a way in although it stands
+-- L1 is cut at S1 and S2, but H supplies it over the tie T1, which is a way in although it is
 -- open
 abbrev pub OpenTiesLeadIn : Type 0
 OpenTiesLeadIn =

@@ -40,7 +40,7 @@ use Rattle.clr_rules.specs.declared.reply.Reply.TheVariants.{Accepted, Shown, Re
 abbrev pub replies_after : List Saying → List Saying → List Reply
 replies_after said next = replies (register_after said) (from_moment (100 + length said) next)
 
--- the replies to a step of JONES/1 that runs, all accepted: so many of six steps were done before
+-- the replies to a step of JONES/1 that runs, all accepted: this many of six steps were done before
 -- it, and one more is after it
 abbrev pub jones_step_replies : Phase → ℕ → ℕ → List Reply
 jones_step_replies phase round before =
@@ -181,7 +181,7 @@ OnlyS4IsClosedAgain =
     ∷ record { point = S4; position = Shut; hand = None }
     ∷ record { point = T1; position = Opened; hand = None } ∷ []
 
--- and JONES's holds stand, at S3 too
+-- and JONES's holds stay, at S3 too
 abbrev pub JonesStillHolds : Type 0
 JonesStillHolds = Register.holds (register_after (l2_granted ++ kim_releases ++ kim_restores)) ≡
     hold_of jones_1 Block S2 ∷ hold_of jones_1 Block S3 ∷ hold_of jones_1 HeldOpen S2

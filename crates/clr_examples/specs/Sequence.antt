@@ -36,7 +36,7 @@ tells said next refusal = answer_after said next ≡ refused refusal
 abbrev pub tells_early : List Saying → Saying → Refusal → Type 0
 tells_early said next refusal = answer (register_after said) (said_at 0 next) ≡ refused refusal
 
--- a requester's clearance of the last number stands, and no other
+-- a requester has a clearance of the last number, and no other
 abbrev pub last_number : List ℕ → Register
 last_number requester = record worked_opening {
   records =
@@ -143,7 +143,7 @@ pub record GroundAsks : Type 0 where
   pub earlier : tells_early l2_ordered (says JONES (Ground jones_1 L2)) Earlier
   pub wrong_phase : tells l2_ordered (says JONES (Ground jones_1 L3)) WrongPhase
   pub outside_fence : tells l2_granted (says JONES (Ground jones_1 L3)) OutsideFence
-  -- a ground stands, and a later test found the section live
+  -- a ground is on, and a later test found the section live
   pub not_tested : tells (l2_grounded ++ says JONES (Test jones_1 L2 false)
       ∷ []) (says JONES (Ground jones_1 L2)) NotTested
   pub grounded : tells l2_grounded (says JONES (Ground jones_1 L2)) Grounded

@@ -124,7 +124,7 @@ OwnHoldsElsewhereAreNotNear =
     (after_edits (PutHold (hold_of jones_1 Tag S4) ∷ []) (register_after l2_ordered))
     (said_at 200 (says OPS (Show jones_1))))) ≡ []
 
--- a clearance that is Closed lends its record and its steps, and nothing of the network
+-- a clearance that is Closed gives its record and its steps, and nothing of the network
 abbrev pub NearAClosedClearance : Type 0
 NearAClosedClearance =
     near_of (register_after (l2_ordered ++ says JONES (Cancel jones_1) ∷ []))
@@ -145,7 +145,7 @@ NearAClosedClearance =
       };
     }
 
--- a switch order lends its points as long as it stands, and also once it is Closed
+-- a switch order gives its points as long as it is open, and also once it is Closed
 abbrev pub near_ops : List Saying → Register
 near_ops said =
     Near.rows (near_of (register_after (says OPS (Switch (does actions.Close S3 ∷ [])) ∷ said))

@@ -79,7 +79,7 @@ abbrev pub ZZ : List ℕ
 ZZ = codes "ZZ"
 
 -- THE NETWORK: G -S1- L1 -S2- L2 -S3- L3 -S4- H, and T1 between L1 and L3. G and H are sources; S4
--- is controlled from afar; the tie T1 stands open, and can be neither locked nor controlled
+-- is controlled from afar; the tie T1 is open, and can be neither locked nor controlled
 
 -- a point that is no jumper: its name, its ends, whether it can be locked, and controlled from
 -- afar, and its position

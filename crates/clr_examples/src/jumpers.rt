@@ -1,4 +1,4 @@
-//! Points that are added while clearances stand.
+//! Points that are added beside clearances.
 ghost use Rattle.clr_examples.specs.Jumpers.{FencesStay, JumpersAddAPoint};
 ghost use Rattle.clr_examples.specs.Jumpers.{JumpersAddASection, JumpersAreClosed};
 ghost use Rattle.clr_examples.specs.Jumpers.{JumpersAreRefused, JumpersAreSeen, NearAJumper};

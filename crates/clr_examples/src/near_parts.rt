@@ -2,7 +2,7 @@
 ghost use Rattle.clr_examples.specs.NearParts.{NearARequest, NearASwitchOrder, NearAnOrder};
 ghost use Rattle.clr_examples.specs.NearParts.{NearJones};
 
-/// The near part of JONES/1, beside which KIM/1 stands.
+/// The near part of JONES/1, with KIM/1 beside it.
 pub fn show()
     ensures { NearJones }
 {}

@@ -12,7 +12,7 @@ pub fn work()
     ensures release { ReleasesAreOnesOwn }
 {}
 
-/// What stands at a point of both, and at one inside.
+/// What is at a point of both, and at one inside.
 pub fn points()
     ensures named { TheLesserIsNamed }
     ensures own { OwnHoldsDoNotHinder }

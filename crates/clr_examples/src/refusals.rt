@@ -68,7 +68,7 @@ pub fn other_orders()
     ensures unknown_point { SwitchedPointsAreKnown }
 {}
 
-/// By a step, or by what stands at its point.
+/// By a step, or by what is at its point.
 pub fn steps()
     ensures no_step { StepsAreNumbered }
     ensures out_of_turn { StepsAreDoneInTurn }

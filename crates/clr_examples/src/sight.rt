@@ -29,7 +29,7 @@ pub fn near()
     ensures elsewhere { OwnHoldsElsewhereAreNotNear }
 {}
 
-/// What is near a switch order that stands.
+/// What is near a switch order that is open.
 pub fn switch_orders()
     ensures { NearASwitchOrderThatStands }
 {}

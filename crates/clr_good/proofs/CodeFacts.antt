@@ -43,7 +43,7 @@ pub names_behind : {X Y : Type 0} (shows : X → Y) (name_of : Y → List ℕ) (
 names_behind shows name_of [] = refl
 names_behind shows name_of (item ∷ items) = ap (λ names. name_of (shows item) ∷ names) (names_behind shows name_of items)
 
--- the refusal of an order does not hang on where points stand
+-- the refusal of an order does not hang on the positions of points
 pub fault_of_network : (g : Grid) (work : List ℕ) (points : List (List ℕ)) (tasks : List Task)
     → isolating_fault (fence_of g work points) points tasks ≡ isolating_fault (fence_of (unplaced_net g) work points) points tasks
 fault_of_network g work points tasks =
@@ -58,7 +58,7 @@ pub is_there : {X : Type 0} (found : Option (Bor X)) → is_some found ≡ is_so
 is_there None = refl
 is_there (Some row) = refl
 
--- a check is passed where no fault is told
+-- a check is passed where no fault is reported
 pub no_fault_told : (o : Option OrderFault) → is_ok (answer_of o) ≡ not (is_some o)
 no_fault_told None = refl
 no_fault_told (Some fault) = refl

@@ -109,14 +109,14 @@ held_then_put holds c rows held =
 
 -- ---- what is undone
 
--- nothing is done where no step stands
+-- nothing is done where there is no step
 none_at : (p : List ℕ) (rows : List StepRow) → has_name (points_of rows) p ≡ false → actions_at (tasks_of rows) p ≡ []
 none_at p [] none = refl
 none_at p (row ∷ rows) none =
     let parts = or_parts (same_name p row.step.point) (has_name (points_of rows) p) none in
     rw parts.0 (none_at p rows parts.1)
 
--- steps that a test keeps stand at no other points
+-- steps that a test keeps are at no other points
 kept_points : (q : StepRow → Bool) (p : List ℕ) (rows : List StepRow) → has_name (points_of (filter q rows)) p ≡ true → has_name (points_of rows) p ≡ true
 kept_points q p [] known = known
 kept_points q p (row ∷ rows) known = at (q row) refl known (kept_points q p rows)
@@ -139,7 +139,7 @@ round_points k p rows known = kept_points (λ (row : StepRow). nat_eq row.round 
 left_points : (p : List ℕ) (rows : List StepRow) → has_name (points_of (steps_left_of rows)) p ≡ true → has_name (points_of rows) p ≡ true
 left_points p rows known = kept_points (λ (row : StepRow). not (is_done row.step.state)) p rows known
 
--- where no step stands, and nothing is held, nothing is undone
+-- where there is no step, and nothing is held, nothing is undone
 pub undone_nowhere : (holds : List Hold) (c : Id) (steps : List StepRow) (p : List ℕ) → has_name (points_of steps) p ≡ false
     → ((kind : HoldKind) → is_point_kind kind ≡ true → has_hold holds c kind p ≡ false) → is_undone_at holds c (of_round steps 2) p ≡ true
 undone_nowhere holds c steps p none free =

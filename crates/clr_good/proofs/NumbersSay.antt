@@ -32,7 +32,7 @@ still_greater n a b first below = at (same_name a.requester b.requester) refl
     at false is = apart (less (name_cmp n b.requester)
         (below_chain name_cmp nat_list_cmp_total n a.requester b.requester (ap is_lt first) (ap is_lt (greater_name a b below is))))
 
--- the records stand above the clearance before them
+-- the records are above the clearance before them
 abbrev StandsBefore : Option Id → List Record → Type 0
 StandsBefore None records = Unit {0}
 StandsBefore (Some c) records = list_all (λ next. is_lt (id_cmp c next.id)) records ≡ true

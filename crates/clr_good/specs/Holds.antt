@@ -1,5 +1,5 @@
--- THE LIST OF HOLDS FITS: each hold has a record, whose phase and steps are such that it stands
--- there, and a hold at a point stands at an open one; and each record has the holds that its phase
+-- THE LIST OF HOLDS FITS: each hold has a record, whose phase and steps are such that it may be
+-- there, and a hold at a point is at an open one; and each record has the holds that its phase
 -- and its steps want.
 use Rattle.std.specs.Prelude.{ℕ, Bool, true, false, not, ◌&&◌, ◌||◌, List, Option, None, Some}
 use Rattle.clr_rules.specs.Prelude.{list_all, Grid, has_name, Position, actions_at, Action, Id}
@@ -26,7 +26,7 @@ is_opened None = false
 is_opened (Some Opened) = true
 is_opened (Some Shut) = false
 
--- whether a hold at a point may stand there, by its clearance's phase and steps
+-- whether a hold at a point may be there, by its clearance's phase and steps
 abbrev pub point_hold_suits : List Hold → Id → List StepRow → Phase → HoldKind → List ℕ → Bool
 point_hold_suits holds c steps Ordered kind p = put_by (of_round steps 1) kind p
 point_hold_suits holds c steps Granted kind p = put_by (of_round steps 1) kind p
@@ -37,7 +37,7 @@ point_hold_suits holds c steps Requested kind p = false
 point_hold_suits holds c steps Switching kind p = false
 point_hold_suits holds c steps Closed kind p = false
 
--- whether a test, a ground or a crew may stand there: tests and grounds within the fence, crews
+-- whether a test, a ground or a crew may be there: tests and grounds within the fence, crews
 -- where the work section bears the clearance's own ground
 abbrev pub work_hold_suits : Grid → List Hold → Id → List StepRow → Option (List ℕ) → HoldKind
     → List ℕ → Bool
@@ -51,7 +51,7 @@ work_hold_suits g holds c steps work Block p = false
 work_hold_suits g holds c steps work Control p = false
 work_hold_suits g holds c steps work Tag p = false
 
--- by whether it stands at a point
+-- by whether it is at a point
 abbrev pub kind_suits : Register → Phase → Option (List ℕ) → Hold → Bool → Bool
 kind_suits R phase work h true = is_opened (position_of R.states h.place)
     && point_hold_suits R.holds h.id (steps_of R.steps h.id) phase h.kind h.place
@@ -65,7 +65,7 @@ recorded_hold_fits R h (Some r) = kind_suits R r.phase r.work h (is_point_kind h
 abbrev pub hold_fits : Register → Hold → Bool
 hold_fits R h = recorded_hold_fits R h (record_of R.records h.id)
 
--- whether what an action puts at its point stands there
+-- whether what an action puts at its point is there
 abbrev pub put_stands : List Hold → Id → Action → List ℕ → Bool
 put_stands holds c actions.Open p = has_hold holds c HeldOpen p
 put_stands holds c actions.Block p = has_hold holds c Block p
@@ -77,7 +77,7 @@ put_stands holds c actions.Unblock p = true
 put_stands holds c actions.Close p = true
 put_stands holds c actions.Leave p = true
 
--- whether all that the Done steps put stands
+-- whether all that the Done steps put is there
 abbrev pub all_put_stands : List Hold → Id → List StepRow → Bool
 all_put_stands holds c rows = list_all (λ row. not (is_done row.step.state)
     || put_stands holds c row.step.action row.step.point) rows

@@ -1,5 +1,5 @@
--- THE LIST OF STEPS FITS: each step has a record, stands at a point of the network, and has its
--- point in hand while it is given out; while a Close is given out, nothing stands at its point but
+-- THE LIST OF STEPS FITS: each step has a record, is at a point of the network, and has its
+-- point in hand while it is given out; while a Close is given out, nothing is at its point but
 -- the clearance's own HeldOpen; the steps of each record go in turn, and are as its phase wants
 -- them.
 use Rattle.std.specs.Prelude.{ℕ, Bool, true, false, not, ◌&&◌, ◌||◌, ◌==◌, List, [], ◌∷◌, Option}

@@ -8,7 +8,7 @@ use Rattle.clr_good.specs.Clearances.{clearances_fit}
 use Rattle.clr_good.specs.Steps.{steps_fit}
 use Rattle.clr_good.specs.Holds.{holds_fit}
 
--- what a register has by how it is kept: its network and its staff were built, its lists stand in
+-- what a register has by how it is kept: its network and its staff were built, its lists are in
 -- key order
 pub record IsKept (R : Register) : Type 0 where
   pub network : IsNetwork R.net

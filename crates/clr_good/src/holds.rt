@@ -33,8 +33,8 @@ impl<'a, P: Shelf<PointState>, C: Shelf<Record>, T: Shelf<StepRow>, H: Shelf<Hol
     T,
     H,
 > {
-    /// Whether each hold has a record whose phase and steps have it stand there, at an open point
-    /// if it stands at one, and each record has the holds that its phase and steps want.
+    /// Whether each hold has a record whose phase and steps put it there, at an open point
+    /// if it is at one, and each record has the holds that its phase and steps want.
     pub(crate) fn holds_fit(&self) -> Result<bool, AllocError>
         ensures { IfOk result (λ fit. fit ≡ holds_fit self.now) }
     {
@@ -48,7 +48,7 @@ impl<'a, P: Shelf<PointState>, C: Shelf<Record>, T: Shelf<StepRow>, H: Shelf<Hol
         Ok(fit)
     }
 
-    /// Where the holds of a clearance stand side by side, its fence is searched once.
+    /// Where the holds of a clearance are side by side, its fence is searched once.
     fn each_hold_fits(&self, holds: &[&Hold]) -> Result<bool, AllocError>
         ensures { IfOk result (λ fit. fit
             ≡ list_all (hold_fits self.now) (map (λ hold. hold.now) holds.now)) }
@@ -79,7 +79,7 @@ impl<'a, P: Shelf<PointState>, C: Shelf<Record>, T: Shelf<StepRow>, H: Shelf<Hol
         }
     }
 
-    /// Whether a hold at a point may stand there.
+    /// Whether a hold at a point may be there.
     #[tactic(auto, unfolding(clr_rules::specs::Steps::steps_of))]
     fn stands_at_point(
         &self,
@@ -121,7 +121,7 @@ impl<'a, P: Shelf<PointState>, C: Shelf<Record>, T: Shelf<StepRow>, H: Shelf<Hol
         self.holds.get(&Hold { kind, place, id }).is_some()
     }
 
-    /// Whether a test, a ground or a crew may stand there.
+    /// Whether a test, a ground or a crew may be there.
     fn stands_at_work(
         &self,
         phase: Phase,
@@ -213,7 +213,7 @@ impl<'a, P: Shelf<PointState>, C: Shelf<Record>, T: Shelf<StepRow>, H: Shelf<Hol
         }
     }
 
-    /// Whether all that the Done steps put stands.
+    /// Whether all that the Done steps put is there.
     fn all_put_stands(&self, id: ClearanceId, steps: &[&StepRow]) -> bool
         ensures { result ≡ all_put_stands self.now.holds id (map (λ row. row.now) steps.now) }
     {
@@ -225,7 +225,7 @@ impl<'a, P: Shelf<PointState>, C: Shelf<Record>, T: Shelf<StepRow>, H: Shelf<Hol
         true
     }
 
-    /// Whether what an action puts at its point stands there.
+    /// Whether what an action puts at its point is there.
     fn put_stands(&self, id: ClearanceId, action: Action, point: Name) -> bool
         ensures { result ≡ put_stands self.now.holds id action point }
     {
@@ -304,7 +304,7 @@ fn puts(action: Action, kind: HoldKind) -> bool
     }
 }
 
-/// Whether one of these steps stands at a point.
+/// Whether one of these steps is at a point.
 fn stands_there(steps: &[&StepRow], point: Name) -> bool
     ensures { result ≡ has_name (points_of (map (λ row. row.now) steps.now)) point }
 {

@@ -1,4 +1,4 @@
-//! The rows of a register, as they stand on shelves.
+//! The rows of a register, as shelves have them.
 ghost use Rattle.std.specs.Prelude.{◌≡◌};
 ghost use Rattle.clr_good.specs.Whole.{IsKept};
 
@@ -67,7 +67,7 @@ impl<'a, P: Shelf<PointState>, C: Shelf<Record>, T: Shelf<StepRow>, H: Shelf<Hol
         }
     }
 
-    /// A register on shelves has a network and a staff, and its lists stand in key order: a law,
+    /// A register on shelves has a network and a staff, and its lists are in key order: a law,
     /// with nothing to do.
     pub(crate) fn is_kept(&self)
         ensures { IsKept self.now }

@@ -206,7 +206,7 @@ fn is_sound(fence: &Fence, points: &[Name], steps: &[Step]) -> bool
     check_isolating(fence, points, steps).is_ok()
 }
 
-/// The present round: the second where there is one, else the first; 0 without steps in either.
+/// The present round: the second where there is one, or the first; 0 without steps in either.
 fn present_round(first: &[&StepRow], second: &[&StepRow]) -> u8
     ensures { (steps : List StepRow) → map (λ row. row.now) first.now ≡ of_round steps 1
         → map (λ row. row.now) second.now ≡ of_round steps 2 → result ≡ present_of steps }

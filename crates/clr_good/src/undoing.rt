@@ -9,7 +9,7 @@ use clr_net::Name;
 use clr_order::HoldsLeft;
 use clr_rules::StepRow;
 
-/// Whether the steps at a point that are not Done undo what stands there, and do no more.
+/// Whether the steps at a point that are not Done undo what is there, and do no more.
 pub(crate) fn undo(held: HoldsLeft, steps: &[&StepRow], point: Name) -> bool
     ensures { result ≡ are_undone held
         (actions_at (tasks_of (steps_left_of (map (λ row. row.now) steps.now))) point) }

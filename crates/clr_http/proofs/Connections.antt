@@ -49,7 +49,7 @@ answered_served o old new before behind result c turn w some = record {
   left = turn_leaves o old new c turn;
 }
 
--- the outcome is told in other words
+-- the outcome in other words
 pub served_as : (o other : Outcome) (old new : Keeper) (before behind : Stream) (result : Result Served HttpFault)
     → o ≡ other → IsServed other old new before behind result → IsServed o old new before behind result
 served_as o other old new before behind result e s =
@@ -67,7 +67,7 @@ unmade_served o old new stream result e left =
 rose_once : (n : ℕ) → Rose n (one_more n)
 rose_once n = grind arith
 
--- a 503 tells a fault that was counted
+-- a 503 reports a fault that was counted
 counted_503 : (old new : Keeper) (c : Content) → Accounts old new c → 503 ≡ status_of c → Rose old.faults new.faults
 counted_503 old new c (inl (other, same)) e = absurd (other (sym e))
 counted_503 old new c (inr (is, counts)) e = rw counts.1 (rose_once old.faults)
@@ -82,7 +82,7 @@ accounts_of : (old new : Keeper) (r : Response) → AccountsFor old new (Ok r) �
 accounts_of old new r (inl plain) = inl plain
 accounts_of old new r (inr (is, counts)) = inr (ap content_of is, counts)
 
--- behind one that takes memory no fault was counted
+-- after one that takes memory no fault was counted
 uncounted : (old new : Keeper) (r : Response) (result : Result Served HttpFault) → AccountsFor old new (Ok r)
     → (r ≡ made.Unavailable → result ≢ Err NoMemory) → result ≡ Err NoMemory → new.faults ≡ old.faults
 uncounted old new r result (inl plain) fixed e = plain.1

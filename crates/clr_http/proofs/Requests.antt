@@ -1,4 +1,4 @@
--- One request: its head, and the body behind it, in the bytes that were taken.
+-- One request: its head, and the body after it, in the bytes that were taken.
 use Rattle.std.proofs.Common.{◌≡◌, ◌∙◌, sym, ap, refl, subst, ℕ, suc, ◌+◌, ◌≤◌, ◌<◌, ◌-◌, true, false, nat_le, List, [], ◌∷◌, ◌++◌, length, take, drop, Option, Some, None, arith, rules, length-append, inl, inr}
 use Rattle.std.proofs.lemmas.Bool.{le-leb, lt-leb}
 use Rattle.std.proofs.lemmas.List.{take-append-le, drop-append-le, length-drop, length-map, length-take-le}

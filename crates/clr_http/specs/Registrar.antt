@@ -23,7 +23,7 @@ faults_after (Some reply) faults = faults
 abbrev pub CountsFault : Keeper → Keeper → Type 0
 CountsFault old new = (new.register ≡ old.register) × (new.faults ≡ one_more old.faults)
 
--- A TURN: the outcome, and no fault; or a fault is counted, the response tells it, and the register
+-- A TURN: the outcome, and no fault; or a fault is counted, the response says so, and the register
 -- stays as it was
 abbrev pub IsTurn : Outcome → Keeper → Keeper → Content → Type 0
 IsTurn o old new c =
@@ -35,14 +35,14 @@ abbrev pub IsTurned : Outcome → Keeper → Keeper → Result Response AllocErr
 IsTurned o old new (Ok response) = IsTurn o old new (content_of response)
 IsTurned o old new (Err e) = (new.register ≡ old.register) ⊎ (new.register ≡ o.left)
 
--- What holds of every turn, whatever the register: a 503 tells a fault that was counted in this
--- turn, and behind any other response none was.
+-- What holds of every turn, whatever the register: a 503 reports a fault that was counted in this
+-- turn, and after any other response none was.
 abbrev pub Accounts : Keeper → Keeper → Content → Type 0
 Accounts old new c = ((status_of c ≢ 503) × (new.faults ≡ old.faults))
     ⊎ ((c ≡ fault_response Unavailable) × CountsFault old new)
 
 -- The same of a turn whose response was made, or for which memory ran out. A fault that was counted
--- is told by the response that takes no memory: so want of memory comes only where none was.
+-- is reported by the response that takes no memory: so want of memory comes only where none was.
 abbrev pub AccountsFor : Keeper → Keeper → Result Response AllocError → Type 0
 AccountsFor old new (Ok response) =
     ((status_of (content_of response) ≢ 503) × (new.faults ≡ old.faults))

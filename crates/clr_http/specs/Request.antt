@@ -1,5 +1,5 @@
--- THE REQUEST: what the head and the bytes behind it ask for, or how they are refused. The checks
--- stand in their order: route, method, length, the whole body.
+-- THE REQUEST: what the head and the bytes after it ask for, or how they are refused. The checks
+-- are in their order: route, method, length, the whole body.
 use Rattle.std.specs.Prelude.{◌≡◌, ◌≢◌, ◌⊎◌, ℕ, nat_eq, nat_le, if◌then◌else◌, List, [], length, map}
 use Rattle.std.specs.Prelude.{take, Option, Some, None, Result, Ok, Err}
 use Rattle.std.specs.Cmp.Lexicographic.{pointwise}
@@ -41,7 +41,7 @@ pub data Reading : Type 0 where
   refused : Content → Reading
   asks : Target → List ℕ → Reading
 
--- a command, by the length of its body and the bytes behind the head
+-- a command, by the length of its body and the bytes after the head
 abbrev pub command_read : Result ℕ LengthFault → List ℕ → Reading
 command_read (Err e) rest = refused (fault_response (fault_of_length e))
 command_read (Ok n) rest = if nat_le n (length rest) then asks Command (take n rest)

@@ -87,7 +87,7 @@ abbrev pub reading_outcome : Register → Reading → Outcome
 reading_outcome R (refused c) = unchanged R c
 reading_outcome R (asks asked body) = target_outcome R asked body
 
--- WHAT A HEAD AND THE BYTES BEHIND IT ARE ANSWERED
+-- WHAT A HEAD AND THE BYTES AFTER IT ARE ANSWERED
 abbrev pub respond_to : Register → RequestHead → List ℕ → Outcome
 respond_to R head rest = reading_outcome R (request_read head rest)
 

@@ -51,7 +51,7 @@ pub data Content : Type 0 where
   printed : List ℕ → Content
   allow : Method → Content
 
--- the response that tells a fault
+-- the response that reports a fault
 abbrev pub fault_response : Fault → Content
 fault_response fault = json (fault_status fault) (fault_body fault)
 

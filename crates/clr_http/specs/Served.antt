@@ -34,7 +34,7 @@ pub record IsServed (o : Outcome) (old new : Keeper) (before behind : Stream)
 
 -- WHAT EVERY CONNECTION COMES TO, whatever its input and the register: a response went out, whole
 -- or in part, or nothing did; one fault is counted at most, and then the register is as it was; a
--- 503 goes out only where one was; and one that was is told by the 503, whole or in part, since out
+-- 503 goes out only where one was; and one that was is said by the 503, whole or in part, since out
 -- of memory comes only where none was.
 pub record IsConnection (old new : Keeper) (before behind : Stream)
     (result : Result Served HttpFault) : Type 0 where

@@ -12,9 +12,9 @@ ghost use Rattle.clr_http.specs.Registrar.{Keeper, faults_after};
 use clr_rules::{ClearanceId, Command, Reply};
 use std::alloc::{AllocError, Global};
 
-/// One who keeps a register: answers commands, and prints what stands in it. A desk is one.
+/// One who keeps a register: answers commands, and prints what is in it. A desk is one.
 pub trait Registrar {
-    /// The register as it stands, and how many commands were not answered.
+    /// The register as it is now, and how many commands were not answered.
     ghost keeper: { Self → Keeper };
 
     /// What ties a state to each later one, beside the register: what a command does to the rest of

@@ -1,4 +1,4 @@
-//! The request: what its head and the bytes behind it ask for.
+//! The request: what its head and the bytes after it ask for.
 ghost use Rattle.std.specs.Prelude.{◌≡◌, ◌≢◌, ◌≤◌, ◌<◌, ℕ, All, List, [], Option, Some, None, Ok};
 ghost use Rattle.std.specs.Prelude.{Err, IfOk, IfErr, IfSome, drop, length, map, take};
 ghost use Rattle.std.specs.Prelude.{true, false, vec_len};
@@ -56,7 +56,7 @@ impl Target {
 }
 
 impl LengthFault {
-    /// The fault that tells it.
+    /// The fault of it.
     pub(crate) fn as_fault(self) -> Fault
         ensures { result ≡ fault_of_length self }
     {
@@ -121,7 +121,7 @@ fn head_refused(alloc: Global, fault: HeadFault) -> Result<Request, ReadFault>
     }
 }
 
-/// The fault of a read behind the head.
+/// The fault of a read after the head.
 fn read_fault(fault: HeadFault) -> ReadFault
     ensures { result ≡ ReadFault.ReadFailed → fault ≡ HeadFault.ReadFailed }
 {
@@ -171,7 +171,7 @@ fn command_behind<R: CountedRead>(
     }
 }
 
-/// The command behind a head with these fields, which ends at `start`.
+/// The command after a head with these fields, which ends at `start`.
 fn command_in<R: CountedRead>(
     alloc: Global,
     reader: &mut R,

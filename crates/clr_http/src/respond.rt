@@ -40,7 +40,7 @@ pub(crate) fn response_to<D: Registrar>(
     }
 }
 
-/// Answers the command of a body, or tells the fault of its text.
+/// Answers the command of a body, or reports the fault of its text.
 fn body_response<D: Registrar>(
     alloc: Global,
     desk: &mut D,

@@ -100,7 +100,7 @@ pub(crate) enum Response {
 }
 
 impl Response {
-    /// The response that tells a fault.
+    /// The response that reports a fault.
     pub(crate) fn of_fault(alloc: Global, fault: Fault) -> Result<Response, AllocError>
         ensures { IfOk result (λ r. content_of r ≡ fault_response fault) }
     {
@@ -134,7 +134,7 @@ impl Response {
     }
 }
 
-/// The bytes of the response `Unavailable`, which stand in the program.
+/// The bytes of the response `Unavailable`, which the program contains.
 pub(crate) fn unavailable_text() -> &'static str
     ensures { result.now ≡ response_bytes (fault_response Unavailable) }
 {

@@ -1,4 +1,4 @@
--- A row of a point that does not read is told by the table that it is read for.
+-- A row of a point that does not read is reported by the table that it is read for.
 use Rattle.std.proofs.Common.{◌≡◌, ℕ, ◌+◌, Bool, true, false, nat_le, if◌then◌else◌, List, [], ◌∷◌, Option, None, Some, Result, Ok, Err, pos, negsuc, ap, sym}
 use Rattle.std.specs.Prelude.{ok_or}
 use Rattle.sqlite.specs.Order.{Row, column}

@@ -28,7 +28,7 @@ use Rattle.clr_load.specs.declared.fault.StoreFault.{StoreFault}
 use Rattle.clr_load.specs.declared.fault.StoreFault.TheVariants.{Sql, WrongVersion, BadRow, NoMemory}
 use Rattle.clr_load.proofs.Texts.{all_of, meta_known, meta_unlisted, select_known, select_unlisted, selecting}
 
--- ---- what a fault tells
+-- ---- what a fault says
 pub told_of_database : (e : Error) (fault : StoreFault) → fault ≡ fault_of e → IsOfDatabase fault
 told_of_database (SqliteFailure code.OutOfMemory) fault is = rw is tt
 told_of_database _ fault is = rw is tt

@@ -74,7 +74,7 @@ fits_length [] (v ∷ values) h = absurd cc
 fits_length (c ∷ columns) [] h = absurd cc
 fits_length (c ∷ columns) (v ∷ values) h = ap suc (fits_length columns values (both_true (is_of_kind c.kind v) (fits_columns columns values) h).1)
 
--- ---- the values in so many columns, from one on
+-- ---- the values in this many columns, from one on
 abbrev pub values_from : ℕ → ℕ → Row → Row
 values_from at zero row = []
 values_from at (suc n) row = column row at ∷ values_from (suc at) n row
@@ -130,7 +130,7 @@ equal_is (Blob m) (Real x) h = says _
 equal_is (Blob m) (Text t) h = says _
 equal_is (Blob m) (Blob b) h = says _
 
--- whether so many columns tie, from one on
+-- whether this many columns tie, from one on
 abbrev pub ties_from : ℕ → ℕ → Row → Row → Bool
 ties_from at zero key row = true
 ties_from at (suc n) key row = is_eq (value_cmp (column row at) (column key at)) && ties_from (suc at) n key row

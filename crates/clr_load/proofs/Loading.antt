@@ -158,7 +158,7 @@ lists l old new name t shown there has ordered ran =
     let read = reads_as (select_sql name) [] old new (schema_in l) has.schema _ text.is text.plain (select_unlisted l name there) shown ran in
     answer_is l name old.now.trees (rows_in l name t) shown (has.rows name there) (ordered name) (read.answer Null)
 
--- the rows that tell the version are listed whatever the other tables are
+-- the rows that have the version are listed whatever the other tables are
 pub lists_meta : (old new : State) (meta shown : List Row) → HasMeta old.now meta → Shown (select_sql Meta) [] old new shown → shown ≡ meta
 lists_meta old new meta shown has ran =
     let text = meta_is has.others in
@@ -170,7 +170,7 @@ pub never_shown : (old new : State) (name : TableName) (rows : List Row) → old
 unfolding Shown
 never_shown old new name rows bare h = let unknown = sym (select_unknown name) ∙ sym (ap (λ s. understood s (select_sql name)) bare) ∙ h.1.is in cc
 
--- the tables of a register begin with the one that tells the version
+-- the tables of a register begin with the one that has the version
 pub has_meta : (l : Layout) (db : Database) (t : Tables) → HasTablesIn l db t → HasMeta db t.meta
 has_meta l db t has = record {
   others = schema_of l (drop 1 (names_in l));
@@ -191,7 +191,7 @@ unchanged_keeps old new h = record { was_open = λ _. h.0.was_open; committed = 
 pub undone_keeps : (old new : State) → IsRolledBack old new → KeepsCommit old new
 undone_keeps old new h = record { was_open = h.was_open; committed = λ is_open. (h.undone is_open).1 }
 
--- what a query that showed rows tells of the connection
+-- what a query that showed rows says of the connection
 record Keeps (old new : State) : Type 0 where
   pub was_open : IsTrue old.is_open
   pub inside : IsTrue new.in_transaction

@@ -33,12 +33,12 @@ use Rattle.clr_load.specs.Sql.{create_sql, insert_sql, delete_sql, replace_sql, 
 abbrev pub width_of : TableName → ℕ
 width_of name = length (columns_in name)
 
--- the values in so many slots of a row, from one on
+-- the values in this many slots of a row, from one on
 abbrev pub terms_from : ℕ → ℕ → ℕ → List Term
 terms_from slot at zero = []
 terms_from slot at (suc n) = col slot at ∷ terms_from slot (suc at) n
 
--- the tests of so many columns against the parameters, from one on
+-- the tests of this many columns against the parameters, from one on
 abbrev pub tests_from : ℕ → ℕ → List Term
 tests_from at zero = []
 tests_from at (suc n) = op2 (Compare Eq Binary) (col 1 (suc at)) (col 0 at) ∷ tests_from (suc at) n
@@ -84,7 +84,7 @@ abbrev pub numbered : ℕ → List (List ℕ)
 numbered given = take given (codes "?1" ∷ codes "?2" ∷ codes "?3" ∷ codes "?4" ∷ codes "?5"
     ∷ codes "?6" ∷ codes "?7" ∷ codes "?8" ∷ codes "?9" ∷ [])
 
--- a command that is all of its text, with so many parameters, and no RETURNING or time
+-- a command that is all of its text, with this many parameters, and no RETURNING or time
 abbrev pub all_of : List ℕ → ℕ → Command → Compiled
 all_of sql given command = record {
   command = command;
@@ -229,7 +229,7 @@ select_reads OfOne NetworkPoint has = absurd cc
 select_reads AsMade NetworkPoint has = refl
 select_reads AsMoved NetworkPoint has = refl
 
--- the version is read whatever tables there are behind the one that tells it
+-- the version is read whatever tables there are after the one that has it
 meta_reads : (others : Schema)
     → Compiles (behind_meta others) (select_sql Meta) 0 (selecting OfOne Meta)
 unfolding everything
@@ -344,7 +344,7 @@ set_hand_reads AsMade two = refl
 set_hand_reads AsMoved two = refl
 
 -- ---- version 1 moved to version 2
--- the rows of version 1, each with its own columns, and 0 behind them
+-- the rows of version 1, each with its own columns, and 0 after them
 abbrev pub copied : Query
 copied =
     record (query_of (tree_in AsMoved Point) [] (lit Null ∷ terms_from 1 1 8 ++ lit (Int (pos 0)) ∷ []) []) {

@@ -1,4 +1,4 @@
--- How a version that was read is told.
+-- How a version that was read is reported.
 use Rattle.std.proofs.Common.{◌≡◌, Err, Result, List, Option, Some, None, sym, subst, ℤ}
 use Rattle.std.specs.Prelude.{find, IfErr}
 use Rattle.sqlite.specs.Order.{Row, column}
@@ -15,7 +15,7 @@ use Rattle.clr_load.specs.declared.fault.StoreFault.TheVariants.{BadRow}
 pub tells_fault : (read : Result ℤ TableName) (told : Result ℤ StoreFault) (table : TableName) → read ≡ Err table → told ≡ Err (BadRow table) → Tells read told
 tells_fault read told table is e = subst (Tells read) (sym e) is
 
--- the row that tells no version is one of meta
+-- the row that has no version is one of meta
 pub of_meta : (rows : List Row) (table : TableName) → read_version rows ≡ Err table → table ≡ Meta
 unfolding read_version
 of_meta rows table h = of_row (find (λ row. is_version_name (column row 0)) rows) h

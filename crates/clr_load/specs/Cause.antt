@@ -1,4 +1,4 @@
--- Why a call tells `Sql` of tables that are there.
+-- Why a call answers `Sql` of tables that are there.
 use Rattle.std.specs.Prelude.{◌≡◌, IsTrue, None, ⊤}
 use Rattle.sqlite.specs.State.{State}
 use Rattle.sqlite.specs.declared.error.Error.{Error}
@@ -9,7 +9,7 @@ use Rattle.clr_load.specs.declared.fault.StoreFault.{StoreFault}
 use Rattle.clr_load.specs.declared.fault.StoreFault.TheVariants.{Sql, WrongVersion, BadRow}
 use Rattle.clr_load.specs.declared.fault.StoreFault.TheVariants.{NoMemory}
 
--- the fault by which an error of the database is told
+-- the fault by which an error of the database is reported
 abbrev pub fault_of : Error → StoreFault
 fault_of (SqliteFailure code.OutOfMemory) = NoMemory
 fault_of _ = Sql
@@ -19,7 +19,7 @@ pub record IsAble (s : State) : Type 0 where
   pub is_open : IsTrue s.is_open
   pub unlimited : s.step_limit ≡ None
 
--- SQL HAS A CAUSE: of a connection that was able, it is told only where the device failed
+-- SQL HAS A CAUSE: of a connection that was able, it is reported only where the device failed
 abbrev pub SqlHasCause : State → State → StoreFault → Type 0
 SqlHasCause old new Sql = IsAble old → MoreFaults old.faults new.faults
 SqlHasCause old new NoMemory = ⊤

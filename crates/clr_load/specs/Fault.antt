@@ -12,7 +12,7 @@ IsOfDatabase NoMemory = ⊤
 IsOfDatabase (WrongVersion n) = ⊥
 IsOfDatabase (BadRow table) = ⊥
 
--- the database refused or failed, memory ran out, or no row tells the version
+-- the database refused or failed, memory ran out, or no row has the version
 abbrev pub IsOfVersion : StoreFault → Type 0
 IsOfVersion Sql = ⊤
 IsOfVersion NoMemory = ⊤

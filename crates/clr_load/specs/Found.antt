@@ -11,7 +11,7 @@ use Rattle.clr_load.specs.Layout.{Layout}
 use Rattle.clr_load.specs.Stored.{Holds, IsInOrder}
 use Rattle.clr_load.specs.declared.fault.StoreFault.{StoreFault}
 
--- in layouts that fit: the connection was open, something that the tables tell is found, the tables
+-- in layouts that fit: the connection was open, something that the tables say is found, the tables
 -- stay, and nothing is committed
 pub record Finds {A : Type 0} (old new : State) (fits : Layout → Bool) (tells : Layout → Tables → A)
     (found : A) : Type 0 where

@@ -48,7 +48,7 @@ keys_in Step = 4
 keys_in Hold = 4
 keys_in NetworkPoint = 1
 
--- the columns of a point, and more behind them
+-- the columns of a point, and more after them
 abbrev pub point_columns : List Column → List Column
 point_columns more =
     needed (codes "name") Text ∷ needed (codes "from_end") Text ∷ needed (codes "to_end") Text
@@ -123,7 +123,7 @@ no_schema = record { tables = []; indexes = []; views = [] }
 abbrev pub schema_in : Layout → Schema
 schema_in l = schema_of l (names_in l)
 
--- a schema whose first table is the one that tells the version, whatever else is in it
+-- a schema whose first table is the one that has the version, whatever else is in it
 abbrev pub behind_meta : Schema → Schema
 behind_meta others = record {
   tables = table_at 0 Meta ∷ others.tables;

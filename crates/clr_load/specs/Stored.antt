@@ -56,7 +56,7 @@ abbrev pub is_set : Value → Bool
 is_set value.Null = false
 is_set _ = true
 
--- whether the values are those of a key of so many columns
+-- whether the values are those of a key of this many columns
 abbrev pub has_key : ℕ → Row → Bool
 has_key keys row = (length row == keys) && list_all is_set row
 
@@ -70,7 +70,7 @@ pub record HasRows (columns : List Column) (tree rows : List Row) : Type 0 where
   pub numbered : IsShaped Table tree
   pub fit : list_all (fits_columns columns) rows ≡ true
 
--- each list of rows stands in the order of its key
+-- each list of rows is in the order of its key
 abbrev pub IsInOrder : Layout → Tables → Type 0
 IsInOrder l t = (name : TableName)
     → in_key_order row_cmp (take (keys_in name)) (rows_in l name t) ≡ true

@@ -6,7 +6,7 @@ use clr_staff::StaffRow;
 /// All rows of the tables, each list in the order of its key.
 #[derive(Debug, Drop)]
 pub struct Rows {
-    /// The version that `meta` tells.
+    /// The version in `meta`.
     pub version: i64,
     pub sections: Vec<SectionRow>,
     /// The switching points, each in its present position.

@@ -44,7 +44,7 @@ fn version_row(rows: &[Row]) -> Option<&Row>
     rows.iter().find(|row| is_version(row))
 }
 
-/// The version that the rows of `meta` tell.
+/// The version that the rows of `meta` have.
 pub(crate) fn version_in(rows: &[Row]) -> Result<i64, TableName>
     ensures { result ≡ read_version rows.now }
 {
@@ -56,7 +56,7 @@ pub(crate) fn version_in(rows: &[Row]) -> Result<i64, TableName>
 
 /// Reads the version, in a transaction that changes nothing.
 ///
-/// `Sql` where a transaction is open, no table tells a version, or the database fails; `NoMemory`
+/// `Sql` where a transaction is open, no table has a version, or the database fails; `NoMemory`
 /// where memory runs out; `BadRow` of `meta` where that table has no version.
 pub fn read_version<S: Alter>(conn: &mut Connection<S>) -> Result<i64, StoreFault>
     ensures mode { conn.new.in_transaction ≡ conn.old.in_transaction }

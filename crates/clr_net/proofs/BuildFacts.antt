@@ -34,7 +34,7 @@ pub first_fault_is : (sections : List SectionRow) (points : List PointRow) (foun
 first_fault_is sections points found size twice ends =
     size (twice_fault sections points (end_fault (section_names sections) points None)) ∙ twice (end_fault (section_names sections) points None) ∙ ends
 
--- rows that pass each stage are a network, once they stand in the order of their names
+-- rows that pass each stage are a network, once they are in the order of their names
 pub network_from : (sections new_sections : List SectionRow) (points new_points : List PointRow) → IsPermutation sections new_sections → IsPermutation points new_points
     → 0 < length sections → length sections ≤ 5000 → length points ≤ 10000
     → IsStrictlySortedBy name_cmp (section_names new_sections) → IsStrictlySortedBy name_cmp (point_names new_points)

@@ -1,4 +1,4 @@
--- A row put among others by its name: where it stands, that the names rise, and which rows there are.
+-- A row put among others by its name: where it is, that the names rise, and which rows there are.
 use Rattle.std.proofs.Common.{◌≡◌, ◌∙◌, ℕ, zero, suc, ◌≤◌, Bool, true, false, not, List, [], ◌∷◌, ◌++◌, length, map, filter, take, drop, get_or, refl, sym, ap, arith, inl, inr, Ordering, Less, Equal}
 use Rattle.std.proofs.Common.{Greater}
 use Rattle.std.proofs.Math.Seq.{drop-append_seam, take-append_seam}
@@ -116,7 +116,7 @@ module _ {Row : Type 0} (name_of : Row → List ℕ) (row : Row) where
       rw (take-append_seam (filter lower rows) rest, drop-append_seam (filter lower rows) rest) at (IsPermutation-insert (filter lower rows ++ rest) (length (filter lower rows)) row) in
       rw (higher_is rows new) (IsPermutation-trans (row ∷ rows) (row ∷ (filter lower rows ++ rest)) (filter lower rows ++ row ∷ rest) apart put)
 
-  -- rows in the order of names: those of lower names stand before the others
+  -- rows in the order of names: those of lower names come before the others
   pub parted_by_name : (rows : List Row) → IsStrictlySortedBy name_cmp (map name_of rows) → IsPartitionedBy lower rows
   parted_by_name rows rises i j d before inside below = elim (cases_lt i j) [
     | inl less ↦
@@ -140,7 +140,7 @@ module _ {Row : Type 0} (name_of : Row → List ℕ) (row : Row) where
       let more = sides rest place (omega arith) (λ k d le lt. before (suc k) d (omega arith) (omega arith)) (λ k d le lt. after (suc k) d (omega arith) (omega arith)) in
       rw (before 0 first (omega arith) (omega arith)) (ap (λ (rows : List Row). first ∷ rows) more.0, more.1)
 
-  -- a row of a new name inserted behind those of lower names
+  -- a row of a new name inserted after those of lower names
   pub inserted_by_name : (rows : List Row) (place : ℕ) → has_name (map name_of rows) (name_of row) ≡ false → place ≤ length rows
       → AllWithin (λ other. lower other ≡ true) rows 0 place → AllWithin (λ other. lower other ≡ false) rows place (length rows)
       → insert rows place row ≡ with_named name_of row rows

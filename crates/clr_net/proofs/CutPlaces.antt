@@ -17,7 +17,7 @@ use Rattle.clr_net.proofs.PlaceLists.{has_place-push}
 use Rattle.clr_net.proofs.Places.{all_fail, is_some-position, place_of_name}
 use Rattle.clr_net.proofs.Walks.{one_name}
 
--- whether a name stands among one cut more
+-- whether a name is among one cut more
 cut_more : (cut : List (List ℕ)) (i : ℕ) (n name : List ℕ) → i < length cut → n ≡ get_or cut i n → has_name (take (i + 1) cut) name ≡ (has_name (take i cut) name || same_name name n)
 cut_more cut i n name inside is =
     let item : get_or cut i [] ≡ n = get_or_default cut i [] n inside ∙ sym is in

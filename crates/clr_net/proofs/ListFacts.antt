@@ -27,7 +27,7 @@ module _ {X : Type 0} (same : X → X → Bool) (p : X → Bool) (agree : (x y :
       at true e kept next = rw (e, kept, agree x k e) (or_again (p k) (list_any p xs))
       at false e kept next = rw (e, next) refl
 
-  -- dropping repeats drops nothing that a test could tell
+  -- dropping repeats drops nothing that a test could see
   pub any-dedup : (xs : List X) → list_any p (dedup same xs) ≡ list_any p xs
   any-dedup [] = refl
   any-dedup (x ∷ xs) = any_from x xs

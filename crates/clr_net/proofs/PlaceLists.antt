@@ -1,4 +1,4 @@
--- Lists of places: whether a place is there, and the rows that stand at places that rise.
+-- Lists of places: whether a place is there, and the rows that are at places that rise.
 use Rattle.std.proofs.Common.{◌≡◌, ◌∙◌, ℕ, suc, ◌+◌, ◌-◌, ◌<◌, ◌≤◌, ◌⊎◌, inl, inr, ◌==◌, ◌||◌, Bool, true, false, Option, Some, None, Result, Ok, Err, List, [], ◌∷◌, ◌++◌, length, get_or, map, filter}
 use Rattle.std.proofs.Common.{refl, sym, ap, arith, subst, Bor, All, AllPairs, Contains, is_ok, slice_get, Ordering, Less, Equal, Greater, option_copied}
 use Rattle.std.proofs.lemmas.Bool.Decides.{nat_tests}
@@ -144,7 +144,7 @@ module _ {X : Type 0} (test : X → Bool) (at : ℕ → Option X) where
         rw (now, same, first) (ap (λ ys. x ∷ ys) (more places later apart))
   ]
 
-  -- the rows from n on that stand at these places, where these are the places of the rows that pass
+  -- the rows from n on that are at these places, where these are the places of the rows that pass
   picked_from : (n : ℕ) (rows : List X) (places : List ℕ) → ((i : ℕ) → at (n + i) ≡ slice_get rows i) → RisesFrom n places
       → ((i : ℕ) (x : X) → i < length rows → get_or rows i x ≡ x → has_place places (n + i) ≡ test x) → filter_map at places ≡ filter test rows
   picked_from n [] places stand rise same = nothing_there n places stand rise
@@ -203,7 +203,7 @@ has_around around (p ∷ places) k there =
     any_map [] = refl
     any_map (v ∷ ways) = ap (λ b. (k == v.point) || b) (any_map ways)
 
--- what a slice's `get` lends
+-- what a slice's `get` gives
 pub got_is : {X : Type 0} (rows : List X) (i : ℕ) (r : Option (Bor X)) → IsItemAt rows i r → slice_get rows i ≡ option_copied r
 got_is rows i (Some x) got = elim (cases_lt i (length rows)) [
   | inl inside ↦ slice_get_read rows (length rows) i x.now refl inside got.1

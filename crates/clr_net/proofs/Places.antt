@@ -1,4 +1,4 @@
--- Where names stand in a list: in the order of names, and where one stands twice.
+-- Where names are in a list: in the order of names, and where one comes twice.
 use Rattle.std.proofs.Common.{Bor, Option, ◌≡◌, ◌∙◌, ℕ, zero, suc, ◌+◌, ◌<◌, ◌≤◌, Bool, true, false, cond, not, ◌||◌, Some, None, List, [], ◌∷◌, ◌⊎◌, inl, inr, length, get_or, take, map, position}
 use Rattle.std.proofs.Common.{refl, sym, ap, arith, Result, Ok, Err, All, is_some, option_copied, below_more, Ordering, Less, Equal, Greater}
 use Rattle.std.specs.Result.{result_ok}
@@ -155,7 +155,7 @@ repeat_seen names i name seen added is same e = rw (is, e, sym (same name)) (sym
 pub unrepeated_more : (names : List (List ℕ)) (i : ℕ) → ((k : ℕ) → k < i → is_repeat names k ≡ false) → is_repeat names i ≡ false → (k : ℕ) → k < i + 1 → is_repeat names k ≡ false
 unrepeated_more names i before here = below_more (λ k. is_repeat names k ≡ false) i before here
 
--- names no one of which stands twice
+-- names no one of which comes twice
 pub distinct_from_unrepeated : (names : List (List ℕ)) → ((k : ℕ) → k < length names → is_repeat names k ≡ false) → IsDistinct same_name names
 distinct_from_unrepeated names once = IsDistinct-from_apart same_name names apart
   where
@@ -166,7 +166,7 @@ distinct_from_unrepeated names once = IsDistinct-from_apart same_name names apar
         rw (get_or-take j names i d before, get_or_default names j [] d inside) (nat_list_eq_equiv.symm (get_or names j d) (get_or names i d) ∙ same) in
         both_ways _ (once j inside) (list_any_at (same_name (get_or names j [])) (take j names) i d (omega arith) back))
 
--- rows in the order of names no one of which stands twice
+-- rows in the order of names no one of which comes twice
 pub rising_from_sorted : {X : Type 0} (name_of : X → List ℕ) (rows : List X) → IsSortedByKey name_of name_cmp rows → IsDistinct same_name (map name_of rows) → IsStrictlySortedBy name_cmp (map name_of rows)
 rising_from_sorted name_of [] sorted once = sorted_from_all_adjacent nat_list_cmp_total [] [] (λ k inside. absurd (omega arith))
 rising_from_sorted {X} name_of (x ∷ rows) sorted once = sorted_from_all_adjacent nat_list_cmp_total (map name_of (x ∷ rows)) [] rises
@@ -209,7 +209,7 @@ pub distinct_from_rising : (names : List (List ℕ)) → IsStrictlySortedBy name
 distinct_from_rising names rises = IsDistinct-from_apart same_name names
     (λ i j d before inside. texts_ties (get_or names i d) (get_or names j d) ∙ ap is_eq (Less-from_sorted name_cmp names i j d rises before inside))
 
--- where the names of the same rows in another order rise, no name stands twice
+-- where the names of the same rows in another order rise, no name comes twice
 pub once_from_rising : {X : Type 0} (name_of : X → List ℕ) (rows ordered : List X) → IsPermutation rows ordered
     → IsStrictlySortedBy name_cmp (map name_of ordered) → IsDistinct same_name (map name_of rows)
 once_from_rising name_of rows ordered moved rises =

@@ -107,7 +107,7 @@ search_over around n cuts start marked queue looked_at s all i inside = (λ ther
         let (k, here, same) = place_of_has queue j ((s.queued j).1 (reached j walk)) in
         s.done k (omega arith) w (rw same there) passes
 
--- what stands in the queue are places of sections
+-- what the queue has are places of sections
 pub queue_inside : (around : ℕ → List Way) (cuts : List ℕ) (start : ℕ) (marked : List Bool) (queue : List ℕ) (looked_at : ℕ) → IsSearching around cuts start marked queue looked_at
     → All (λ i. i < length marked) queue
 queue_inside around cuts start marked queue looked_at s k d inside = marked_inside marked (get_or queue k d) ((s.queued (get_or queue k d)).0 (has_at queue k d inside))

@@ -64,6 +64,6 @@ abbrev pub sides_of : FenceRows → PointRow → ℕ
 sides_of fence p = (if fence_has fence p.from_end then 1 else 0)
     + (if fence_has fence p.to_end then 1 else 0)
 
--- whether a point stands on the border of a fence: exactly one of its ends lies inside
+-- whether a point is on the border of a fence: exactly one of its ends lies inside
 abbrev pub is_on_border : FenceRows → PointRow → Bool
 is_on_border fence p = sides_of fence p == 1

@@ -29,7 +29,7 @@ out_at out i = filter (λ o. o.from == i) out
 abbrev pub ways_in : List Out → ℕ → List Way
 ways_in out i = map (λ o. o.way) (out_at out i)
 
--- where those begin that lead out of the i-th section: behind those out of the sections before it
+-- where those begin that lead out of the i-th section: after those out of the sections before it
 abbrev pub IsStart : List Out → ℕ → ℕ → Type 0
 IsStart out i start = (start ≤ length out)
     × IsPartitionPoint (λ o. nat_lt o.from i ≡ true) (λ o. nat_lt o.from i ≡ false) out start

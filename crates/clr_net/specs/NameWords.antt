@@ -1,4 +1,4 @@
--- A name as three numbers, which stand in the order of the names.
+-- A name as three numbers, which are in the order of the names.
 use Rattle.std.specs.Prelude.{ℕ, ◌+◌, ◌*◌, List, [], ◌∷◌, take, drop}
 use Rattle.clr_net.specs.Name.{padded}
 

@@ -1,4 +1,4 @@
--- The search of a fence, by places: which sections are marked and stand in the queue, what was
+-- The search of a fence, by places: which sections are marked and are in the queue, what was
 -- found, and the points there.
 use Rattle.std.specs.Prelude.{◌≡◌, ◌<◌, ◌+◌, ◌-◌, ◌⊎◌, ◌↔◌, ℕ, Bool, true, false, not, List, []}
 use Rattle.std.specs.Prelude.{◌∷◌, ◌++◌, length, map, count_by, Contains, slice_index_or}
@@ -25,7 +25,7 @@ abbrev pub IsQueued : List Bool → List ℕ → Type 0
 IsQueued marked queue = (i : ℕ) → (has_place queue i ≡ true) ↔ (is_marked marked i ≡ true)
 
 -- the ways over points that are not cut were followed: what they lead to is marked, and nothing
--- else; what is newly marked stands behind what was in the queue
+-- else; what is newly marked comes after what was in the queue
 pub record Follows (ways : List Way) (cuts : List ℕ) (old_marked : List Bool) (old_queue : List ℕ)
     (marked : List Bool) (queue : List ℕ) : Type 0 where
   pub kept : (i : ℕ) → is_marked old_marked i ≡ true → is_marked marked i ≡ true

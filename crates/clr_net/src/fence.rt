@@ -43,7 +43,7 @@ impl<'a> Model for Fence<'a> {
 }
 
 impl<'a> Fence<'a> {
-    /// The fence that has these rows, each list in the order of names: rows that were lent apart
+    /// The fence that has these rows, each list in the order of names: rows that were given apart
     /// from their network.
     pub fn of_rows(sections: Vec<&'a SectionRow>, touching: Vec<&'a PointRow>) -> Self
         requires sections_rise { IsStrictlySortedBy name_cmp
@@ -81,7 +81,7 @@ impl<'a> Fence<'a> {
         place_of(&self.sections, *name).is_some()
     }
 
-    /// How many ends of a point lie inside: 0, 1 or 2. A point with exactly one stands on the
+    /// How many ends of a point lie inside: 0, 1 or 2. A point with exactly one is on the
     /// border of the fence.
     pub fn sides(&self, point: &PointRow) -> u8
         ensures { result ≡ sides_of self.now point.now }
@@ -90,7 +90,7 @@ impl<'a> Fence<'a> {
     }
 }
 
-/// Where a fence stands in its network: the places of the sections inside, and of the points with an
+/// Where a fence is in its network: the places of the sections inside, and of the points with an
 /// end inside, in the order of names.
 #[derive(Debug, Drop)]
 pub struct RowPlaces {

@@ -37,7 +37,7 @@ pub enum NameFault {
 }
 
 /// The name of a section, a switching point, an employee or a crew: 1 to 24 bytes of `A` to `Z`,
-/// `0` to `9` and `-`. Names stand in the order of their bytes.
+/// `0` to `9` and `-`. Names are in the order of their bytes.
 ///
 /// It is stored in place, so that copying and comparing it take no memory.
 #[derive(Clone, Copy)]
@@ -63,7 +63,7 @@ impl Model for Name {
     ghost inverse_ok = { λ n h i. record { bytes = sym h.0 i; len = sym h.2 i } };
 }
 
-/// Whether a byte may stand in a name.
+/// Whether a byte may be in a name.
 fn is_name_byte(b: u8) -> bool
     ensures { result ≡ is_name_byte b }
 {
@@ -127,7 +127,7 @@ impl Name {
         &self.bytes[..usize::from(self.len)]
     }
 
-    /// The cells as three numbers, which stand in the order of the names.
+    /// The cells as three numbers, which are in the order of the names.
     fn words(&self) -> (u64, u64, u64)
         ensures words { result ≡ words_of self.now }
         ensures name { IsTrue (is_name self.now) }
@@ -157,7 +157,7 @@ fn word(cells: &[u8; MAX_NAME_LEN], place: usize) -> u64
     ])
 }
 
-/// Whether a name is among these, which may stand in any order.
+/// Whether a name is among these, which may be in any order.
 pub fn has_name(names: &[Name], name: Name) -> bool
     ensures { result ≡ has_name names.now name }
 {

@@ -1,4 +1,4 @@
-//! Rows that go by a name: their order, the place of a name, and a name that stands twice.
+//! Rows that go by a name: their order, the place of a name, and a name that comes twice.
 ghost use Rattle.std.specs.Prelude.{◌≡◌, ◌<◌, ◌≤◌, ℕ, List, find, length, map, position, IfOk};
 ghost use Rattle.std.specs.Prelude.{IfSome, IfNone, IsTrue, false, vec_capacity};
 ghost use Rattle.std.specs.List.{IsDistinct};
@@ -106,7 +106,7 @@ pub fn repeat_place<R: Named>(alloc: Global, rows: &[R]) -> Result<Option<usize>
 }
 
 /// The same of rows that are given in the order of their names too: where these rise, no name
-/// stands twice.
+/// comes twice.
 pub(crate) fn repeat_place_beside<R: Named>(
     alloc: Global,
     rows: &[R],

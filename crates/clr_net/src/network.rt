@@ -210,7 +210,7 @@ fn check_size(sections: &[SectionRow], points: &[PointRow]) -> Result<(), NetFau
     Ok(())
 }
 
-/// The names that stand twice, as a stage of the checks; the rows are given in the order of their
+/// The names that come twice, as a stage of the checks; the rows are given in the order of their
 /// names too.
 fn check_names(
     alloc: Global,
@@ -234,7 +234,7 @@ fn check_names(
     Ok(())
 }
 
-/// The ends of the points, as a stage of the checks; the sections stand in the order of their
+/// The ends of the points, as a stage of the checks; the sections are in the order of their
 /// names, and it is known whether all ends are sections.
 fn check_ends(sections: &[SectionRow], points: &[PointRow], all_known: bool) -> Result<(), NetFault>
     requires rising { IsStrictlySortedBy name_cmp (section_names sections.now) }

@@ -57,7 +57,7 @@ pub(crate) fn places_beside(
     Ok(in_order(points))
 }
 
-/// The places of the points of these ways, behind others.
+/// The places of the points of these ways, after others.
 fn push_points(points: &mut Vec<usize>, ways: &[Out]) -> Result<(), AllocError>
     ensures { OnOk result (points.new.items
         ≡ points.old.items ++ map (λ w. w.point) (map (λ o. o.way) ways.now)) }
@@ -102,7 +102,7 @@ fn has_place(places: &[usize], place: usize) -> bool
 }
 
 /// The places of the sections, of `count`, that a walk over points that are not cut leads to from
-/// the section at `start`. The sections that were found stand in a queue: the first one that came
+/// the section at `start`. The sections that were found are in a queue: the first one that came
 /// is the first whose ways are followed.
 fn reach(
     alloc: Global,

@@ -1,5 +1,5 @@
 //! The index of a network: the places of each point's ends, and the ways out of all sections in one
-//! list, so that it is filled anew within the memory that it has.
+//! list, so that it is filled again within the memory that it has.
 ghost use Rattle.std.specs.Prelude.{◌≡◌, ◌<◌, ◌≤◌, ◌+◌, ℕ, length, map, IfOk, IfSome, IsOk};
 ghost use Rattle.std.specs.Prelude.{IsTrue, OnOk, is_some, vec_capacity};
 ghost use Rattle.std.specs.List.{list_all};
@@ -75,8 +75,8 @@ impl Ways {
         })
     }
 
-    /// Fills the index anew, where all ends of these points are among these sections, and tells
-    /// whether they are. Sections and points stand in the order of their names. Within the limits
+    /// Fills the index again, where all ends of these points are among these sections, and returns
+    /// whether they are. Sections and points are in the order of their names. Within the limits
     /// of a network this needs no memory.
     pub(crate) fn fill(
         &mut self,
@@ -100,7 +100,7 @@ impl Ways {
         Ok(true)
     }
 
-    /// Fills the index anew with that of a network, which needs no memory.
+    /// Fills the index again with that of a network, which needs no memory.
     pub(crate) fn refill(&mut self, sections: &[SectionRow], points: &[PointRow])
         requires network { IsNetwork (record { sections = sections.now; points = points.now }) }
         requires room { HasRoom self.old }

@@ -95,7 +95,7 @@ sound_orders_isolate g net work points tasks known sound source there fed walk =
 not_after_itself : (n : List ℕ) → name_cmp n n ≡ Greater → ⊥
 not_after_itself n e = let back = nat_list_cmp_total.antisymm n n in absurd (cc)
 
--- the sections behind the first come after it
+-- the sections after the first come after it
 all_after : (name : List ℕ) (sections : List SectionRow) → All (λ q. name_cmp name q ≡ Less) (section_names sections) → All (λ (s : SectionRow). s.source ≡ true → name_cmp name s.name ≡ Greater → ⊥) sections
 all_after name [] h = All-nil (λ (s : SectionRow). s.source ≡ true → name_cmp name s.name ≡ Greater → ⊥)
 all_after name (s ∷ sections) h =

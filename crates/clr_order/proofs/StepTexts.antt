@@ -77,7 +77,7 @@ named_word w a h =
     let same = found_passes (λ a. bytes_eq (action_word a) w) all_actions a h in
     sym ((bytes_eq-Decides (action_word a) w).0 same)
 
--- a text with something behind its first blank has a blank
+-- a text with something after its first blank has a blank
 has_blank : (text : List ℕ) → 0 < length (after_first is_blank text) → position_or_len is_blank text < length text
 has_blank text some = elim (cases_lt (position_or_len is_blank text) (length text)) [
   | inl inside ↦ inside

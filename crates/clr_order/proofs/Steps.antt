@@ -19,7 +19,7 @@ names_themselves (name ∷ names) = ap (λ rest. name ∷ rest) (names_themselve
 pub names_behind : (rows : List (Bor PointRow)) → map (λ (row : Bor PointRow). row.now.name) rows ≡ point_names (map (λ (row : Bor PointRow). row.now) rows)
 names_behind rows = sym (map-map (λ (row : PointRow). row.name) (λ (row : Bor PointRow). row.now) rows)
 
--- no step stands elsewhere exactly where each stands at one of the points
+-- no step is elsewhere exactly where each is at one of the points
 pub no_stray : (points : List (List ℕ)) (tasks : List Task) → stray_point points tasks ≡ None → All (λ t. IsTrue (has_name points t.point)) tasks
 no_stray points tasks h =
     let none = option_map-none (λ (t : Task). t.point) (find (λ t. not (has_name points t.point)) tasks) (sym (find-map (λ p. not (has_name points p)) (λ (t : Task). t.point) tasks) ∙ h) in
@@ -38,7 +38,7 @@ list_any-none : (p : List ℕ → Bool) (points : List (List ℕ)) → AllByRecu
 list_any-none p [] h = refl
 list_any-none p (q ∷ points) h = or_from (p q) (list_any p points) h.0 (list_any-none p points h.1)
 
--- no point stands twice
+-- no point comes twice
 pub once_from : (points : List (List ℕ)) → has_repeat points ≡ false → IsDistinct same_name points
 unfolding IsDistinct
 once_from [] h = tt

@@ -24,7 +24,7 @@ abbrev pub is_border_row : FenceRows → Option PointRow → Bool
 is_border_row fence None = false
 is_border_row fence (Some row) = is_on_border fence row
 
--- whether the point of this name stands on the border of the fence
+-- whether the point of this name is on the border of the fence
 abbrev pub is_border_point : FenceRows → List ℕ → Bool
 is_border_point fence p = is_border_row fence (touching_row fence p)
 
@@ -61,17 +61,17 @@ pub record IsSoundWithin (fence : FenceRows) (points : List (List ℕ)) (tasks :
 abbrev pub IsSoundOrder : Grid → List ℕ → List (List ℕ) → List Task → Type 0
 IsSoundOrder g work points tasks = IsSoundWithin (fence_of g work points) points tasks
 
--- whether a point stands twice
+-- whether a point comes twice
 abbrev pub has_repeat : List (List ℕ) → Bool
 has_repeat [] = false
 has_repeat (p ∷ points) = has_name points p || has_repeat points
 
--- the source inside a fence; the sections stand in the order of their names, so it is the least
+-- the source inside a fence; the sections are in the order of their names, so it is the least
 abbrev pub source_inside : FenceRows → Option (List ℕ)
 source_inside fence = option_map (λ section. section.name)
     (find (λ section. section.source) fence.sections)
 
--- the first of the points that does not stand on the border: it is unknown, elsewhere or inside
+-- the first of the points that is not on the border: it is unknown, elsewhere or inside
 abbrev pub off_border : FenceRows → List (List ℕ) → Option (List ℕ)
 off_border fence points = find (λ p. not (is_border_point fence p)) points
 

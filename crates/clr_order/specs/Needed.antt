@@ -6,7 +6,7 @@ use Rattle.clr_order.specs.declared.action.Action.TheVariants.{Open, Block, Cont
 use Rattle.clr_order.specs.declared.action.Action.TheVariants.{Uncontrol, Unblock, Close, Leave}
 use Rattle.clr_order.specs.declared.held.Held.{Held}
 
--- an action that stands before the others only where it is asked for
+-- an action that comes before the others only where it is asked for
 abbrev pub step_if : Bool → Action → List Action → List Action
 step_if asked action others = if asked then action ∷ others else others
 

@@ -2,11 +2,11 @@
 use Rattle.std.specs.Prelude.{ℕ, Bool, if◌then◌else◌, List, Option, Some, None, Result, Ok, Err}
 use Rattle.clr_order.specs.declared.order_fault.OrderFault.{OrderFault}
 
--- a refusal where a test says so, else the rest
+-- a refusal where a test says so, otherwise the rest
 abbrev pub fault_if : Bool → OrderFault → Option OrderFault → Option OrderFault
 fault_if applies fault rest = if applies then Some fault else rest
 
--- a refusal that names what was found, else the rest
+-- a refusal that names what was found, otherwise the rest
 abbrev pub name_fault : (List ℕ → OrderFault) → Option (List ℕ) → Option OrderFault
     → Option OrderFault
 name_fault fault None rest = rest

@@ -1,4 +1,4 @@
--- A restoring order undoes what stands at each point that the clearance holds open.
+-- A restoring order undoes what is at each point that the clearance holds open.
 use Rattle.std.specs.Prelude.{◌<◌, ◌≤◌, ℕ, Bool, true, not, ◌==◌, nat_lt, IsTrue, List, length, map}
 use Rattle.std.specs.Prelude.{find, All, Option, None, option_map}
 use Rattle.clr_net.specs.Prelude.{has_name}

@@ -43,6 +43,6 @@ same_actions = pointwise same_action
 abbrev pub task_points : List Task → List (List ℕ)
 task_points tasks = map (λ t. t.point) tasks
 
--- the point of the first step that stands at none of these points
+-- the point of the first step that is at none of these points
 abbrev pub stray_point : List (List ℕ) → List Task → Option (List ℕ)
 stray_point points tasks = find (λ p. not (has_name points p)) (task_points tasks)

@@ -38,7 +38,7 @@ abbrev pub step_at : Option Action → List ℕ → Result Step StepFault
 step_at None rest = Err BadAction
 step_at (Some action) rest = step_of action (read_name rest)
 
--- the action is what stands before the first blank, the point is what follows it
+-- the action is what comes before the first blank, the point is what follows it
 abbrev pub read_step_text : List ℕ → Result Step StepFault
 read_step_text text = step_at (action_named (before_first is_blank text))
     (after_first is_blank text)

@@ -58,7 +58,7 @@ fn isolating_fault(fence: &Fence, points: &[Name], steps: &[Step]) -> Option<Ord
     None
 }
 
-/// Whether a point stands twice.
+/// Whether a point comes twice.
 fn has_repeat(points: &[Name]) -> bool
     ensures { result ≡ has_repeat points.now }
 {
@@ -89,7 +89,7 @@ fn touching_row<'a>(fence: &Fence<'a>, point: Name) -> Option<&'a PointRow>
     row_of(fence.touching(), point).copied()
 }
 
-/// Whether a point stands on the border of the fence.
+/// Whether a point is on the border of the fence.
 fn is_border_point(fence: &Fence, point: Name) -> bool
     ensures { result ≡ is_border_point fence.now point }
 {
@@ -99,7 +99,7 @@ fn is_border_point(fence: &Fence, point: Name) -> bool
     }
 }
 
-/// The first of the points that does not stand on the border of the fence.
+/// The first of the points that is not on the border of the fence.
 fn off_border(fence: &Fence, points: &[Name]) -> Option<Name>
     ensures { result ≡ off_border fence.now points.now }
 {
@@ -130,7 +130,7 @@ fn wrong_point(fence: &Fence, points: &[Name], steps: &[Step]) -> Option<Name>
         .find(|point| !is_isolated(fence, *point, steps))
 }
 
-/// The point of the first step that stands at none of the points.
+/// The point of the first step that is at none of the points.
 fn stray_point(points: &[Name], steps: &[Step]) -> Option<Name>
     ensures { result ≡ stray_point points.now (map task steps.now) }
 {

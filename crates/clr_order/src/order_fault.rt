@@ -12,18 +12,18 @@ pub enum OrderFault {
     /// There are more than 64 points or more than 256 steps.
     #[error("the order has more than 64 points or 256 steps")]
     LongOrder,
-    /// A point stands twice among the points.
+    /// A point comes twice among the points.
     #[error("a point stands twice")]
     PointTwice,
     /// The fence has a source, of which this is the least in the order of names.
     #[error("the source {0} lies inside the fence")]
     SourceInside(Name),
-    /// The first of the points that does not stand on the border of the fence: it is unknown,
+    /// The first of the points that is not on the border of the fence: it is unknown,
     /// elsewhere or inside.
     #[error("the point {0} does not stand on the border of the fence")]
     NotOnFence(Name),
-    /// The first point whose steps are not those that it has to have, else the point of the first
-    /// step that stands elsewhere; of a switch order the point of the first step that neither opens
+    /// The first point whose steps are not those that it has to have, otherwise the point of the first
+    /// step that is elsewhere; of a switch order the point of the first step that neither opens
     /// nor closes.
     #[error("the steps at the point {0} are wrong")]
     StepsWrong(Name),

@@ -1,4 +1,4 @@
-//! What stands at a switching point, and the first step that stands elsewhere.
+//! What is at a switching point, and the first step that is elsewhere.
 ghost use Rattle.std.specs.Prelude.{◌≡◌, ℕ, List, map};
 ghost use Rattle.clr_net.specs.Names.{has_name};
 ghost use Rattle.clr_order.specs.Step.{stray_point, task};
@@ -7,7 +7,7 @@ use crate::held::Held;
 use crate::step::Step;
 use clr_net::{Name, PointRow};
 
-/// What stands at a switching point.
+/// What is at a switching point.
 pub(crate) trait Placed {
     ghost point_of: { Self → List ℕ };
 
@@ -39,7 +39,7 @@ impl<'a> Placed for &'a PointRow {
     }
 }
 
-/// Whether one of these stands at a point.
+/// Whether one of these is at a point.
 pub(crate) fn has_point<P: Placed>(places: &[P], point: Name) -> bool
     ensures { result ≡ has_name (map P.point_of places.now) point }
 {
@@ -51,7 +51,7 @@ pub(crate) fn has_point<P: Placed>(places: &[P], point: Name) -> bool
     false
 }
 
-/// The point of the first step where none of these stands.
+/// The point of the first step where none of these is.
 pub(crate) fn stray_point<P: Placed>(places: &[P], steps: &[Step]) -> Option<Name>
     ensures { result ≡ stray_point (map P.point_of places.now) (map task steps.now) }
 {

@@ -52,7 +52,7 @@ pub fn read_step_text(text: &str) -> Result<Step, StepFault>
     }
 }
 
-/// What stands before the first blank and what stands after it; where there is none, the text and
+/// What comes before the first blank and what comes after it; where there is none, the text and
 /// nothing.
 fn halves(text: &str) -> (&str, &str)
     ensures word { result.0.now ≡ before_first is_blank text.now }

@@ -2,7 +2,7 @@
 use Rattle.std.proofs.Common.{◌≡◌, ◌∙◌, ◌<◌, ◌+◌, ◌++◌, ◌∷◌, ℕ, List, length, drop, get_or, map, ap, sym, Bor, append_assoc, flat_map}
 use Rattle.clr_rules.proofs.Common.{drop_more}
 
--- the lines so far with that of the row, and those of the rows behind it, are all
+-- the lines so far with that of the row, and those of the rows after it, are all
 pub line_more : {Row : Type 0} (line : Row → List ℕ) (written : List ℕ) (rows : List (Bor Row))
     (i : ℕ) (row : Bor Row) (all : List ℕ) → row ≡ get_or rows i row → i < length rows
     → written ++ flat_map line (map (λ (r : Bor Row). r.now) (drop i rows)) ≡ all

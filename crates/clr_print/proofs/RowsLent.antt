@@ -1,4 +1,4 @@
--- Rows that are lent, and the rows themselves.
+-- Rows that are given, and the rows themselves.
 use Rattle.std.proofs.Common.{◌≡◌, ◌∙◌, ◌==◌, List, [], ◌∷◌, length, Bool, true, false, cond, filter, map, refl, ap, nat_lt, arith, Bor, lt-ltb}
 
 seen : {A : Type 0} (x : Bor A) (xs : List (Bor A)) (b : Bool) → map (λ (r : Bor A). r.now) (cond b (x ∷ xs) xs) ≡ cond b (x.now ∷ map (λ (r : Bor A). r.now) xs) (map (λ (r : Bor A). r.now) xs)

@@ -14,7 +14,7 @@ pub record Day : Type 0 where
 abbrev pub day_before : Day
 day_before = record { year = 1969; month = 12; day = 31 }
 
--- the next day: of the same month, else the first of the next month, else New Year's Day
+-- the next day: of the same month, otherwise the first of the next month, otherwise New Year's Day
 abbrev pub next_day : Day → Day
 next_day d =
     if nat_lt d.day (days_in_month (pos d.year) d.month)
@@ -22,7 +22,7 @@ next_day d =
     else if nat_lt d.month 12 then record { year = d.year; month = d.month + 1; day = 1 }
     else record { year = d.year + 1; month = 1; day = 1 }
 
--- the day so many days after 31 December 1969
+-- the day this many days after 31 December 1969
 unfoldable pub day_after : ℕ → Day
 day_after zero = day_before
 day_after (suc n) = next_day (day_after n)
@@ -32,7 +32,7 @@ abbrev pub local_seconds : ℕ → ℤ → ℕ
 local_seconds seconds (pos minutes) = 86400 + seconds + 60 * minutes
 local_seconds seconds (negsuc minutes) = 86400 + seconds - 60 * (minutes + 1)
 
--- what the calendar and the clock show where so many seconds of local time have passed
+-- what the calendar and the clock show where this many seconds of local time have passed
 abbrev pub face_at : ℕ → ClockFace
 face_at local = let d = day_after (local / 86400) in
     record {

@@ -20,14 +20,14 @@ abbrev pub read_round : List ℕ → Option ℕ
 read_round text = if bytes_eq text (codes "1") then Some 1 else if bytes_eq text (codes "2")
     then Some 2 else None
 
--- a text on the left of a column, and on the right of one; a text that is wider stands as it is
+-- a text on the left of a column, and on the right of one; a text that is wider is left as it is
 abbrev pub left : ℕ → List ℕ → List ℕ
 left width text = text ++ replicate (width - length text) 32
 
 abbrev pub right : ℕ → List ℕ → List ℕ
 right width text = replicate (width - length text) 32 ++ text
 
--- a column and the blank behind it
+-- a column and the blank after it
 unfoldable pub left_column : ℕ → List ℕ → List ℕ
 left_column width text = left width text ++ codes " "
 
@@ -92,7 +92,7 @@ count_line count = codes "BOARD " ++ decimal count ++ codes "\n"
 abbrev pub board_of : List Record → ℤ → List ℕ
 board_of standing offset = count_line (length standing) ++ flat_map (board_line offset) standing
 
--- where a point stands: each point of a network has a state
+-- the position of a point: each point of a network has a state
 abbrev pub position_word : Option Position → List ℕ
 position_word None = codes "-"
 position_word (Some Opened) = codes "open"

@@ -15,7 +15,7 @@ use clr_shelf::Shelf;
 use std::alloc::{AllocError, Global};
 
 /// The board: how many clearances and switch orders are not closed, a line for each, in the order
-/// of their names, and then one for each jumper, as it stands now.
+/// of their names, and then one for each jumper, as it is now.
 ///
 /// The offset, in minutes east of Greenwich, is that of the clock by which the last moments are
 /// printed.
@@ -140,7 +140,7 @@ fn push_jumpers<P: Shelf<PointState>, C: Shelf<Record>, T: Shelf<StepRow>, H: Sh
     Ok(())
 }
 
-/// The line of a jumper, which stands in this position.
+/// The line of a jumper, which is in this position.
 #[tactic(auto, unfolding(crate::specs::Printed::jumper_line))]
 fn jumper_line(
     alloc: Global,

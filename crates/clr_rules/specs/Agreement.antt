@@ -4,7 +4,7 @@ use Rattle.std.specs.Prelude.{◌≡◌, ℕ, Bool, List, Some}
 use Rattle.clr_rules.specs.Prelude.{Grid, Id, Register, greatest_number, holds_of}
 use Rattle.clr_rules.specs.Near.{Extent, part, touches_fence}
 
--- what stands near a clearance: the staff; the clearance's record and steps; the rows of the
+-- what is near a clearance: the staff; the clearance's record and steps; the rows of the
 -- sections inside; the rows, positions and hands of all points with an end inside; all holds at
 -- these sections and points; the clearance's crews
 abbrev pub extent_near : Grid → Id → (List ℕ → Bool) → Extent

@@ -1,4 +1,4 @@
--- THE ANSWER to a command: the first check that applies refuses it, and nothing changes; else its
+-- THE ANSWER to a command: the first check that applies refuses it, and nothing changes; or its
 -- edits are made, and the reply is the clearance's card as it is after them, or the view that was
 -- asked for.
 use Rattle.std.specs.Prelude.{ℕ, ◌+◌, List, [], ◌∷◌, map, filter, length, Option, None, Some}

@@ -1,5 +1,5 @@
 -- WHAT AN ACCEPTED COMMAND CHANGES: its edits, in the order of their kinds, those of a kind in the
--- order of their keys. An edit stands also where it changes nothing.
+-- order of their keys. An edit is made also where it changes nothing.
 use Rattle.std.specs.Prelude.{ℕ, if◌then◌else◌, ◌+◌, Bool, true, false, ◌&&◌, List, [], ◌∷◌, ◌++◌}
 use Rattle.std.specs.Prelude.{map, Option, None, Some}
 use Rattle.clr_rules.specs.Prelude.{Grid, section_names, has_name, PointRow, SectionRow, Task}

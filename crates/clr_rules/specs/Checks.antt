@@ -125,7 +125,7 @@ abbrev pub unsound_order : Register → List (List ℕ) → List (List ℕ) → 
 unsound_order R fence points tasks =
     order_refusal (isolating_fault (rows_of_fence R.net fence) points tasks)
 
--- the steps at each point that a clearance holds open undo its holds there, and no step stands
+-- the steps at each point that a clearance holds open undo its holds there, and no step is
 -- elsewhere; the first wrong point is named, in the order of their first appearance in its first
 -- round. 1910.269(m)(3)(xii), (xiii)
 abbrev pub wrong_restoring : Register → Id → List Task → Option Refusal
@@ -163,7 +163,7 @@ abbrev pub held_by : Option Hold → Option Refusal
 held_by None = None
 held_by (Some h) = Some (Held h.id h.kind)
 
--- nothing is closed while a hold stands at the point, but for the own HeldOpen. 1910.269(m)(3)(v),
+-- nothing is closed while a hold is at the point, but for the own HeldOpen. 1910.269(m)(3)(v),
 -- (xiii)
 abbrev pub hold_hinders : Register → Id → ℕ → Option Refusal
 hold_hinders R c n =
@@ -238,7 +238,7 @@ abbrev pub bad_transfer : Register → Id → List ℕ → Option Refusal
 bad_transfer R c to = where_some (record_of R.records c)
     (λ r. refuse (not (is_in_charge (employee R.staff to)) || same_name to r.holder) BadTransfer)
 
--- all employees are told, and are clear. 1910.269(m)(3)(x), (xi)
+-- all employees are notified, and are clear. 1910.269(m)(3)(x), (xi)
 abbrev pub not_attested : Bool → Bool → Option Refusal
 not_attested notified clear = refuse (not (notified && clear)) NotAttested
 

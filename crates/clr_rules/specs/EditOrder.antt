@@ -20,7 +20,7 @@ edit_rank (PutStep row) = 4
 edit_rank (AddSection row) = 5
 edit_rank (AddPoint p) = 6
 
--- how the keys of two edits of one kind stand; edits of two kinds have no keys to compare
+-- how the keys of two edits of one kind compare; edits of two kinds have no keys to compare
 abbrev pub edit_key_cmp : Edit → Edit → Ordering
 edit_key_cmp (SetPosition p there) (SetPosition q here) = name_cmp p q
 edit_key_cmp (SetHand p hand) (SetHand q other) = name_cmp p q
@@ -44,11 +44,11 @@ edit_key_cmp (AddPoint p) _ = Equal
 abbrev pub edit_cmp : Edit → Edit → Ordering
 edit_cmp a b = ordering_then (nat_cmp (edit_rank a) (edit_rank b)) (edit_key_cmp a b)
 
--- each edit stands before all edits after it, so no key comes twice
+-- each edit comes before all edits after it, so no key comes twice
 abbrev pub are_in_order : List Edit → Bool
 are_in_order edits = in_key_order edit_cmp (λ edit. edit) edits
 
--- AN ANSWER'S EDITS STAND IN ORDER, where the register's lists do
+-- AN ANSWER'S EDITS ARE IN ORDER, where the register's lists are
 abbrev pub AnswersEditsInOrder : Type 0
 AnswersEditsInOrder =
     (R : Register) (q : Command) → ListsAreInOrder R

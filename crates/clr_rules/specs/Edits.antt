@@ -34,7 +34,7 @@ net_after (PutRecord r) g = g
 net_after (PutStep row) g = g
 
 -- the states after an edit: an added point is open and in nobody's hand, wherever its row says that
--- it stands
+-- it is
 abbrev pub states_after : Edit → List PointState → List PointState
 states_after (SetPosition point position) states =
     change_state states point (λ state. record state { position = position })

@@ -39,7 +39,7 @@ order_fence R c points = found_order_fence R.net points (record_of R.records c)
 abbrev pub crosses : List (List ℕ) → List ℕ → List ℕ → Bool
 crosses fence from to = if has_name fence from then not (has_name fence to) else has_name fence to
 
--- the first of the records whose fence it would cross: they stand in the order of clearances
+-- the first of the records whose fence it would cross: they are in the order of clearances
 unfoldable pub crossed_record : Grid → List StepRow → List Record → List ℕ → List ℕ
     → Option Record
 crossed_record g steps records from to =

@@ -28,7 +28,7 @@ use Rattle.clr_rules.specs.Steps.{is_close, is_in_turn}
 use Rattle.clr_order.specs.declared.action.Action.TheVariants as actions
 
 -- HELD POINTS ARE OPEN: a point with a HeldOpen, Block, Control or Tag is open, and the last three
--- stand only beside a HeldOpen of the same clearance
+-- come only beside a HeldOpen of the same clearance
 pub record HeldPointsAreOpen (R : Register) : Type 0 where
   pub open_there : (c : Id) (kind : HoldKind) (p : List ℕ) → is_point_kind kind ≡ true
       → has_hold R.holds c kind p ≡ true
@@ -49,7 +49,7 @@ is_closing_at steps c p =
     && same_name p row.step.point) (steps_of steps c)
 
 -- HAND MATCHES STEP: a clearance has a point in hand exactly where a step of its order there is
--- given out and not reported; and while that step is a Close, nothing stands at the point but the
+-- given out and not reported; and while that step is a Close, nothing is at the point but the
 -- clearance's own HeldOpen
 pub record HandMatchesStep (R : Register) : Type 0 where
   pub hand : (c : Id) (p : List ℕ) → has_in_hand R.states c p ≡ is_active_at R.steps c p
@@ -98,8 +98,8 @@ abbrev pub works_on : List Hold → Id → HoldKind → Option (List ℕ) → Bo
 works_on holds c kind None = false
 works_on holds c kind (Some work) = has_hold holds c kind work
 
--- WORK HOLDS BELONG TO GRANTED RECORDS: tests, grounds and crews; tests and grounds stand at
--- sections of the clearance's fence, and where a crew is on, the clearance's own ground stands at
+-- WORK HOLDS BELONG TO GRANTED RECORDS: tests, grounds and crews; tests and grounds are at
+-- sections of the clearance's fence, and where a crew is on, the clearance's own ground is at
 -- its work section
 pub record WorkHoldsBelong (R : Register) : Type 0 where
   pub granted : (c : Id) (kind : HoldKind) (place : List ℕ) → is_point_kind kind ≡ false
@@ -177,9 +177,9 @@ abbrev pub still_to_do : List StepRow → Id → List ℕ → List Action
 still_to_do steps c p = actions_at (tasks_of (steps_left_of (steps_in steps c 2))) p
 
 -- HOLDS ARE WHAT THE DONE STEPS PUT: holds at points belong to Ordered, Granted, Released and
--- Restoring records, and stand at points of their first round; in the first three phases they are
+-- Restoring records, and are at points of their first round; in the first three phases they are
 -- exactly what the Done steps of that round put; in Restoring the steps that are left in the second
--- round undo what is held at each held point, and stand at no other point
+-- round undo what is held at each held point, and are at no other point
 pub record HoldsAreWhatDoneStepsPut (R : Register) : Type 0 where
   pub standing : (c : Id) (kind : HoldKind) (p : List ℕ) → is_point_kind kind ≡ true
       → has_hold R.holds c kind p ≡ true
@@ -224,7 +224,7 @@ pub record SwitchOrdersAreOperators (R : Register) : Type 0 where
       → (is_in_switching r.phase || is_closed r.phase) ≡ true
   pub switching : OnlySwitchOrdersSwitch R
 
--- THE NETWORK HAS NO POSITIONS: each row of a point is Opened, since where the point stands is in
+-- THE NETWORK HAS NO POSITIONS: each row of a point is Opened, since the point's position is in
 -- its state
 abbrev pub NetworkIsUnplaced : Register → Type 0
 NetworkIsUnplaced R = unplaced_net R.net ≡ R.net

@@ -42,7 +42,7 @@ outlook_of R c =
 unfoldable pub of_round : List StepRow → ℕ → List StepRow
 of_round steps round = filter (λ row. row.round == round) steps
 
--- the present round: the second where there is one, else the first; 0 without steps
+-- the present round: the second where there is one, otherwise the first; 0 without steps
 abbrev pub present_of : List StepRow → ℕ
 present_of steps =
     if is_some_step (of_round steps 2) then 2 else if is_some_step (of_round steps 1) then 1 else 0
@@ -69,7 +69,7 @@ Isolates g work v =
     IsSoundOrder g work (first_of_each (points_of (of_round v.steps 1)))
     (tasks_of (of_round v.steps 1))
 
--- no hold stands anywhere
+-- there is no hold anywhere
 abbrev pub HoldsNothing : Outlook → Type 0
 HoldsNothing v = (kind : HoldKind) (place : List ℕ) → v.has kind place ≡ false
 
@@ -102,7 +102,7 @@ pub record InOrdered (g : Grid) (work : List ℕ) (v : Outlook) : Type 0 where
 abbrev pub inner_fence : Grid → List ℕ → Outlook → List (List ℕ)
 inner_fence g work v = work_fence g (Some work) (points_of (of_round v.steps 1))
 
--- GRANTED: all steps are Done; tests and grounds stand inside the fence, and where a crew is on,
+-- GRANTED: all steps are Done; tests and grounds are inside the fence, and where a crew is on,
 -- the own ground at the work section
 pub record InGranted (g : Grid) (work : List ℕ) (v : Outlook) : Type 0 where
   pub isolates : Isolates g work v

@@ -1,4 +1,4 @@
--- Holds: the order of their keys, and where they stand.
+-- Holds: the order of their keys, and where they are.
 use Rattle.std.specs.Prelude.{◌≡◌, ℕ, Bool, ◌&&◌, List, if◌then◌else◌, refl}
 use Rattle.std.specs.Cmp.{IsTotalOrder}
 use Rattle.std.specs.Ordering.{nat_cmp, ordering_then, is_eq}
@@ -24,13 +24,13 @@ hold_cmp a b =
     ordering_then (kind_text_cmp a.kind b.kind)
     (ordering_then (name_cmp a.place b.place) (id_cmp a.id b.id))
 
--- where a hold stands, which follows from its kind
+-- where a hold is, which follows from its kind
 abbrev pub hold_group : Hold → HoldGroup
 hold_group hold =
     if is_point_kind hold.kind then AtPoint hold.place else if is_section_kind hold.kind
     then AtSection hold.place else CrewsOf hold.id
 
--- groups stand by what they are of, points before sections before crews; then by the name; crews
+-- groups go by what they are of, points before sections before crews; then by the name; crews
 -- then by the number
 abbrev pub group_rank : HoldGroup → ℕ
 group_rank (AtPoint point) = 0

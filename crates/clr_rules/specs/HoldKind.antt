@@ -1,4 +1,4 @@
--- The kinds of holds: where they stand, and their two orders.
+-- The kinds of holds: where they are, and their two orders.
 use Rattle.std.specs.Prelude.{◌≡◌, ℕ, Bool, true, false, List, [], ◌∷◌, codes, find, refl, Option}
 use Rattle.std.specs.Prelude.{Some, unwrap_or, bytes_eq}
 use Rattle.std.specs.Cmp.{IsTotalOrder}
@@ -13,7 +13,7 @@ use Rattle.clr_rules.specs.declared.hold_kind.HoldKind.{HoldKind}
 use Rattle.clr_rules.specs.declared.hold_kind.HoldKind.TheVariants.{HeldOpen, Block, Control, Tag}
 use Rattle.clr_rules.specs.declared.hold_kind.HoldKind.TheVariants.{Tested, Ground, Crew}
 
--- the kinds that stand at switching points, and keep them from being closed
+-- the kinds that are at switching points, and keep them from being closed
 abbrev pub is_point_kind : HoldKind → Bool
 is_point_kind HeldOpen = true
 is_point_kind Block = true
@@ -23,7 +23,7 @@ is_point_kind Tested = false
 is_point_kind Ground = false
 is_point_kind Crew = false
 
--- the kinds that stand at sections
+-- the kinds that are at sections
 abbrev pub is_section_kind : HoldKind → Bool
 is_section_kind Tested = true
 is_section_kind Ground = true
@@ -33,7 +33,7 @@ is_section_kind Control = false
 is_section_kind Tag = false
 is_section_kind Crew = false
 
--- the kind that stands at neither
+-- the kind that is at neither
 abbrev pub is_crew : HoldKind → Bool
 is_crew Crew = true
 is_crew HeldOpen = false

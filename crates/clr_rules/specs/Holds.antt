@@ -1,4 +1,4 @@
--- The holds: what stands at points and sections for a clearance, and which crews are signed on to
+-- The holds: what is at points and sections for a clearance, and which crews are signed on to
 -- it.
 use Rattle.std.specs.Prelude.{ℕ, Bool, false, not, ◌&&◌, ◌||◌, if◌then◌else◌, List, [], ◌∷◌, ◌++◌}
 use Rattle.std.specs.Prelude.{filter, map, Option, None, Some, fold, is_some}
@@ -73,7 +73,7 @@ first_hold holds = fold earlier_hold None holds
 unfoldable pub hindering_hold : List Hold → Id → List ℕ → Option Hold
 hindering_hold holds c p = first_hold (filter (hinders c p) holds)
 
--- the names of a list, each once, where it stands first
+-- the names of a list, each once, where it comes first
 unfoldable pub first_of_each : List (List ℕ) → List (List ℕ)
 first_of_each [] = []
 first_of_each (p ∷ ps) = p ∷ filter (λ q. not (same_name p q)) (first_of_each ps)
@@ -101,7 +101,7 @@ is_near_hold inside beside own h =
     (is_point_kind h.kind && beside h.place)
     || ((is_section_kind h.kind && inside h.place) || (is_crew h.kind && is_own own h.id))
 
--- the holds by kind, in the kinds' own order, those of a kind as they stand: by place, then by
+-- the holds by kind, in the kinds' own order, those of a kind in their order: by place, then by
 -- clearance
 abbrev pub of_kinds : List HoldKind → List Hold → List Hold
 of_kinds [] holds = []

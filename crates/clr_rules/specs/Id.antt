@@ -58,7 +58,7 @@ is_eq-then Less p = refl
 is_eq-then Equal p = refl
 is_eq-then Greater p = refl
 
--- two clearances are the same exactly where neither stands before the other
+-- two clearances are the same exactly where neither comes before the other
 pub same_id_ties : (a b : Id) → same_id a b ≡ is_eq (id_cmp a b)
 same_id_ties a b =
     let both : same_id a b

@@ -26,7 +26,7 @@ id_of (Ok requester) (Some number) = new_id requester number
 id_of (Ok requester) None = None
 id_of (Err fault) number = None
 
--- the clearance that a text names: its requester stands before the first slash, its number follows
+-- the clearance that a text names: its requester comes before the first slash, its number follows
 -- it
 abbrev pub read_id : List ℕ → Option Id
 read_id text =

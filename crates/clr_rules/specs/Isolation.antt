@@ -145,7 +145,7 @@ pub record ShowsOwnAlone (c : Id) (inside : List ℕ → Bool) (R : Register)
       ≡ true
 
 -- THE CONSEQUENCE: where no command of others marks the set, or adds a section that it asks for, a
--- clearance is answered as if its own commands stood alone
+-- clearance is answered as if its own commands were alone
 abbrev pub OwnCommandsAlone : Type 0
 OwnCommandsAlone = (c : Id) (inside : List ℕ → Bool) (R : Register) (commands : List Command)
     → ShowsOwnAlone c inside R commands

@@ -49,7 +49,7 @@ is_fenced Requested = false
 is_fenced Closed = false
 is_fenced _ = true
 
--- phases in which an isolating order stands
+-- phases in which an isolating order is in force
 abbrev pub is_standing : Phase → Bool
 is_standing Ordered = true
 is_standing Granted = true

@@ -1,5 +1,5 @@
 -- The register: the network, the staff, and what is written down of points, clearances, steps and
--- holds. Each list stands in the order of its keys, one row a key.
+-- holds. Each list is in the order of its keys, one row a key.
 use Rattle.std.specs.Prelude.{List, [], map, None}
 use Rattle.clr_net.specs.Prelude.{Grid, unplaced}
 use Rattle.clr_staff.specs.declared.employee.StaffRow.{StaffRow}
@@ -10,7 +10,7 @@ use Rattle.clr_rules.specs.declared.step_row.StepRow.{StepRow}
 use Rattle.clr_net.specs.declared.point.PointRow.{PointRow}
 
 pub record Register : Type 0 where
-  -- a point's position is no part of the network: it stands in its state, and here each point is
+  -- a point's position is no part of the network: it is in its state, and here each point is
   -- Opened, in an opening register and so in each that is reached
   pub net : Grid
   pub staff : List StaffRow

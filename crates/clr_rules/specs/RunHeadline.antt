@@ -20,14 +20,14 @@ pub record IsRun (R : Register) (commands : List Command) (told : List Reply)
   pub replied : told ≡ replies R commands
   pub register : S ≡ after_all R commands
 
--- the replies to the own commands of a clearance: each reply stands at the place of its command
+-- the replies to the own commands of a clearance: each reply is at the place of its command
 unfoldable pub own_replies : Id → List Command → List Reply → List Reply
 own_replies c [] told = []
 own_replies c (q ∷ commands) [] = []
 own_replies c (q ∷ commands) (reply ∷ told) =
     if is_own_command c q then reply ∷ own_replies c commands told else own_replies c commands told
 
--- a second run tells a clearance the same: the replies to its own commands, and their edits, are
+-- a second run gives a clearance the same: the replies to its own commands, and their edits, are
 -- those of the other register and the other commands, and the registers that are left agree near
 -- the clearance again
 pub record TellsTheSame (c : Id) (inside : List ℕ
@@ -38,7 +38,7 @@ pub record TellsTheSame (c : Id) (inside : List ℕ
   pub agree : Agree c inside S (after_all T others)
 
 -- FIRST HALF: for each clearance whose requester is no operator, each set that covers this run, and
--- each good register and list of commands that show the clearance the same, it is told the same
+-- each good register and list of commands that show the clearance the same, it is given the same
 abbrev pub OthersChangeNoReply : Register → List Command → List Reply → Register → Type 0
 OthersChangeNoReply R commands told S =
     (c : Id) (inside : List ℕ → Bool) (T : Register) (others : List Command)
@@ -54,7 +54,7 @@ OthersTakeNothing R commands =
     → LeftAlone c (after_all R earlier) (after (after_all R earlier) q)
 
 -- THE CONSEQUENCE: where no command of others marks the set, a clearance is replied to as if its
--- own commands stood alone
+-- own commands were alone
 abbrev pub OwnStandAlone : Register → List Command → List Reply → Type 0
 OwnStandAlone R commands told = (c : Id) (inside : List ℕ → Bool)
     → ShowsOwnAlone c inside R commands

@@ -1,4 +1,4 @@
--- The states of switching points: where a point stands, and whose order is at work on it.
+-- The states of switching points: their positions, and whose order is at work on them.
 use Rattle.std.specs.Prelude.{ℕ, Bool, false, List, Option, Some, None, option_map}
 use Rattle.clr_net.specs.Prelude.{name_cmp}
 use Rattle.clr_shelf.specs.Rows.{row_of, with_row}

@@ -54,7 +54,7 @@ steps_of steps c = filter (λ row. same_id c row.id) steps
 abbrev pub is_some_step : List StepRow → Bool
 is_some_step rows = nat_lt 0 (length rows)
 
--- THE PRESENT ROUND: the second where there is one, else the first; 0 without steps in either
+-- THE PRESENT ROUND: the second where there is one, otherwise the first; 0 without steps in either
 abbrev pub present_round : List StepRow → Id → ℕ
 present_round steps c =
     if is_some_step (steps_in steps c 2) then 2 else if is_some_step (steps_in steps c 1) then 1

@@ -8,7 +8,7 @@ use clr_net::{Name, PointRow, Position, SectionRow};
 /// One edit of the register's rows. To put a row is to replace the row of its key; all other rows
 /// stay. To add one is to put it where there is none of its name.
 ///
-/// The kinds of edits stand in this order in a change, and those of a kind in the order of their
+/// The kinds of edits are in this order in a change, and those of a kind in the order of their
 /// keys; putting and taking a hold are one kind.
 #[derive(Clone, Copy, Debug, PartialEq, Eq)]
 pub enum Edit {
@@ -29,7 +29,7 @@ pub enum Edit {
     /// Adds a section of a new name.
     AddSection(SectionRow),
     /// Adds a point of a new name. It is open and in nobody's hand, wherever its row says that it
-    /// stands.
+    /// is.
     AddPoint(PointRow),
 }
 

@@ -37,7 +37,7 @@ pub enum IdFault {
 /// is.
 ///
 /// Switch orders are named in the same way by their operator. A transfer does not change the name.
-/// Clearances stand in the order of their requesters' names, those of one requester in the order of
+/// Clearances are in the order of their requesters' names, those of one requester in the order of
 /// their numbers. One employee in charge for each clearance comes from 29 CFR 1910.269(m)(2)(i);
 /// numbers counted for each requester are the project's own.
 #[derive(Clone, Copy)]
@@ -110,7 +110,7 @@ fn read_id(text: &str) -> Option<ClearanceId>
     }
 }
 
-/// What stands before the first slash and what stands after it; where there is none, the text and
+/// What comes before the first slash and what comes after it; where there is none, the text and
 /// nothing.
 fn halves(text: &str) -> (&str, &str)
     ensures name { result.0.now ≡ before_first is_slash text.now }

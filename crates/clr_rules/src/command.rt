@@ -114,7 +114,7 @@ pub enum Kind {
     Switch {
         steps: Tasks,
     },
-    /// Anyone of the staff asks how a clearance stands.
+    /// Anyone of the staff asks for the state of a clearance.
     Show {
         clearance: ClearanceId,
     },

@@ -1,4 +1,4 @@
-//! Holds: what stands at a point or a section for a clearance, and which crews are signed on to it.
+//! Holds: what is at a point or a section for a clearance, and which crews are signed on to it.
 use crate::clearance_id::ClearanceId;
 use crate::hold_kind::HoldKind;
 use clr_net::Name;
@@ -7,8 +7,8 @@ use std::cmp::Ordering;
 
 /// What a clearance holds at a place. It holds one of a kind at a place.
 ///
-/// It is its own key: holds stand in the order of their kinds' texts, then the place, then the
-/// clearance. Its group is where it stands.
+/// It is its own key: holds are in the order of their kinds' texts, then the place, then the
+/// clearance. Its group is its place.
 #[derive(Clone, Copy, Debug, PartialEq, Eq)]
 pub struct Hold {
     pub kind: HoldKind,
@@ -17,7 +17,7 @@ pub struct Hold {
     pub id: ClearanceId,
 }
 
-/// Where holds stand: at a switching point, at a section, or, of a clearance's crews, at neither.
+/// Where holds are: at a switching point, at a section, or, of a clearance's crews, at neither.
 #[derive(Clone, Copy, Debug, PartialEq, Eq)]
 pub enum HoldGroup {
     /// The holds of any clearance at this switching point.
@@ -32,7 +32,7 @@ impl HoldGroup {
     ghost use Rattle.std.specs.Prelude.{◌≡◌};
     ghost use Rattle.clr_rules.specs.Hold.{group_name, group_number, group_rank, hold_group_cmp};
 
-    /// What groups are told apart by, in the order in which it is compared.
+    /// What groups are distinguished by, in the order in which it is compared.
     fn parts(&self) -> (u8, Name, u16)
         ensures rank { result.0 ≡ group_rank self.now }
         ensures name { result.1 ≡ group_name self.now }
@@ -45,7 +45,7 @@ impl HoldGroup {
         }
     }
 
-    /// How the group stands to another: points, sections, crews; of each by name.
+    /// How the group compares to another: points, sections, crews; of each by name.
     fn compare(&self, other: &HoldGroup) -> Ordering
         ensures { result ≡ hold_group_cmp self.now other.now }
     {

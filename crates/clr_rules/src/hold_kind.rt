@@ -14,7 +14,7 @@ use std::fmt;
 /// Crew, Ground, HeldOpen, Tag, Tested.
 #[derive(Clone, Copy, Debug, PartialEq, Eq)]
 pub enum HoldKind {
-    /// A switching point stands open for the clearance: 29 CFR 1910.269(m)(3)(ii).
+    /// A switching point is open for the clearance: 29 CFR 1910.269(m)(3)(ii).
     HeldOpen,
     /// A switching point was made inoperable: (m)(3)(ii).
     Block,
@@ -67,7 +67,7 @@ impl HoldKind {
         }
     }
 
-    /// Where the kind stands among the kinds as they are declared, counted from 0.
+    /// Where the kind is among the kinds as they are declared, counted from 0.
     fn place(self) -> u8
         ensures { result ≡ kind_place self }
     {
@@ -82,21 +82,21 @@ impl HoldKind {
         }
     }
 
-    /// How the kind stands to another in their own order, which is that of views.
+    /// How the kind compares to another in their own order, which is that of views.
     pub fn compare_own(self, other: HoldKind) -> Ordering
         ensures { result ≡ kind_cmp self other }
     {
         self.place().cmp(&other.place())
     }
 
-    /// How the kind stands to another in the order of their texts, which is that of keys.
+    /// How the kind compares to another in the order of their texts, which is that of keys.
     pub fn compare_text(self, other: HoldKind) -> Ordering
         ensures { result ≡ kind_text_cmp self other }
     {
         self.text().as_bytes().cmp(other.text().as_bytes())
     }
 
-    /// Whether it stands at a switching point, where it keeps the point from being closed.
+    /// Whether it is at a switching point, where it keeps the point from being closed.
     pub fn stands_at_point(self) -> bool
         ensures { result ≡ is_point_kind self }
     {
@@ -106,7 +106,7 @@ impl HoldKind {
         }
     }
 
-    /// Whether it stands at a section.
+    /// Whether it is at a section.
     pub fn stands_at_section(self) -> bool
         ensures { result ≡ is_section_kind self }
     {
@@ -120,7 +120,7 @@ impl HoldKind {
         }
     }
 
-    /// Whether it is a crew's, which stands at neither.
+    /// Whether it is a crew's, which is at neither.
     pub fn is_crew(self) -> bool
         ensures { result ≡ is_crew self }
     {

@@ -8,7 +8,7 @@ ghost use Rattle.clr_rules.specs.Records.{is_running, is_transferable};
 
 use std::fmt;
 
-/// Where a clearance stands in its life.
+/// Where a clearance is in its life.
 ///
 /// A clearance on a work section goes from `Requested` to `Ordered`, `Granted`, `Released`,
 /// `Restoring` and `Closed`, the steps of 29 CFR 1910.269(m)(3) in their order; one that is

@@ -9,7 +9,7 @@ use clr_net::{Name, Position};
 use clr_shelf::Row;
 use std::cmp::Ordering;
 
-/// How a switching point stands, as it was last reported.
+/// The state of a switching point, as it was last reported.
 ///
 /// Its key and its group are the point.
 #[derive(Clone, Copy, Debug, PartialEq, Eq)]

@@ -33,7 +33,7 @@ pub enum Refusal {
     EmptyOrder,
     /// The order has more than 64 points or more than 256 steps.
     LongOrder,
-    /// A point stands twice among the points.
+    /// A point comes twice among the points.
     PointTwice,
     /// A source lies inside the fence, of which this is the least in the order of names:
     /// (m)(3)(ii).
@@ -41,7 +41,7 @@ pub enum Refusal {
     /// The first of the points that is not on the border of the fence: it is unknown, elsewhere or
     /// inside.
     NotOnFence(Name),
-    /// The first point whose steps are not those that it has to have, else the point of the first
+    /// The first point whose steps are not those that it has to have, otherwise the point of the first
     /// step elsewhere; of a switch order the point of the first step that neither opens nor closes:
     /// (m)(3)(ii), (iii), (xii), (xiii).
     StepsWrong(Name),
@@ -69,9 +69,9 @@ pub enum Refusal {
     OutsideFence,
     /// The clearance has not tested the section and found it dead: (m)(3)(vi), (n)(5).
     NotTested,
-    /// The clearance's ground stands: there, or anywhere where it is released, (m)(3)(x), (xi).
+    /// The clearance's ground is on: there, or anywhere where it is released, (m)(3)(x), (xi).
     Grounded,
-    /// The clearance's ground does not stand there: (m)(3)(vii), (viii).
+    /// The clearance's ground is not on there: (m)(3)(vii), (viii).
     NotGrounded,
     /// A crew is signed on: (m)(3)(x), (xi). A ground may be taken all the same, but not that of
     /// the work section.

@@ -18,13 +18,13 @@ pub enum Reply {
     Added(Name),
 }
 
-/// How a clearance stands, in short.
+/// The state of a clearance, in short.
 #[derive(Clone, Copy, Debug, PartialEq, Eq)]
 pub struct Card {
     pub clearance: ClearanceId,
     pub phase: Phase,
     pub holder: Name,
-    /// The present round: 0 without steps, 2 where there are restoring steps, else 1.
+    /// The present round: 0 without steps, 2 where there are restoring steps, otherwise 1.
     pub round: u8,
     /// How many steps of the present round are done.
     pub done: usize,
@@ -32,7 +32,7 @@ pub struct Card {
     pub steps: usize,
 }
 
-/// How a clearance stands, and all that stands at its fence.
+/// The state of a clearance, and all that is at its fence.
 #[derive(Debug, PartialEq, Drop)]
 pub struct View {
     pub card: Card,

@@ -7,7 +7,7 @@ use clr_order::{Step, StepState};
 use clr_shelf::Row;
 use std::cmp::Ordering;
 
-/// What tells step rows apart. Keys stand in the order of the clearance, then the round, then the
+/// What distinguishes step rows. Keys are in the order of the clearance, then the round, then the
 /// ordinal.
 #[derive(Clone, Copy, Debug, PartialEq, Eq)]
 pub struct StepKey {

@@ -213,7 +213,7 @@ impl<'t> Session<'t> {
         Ok(told)
     }
 
-    /// Runs what stands before this line, the command line that was asked or the commands over the
+    /// Runs what comes before this line, the command line that was asked or the commands over the
     /// stored register, and compares what came.
     fn end_block(&mut self, rt: &HostRuntime) -> anyhow::Result<Option<Difference>> {
         let told = self.compare_block(rt)?;

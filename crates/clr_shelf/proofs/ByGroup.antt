@@ -176,7 +176,7 @@ module _ {Key Row Group : Type 0} (compare : Key → Key → Ordering) (key_of :
       key_order_within group rest others (in_key_order-rest (place_cmp compare group_of group_cmp) key_of place_total row rest ordered) in
       rw (first, later) refl
 
-  -- the rows of a group stand in the order of places as they stand in key order
+  -- the rows of a group are in the order of places as they are in key order
   pub filter-rows_by_key : (group : Group) (p : Row → Bool) → ((row : Row) → p row ≡ is_eq (group_cmp (group_of (key_of row)) group)) → (rows : List Row)
       → in_key_order (place_cmp compare group_of group_cmp) key_of rows ≡ true
       → filter p rows ≡ filter p (rows_by_key compare key_of rows)
@@ -191,7 +191,7 @@ module _ {Key Row Group : Type 0} (compare : Key → Key → Ordering) (key_of :
       ∙ ap (option_filter p) (sym (row_of-rows_by_key key rows ordered))
       ∙ sym (row_of-filter compare key_of order p key by_key by_key_ordered))
 
-  -- ---- where the rows of a group stand
+  -- ---- where the rows of a group are
 
   groups_sorted : (rows : List Row) → in_key_order (place_cmp compare group_of group_cmp) key_of rows ≡ true
       → IsSortedBy (λ a b. is_lt (group_cmp (group_of (key_of a)) (group_of (key_of b)))) rows

@@ -88,7 +88,7 @@ after_first : {X : Type 0} (x : X) (xs : List X) → slice_get (x ∷ xs) (lengt
 after_first x [] = refl
 after_first x (y ∷ ys) = after_first y ys
 
--- the last of a list stands at its end
+-- the last of a list is at its end
 pub last_or-slice_get : {X : Type 0} (xs : List X) → slice_get xs (length xs - 1) ≡ last_or None xs
 last_or-slice_get [] = refl
 last_or-slice_get (x ∷ xs) = let at_end : length (x ∷ xs) - 1 ≡ length xs = omega arith in ap (slice_get (x ∷ xs)) at_end ∙ after_first x xs

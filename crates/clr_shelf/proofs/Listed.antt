@@ -13,7 +13,7 @@ use Rattle.clr_shelf.proofs.Parts.{parts-edit, part_read, length-parts, joined-i
 use Rattle.clr_shelf.proofs.Spread.{crowded, thinned}
 use Rattle.clr_shelf.proofs.Starts.{kept_starts, kept_begin, last_is_spare, counted_more, counted_le, counted_all}
 
--- what stands before a block that has items, or before the first
+-- what comes before a block that has items, or before the first
 block_begins : {T : Type 0} (list : Blocks T) (k : ℕ) → (0 < k → k < list.used)
     → get_or list.starts.items k 0 ≡ length (joined (take k (parts_of list.blocks.items)))
 block_begins list zero here = list.begun.first

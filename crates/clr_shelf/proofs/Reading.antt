@@ -13,7 +13,7 @@ or_none None = refl
 or_none (Some x) = refl
 
 module _ {Key Row : Type 0} (compare : Key → Key → Ordering) (key_of : Row → Key) (order : IsTotalOrder compare) where
-  -- a row that ties with a key stands to every key as that key does
+  -- a row that ties with a key compares to every key as that key does
   same_side : (test : Ordering → Bool) (key : Key) (row other : Row) (o : Ordering) → compare key (key_of row) ≡ o
       → is_eq (compare (key_of other) key) ≡ true → test (compare (key_of other) (key_of row)) ≡ test o
   same_side test key row other o is tied = ap test (order.congr (key_of other) key (key_of row) (equal (compare (key_of other) key) tied) ∙ is)

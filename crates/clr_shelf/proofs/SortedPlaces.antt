@@ -1,4 +1,4 @@
--- What a search finds in a list by group and then key, and what a put or a take does there, told of the rows in key order.
+-- What a search finds in a list by group and then key, and what a put or a take does there, said of the rows in key order.
 use Rattle.std.proofs.Common.{◌≡◌, ℕ, true, List, [], set, length, get_or, Some, None, refl, sym, ◌∙◌, ap, insert, remove, Ordering, Equal}
 use Rattle.std.specs.Cmp.{IsTotalOrder}
 use Rattle.std.proofs.lemmas.List.Sorted.{length_permutation}

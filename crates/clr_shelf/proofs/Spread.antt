@@ -13,7 +13,7 @@ shifted apart together at join k later =
     let is : k - 1 + 1 ≡ k = omega arith in
     subst (λ n. together (k - 1) ≡ apart n) is (join.after (k - 1) (omega arith))
 
--- a pair of neighbours, told by the second
+-- a pair of neighbours, named by the second
 pair_before : (size : ℕ) (sizes : ℕ → ℕ) → ((k : ℕ) → 0 < sizes (k + 1)
     → size < sizes k + sizes (k + 1))
     → (k : ℕ) → 0 < k → 0 < sizes k → size < sizes (k - 1) + sizes k

@@ -1,4 +1,4 @@
--- How many items stand before each part, and in which part a place is.
+-- How many items come before each part, and in which part a place is.
 use Rattle.std.proofs.Common.{◌≡◌, ℕ, zero, suc, ◌+◌, ◌-◌, ◌*◌, ◌/◌, ◌<◌, ◌≤◌, List, [], ◌∷◌, ◌++◌, length, get_or, set, take, refl, sym, ap, ◌∙◌, subst, arith, inl, inr, get_or-set_same}
 use Rattle.std.proofs.Common.{get_or-set_other, below_more, replicate}
 use Rattle.std.proofs.lemmas.List.{length-append, length-set, length-replicate, get_or_append_left, take-append-le}
@@ -16,7 +16,7 @@ some_before size sizes spread (suc n) k has =
     some_before size sizes spread n k
     (omega (arith, here, spread.filled (n + k) here, spread.fits (n + k + 1)))
 
--- what stands before the first part is none, also where the count begins anew
+-- what comes before the first part is none, also where the count begins again
 first_kept : (k begin : ℕ) (starts : List ℕ) → get_or starts 0 0 ≡ 0 → k < length starts
     → (k ≡ 0 → begin ≡ 0) → get_or (set starts k begin) 0 0 ≡ 0
 first_kept zero begin starts first within is = get_or-set_same starts 0 begin 0 within ∙ is refl
@@ -49,7 +49,7 @@ module _ {X : Type 0} where
       subst (λ n. length (joined (take n parts)) ≡ length (joined (take k parts)) + size_at parts k)
       next (more_at parts k within)
 
-  -- no more stand before a part than there are
+  -- no more come before a part than there are
   pub counted_le : (parts : List (List X)) (k : ℕ)
       → length (joined (take k parts)) ≤ length (joined parts)
   counted_le [] zero = omega arith
@@ -73,7 +73,7 @@ module _ {X : Type 0} where
         (spread.filled (suc j));
   }
 
-  -- a part has some where fewer stand before it than there are
+  -- a part has some where fewer come before it than there are
   pub some_there : (size : ℕ) (parts : List (List X)) → IsSpread size (size_at parts) → (k : ℕ)
       → length (joined (take k parts)) < length (joined parts) → 0 < size_at parts k
   some_there size [] spread zero more = absurd (omega arith)

@@ -16,7 +16,7 @@ abbrev pub size_at : {T : Type 0} → List (List T) → ℕ → ℕ
 size_at parts k = length (slice_index_or parts k [])
 
 -- No part has more than `size` items. A part that has any has with the one before it more than
--- that, so the parts are half full at least, and those that have none stand last.
+-- that, so the parts are half full at least, and those that have none come last.
 pub record IsSpread (size : ℕ) (sizes : ℕ → ℕ) : Type 0 where
   pub fits : (k : ℕ) → sizes k ≤ size
   pub filled : (k : ℕ) → 0 < sizes (k + 1) → size < sizes k + sizes (k + 1)
@@ -49,7 +49,7 @@ pub record IsJoin (at : ℕ) (apart together : ℕ → ℕ) : Type 0 where
   pub before : (k : ℕ) → k < at → together k ≡ apart k
   pub after : (k : ℕ) → at < k → together k ≡ apart (k + 1)
 
--- the first `used` parts have items, and for each of them it is known how many stand before it
+-- the first `used` parts have items, and for each of them it is known how many come before it
 pub record HasStarts {T : Type 0} (used : ℕ) (starts : List ℕ) (parts : List (List T))
     : Type 0 where
   pub each_has : length starts ≡ length parts

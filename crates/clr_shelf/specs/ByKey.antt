@@ -1,5 +1,5 @@
 -- A list of rows of different keys, put in key order. The lemma is the proof of a law, which has to
--- stand here.
+-- are here.
 use Rattle.std.specs.Prelude.{Bool, true, false, List, [], ◌∷◌, if◌then◌else◌, IsPermutation}
 use Rattle.std.specs.Ordering.{is_lt}
 use Rattle.std.specs.declared.cmp.Ordering.{Ordering}

@@ -1,5 +1,5 @@
 -- The order of places by group and then key, and where in a list of rows in order a row of a key
--- stands, or would go.
+-- is, or would go.
 use Rattle.std.specs.Prelude.{◌≡◌, ℕ, ◌<◌, ◌≤◌, List, length}
 use Rattle.std.specs.Ordering.{ordering_then}
 use Rattle.std.specs.List.{AllWithin, HoldsAt}
@@ -18,7 +18,7 @@ pub record IsPlaceOf {Key Row : Type 0} (compare : Key → Key → Ordering) (ke
   pub in_range : place < length rows
   pub has_key : HoldsAt (λ row. compare (key_of row) key ≡ Equal) rows place
 
--- a row of the key would go to the place: lower keys stand before it, and higher keys from it on
+-- a row of the key would go to the place: lower keys come before it, and higher keys from it on
 pub record IsGapFor {Key Row : Type 0} (compare : Key → Key → Ordering) (key_of : Row
     → Key) (key : Key) (rows : List Row) (place : ℕ) : Type 0 where
   pub in_range : place ≤ length rows

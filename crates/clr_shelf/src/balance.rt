@@ -5,7 +5,7 @@ ghost use Rattle.clr_shelf.specs.Blocks.{joined, parts_of, size_at};
 
 use crate::block::{Block, SIZE};
 
-// Gives the first item of a block to the end of the block before it, which stands at `k`.
+// Gives the first item of a block to the end of the block before it, which is at `k`.
 fn move_left<T: Drop>(blocks: &mut Vec<Block<T>>, k: usize)
     requires in_range { k + 1 < vec_len blocks.old }
     requires given { 0 < size_at (parts_of blocks.old.items) (k + 1) }
@@ -54,7 +54,7 @@ fn split<T: Drop>(blocks: &mut Vec<Block<T>>, k: usize)
     };
 }
 
-// Gives all items of a block to the block before it, which stands at `k`. The empty one goes last.
+// Gives all items of a block to the block before it, which is at `k`. The empty one goes last.
 fn join<T: Drop>(blocks: &mut Vec<Block<T>>, k: usize)
     requires in_range { k + 1 < vec_len blocks.old }
     requires room { size_at (parts_of blocks.old.items) k
@@ -71,7 +71,7 @@ fn join<T: Drop>(blocks: &mut Vec<Block<T>>, k: usize)
 
 /// Spreads the items of a block that may have one too many.
 ///
-/// The next block is asked first: behind the last one that has items it is empty, so items that are
+/// The next block is asked first: after the last one that has items it is empty, so items that are
 /// put in their order move no others.
 pub(crate) fn settle<T: Drop>(blocks: &mut Vec<Block<T>>, k: usize)
     requires in_range { k + 1 < vec_len blocks.old }

@@ -12,18 +12,18 @@ use crate::balance::{merge, settle};
 use crate::block::{Block, SIZE};
 use std::alloc::{AllocError, Global};
 
-/// A list whose items stand in blocks, one block after another.
+/// A list whose items are in blocks, one block after another.
 ///
 /// A put and a take move the items of one block, or of two neighbours, and a place is found by
 /// halves. No block is more than full, and two neighbours are so full that they could not be one:
 /// so half of the blocks, if they were full, would hold all items.
 #[derive(Drop)]
 pub(crate) struct Blocks<T> {
-    // Those that are empty stand last.
+    // Those that are empty come last.
     blocks: Vec<Block<T>>,
     // How many have items.
     used: usize,
-    // How many items stand before each block that has any.
+    // How many items come before each block that has any.
     starts: Vec<usize>,
     total: usize,
     ghost spread: { IsSpread SIZE (size_at (parts_of blocks.items)) },
@@ -34,7 +34,7 @@ pub(crate) struct Blocks<T> {
     ghost bounded: { vec_len blocks / 2 * SIZE < 2 ^ 64 },
 }
 
-// Counts how many items stand before each block from the one before `touched` up to the first that
+// Counts how many items come before each block from the one before `touched` up to the first that
 // is empty, and returns where that is.
 fn count_starts<T: Drop>(starts: &mut Vec<usize>, blocks: &[Block<T>], touched: usize) -> usize
     requires in_range { touched < length blocks.now }
@@ -67,7 +67,7 @@ fn empty_blocks<T: Drop>(alloc: Global, count: usize) -> Result<Vec<Block<T>>, A
 }
 
 // The refusal of more numbers than any memory has room for: they are asked for all the same, so
-// that out of memory is only told where a growth was refused.
+// that out of memory is only answered where a growth was refused.
 fn refusal_of_all(alloc: Global) -> AllocError {
     let mut numbers: Vec<usize> = Vec::new(alloc);
     match numbers.reserve(usize::MAX) {
@@ -119,7 +119,7 @@ impl<T: Drop> Blocks<T> {
         self.blocks.len() / 2 * SIZE - self.total
     }
 
-    // The block in which the item at a place stands.
+    // The block in which the item at a place is.
     fn block_of(&self, place: usize) -> usize
         requires { place < length (items_of self.now) }
         ensures in_range { result < vec_len self.now.blocks }
@@ -172,7 +172,7 @@ impl<T: Drop> Blocks<T> {
         self.at_in(k, place)
     }
 
-    // The item at a place that stands in a block.
+    // The item at a place that is in a block.
     fn at_in(&self, k: usize, place: usize) -> &T
         requires in_range { k < self.now.used }
         requires from { slice_index self.now.starts.items k ≤ place }

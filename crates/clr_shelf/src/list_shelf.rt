@@ -18,7 +18,7 @@ pub struct ListShelf<R: Row> {
 }
 
 impl<R: Row> ListShelf<R> {
-    // Where the row of a key stands, or where it would go.
+    // Where the row of a key is, or where it would go.
     fn place_of(&self, key: &R::Key) -> Result<usize, usize>
         ensures found { IfOk result (IsPlaceOf R.key_cmp R.key_of key.now self.now.list.items) }
         ensures absent { IfErr result (IsGapFor R.key_cmp R.key_of key.now self.now.list.items) }

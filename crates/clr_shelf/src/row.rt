@@ -1,4 +1,4 @@
-//! Rows: records of plain data that a key tells apart.
+//! Rows: records of plain data that a key distinguishes.
 ghost use Rattle.std.specs.Prelude.{◌≡◌, Bool};
 ghost use Rattle.std.specs.Cmp.{IsTotalOrder};
 ghost use Rattle.std.specs.Ordering.{is_eq};
@@ -7,9 +7,9 @@ ghost use Rattle.std.specs.declared.cmp.Ordering.TheVariants.{Equal};
 
 use std::cmp::Ordering;
 
-/// A record of plain data with a key, which also stands in one group.
+/// A record of plain data with a key, which is also in one group.
 pub trait Row: Drop {
-    /// What tells rows apart, as a record of fields of the row. Keys are in a total order.
+    /// What distinguishes rows, as a record of fields of the row. Keys are in a total order.
     type Key: Drop;
 
     /// What gathers the rows that are asked for together. It follows from the key. Groups are in a
@@ -30,7 +30,7 @@ pub trait Row: Drop {
     fn key(&self) -> Self::Key
         ensures { result ≡ key_of self.now };
 
-    /// How the row's key stands to another.
+    /// How the row's key compares to another.
     fn compare_key(&self, key: &Self::Key) -> Ordering
         ensures { result ≡ key_cmp (key_of self.now) key.now };
 
@@ -38,7 +38,7 @@ pub trait Row: Drop {
     fn group_of(key: &Self::Key) -> Self::Group
         ensures { result ≡ group_of key.now };
 
-    /// How the row's group stands to another.
+    /// How the row's group compares to another.
     fn compare_group(&self, group: &Self::Group) -> Ordering
         ensures { result ≡ group_cmp (group_of (key_of self.now)) group.now };
 

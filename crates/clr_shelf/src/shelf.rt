@@ -32,7 +32,7 @@ pub trait Shelf<R: Row>: Drop {
     fn get(&self, key: &R::Key) -> Option<&R>
         ensures { option_copied result ≡ row_of R.key_cmp R.key_of key.now (rows self.now) };
 
-    /// The row at a place; nothing from `len` on. Each row stands at one place below `len`, until
+    /// The row at a place; nothing from `len` on. Each row is at one place below `len`, until
     /// the next put or take.
     fn at(&self, place: usize) -> Option<&R>
         ensures { option_copied result ≡ slice_get (places self.now) place };

@@ -28,7 +28,7 @@ pub struct SortedShelf<R: Row> {
 }
 
 impl<R: Row> SortedShelf<R> {
-    // Where the row of a key stands, or where it would go.
+    // Where the row of a key is, or where it would go.
     fn place_of(&self, key: &R::Key) -> Result<usize, usize>
         ensures found { IfOk result
             (IsPlaceOf (place_cmp R.key_cmp R.group_of R.group_cmp) R.key_of key.now
@@ -78,7 +78,7 @@ impl<R: Row> SortedShelf<R> {
     }
 
     // Where the rows of a group end that begin at a place, or would. Nothing is looked up where no
-    // row of the group stands there.
+    // row of the group is there.
     fn end_from(&self, group: &R::Group, start: usize) -> usize
         requires in_range { start ≤ length (items_of self.now.list) }
         requires parts { IsPartitionPoint

@@ -29,14 +29,14 @@ supervisor_fault-IsPermutation old new moved rows rest =
     λ i row. not (is_known-IsPermutation old new moved row.supervisor i) in
     ap (λ (q : StaffRow → Bool). row_fault UnknownSupervisor (position q rows) (row_fault OwnSupervisor (position is_own_supervisor rows) rest)) same
 
--- where no name stands twice, the first fault is that of the supervisors or of the size, in whatever order the names are looked up
+-- where no name comes twice, the first fault is that of the supervisors or of the size, in whatever order the names are looked up
 pub first_fault_is : (rows staff : List StaffRow) → IsPermutation rows staff → ((rest : Option StaffFault) → name_fault rows rest ≡ rest)
     → first_fault rows ≡ supervisor_fault (staff_names staff) rows (size_fault rows None)
 first_fault_is rows staff moved names =
     names (supervisor_fault (staff_names rows) rows (size_fault rows None))
     ∙ sym (supervisor_fault-IsPermutation (staff_names rows) (staff_names staff) (names_permuted rows staff moved) rows (size_fault rows None))
 
--- rows that pass each stage are a staff, once they stand in the order of their names
+-- rows that pass each stage are a staff, once they are in the order of their names
 pub staff_from : (rows staff : List StaffRow) → IsPermutation rows staff → length rows ≤ 2000 → IsStrictlySortedBy name_cmp (staff_names staff)
     → All (λ row. IsTrue (has_known_supervisor (staff_names staff) row)) rows → All (λ row. is_own_supervisor row ≡ false) rows → IsStaff staff
 staff_from rows staff moved fit rise known differ =

@@ -38,22 +38,22 @@ pub record IsStaff (rows : List StaffRow) : Type 0 where
   pub supervisors_known : All (λ row. IsTrue (has_known_supervisor (staff_names rows) row)) rows
   pub supervisors_differ : All (λ row. is_own_supervisor row ≡ false) rows
 
--- a fault of the row at a place, which is named by its number from 1, else the rest
+-- a fault of the row at a place, which is named by its number from 1, otherwise the rest
 abbrev pub row_fault : (ℕ → StaffFault) → Option ℕ → Option StaffFault → Option StaffFault
 row_fault fault None rest = rest
 row_fault fault (Some place) rest = Some (fault (place + 1))
 
--- a name that stands twice, else the rest
+-- a name that comes twice, otherwise the rest
 abbrev pub name_fault : List StaffRow → Option StaffFault → Option StaffFault
 name_fault rows rest = row_fault Twice (repeat_place (staff_names rows)) rest
 
--- a supervisor who is none of these names, then one who is the employee, else the rest
+-- a supervisor who is none of these names, then one who is the employee, otherwise the rest
 abbrev pub supervisor_fault : List (List ℕ) → List StaffRow → Option StaffFault → Option StaffFault
 supervisor_fault names rows rest =
     row_fault UnknownSupervisor (position (λ row. not (has_known_supervisor names row)) rows)
     (row_fault OwnSupervisor (position is_own_supervisor rows) rest)
 
--- the fault of a table that is too large, else the rest
+-- the fault of a table that is too large, otherwise the rest
 abbrev pub size_fault : List StaffRow → Option StaffFault → Option StaffFault
 size_fault rows rest = if nat_lt 2000 (length rows) then Some TooMany else rest
 
@@ -61,7 +61,7 @@ size_fault rows rest = if nat_lt 2000 (length rows) then Some TooMany else rest
 abbrev pub first_fault : List StaffRow → Option StaffFault
 first_fault rows = name_fault rows (supervisor_fault (staff_names rows) rows (size_fault rows None))
 
--- what a check of one stage answers: nothing, where the first fault is that of the rest; else want
+-- what a check of one stage answers: nothing, where the first fault is that of the rest; or want
 -- of memory, or the first fault
 abbrev pub Passes : (Option StaffFault → Option StaffFault) → Result (Unit {0}) StaffFault → Type 0
 Passes stage (Ok _) = (rest : Option StaffFault) → stage rest ≡ rest
@@ -73,7 +73,7 @@ pub record IsStaffOf (rows staff : List StaffRow) : Type 0 where
   pub all_rows : IsPermutation rows staff
   pub is_staff : IsStaff staff
 
--- what a build of rows answers: their staff where they have no fault, else want of memory or their
+-- what a build of rows answers: their staff where they have no fault, or want of memory or their
 -- first fault
 abbrev pub Builds : List StaffRow → Result (List StaffRow) StaffFault → Type 0
 Builds rows (Ok staff) = (first_fault rows ≡ None) × IsStaffOf rows staff

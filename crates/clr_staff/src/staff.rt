@@ -71,7 +71,7 @@ impl Staff {
     }
 }
 
-/// The names that stand twice, as a stage of the checks.
+/// The names that come twice, as a stage of the checks.
 fn check_names(alloc: Global, rows: &[StaffRow]) -> Result<(), StaffFault>
     ensures passes { Passes (name_fault rows.now) result }
     ensures once { OnOk result (IsDistinct same_name (staff_names rows.now)) }
@@ -94,7 +94,7 @@ fn in_order(alloc: Global, rows: &[StaffRow]) -> Result<Vec<StaffRow>, AllocErro
     Ok(by_name)
 }
 
-/// The supervisors of rows, as a stage of the checks. Each is looked for in `by_name`, which stands
+/// The supervisors of rows, as a stage of the checks. Each is looked for in `by_name`, which is
 /// in the order of names.
 fn check_supervisors(by_name: &[StaffRow], rows: &[StaffRow]) -> Result<(), StaffFault>
     requires { IsStrictlySortedBy name_cmp (staff_names by_name.now) }

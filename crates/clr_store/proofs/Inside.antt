@@ -296,7 +296,7 @@ edits_in_order l two (edit ∷ edits) t ordered = edits_in_order l two edits (ta
 pub edited_tables : (l : Layout) → is_two l ≡ true → (db : Database) (edits : List Edit) (t : Tables) → IsInOrder l t → Holds l db (tables_edited edits t) → HasTables db (tables_edited edits t)
 edited_tables l two db edits t ordered has = record { layout = l; two = two; here = record { holds = has; in_order = edits_in_order l two edits t ordered } }
 
--- what a transaction leaves that is committed as it stands in `mid`, wherever it is cut
+-- what a transaction leaves that is committed as it is in `mid`, wherever it is cut
 pub crash_leaves : {S : Type 0} (g : Ghosts S) (old mid end : Held S) (P : Trees → Type 0) → Survives (state g (record old { in_transaction = true })) (state g mid) (λ _. ⊥)
     → Survives (state g mid) (state g end) (λ db. db ≡ (state g mid).now.trees) → (HasCleanDisk (state g mid) → P (state g mid).now.trees) → Survives (state g old) (state g end) P
 crash_leaves g old mid end P inside ended has =

@@ -386,7 +386,7 @@ then_stops g a b c F G H From Mid To All x e first second wider =
     fails_on g a b c F G H _ _ _ _ _ _ x e first second (λ done. (done no_tables).inside)
     (λ early done kept. then_kept (state g a.conn.now) (state g b.conn.now) (state g c.conn.now) (done no_tables).kept kept) wider
 
--- with the version told anew they are the tables of version 2
+-- with the version set again they are the tables of version 2
 pub told_anew : (before : Database) (old new : State) (t : Tables) → HasOldTables before t → IsMoving [] (moved_points t.points) t old.now
     → Changes old new (with_rows Meta (with_table_row 1 (version_row 2))) → HasTables new.now (tables_moved t)
 told_anew before old new t has moved told = record {
@@ -415,7 +415,7 @@ surely_open (inl is) = is
 surely_open (inr none) = absurd none
 
 -- ---- a version that was read, and what comes then
--- `Sql` that the later of two calls tells, of a connection that the first left open, has a cause in
+-- `Sql` that the later of two calls answers, of a connection that the first left open, is caused in
 -- both
 pub opened_cause : {One Two : Trees → Type 0} (s t u : State) (fault : StoreFault) → Survives s t One → Survives t u Two → HasCleanDisk u
     → (IsTrue t.is_open → SqlHasCause t u fault) → SqlHasCause s u fault

@@ -87,7 +87,7 @@ pub last_of_points : {X : Type 0} (r : Result X StoreFault) → IfErr r IsOfData
 last_of_points (Ok x) h = h
 last_of_points (Err fault) h = database_of_points fault h
 
--- the tables of a register tell their version
+-- the tables of a register have their version
 pub one_is_told : read_version (version_row 1 ∷ []) ≡ Ok (pos 1)
 unfolding read_version
 one_is_told = refl

@@ -106,8 +106,8 @@ filled sections points staff t =
     (with_rows Section (added (map section_row sections))
     (with_rows Meta (λ rows. version_row 2 ∷ rows) t)))
 
--- the rows of a table once the row of a key is replaced, where there were so many of that key: with
--- none there is none of it as before, or else the row is put
+-- the rows of a table once the row of a key is replaced, where there were n of that key: with
+-- none there is none of it as before, or the row is put
 abbrev pub after_replace : ℕ → TableName → Row → List Row → List Row
 after_replace zero name row rows =
     without_table_row (keys_in name) (take (keys_in name) row) rows

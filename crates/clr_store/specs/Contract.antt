@@ -30,7 +30,7 @@ RefusesVersion read (BadRow table) = read ≡ Err table
 RefusesVersion read (WrongVersion n) = (read ≡ Ok n) × (n ≢ pos 2)
 
 -- why a database is not opened, whatever it has: it refused or failed, memory ran out, no row
--- tells the version, or the version is not 2
+-- has the version, or the version is not 2
 abbrev pub IsOfOpening : StoreFault → Type 0
 IsOfOpening Sql = ⊤
 IsOfOpening NoMemory = ⊤

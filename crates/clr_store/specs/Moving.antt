@@ -61,7 +61,7 @@ abbrev pub AreMoved : Database → Trees → Type 0
 AreMoved before trees = (t : Tables) → HasOldTables before t
     → IsTrue (is_ok (old_points t)) × AreTables trees (tables_moved t)
 
--- A MOVE LEAVES OTHER TREES only of tables that tell version 1 and of which each point reads, and
+-- A MOVE LEAVES OTHER TREES only of tables of version 1 and of which each point reads, and
 -- then with all of them moved
 pub record LeavesMoved (before : Database) (trees : Trees) : Type 0 where
   pub told : (meta : List Row) → HasMeta before meta → read_version meta ≡ Ok (pos 1)
@@ -77,7 +77,7 @@ RefusesMove t (BadRow Point) = (read_version t.meta ≡ Ok (pos 1)) × (old_poin
 RefusesMove t (BadRow _) = ⊥
 RefusesMove t (WrongVersion n) = (read_version t.meta ≡ Ok n) × (n ≢ pos 1) × (n ≢ pos 2)
 
--- the same, of any tables that tell a version
+-- the same, of any tables that have a version
 abbrev pub RefusesToMove : Result ℤ TableName → StoreFault → Type 0
 RefusesToMove read Sql = ⊤
 RefusesToMove read NoMemory = ⊤

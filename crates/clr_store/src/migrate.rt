@@ -52,7 +52,7 @@ fn empty_points<S: Alter>(tx: &mut Transaction<'_, S>) -> Result<(), StoreFault>
     Ok(())
 }
 
-/// Tells the version anew.
+/// Sets the version again.
 fn set_version<S: Alter>(tx: &mut Transaction<'_, S>) -> Result<(), StoreFault>
     ensures { Does S.Store tx.old tx.new
         (with_rows TableName.Meta (with_table_row 1 (version_row 2))) result }

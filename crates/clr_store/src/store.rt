@@ -243,7 +243,7 @@ impl<S: Alter + Drop> Store<S> {
     /// `BadRow` names the first table, of meta, section, network_point, staff, clearance, step
     /// and hold, with a row that reads no value of its type. `Sql` where the database refuses or
     /// fails, `NoMemory` where memory runs out. `WrongVersion` never comes: `open` has asked for
-    /// the version, and the rows tell it.
+    /// the version, and the rows have it.
     pub fn load(&mut self) -> Result<Rows, StoreFault>
         ensures rows { HasCleanDisk (state S.Store self.new) → (t : Tables)
             → HasTables (state S.Store self.old).now t → GivesRows (rows_read t) result }

@@ -15,7 +15,7 @@ counted_failures c = c.failures
 abbrev pub counted_stalls : {T : Type 0} → Counted T → ℕ
 counted_stalls c = c.stalls
 
--- a writer as it stands, by the bytes that the writer itself holds
+-- a writer as it is, by the bytes that the writer itself holds
 abbrev pub counted_stream : {T : Type 0} → (T → Option (List ℕ)) → Counted T → Stream
 counted_stream contents c = record {
   contents = contents c.inner;

@@ -11,7 +11,7 @@ abbrev pub count_after : {T E : Type 0} → Result T E → ℕ → ℕ
 count_after (Ok value) count = count
 count_after (Err failure) count = one_more count
 
--- the count has risen; one that stands at its greatest number is taken as risen
+-- the count has risen; one that is at its greatest number is taken as risen
 abbrev pub Rose : ℕ → ℕ → Type 0
 Rose old new = (old < new) ⊎ (2 ^ 64 - 1 ≤ old)
 

@@ -38,7 +38,7 @@ pub record WroteAll (bytes : List ℕ) (old new : Stream) : Type 0 where
   pub failures : new.failures ≡ old.failures
   pub stalls : new.stalls ≡ old.stalls
 
--- so many of the bytes went out, from the first on, and not all; then the writer failed
+-- this many of the bytes went out, from the first on, and not all; then the writer failed
 pub record WrotePart (count : ℕ) (bytes : List ℕ) (old new : Stream) : Type 0 where
   pub contents : Appends old.contents new.contents (take count bytes)
   pub part : count < length bytes

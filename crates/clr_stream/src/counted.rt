@@ -8,7 +8,7 @@ ghost use Rattle.clr_stream.specs.Streams.{IsFlush, IsWrite, Stream};
 use std::io;
 use std::io::{Read, Write};
 
-/// A reader that counts its failures, so that a caller can tell a failure of the device from any
+/// A reader that counts its failures, so that a caller knows a failure of the device from any
 /// other error.
 pub trait CountedRead: Read {
     /// How many reads have failed. The count stays at 2^64 - 1.
@@ -26,7 +26,7 @@ pub trait CountedRead: Read {
         ensures count { failure_count self.new ≡ count_after result (failure_count self.old) };
 }
 
-/// A writer that counts its failures, so that a caller can tell a failure of the device from any
+/// A writer that counts its failures, so that a caller knows a failure of the device from any
 /// other error.
 pub trait CountedWrite: Write {
     /// What is known of the writer, with how many of its calls have failed and how many of its

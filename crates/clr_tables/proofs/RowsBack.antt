@@ -44,7 +44,7 @@ point_said p state = record {
   state = record { point = p.name; position = state.position; hand = state.hand };
 }
 
--- the columns of version 1, in a table with more behind them
+-- the columns of version 1, in a table with more after them
 module _ (t : TableName) (more : Row) (p : PointRow) (position : Position) where
   abbrev with_hand : Option Id → PointState
   with_hand hand = record { point = p.name; position = position; hand = hand }

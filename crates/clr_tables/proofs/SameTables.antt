@@ -70,7 +70,7 @@ name_said : (o : Option (List ℕ)) → name_in (name_or_null o) ≡ o
 name_said None = refl
 name_said (Some name) = refl
 
--- with more behind it
+-- with more after it
 hand_said : (hand : Option Id) (more : Row) → hand_in (column (hand_values hand ++ more) 0) (column (hand_values hand ++ more) 1) ≡ hand
 hand_said None more = refl
 hand_said (Some c) more = refl

@@ -56,7 +56,7 @@ state_at-found states p state found = rw found refl
 abbrev point_rows : List PointState → List PointRow → List Row
 point_rows states points = map (λ p. jumper_row p (state_at states p)) points
 
--- the columns of the hand, whatever stood there
+-- the columns of the hand, whatever was there
 handed_columns : (a b c : Value) (d e f : Value) (more : Row) (old new : Option Id)
     → slice_set (slice_set (a ∷ b ∷ c ∷ d ∷ e ∷ f ∷ hand_values old ++ more) 6 (column (hand_values new) 0)) 7 (column (hand_values new) 1) ≡ a ∷ b ∷ c ∷ d ∷ e ∷ f ∷ hand_values new ++ more
 handed_columns a b c d e f more None None = refl

@@ -1,4 +1,4 @@
--- Rows of tables stand in the order in which the rows of the register do, and are put and taken at the same places.
+-- Rows of tables are in the order of the rows of the register, and are put and taken at the same places.
 use Rattle.std.proofs.Common.{◌≡◌, ℕ, Bool, true, false, cond, not, List, [], ◌∷◌, ◌++◌, map, filter, take, refl, ◌∙◌, ap, arith, int_cmp}
 use Rattle.std.specs.Ordering.{is_eq, is_gt, is_lt, nat_cmp, ordering_then}
 use Rattle.std.specs.declared.cmp.Ordering.{Ordering}

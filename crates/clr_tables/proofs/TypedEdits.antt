@@ -358,7 +358,7 @@ module _ (R : Register) (typed : IsTyped R) (by : List ℕ) (at : ℕ) (caller :
           (AddSection (new_section to) ∷ AddPoint (new_jumper point from to lockable remote) ∷ []))
       added_typed true = (is, tt)
       added_typed false = (ends.1, (is, tt))
-  -- the record, behind holds that are taken
+  -- the record, after holds that are taken
   all_typed _ is passed = by_record AllTyped tt R _ _ (λ r found. (put_back _ r r.phase found, tt))
 
 pub commands_keep_typed : CommandsKeepTyped

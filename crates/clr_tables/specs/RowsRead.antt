@@ -88,7 +88,7 @@ position_at t place row = do
   closed ← flag_at t place row
   Ok (position_if closed)
 
--- what the word in a column stands for
+-- what the word in a column means
 abbrev pub word_at : {A : Type 0} → (List ℕ → Option A) → TableName → ℕ → Row → Result A TableName
 word_at named t place row = do
   word ← text_at t place row
@@ -237,7 +237,7 @@ pub record Rows : Type 0 where
   pub steps : List StepRow
   pub holds : List Hold
 
--- THE ROWS THAT TABLES SAY, where a point reads so; else the first table with a row that does not
+-- THE ROWS THAT TABLES SAY, where a point reads so; or the first table with a row that does not
 -- read
 unfoldable pub rows_by : (Row → Result PointRead TableName) → Tables → Result Rows TableName
 rows_by read t = do

@@ -18,7 +18,7 @@ use Rattle.clr_rules.specs.declared.change.Edit.TheVariants.{AddSection, AddPoin
 use Rattle.clr_tables.specs.Tables.{Tables, clearance_row, flag_value, hand_values, hold_row}
 use Rattle.clr_tables.specs.Tables.{jumper_row, position_value, section_row, step_row, version_row}
 
--- a row put into a table whose key is its first columns, so many
+-- a row put into a table whose key is its first columns, this many
 abbrev pub with_table_row : ℕ → Row → List Row → List Row
 with_table_row keys row rows = with_row row_cmp (take keys) row rows
 
@@ -39,7 +39,7 @@ abbrev pub handed_row : Option Id → Row → Row
 handed_row hand row = slice_set (slice_set row 6 (column (hand_values hand) 0)) 7
     (column (hand_values hand) 1)
 
--- the row of an added point: open and in nobody's hand, wherever its row says that it stands
+-- the row of an added point: open and in nobody's hand, wherever its row says that it is
 abbrev pub added_point : PointRow → Row
 added_point p = jumper_row p (first_state (unplaced p))
 
@@ -62,7 +62,7 @@ unfoldable pub tables_edited : List Edit → Tables → Tables
 tables_edited [] t = t
 tables_edited (edit ∷ edits) t = tables_edited edits (table_edited edit t)
 
--- TABLES OF VERSION 1 MOVED TO VERSION 2: the version is told anew, and each point gets a column
+-- TABLES OF VERSION 1 MOVED TO VERSION 2: the version is set again, and each point gets a column
 -- more, by which it is no jumper
 abbrev pub tables_moved : Tables → Tables
 tables_moved t = record t {

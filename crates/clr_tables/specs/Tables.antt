@@ -69,7 +69,7 @@ version_row version = Text (codes "version") ∷ number_value version ∷ []
 abbrev pub section_row : SectionRow → Row
 section_row s = Text s.name ∷ flag_value s.source ∷ []
 
--- a switching point, as the network has it and as it stands now
+-- a switching point, as the network has it and as it is now
 abbrev pub point_row : PointRow → PointState → Row
 point_row p state =
     Text p.name ∷ Text p.from_end ∷ Text p.to_end ∷ flag_value p.lockable ∷ flag_value p.remote
@@ -109,7 +109,7 @@ version_one = record { number = 1; of_point = point_row }
 abbrev pub version_two : Version
 version_two = record { number = 2; of_point = jumper_row }
 
--- how a point stands. One without a state, which no register that is reached has, stands as before
+-- the position of a point. One without a state, which no register that is reached has, is as before
 -- the first command
 abbrev pub state_at : List PointState → PointRow → PointState
 state_at states p = unwrap_or (state_of states p.name) (first_state p)

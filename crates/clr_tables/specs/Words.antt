@@ -48,6 +48,6 @@ role_word Charge = codes "charge"
 abbrev pub all_roles : List Role
 all_roles = Operator ∷ Field ∷ Charge ∷ []
 
--- the role that a word stands for
+-- the role that a word means
 abbrev pub role_worded : List ℕ → Option Role
 role_worded word = find (λ role. bytes_eq (role_word role) word) all_roles

@@ -1,4 +1,4 @@
-//! The tables of a register: what stands in a database, as definitions, and the words in it.
+//! The tables of a register: what is in a database, as definitions, and the words in it.
 #![tactic(auto)]
 
 pub mod laws;

@@ -90,7 +90,7 @@ pub fn role_word(role: Role) -> &'static str
     }
 }
 
-/// The role that a word stands for.
+/// The role that a word means.
 pub fn role_worded(word: &str) -> Option<Role>
     ensures { result ≡ role_worded word.now }
 {

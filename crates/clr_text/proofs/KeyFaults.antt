@@ -47,7 +47,7 @@ of_kind : {A B : Type 0} (r : Result A TextFault) (g : A → B) (e : TextFault) 
 of_kind (Ok x) g e told = cc
 of_kind (Err fault) g e told = cc
 
--- the keys of a command behind `by`
+-- the keys of a command after `by`
 abbrev behind_by : Word → List Key
 behind_by w = filter (has_key w) (drop 2 every_key)
 
@@ -59,7 +59,7 @@ module _ (d : Data) (e : TextFault) (did : fits d Do ≡ true) where
   abbrev NamesBad : List Key → Type 0
   NamesBad keys = Names (λ k. not (fits d k)) keys BadValue e
 
-  -- the next key is the one whose value does not fit, or else what follows names it
+  -- the next key is the one whose value does not fit, or what follows names it
   next_value : {A B : Type 0} {keys : List Key} (key : Key) (read : Option A) (f : A → Result B TextFault)
       → fits d key ≡ is_ok (ok_or read (BadValue key))
       → ((x : A) → f x ≡ Err e → NamesBad keys) → (ok_or read (BadValue key) >>= f) ≡ Err e → NamesBad (key ∷ keys)
@@ -74,7 +74,7 @@ module _ (d : Data) (e : TextFault) (did : fits d Do ≡ true) where
   end : {B : Type 0} {x : B} → Ok x ≡ Err e → NamesBad []
   end told = cc
 
-  -- of the keys behind `by` the first whose value does not fit. A command reads its values in the
+  -- of the keys after `by` the first whose value does not fit. A command reads its values in the
   -- order of its keys, so at each key one of the lemmas above fits: the last clause is checked at
   -- every word but the first's
   kind_first : (w : Word) → kind_in w d ≡ Err e → NamesBad (behind_by w)

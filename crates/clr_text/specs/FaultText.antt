@@ -1,4 +1,4 @@
--- How the fault of a text is told.
+-- How the fault of a text is written.
 use Rattle.std.specs.Prelude.{ℕ, List, Option, None, Some, codes}
 use Rattle.serde_json.specs.Data.{Data, member, no_members, object, string}
 use Rattle.serde_json.specs.Written.{compact_text}

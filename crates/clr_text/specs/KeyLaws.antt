@@ -19,7 +19,7 @@ use Rattle.clr_text.specs.declared.key.Key.TheVariants.{Point, Points, Remote, S
 use Rattle.clr_text.specs.declared.key.Key.TheVariants.{Text, To}
 use Rattle.clr_text.specs.declared.word.Word.{Word}
 
--- THE KEYS OF EACH COMMAND stand in the order of their bytes, and none stands twice
+-- THE KEYS OF EACH COMMAND are in the order of their bytes, and none comes twice
 abbrev pub KeysStandInOrder : Type 0
 KeysStandInOrder = (w : Word) → in_key_order (slice_cmp nat_cmp) key_text (keys_of w) ≡ true
 

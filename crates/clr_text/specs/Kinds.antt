@@ -62,7 +62,7 @@ has_key w Clearance = names_clearance w
 has_key w Do = true
 has_key w key = list_any (λ own. bytes_eq (key_text own) (key_text key)) (own_keys w)
 
--- the keys of a command, in the order of their bytes: no other may stand, and none may be missing
+-- the keys of a command, in the order of their bytes: no other may come, and none may be missing
 unfoldable pub keys_of : Word → List Key
 keys_of w = filter (has_key w) every_key
 

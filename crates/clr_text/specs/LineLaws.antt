@@ -44,7 +44,7 @@ SameShownSameBytes = (c : Id) (inside : List ℕ → Bool) (R T : Register)
     ≡ own_line_replies c others (line_replies T others))
     × Agree c inside (after_lines R lines) (after_lines T others)
 
--- SECOND HALF: behind any lines, a line about another clearance leaves a clearance's record, steps
+-- SECOND HALF: after any lines, a line about another clearance leaves a clearance's record, steps
 -- and holds as they are, clears no hand of it, and each point that the clearance holds open is
 -- open
 abbrev pub OthersLinesTakeNothing : Type 0

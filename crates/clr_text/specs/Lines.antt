@@ -26,7 +26,7 @@ abbrev pub register_behind : Register → Result Command TextFault → Register
 register_behind R (Ok q) = after R q
 register_behind R (Err fault) = R
 
--- the register behind a line
+-- the register after a line
 abbrev pub after_line : Register → List ℕ → Register
 after_line R line = register_behind R (read_command line)
 
@@ -35,7 +35,7 @@ unfoldable pub line_replies : Register → List (List ℕ) → List (List ℕ)
 line_replies R [] = []
 line_replies R (line ∷ lines) = line_reply R line ∷ line_replies (after_line R line) lines
 
--- the register behind the lines
+-- the register after the lines
 unfoldable pub after_lines : Register → List (List ℕ) → Register
 after_lines R [] = R
 after_lines R (line ∷ lines) = after_lines (after_line R line) lines
@@ -61,7 +61,7 @@ is_own_reading c (Err fault) = false
 abbrev pub is_own_line : Id → List ℕ → Bool
 is_own_line c line = is_own_reading c (read_command line)
 
--- what answers them: each text stands at the place of its line
+-- what answers them: each text is at the place of its line
 unfoldable pub own_line_replies : Id → List (List ℕ) → List (List ℕ) → List (List ℕ)
 own_line_replies c [] texts = []
 own_line_replies c (line ∷ lines) [] = []

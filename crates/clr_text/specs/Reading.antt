@@ -19,7 +19,7 @@ use Rattle.clr_text.specs.declared.key.Key.TheVariants.{By, Do}
 use Rattle.clr_text.specs.declared.word.Word.{Word}
 use Rattle.clr_rules.specs.declared.command.Command.{Command}
 
--- the value of a text: UTF-8, and one JSON value with blanks round it. Of a key that stands twice
+-- the value of a text: UTF-8, and one JSON value with blanks round it. Of a key that comes twice
 -- the last value stays
 unfoldable pub value_of : List ℕ → Option Data
 value_of bytes = if is_utf8 bytes then read bytes else None
@@ -51,7 +51,7 @@ none_missing [] d = Ok true
 none_missing (key ∷ keys) d = if is_some (value_at key d) then none_missing keys d
     else Err (MissingKey key)
 
--- the moment of a command: one that states none stands at 0
+-- the moment of a command: one that states none is at 0
 abbrev pub moment_of : Word → Data → Result ℕ TextFault
 moment_of w d = if states_moment w then moment_at d else Ok 0
 

@@ -1,4 +1,4 @@
--- How a refusal is told: its number, its name in capitals, and what it names.
+-- How a refusal is written: its number, its name in capitals, and what it names.
 use Rattle.std.specs.Prelude.{ℕ, List, Option, None, Some, codes}
 use Rattle.serde_json.specs.Data.{Data, member, no_members, object, string}
 use Rattle.clr_rules.specs.HoldKind.{hold_kind_text}

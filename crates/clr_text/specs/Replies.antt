@@ -1,4 +1,4 @@
--- HOW A REPLY IS TOLD: as JSON without blanks, the keys of each object in the order of their bytes.
+-- HOW A REPLY IS WRITTEN: as JSON without blanks, each object's keys in the order of their bytes.
 -- It is a function of the reply alone, so equal replies are equal texts.
 use Rattle.std.specs.Prelude.{ℕ, List, codes}
 use Rattle.serde_json.specs.Data.{Data, member, no_members, object, string}

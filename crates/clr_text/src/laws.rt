@@ -12,7 +12,7 @@ use clr_rules::laws::headline::{
     nothing_is_taken_away, own_commands_stand_alone, same_shown_same_answers,
 };
 
-/// The keys of each command stand in the order of their bytes, none of them twice.
+/// The keys of each command are in the order of their bytes, none of them twice.
 pub fn keys_stand_in_order()
     ensures { KeysStandInOrder }
 {}

@@ -21,7 +21,7 @@ use std::alloc::Global;
 /// Reads a command from one JSON object, as
 /// `{"at":100,"by":"JONES","do":"request","section":"L2"}`.
 ///
-/// Blanks may stand round it and in it; of a key that stands twice the last value counts. A number
+/// Blanks may be round it and in it; of a key that comes twice the last value counts. A number
 /// that is written with a point or an exponent, `-0`, and one beyond 64 bits are no whole numbers;
 /// one too large for a float is no JSON, and so is a value that nests deeper than 127 levels.
 /// `show` and `jumper` state no moment; their commands have 0.
@@ -137,7 +137,7 @@ fn values_in(alloc: Global, word: Word, value: &Value) -> Result<Command, TextFa
     })
 }
 
-/// The moment of a command: one that states none stands at 0.
+/// The moment of a command: one that states none is at 0.
 fn moment_of(word: Word, value: &Value) -> Result<Moment, TextFault>
     ensures { Gives result (moment_of word (view value.now)) }
 {

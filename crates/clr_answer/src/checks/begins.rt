@@ -70,7 +70,7 @@ pub(crate) fn by_field(
     by_role(near, asked, RoleTest::Field, phases, last)
 }
 
-/// The first check that applies to a command of the holder, with an own one behind.
+/// The first check that applies to a command of the holder, with one of its own after these.
 fn by_the_holder(
     near: &Near,
     asked: &Ask,

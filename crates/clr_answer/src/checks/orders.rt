@@ -1,4 +1,4 @@
-//! The checks of orders over what is lent.
+//! The checks of orders over what is given.
 ghost use Rattle.std.specs.Prelude.{◌≡◌, IfOk, Some, filter, map};
 ghost use Rattle.std.specs.List.Sorted.{IsStrictlySortedBy};
 ghost use Rattle.clr_net.specs.Name.{name_cmp};
@@ -87,7 +87,7 @@ fn first_points(near: &Near, id: ClearanceId) -> Result<Vec<Name>, AllocError>
     Ok(points)
 }
 
-/// These names, each where it stands first.
+/// These names, each where it comes first.
 #[tactic(auto, unfolding(clr_rules::specs::Holds::first_of_each))]
 pub fn each_once(alloc: Global, names: &[Name]) -> Result<Vec<Name>, AllocError>
     ensures { IfOk result (λ kept. kept.items ≡ first_of_each names.now) }
@@ -136,7 +136,7 @@ pub(crate) fn wrong_switching(near: &Near, steps: &[Step]) -> Option<Refusal>
     refusal_of(check_switching(&near.points, steps))
 }
 
-/// The refusal that the check of an order told, if it told one.
+/// The refusal that the check of an order reported, if it reported one.
 fn refusal_of(told: Result<(), OrderFault>) -> Option<Refusal>
     ensures { result ≡ refusal_of told }
 {

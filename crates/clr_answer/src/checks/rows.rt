@@ -1,4 +1,4 @@
-//! Finds a row among the rows that are lent.
+//! Finds a row among the rows that are given.
 ghost use Rattle.std.specs.Prelude.{◌≡◌, true, map, option_copied};
 ghost use Rattle.clr_shelf.specs.Rows.{in_key_order, row_of};
 

@@ -210,7 +210,7 @@ pub fn hinders(hold: &Hold, id: ClearanceId, point: Name) -> bool
     stands_there && !holds_open
 }
 
-/// Whether a hold stands before another: by its clearance, then by its kind in the kinds' own
+/// Whether a hold comes before another: by its clearance, then by its kind in the kinds' own
 /// order.
 fn stands_before(hold: &Hold, other: &Hold) -> bool
     ensures { result ≡ stands_before hold.now other.now }

@@ -1,4 +1,4 @@
-//! Anyone of the staff asks how a clearance stands.
+//! Anyone of the staff asks for the state of a clearance.
 ghost use Rattle.std.specs.Prelude.{◌≡◌, IfOk, None, Some};
 ghost use Rattle.clr_rules.specs.Answer.{reply_of};
 ghost use Rattle.clr_rules.specs.Records.{record_of};

@@ -1,4 +1,4 @@
-//! The holder tells that a section was tested, and is dead or is not: 29 CFR 1910.269(m)(3)(vi).
+//! The holder reports that a section was tested, and is dead or is not: 29 CFR 1910.269(m)(3)(vi).
 ghost use Rattle.std.specs.Prelude.{◌≡◌, IfOk, None};
 ghost use Rattle.clr_rules.specs.declared.command.Kind.TheVariants as kinds;
 ghost use Rattle.clr_answer.specs.Begins.{asked_edits, asked_refusal};

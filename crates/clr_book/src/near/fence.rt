@@ -16,7 +16,7 @@ use clr_rules::{ClearanceId, Command, Hold, Kind, PointState, Record, StepRow};
 use clr_shelf::Shelf;
 use std::alloc::{AllocError, Global};
 
-/// The names of a fence's sections, in their order, and where the fence stands in the network.
+/// The names of a fence's sections, in their order, and where the fence is in the network.
 #[derive(Drop)]
 pub(crate) struct FenceNames {
     pub(crate) sections: Vec<Name>,

@@ -108,7 +108,7 @@ fn crosses(fence: &[Name], from: Name, to: Name) -> bool
     }
 }
 
-/// The steps among these that stand in first rounds.
+/// The steps among these that are in first rounds.
 fn of_first_rounds<'a>(alloc: Global, rows: &[&'a StepRow]) -> Result<Vec<&'a StepRow>, AllocError>
     ensures { IfOk result (λ found. found.items ≡ filter (λ row. row.now.round == 1) rows.now) }
 {

@@ -109,7 +109,7 @@ impl<P: Shelf<PointState>, C: Shelf<Record>, T: Shelf<StepRow>, H: Shelf<Hold>> 
         })
     }
 
-    /// The states of these points, which stand at these places of the network.
+    /// The states of these points, which are at these places of the network.
     fn states_at(&self, points: &[Name], places: &[usize]) -> Result<Vec<&PointState>, AllocError>
         requires { IsStrictlySortedBy name_cmp points.now }
         ensures { IfOk result (λ found. map (λ row. row.now) found.items
@@ -124,7 +124,7 @@ impl<P: Shelf<PointState>, C: Shelf<Record>, T: Shelf<StepRow>, H: Shelf<Hold>> 
         Ok(found)
     }
 
-    /// The state of a point, which is looked up only if it does not stand at this place.
+    /// The state of a point, which is looked up only if it is not at this place.
     fn state_at(&self, point: &Name, place: Option<&usize>) -> Option<&PointState>
         ensures { option_copied result ≡ state_of self.now.register.states point.now }
     {

@@ -1,4 +1,4 @@
-//! Lends a command the rows that it looks at.
+//! Gives a command the rows that it looks at.
 ghost use Rattle.std.specs.Prelude.{◌≡◌, ◌||◌, ℕ, List, false, IfOk, map, filter};
 ghost use Rattle.std.specs.List.{list_any};
 ghost use Rattle.std.specs.List.Sorted.{IsStrictlySortedBy};

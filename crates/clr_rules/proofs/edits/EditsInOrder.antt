@@ -1,4 +1,4 @@
--- An answer's edits stand in the order of their kinds and keys.
+-- An answer's edits are in the order of their kinds and keys.
 use Rattle.std.proofs.Common.{◌≡◌, ℕ, ◌+◌, ◌<◌, Bool, true, false, ◌&&◌, List, [], ◌∷◌, ◌++◌, map, filter, Option, Some, None, refl, ap, ◌∙◌, arith, if◌then◌else◌, is_lt, nat_cmp, lt-ltb}
 use Rattle.clr_rules.proofs.Common.{list_all, ordering_then, and_from, and_parts, Task, Action, in_key_order-filter, in_key_order-first, in_key_order-rest, in_key_order, Answer, answer, first_refusal}
 use Rattle.clr_rules.proofs.Common.{known_of, answer_by_checks, Known, checks, edits_of, ListsAreInOrder, is_switch_order, one_id}
@@ -14,7 +14,7 @@ use Rattle.clr_rules.specs.declared.command.Kind.TheVariants as kinds
 
 -- ---- new steps are numbered one after the other
 
--- of two steps of a round that of the lesser number stands first
+-- of two steps of a round that of the lesser number comes first
 lesser_first : (c : Id) (round m n : ℕ) → m < n
     → is_lt (ordering_then (id_cmp c c) (ordering_then (nat_cmp round round) (nat_cmp m n))) ≡ true
 lesser_first c round m n less =
@@ -34,7 +34,7 @@ module _ (c : Id) (round : ℕ) where
   steps_in_order n [] = refl
   steps_in_order n (t ∷ tasks) = and_from _ _ (later_steps n (n + 1) (waiting_step t) tasks (omega arith)) (steps_in_order (n + 1) tasks)
 
--- a record stands before all steps
+-- a record comes before all steps
 record_first : (r : Record) (rows : List StepRow) → list_all (λ next. is_lt (edit_cmp (PutRecord r) next)) (put_steps rows) ≡ true
 record_first r [] = refl
 record_first r (row ∷ rows) = record_first r rows
@@ -42,7 +42,7 @@ record_first r (row ∷ rows) = record_first r rows
 round_in_order : (r : Record) (c : Id) (round : ℕ) (tasks : List Task) → are_in_order (PutRecord r ∷ put_steps (new_steps c round 1 tasks)) ≡ true
 round_in_order r c round tasks = and_from _ _ (record_first r (new_steps c round 1 tasks)) (steps_in_order c round 1 tasks)
 
--- ---- a release takes tests in the order in which they stand
+-- ---- a release takes tests in their order
 
 takes_before_record : (h : Hold) (holds : List Hold) (r : Record) → list_all (λ next. is_lt (hold_cmp h next)) holds ≡ true
     → list_all (λ next. is_lt (edit_cmp (TakeHold h) next)) (map TakeHold holds ++ PutRecord r ∷ []) ≡ true

@@ -88,7 +88,7 @@ module _ (R : Register) (by : List ℕ) where
           absurd (omega arith)
 
 module _ (R : Register) (good : IsGoodByPhase R) (by : List ℕ) (new : Record) (own : new.id ≡ record { requester = by; number = greatest_number R.records by + 1 }) where
-  -- it stands after the requester's others
+  -- it comes after the requester's others
   after_others : filter (is_of by) (with_row id_cmp record_key new R.records) ≡ filter (is_of by) R.records ++ new ∷ []
   unfolding with_row
   after_others =

@@ -96,7 +96,7 @@ module _ (c : Id) (round : ℕ) where
       let own = All-contains (λ (row : StepRow). (row.id ≡ c) × (row.round ≡ round)) (steps_in steps c round) first (of_the_round steps c round) there in
       lower_key n t first own.0 own.1 (All-contains (λ (row : StepRow). row.ordinal < n) (steps_in steps c round) first lower there)))
 
-  -- the new steps stand after those of the round, which have lower numbers
+  -- the new steps come after those of the round, which have lower numbers
   pub in_new_round : (n : ℕ) (tasks : List Task) (steps : List StepRow) → All (λ row. row.ordinal < n) (steps_in steps c round)
       → steps_in (put_all (new_steps c round n tasks) steps) c round ≡ steps_in steps c round ++ new_steps c round n tasks
   unfolding new_steps

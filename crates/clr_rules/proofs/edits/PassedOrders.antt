@@ -6,7 +6,7 @@ use Rattle.clr_order.specs.declared.order_fault.OrderFault.{OrderFault}
 use Rattle.clr_order.specs.declared.order_fault.OrderFault.TheVariants.{EmptyOrder, LongOrder, PointTwice, SourceInside, NotOnFence, StepsWrong, UnknownPoint, NoMemory}
 use Rattle.clr_rules.specs.declared.refusal.Refusal.TheVariants as refusals
 
--- whether want of memory is told, which no check of an order tells
+-- whether want of memory is answered, which no check of an order answers
 abbrev pub is_memory : Option OrderFault → Bool
 is_memory (Some NoMemory) = true
 is_memory _ = false

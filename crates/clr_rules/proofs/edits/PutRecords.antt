@@ -89,7 +89,7 @@ put_changes R good c r new found own same_work S puts move = changed_by R good c
 
 -- ---- where no point is moved, held or let go
 
--- what stands at points in the second register stands there in the first, and nothing more is closing
+-- what is at points in the second register is there in the first, and nothing more is closing
 pub record Quiet (R S : Register) (c : Id) : Type 0 where
   pub same_states : S.states ≡ R.states
   pub point_holds : (d : Id) (kind : HoldKind) (p : List ℕ) → is_point_kind kind ≡ true → has_hold S.holds d kind p ≡ true → has_hold R.holds d kind p ≡ true

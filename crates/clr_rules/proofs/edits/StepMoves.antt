@@ -1,4 +1,4 @@
--- A step of a clearance's present round is put anew, its task the same: what is so of the clearance's steps.
+-- A step of a clearance's present round is put again, its task the same: what is so of its steps.
 use Rattle.std.proofs.Common.{◌≡◌, ℕ, Bool, true, false, ◌&&◌, nat_eq, List, [], ◌∷◌, ◌++◌, Option, Some, None, All, Contains, refl, sym, ◌∙◌, ap, subst, eqb-true}
 use Rattle.clr_rules.proofs.Common.{list_any, both_ways, false≢true, false_from_ne_true, All-contains, All-head, All-tail, Grid, same_name, is_switching, IsSoundOrder, Task, task, list_all-contains}
 use Rattle.clr_rules.proofs.Common.{steps_left_of, put_by, puts, ActiveInRound, InPhase, active_at, all_waiting, go_in_turn, of_round, present_of, some_active}
@@ -70,7 +70,7 @@ module _ (before after : List StepRow) (row new : StepRow) (k : ℕ) (mid : InMi
   pub own_round_was : of_round (before ++ row ∷ after) k ≡ of_round before k ++ row ∷ of_round after k
   own_round_was = of_round-here before row after k mid.round
 
-  -- a reading of rounds that does not tell the steps apart
+  -- a reading of rounds that does not distinguish the steps
   pub rounds_alike : {X : Type 0} (read : List StepRow → X) → read (of_round before k ++ new ∷ of_round after k) ≡ read (of_round before k ++ row ∷ of_round after k)
       → (round : ℕ) → read (of_round (before ++ new ∷ after) round) ≡ read (of_round (before ++ row ∷ after) round)
   rounds_alike {X} read same round = at (nat_eq k round) refl

@@ -16,7 +16,7 @@ use Rattle.clr_rules.proofs.good.PutHolds.{some_isolating}
 use Rattle.clr_rules.proofs.lists.RoundSteps.{All-in_round, no_step_of, no_step_there, of_round_is, of_the_round, one_id, present_of_is, record_id}
 use Rattle.clr_rules.proofs.good.StepsInTurn.{round_rises, turn_by_turn}
 
--- no step stands where none of those that are left does
+-- no step is where none of those that are left is
 none_there : (has : List ℕ → Bool) (p : List ℕ) (rows : List StepRow) → All (λ row. has row.step.point ≡ true) rows → has p ≡ false → actions_at (tasks_of rows) p ≡ []
 none_there has p [] all free = refl
 none_there has p (row ∷ rows) all free = at (same_name p row.step.point) refl (none_there has p rows (All-tail (λ (row : StepRow). has row.step.point ≡ true) row rows all) free)

@@ -35,7 +35,7 @@ first_keys (p ∷ points) = ap (λ names. p.name ∷ names) (first_keys points)
 pub unplaced_once : (g : Grid) → unplaced_net (unplaced_net g) ≡ unplaced_net g
 unplaced_once g = ap (λ points. record { sections = g.sections; points = points }) (map-map unplaced unplaced g.points)
 
--- a network is one wherever its points stand
+-- a network is one whatever the positions of its points
 pub unplaced_is_network : (g : Grid) → IsNetwork g → IsNetwork (unplaced_net g)
 unplaced_is_network g net = record {
   some_section = net.some_section;

@@ -36,7 +36,7 @@ order_facts g _ _ v h = absurd h
 
 -- ---- the steps
 
--- the steps that are given out stand in the present round, in a phase in which steps are given out
+-- the steps that are given out are in the present round, in a phase in which steps are given out
 abbrev pub ActiveNow : Phase → List StepRow → Type 0
 ActiveNow phase steps = All (λ row. is_active row.step.state ≡ true → (is_running phase ≡ true) × (row.round ≡ present_of steps)) steps
 
@@ -111,7 +111,7 @@ step_facts g _ _ v h = absurd h
 
 -- ---- work
 
--- whether a hold of this kind stands at the work section, if there is one
+-- whether a hold of this kind is at the work section, if there is one
 abbrev pub stands_at_work : (HoldKind → List ℕ → Bool) → HoldKind → Option (List ℕ) → Bool
 stands_at_work has kind None = false
 stands_at_work has kind (Some work) = has kind work
@@ -148,7 +148,7 @@ work_facts g _ _ v h = absurd h
 
 -- ---- holds at points
 
--- what stands at a point beside a HeldOpen
+-- what is at a point beside a HeldOpen
 abbrev pub held_there : Outlook → List ℕ → Held
 held_there v p = record { point = p; block = v.has Block p; control = v.has Control p; tag = v.has Tag p }
 

@@ -176,7 +176,7 @@ needed_control row remote = at row.lockable refl
     at true e = rw (e, remote) refl
     at false e = rw (e, remote) refl
 
--- at the points of a sound order whose steps go in turn, a HeldOpen stands where anything was put
+-- at the points of a sound order whose steps go in turn, a HeldOpen is there where anything was put
 pub put_beside_open : (g : Grid) (work : List ℕ) (rows : List StepRow) → IsSoundOrder g work (first_of_each (points_of rows)) (tasks_of rows) → go_in_turn rows ≡ true
     → (kind : HoldKind) (p : List ℕ) → put_by rows kind p ≡ true → put_by rows HeldOpen p ≡ true
 put_beside_open g work rows sound turns kind p put =

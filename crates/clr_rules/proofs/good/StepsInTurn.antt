@@ -8,7 +8,7 @@ use Rattle.std.proofs.lemmas.Cmp.{nat_cmp_total, ranked, tied_itself}
 use Rattle.clr_shelf.proofs.Keys.{less}
 use Rattle.clr_rules.proofs.lists.RoundSteps.{All-from_each, of_the_round}
 
--- ---- the steps of a round stand by their ordinals
+-- ---- the steps of a round go by their ordinals
 
 -- each ordinal is below those after it
 abbrev pub Rises : List StepRow → Type 0

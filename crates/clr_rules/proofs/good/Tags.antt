@@ -228,7 +228,7 @@ module _ (R : Register) (c : Id) (p : List ℕ) where
   test_leaves d section true s = (tt, (tt, tt))
   test_leaves d section false s = (refl, (tt, tt))
 
-  -- a report of another step leaves a tag, and else it is an Untag
+  -- a report of another step leaves a tag, and otherwise it is an Untag
   module _ (good : IsGoodByPhase R) (by : List ℕ) (at : ℕ) (d : Id) (n : ℕ) (r : Record) (found : record_of R.records d ≡ Some r) (runs : is_running r.phase ≡ true)
       (row : StepRow) (step : step_at (present_steps R.steps d) n ≡ Some row) (there : IsPresent R d row) where
     untag_here : row.step.action ≡ actions.Untag → is_hold (hold_of r.id Tag row.step.point) c Tag p ≡ true

@@ -1,4 +1,4 @@
--- What additions do to what stands near a clearance: they change it exactly by their marks.
+-- What additions do to what is near a clearance: they change it exactly by their marks.
 use Rattle.std.proofs.Common.{◌≡◌, ◌∙◌, ℕ, Bool, true, false, cond, ◌&&◌, ◌||◌, List, [], ◌∷◌, map, Contains, filter, Option, None, Some, is_some, refl, sym, ap, subst, option_map}
 use Rattle.clr_rules.proofs.Common.{list_any, nat_list_cmp_total, touches, Grid, IsNetwork, point_names, unplaced, name_cmp, same_name, has_name, PointRow, Opened, SectionRow, one_name, same_itself}
 use Rattle.clr_rules.proofs.Common.{some_from, filter-with_far, filter-with_inside, equal, same_text, with_row, touching_names, ListsAreInOrder, is_near_hold, first_state}
@@ -157,7 +157,7 @@ module _ (R : Register) (net : IsNetwork R.net) (row : SectionRow) (fits : fits_
       at true is = rw is (near_section is)
       at false is = rw is (far_section is)
 
--- ---- a section, and a point behind it
+-- ---- a section, and a point after it
 
 first_or_none : (b : Bool) (edit : Edit) (edits : List Edit) (P : Register) → after_edits (cond b (edit ∷ edits) edits) P ≡ after_edits edits (after_edits (cond b (edit ∷ []) []) P)
 unfolding after_edits

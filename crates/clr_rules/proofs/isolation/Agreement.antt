@@ -31,7 +31,7 @@ agrees_on c inside R S T first second = record {
   greatest = first.greatest ∙ second.greatest;
 }
 
--- ---- the points that touch the set stand in the part
+-- ---- the points that touch the set are in the part
 
 -- a point that touches the set is named among those that do
 pub touching_named : (g : Grid) (inside : List ℕ → Bool) (p : PointRow) → Contains g.points p → touches inside p ≡ true

@@ -131,7 +131,7 @@ others_edits R c q matches known no_operator others = by (first_refusal (checks 
 
 -- ---- what they change
 
--- what an answer adds is marked where it concerns what stands near a clearance
+-- what an answer adds is marked where it concerns what is near a clearance
 module _ (R : Register) (good : IsGoodAsSaid R) (c : Id) (inside : List ℕ → Bool) where
   added_by_marks : (p : PointRow) → IsFree R p.name → (b : Bool)
       → fit R.net (cond b (AddPoint p ∷ []) (AddSection (new_section p.to_end) ∷ AddPoint p ∷ [])) ≡ true

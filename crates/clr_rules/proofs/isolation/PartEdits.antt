@@ -1,4 +1,4 @@
--- What edits do to what stands near a clearance: they change it exactly by those of them that concern it.
+-- What edits do to what is near a clearance: they change it exactly by those of them that concern it.
 use Rattle.std.proofs.Common.{not, ◌≡◌, ℕ, Bool, true, false, cond, List, [], ◌∷◌, Option, None, Some, refl, sym, ◌∙◌, ap, filter, All, is_eq}
 use Rattle.clr_rules.proofs.Common.{nat_list_cmp_total, All-head, All-tail, Grid, name_cmp, has_name, Position, equal, same_text, member-row_of, in_key_order, and_parts, adds, adds_nothing, Edit}
 use Rattle.clr_rules.proofs.Common.{SetPosition, SetHand, PutHold, TakeHold, PutRecord, PutStep, AddSection, AddPoint, Hold, PointState, Record, StepRow, Id, id_cmp, id_cmp_total, same_id, Register}
@@ -18,7 +18,7 @@ use Rattle.clr_rules.specs.States.{change_state, changed_state}
 -- ---- a state that is changed, in the group of some points
 
 module _ (beside : List ℕ → Bool) (point : List ℕ) (change : PointState → PointState) (keeps : (state : PointState) → (change state).point ≡ state.point) where
-  -- a state that ties with the point stands there
+  -- a state that ties with the point is there
   stands : (state : PointState) → is_eq (name_cmp state.point point) ≡ true → state.point ≡ point
   stands state tied = same_text state.point point (equal (name_cmp state.point point) tied)
 
@@ -115,7 +115,7 @@ module _ (R : Register) (ordered : ListsAreInOrder R) (inside beside : List ℕ 
       (filter-with_far step_key_cmp step_key step_key_cmp_total (λ other. same_id c other.id) row R.steps ordered.steps
       (λ other tied. rw (ap (λ key. key.id) (same_step_key (step_key other) (step_key row) (equal (step_key_cmp (step_key other) (step_key row)) tied))) is))
 
-  -- an edit changes the part where it concerns it, and else leaves it
+  -- an edit changes the part where it concerns it, and otherwise leaves it
   pub part-edited : (edit : Edit) → adds edit ≡ false → part (after_edit edit R) (around inside beside c)
       ≡ part_after (concerns c inside beside edit) edit (part R (around inside beside c))
   part-edited (SetPosition point position) plain = at_position point position (beside point) refl
@@ -147,7 +147,7 @@ part-edited_all R ordered inside beside c (edit ∷ edits) plain =
     ∙ ap (after_edits (filter (concerns c inside beside) edits)) (part-edited R ordered inside beside c edit (not_false (adds edit) one))
     ∙ first_tested (concerns c inside beside) edit edits (part R (around inside beside c)) (concerns c inside beside edit) refl
 
--- edits change what stands near a clearance exactly by those of them that concern it
+-- edits change what is near a clearance exactly by those of them that concern it
 pub part_near-edited_all : (R : Register) → ListsAreInOrder R → (c : Id) (inside : List ℕ → Bool) (edits : List Edit) → adds_nothing edits ≡ true
     → part_near (after_edits edits R) c inside ≡ after_edits (concerning R.net c inside edits) (part_near R c inside)
 part_near-edited_all R ordered c inside edits plain =

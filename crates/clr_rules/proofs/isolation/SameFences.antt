@@ -14,7 +14,7 @@ use Rattle.clr_rules.proofs.isolation.Agreement.{touching_named}
 use Rattle.clr_rules.proofs.live.FenceCuts.{named_from_in_fence}
 use Rattle.clr_rules.proofs.lists.Filters.{filter-kept, name_says}
 
--- what stands among names that a set includes is in the set
+-- what is among names that a set includes is in the set
 pub included : (inside : List ℕ → Bool) (names : List (List ℕ)) (s : List ℕ) → includes inside names ≡ true → has_name names s ≡ true → inside s ≡ true
 included inside names s covered named = list_all-contains inside names s covered ((name_says names s).0 named)
 

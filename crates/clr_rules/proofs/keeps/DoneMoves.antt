@@ -141,7 +141,7 @@ module _ (R : Register) (good : IsGoodByPhase R) (c : Id) (r : Record) (found : 
 
   -- ---- the edits
 
-  -- a hold is put, the point standing open
+  -- a hold is put, the point being open
   pub put_keeps : (of : HoldKind) → position_of R.states row.step.point ≡ Some Opened
       → InPhase R.net next.phase next.work (done_outlook (with_hand R.states row.step.point None) (with_row hold_cmp hold_key (hold_of c of row.step.point) R.holds))
       → IsGoodByPhase (after_edits (SetHand row.step.point None ∷ PutHold (hold_of c of row.step.point) ∷ PutRecord next ∷ PutStep (step_moved Done row.step.reader row) ∷ []) R)

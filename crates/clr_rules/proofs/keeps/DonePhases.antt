@@ -32,7 +32,7 @@ undoes_rest actions.Leave t c b h rest is = (and_parts (not (t || (c || b)) && h
 undoes_rest actions.Open t c b h rest is = absurd (false≢true is)
 undoes_rest _ t c b h rest is = absurd (false≢true is)
 
--- the last hold stands alone
+-- the last hold is the only one
 last_alone : (a : Action) (t c b h : Bool) (rest : List Action) → undoes t c b h (a ∷ rest) ≡ true → same_kind (undone_kind a) HeldOpen ≡ true → not (t || (c || b)) ≡ true
 last_alone actions.Untag t c b h rest is last = absurd (false≢true last)
 last_alone actions.Uncontrol t c b h rest is last = absurd (false≢true last)

@@ -20,7 +20,7 @@ and_false : (a : Bool) → false ≡ (a && false)
 and_false true = refl
 and_false false = refl
 
--- nothing stands at a point but the clearance's own HeldOpen
+-- nothing is at a point but the clearance's own HeldOpen
 abbrev pub IsFree : Register → Id → List ℕ → Type 0
 IsFree R c p = (d : Id) (kind : HoldKind) → is_point_kind kind ≡ true → has_hold R.holds d kind p ≡ true → (d ≡ c) × (kind ≡ HeldOpen)
 

@@ -85,7 +85,7 @@ module _ (R : Register) (good : IsGoodByPhase R) (c : Id) (r : Record) (found : 
         (record_of R.records c) (Some next) (has_hold R.holds c) (has_hold (with_row hold_cmp hold_key (hold_of c of row.step.point) R.holds) c)
         (has_in_hand R.states c) (has_in_hand states c) work of at_point puts_it (own_put c of row.step.point R.holds) h
 
-    -- where another hold is put than HeldOpen, a HeldOpen stands already
+    -- where another hold is put than HeldOpen, a HeldOpen is there already
     stands_open : (of : HoldKind) → is_point_kind of ≡ true → same_kind of HeldOpen ≡ false → same_kind of of ≡ true → ((kind : HoldKind) → puts row.step.action kind ≡ same_kind of kind)
         → position_of R.states row.step.point ≡ Some Opened
     stands_open of at_point other itself puts_it =

@@ -85,7 +85,7 @@ module _ (R : Register) (r : Record) (at : ℕ) (tasks : List Task) (good : IsGo
   abbrev new : Record
   new = record r { phase = Restoring; last = at }
 
-  -- what is held stands at points of the first round
+  -- what is held is at points of the first round
   at_points : (p : List ℕ) → has_hold R.holds r.id HeldOpen p ≡ true → has_name (points_of (of_round (steps_of R.steps r.id) 1)) p ≡ true
   at_points p held = put_at_points HeldOpen p (of_round (steps_of R.steps r.id) 1) (sym (h.as_put HeldOpen p refl) ∙ held)
 
@@ -97,7 +97,7 @@ module _ (R : Register) (r : Record) (at : ℕ) (tasks : List Task) (good : IsGo
   none_beside : (kind : HoldKind) (p : List ℕ) → is_point_kind kind ≡ true → has_hold R.holds r.id HeldOpen p ≡ false → has_hold R.holds r.id kind p ≡ false
   none_beside kind p at_point free = false_from_ne_true (has_hold R.holds r.id kind p) (λ held. both_ways (has_hold R.holds r.id HeldOpen p) free (beside kind p at_point held))
 
-  -- a step stands at a held point, and so at one of the first round
+  -- a step is at a held point, and so at one of the first round
   pub each_held : (t : Task) → Contains tasks t → (has_hold R.holds r.id HeldOpen t.point ≡ true) × (has_name (points_of (steps_in R.steps r.id 1)) t.point ≡ true)
   each_held t there = and_parts (has_hold R.holds r.id HeldOpen t.point) (has_name (points_of (steps_in R.steps r.id 1)) t.point)
       (sym (held_named R.holds r.id (points_of (steps_in R.steps r.id 1)) t.point)

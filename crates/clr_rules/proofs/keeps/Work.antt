@@ -15,7 +15,7 @@ use Rattle.clr_rules.proofs.keeps.OneRecord.{found_edits, in_phase_of}
 use Rattle.clr_rules.proofs.edits.Passing.{check_of_found, not_refused, holder_begun, not_refused_true}
 use Rattle.clr_rules.proofs.edits.PutRecords.{put_changes, outlook_with, quiet}
 
--- a hold of a kind that stands at no point is none at a point
+-- a hold of a kind that is at no point is none at a point
 off_points : (of kind : HoldKind) → is_point_kind of ≡ false → is_point_kind kind ≡ true → same_kind of kind ≡ false
 off_points of kind off_point at_point = false_from_ne_true (same_kind of kind) (λ same.
     both_ways (is_point_kind of) off_point (ap is_point_kind (one_kind of kind same) ∙ at_point))

@@ -19,7 +19,7 @@ module _ (p : Record → Bool) where
       at true passes found later = subst (λ (x : Record). Contains (first ∷ rest) x) (same_Some first r (rw passes at found)) (Contains-here first rest)
       at false fails found later = Contains-later first r rest (later (rw fails at found))
 
-  -- no row that passes stands before the one that is found
+  -- no row that passes comes before the one that is found
   none_before : (records : List Record) (r s : Record) → in_key_order id_cmp record_key records ≡ true → find p records ≡ Some r → Contains records s → p s ≡ true
       → is_lt (id_cmp s.id r.id) ≡ false
   none_before [] r s ordered found there passes = absurd cc

@@ -6,7 +6,7 @@ use Rattle.clr_shelf.proofs.FirstRow.{keys-with_row}
 use Rattle.clr_rules.specs.Prelude.{PointState, Id, hand_of, position_of, state_key, state_of}
 use Rattle.clr_rules.specs.States.{change_state, changed_state, hand_in}
 
--- a state stands at its point
+-- a state is at its point
 pub state_of-point : (states : List PointState) (p : List ℕ) (state : PointState) → state_of states p ≡ Some state → state.point ≡ p
 state_of-point states p state found =
     same_text state.point p (equal (name_cmp state.point p) (member-row_of name_cmp state_key nat_list_cmp_total p state states found).1)

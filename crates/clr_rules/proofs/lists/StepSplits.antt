@@ -1,4 +1,4 @@
--- A list of steps split at one of them: what is so of the whole before and after that step is put anew.
+-- A list of steps split at one of them: what is so of the whole before and after it is put again.
 use Rattle.std.proofs.Common.{◌≡◌, ℕ, Bool, true, false, ◌||◌, nat_eq, List, [], ◌∷◌, ◌++◌, map, All, Contains, refl, ◌∙◌, ap, arith, ◌⊎◌, inl, inr, is_lt, Ordering, Less, eq-eqb}
 use Rattle.clr_rules.proofs.Common.{IsTotalOrder, list_any, and_from, and_parts, both_ways, false≢true, or_cases, or_left, or_right, tied_itself, StepState, Waiting, in_key_order-first}
 use Rattle.clr_rules.proofs.Common.{in_key_order-rest, Contains-cases, list_all-contains, in_key_order, with_row, steps_left_of, all_waiting, go_in_turn, of_round}
@@ -8,7 +8,7 @@ use Rattle.clr_shelf.proofs.FirstRow.{with_row-after, with_row-over}
 use Rattle.clr_shelf.proofs.Keys.{less}
 use Rattle.clr_rules.specs.Steps.{is_repeated}
 
--- ---- a row that is put over another splits the list where that stood
+-- ---- a row that is put over another splits the list where that was
 
 module _ {Key Row : Type 0} (compare : Key → Key → Ordering) (key_of : Row → Key) (order : IsTotalOrder compare) where
   pub record Split (rows put : List Row) (row new : Row) : Type 0 where

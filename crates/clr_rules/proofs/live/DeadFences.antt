@@ -9,7 +9,7 @@ use Rattle.clr_rules.proofs.live.FenceCuts.{has_name-once, in_fence_alike, in_fe
 use Rattle.clr_rules.proofs.live.LiveSections.{live_is_least}
 
 module _ (g : Grid) (net : IsNetwork g) (states : List PointState) (work : List ℕ) (points : List (List ℕ)) (tasks : List Task) (sound : IsSoundOrder g work points tasks) where
-  -- a source stands outside
+  -- a source is outside
   source_outside : (source : SectionRow) → Contains g.sections source → source.source ≡ true → in_fence g work points source.name ≡ false
   source_outside source there is_source = false_from_ne_true (in_fence g work points source.name) (λ inside.
       let kept = Contains-filter (λ (row : SectionRow). in_fence g work points row.name) g.sections source there inside in
@@ -33,7 +33,7 @@ module _ (g : Grid) (net : IsNetwork g) (states : List PointState) (work : List 
       let (q, there, same) = some_from (same_name p) points cut in
       rw (one_name p q same) (All-contains (λ (p : List ℕ). is_closed_point states p ≡ false) points q opened there))
 
--- the same of the points of an order that stand more than once, and of the names of the sections
+-- the same of the points of an order that come more than once, and of the names of the sections
 pub dead_work_fence : (g : Grid) → IsNetwork g → (states : List PointState) (work : List ℕ) (points : List (List ℕ)) (tasks : List Task) → IsSoundOrder g work (first_of_each points) tasks
     → ((p : List ℕ) → has_name points p ≡ true → is_closed_point states p ≡ false)
     → (s : List ℕ) → has_name (work_fence g (Some work) points) s ≡ true → is_live g states s ≡ false

@@ -31,7 +31,7 @@ restoring_stands : (phase : Phase) → is_restoring phase ≡ true → is_standi
 restoring_stands Restoring is = refl
 restoring_stands _ is = cc
 
--- a phase in which steps run is that of a switch order, or one in which an isolating order stands
+-- a phase in which steps run is that of a switch order, or one with an isolating order in force
 running_stands : (phase : Phase) → is_running phase ≡ true → is_in_switching phase ≡ false → is_standing phase ≡ true
 running_stands Ordered runs other = refl
 running_stands Restoring runs other = refl
@@ -53,13 +53,13 @@ step_point rows row there = has_name-row (λ (t : Task). t.point) (tasks_of rows
 
 module _ (R : Register) (good : IsGoodAsSaid R) (switch : OnlySwitchOrdersSwitch R) (c : Id) (n : ℕ) (r : Record) (read : record_of R.records c ≡ Some r) (runs : is_running r.phase ≡ true)
     (s : FoundStep R c n) (waits : is_waiting s.row.step.state ≡ true) where
-  -- in the first round of a standing order
+  -- in the first round of an order in force
   of_first : is_standing r.phase ≡ true → step_at (steps_in R.steps c 1) n ≡ Some s.row
       → has_name (touching_names R.net (has_name (clearance_fence R c))) s.row.step.point ≡ true
   of_first stands found = round_one_touches R c good r read stands s.row.step.point
       (step_point (steps_in R.steps c 1) s.row (found_there (λ (row : StepRow). row.ordinal == n) (steps_in R.steps c 1) s.row found))
 
-  -- in the second round a step that waits stands at a point that the clearance holds open
+  -- in the second round a step that waits is at a point that the clearance holds open
   of_second : is_restoring r.phase ≡ true → step_at (steps_in R.steps c 2) n ≡ Some s.row
       → has_name (touching_names R.net (has_name (clearance_fence R c))) s.row.step.point ≡ true
   of_second restores found =
@@ -92,7 +92,7 @@ module _ (R : Register) (good : IsGoodAsSaid R) (switch : OnlySwitchOrdersSwitch
   point_beside : (has_name (touching_names R.net (has_name (clearance_fence R c))) s.row.step.point || has_name (switched_in R (Some c)) s.row.step.point) ≡ true
   point_beside = by_phase (is_in_switching r.phase) refl
 
--- ---- at a point that is near stands the same
+-- ---- what is at a point that is near is the same
 
 module _ (R : Register) (q : Command) (p : List ℕ) (beside : is_beside R (known_of R q) q.kind p ≡ true) where
   same_hand : hand_of R.states p ≡ hand_of (Register.states (part_beside R q)) p

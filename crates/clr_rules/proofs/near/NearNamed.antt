@@ -1,4 +1,4 @@
--- A command that names a clearance is no jumper: what is near it, and how it is told of.
+-- A command that names a clearance is no jumper: what is near it, and what is replied of it.
 use Rattle.std.proofs.Common.{◌≡◌, ℕ, false, List, Some, None, refl}
 use Rattle.clr_rules.specs.Answer.{crossed_for, reply_after, reply_clearance, reply_of}
 use Rattle.clr_rules.proofs.Common.{is_jumper, named_clearance, Known, near_part, part_beside, Command, Kind, Id, Register, record_of, Jumper}

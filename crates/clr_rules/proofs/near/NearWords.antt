@@ -24,7 +24,7 @@ module _ (g : Grid) (inside : List ℕ → Bool) (Among : List ℕ → Type 0) (
         (Contains-filter (touches inside) g.points words.row words.there ((touches_says words.row).1 words.an_end)))),
   )
 
--- a hold is near where it stands at a point beside, at a section inside, or is a crew of the own clearance
+-- a hold is near where it is at a point beside, at a section inside, or is a crew of its own clearance
 pub near_hold_says : (inside beside : List ℕ → Bool) (own : Option Id) (AtSection AtPoint : List ℕ → Type 0) (Own : Id → Type 0)
     → ((s : List ℕ) → Says (inside s) (AtSection s)) → ((p : List ℕ) → Says (beside p) (AtPoint p)) → ((d : Id) → Says (is_own own d) (Own d))
     → (h : Hold) → Says (is_near_hold inside beside own h)

@@ -8,7 +8,7 @@ use Rattle.clr_rules.proofs.lists.Filters.{filter-nothing, is_kept}
 
 -- ---- the fences that a jumper could cross
 
--- a first round stands among the first rounds
+-- a first round is among the first rounds
 first_rounds : (steps : List StepRow) (c : Id) → steps_in (filter (λ (row : StepRow). row.round == 1) steps) c 1 ≡ steps_in steps c 1
 unfolding steps_in
 first_rounds steps c = filter-filter_wider (is_of_round c 1) (λ (row : StepRow). row.round == 1)

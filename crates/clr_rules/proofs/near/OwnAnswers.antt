@@ -40,7 +40,7 @@ module _ (c : Id) (R S : Register) (same : SameOwn c R S) (r : Record) (own : r.
         steps = length (card_present i);
       }
 
--- what is told of a record, but for a view, is its card
+-- what is replied of a record, but for a view, is its card
 told_card : (k : Known) (R : Register) (kind : Kind) (r : Record) → is_show kind ≡ false → reply_of k R kind (Some r) ≡ Accepted (card_of R r)
 told_card k R (Show c) r no_show = cc no_show
 told_card k R _ r no_show = refl
@@ -48,7 +48,7 @@ told_card k R _ r no_show = refl
 told_nothing : (k : Known) (R S : Register) (kind : Kind) → reply_of k R kind None ≡ reply_of k S kind None
 told_nothing k R S kind = refl
 
--- so registers that have the same of the clearance are told of alike
+-- so registers that have the same of the clearance have the same replied of it
 pub told_alike : (c : Id) (R S : Register) → SameOwn c R S → (k : Known) (kind : Kind) → is_show kind ≡ false
     → reply_of k R kind (record_of R.records c) ≡ reply_of k S kind (record_of S.records c)
 told_alike c R S same k kind no_show = at (record_of R.records c) refl ∙ ap (reply_of k S kind) same.own_record

@@ -1,4 +1,4 @@
--- All holds of a clearance stand near a command that names it.
+-- All holds of a clearance are near a command that names it.
 use Rattle.std.proofs.Common.{◌≡◌, ◌∙◌, ◌⊎◌, inl, inr, ⊎_elim, ℕ, true, false, ◌&&◌, ◌||◌, List, Option, Some, None, refl, sym, ap, Contains}
 use Rattle.clr_rules.proofs.Common.{and_from, false≢true, or_cases, or_left, or_right, All-contains, FenceRows, fence_of, in_fence, Grid, same_name, has_name, PointRow, one_name, named_clearance}
 use Rattle.clr_rules.proofs.Common.{clearance_fence, touching_names, is_near_hold, is_own, is_beside, near_part, part_beside, is_order, is_fenced, one_id}
@@ -46,7 +46,7 @@ standing_is_fenced Closed is = cc
 standing_is_fenced _ is = refl
 
 module _ (R : Register) (c : Id) (good : IsGoodAsSaid R) where
-  -- a section in the fence of a standing order is among those of the clearance's fence
+  -- a section in the fence of an order in force is among those of the clearance's fence
   standing_fence : (r : Record) → record_of R.records c ≡ Some r → is_standing r.phase ≡ true → (work : List ℕ) → r.work ≡ Some work
       → (s : List ℕ) → in_fence R.net work (first_of_each (points_of (steps_in R.steps c 1))) s ≡ true → has_name (clearance_fence R c) s ≡ true
   standing_fence r read standing work works s inside =
@@ -79,7 +79,7 @@ module _ (R : Register) (c : Id) (good : IsGoodAsSaid R) where
             (λ to. inr (standing_fence r read standing work works words.row.to_end to)) words.an_end;
       })
 
-  -- the points of the first round of a standing order touch its fence
+  -- the points of the first round of an order in force touch its fence
   pub round_one_touches : (r : Record) → record_of R.records c ≡ Some r → is_standing r.phase ≡ true → (p : List ℕ)
       → has_name (points_of (steps_in R.steps c 1)) p ≡ true → has_name (touching_names R.net (has_name (clearance_fence R c))) p ≡ true
   round_one_touches r read standing p known =
@@ -87,7 +87,7 @@ module _ (R : Register) (c : Id) (good : IsGoodAsSaid R) where
 
   -- ---- the clearance's holds
 
-  -- a hold of the clearance at a point stands at a point that touches its fence
+  -- a hold of the clearance at a point is at a point that touches its fence
   held_point_touches : (h : Hold) → Contains R.holds h → c ≡ h.id → is_point_kind h.kind ≡ true
       → has_name (touching_names R.net (has_name (clearance_fence R c))) h.place ≡ true
   held_point_touches h there own kind =
@@ -106,7 +106,7 @@ module _ (R : Register) (c : Id) (good : IsGoodAsSaid R) where
   held_section_inside h there own kind = tested_or_grounded h.kind kind h.place
       (ap (λ (d : Id). has_hold R.holds d h.kind h.place) own ∙ hold_had R.holds h good.in_order.holds there)
 
--- each kind stands at points, at sections, or is a crew
+-- each kind is at points, at sections, or is a crew
 kind_cases : (kind : HoldKind) → (is_point_kind kind ≡ true) ⊎ ((is_section_kind kind ≡ true) ⊎ (is_crew kind ≡ true))
 kind_cases Tested = inr (inl refl)
 kind_cases Ground = inr (inl refl)

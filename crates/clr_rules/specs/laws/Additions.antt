@@ -40,7 +40,7 @@ pub record IsFree (R : Register) (p : List ℕ) : Type 0 where
   pub no_hold : list_any (λ h. is_point_kind h.kind && same_name p h.place) R.holds ≡ false
 
 -- ADDITIONS CHANGE BY MARKS: an added section, an added point of a free name, and both, change what
--- stands near a clearance exactly by their marks
+-- is near a clearance exactly by their marks
 pub record AdditionsChangeByMarks : Type 0 where
   pub section : (R : Register) → IsNetwork R.net
       → (row : SectionRow) → fits_edit R.net (AddSection row) ≡ true

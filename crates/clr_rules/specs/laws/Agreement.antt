@@ -1,4 +1,4 @@
--- What agreement near a clearance is kept by, as laws: edits change what stands near it exactly by
+-- What agreement near a clearance is kept by, as laws: edits change what is near it exactly by
 -- those of them that concern it.
 use Rattle.std.specs.Prelude.{◌≡◌, ℕ, Bool, true, false, not, ◌&&◌, List, [], ◌∷◌, filter, All}
 use Rattle.std.specs.Prelude.{Some}
@@ -38,7 +38,7 @@ is_about c (PutStep row) = same_id c row.id
 is_about c (AddSection row) = false
 is_about c (AddPoint p) = false
 
--- whether an edit concerns what stands near a clearance: a mark, or the clearance's record, a step
+-- whether an edit concerns what is near a clearance: a mark, or the clearance's record, a step
 -- or a crew of it
 abbrev pub concerns : Id → (List ℕ → Bool) → (List ℕ → Bool) → Edit → Bool
 concerns c inside beside (SetPosition point position) = beside point
@@ -66,9 +66,9 @@ pub record LeavesAlone (c : Id) (inside : List ℕ → Bool) (R : Register) (edi
   pub no_mark : is_mark R.net inside edit ≡ false
   pub no_new_number : is_new_of R.records c.requester edit ≡ false
 
--- ---- what edits do to what stands near a clearance, and to agreement
+-- ---- what edits do to what is near a clearance, and to agreement
 
--- edits change what stands near a clearance exactly by those of them that concern it
+-- edits change what is near a clearance exactly by those of them that concern it
 abbrev pub EditsChangeWhatTheyConcern : Type 0
 EditsChangeWhatTheyConcern =
     (R : Register) → ListsAreInOrder R → (c : Id) (inside : List ℕ → Bool) (edits : List Edit)
@@ -76,7 +76,7 @@ EditsChangeWhatTheyConcern =
     → part_near (after_edits edits R) c inside
     ≡ after_edits (concerning R.net c inside edits) (part_near R c inside)
 
--- edits that are not about a clearance change what stands near it exactly by their marks
+-- edits that are not about a clearance change what is near it exactly by their marks
 abbrev pub OthersChangeByMarks : Type 0
 OthersChangeByMarks =
     (R : Register) → ListsAreInOrder R → (c : Id) (inside : List ℕ → Bool) (edits : List Edit)
@@ -85,7 +85,7 @@ OthersChangeByMarks =
     → part_near (after_edits edits R) c inside
     ≡ after_edits (marks_of R.net inside edits) (part_near R c inside)
 
--- some edits change what stands near a clearance exactly by their marks
+-- some edits change what is near a clearance exactly by their marks
 abbrev pub ChangesByMarks : Register → Id → (List ℕ → Bool) → List Edit → Type 0
 ChangesByMarks R c inside edits =
     part_near (after_edits edits R) c inside

@@ -4,7 +4,7 @@ use Rattle.clr_rules.specs.Holds.{hindering_hold, hinders, stands_before}
 use Rattle.clr_rules.specs.Prelude.{Hold, Id}
 
 -- a hold of the list that keeps the clearance from closing the point, and the least that does, by
--- the clearance and then by the kind: no other stands before it
+-- the clearance and then by the kind: no other comes before it
 pub record IsLeastHindering (holds : List Hold) (c : Id) (p : List ℕ) (h : Hold) : Type 0 where
   pub among : Contains holds h
   pub hindering : hinders c p h ≡ true

@@ -12,7 +12,7 @@ pub record HasEndIn (g : Grid) (Among : List ℕ → Type 0) (point : List ℕ) 
   pub named : row.name ≡ point
   pub an_end : Among row.from_end ⊎ Among row.to_end
 
--- a hold that stands at such a section, or at such a point: holds go by kind
+-- a hold that is at such a section, or at such a point: holds go by kind
 abbrev pub StandsAmong : (List ℕ → Type 0) → (List ℕ → Type 0) → Hold → Type 0
 StandsAmong AtPoint AtSection h =
     (IsTrue (is_point_kind h.kind) × AtPoint h.place)
@@ -30,7 +30,7 @@ IsEditAmong AtPoint AtSection (AddSection row) = AtSection row.name
 IsEditAmong AtPoint AtSection (AddPoint p) = AtSection p.from_end ⊎ AtSection p.to_end
 
 -- a mark is an edit that concerns a section inside, or a point with an end inside. A record and a
--- step are none, and neither is a crew, which stands at no section and at no point
+-- step are none, and neither is a crew, which is at no section and at no point
 abbrev pub MarksConcernTheSet : Type 0
 MarksConcernTheSet = (g : Grid) (inside : List ℕ → Bool) (edit : Edit)
     → IsTrue (is_mark g inside edit)

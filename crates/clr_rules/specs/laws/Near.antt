@@ -69,7 +69,7 @@ is_order kind = false
 
 -- of each list the near part has exactly these rows of the register: the staff; the sections of the
 -- fence; the points; their states; the clearance's record and its steps; the holds. Beside them
--- stand the names of the fence and the greatest number of the clearance's requester
+-- come the names of the fence and the greatest number of the clearance's requester
 pub record HasNearRows (R : Register) (c : Id) (Inside AtPoint : List ℕ
     → Type 0) (near : Near) : Type 0 where
   pub staff : Register.staff near.rows ≡ R.staff
@@ -135,7 +135,7 @@ RequestLooksAtItsSection = (R : Register) (by : List ℕ) (at : ℕ) (section : 
     → HasAskedRow R by section
     (near_of R (record { caller = by; moment = at; kind = Request section }))
 
--- a switch order that is made looks at the points of its steps, and at what stands there
+-- a switch order that is made looks at the points of its steps, and at what is there
 pub record HasSwitchRows (R : Register) (by : List ℕ) (points : List (List ℕ))
     (near : Near) : Type 0 where
   pub staff : Register.staff near.rows ≡ R.staff
@@ -204,11 +204,11 @@ GreatestIsGreatest = (records : List Record) (requester : List ℕ)
     ⊎ ((r : Record) × Contains records r × (requester ≡ r.id.requester)
     × (r.id.number ≡ greatest_number records requester)))
 
--- a list that has some rows of another, as they stand there
+-- a list that has some rows of another, as they are there
 abbrev pub IsPartOf : {X : Type 0} → List X → List X → Type 0
 IsPartOf {X} part whole = (test : X → Bool) × (part ≡ filter test whole)
 
--- NO ROW MORE: each list of the near part has rows of the register's list, as they stand there
+-- NO ROW MORE: each list of the near part has rows of the register's list, as they are there
 pub record HasNoOtherRows (R near : Register) : Type 0 where
   pub staff : near.staff ≡ R.staff
   pub sections : IsPartOf (Grid.sections near.net) (Grid.sections R.net)
@@ -226,7 +226,7 @@ NearIsInOrder = (R : Register) (q : Command) → ListsAreInOrder R → ListsAreI
 
 -- ---- in a good register
 
--- all holds of a clearance stand near a command that names it: those at points stand at points of
+-- all holds of a clearance are near a command that names it: those at points are at points of
 -- its order, which touch its fence, and tests and grounds at sections of its fence
 abbrev pub OwnHoldsAreNear : Type 0
 OwnHoldsAreNear =
@@ -234,7 +234,7 @@ OwnHoldsAreNear =
     → is_order q.kind ≡ false
     → holds_of (Register.holds (near_part R q)) c ≡ holds_of R.holds c
 
--- the points of the first round of a standing order touch its fence
+-- the points of the first round of an order in force touch its fence
 abbrev pub OrderPointsTouchTheFence : Type 0
 OrderPointsTouchTheFence =
     (R : Register) (c : Id) → IsGoodAsSaid R → (r : Record) → record_of R.records c ≡ Some r

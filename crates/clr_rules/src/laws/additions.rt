@@ -20,7 +20,7 @@ pub fn answers_fit()
     ensures { AnswersFit }
 {}
 
-/// An added section, an added point of a free name, and both, change what stands near a clearance
+/// An added section, an added point of a free name, and both, change what is near a clearance
 /// exactly by their marks.
 pub fn additions_change_by_marks()
     ensures { AdditionsChangeByMarks }

@@ -12,12 +12,12 @@ pub fn agreement_is_an_equivalence()
     ensures on { AgreementIsHandedOn }
 {}
 
-/// Edits change what stands near a clearance exactly by those of them that concern it.
+/// Edits change what is near a clearance exactly by those of them that concern it.
 pub fn edits_change_what_they_concern()
     ensures { EditsChangeWhatTheyConcern }
 {}
 
-/// Edits that are not about a clearance change what stands near it exactly by their marks.
+/// Edits that are not about a clearance change what is near it exactly by their marks.
 pub fn others_change_by_marks()
     ensures { OthersChangeByMarks }
 {}

@@ -60,7 +60,7 @@ pub fn accepted_commands_pass_all_checks()
     ensures added { AddedPassesChecks }
 {}
 
-/// Where the lists are in key order, an answer's edits stand in the order of their kinds, and those
+/// Where the lists are in key order, an answer's edits are in the order of their kinds, and those
 /// of a kind in that of their keys, no key twice.
 pub fn answers_edits_stand_in_order()
     ensures { AnswersEditsInOrder }

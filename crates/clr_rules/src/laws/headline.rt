@@ -18,7 +18,7 @@ pub fn nothing_is_taken_away()
 {}
 
 /// The consequence: where no command of others marks the set, a clearance is answered as if its own
-/// commands stood alone.
+/// commands were alone.
 pub fn own_commands_stand_alone()
     ensures { OwnCommandsAlone }
 {}

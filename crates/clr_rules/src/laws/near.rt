@@ -34,7 +34,7 @@ pub fn switch_looks_at_its_points()
     ensures { SwitchLooksAtItsPoints }
 {}
 
-/// A jumper looks at the network, at all records and at the steps of all first rounds, which tell
+/// A jumper looks at the network, at all records and at the steps of all first rounds, which show
 /// whose fence it would cross, and at no other row.
 pub fn jumper_looks_at_the_network()
     ensures { JumperLooksAtTheNetwork }
@@ -57,7 +57,7 @@ pub fn near_has_no_other_rows()
 {}
 
 /// In a good register all holds of a clearance are near a command that names it: the points of a
-/// standing order touch its fence.
+/// order in force touch its fence.
 pub fn own_holds_are_near()
     ensures points { OrderPointsTouchTheFence }
     ensures holds { OwnHoldsAreNear }

@@ -3,7 +3,7 @@ ghost use Rattle.clr_rules.specs.RunHeadline.{RunsChangeNoReply, RunsStandAlone,
 
 /// Of every run the headline holds: what others do changes no reply to a clearance's own commands,
 /// and takes nothing away from it; and where others leave no mark, its own commands are replied to
-/// as if they stood alone.
+/// as if they were alone.
 pub fn headline_holds_of_runs()
     ensures replies { RunsChangeNoReply }
     ensures nothing { RunsTakeNothing }

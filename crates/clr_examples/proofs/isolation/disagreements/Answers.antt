@@ -1,4 +1,4 @@
--- Each time a test of the near part, or of the greatest number, tells the registers apart.
+-- Each time a test of the near part, or of the greatest number, distinguishes the registers.
 use Rattle.std.proofs.Common.{ℕ, Bool, ap, ◌==◌, Some, is_some, true≢false}
 use Rattle.clr_rules.proofs.Common.{list_all, list_any, Grid, PointRow, in_fence, reaches, StaffRow, row_of, with_row, without_row, Register, greatest_number, steps_in, steps_of, has_any_hold}
 use Rattle.clr_rules.proofs.Common.{has_some_hold, holds_of, first_of_each, places_of, after_edits, new_steps, touching_names, held_among, hindering_hold, after_all}

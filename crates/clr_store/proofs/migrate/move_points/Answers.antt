@@ -64,7 +64,7 @@ returns-clause-read g c clean inside t has =
     let clean_one : HasCleanDisk read = omega (arith, c.make_points.ensures.survives.clean) in
     on_ok c.empty_points.result _ (points_read_are old read t (c.in_ok-check_old_points.ensures.lists.step clean_one inside) has)
 
--- with points that do not read nothing comes behind the reading
+-- with points that do not read nothing comes after the reading
 pub returns-clause-cause : goal.returns-clause-cause
 returns-clause-cause g c clean inside t has unread =
     let old = state g.S.Store c.args.tx.now.conn.now in

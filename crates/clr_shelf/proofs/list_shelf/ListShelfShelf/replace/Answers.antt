@@ -3,7 +3,7 @@ use Rattle.clr_shelf.proofs.KeyOrder.{in_key_order-with_row}
 use Rattle.clr_shelf.proofs.Places.{row_at, none_in_gap, set_at}
 use Rattle.clr_shelf.proofs.list_shelf.ListShelfShelf.replace.Goals as goal
 
--- the row of the key stands at the place that was found
+-- the row of the key is at the place that was found
 pub returns-in-Ok-clause-given : goal.returns-in-Ok-clause-given
 returns-in-Ok-clause-given g c =
     let found = rw c.key.ensures at c.in-Ok.ensures.found in

@@ -18,7 +18,7 @@ higher Less lt eq = cc
 higher Equal lt eq = cc
 higher Greater lt eq = cc
 
--- no row stands there, so none of the group does
+-- no row is there, so none of the group is
 pub returns-then-start-len-clause-parts : goal.returns-then-start-len-clause-parts
 returns-then-start-len-clause-parts g c =
     let rows = items_of c.args.self.now.list in

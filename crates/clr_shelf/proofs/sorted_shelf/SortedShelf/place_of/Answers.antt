@@ -9,7 +9,7 @@ use Rattle.clr_shelf.proofs.Halves.{partition_from_point, gap_from_point}
 use Rattle.clr_shelf.proofs.Places.{sorted}
 use Rattle.clr_shelf.proofs.sorted_shelf.SortedShelf.place_of.Goals as goal
 
--- no row stands at the place
+-- no row is at the place
 pub returns-then-place-len-clause-absent : goal.returns-then-place-len-clause-absent
 returns-then-place-len-clause-absent g c =
     let rows = items_of c.args.self.now.list in

@@ -5,7 +5,7 @@ use Rattle.clr_shelf.proofs.GroupRuns.{partitioned_lower}
 use Rattle.clr_shelf.proofs.Halves.{partition_from_point}
 use Rattle.clr_shelf.proofs.sorted_shelf.SortedShelf.start_of.Goals as goal
 
--- the closure tests the group of the row that it is lent
+-- the closure tests the group of the row that it is given
 pub returns-clause-parts : goal.returns-clause-parts
 returns-clause-parts g c =
     let rows = items_of c.args.self.now.list in

@@ -18,7 +18,7 @@ returns-in-Ok-clause-rows g c =
     g.R.Row.group_cmp g.met.R.Row.key_order g.met.R.Row.group_order g.met.R.Row.same_key
     c.args.row (items_of c.args.self.now.list) c.in-Ok.place c.args.self.now.in_place found).is
 
--- which stood at the place that was found
+-- which was at the place that was found
 pub returns-in-Ok-clause-given : goal.returns-in-Ok-clause-given
 returns-in-Ok-clause-given g c =
     let found = rw c.key.ensures at c.in-Ok.ensures.found in
