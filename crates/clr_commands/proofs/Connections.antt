@@ -75,7 +75,7 @@ pub server_within : {M L R W : Type 0} (net : loopback.Ghosts M L R W) (seen : S
     (output output' errors errors' : Stream) (k k' : Keeper) (served : Done) (old new : M)
     → ServesKeeper net seen port count output output' errors errors' k k' served old new
     → IsGood k.register → ComesWithin count k.register k'.register
-server_within net seen port count output output' errors errors' k k' (Ok value) old new (listener, middle, stands, went, taken) good =
+server_within net seen port count output output' errors errors' k k' (Ok value) old new (listener, middle, stands, went, taken, run) good =
     first_within net seen listener count k k' errors errors' middle new taken good
 server_within net seen port count output output' errors errors' k k' (Err fault) old new (kept, quiet, rest) good =
     none_within count k.register k'.register (ap (λ (it : Keeper). it.register) kept)

@@ -1,5 +1,6 @@
 pub mod AnsweredLines
 pub mod Connections
+pub mod ConnectionRuns
 pub mod Databases
 pub mod Faults
 pub mod Found

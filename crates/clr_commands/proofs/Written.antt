@@ -87,7 +87,7 @@ module _ {M L R W : Type 0} (net : loopback.Ghosts M L R W) (seen : Seen R W) (p
       → IfErr closed (λ fault. fault ≢ Output) → Writes port count (both served closed) output output' errors errors'
   over_written g (Ok value) closed old new before after (inl (refused, same, quiet, rest)) other = absurd refused
   over_written g (Ok value) closed old new before after (inr opened) other =
-      let (listener, middle, stands, went, taken) = opened.serves in
+      let (listener, middle, stands, went, taken, run) = opened.serves in
       closed_written closed other went
       (first_reported net seen listener count opened.keeper opened.left errors errors' middle new taken)
     where

@@ -72,12 +72,16 @@ module _ {M L R W : Type 0} (net : loopback.Ghosts M L R W) (seen : Seen R W) (l
     pub served : Serves seen number k k' connection answered errors errors'
     pub left : net.hangs_up middle answered new
 
-  -- THE NEXT CONNECTION was answered, or none could be taken, for a reason that is reported
+  -- none could be taken, for a reason that is reported
+  abbrev pub Misses : ℕ → Keeper → Keeper → Stream → Stream → M → M → Type 0
+  Misses number k k' errors errors' old new =
+      (kind : ErrorKind) × net.misses old listener kind new × (k' ≡ k)
+      × ReportsConnection number (Err (accept_fault kind)) errors errors'
+
+  -- THE NEXT CONNECTION was answered, or none could be taken
   abbrev pub TakesNext : ℕ → Keeper → Keeper → Stream → Stream → M → M → Type 0
   TakesNext number k k' errors errors' old new =
-      Answers number k k' errors errors' old new
-      ⊎ ((kind : ErrorKind) × net.misses old listener kind new × (k' ≡ k)
-      × ReportsConnection number (Err (accept_fault kind)) errors errors')
+      Answers number k k' errors errors' old new ⊎ Misses number k k' errors errors' old new
 
   -- THE FIRST CONNECTIONS, one after the other
   unfoldable pub TakesFirst : ℕ → Keeper → Keeper → Stream → Stream → M → M → Type 0

@@ -1,5 +1,6 @@
 pub mod Answers
 pub mod Connections
+pub mod ConnectionLaws
 pub mod Faults
 pub mod Fence
 pub mod Import

@@ -19,6 +19,7 @@ use Rattle.clr_edge.specs.Visit.{Comes, Done, Ending, Opening, Shutting, both}
 use Rattle.clr_edge.specs.declared.fault.Fault.TheVariants.{Output}
 use Rattle.clr_edge.specs.declared.loopback.Loopback as loopback
 use Rattle.clr_commands.specs.Connections.{Seen, TakesFirst}
+use Rattle.clr_commands.specs.ConnectionLaws.{ConnectionsHaveRun}
 use Rattle.clr_commands.specs.Stored.{IsUnanswered}
 
 -- the line that a server begins with
@@ -29,12 +30,15 @@ serving_line port = (codes "serving 127.0.0.1:" ++ decimal port) ++ 10 ∷ []
 module _ {M L R W : Type 0} (net : loopback.Ghosts M L R W) (seen : Seen R W) (port count : ℕ)
     (output output' errors errors' : Stream) where
   -- A SERVER over the keeper of a register: it listened on the port, said so, and took that number
-  -- of connections; or it did not begin, and then the keeper is as it was
+  -- of connections, which from a good register are a run; or it did not begin, and then the keeper
+  -- is as it was
   abbrev pub ServesKeeper : Keeper → Keeper → Done → M → M → Type 0
   ServesKeeper k k' (Ok value) old new =
       (listener : L) × (middle : M) × StandsOn net.stands old port listener middle
       × WentOut output output' (serving_line port)
       × TakesFirst net seen listener count k k' errors errors' middle new
+      × (IsGood k.register
+      → ConnectionsHaveRun net seen listener count k k' errors errors' middle new)
   ServesKeeper k k' (Err fault) old new =
       (k' ≡ k) × (errors' ≡ errors)
       × ((RefusesOn net.refuses old port fault new × (output' ≡ output))

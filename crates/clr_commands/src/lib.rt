@@ -5,6 +5,7 @@ pub mod board;
 pub mod fence;
 pub mod import;
 pub mod init;
+pub mod laws;
 pub mod migrate;
 pub mod order;
 pub mod replies;

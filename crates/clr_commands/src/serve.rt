@@ -1,8 +1,10 @@
 //! The subcommand `serve`: the register of a database, answered over HTTP.
 ghost use Rattle.std.specs.Prelude.{◌≡◌, OnErr};
 ghost use Rattle.std.specs.IoError.{error_kind};
+ghost use Rattle.clr_rules.specs.Good.{IsGood};
 ghost use Rattle.clr_commands.specs.Connections.{ReportsConnection, Serves, TakesFirst, TakesNext};
 ghost use Rattle.clr_commands.specs.Connections.{accept_fault, seen};
+ghost use Rattle.clr_commands.specs.ConnectionLaws.{ConnectionsHaveRun};
 ghost use Rattle.clr_commands.specs.Serve.{ServesAt, ServesKeeper, ServesOver};
 
 use crate::serve_line::{connection_line, serving_line};
@@ -12,6 +14,7 @@ use clr_edge::fault::Fault;
 use clr_edge::loopback::{Connection, Loopback, listen};
 use clr_edge::output::write_out;
 use clr_http::{HttpFault, Registrar, Served, serve_one};
+use clr_rules::laws::run_headline::headline_holds_of_runs;
 use clr_stream::{CountedFlush, CountedRead};
 use sqlite::Alter;
 use std::alloc::Global;
@@ -93,7 +96,7 @@ pub fn serve_desk<D: Registrar, L: Loopback, W: CountedFlush, E: CountedFlush>(
 }
 
 /// Serves that number of connections, one after the other. One that fails is reported, and the next
-/// is served.
+/// is served. The commands that they carry out from a good register are a run.
 pub fn serve_connections<D: Registrar, L: Loopback, E: CountedFlush>(
     alloc: Global,
     net: &mut L,
@@ -106,8 +109,13 @@ pub fn serve_connections<D: Registrar, L: Loopback, E: CountedFlush>(
         (seen L.Reader.remaining L.Reader.failure_count L.Writer.stream) listener.now count
         (D.keeper desk.old) (D.keeper desk.new) (E.stream errors.old) (E.stream errors.new)
         net.old net.new }
+    ensures run { IsGood (D.keeper desk.old).register → ConnectionsHaveRun L.Loopback
+        (seen L.Reader.remaining L.Reader.failure_count L.Writer.stream) listener.now count
+        (D.keeper desk.old) (D.keeper desk.new) (E.stream errors.old) (E.stream errors.new)
+        net.old net.new }
     ensures led { D.leads_to desk.old desk.new }
 {
+    headline_holds_of_runs();
     for done in 0..count {
         serve_next(alloc, net, listener, desk, done + 1, errors);
     }

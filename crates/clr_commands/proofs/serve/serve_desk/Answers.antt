@@ -10,6 +10,7 @@ returns-clause-served g c = (
   c.in_ok-listener.ensures.stands,
   went_as _ _ _ _ _ (search rules) c.in_ok-write_out.ensures.whole,
   c.serve_connections.ensures.taken,
+  c.serve_connections.ensures.run,
 )
 
 -- its line could not be written

@@ -1,0 +1,89 @@
+-- THE HEADLINE OF A PORT: the commands that its connections carry out, one after the other, are a
+-- run, and its replies are their responses.
+use Rattle.std.specs.Prelude.{◌≡◌, ◌⊎◌, ℕ, ◌+◌, Bool, List, [], ◌∷◌, length}
+use Rattle.std.specs.Prelude.{Option, None, Some, Result}
+use Rattle.clr_stream.specs.Streams.{Stream}
+use Rattle.clr_rules.specs.Agreement.{Agree}
+use Rattle.clr_rules.specs.Answer.{Answer, answer}
+use Rattle.clr_rules.specs.Id.{Id}
+use Rattle.clr_rules.specs.Isolation.{ShowTheSame}
+use Rattle.clr_rules.specs.Register.{Register}
+use Rattle.clr_rules.specs.Run.{after_all}
+use Rattle.clr_rules.specs.RunHeadline.{OthersChangeNoReply, OthersTakeNothing, OwnStandAlone}
+use Rattle.clr_rules.specs.declared.command.Command.{Command}
+use Rattle.clr_rules.specs.declared.reply.Reply.{Reply}
+use Rattle.clr_http.specs.Asked.{MayAsk, commands_asked, own_among, reply_bytes, with_asked}
+use Rattle.clr_http.specs.Carried.{IsTold}
+use Rattle.clr_http.specs.Registrar.{Keeper}
+use Rattle.clr_http.specs.RequestLaws.{AreRun}
+use Rattle.clr_http.specs.Response.{response_bytes}
+use Rattle.clr_http.specs.Served.{IsWritten}
+use Rattle.clr_http.specs.declared.serve.HttpFault.{HttpFault}
+use Rattle.clr_http.specs.declared.serve.Served.{Served}
+use Rattle.clr_edge.specs.declared.loopback.Loopback as loopback
+use Rattle.clr_commands.specs.Connections.{Answers, Misses, Seen}
+
+-- the response to a command has its reply
+abbrev pub HasReply : Register → Option Command → List ℕ → Type 0
+HasReply R None response = Unit {0}
+HasReply R (Some q) response = response ≡ reply_bytes (Answer.reply (answer R q))
+
+-- WHAT A CONNECTION CARRIES OUT: this command, which it asks, or none; and its response, of which
+-- the whole went out, or the first bytes, or nothing
+pub record CarriesOut (input : Option (List ℕ)) (old new : Keeper) (before behind : Stream)
+    (served : Result Served HttpFault) (carried : Option Command) (response : List ℕ)
+    : Type 0 where
+  pub left : new.register ≡ after_all old.register (with_asked carried [])
+  pub reply : HasReply old.register carried response
+  pub asked : MayAsk input carried ⊎ (carried ≡ None)
+  pub written : IsWritten (λ c. IsTold input carried old new c × (response ≡ response_bytes c))
+      before behind served
+
+module _ {M L R W : Type 0} (net : loopback.Ghosts M L R W) (seen : Seen R W) (listener : L) where
+  -- THE NEXT CONNECTION carries this out, with this response; where none could be taken, nothing
+  abbrev pub CarriesNext : ℕ → Keeper → Keeper → Stream → Stream → M → M → Option Command → List ℕ
+      → Type 0
+  CarriesNext number k k' errors errors' old new carried response =
+      ((it : Answers net seen listener number k k' errors errors' old new)
+      × CarriesOut (seen.source it.connection.reader).remaining k k'
+      (seen.stream it.connection.writer) (seen.stream it.answered.writer) it.served.0
+      carried response)
+      ⊎ (Misses net seen listener number k k' errors errors' old new
+      × (carried ≡ None) × (response ≡ []))
+
+  -- CONNECTIONS FROM THIS NUMBER ON, one after the other: what each carries out, and its response,
+  -- at the place of the connection
+  unfoldable pub CarriesAll : ℕ → Keeper → Keeper → Stream → Stream → M → M
+      → List (Option Command) → List (List ℕ) → Type 0
+  CarriesAll number k k' errors errors' old new [] [] =
+      (new ≡ old) × (k' ≡ k) × (errors' ≡ errors)
+  CarriesAll number k k' errors errors' old new (carried ∷ later) (response ∷ others) =
+      (middle : M) × (between : Keeper) × (reported : Stream)
+      × CarriesNext number k between errors reported old middle carried response
+      × CarriesAll (number + 1) between k' reported errors' middle new later others
+  CarriesAll number k k' errors errors' old new [] (response ∷ others) = ⊥
+  CarriesAll number k k' errors errors' old new (carried ∷ later) [] = ⊥
+
+  -- WHAT IS SAID OF THE FIRST CONNECTIONS: what each carries out, of which the responses are a run,
+  -- and the three statements hold of it
+  pub record ConnectionsHaveRun (n : ℕ) (k k' : Keeper) (errors errors' : Stream) (old new : M)
+      : Type 0 where
+    pub carried : List (Option Command)
+    pub responses : List (List ℕ)
+    pub each : CarriesAll 1 k k' errors errors' old new carried responses
+    pub count : length carried ≡ n
+    pub told : List Reply
+    pub run : AreRun k.register carried responses told k'.register
+    pub headline : OthersChangeNoReply k.register (commands_asked carried) told k'.register
+    pub untouched : OthersTakeNothing k.register (commands_asked carried)
+    pub alone : OwnStandAlone k.register (commands_asked carried) told
+
+-- TWO RUNS THAT SHOW A CLEARANCE THE SAME, of connections of ports or of requests in memory: the
+-- responses to its own requests are the same bytes, and the registers that are left agree again
+abbrev pub RunsGetTheSame : Type 0
+RunsGetTheSame = (c : Id) (inside : List ℕ → Bool) (R S T U : Register)
+    (carried wanted : List (Option Command)) (responses answers : List (List ℕ))
+    (told replied : List Reply) → AreRun R carried responses told S
+    → AreRun T wanted answers replied U
+    → ShowTheSame c inside R (commands_asked carried) T (commands_asked wanted)
+    → (own_among c carried responses ≡ own_among c wanted answers) × Agree c inside S U

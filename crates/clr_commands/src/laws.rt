@@ -1,0 +1,12 @@
+//! The headline between two servers.
+ghost use Rattle.clr_commands.specs.ConnectionLaws.{RunsGetTheSame};
+
+use clr_rules::laws::run_headline::headline_holds_of_runs;
+
+/// Connections of two ports, or requests in memory, that show a clearance the same get its own
+/// requests the same bytes: a law, with nothing to do.
+pub fn runs_get_the_same()
+    ensures { RunsGetTheSame }
+{
+    headline_holds_of_runs();
+}
