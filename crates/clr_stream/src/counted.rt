@@ -5,6 +5,7 @@ ghost use Rattle.std.specs.Io.KnownBytes.{Keeps, ReadConsumes, WriteAppends};
 ghost use Rattle.clr_stream.specs.Failures.{count_after};
 ghost use Rattle.clr_stream.specs.Streams.{IsFlush, IsWrite, Stream};
 
+use crate::step::{ReadStep, WriteStep};
 use std::io;
 use std::io::{Read, Write};
 
@@ -98,7 +99,7 @@ impl<T> Counted<T> {
     }
 }
 
-impl<T: Read> Read for Counted<T> {
+impl<T: ReadStep> Read for Counted<T> {
     ghost use Rattle.clr_stream.specs.Counted.{counted_inner, counted_failures};
 
     ghost remaining = { λ s. T.remaining (counted_inner s) };
@@ -108,15 +109,19 @@ impl<T: Read> Read for Counted<T> {
         ensures bytes { ReadConsumes (T.remaining (counted_inner self.old))
             (T.remaining (counted_inner self.new)) result buf.new }
         ensures count { counted_failures self.new ≡ count_after result (counted_failures self.old) }
+
+        // The read of what was counted round: one, into this buffer, with this answer.
+        ensures step { T.reads (counted_inner self.old) buf.old result buf.new
+            (counted_inner self.new) }
     {
-        let answer = self.inner.read(buf);
+        let answer = self.inner.read_step(buf);
         self.count(&answer);
         answer
     }
 }
 
-impl<T: Read> CountedRead for Counted<T> {
-    ghost use Rattle.clr_stream.specs.Counted.{counted_failures};
+impl<T: ReadStep> CountedRead for Counted<T> {
+    ghost use Rattle.clr_stream.specs.Counted.{counted_inner, counted_failures};
 
     ghost failure_count = { λ s. counted_failures s };
 
@@ -124,12 +129,19 @@ impl<T: Read> CountedRead for Counted<T> {
         self.failures
     }
 
-    fn read_counted(&mut self, buf: &mut [u8]) -> io::Result<usize> {
+    fn read_counted(&mut self, buf: &mut [u8]) -> io::Result<usize>
+        ensures bound { ReadsAtMost result buf.new }
+        ensures bytes { ReadConsumes (T.remaining (counted_inner self.old))
+            (T.remaining (counted_inner self.new)) result buf.new }
+        ensures count { counted_failures self.new ≡ count_after result (counted_failures self.old) }
+        ensures step { T.reads (counted_inner self.old) buf.old result buf.new
+            (counted_inner self.new) }
+    {
         self.read(buf)
     }
 }
 
-impl<T: Write> Write for Counted<T> {
+impl<T: WriteStep> Write for Counted<T> {
     ghost use Rattle.clr_stream.specs.Counted.{counted_inner, counted_stream};
 
     ghost contents = { λ s. T.contents (counted_inner s) };
@@ -140,8 +152,11 @@ impl<T: Write> Write for Counted<T> {
             (T.contents (counted_inner self.new)) result buf.now }
         ensures write { IsWrite result buf.now (counted_stream T.contents self.old)
             (counted_stream T.contents self.new) }
+
+        // The write of what was counted round: one, of these bytes, with this answer.
+        ensures step { T.writes (counted_inner self.old) buf.now result (counted_inner self.new) }
     {
-        let answer = self.inner.write(buf);
+        let answer = self.inner.write_step(buf);
         self.count(&answer);
         if !buf.is_empty() && matches!(answer, Ok(0)) {
             self.stalls = self.stalls.saturating_add(1);
@@ -155,16 +170,19 @@ impl<T: Write> Write for Counted<T> {
             (T.contents (counted_inner self.new)) }
         ensures flush { IsFlush result (counted_stream T.contents self.old)
             (counted_stream T.contents self.new) }
+
+        // The flush of what was counted round: one, with this answer.
+        ensures step { T.flushes (counted_inner self.old) result (counted_inner self.new) }
     {
-        let answer = self.inner.flush();
+        let answer = self.inner.flush_step();
         self.count(&answer);
         self.flushed = answer.is_ok();
         answer
     }
 }
 
-impl<T: Write> CountedWrite for Counted<T> {
-    ghost use Rattle.clr_stream.specs.Counted.{counted_stream};
+impl<T: WriteStep> CountedWrite for Counted<T> {
+    ghost use Rattle.clr_stream.specs.Counted.{counted_inner, counted_stream};
 
     ghost stream = { λ s. counted_stream T.contents s };
 
@@ -174,13 +192,24 @@ impl<T: Write> CountedWrite for Counted<T> {
         self.failures
     }
 
-    fn write_counted(&mut self, buf: &[u8]) -> io::Result<usize> {
+    fn write_counted(&mut self, buf: &[u8]) -> io::Result<usize>
+        ensures bound { WritesAtMost result buf.now }
+        ensures write { IsWrite result buf.now (counted_stream T.contents self.old)
+            (counted_stream T.contents self.new) }
+        ensures step { T.writes (counted_inner self.old) buf.now result (counted_inner self.new) }
+    {
         self.write(buf)
     }
 }
 
-impl<T: Write> CountedFlush for Counted<T> {
-    fn flush_counted(&mut self) -> io::Result<()> {
+impl<T: WriteStep> CountedFlush for Counted<T> {
+    ghost use Rattle.clr_stream.specs.Counted.{counted_inner, counted_stream};
+
+    fn flush_counted(&mut self) -> io::Result<()>
+        ensures flush { IsFlush result (counted_stream T.contents self.old)
+            (counted_stream T.contents self.new) }
+        ensures step { T.flushes (counted_inner self.old) result (counted_inner self.new) }
+    {
         self.flush()
     }
 }
