@@ -25,6 +25,8 @@ use Rattle.sqlite_catalog.specs.Listing.{IsSound}
 use Rattle.sqlite_rules.specs.Calls.{ids_of}
 use Rattle.sqlite_rules.specs.Action.{Writes, work_for}
 use Rattle.sqlite_rules.specs.Edit.{Applies, Edit, id_in, taken_by}
+use Rattle.sqlite_schema.specs.Rules.{passes}
+use Rattle.sqlite_schema.specs.declared.schema.Constraint.TheVariants.{ForeignKey, Unique}
 use Rattle.sqlite_schema.specs.declared.schema.Keys.{Keys}
 use Rattle.sqlite_schema.specs.declared.schema.Reference.{Reference}
 use Rattle.sqlite_schema.specs.declared.schema.Table.{Table}
@@ -42,7 +44,7 @@ use Rattle.clr_store.proofs.RowLemmas.{removed}
 use Rattle.clr_load.proofs.AllRead.{same_value}
 use Rattle.clr_load.proofs.Loading.{laid}
 use Rattle.clr_load.proofs.Texts.{IsRead, delete_is, insert_is, insert_terms, inserting, key_tests, query_of, width_of}
-use Rattle.clr_store.proofs.Layouts.{at_place, others_stay}
+use Rattle.clr_store.proofs.Layouts.{all_at, at_place, others_stay}
 
 -- a part that gave a value did not stop on the way
 pub went : {B E R : Type 0} {b : B} {Stops : E → Type 0} → ((stop : E) × Stops stop × (Ok b ≡ Err stop)) ⊎ R → R
@@ -110,10 +112,22 @@ stored_as l name row fits i = cast_number i ∷ cast_fits (columns_in name) row 
 abbrev pub task_on : Layout → TableName → State → Row → Task
 task_on l name old params = record { limit = old.step_limit; keys = (mode_of old).keys; schema = schema_in l; table = table_in l name; params = params }
 
+pub no_reference : Unique ≢ ForeignKey
+no_reference same = absurd cc
+
+-- the rows of a table pass the rule of unique keys
+abbrev pub AreUnique : Layout → Trees → TableName → Type 0
+AreUnique l next name = AllByRecursion (λ r. passes Unique (schema_in l) next (table_in l name) r ≡ true) (next (tree_in l name))
+
+pub are_unique : (l : Layout) (name : TableName) (next : Trees) → has_table l name ≡ true
+    → AllByRecursion (λ table. AllByRecursion (λ r. passes Unique (schema_in l) next table r ≡ true) (next table.tree)) (schema_in l).tables → AreUnique l next name
+are_unique l name next there all = all_at _ (schema_in l).tables (place_in l name) (table_in l name) (at_place l name there) all
+
 pub inserts : (l : Layout) (old new : State) (name : TableName) (row : Row) (count : ℕ) → has_table l name ≡ true → old.now.schema ≡ schema_in l → fits_columns (columns_in name) row ≡ true
     → Executes (insert_sql name) row old new (Ok count)
     → Wrote l old new name (put_row (next_row (old.now.trees (tree_in l name)) row) (old.now.trees (tree_in l name)))
     × (is_taken (old.now.trees (tree_in l name)) (next_row (old.now.trees (tree_in l name)) row) ≡ false)
+    × AreUnique l new.now.trees name
 inserts l old new name row count there has fits ran =
     let db = old.now.trees in
     let tree = db (tree_in l name) in
@@ -135,6 +149,7 @@ inserts l old new name row count there has fits ran =
     ap (λ all. (edit_of db (table_in l name) [] Chosen 0 all).news) source ∙ ap (λ r. numbered Chosen tree (r ∷ [])) (stored_as l name row fits) in (
       wrote l old new name _ written.0 (ap (λ (d : Database). d.schema) now) w.sound (ap (λ (d : Database). d.trees) now ∙ trees) (step.rows ∙ ap (put_all tree) news) step.tables,
       not_taken tree (next_row tree row) (subst (λ n. are_fresh tree n ≡ true) news step.fresh),
+      subst (λ next. AreUnique l next name) (sym (ap (λ (d : Database). d.trees) now ∙ trees)) (are_unique l name written.0 there (step.fits.rules Unique no_reference)),
     )
 
 picked : {X Y : Type 0} (p : X → Bool) (g : X → Y) (xs : List X) → flat_map (λ x. cond (p x) (g x ∷ []) []) xs ≡ map g (filter p xs)

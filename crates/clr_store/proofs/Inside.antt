@@ -260,7 +260,7 @@ order_mapped change same (row ∷ rows) = λ i. above rows i && order_mapped cha
     above [] = refl
     above (next ∷ rest) = λ i. is_lt (row_cmp (same row i) (same next i)) && above rest i
 
-first_stays : (row : Row) (k : ℕ) (v : Value) → take 1 (slice_set row (suc k) v) ≡ take 1 row
+pub first_stays : (row : Row) (k : ℕ) (v : Value) → take 1 (slice_set row (suc k) v) ≡ take 1 row
 first_stays [] k v = refl
 first_stays (x ∷ row) k v = refl
 

@@ -3,7 +3,9 @@ pub mod Layouts
 pub mod Effects
 pub mod Inside
 pub mod Updates
+pub mod Placing
 pub mod Replacing
+pub mod Inserting
 pub mod Given
 pub mod Creating
 pub mod Versions

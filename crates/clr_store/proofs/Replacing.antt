@@ -1,7 +1,7 @@
 -- What UPDATE of all columns of the row of a key makes of a table: that row is put, where there was one.
 use Rattle.std.proofs.Common.{◌≡◌, ◌≤◌, ◌<◌, ◌+◌, ℕ, zero, suc, List, [], ◌∷◌, ◌++◌, All, map, drop, take, length, Bool, true, false, get_or, not, ◌&&◌, Ok, None, inl, inr, refl, sym, ap, subst, ◌∙◌, arith}
 use Rattle.std.specs.Prelude.{filter, unwrap_or}
-use Rattle.std.specs.List.{AllByRecursion, list_all}
+use Rattle.std.specs.List.{list_all}
 use Rattle.std.specs.List.Sorted.{IsPermutation}
 use Rattle.std.specs.Cmp.{tied_itself}
 use Rattle.std.specs.Ordering.{is_eq, is_ne}
@@ -46,16 +46,16 @@ use Rattle.clr_tables.specs.TableEdits.{with_table_row, without_table_row}
 use Rattle.clr_tables.specs.declared.table_name.TableName.{TableName}
 use Rattle.clr_tables.specs.declared.table_name.TableName.TheVariants.{Meta, Section, Point, Staff, Clearance, Step, Hold, NetworkPoint}
 use Rattle.clr_store.specs.Change.{Changes, after_replace, with_rows}
-use Rattle.clr_load.specs.Layout.{AsMade, AsMoved, Layout, OfOne, has_table, place_in, tree_in}
+use Rattle.clr_load.specs.Layout.{AsMade, AsMoved, Layout, OfOne, has_table, tree_in}
 use Rattle.clr_load.specs.Schema.{columns_in, first_columns, keys_in, schema_in, table_in}
 use Rattle.clr_load.specs.Sql.{replace_sql}
 use Rattle.clr_load.specs.Stored.{HasRows, bodies, fits_columns, is_set, rows_in}
 use Rattle.clr_load.proofs.AllRead.{same_value}
 use Rattle.clr_load.proofs.Columns.{both_true, cast_fits, equal_is, fits_length, says, sets_from, values_all, values_from}
 use Rattle.clr_load.proofs.Texts.{key_tests, replace_is, replaced, replacing, terms_from, tests_from, width_of}
-use Rattle.clr_store.proofs.Effects.{ids_listed, is_met, one_write, shown_rows, task_on, went, wrote}
+use Rattle.clr_store.proofs.Effects.{AreUnique, are_unique, ids_listed, is_met, no_reference, one_write, shown_rows, task_on, went, wrote}
 use Rattle.clr_store.proofs.Inside.{changed_to, in_any_order, met_is, put_again, runs_inside, taken_away}
-use Rattle.clr_store.proofs.Layouts.{all_at, at_place, in_two}
+use Rattle.clr_store.proofs.Layouts.{at_place, in_two}
 use Rattle.clr_store.proofs.RowLemmas.{put_fresh, removed}
 use Rattle.clr_store.proofs.Updates.{fresh_parts, given_numbers, put_all_fresh}
 
@@ -66,7 +66,7 @@ column_taken (suc n) at [] low = refl
 column_taken (suc n) zero (v ∷ row) low = refl
 column_taken (suc n) (suc at) (v ∷ row) low = column_taken n at row (omega arith)
 
-tests_taken : (n at k : ℕ) (params r : Row) → at + n ≤ k → list_all (holds (take k params ∷ r ∷ [])) (tests_from at n) ≡ list_all (holds (params ∷ r ∷ [])) (tests_from at n)
+pub tests_taken : (n at k : ℕ) (params r : Row) → at + n ≤ k → list_all (holds (take k params ∷ r ∷ [])) (tests_from at n) ≡ list_all (holds (params ∷ r ∷ [])) (tests_from at n)
 tests_taken zero at k params r low = refl
 tests_taken (suc n) at k params r low =
     λ i. is_true (binary (Compare Eq Binary) (column r (suc at)) (column_taken k at params (omega arith) i)) && tests_taken n (suc at) k params r (omega arith) i
@@ -77,7 +77,7 @@ clear true h = absurd cc
 clear false h = refl
 
 -- what the rule of unique keys says of a table of the register
-unique_is : (l : Layout) (name : TableName) (db : Trees) (r : Row) → has_table l name ≡ true → passes Unique (schema_in l) db (table_in l name) r ≡ true
+pub unique_is : (l : Layout) (name : TableName) (db : Trees) (r : Row) → has_table l name ≡ true → passes Unique (schema_in l) db (table_in l name) r ≡ true
     → clashes plain (first_columns 1 (keys_in name)) (db (tree_in l name)) r ≡ false
 unique_is OfOne Meta db r has h = clear _ h
 unique_is AsMade Meta db r has h = clear _ h
@@ -120,7 +120,7 @@ other_than Less h = refl
 other_than Equal h = absurd cc
 other_than Greater h = refl
 
-differ_is : (x y : Value) → is_int x ≡ true → is_int y ≡ true → is_eq (value_cmp x y) ≡ false → differ x y ≡ true
+pub differ_is : (x y : Value) → is_int x ≡ true → is_int y ≡ true → is_eq (value_cmp x y) ≡ false → differ x y ≡ true
 unfolding binary value_cmp
 differ_is (Int m) (Int n) xs ys apart = says _ ∙ other_than _ apart
 differ_is (Int m) Null xs ys apart = absurd cc
@@ -179,13 +179,10 @@ module _ (name : TableName) (row : Row) (fits : fits_columns (columns_in name) r
       ap (λ values. cast_row (table_in l name) (column r 0 ∷ values)) (given_here (width_of name) 0 r ∙ values_all (width_of name) row (fits_length (columns_in name) row fits))
       ∙ ap (λ values. cast kind.Integer (column r 0) ∷ values) (cast_fits (columns_in name) row fits)
 
-  Uniques : Layout → Trees → Type 0
-  Uniques l next = AllByRecursion (λ r. passes Unique (schema_in l) next (table_in l name) r ≡ true) (next (tree_in l name))
-
   -- two of them break the rule of unique keys
-  never_two : (l : Layout) (next : Trees) (left rest : List Row) (x y : Row) → has_table l name ≡ true → Uniques l next → next (tree_in l name) ≡ put_all left (x ∷ y ∷ rest)
+  never_two : (l : Layout) (next : Trees) (left rest : List Row) (x y : Row) → has_table l name ≡ true → AreUnique l next name → next (tree_in l name) ≡ put_all left (x ∷ y ∷ rest)
       → are_fresh left (x ∷ y ∷ rest) ≡ true → have_rowids (x ∷ y ∷ rest) ≡ true → IsMade x → IsMade y → ⊥
-  unfolding IsMade Uniques
+  unfolding IsMade
   never_two l next left rest x y there unique rows fresh keyed x_made y_made =
       let news = x ∷ y ∷ rest in
       let keys = first_columns 1 (keys_in name) in
@@ -227,7 +224,7 @@ module _ (name : TableName) (row : Row) (fits : fits_columns (columns_in name) r
           fit = rw (fits, left_has.fit) refl;
         })
 
-    rebuilt : (next : Trees) (news : List Row) (count : ℕ) → Uniques l next → next (tree_in l name) ≡ put_all left news → are_fresh left news ≡ true → have_rowids news ≡ true
+    rebuilt : (next : Trees) (news : List Row) (count : ℕ) → AreUnique l next name → next (tree_in l name) ≡ put_all left news → are_fresh left news ≡ true → have_rowids news ≡ true
         → All IsMade news → count ≡ length news → HasRows (columns_in name) (put_all left news) (after_replace count name row rows)
     unfolding key
     rebuilt next [] count unique now fresh keyed made counted = subst (λ n. HasRows (columns_in name) left (after_replace n name row rows)) (sym counted) left_has
@@ -239,7 +236,7 @@ module _ (name : TableName) (row : Row) (fits : fits_columns (columns_in name) r
 
   pub replaces : (old new : State) (count : ℕ) → has_table AsMade name ≡ true → ExecutesInside 0 (replace_sql name) row old new (Ok count)
       → Changes old new (with_rows name (after_replace count name row))
-  unfolding met left Uniques
+  unfolding met left
   replaces old new count here ran = runs_inside (replace_sql name) row old new count _ ran (λ l two t has.
       let there = in_two name here l two in
       let db = old.now.trees in
@@ -273,7 +270,7 @@ module _ (name : TableName) (row : Row) (fits : fits_columns (columns_in name) r
       (All-map IsMade stored _ (All-map (λ s. IsMade (stored s)) project (filter (is_met (key_tests name) row) tree) (λ i d low. made_is l (get_or (filter (is_met (key_tests name) row) tree) i d)))) in
       let counted : count ≡ length (map stored given.0) =
       w.counted ∙ ap (λ (p : Tally × Database). unwrap_or (Tally.rows p.0) 0) ended ∙ ap (λ (it : Written). length it.rows) wrote_is ∙ ap length news in
-      let uniques = all_at _ (schema_in l).tables (place_in l name) (table_in l name) (at_place l name there) (step.fits.rules Unique (λ same. let e = same in absurd cc)) in
+      let uniques = are_unique l name written.0 there (step.fits.rules Unique no_reference) in
       let built = rebuilt l there tree (rows_in l name t) (has.rows name there) written.0 (map stored given.0) count uniques rows
       (subst (λ n. are_fresh others n ≡ true) news (subst (λ x. are_fresh x it.news ≡ true) gone step.fresh))
       (subst (λ n. have_rowids n ≡ true) news step.keyed) made counted in

@@ -199,7 +199,7 @@ module _ (point : List ℕ) (more : Row) (terms : List Term) (change : Row → R
       changed_to l two old new NetworkPoint _ (changed_point point change) t refl did has built)
 
 -- ---- the two updates
-fits_set : (columns : List Column) (row : Row) (at : ℕ) (v : Value) → fits_columns columns row ≡ true → is_of_kind (slice_index_or (map (λ (c : Column). c.kind) columns) at Kind.Any) v ≡ true
+pub fits_set : (columns : List Column) (row : Row) (at : ℕ) (v : Value) → fits_columns columns row ≡ true → is_of_kind (slice_index_or (map (λ (c : Column). c.kind) columns) at Kind.Any) v ≡ true
     → fits_columns columns (slice_set row at v) ≡ true
 fits_set [] [] at v fits kind = refl
 fits_set [] (x ∷ row) at v fits kind = absurd cc
@@ -209,7 +209,7 @@ fits_set (c ∷ columns) (x ∷ row) (suc at) v fits kind =
     let parts = both_true (is_of_kind c.kind x) (fits_columns columns row) fits in
     rw (parts.0, fits_set columns row at v parts.1 kind) refl
 
-nine : (row : Row) → fits_columns point_columns row ≡ true → values_from 0 9 row ≡ row
+pub nine : (row : Row) → fits_columns point_columns row ≡ true → values_from 0 9 row ≡ row
 nine row fits = values_all 9 row (fits_length point_columns row fits)
 
 position_reads : (point : List ℕ) (v : Value) (r : Row) → fits_columns point_columns (drop 1 r) ≡ true

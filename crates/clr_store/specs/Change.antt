@@ -1,5 +1,5 @@
 -- What statements make of the tables, inside a transaction.
-use Rattle.std.specs.Prelude.{◌≡◌, ℕ, zero, suc, IsTrue, Bool, true, Result}
+use Rattle.std.specs.Prelude.{◌≡◌, ℕ, zero, suc, IsTrue, Bool, true, false, Result}
 use Rattle.std.specs.Prelude.{if◌then◌else◌, ◌==◌, List, [], take}
 use Rattle.std.specs.Prelude.{◌∷◌}
 use Rattle.std.specs.Prelude.{fold, map}
@@ -120,4 +120,18 @@ Replaces g old new name row result =
     RunsInside g old new IsOfDatabase
     (λ n. Changes (state g old.conn.now) (state g new.conn.now)
     (with_rows name (after_replace n name row)))
+    (λ _. KeepsCommit (state g old.conn.now) (state g new.conn.now)) result
+
+-- the tables with a row put where none has its key, or as they are
+abbrev pub after_insert : Bool → TableName → Row → Tables → Tables
+after_insert true name row t = with_rows name (with_table_row (keys_in name) row) t
+after_insert false name row t = t
+
+-- a call inside a transaction puts a row of a new key and says whether it did, or fails
+abbrev pub Inserts : {S : Type 0} → Ghosts S → Transaction S → Transaction S → TableName → Row
+    → Result Bool StoreFault → Type 0
+Inserts g old new name row result =
+    RunsInside g old new IsOfDatabase
+    (λ is_put. Changes (state g old.conn.now) (state g new.conn.now)
+    (after_insert is_put name row))
     (λ _. KeepsCommit (state g old.conn.now) (state g new.conn.now)) result

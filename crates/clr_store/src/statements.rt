@@ -4,7 +4,7 @@ ghost use Rattle.sqlite.specs.Held.{state};
 ghost use Rattle.sqlite.specs.State.{Survives};
 ghost use Rattle.sqlite.specs.Values.{bound};
 ghost use Rattle.clr_tables.specs.TableEdits.{without_table_row};
-ghost use Rattle.clr_store.specs.Change.{Does, Replaces, with_rows};
+ghost use Rattle.clr_store.specs.Change.{Does, Inserts, Replaces, with_rows};
 ghost use Rattle.clr_load.specs.Fault.{IsOfDatabase};
 ghost use Rattle.clr_load.specs.Layout.{AsMade, has_table};
 ghost use Rattle.clr_load.specs.Schema.{columns_in, keys_in};
@@ -14,7 +14,7 @@ use crate::sql::{delete_sql, insert_sql, replace_sql};
 use clr_load::StoreFault;
 use clr_tables::TableName;
 use sqlite::types::ValueRef;
-use sqlite::{Alter, Transaction};
+use sqlite::{Alter, Error, ErrorCode, Transaction};
 
 /// Inserts a row whose key is not there.
 pub(crate) fn insert_row<S: Alter>(
@@ -28,6 +28,24 @@ pub(crate) fn insert_row<S: Alter>(
 {
     tx.execute(insert_sql(table), row)?;
     Ok(())
+}
+
+/// Inserts a row if none of its key is there, and says whether it did.
+pub(crate) fn insert_new<S: Alter>(
+    tx: &mut Transaction<'_, S>,
+    table: TableName,
+    row: &[ValueRef<'_>],
+) -> Result<bool, StoreFault>
+    requires there { has_table AsMade table ≡ true }
+    requires fits { fits_columns (columns_in table) (bound row.now) ≡ true }
+    requires keyed { has_key (keys_in table) (take (keys_in table) (bound row.now)) ≡ true }
+    ensures { Inserts S.Store tx.old tx.new table (bound row.now) result }
+{
+    match tx.execute(insert_sql(table), row) {
+        Ok(_) => Ok(true),
+        Err(Error::SqliteFailure(ErrorCode::ConstraintViolation(_))) => Ok(false),
+        Err(error) => Err(StoreFault::from(error)),
+    }
 }
 
 /// Deletes the row of a key, if it is there.
