@@ -6,7 +6,10 @@ pub mod OneCommand
 pub mod Opened
 pub mod AtFault
 pub mod RunSteps
+pub mod Calls
+pub mod Staying
 pub mod Reopenings
 pub mod Keeping
+pub mod Givings
 pub mod NearRuns
 pub mod KeptNowhere

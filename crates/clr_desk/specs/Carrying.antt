@@ -15,6 +15,7 @@ use Rattle.clr_load.specs.declared.fault.StoreFault.{StoreFault}
 use Rattle.clr_tables.specs.Tables.{tables_of}
 use Rattle.clr_tables.specs.TypedRows.{is_typed_command}
 use Rattle.clr_desk.specs.Answering.{has_accepted}
+use Rattle.clr_desk.specs.Commit.{Stays}
 use Rattle.clr_desk.specs.Asking.{near_after, near_answer, near_network}
 use Rattle.clr_desk.specs.Crash.{AreAfter}
 use Rattle.clr_desk.specs.Faults.{IsOfKeeper}
@@ -50,7 +51,8 @@ pub record CarriesOut {K : Type 0} (kept : K → State) (fails : StoreFault → 
   pub unwritten : has_accepted result ≡ false → HasCleanDisk (kept new.store)
       → IsTrue (kept new.store).is_open → (kept new.store).now ≡ (kept old.store).now
   -- a command that is refused or shown does not touch what is kept
-  pub asked : IfOk result (λ reply. is_accepted reply ≡ false → new.store ≡ old.store)
+  pub asked : IfOk result
+      (λ reply. is_accepted reply ≡ false → Stays (kept old.store) (kept new.store))
   pub was_open : HasCleanDisk (kept new.store) → IsTrue (kept new.store).is_open
       → IsTrue (kept old.store).is_open
   -- what is shown is committed again

@@ -6,8 +6,10 @@ pub mod AtFault
 pub mod Faults
 pub mod Answering
 pub mod Commit
+pub mod Taking
 pub mod Crash
 pub mod Reopening
 pub mod Carrying
 pub mod Kept
+pub mod Given
 pub mod NearRun

@@ -1,47 +1,64 @@
 //! What keeps the changes of a desk: a store, or nothing.
-ghost use Rattle.std.specs.Prelude.{◌≡◌, IfErr, IsTrue};
+ghost use Rattle.std.specs.Prelude.{◌≡◌, IfErr, IsTrue, Result, true};
 ghost use Rattle.sqlite.specs.Held.{state};
 ghost use Rattle.sqlite.specs.State.{State};
 ghost use Rattle.sqlite.specs.Tree.{Trees};
+ghost use Rattle.clr_rules.specs.declared.command.Command.{Command};
+ghost use Rattle.clr_rules.specs.declared.reply.Reply.{Reply};
+ghost use Rattle.clr_answer.specs.Decision.{is_accepted};
 ghost use Rattle.clr_load.specs.Fault.{IsOfDatabase};
 ghost use Rattle.clr_load.specs.declared.fault.StoreFault.{StoreFault};
-ghost use Rattle.clr_desk.specs.Commit.{Commits, nothing};
+ghost use Rattle.clr_desk.specs.Commit.{Commits, Stays, nothing};
+ghost use Rattle.clr_desk.specs.Faults.{IsOfKeeper};
+ghost use Rattle.clr_desk.specs.Taking.{NeverFails, PassesOver, is_refused};
+ghost use Rattle.clr_desk.specs.declared.desk_fault.DeskFault.{DeskFault};
 
-use clr_load::StoreFault;
+use crate::desk_fault::DeskFault;
 use clr_rules::{Change, Command, Reply};
 use clr_store::Store;
 use sqlite::Alter;
 
-/// Keeps what accepted commands change, each change whole or not at all.
+/// Keeps what accepted commands change, each change whole or not at all, and may note the commands
+/// that are refused.
 pub trait Commit: Drop {
     /// What it shows, what a crash may leave of it, whether it is open and its disk clean.
     ghost kept: { Self → State };
 
-    /// Which faults it answers.
+    /// Which faults of a store it answers.
     ghost fails: { StoreFault → Type 0 };
 
-    /// Keeps the change of a command that is answered by a reply.
+    /// Which state a call with a command and its reply leads to, by what came of the call. Only the
+    /// calls of `commit` and `note_refused` are of this relation.
+    ghost takes: { Self → Command → Reply → Result (Unit {0}) DeskFault → Self → Type 0 };
+
+    /// Keeps the change of a command that is accepted with a reply.
     ///
     /// On a fault nothing of it is kept.
-    fn commit(
-        &mut self,
-        command: &Command,
-        reply: &Reply,
-        change: &Change,
-    ) -> Result<(), StoreFault>
+    fn commit(&mut self, command: &Command, reply: &Reply, change: &Change) -> Result<(), DeskFault>
+        requires accepted { is_accepted reply.now ≡ true }
         ensures commits { Commits (kept self.old) (kept self.new) change.now.edits.items result }
-        ensures fault { IfErr result fails };
+        ensures fault { IfErr result (IsOfKeeper fails) }
+        ensures taken { takes self.old command.now reply.now result self.new };
+
+    /// Notes a command that is refused with a reply. What is kept stays as it is.
+    fn note_refused(&mut self, command: &Command, reply: &Reply) -> Result<(), DeskFault>
+        requires refused { is_refused reply.now ≡ true }
+        ensures stays { Stays (kept self.old) (kept self.new) }
+        ensures fault { IfErr result (IsOfKeeper fails) }
+        ensures taken { takes self.old command.now reply.now result self.new };
 
     /// Between calls a crash leaves the last commit.
     ghost settled: { (keeper : Self) (trees : Trees) → IsTrue (kept keeper).is_open
         → (kept keeper).may_leave trees → trees ≡ (kept keeper).committed.trees };
 }
 
-/// A store keeps each change in its tables, in one transaction.
+/// A store keeps each change in its tables, in one transaction, and notes no refused command.
 impl<S: Alter + Drop> Commit for Store<S> {
     ghost kept = { λ store. state S.Store store };
 
     ghost fails = { IsOfDatabase };
+
+    ghost takes = { PassesOver };
 
     ghost settled = { λ store trees here left. S.Store.settled store.store trees here left };
 
@@ -50,8 +67,13 @@ impl<S: Alter + Drop> Commit for Store<S> {
         command: &Command,
         reply: &Reply,
         change: &Change,
-    ) -> Result<(), StoreFault> {
-        self.commit(change)
+    ) -> Result<(), DeskFault> {
+        self.commit(change)?;
+        Ok(())
+    }
+
+    fn note_refused(&mut self, command: &Command, reply: &Reply) -> Result<(), DeskFault> {
+        Ok(())
     }
 }
 
@@ -64,6 +86,8 @@ impl Commit for Unkept {
 
     ghost fails = { λ _. ⊥ };
 
+    ghost takes = { NeverFails };
+
     ghost settled = { λ _ trees here left. left };
 
     fn commit(
@@ -71,7 +95,11 @@ impl Commit for Unkept {
         command: &Command,
         reply: &Reply,
         change: &Change,
-    ) -> Result<(), StoreFault> {
+    ) -> Result<(), DeskFault> {
+        Ok(())
+    }
+
+    fn note_refused(&mut self, command: &Command, reply: &Reply) -> Result<(), DeskFault> {
         Ok(())
     }
 }

@@ -12,6 +12,7 @@ ghost use Rattle.clr_load.specs.Cause.{SqlHasCause};
 ghost use Rattle.clr_load.specs.Contract.{IsSaved};
 ghost use Rattle.clr_load.specs.Schema.{no_schema};
 ghost use Rattle.clr_load.specs.Stored.{AreTables, HasTables};
+ghost use Rattle.clr_desk.specs.Commit.{Stays};
 ghost use Rattle.clr_desk.specs.Crash.{LeavesSome};
 ghost use Rattle.clr_book.specs.Book.{Shelved};
 ghost use Rattle.clr_answer.specs.Decision.{is_accepted};
@@ -27,6 +28,7 @@ ghost use Rattle.clr_desk.specs.Carrying.{CarriesOut};
 ghost use Rattle.clr_desk.specs.Faults.{IsOfCommand, IsOfKeeper, count_after, of_store};
 ghost use Rattle.clr_desk.specs.Kept.{Keeps};
 ghost use Rattle.clr_desk.specs.NearRun.{IsNearRun, near_network_all};
+ghost use Rattle.clr_desk.specs.Taking.{Takes, TakesOne, TakesRun};
 
 use crate::asking::prepare;
 use crate::at_fault::table_in;
@@ -217,15 +219,19 @@ impl<K: Commit> Desk<K> {
         self.faults
     }
 
-    /// Carries out one command, but for the count of faults: answer, room, commit, change.
+    /// Carries out one command, but for the count of faults: answer, room, commit, change. A command
+    /// that is refused is passed on instead.
     fn carry_out(&mut self, command: &Command) -> Result<Reply, DeskFault>
         ensures carried { CarriesOut K.kept K.fails self.old self.new command.now result }
+        ensures taken { TakesOne K.takes self.old.book.register self.old.store command.now result
+            self.new.store }
         ensures faults { self.new.faults ≡ self.old.faults }
     {
         command.typed();
         let decision = prepare(&mut self.book, command)?;
         let Decision { reply, change } = decision;
         if !is_accepted(&reply) {
+            pass_on(&mut self.store, command, &reply)?;
             return Ok(reply);
         }
         self.store.commit(command, &reply, &change)?;
@@ -236,6 +242,8 @@ impl<K: Commit> Desk<K> {
     /// Carries out one command, and counts the fault, if it met one.
     fn answer(&mut self, command: &Command) -> Result<Reply, DeskFault>
         ensures carried { CarriesOut K.kept K.fails self.old self.new command.now result }
+        ensures taken { TakesOne K.takes self.old.book.register self.old.store command.now result
+            self.new.store }
         ensures faults { self.new.faults ≡ count_after (fault_of result) self.old.faults }
     {
         match self.carry_out(command) {
@@ -248,13 +256,16 @@ impl<K: Commit> Desk<K> {
     }
 
     /// Carries out a command: it is answered, and where it is accepted its change is committed, as
-    /// one, and made. A command that is refused, and `show`, commits nothing.
+    /// one, and made. A command that is refused, and `show`, commits nothing; what keeps the changes
+    /// may note the refused one.
     ///
     /// `Store` where what keeps the changes fails, as `Store(Sql)` where a database refuses or
     /// fails; `NoMemory` where memory runs out. A fault leaves the register as it was, and is
     /// counted.
     pub fn one(&mut self, command: Command) -> Result<Reply, DeskFault>
         ensures carried { CarriesOut K.kept K.fails self.old self.new command result }
+        ensures taken { TakesOne K.takes self.old.book.register self.old.store command result
+            self.new.store }
         ensures ran { IsGood self.old.book.register
             → IsRun self.old.book.register
             (with_reply (command ∷ []) (replies_of result)) (replies_of result)
@@ -305,6 +316,8 @@ impl<K: Commit> Desk<K> {
         ensures typed { IsTrue (list_all is_typed_command commands.items) }
         ensures faults { self.new.faults ≡ count_after result.fault self.old.faults }
         ensures cause { IfSome result.fault (IsOfKeeper K.fails) }
+        ensures taken { TakesRun K.takes self.new.book.register self.old.store commands.items
+            result.replies.items result.fault self.new.store }
         ensures unwritten { list_any is_accepted result.replies.items ≡ false
             → HasCleanDisk (K.kept self.new.store)
             → IsTrue (K.kept self.new.store).is_open
@@ -348,6 +361,19 @@ impl<K: Commit> Desk<K> {
             fault: None,
         }
     }
+}
+
+/// Passes a command that is refused on to what keeps the changes, and one that is shown to nobody.
+fn pass_on<K: Commit>(keeper: &mut K, command: &Command, reply: &Reply) -> Result<(), DeskFault>
+    requires { is_accepted reply.now ≡ false }
+    ensures stays { Stays (K.kept keeper.old) (K.kept keeper.new) }
+    ensures fault { IfErr result (IsOfKeeper K.fails) }
+    ensures taken { Takes K.takes keeper.old command.now reply.now result keeper.new }
+{
+    if let Reply::Refused(_) = reply {
+        keeper.note_refused(command, reply)?;
+    }
+    Ok(())
 }
 
 /// Whether a reply says that the command was carried out, and not refused or shown.

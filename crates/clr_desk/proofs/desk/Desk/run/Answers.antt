@@ -1,4 +1,4 @@
-use Rattle.std.proofs.Common.{rules, ◌≡◌, ◌∙◌, ◌<◌, ◌∷◌, ◌++◌, [], false, List, length, take, ap, arith, get_or, refl, subst, sym, ⊎_elim}
+use Rattle.std.proofs.Common.{rules, ◌≡◌, ◌∙◌, ◌<◌, ◌∷◌, ◌++◌, [], Err, false, List, length, take, ap, arith, get_or, refl, subst, sym, ⊎_elim}
 use Rattle.sqlite.specs.State.{HasCleanDisk}
 use Rattle.clr_rules.specs.Good.{IsGood}
 use Rattle.clr_rules.specs.Register.{Register}
@@ -10,6 +10,8 @@ use Rattle.clr_rules.proofs.isolation.RunReplies.{others_take_nothing}
 use Rattle.clr_rules.proofs.keeps.EveryKind.{commands_keep_good}
 use Rattle.clr_answer.specs.Decision.{is_accepted}
 use Rattle.clr_desk.specs.NearRun.{IsNearRun}
+use Rattle.clr_desk.specs.Taking.{TakesOne}
+use Rattle.clr_desk.proofs.Calls.{no_run, stops_at, takes_next, takes_none}
 use Rattle.clr_desk.proofs.Keeping.{keeps_itself, keeps_on, one_keeps}
 use Rattle.clr_desk.proofs.NearRuns.{near_ran_so_far, near_run_of_next, near_run_of_none, network_of_next, network_of_none, network_so_far, none_before}
 use Rattle.std.specs.List.{list_any}
@@ -31,6 +33,11 @@ returns-then-is_err-clause-near g c =
     let none : c.reserve.new.self.items ≡ [] = c.reserve.ensures.items ∙ c.new-replies.ensures.items in
     near_run_of_none c.args.self.now.book.register (with_reply commands c.reserve.new.self.items) c.reserve.new.self.items
     (ap (with_reply commands) none ∙ none_taken commands) none
+
+pub returns-then-is_err-clause-taken : goal.returns-then-is_err-clause-taken
+returns-then-is_err-clause-taken g c =
+    let none : c.reserve.new.self.items ≡ [] = c.reserve.ensures.items ∙ c.new-replies.ensures.items in
+    no_run g.K.Commit.takes c.args.self.now.book.register c.args.self.now.store c.args.commands.items c.reserve.new.self.items none (search rules)
 
 pub returns-then-is_err-clause-network : goal.returns-then-is_err-clause-network
 returns-then-is_err-clause-network g c =
@@ -81,6 +88,7 @@ loop-command-init g c =
       good = λ good. good;
       ran = λ good. run_of_none c.args.self.now.book.register (take 0 c.args.commands.items) c.reserve.new.self.items (none_taken c.args.commands.items) none;
       near = near_run_of_none c.args.self.now.book.register (take 0 c.args.commands.items) c.reserve.new.self.items (none_taken c.args.commands.items) none;
+      taken = takes_none g.K.Commit.takes c.args.self.now.store c.args.commands.items c.reserve.new.self.items none;
       network = network_of_none c.args.self.now.book.register (take 0 c.args.commands.items) c.args.self.now.book.network (none_taken c.args.commands.items);
       keeps = keeps_itself (g.K.Commit.kept c.args.self.now.store) c.args.self.now.book.register;
       unwritten = λ none clean shown. refl;
@@ -117,6 +125,8 @@ loop-command-preserved g c =
           (c.in-Ok.ensures.carried.reply (inv.good good)) (left good);
       near = near_run_of_next R X Y commands i q c.loop-command.replies.items c.push.new.self.items c.in-Ok.reply within at
           (search rules) inv.near c.in-Ok.ensures.carried.near c.in-Ok.ensures.carried.changed;
+      taken = takes_next g.K.Commit.takes c.args.self.now.store c.loop-command.self.store c.answer.new.self.store commands i q
+          c.loop-command.replies.items c.push.new.self.items c.in-Ok.reply within at inv.counted (search rules) inv.taken c.in-Ok.ensures.taken;
       network = network_of_next R X c.args.self.now.book.network c.loop-command.self.book.network c.answer.new.self.book.network commands i q within at
           inv.near.register inv.network c.in-Ok.ensures.carried.network;
       keeps = keeps_on (g.K.Commit.kept c.args.self.now.store) mid new R X Y inv.keeps
@@ -140,6 +150,23 @@ returns-in-Err-clause-near g c =
     subst (λ (S : Register). IsNearRun R (with_reply c.args.commands.items told) told S) (sym (c.in-Err.ensures.carried.unchanged refl))
     (near_ran_so_far R c.loop-command.self.book.register c.args.commands.items told c.loop-command.command-index c.loop-command.invariant.counted
     c.loop-command.invariant.near)
+
+pub returns-in-Err-clause-taken : goal.returns-in-Err-clause-taken
+returns-in-Err-clause-taken g c =
+    let commands = c.args.commands.items in
+    let i = c.loop-command.command-index in
+    let q = c.command-item.result in
+    let same = c.as_slice-command-items.ensures.value in
+    let within : i < length commands = subst (λ (l : List Command). i < length l) same c.loop-command-test.true in
+    let at : q ≡ get_or commands i q = c.command-item.is ∙ ap (λ (l : List Command). get_or l i q) same in
+    let back : c.answer.new.self.book.register ≡ c.loop-command.self.book.register = c.in-Err.ensures.carried.unchanged refl in (
+      c.loop-command.self.store,
+      c.loop-command.invariant.taken,
+      stops_at g.K.Commit.takes c.answer.new.self.book.register c.loop-command.self.store c.answer.new.self.store commands i q
+          (length c.loop-command.replies.items) c.in-Err.fault within at c.loop-command.invariant.counted
+          (subst (λ (R : Register). TakesOne g.K.Commit.takes R c.loop-command.self.store q (Err c.in-Err.fault) c.answer.new.self.store)
+          (sym back) c.in-Err.ensures.taken),
+    )
 
 pub returns-in-Err-clause-network : goal.returns-in-Err-clause-network
 returns-in-Err-clause-network g c =
@@ -207,6 +234,9 @@ pub returns-clause-near : goal.returns-clause-near
 returns-clause-near g c =
     near_ran_so_far c.args.self.now.book.register c.loop-command.self.book.register c.args.commands.items c.loop-command.replies.items
     c.loop-command.command-index c.loop-command.invariant.counted c.loop-command.invariant.near
+
+pub returns-clause-taken : goal.returns-clause-taken
+returns-clause-taken g c = (c.loop-command.self.store, c.loop-command.invariant.taken, refl)
 
 pub returns-clause-network : goal.returns-clause-network
 returns-clause-network g c =

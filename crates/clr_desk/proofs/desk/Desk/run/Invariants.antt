@@ -3,6 +3,7 @@ use Rattle.std.specs.List.{list_any}
 use Rattle.clr_answer.specs.Decision.{is_accepted}
 use Rattle.clr_desk.specs.Kept.{Keeps}
 use Rattle.clr_desk.specs.NearRun.{IsNearRun, near_network_all}
+use Rattle.clr_desk.specs.Taking.{TakesAll}
 use Rattle.sqlite.specs.State.{HasCleanDisk}
 use Rattle.clr_rules.specs.Good.{IsGood}
 use Rattle.clr_rules.specs.RunHeadline.{IsRun}
@@ -25,6 +26,7 @@ invariant-loop-command g l =
       good : IsGood R → IsGood l.self.book.register;
       ran : IsGood R → IsRun R (take l.command-index l.fn.commands.items) l.replies.items l.self.book.register;
       near : IsNearRun R (take l.command-index l.fn.commands.items) l.replies.items l.self.book.register;
+      taken : TakesAll g.K.Commit.takes l.fn.self.store l.fn.commands.items l.replies.items l.self.store;
       network : l.self.book.network ≡ near_network_all R (take l.command-index l.fn.commands.items) l.fn.self.book.network;
       keeps : Keeps old R now l.self.book.register;
       unwritten : list_any is_accepted l.replies.items ≡ false → HasCleanDisk now → IsTrue now.is_open → now.now ≡ old.now;
