@@ -1,7 +1,7 @@
 //! A desk keeps a register that can be served, whatever keeps its changes.
 ghost use Rattle.std.specs.Prelude.{◌≡◌};
-ghost use Rattle.clr_desk.specs.Kept.{Keeps};
-ghost use Rattle.clr_desk.proofs.Keeping.{keeps_itself, keeps_on};
+ghost use Rattle.clr_desk.specs.Given.{LeadsTo};
+ghost use Rattle.clr_desk.proofs.Givings.{leads_itself, leads_on};
 
 use crate::registrar::Registrar;
 use clr_desk::{Commit, Desk};
@@ -12,12 +12,11 @@ use std::alloc::{AllocError, Global};
 impl<K: Commit> Registrar for Desk<K> {
     ghost keeper = { λ d. record { register = d.book.register; faults = d.faults } };
 
-    ghost leads_to = { λ before behind. Keeps (K.kept before.store) before.book.register
-        (K.kept behind.store) behind.book.register };
+    ghost leads_to = { λ before behind. LeadsTo K.kept K.takes before behind };
 
-    ghost stays = { λ _. keeps_itself _ _ };
+    ghost stays = { λ one. leads_itself K.kept K.takes one };
 
-    ghost goes_on = { λ _ _ _. keeps_on _ _ _ _ _ _ };
+    ghost goes_on = { λ before between behind. leads_on K.kept K.takes before between behind };
 
     fn faults(&self) -> u64 {
         self.faults()
