@@ -35,9 +35,13 @@ pub record AsksFence (rows : List Row) (args : FenceArgs) : Type 0 where
   pub work : args.work.now ≡ word_in rows (codes "WORK")
   pub cut : map (λ word. word.now) args.cut.items ≡ words_in rows (codes "CUT")
 
+-- the arguments SECTIONS, POINTS and STAFF are the paths of three files
+abbrev pub AsksFiles : List Row → Files → Type 0
+AsksFiles rows files = AreFiles (word_in rows (codes "SECTIONS")) (word_in rows (codes "POINTS"))
+    (word_in rows (codes "STAFF")) files
+
 pub record AsksInit (rows : List Row) (args : InitArgs) : Type 0 where
-  pub files : AreFiles (word_in rows (codes "SECTIONS")) (word_in rows (codes "POINTS"))
-      (word_in rows (codes "STAFF")) args.files
+  pub files : AsksFiles rows args.files
   pub database : option_map (λ path. path.now) args.database ≡ first_of (codes "db") rows
 
 -- a run is asked for over a database, where no files are named, or over three files
@@ -81,6 +85,7 @@ pub record AsksServe (rows : List Row) (args : ServeArgs) : Type 0 where
 -- THE SUBCOMMAND of this name is asked for, on the words that its arguments were given
 abbrev pub Asks : Text → List Row → Asked → Type 0
 Asks name rows (asked.Fence args) = (name ≡ codes "fence") × AsksFence rows args
+Asks name rows (asked.Check files) = (name ≡ codes "check") × AsksFiles rows files
 Asks name rows (asked.Init args) = (name ≡ codes "init") × AsksInit rows args
 Asks name rows (asked.Run args) = (name ≡ codes "run") × AsksRun rows args
 Asks name rows (asked.Order args) = (name ≡ codes "order") × AsksOrder rows args
@@ -93,6 +98,7 @@ Asks name rows (asked.Migrate path) = (name ≡ codes "migrate")
 -- no subcommand has this name
 pub record IsNoSubcommand (name : Text) : Type 0 where
   pub fence : name ≢ codes "fence"
+  pub check : name ≢ codes "check"
   pub init : name ≢ codes "init"
   pub run : name ≢ codes "run"
   pub order : name ≢ codes "order"

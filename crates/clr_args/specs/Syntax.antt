@@ -36,6 +36,10 @@ abbrev pub fence : App
 fence = with_rule (with_rule (with_files (new_app (codes "fence"))) (required_rule (codes "WORK")))
     (repeated_rule (codes "CUT"))
 
+-- `check SECTIONS POINTS STAFF`
+abbrev pub check : App
+check = with_rule (with_files (new_app (codes "check"))) (required_rule (codes "STAFF"))
+
 -- `init SECTIONS POINTS STAFF [--db FILE]`
 abbrev pub init : App
 init = with_rule (with_rule (with_files (new_app (codes "init"))) (required_rule (codes "STAFF")))
@@ -86,6 +90,6 @@ top = record {
 -- the program with its subcommands
 abbrev pub gridclear : App
 gridclear =
-    with_subcommand (with_subcommand (with_subcommand (with_subcommand
-    (with_subcommand (with_subcommand (with_subcommand (with_subcommand top fence.top) init.top)
-    run.top) order.top) board.top) wayback.top) serve.top) migrate.top
+    with_subcommand (with_subcommand (with_subcommand (with_subcommand (with_subcommand
+    (with_subcommand (with_subcommand (with_subcommand (with_subcommand top fence.top) check.top)
+    init.top) run.top) order.top) board.top) wayback.top) serve.top) migrate.top

@@ -1,8 +1,8 @@
 //! What the words of a command line come to: what they ask for, help, or why they do not parse.
 ghost use Rattle.std.specs.Prelude.{◌≢◌, IfOk, MatchOption, map};
 ghost use Rattle.clap.specs.Words.{found_of, kind_of, rows_of};
-ghost use Rattle.clr_args.specs.Parsed.{AsksBoard, AsksFence, AsksInit, AsksOrder, AsksRun};
-ghost use Rattle.clr_args.specs.Parsed.{AsksServe, AsksWayBack, IsNoRun, IsParsedAs, IsSaid};
+ghost use Rattle.clr_args.specs.Parsed.{AsksBoard, AsksFence, AsksFiles, AsksInit, AsksOrder};
+ghost use Rattle.clr_args.specs.Parsed.{AsksRun, AsksServe, AsksWayBack, IsNoRun, IsParsedAs, IsSaid};
 ghost use Rattle.clr_args.specs.Parsed.{Parses};
 
 use crate::asked::{
@@ -73,6 +73,7 @@ fn asked<'a>(alloc: Global, name: &str, matches: &ArgMatches<'a>) -> Result<Pars
             let args = fence_args(alloc, matches)?;
             Ok(Parsed::Asked(Asked::Fence(args)))
         }
+        "check" => Ok(Parsed::Asked(Asked::Check(three_files(matches)))),
         "init" => Ok(Parsed::Asked(Asked::Init(init_args(matches)))),
         "run" => match run_args(alloc, matches)? {
             Some(args) => Ok(Parsed::Asked(Asked::Run(args))),
@@ -109,16 +110,23 @@ fn fence_args<'a>(alloc: Global, matches: &ArgMatches<'a>) -> Result<FenceArgs<'
     })
 }
 
+/// The paths of the arguments `SECTIONS POINTS STAFF`, which are all that `check` asks for.
+fn three_files<'a>(matches: &ArgMatches<'a>) -> Files<'a>
+    ensures { AsksFiles (rows_of (found_of matches.now)) result }
+{
+    Files {
+        sections: word_of(matches, "SECTIONS"),
+        points: word_of(matches, "POINTS"),
+        staff: word_of(matches, "STAFF"),
+    }
+}
+
 /// What `init SECTIONS POINTS STAFF [--db FILE]` asks for.
 fn init_args<'a>(matches: &ArgMatches<'a>) -> InitArgs<'a>
     ensures { AsksInit (rows_of (found_of matches.now)) result }
 {
     InitArgs {
-        files: Files {
-            sections: word_of(matches, "SECTIONS"),
-            points: word_of(matches, "POINTS"),
-            staff: word_of(matches, "STAFF"),
-        },
+        files: three_files(matches),
         database: option_of(matches, "db"),
     }
 }

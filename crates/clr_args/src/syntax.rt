@@ -5,6 +5,7 @@ ghost use Rattle.clr_args.specs.Syntax.{gridclear, top};
 
 mod arguments;
 mod board;
+mod check;
 mod fence;
 mod init;
 mod migrate;
@@ -40,8 +41,10 @@ pub fn command<'a>(alloc: Global) -> Result<Command<'a>, AllocError>
     let bare = top(alloc);
     let fence = fence::command(alloc)?;
     let with_fence = bare.subcommand(fence)?;
+    let check = check::command(alloc)?;
+    let with_check = with_fence.subcommand(check)?;
     let init = init::command(alloc)?;
-    let with_init = with_fence.subcommand(init)?;
+    let with_init = with_check.subcommand(init)?;
     let run = run::command(alloc)?;
     let with_run = with_init.subcommand(run)?;
     let order = order::command(alloc)?;

@@ -1,7 +1,7 @@
 use Rattle.std.proofs.Common.{◌≡◌, ◌∙◌, ap, ap₂}
 use Rattle.clap.specs.Words.{App, Shape, shape_of, with_subcommand}
 use Rattle.clap.proofs.SimpleLemmas.{plain_fields}
-use Rattle.clr_args.specs.Syntax.{board, fence, init, migrate, order, run, serve, wayback}
+use Rattle.clr_args.specs.Syntax.{board, check, fence, init, migrate, order, run, serve, wayback}
 use Rattle.clr_args.proofs.syntax.command.Goals as goal
 
 -- each subcommand is a plain one, so it has no global argument
@@ -9,6 +9,8 @@ pub returns : goal.returns
 returns c =
     let fence_is : shape_of c.in_ok-fence.fence ≡ fence.top = ap (λ (a : App). a.top) c.in_ok-fence.ensures in
     let fence_plain = plain_fields c.in_ok-fence.fence (ap (λ (s : Shape). s.is_plain) fence_is) in
+    let check_is : shape_of c.in_ok-check.check ≡ check.top = ap (λ (a : App). a.top) c.in_ok-check.ensures in
+    let check_plain = plain_fields c.in_ok-check.check (ap (λ (s : Shape). s.is_plain) check_is) in
     let init_is : shape_of c.in_ok-init.init ≡ init.top = ap (λ (a : App). a.top) c.in_ok-init.ensures in
     let init_plain = plain_fields c.in_ok-init.init (ap (λ (s : Shape). s.is_plain) init_is) in
     let run_is : shape_of c.in_ok-run.run' ≡ run.top = ap (λ (a : App). a.top) c.in_ok-run.ensures in
@@ -24,7 +26,8 @@ returns c =
     let migrate_is : shape_of c.in_ok-migrate.migrate ≡ migrate.top = ap (λ (a : App). a.top) c.in_ok-migrate.ensures in
     let migrate_plain = plain_fields c.in_ok-migrate.migrate (ap (λ (s : Shape). s.is_plain) migrate_is) in
     let with_fence = c.in_ok-with_fence.ensures.shape fence_plain.globals ∙ ap₂ with_subcommand c.top-bare.ensures fence_is in
-    let with_init = c.in_ok-with_init.ensures.shape init_plain.globals ∙ ap₂ with_subcommand with_fence init_is in
+    let with_check = c.in_ok-with_check.ensures.shape check_plain.globals ∙ ap₂ with_subcommand with_fence check_is in
+    let with_init = c.in_ok-with_init.ensures.shape init_plain.globals ∙ ap₂ with_subcommand with_check init_is in
     let with_run = c.in_ok-with_run.ensures.shape run_plain.globals ∙ ap₂ with_subcommand with_init run_is in
     let with_order = c.in_ok-with_order.ensures.shape order_plain.globals ∙ ap₂ with_subcommand with_run order_is in
     let with_board = c.in_ok-with_board.ensures.shape board_plain.globals ∙ ap₂ with_subcommand with_order board_is in
