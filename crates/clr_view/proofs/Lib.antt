@@ -1,0 +1,2 @@
+pub mod FedSections
+pub mod NoFloats

@@ -1,0 +1,8 @@
+//! The network as a page draws it.
+#![tactic(auto)]
+
+mod live;
+mod values;
+mod view;
+
+pub use view::network_text;
