@@ -1,0 +1,96 @@
+-- WHAT A JOURNAL SAYS: its lines, each the next of the one before; and the commands that were
+-- carried out.
+use Rattle.std.specs.Prelude.{◌≡◌, ◌+◌, ◌-◌, ◌^◌, ◌==◌, ◌&&◌, ℕ, Bool, true, false, not, min, ⊤}
+use Rattle.std.specs.Prelude.{List, [], ◌∷◌, map, Option, None, Some, Result, Ok, Err, ok_or}
+use Rattle.std.specs.Prelude.{if◌then◌else◌, option_and_then}
+use Rattle.serde_json.specs.Data.{Data}
+use Rattle.clr_append.specs.Lines.{ended_lines, text_of}
+use Rattle.clr_result.specs.Results.{◌>>=◌}
+use Rattle.clr_rules.specs.declared.command.Command.{Command}
+use Rattle.clr_journal.specs.Line.{Entry, carried, withdrawn, is_accepted, line_text, read_line}
+use Rattle.clr_journal.specs.declared.fault.JournalFault.{JournalFault}
+use Rattle.clr_journal.specs.declared.fault.JournalFault.TheVariants.{BadLine, NoMemory}
+use Rattle.clr_journal.specs.declared.reading.Turn.{Turn}
+
+-- before the first line no command has a number, and none may be withdrawn
+abbrev pub first_turn : Turn
+first_turn = record { last = 0; is_open = false }
+
+-- WHICH LINE IS THE NEXT: commands are numbered from 1 on; the last command may be withdrawn where
+-- it was accepted, before the next one
+abbrev pub is_next : Turn → Entry → Bool
+is_next turn (carried receipt q reply) = receipt.number == turn.last + 1
+is_next turn (withdrawn n) = turn.is_open && (n == turn.last)
+
+abbrev pub turn_after : Entry → Turn
+turn_after (carried receipt q reply) =
+    record { last = receipt.number; is_open = is_accepted reply }
+turn_after (withdrawn n) = record { last = n; is_open = false }
+
+-- THE LINES ARE IN TURN
+unfoldable pub in_turn : Turn → List Entry → Bool
+in_turn turn [] = true
+in_turn turn (entry ∷ rest) = is_next turn entry && in_turn (turn_after entry) rest
+
+-- ---- reading
+
+abbrev pub if_next : Turn → Entry → Option Entry
+if_next turn entry = if is_next turn entry then Some entry else None
+
+-- what a text says, if it is a line and the next
+abbrev pub next_line : Turn → List ℕ → Option Entry
+next_line turn text = option_and_then (if_next turn) (read_line text)
+
+-- the place of the next line, counted from 1; it stops at the greatest number
+abbrev pub next_place : ℕ → ℕ
+next_place place = min (place + 1) (2 ^ 64 - 1)
+
+-- the lines of these texts, or the place of the first that is no line, or not the next
+unfoldable pub lines_read : ℕ → Turn → List (List ℕ) → Result (List Entry) JournalFault
+lines_read place turn [] = Ok []
+lines_read place turn (text ∷ texts) =
+    ok_or (next_line turn text) (BadLine place)
+    >>= λ entry. lines_read (next_place place) (turn_after entry) texts
+    >>= λ rest. Ok (entry ∷ rest)
+
+-- THE LINES OF A JOURNAL, by its bytes: those that a line feed ends
+abbrev pub read_journal : List ℕ → Result (List Entry) JournalFault
+read_journal bytes = lines_read 1 first_turn (ended_lines bytes)
+
+-- the bytes of a journal with these lines
+abbrev pub journal_text : List Entry → List ℕ
+journal_text entries = text_of (map line_text entries)
+
+-- ---- the commands
+
+-- the next line withdraws
+abbrev pub withdraws : List Entry → Bool
+withdraws [] = false
+withdraws (carried receipt q reply ∷ rest) = false
+withdraws (withdrawn n ∷ rest) = true
+
+-- a command that was accepted and is not withdrawn, with its reply
+abbrev pub own_pair : Entry → List Entry → Option (Command × Data)
+own_pair (withdrawn n) rest = None
+own_pair (carried receipt q reply) rest =
+    if is_accepted reply && not (withdraws rest) then Some (q, reply) else None
+
+abbrev pub onto_some : {A : Type 0} → Option A → List A → List A
+onto_some None xs = xs
+onto_some (Some x) xs = x ∷ xs
+
+-- THE COMMANDS THAT WERE CARRIED OUT, each with its reply
+unfoldable pub carried_out : List Entry → List (Command × Data)
+carried_out [] = []
+carried_out (entry ∷ rest) = onto_some (own_pair entry rest) (carried_out rest)
+
+abbrev pub commands_of : List Entry → List Command
+commands_of entries = map (λ pair. pair.0) (carried_out entries)
+
+-- ---- how an answer follows the one that is given
+
+-- only want of memory may come in its place
+abbrev pub Gives : {X A : Type 0} → (X → A) → Result X JournalFault → Result A JournalFault → Type 0
+Gives seen (Ok x) said = said ≡ Ok (seen x)
+Gives seen (Err (BadLine place)) said = said ≡ Err (BadLine place)
+Gives seen (Err NoMemory) said = ⊤

@@ -1,0 +1,87 @@
+//! The text of a line.
+ghost use Rattle.std.specs.Prelude.{◌≡◌, IfOk, Some, string_bytes, true};
+ghost use Rattle.serde_json.specs.View.{view};
+ghost use Rattle.serde_json.specs.Data.{string};
+ghost use Rattle.clr_text.specs.CommandText.{has_its_moment};
+ghost use Rattle.clr_text.specs.Json.{optional_data};
+ghost use Rattle.clr_text.specs.Replies.{reply_data};
+ghost use Rattle.clr_journal.specs.Line.{carried, entry_data, line_text, read_line, withdrawn};
+
+use crate::line::Receipt;
+use clr_rules::{Command, Reply, Text};
+use clr_text::{can_be_sent, command_value, reply_value};
+use serde_json::{Value, json};
+use std::alloc::{AllocError, Global};
+
+/// The line of a command and its reply, without a line feed. It reads as that line; that of a
+/// `show` or `jumper`, whose text states no moment, only where its moment is 0.
+pub fn print_carried(
+    alloc: Global,
+    receipt: &Receipt,
+    command: &Command,
+    reply: &Reply,
+) -> Result<String, AllocError>
+    ensures text { IfOk result (λ text. string_bytes text
+        ≡ line_text (carried receipt.now command.now (reply_data reply.now))) }
+    ensures reads { IfOk result (λ text. has_its_moment command.now ≡ true
+        → read_line (string_bytes text)
+        ≡ Some (carried receipt.now command.now (reply_data reply.now))) }
+{
+    can_be_sent(command);
+    let value = carried_value(alloc, receipt, command, reply)?;
+    let text = value.to_string(alloc)?;
+    let _bytes = text.as_str();
+    Ok(text)
+}
+
+/// The line that withdraws the command of a number, without a line feed. It reads as that line.
+pub fn print_withdrawn(alloc: Global, number: u64) -> Result<String, AllocError>
+    ensures text { IfOk result (λ text. string_bytes text
+        ≡ line_text (withdrawn number)) }
+    ensures reads { IfOk result (λ text. read_line (string_bytes text)
+        ≡ Some (withdrawn number)) }
+{
+    let value = withdrawn_value(alloc, number)?;
+    let text = value.to_string(alloc)?;
+    let _bytes = text.as_str();
+    Ok(text)
+}
+
+/// The JSON value of a command and its reply.
+fn carried_value(
+    alloc: Global,
+    receipt: &Receipt,
+    command: &Command,
+    reply: &Reply,
+) -> Result<Value, AllocError>
+    ensures { IfOk result (λ value. view value
+        ≡ entry_data (carried receipt.now command.now (reply_data reply.now))) }
+{
+    let login = login_value(alloc, &receipt.login)?;
+    let command = command_value(alloc, command)?;
+    let reply = reply_value(alloc, reply)?;
+    json!(in alloc; {
+        "command": command,
+        "login": login,
+        "number": receipt.number,
+        "received": receipt.received,
+        "reply": reply
+    })
+}
+
+/// A login as a JSON value: a text, or null.
+fn login_value(alloc: Global, login: &Option<Text>) -> Result<Value, AllocError>
+    ensures { IfOk result (λ value. view value ≡ optional_data string login.now) }
+{
+    match login {
+        Some(login) => Value::try_from_str(alloc, login.as_str()),
+        None => Ok(Value::Null),
+    }
+}
+
+/// The JSON value that withdraws the command of a number.
+fn withdrawn_value(alloc: Global, number: u64) -> Result<Value, AllocError>
+    ensures { IfOk result (λ value. view value ≡ entry_data (withdrawn number)) }
+{
+    json!(in alloc; {"number": number, "withdrawn": true})
+}
