@@ -1,0 +1,3 @@
+pub mod NoCommand
+pub mod Sent
+pub mod OneClearance
