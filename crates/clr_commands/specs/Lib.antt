@@ -1,4 +1,5 @@
 pub mod Answers
+pub mod Check
 pub mod Connections
 pub mod ConnectionLaws
 pub mod Faults

@@ -2,6 +2,7 @@
 #![tactic(auto)]
 
 pub mod board;
+pub mod check;
 pub mod fence;
 pub mod import;
 pub mod init;

@@ -28,7 +28,7 @@ returns-in-Ok g c =
             (g.E.CountedWrite.stream c.args.errors.now) (g.E.CountedWrite.stream c.serve_desk-served.new.errors) first last c.serve_desk-served.result
             c.args.net.now c.serve_desk-served.new.net c.serve_desk-served.ensures.served c.in-Ok.ensures.good;
         keeps = subst (λ (h : Held g.row.S.Denot). Keeps (state g.S.Store c.in-Ok.desk.store) c.in-Ok.desk.book.register (state g.S.Store h) c.serve_desk-served.new.desk.book.register)
-            (sym same) c.serve_desk-served.ensures.led;
+            (sym same) c.serve_desk-served.ensures.led.keeps;
         unserved = unserved_as c.serve_desk-served.result (λ (d : Desk (Held g.row.S.Denot)). d.store) _ _ _ same c.serve_desk-served.ensures.unserved;
       });
     }
