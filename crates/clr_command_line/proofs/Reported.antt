@@ -4,21 +4,24 @@ use Rattle.std.specs.Prelude.{◌≢◌, IfErr, IfSome, Option, Some, None, Stri
 use Rattle.std.specs.declared.alloc.Global.{Global}
 use Rattle.std.specs.declared.io.ErrorKind.{ErrorKind}
 use Rattle.std.specs.declared.io.ErrorKind.TheVariants.{OutOfMemory}
+use Rattle.sqlite_disk.specs.declared.Disk as disk
 use Rattle.clr_args.specs.Parsed.{MayAnswer, Parses}
 use Rattle.clr_args.proofs.ParsedWords.{MayAnswer-parsed}
 use Rattle.clr_args.specs.declared.asked.Asked.{Asked}
 use Rattle.clr_args.specs.declared.asked.Asked.TheVariants as asked
 use Rattle.clr_args.specs.declared.parsing.Parsed.{Parsed}
 use Rattle.clr_args.specs.declared.parsing.Parsed.TheVariants as parsed
-use Rattle.clr_edge.specs.Visit.{Done}
+use Rattle.clr_edge.specs.Visit.{Done, Ending, Opening, Shutting}
 use Rattle.clr_edge.specs.declared.fault.Fault.{Fault}
 use Rattle.clr_edge.specs.declared.fault.Fault.TheVariants.{Memory, Output}
-use Rattle.clr_commands.specs.Connections.{ReportsFirst}
+use Rattle.clr_edge.specs.declared.loopback.Loopback as loopback
+use Rattle.clr_commands.specs.Connections.{ReportsFirst, Seen}
+use Rattle.clr_commands.specs.Paths.{AtPaths}
 use Rattle.clr_commands.specs.Faults.{FailsAsSubcommand, IsOfSubcommand}
 use Rattle.clr_commands.specs.declared.replies.Printed.{Printed}
 use Rattle.clr_commands.proofs.Written.{Writes, serve_written}
 use Rattle.clr_stream.specs.Streams.{Stream}
-use Rattle.clr_command_line.specs.CommandLine.{AnswersNone, Around, CarriesOut, DoesParsed, Moment}
+use Rattle.clr_command_line.specs.CommandLine.{AnswersNone, CarriesOut, DoesParsed, Moment}
 use Rattle.clr_command_line.specs.Report.{HasServed, IsFaulted, IsReported, Reports, ReportsFault, ReportsRun, ReportsServed, ReportsText}
 
 -- a fault, at which nothing went to the output
@@ -94,23 +97,6 @@ reported_served port count (Err fault) status output output' errors middle error
   unread = λ two. absurd (omega (arith, one, two));
 }
 
-module _ (world : Around) (status : ℕ) (before after : Moment world) where
-  abbrev Reported : Type 0
-  Reported = IsReported status before.output after.output before.errors after.errors
-
-  carried_out : (what : Asked) → CarriesOut world what status before after → Reported
-  carried_out (asked.Fence args) (answer, does, own, untouched, reports) = reported answer status _ _ _ _ own reports
-  carried_out (asked.Init args) (answer, does, own, untouched, reports) = reported answer status _ _ _ _ own reports
-  carried_out (asked.Run args) (answer, does, own, reads, reports) = reported_run answer status _ _ _ _ own reports
-  carried_out (asked.Order args) (answer, does, own, untouched, reports) = reported answer status _ _ _ _ own reports
-  carried_out (asked.Board args) (answer, does, own, untouched, reports) = reported answer status _ _ _ _ own reports
-  carried_out (asked.WayBack args) (answer, does, own, untouched, reports) = reported answer status _ _ _ _ own reports
-  carried_out (asked.Serve args) (served, middle, untouched, serves, reports) =
-      reported_served args.port args.count served status before.output after.output before.errors middle after.errors
-      (serve_written world.net world.seen args.port args.count before.output after.output before.errors middle world.ghosts world.opens world.shuts
-      world.ends args.database.now served before.machine after.machine serves) reports
-  carried_out (asked.Migrate path) (answer, does, own, untouched, reports) = reported answer status _ _ _ _ own reports
-
 unread : (status : ℕ) (output output' errors errors' : Stream) → status ≡ 2 → output' ≡ output → IsReported status output output' errors errors'
 unread status output output' errors errors' two same = record {
   statuses = omega (arith, two);
@@ -119,26 +105,45 @@ unread status output output' errors errors' two same = record {
   unread = λ _. same;
 }
 
-pub does : (world : Around) (what : Parsed) (status : ℕ) (before after : Moment world) → DoesParsed world what status before after
-    → IsReported status before.output after.output before.errors after.errors
-does world (parsed.Asked what) status before after is = carried_out world status before after what is
-does world (parsed.Help text) status before after (untouched, is) = reported_text _ None status _ _ _ _ tt is
-does world (parsed.Unread text) status before after (untouched, two, same, line) = unread status _ _ _ _ two same
+module _ {M D L R W I : Type 0} (g : disk.Ghosts D) (makes opens : Opening M D) (shuts : Shutting M) (ends : Ending M D)
+    (net : loopback.Ghosts M L R W) (seen : Seen R W) (files : AtPaths) (remaining : I → Option (List ℕ)) (failures : I → ℕ) where
+  carried_out : (what : Asked) (status : ℕ) (before after : Moment M I)
+      → CarriesOut g makes opens shuts ends net seen files remaining failures what status before after
+      → IsReported status before.output after.output before.errors after.errors
+  carried_out (asked.Fence args) status before after (answer, does, own, untouched, reports) = reported answer status _ _ _ _ own reports
+  carried_out (asked.Check three) status before after (answer, does, own, untouched, reports) = reported answer status _ _ _ _ own reports
+  carried_out (asked.Init args) status before after (answer, does, own, untouched, reports) = reported answer status _ _ _ _ own reports
+  carried_out (asked.Run args) status before after (answer, does, own, reads, reports) = reported_run answer status _ _ _ _ own reports
+  carried_out (asked.Order args) status before after (answer, does, own, untouched, reports) = reported answer status _ _ _ _ own reports
+  carried_out (asked.Board args) status before after (answer, does, own, untouched, reports) = reported answer status _ _ _ _ own reports
+  carried_out (asked.WayBack args) status before after (answer, does, own, untouched, reports) = reported answer status _ _ _ _ own reports
+  carried_out (asked.Serve args) status before after (served, middle, untouched, serves, reports) =
+      reported_served args.port args.count served status before.output after.output before.errors middle after.errors
+      (serve_written net seen args.port args.count before.output after.output before.errors middle g opens shuts ends args.database.now served
+      before.machine after.machine serves) reports
+  carried_out (asked.Migrate path) status before after (answer, does, own, untouched, reports) = reported answer status _ _ _ _ own reports
+
+  pub does : (what : Parsed) (status : ℕ) (before after : Moment M I)
+      → DoesParsed g makes opens shuts ends net seen files remaining failures what status before after
+      → IsReported status before.output after.output before.errors after.errors
+  does (parsed.Asked what) status before after is = carried_out what status before after is
+  does (parsed.Help text) status before after (untouched, is) = reported_text _ None status _ _ _ _ tt is
+  does (parsed.Unread text) status before after (untouched, two, same, line) = unread status _ _ _ _ two same
+
+  -- the status is 0 only for words that may have an answer
+  pub MayAnswer-does : (words : List (List ℕ)) (what : Parsed) (status : ℕ) (before after : Moment M I) → Parses words what
+      → DoesParsed g makes opens shuts ends net seen files remaining failures what status before after → status ≡ 0 → MayAnswer words
+  MayAnswer-does words (parsed.Asked what) status before after is is_done zero =
+      MayAnswer-parsed words (parsed.Asked what) is (λ unread. unread)
+  MayAnswer-does words (parsed.Help text) status before after is is_done zero =
+      MayAnswer-parsed words (parsed.Help text) is (λ unread. unread)
+  MayAnswer-does words (parsed.Unread text) status before after is (untouched, two, same, line) zero = absurd (omega (arith, zero, two))
 
 pub memory_is_no_output : Memory ≢ Output
 memory_is_no_output = λ e. cc e
 
 -- the same where there are no words
-pub IsReported-no_words : (world : Around) (cause : ErrorKind) (status : ℕ) (before after : Moment world) → AnswersNone world cause status before after
+pub IsReported-no_words : {M I : Type 0} (cause : ErrorKind) (status : ℕ) (before after : Moment M I) → AnswersNone cause status before after
     → IsReported status before.output after.output before.errors after.errors
-IsReported-no_words world OutOfMemory status before after (untouched, same, line) = reported_fault Memory status _ _ _ _ memory_is_no_output same line
-IsReported-no_words world _ status before after (untouched, same, (two, line)) = unread status _ _ _ _ two same
-
--- the status is 0 only for words that may have an answer
-pub MayAnswer-does : (world : Around) (words : List (List ℕ)) (what : Parsed) (status : ℕ) (before after : Moment world) → Parses words what
-    → DoesParsed world what status before after → status ≡ 0 → MayAnswer words
-MayAnswer-does world words (parsed.Asked what) status before after is is_done zero =
-    MayAnswer-parsed words (parsed.Asked what) is (λ unread. unread)
-MayAnswer-does world words (parsed.Help text) status before after is is_done zero =
-    MayAnswer-parsed words (parsed.Help text) is (λ unread. unread)
-MayAnswer-does world words (parsed.Unread text) status before after is (untouched, two, same, line) zero = absurd (omega (arith, zero, two))
+IsReported-no_words OutOfMemory status before after (untouched, same, line) = reported_fault Memory status _ _ _ _ memory_is_no_output same line
+IsReported-no_words _ status before after (untouched, same, (two, line)) = unread status _ _ _ _ two same

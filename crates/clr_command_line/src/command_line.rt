@@ -5,13 +5,14 @@ ghost use Rattle.clr_args.specs.Parsed.{MayAnswer};
 ghost use Rattle.clr_commands.specs.Connections.{seen};
 ghost use Rattle.clr_commands.specs.Paths.{at_paths};
 ghost use Rattle.clr_command_line.specs.CommandLine.{AnswersNone, AnswersWords, CarriesOut};
-ghost use Rattle.clr_command_line.specs.CommandLine.{DoesParsed, ReportsNoWords, around, moment};
+ghost use Rattle.clr_command_line.specs.CommandLine.{DoesParsed, ReportsNoWords, moment};
 ghost use Rattle.clr_command_line.specs.Report.{IsReported};
 
 use crate::report::{report, report_fault, report_run, report_served, report_text};
 use clr_args::asked::Asked;
 use clr_args::parsing::{Parsed, parse};
 use clr_commands::board::board;
+use clr_commands::check::check;
 use clr_commands::fence::fence;
 use clr_commands::init::init;
 use clr_commands::migrate::migrate;
@@ -49,17 +50,13 @@ where
     W: CountedFlush,
     E: CountedFlush,
     ensures answer { IfOk words.now (λ given. AnswersWords
-        (around R.Medium.Disk R.makes R.opens R.shuts R.ends R.Loopback
+        R.Medium.Disk R.makes R.opens R.shuts R.ends R.Loopback
         (seen R.Reader.remaining R.Reader.failure_count R.Writer.stream)
         (at_paths O.File.remaining O.File.failure_count (O.bytes_at paths.now))
-        I.remaining I.failure_count) (map S.text given.items) result
+        I.remaining I.failure_count (map S.text given.items) result
         (moment rt.old input.old (W.stream output.old) (E.stream errors.old))
         (moment rt.new input.new (W.stream output.new) (E.stream errors.new))) }
-    ensures no_words { IfErr words.now (λ cause. AnswersNone
-        (around R.Medium.Disk R.makes R.opens R.shuts R.ends R.Loopback
-        (seen R.Reader.remaining R.Reader.failure_count R.Writer.stream)
-        (at_paths O.File.remaining O.File.failure_count (O.bytes_at paths.now))
-        I.remaining I.failure_count) (error_kind cause) result
+    ensures no_words { IfErr words.now (λ cause. AnswersNone (error_kind cause) result
         (moment rt.old input.old (W.stream output.old) (E.stream errors.old))
         (moment rt.new input.new (W.stream output.new) (E.stream errors.new))) }
     ensures reported { IsReported result
@@ -90,10 +87,10 @@ where
     W: CountedFlush,
     E: CountedFlush,
     ensures answer { AnswersWords
-        (around R.Medium.Disk R.makes R.opens R.shuts R.ends R.Loopback
+        R.Medium.Disk R.makes R.opens R.shuts R.ends R.Loopback
         (seen R.Reader.remaining R.Reader.failure_count R.Writer.stream)
         (at_paths O.File.remaining O.File.failure_count (O.bytes_at paths.now))
-        I.remaining I.failure_count) (map S.text words.now) result
+        I.remaining I.failure_count (map S.text words.now) result
         (moment rt.old input.old (W.stream output.old) (E.stream errors.old))
         (moment rt.new input.new (W.stream output.new) (E.stream errors.new)) }
     ensures reported { IsReported result
@@ -122,10 +119,10 @@ where
     W: CountedFlush,
     E: CountedFlush,
     ensures { DoesParsed
-        (around R.Medium.Disk R.makes R.opens R.shuts R.ends R.Loopback
+        R.Medium.Disk R.makes R.opens R.shuts R.ends R.Loopback
         (seen R.Reader.remaining R.Reader.failure_count R.Writer.stream)
         (at_paths O.File.remaining O.File.failure_count (O.bytes_at paths.now))
-        I.remaining I.failure_count) parsed.now result
+        I.remaining I.failure_count parsed.now result
         (moment rt.old input.old (W.stream output.old) (E.stream errors.old))
         (moment rt.new input.new (W.stream output.new) (E.stream errors.new)) }
 {
@@ -155,16 +152,17 @@ where
     W: CountedFlush,
     E: CountedFlush,
     ensures { CarriesOut
-        (around R.Medium.Disk R.makes R.opens R.shuts R.ends R.Loopback
+        R.Medium.Disk R.makes R.opens R.shuts R.ends R.Loopback
         (seen R.Reader.remaining R.Reader.failure_count R.Writer.stream)
         (at_paths O.File.remaining O.File.failure_count (O.bytes_at paths.now))
-        I.remaining I.failure_count) asked.now result
+        I.remaining I.failure_count asked.now result
         (moment rt.old input.old (W.stream output.old) (E.stream errors.old))
         (moment rt.new input.new (W.stream output.new) (E.stream errors.new)) }
 {
     let alloc = rt.alloc();
     match asked {
         Asked::Fence(args) => report(fence(alloc, paths, args), output, errors),
+        Asked::Check(files) => report(check(alloc, paths, files), output, errors),
         Asked::Init(args) => report(init(alloc, rt, paths, args), output, errors),
         Asked::Run(args) => report_run(run(alloc, rt, paths, args, input), output, errors),
         Asked::Order(args) => report(order(alloc, rt, args), output, errors),

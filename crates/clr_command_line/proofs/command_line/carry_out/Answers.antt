@@ -4,6 +4,9 @@ use Rattle.clr_command_line.proofs.command_line.carry_out.Goals as goal
 pub returns-in-Fence : goal.returns-in-Fence
 returns-in-Fence g c = rw c.in-Fence.is (c.fence.result, (c.fence.ensures.answer, refl), c.fence.ensures.faults, refl, c.report.ensures)
 
+pub returns-in-Check : goal.returns-in-Check
+returns-in-Check g c = rw c.in-Check.is (c.check.result, (c.check.ensures.answer, refl), c.check.ensures.faults, refl, c.report-in-Check.ensures)
+
 pub returns-in-Init : goal.returns-in-Init
 returns-in-Init g c = rw c.in-Init.is (c.init.result, c.init.ensures.visit, c.init.ensures.faults, refl, c.report-in-Init.ensures)
 
