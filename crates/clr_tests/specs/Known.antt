@@ -1,17 +1,29 @@
 -- Files whose bytes are known, and a database whose register is known.
 use Rattle.std.specs.Prelude.{ℕ, ◌==◌, Bool, codes, find, if◌then◌else◌, List, [], ◌∷◌, Option}
 use Rattle.std.specs.Prelude.{None, Some, option_map}
-use Rattle.std.specs.Prelude.{◌≡◌, IfSome}
+use Rattle.std.specs.Prelude.{◌≡◌, ◌⊎◌, IfSome, false, pos}
 use Rattle.std.specs.Borrow.{Bor}
 use Rattle.std.specs.Cmp.Lexicographic.{pointwise}
 use Rattle.clr_rules.specs.Register.{Register}
 use Rattle.clr_rules.specs.Run.{after_all}
 use Rattle.clr_examples.specs.Worked.{worked_opening}
+use Rattle.clr_stream.specs.Streams.{Stream}
+use Rattle.clr_print.specs.Printed.{board_text}
 use Rattle.clr_text.specs.Lines.{commands_in}
+use Rattle.clr_http.specs.Response.{json, printed, response_bytes}
 use Rattle.sqlite.specs.Files.{over_files}
+use Rattle.sqlite.specs.Held.{state}
+use Rattle.sqlite.specs.State.{HasCleanDisk}
+use Rattle.sqlite_disk.specs.declared.Files.{Files}
+use Rattle.std.specs.declared.io.ErrorKind.{ErrorKind}
+use Rattle.std.specs.declared.net.socket_addr.SocketAddr.{SocketAddr}
+use Rattle.clr_http.specs.Answered.{Source}
+use Rattle.clr_commands.specs.Connections.{Seen}
+use Rattle.clr_edge.specs.declared.loopback.Connection.{Connection}
+use Rattle.clr_edge.specs.declared.loopback.Loopback as loopback
 use Rattle.sqlite_disk.specs.declared.Disk as disk
 use Rattle.clr_edge.specs.Database.{HasRegister}
-use Rattle.clr_edge.specs.Visit.{Over}
+use Rattle.clr_edge.specs.Visit.{Ending, Opening, Over}
 
 abbrev pub same_path : List ℕ → List ℕ → Bool
 same_path = pointwise ◌==◌
@@ -48,6 +60,44 @@ HasKnown path connection = (R : Register) × (known_register path ≡ Some R)
 abbrev pub MayHaveKnown : {D : Type 0} {g : disk.Ghosts D} → List ℕ → Over g → Type 0
 MayHaveKnown path connection =
     IfSome (known_register path) (λ R. HasRegister over_files R connection)
+
+abbrev pub jones_path : List ℕ
+jones_path = codes "jones.db"
+
+-- a machine whose database at that path has the register
+abbrev pub KnowsJones : {M D : Type 0} → (g : disk.Ghosts D) → Opening M D → Type 0
+KnowsJones {M} g opens = (old new : M) (c : Over g) → opens old jones_path g c new → HasKnown jones_path c
+
+-- each connection of a medium is over a clean disk
+abbrev pub IsAlwaysClean : {D : Type 0} → disk.Ghosts D → Type 0
+IsAlwaysClean g = (c : Over g) → HasCleanDisk (state over_files c)
+
+-- A MACHINE OVER WHOSE CONNECTIONS THESE BYTES COME, and which keeps what went out over the last one
+pub record IsExchange {M D L R W : Type 0} (g : disk.Ghosts D) (opens : Opening M D) (ends : Ending M D)
+    (net : loopback.Ghosts M L R W) (seen : Seen R W) (asked response : M → List ℕ) : Type 0 where
+  pub opened : (old new : M) (c : Over g) → opens old jones_path g c new → asked new ≡ asked old
+  pub stands : (old new : M) (address : SocketAddr) (l : L) → net.stands old address l new
+      → asked new ≡ asked old
+  pub comes : (old new : M) (l : L) (c : Connection R W) → net.comes old l c new
+      → (Source.remaining (seen.source c.reader) ≡ Some (asked old))
+      × (Stream.contents (seen.stream c.writer) ≡ Some [])
+  pub misses : (old new : M) (l : L) (kind : ErrorKind) → net.misses old l kind new → ⊥
+  pub keeps : (old new : M) (c : Connection R W) → net.hangs_up old c new
+      → Stream.contents (seen.stream c.writer) ≡ Some (response new)
+  pub ended : (old new : M) (files : Files D) → ends old files new → response new ≡ response old
+
+-- a writer to which nothing was written yet
+abbrev pub fresh : Stream
+fresh = record { contents = Some []; failures = 0; stalls = 0; flushed = false }
+
+-- a request for the board
+abbrev pub board_request : List ℕ
+board_request = codes "GET /board HTTP/1.1\r\n\r\n"
+
+-- what goes out to it from that register, to the last byte; or that it cannot be had
+abbrev pub IsBoardResponse : List ℕ → Type 0
+IsBoardResponse sent = (sent ≡ response_bytes (printed (board_text jones_register (pos 0))))
+    ⊎ (sent ≡ response_bytes (json 503 (codes "{\"fault\":\"Unavailable\"}")))
 
 -- the files of the worked network
 abbrev pub section_file : List ℕ

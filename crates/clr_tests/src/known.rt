@@ -4,6 +4,7 @@ mod databases;
 mod exchange;
 mod files;
 mod lines;
+mod visits;
 
 use std::alloc::Global;
 

@@ -10,6 +10,8 @@ mod csv_files;
 #[cfg(test)]
 mod desk;
 #[cfg(test)]
+mod driver;
+#[cfg(test)]
 mod fakes;
 #[cfg(test)]
 mod frozen;
@@ -31,6 +33,8 @@ mod stops;
 mod store;
 #[cfg(test)]
 mod versions;
+#[cfg(test)]
+mod view;
 #[cfg(test)]
 mod worked;
 #[cfg(test)]
