@@ -1,4 +1,5 @@
--- THE LINES OF A TEXT: those that a line feed ends. What comes after the last line feed is none yet.
+-- THE LINES OF A TEXT: those that a line feed ends. What comes after the last line feed is none
+-- yet.
 use Rattle.std.specs.Prelude.{ℕ, Bool, ◌==◌, List, [], ◌∷◌, ◌++◌, Option, None, Some}
 use Rattle.std.specs.List.{flat_map, last_or, slice_split}
 

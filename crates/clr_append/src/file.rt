@@ -1,5 +1,6 @@
 //! A journal in a file.
-ghost use Rattle.std.specs.Prelude.{◌≡◌, false, IfOk, IsTrue, option_map};
+ghost use Rattle.std.specs.Prelude.{◌≡◌, ℕ, List, false, length, IfOk, IsTrue, option_map};
+ghost use Rattle.sqlite_disk.specs.Disk.{Cut, Only};
 ghost use Rattle.clr_append.specs.Lines.{ended_text, last_line};
 ghost use Rattle.sqlite_std_file.specs.File.{IsFresh, file_is_usable};
 
@@ -25,12 +26,20 @@ pub fn open_file<S: Start>(
     ensures last { IfOk result (λ opened.
         IsTrue (⟦<FileFrom<S> as Disk>⟧.is_clean opened.journal.disk)
         → option_map (λ line. line.items) opened.last ≡ last_line S.Start.db) }
+    ensures whole { IfOk result (λ opened.
+        ⟦<OnDisk<FileFrom<S>> as Journal>⟧.found opened.journal
+        ≡ ⟦<OnDisk<FileFrom<S>> as Journal>⟧.text opened.journal) }
+    ensures crash { IfOk result (λ opened. (left : List ℕ)
+        → ⟦<OnDisk<FileFrom<S>> as Journal>⟧.may_leave opened.journal left
+        → Cut (length (⟦<OnDisk<FileFrom<S>> as Journal>⟧.text opened.journal)) S.Start.db left) }
     ensures usable { IfOk result (λ opened.
         IsTrue (⟦<OnDisk<FileFrom<S>> as Journal>⟧.is_usable opened.journal)) }
 {
     let disk = file_at(rt, path, start)?;
-    let opened = open(rt.alloc(), disk)?;
-    Ok(opened)
+    match open(rt.alloc(), disk) {
+        Ok(opened) => Ok(opened),
+        Err((fault, _)) => Err(fault),
+    }
 }
 
 /// The file of a journal.
@@ -38,6 +47,8 @@ fn file_at<S: Start>(rt: &HostRuntime, path: &str, start: S) -> Result<FileFrom<
     ensures usable { IfOk result (λ file. IsTrue (file_is_usable S.Start file)) }
     ensures fresh { IfOk result (λ file. IsFresh false file) }
     ensures seen { IfOk result (λ file. ⟦<FileFrom<S> as Disk>⟧.seen file ≡ S.Start.db) }
+    ensures only { IfOk result (λ file.
+        Only S.Start.db (⟦<FileFrom<S> as Disk>⟧.may_leave file)) }
 {
     match sqlite_std_file::open(rt, path, start) {
         Ok(files) => {

@@ -35,6 +35,7 @@ pub trait Journal {
         ensures text { OnOk result (text self.new ≡ with_line (text self.old) (string_bytes line)) }
         ensures failed { OnErr result (text self.new ≡ text self.old) }
         ensures whole { OnOk result (found self.new ≡ text self.new) }
+        ensures unwritten { IsErrOf result WriteFault.NoMemory → found self.new ≡ found self.old }
         ensures found { BeginsWith (text self.old) (found self.new) }
         ensures crash { Follows (Grown (length (text self.old)) (length (string_bytes line) + 1))
             (may_leave self.old) (may_leave self.new) }
@@ -43,7 +44,7 @@ pub trait Journal {
             → MoreFaults (faults self.old) (faults self.new) }
         ensures usable { IsTrue (is_usable self.new) };
 
-    /// Makes what was appended last: a crash leaves the bytes that there are. Where this fails,
+    /// Makes what was appended durable: a crash leaves the bytes that there are. Where this fails,
     /// nothing is known of what is on the disk.
     fn sync(&mut self) -> Result<(), WriteFault>
         requires { IsTrue (is_usable self.old) }

@@ -33,15 +33,25 @@ impl<D: Disk> OnDisk<D> {
         }
     }
 
+    /// The disk, which another journal may be opened on.
+    pub fn into_disk(self) -> D
+        ensures { result ≡ self.disk }
+    {
+        self.disk
+    }
+
     /// Takes off what a failed append has left.
     fn cut_off(&mut self) -> Result<(), WriteFault>
         requires { IsTrue (D.Disk.is_usable self.old.disk) }
         ensures end { self.new.end ≡ self.old.end }
-        ensures text { take self.old.end (D.Disk.seen self.new.disk) ≡ take self.old.end (D.Disk.seen self.old.disk) }
+        ensures text { take self.old.end (D.Disk.seen self.new.disk)
+            ≡ take self.old.end (D.Disk.seen self.old.disk) }
         ensures whole { OnOk result (self.new.is_torn ≡ false) }
-        ensures crash { Follows (Grown self.old.end 0) (D.Disk.may_leave self.old.disk) (D.Disk.may_leave self.new.disk) }
+        ensures crash { Follows (Grown self.old.end 0)
+            (D.Disk.may_leave self.old.disk) (D.Disk.may_leave self.new.disk) }
         ensures failed { IsErrOf result WriteFault.NoMemory → false ≡ true }
-        ensures cause { OnErr result (MoreFaults (D.Disk.faults self.old.disk) (D.Disk.faults self.new.disk)) }
+        ensures cause { OnErr result
+            (MoreFaults (D.Disk.faults self.old.disk) (D.Disk.faults self.new.disk)) }
         ensures count { OnOk result (D.Disk.faults self.new.disk ≡ D.Disk.faults self.old.disk) }
         ensures usable { IsTrue (D.Disk.is_usable self.new.disk) }
     {
@@ -63,12 +73,16 @@ impl<D: Disk> OnDisk<D> {
         requires usable { IsTrue (D.Disk.is_usable self.old.disk) }
         requires whole { self.old.is_torn ≡ false }
         requires some { 0 < length bytes.now }
-        ensures written { OnOk result (D.Disk.seen self.new.disk ≡ D.Disk.seen self.old.disk ++ bytes.now) }
+        ensures written { OnOk result
+            (D.Disk.seen self.new.disk ≡ D.Disk.seen self.old.disk ++ bytes.now) }
         ensures end { OnOk result (self.new.end ≡ self.old.end + length bytes.now) }
         ensures same { OnErr result (self.new.end ≡ self.old.end) }
         ensures text { take self.old.end (D.Disk.seen self.new.disk) ≡ D.Disk.seen self.old.disk }
-        ensures crash { Follows (Grown self.old.end (length bytes.now)) (D.Disk.may_leave self.old.disk) (D.Disk.may_leave self.new.disk) }
-        ensures cause { self.old.end + length bytes.now < 2 ^ 64 → OnErr result (MoreFaults (D.Disk.faults self.old.disk) (D.Disk.faults self.new.disk)) }
+        ensures crash { Follows (Grown self.old.end (length bytes.now))
+            (D.Disk.may_leave self.old.disk) (D.Disk.may_leave self.new.disk) }
+        ensures failed { IsErrOf result WriteFault.NoMemory → false ≡ true }
+        ensures cause { self.old.end + length bytes.now < 2 ^ 64 → OnErr result
+            (MoreFaults (D.Disk.faults self.old.disk) (D.Disk.faults self.new.disk)) }
         ensures usable { IsTrue (D.Disk.is_usable self.new.disk) }
     {
         let end = self.end;

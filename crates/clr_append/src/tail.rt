@@ -1,6 +1,6 @@
 //! The end of what a disk holds.
 ghost use Rattle.std.specs.Prelude.{◌≡◌, ◌⊎◌, ◌-◌, ◌<◌, ◌≤◌, ℕ, List, count_by, drop, length, IfOk};
-ghost use Rattle.std.specs.Prelude.{IsErrOf, IsTrue};
+ghost use Rattle.std.specs.Prelude.{IsErrOf, IsTrue, OnOk};
 ghost use Rattle.sqlite_disk.specs.Disk.{Holds, MoreFaults};
 ghost use Rattle.clr_append.specs.Lines.{is_line_feed};
 
@@ -28,6 +28,12 @@ pub(crate) fn tail_of<D: Disk>(
     ensures clean { IsTrue (D.Disk.is_clean disk.new) → IsTrue (D.Disk.is_clean disk.old) }
     ensures seen { D.Disk.seen disk.new ≡ D.Disk.seen disk.old }
     ensures crash { (c : List ℕ) → D.Disk.may_leave disk.new c → D.Disk.may_leave disk.old c }
+    ensures cause { (IsTrue (D.Disk.is_clean disk.old) → len ≡ length (D.Disk.seen disk.old))
+        → IsErrOf result OpenFault.OpenFailed
+        → MoreFaults (D.Disk.faults disk.old) (D.Disk.faults disk.new) }
+    ensures count { OnOk result (D.Disk.faults disk.new ≡ D.Disk.faults disk.old) }
+    ensures memory { IsErrOf result OpenFault.NoMemory
+        → D.Disk.faults disk.new ≡ D.Disk.faults disk.old }
     ensures usable { IsTrue (D.Disk.is_usable disk.new) }
 {
     let tail = read_end(alloc, disk, len, TAIL.min(len))?;
@@ -55,6 +61,12 @@ fn read_end<D: Disk>(
     ensures clean { IsTrue (D.Disk.is_clean disk.new) → IsTrue (D.Disk.is_clean disk.old) }
     ensures seen { D.Disk.seen disk.new ≡ D.Disk.seen disk.old }
     ensures crash { (c : List ℕ) → D.Disk.may_leave disk.new c → D.Disk.may_leave disk.old c }
+    ensures cause { (IsTrue (D.Disk.is_clean disk.old) → len ≡ length (D.Disk.seen disk.old))
+        → IsErrOf result OpenFault.OpenFailed
+        → MoreFaults (D.Disk.faults disk.old) (D.Disk.faults disk.new) }
+    ensures count { OnOk result (D.Disk.faults disk.new ≡ D.Disk.faults disk.old) }
+    ensures memory { IsErrOf result OpenFault.NoMemory
+        → D.Disk.faults disk.new ≡ D.Disk.faults disk.old }
     ensures usable { IsTrue (D.Disk.is_usable disk.new) }
 {
     let mut tail = vec![in alloc; 0; size]?;

@@ -3,7 +3,7 @@ use Rattle.std.specs.List.{last_or}
 use Rattle.clr_append.specs.Lines.{ended_lines, unfinished}
 use Rattle.clr_append.proofs.lines.last_line.Given as goal
 
--- the last line is that of the rest, or else the one before it
+-- the last line is that of the rest, or the one before it
 abbrev pub invariant-loop-line : goal.invariant-loop-line
 invariant-loop-line l = record {
   last : last_or (option_map (λ line. line.now) l.last) (ended_lines l.rest) ≡ last_or None (ended_lines l.fn.text);
