@@ -24,8 +24,8 @@ abbrev pub login_is_text : Option (List ℕ) → Bool
 login_is_text None = true
 login_is_text (Some text) = is_utf8 text
 
--- A LINE CAN BE WRITTEN: its numbers have 64 bits, its command can be sent, and its texts are UTF-8;
--- so is its reply, a value of texts and whole numbers that does not nest deep
+-- A LINE CAN BE WRITTEN: its numbers have 64 bits, its command can be sent, and its texts are
+-- UTF-8; so is its reply, a value of texts and whole numbers that does not nest deep
 abbrev pub can_be_written : Entry → Bool
 can_be_written (carried receipt q reply) =
     nat_lt receipt.number (2 ^ 64) && (nat_lt receipt.received (2 ^ 64)
@@ -47,10 +47,11 @@ ReadBack (entry ∷ rest) = (read_line (line_text entry) ≡ Some entry) × Read
 -- journal; what comes after the last line feed is passed over
 abbrev pub JournalsReadBack : Type 0
 JournalsReadBack = (entries : List Entry) (unfinished : List ℕ)
-    → ReadBack entries → in_turn first_turn entries ≡ true → list_any is_line_feed unfinished ≡ false
+    → ReadBack entries → in_turn first_turn entries ≡ true
+    → list_any is_line_feed unfinished ≡ false
     → read_journal (journal_text entries ++ unfinished) ≡ Ok entries
 
--- A FRONT OF A JOURNAL, cut anywhere behind its first lines, reads as these lines and the first of
+-- A FRONT OF A JOURNAL, cut anywhere after its first lines, reads as these lines and the first of
 -- those after them: so does a copy that is made while it is written, and what a crash leaves that
 -- takes nothing but an end
 abbrev pub FrontsRead : Type 0

@@ -13,7 +13,7 @@ pub fn lines_read_back()
     ensures { LinesReadBack }
 {}
 
-/// A front of a journal, cut anywhere behind its first lines, reads as these and the first of those
+/// A front of a journal, cut anywhere after its first lines, reads as these and the first of those
 /// after them.
 pub fn fronts_read()
     ensures { FrontsRead }
