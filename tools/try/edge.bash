@@ -34,6 +34,7 @@ cp "$work/ordered.db" "$edge/room.db"
 board=$(bounded board "$edge/room.db")
 leaves try 'the board of a closed register' 0 "$board$feed" '' board "$edge/room.db"
 leaves try 'an order of it' 0 '~ORDER JONES/1 ROUND 1' '' order "$edge/room.db" JONES/1 1
+leaves try 'a way back' 0 '~"do":' '' wayback "$edge/room.db" JONES/1
 leaves try 'an order of a round that is not there' 1 '' "fault: clearance NoSuch$feed" \
   order "$edge/room.db" JONES/1 2
 printf '%s\n' '{"by":"JONES","clearance":"JONES/1","do":"show"}' '{' >"$work/asks"
@@ -103,10 +104,12 @@ else
   opens 'a board' "${register[@]}" -- board "$edge/room.db"
   opens 'an order' "${register[@]}" -- order "$edge/room.db" JONES/1 1
   opens 'an order of nothing' "${register[@]}" -- order "$edge/room.db" JONES/9 1
+  opens 'a way back' "${register[@]}" -- wayback "$edge/room.db" JONES/1
   opens 'a move' "${register[@]}" -- migrate "$edge/room.db"
   with_input "$work/asks" opens 'a run over a database' "${register[@]}" -- run --db "$edge/room.db"
   opens 'a fence' "${three[@]:0:2}" -- fence "${three[@]:0:2}" L2 S2 S3
   opens 'an import' "${three[@]}" -- init "${three[@]}"
+  opens 'a check' "${three[@]}" -- check "${three[@]}"
   with_input "$work/asks" opens 'a run over files' "${three[@]}" -- run "${three[@]}"
   # the file is made, so that nobody else's is taken, and then opened
   opens 'a register that is made' "${three[@]}" "$edge/made.db" "$edge/made.db" "$edge/made.db-wal" "$edge" -- \
