@@ -74,8 +74,22 @@ tables_at "$edge/room.db" >"$work/tables"
 try 'the board of a killed server' 0 "~BOARD 1$feed" '' board "$edge/room.db"
 expect 'its tables are as the killed server left them' test "$(tables_at "$edge/room.db")" = "$(cat "$work/tables")"
 
-# opens TITLE PATH.. -- WORD..: the program opens these files and folders, each once, in this sequence, but for the C
-# library; it removes, renames and cuts none by name, and has no socket unless it serves.
+# opened_alone TITLE PATH..: the calls that were traced opened these files and folders, each once, in this sequence, but
+# for the C library; they removed, renamed and cut none by name.
+opened_alone() {
+  local title=$1
+  shift
+  grep -v ' = -1 ' "$work/calls" |
+    sed -nE 's/^[0-9]+ +(open|openat|openat2|creat)\((AT_FDCWD, )?"([^"]*)".*/\3/p' |
+    grep -vE '^/(etc/ld\.so|lib|usr/lib)' >"$work/opened"
+  expect "$title: opens what was named" diff <(printf '%s\n' "$@") "$work/opened"
+  expect "$title: removes, renames and cuts nothing" \
+    test -z "$(grep -E '^[0-9]+ +(unlink|rename|truncate|link|symlink|mkdir|rmdir|mknod)' "$work/calls")"
+}
+
+traced=(strace -f -qq -o "$work/calls" -e 'trace=%file,%network')
+
+# opens TITLE PATH.. -- WORD..: the program, given these words, opens these alone, and has no socket.
 opens() {
   local title=$1 wanted=()
   shift
@@ -84,14 +98,25 @@ opens() {
     shift
   done
   shift
-  timeout 60 strace -f -qq -o "$work/calls" -e trace=%file,%network "$program" "$@" <"$work/input" >/dev/null 2>&1
-  grep -v ' = -1 ' "$work/calls" |
-    sed -nE 's/^[0-9]+ +(open|openat|openat2|creat)\((AT_FDCWD, )?"([^"]*)".*/\3/p' |
-    grep -vE '^/(etc/ld\.so|lib|usr/lib)' >"$work/opened"
-  expect "$title: opens what was named" diff <(printf '%s\n' "${wanted[@]}") "$work/opened"
-  expect "$title: removes, renames and cuts nothing" \
-    test -z "$(grep -E '^[0-9]+ +(unlink|rename|truncate|link|symlink|mkdir|rmdir|mknod)' "$work/calls")"
+  timeout 60 "${traced[@]}" "$program" "$@" <"$work/input" >/dev/null 2>&1
+  opened_alone "$title" "${wanted[@]}"
   expect "$title: has no socket" test -z "$(grep -E '^[0-9]+ +(socket|bind|listen|connect)' "$work/calls")"
+}
+
+# serving_opens PATH..: a server of one connection opens these alone, listens once, at 127.0.0.1, and connects to nobody.
+serving_opens() {
+  : >"$work/told"
+  "${traced[@]}" "$program" serve "$1" --port "$port" --count 1 >"$work/told" 2>"$work/faults" &
+  server=$!
+  for _ in $(seq 100); do [ -s "$work/told" ] || sleep 0.1; done
+  ask 'GET /board HTTP/1.1' '' >/dev/null
+  served 'a server whose calls are looked at' ''
+  opened_alone 'a server' "$@"
+  expect 'a server: listens once' test "$(grep -cE '^[0-9]+ +listen\(' "$work/calls")" -eq 1
+  expect 'a server: at 127.0.0.1' \
+    test "$(grep -E '^[0-9]+ +bind\(' "$work/calls" | grep -cF 'inet_addr("127.0.0.1")')" -eq 1
+  expect 'a server: binds once' test "$(grep -cE '^[0-9]+ +bind\(' "$work/calls")" -eq 1
+  expect 'a server: connects to nobody' test -z "$(grep -E '^[0-9]+ +connect\(' "$work/calls")"
 }
 
 if ! command -v strace >/dev/null || ! strace -qq -o /dev/null true 2>/dev/null; then
@@ -115,4 +140,5 @@ else
   opens 'a register that is made' "${three[@]}" "$edge/made.db" "$edge/made.db" "$edge/made.db-wal" "$edge" -- \
     init "${three[@]}" --db "$edge/made.db"
   opens 'a register made over one' "${three[@]}" "${register[@]}" -- init "${three[@]}" --db "$edge/room.db"
+  serving_opens "${register[@]}"
 fi
