@@ -6,7 +6,7 @@ use Rattle.clr_net.proofs.Walks.{one_name, same_itself}
 use Rattle.clr_check.specs.Alike.{AreOneLetterApart, differ_by_one_letter, has_letter_more, has_letter_replaced, is_letter, part_by_one_letter}
 use Rattle.clr_check.specs.Alike.AreOneLetterApart.{added, left_out, replaced}
 
--- names that begin alike, and differ by one letter behind it
+-- names that begin alike, and differ by one letter after that
 behind : (x y : ℕ) (a b : List ℕ) → x ≡ y → AreOneLetterApart a b → AreOneLetterApart (x ∷ a) (y ∷ b)
 behind x y a b same (replaced before after p q is_a is_b differ letter) =
     replaced (x ∷ before) after p q (λ i. x ∷ is_a i) (λ i. sym same i ∷ is_b i) differ letter
@@ -72,7 +72,7 @@ more_here (y ∷ after) x letter = at (x == y) refl (more_here after y)
     at true same rest = rest (rw (← eqb-true x y same) letter)
     at false differ rest = or_left _ _ (or_right _ _ (and_from _ _ letter (same_itself (y ∷ after))))
 
--- or further behind
+-- or further on
 more : (before after : List ℕ) (x : ℕ) → is_letter x ≡ true → differ_by_one_letter (before ++ x ∷ after) (before ++ after) ≡ true
 unfolding differ_by_one_letter
 more [] after x letter = more_here after x letter

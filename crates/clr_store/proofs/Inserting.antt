@@ -1,4 +1,4 @@
--- What INSERT makes of a table: a row is put where none has its key, and else it is refused and nothing is done.
+-- What INSERT makes of a table: a row is put where none has its key, and otherwise it is refused and nothing is done.
 use Rattle.std.proofs.Common.{◌≡◌, ℕ, zero, suc, List, [], ◌∷◌, take, length, Bool, true, false, not, ◌&&◌, Ok, Err, Result, inl, inr, refl, sym, ap, subst, ◌∙◌, IsTrue, arith}
 use Rattle.std.specs.Prelude.{filter, MatchBool}
 use Rattle.std.specs.List.{list_all}

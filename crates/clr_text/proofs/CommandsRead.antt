@@ -62,7 +62,7 @@ module _ (by : List ℕ) (at : ℕ) where
   abbrev KindTaken : Kind → Type 0
   KindTaken k = AllTaken (clearance_said (named_clearance k) ++ own_said k)
 
-  -- what is said behind the moment
+  -- what is said after the moment
   abbrev behind : Kind → List (Key × Said)
   behind k = (By, name by) ∷ (Do, text (word_text (word_of k))) ∷ (clearance_said (named_clearance k) ++ own_said k)
 

@@ -13,7 +13,7 @@ tail_is_text x xs u low = IsUtf8-drop (x ∷ xs) 1 u (IsCharBoundary-after_ascii
 ascii_is_text : (x : ℕ) → x < 128 → IsUtf8 (x ∷ [])
 ascii_is_text x low = IsUtf8-are_ascii (x ∷ []) (rw (lt-ltb x 128 low) refl)
 
--- what stands before the rest of a content
+-- what comes before the rest of a content
 prepended : (front s : List ℕ) (rest : Option (List ℕ)) → prepend front rest ≡ Some s → (t : List ℕ) × (rest ≡ Some t) × (s ≡ front ++ t)
 prepended front s None h = cc
 prepended front s (Some t) h = (t, refl, let same : front ++ t ≡ s = cc in sym same)
@@ -26,7 +26,7 @@ prepend_none : (o : Option (List ℕ)) → o ≡ prepend [] o
 prepend_none None = refl
 prepend_none (Some s) = refl
 
--- bytes past ASCII stand for themselves
+-- bytes past ASCII mean themselves
 through : (ys r : List ℕ) → ((k : ℕ) → k < length ys → 128 ≤ get_or ys k 0) → content plain (ys ++ r) ≡ prepend ys (content plain r)
 unfolding content
 through [] r high = prepend_none (content plain r)

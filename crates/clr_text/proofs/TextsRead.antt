@@ -116,7 +116,7 @@ past front x xs =
     ap (λ l. drop (length front + 1) l) (sym (append_assoc front (x ∷ []) xs))
     ∙ drop_at (front ++ x ∷ []) xs (length front + 1) (length-append front (x ∷ []))
 
--- what stands behind an ASCII byte of a text is a text
+-- what comes after an ASCII byte of a text is a text
 behind_ascii : (front : List ℕ) (x : ℕ) (xs : List ℕ) → IsUtf8 (front ++ x ∷ xs) → x ≡ 34 → IsUtf8 xs
 behind_ascii front x xs text is =
     let whole = front ++ x ∷ xs in

@@ -13,7 +13,7 @@ use Rattle.clr_text.specs.CommandText.{can_be_sent, command_data, command_text}
 use Rattle.clr_text.specs.Reading.{command_in, read_command, value_of}
 use Rattle.clr_rules.specs.declared.command.Command.{Command}
 
--- A COMMAND THAT CAN BE SENT is read from its text; and from its value, wherever that stands
+-- A COMMAND THAT CAN BE SENT is read from its text; and from its value, wherever that is
 abbrev pub CommandsReadBack : Type 0
 CommandsReadBack = (q : Command) → can_be_sent q ≡ true → read_command (command_text q) ≡ Ok q
 

@@ -1,4 +1,4 @@
--- What is found in lists of rows, and in those that are lent.
+-- What is found in lists of rows, and in lists of references to rows.
 use Rattle.std.proofs.Common.{◌≡◌, ◌∙◌, ◌==◌, Bool, true, false, ◌&&◌, not, ℕ, List, [], ◌∷◌, ◌++◌, map, filter, find, refl, ap, sym, Bor, option_map, Option, Some, None, slice_get, is_some, option_copied, length}
 use Rattle.std.specs.List.{list_any, flat_map}
 use Rattle.std.proofs.lemmas.List.{map-append}
@@ -57,7 +57,7 @@ first_true : (a b : Bool) → (a && b) ≡ true → a ≡ true
 first_true true b e = refl
 first_true false b e = e
 
--- the place of the first hold of a kind, of holds that are lent
+-- the place of the first hold of a kind, of references to holds
 pub first_of_places : (c : Id) (kind : HoldKind) (lent : List (Bor Hold)) (holds : List Hold) (found : Option (Bor Hold))
     → found ≡ find (λ h. same_id c h.now.id && same_kind kind h.now.kind) lent → map (λ (h : Bor Hold). h.now) lent ≡ holds
     → option_map (λ h. h.place) (option_copied found) ≡ first_place holds c kind
@@ -89,12 +89,12 @@ steps_undoing (h ∷ held) =
     ∙ ap (λ later. map task (leaving h) ++ later) (steps_undoing held)
     ∙ ap (λ first. first ++ undoing_steps held) (waiting_tasks (at_held_point h (undoing h Leave)))
 
--- a value that is lent is there where the loan is
+-- a value is there where the reference to it is
 pub some_copied : {X : Type 0} (found : Option (Bor X)) → is_some (option_copied found) ≡ is_some found
 some_copied None = refl
 some_copied (Some x) = refl
 
--- the points of the first round of a clearance's steps, which are lent
+-- the points of the first round of a clearance's steps, of which there are references
 pub points_lent : (lent : List (Bor StepRow)) (steps : List StepRow) (c : Id) → map (λ (row : Bor StepRow). row.now) lent ≡ steps_of steps c
     → map (λ (row : Bor StepRow). row.now.step.point) (filter (λ row. row.now.round == 1) lent) ≡ points_of (steps_in steps c 1)
 unfolding steps_of
@@ -103,7 +103,7 @@ points_lent lent steps c shown =
     ∙ ap (map (λ (row : StepRow). row.step.point)) (filter_shown (λ (row : Bor StepRow). row.now) (λ row. row.round == 1) lent ∙ ap (filter (λ row. row.round == 1)) shown)
     ∙ first_points_are steps c
 
--- how many of a clearance's steps, which are lent, are of a round
+-- how many of a clearance's steps, of which there are references, are of a round
 pub round_length : (lent : List (Bor StepRow)) (steps : List StepRow) (c : Id) (round : ℕ) → map (λ (row : Bor StepRow). row.now) lent ≡ steps_of steps c
     → length (filter (λ row. is_of_round c round row.now) lent) ≡ length (steps_in steps c round)
 round_length lent steps c round shown =

@@ -36,7 +36,7 @@ unfolding turns after_all
 turns_end zero R c done = refl
 turns_end (suc n) R c done = rw (done) (turns_end n R c done)
 
--- so many turns of n are walked: the register is good, somebody gives each command so far, and with
+-- k turns of n are walked: the register is good, somebody gives each command so far, and with
 -- those of the turns that are left they are all
 pub record Walked (R S : Register) (c : Id) (n k : ℕ) (commands : List Command) : Type 0 where
   pub good : IsGood S
