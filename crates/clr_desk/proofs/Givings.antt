@@ -1,58 +1,81 @@
 -- What a desk was given, one part after the other.
-use Rattle.std.proofs.Common.{◌++◌, List, [], ◌∷◌, Result, refl, subst}
+use Rattle.std.proofs.Common.{◌≡◌, ◌++◌, ℕ, List, [], ◌∷◌, Option, Result, refl, subst, sym}
 use Rattle.sqlite.specs.State.{State}
 use Rattle.clr_rules.specs.Register.{Register}
 use Rattle.clr_rules.specs.declared.command.Command.{Command}
 use Rattle.clr_rules.specs.declared.reply.Reply.{Reply}
-use Rattle.clr_load.specs.declared.fault.StoreFault.{StoreFault}
 use Rattle.clr_desk.specs.Carrying.{CarriesOut}
-use Rattle.clr_desk.specs.Given.{AreGiven, Given, LeadsTo}
-use Rattle.clr_desk.specs.Taking.{Taking, TakesOne}
+use Rattle.clr_desk.specs.Commit.{Stays}
+use Rattle.clr_desk.specs.Given.{AreGiven, Given, LeadsTo, command, login}
+use Rattle.clr_desk.specs.Kept.{Keeps}
+use Rattle.clr_desk.specs.Taking.{Hearing, Taking, TakesOne}
 use Rattle.clr_desk.specs.declared.desk.Desk.{Desk}
 use Rattle.clr_desk.specs.declared.desk_fault.DeskFault.{DeskFault}
-use Rattle.clr_desk.proofs.Keeping.{keeps_itself, keeps_on, one_keeps}
+use Rattle.clr_desk.proofs.Keeping.{keeps_itself, keeps_on, one_keeps, stays_keeps}
 
-given_on : {K : Type 0} (takes : Taking K) (R X S : Register) (k m l : K) (first later : List Given) → AreGiven takes R k first X m
-    → AreGiven takes X m later S l → AreGiven takes R k (first ++ later) S l
-unfolding AreGiven
-given_on takes R X S k m l [] later (register, keeper) rest =
-    subst (λ (r : Register). AreGiven takes r k later S l) register (subst (λ (x : _). AreGiven takes X x later S l) keeper rest)
-given_on takes R X S k m l (it ∷ first) later (between, middle, one, others) rest =
-    (between, middle, one, given_on takes between X S middle m l first later others rest)
+module _ {K : Type 0} (kept : K → State) (takes : Taking K) (hears : Hearing K) where
+  given_on : (R X S : Register) (k m l : K) (first later : List Given) → AreGiven takes hears R k first X m
+      → AreGiven takes hears X m later S l → AreGiven takes hears R k (first ++ later) S l
+  unfolding AreGiven
+  given_on R X S k m l [] later (register, keeper) rest =
+      subst (λ (r : Register). AreGiven takes hears r k later S l) register
+      (subst (λ (x : K). AreGiven takes hears X x later S l) keeper rest)
+  given_on R X S k m l (it ∷ first) later (between, middle, one, others) rest =
+      (between, middle, one, given_on between X S middle m l first later others rest)
 
-pub leads_itself : {K : Type 0} (kept : K → State) (takes : Taking K) (d : Desk K) → LeadsTo kept takes d d
-unfolding AreGiven
-leads_itself kept takes d = record {
-  keeps = keeps_itself (kept d.store) d.book.register;
-  commands = [];
-  given = (refl, refl);
-}
+  pub leads_itself : (d : Desk K) → LeadsTo kept takes hears d d
+  unfolding AreGiven
+  leads_itself d = record {
+    keeps = keeps_itself (kept d.store) d.book.register;
+    given = [];
+    are_given = (refl, refl);
+  }
 
-pub leads_on : {K : Type 0} (kept : K → State) (takes : Taking K) (before between after : Desk K) → LeadsTo kept takes before between
-    → LeadsTo kept takes between after → LeadsTo kept takes before after
-leads_on kept takes before between after first later = record {
-  keeps = keeps_on (kept before.store) (kept between.store) (kept after.store) before.book.register between.book.register after.book.register
-      first.keeps later.keeps;
-  commands = first.commands ++ later.commands;
-  given = given_on takes before.book.register between.book.register after.book.register before.store between.store after.store first.commands later.commands
-      first.given later.given;
-}
+  -- one whose count of faults alone differs
+  pub leads_unchanged : (old new : Desk K) → new.book.register ≡ old.book.register → new.store ≡ old.store → LeadsTo kept takes hears old new
+  unfolding AreGiven
+  leads_unchanged old new register store = record {
+    keeps = subst (λ (k : K). Keeps (kept old.store) old.book.register (kept k) new.book.register) (sym store)
+        (subst (λ (R : Register). Keeps (kept old.store) old.book.register (kept old.store) R) (sym register)
+        (keeps_itself (kept old.store) old.book.register));
+    given = [];
+    are_given = (register, store);
+  }
 
-pub one_leads : {K : Type 0} (kept : K → State) (fails : StoreFault → Type 0) (takes : Taking K) (old new : Desk K) (q : Command) (result : Result Reply DeskFault)
-    → CarriesOut kept fails old new q result → TakesOne takes old.book.register old.store q result new.store → LeadsTo kept takes old new
-unfolding AreGiven
-one_leads kept fails takes old new q result carried taken = record {
-  keeps = one_keeps kept fails old new q result carried;
-  commands = record { command = q; result = result } ∷ [];
-  given = (
-    new.book.register,
-    new.store,
-    record {
-      reply = carried.near;
-      register = carried.changed;
-      unchanged = carried.unchanged;
-      taken = taken;
-    },
-    (refl, refl),
-  );
-}
+  pub leads_on : (before between after : Desk K) → LeadsTo kept takes hears before between
+      → LeadsTo kept takes hears between after → LeadsTo kept takes hears before after
+  leads_on before between after first later = record {
+    keeps = keeps_on (kept before.store) (kept between.store) (kept after.store) before.book.register between.book.register after.book.register
+        first.keeps later.keeps;
+    given = first.given ++ later.given;
+    are_given = given_on before.book.register between.book.register after.book.register before.store between.store after.store first.given later.given
+        first.are_given later.are_given;
+  }
+
+  pub one_leads : (fails : DeskFault → Type 0) (old new : Desk K) (q : Command) (result : Result Reply DeskFault)
+      → CarriesOut kept fails old new q result → TakesOne takes old.book.register old.store q result new.store → LeadsTo kept takes hears old new
+  unfolding AreGiven
+  one_leads fails old new q result carried taken = record {
+    keeps = one_keeps kept fails old new q result carried;
+    given = command q result ∷ [];
+    are_given = (
+      new.book.register,
+      new.store,
+      record {
+        reply = carried.near;
+        register = carried.changed;
+        unchanged = carried.unchanged;
+        taken = taken;
+      },
+      (refl, refl),
+    );
+  }
+
+  pub login_leads : (old new : Desk K) (it : Option (List ℕ)) → new.book.register ≡ old.book.register
+      → Stays (kept old.store) (kept new.store) → hears old.store it new.store → LeadsTo kept takes hears old new
+  unfolding AreGiven
+  login_leads old new it same stays heard = record {
+    keeps = stays_keeps (kept old.store) (kept new.store) old.book.register new.book.register same stays;
+    given = login it ∷ [];
+    are_given = (new.book.register, new.store, (same, heard), (refl, refl));
+  }

@@ -1,5 +1,5 @@
 -- What is kept by no command, by one, and by two parts of a run one after the other.
-use Rattle.std.proofs.Common.{⊎_elim, inl, inr, arith, Result, Ok, Err, refl, sym, subst}
+use Rattle.std.proofs.Common.{◌≡◌, ⊎_elim, inl, inr, arith, Result, Ok, Err, refl, sym, subst}
 use Rattle.sqlite.specs.Effect.{Database}
 use Rattle.sqlite.specs.State.{State}
 use Rattle.clr_rules.specs.Good.{IsGood}
@@ -8,14 +8,15 @@ use Rattle.clr_rules.specs.declared.command.Command.{Command}
 use Rattle.clr_rules.specs.declared.reply.Reply.{Reply}
 use Rattle.clr_rules.proofs.keeps.EveryKind.{commands_keep_good}
 use Rattle.clr_load.specs.Stored.{HasTables}
-use Rattle.clr_load.specs.declared.fault.StoreFault.{StoreFault}
 use Rattle.clr_tables.specs.Tables.{tables_of}
 use Rattle.clr_tables.specs.TypedRows.{IsTyped}
 use Rattle.clr_tables.proofs.TypedEdits.{commands_keep_typed}
 use Rattle.clr_desk.specs.Carrying.{CarriesOut}
+use Rattle.clr_desk.specs.Commit.{Stays}
 use Rattle.clr_desk.specs.Kept.{Keeps}
 use Rattle.clr_desk.specs.declared.desk.Desk.{Desk}
 use Rattle.clr_desk.specs.declared.desk_fault.DeskFault.{DeskFault}
+use Rattle.clr_desk.proofs.Staying.{stays_open, stays_saved}
 
 pub keeps_itself : (s : State) (R : Register) → Keeps s R s R
 keeps_itself s R = record {
@@ -45,8 +46,21 @@ keeps_on s t u R S T first later = record {
       (λ more. inr (omega (arith, later.counts, more))) (first.closes (later.clean clean) before);
 }
 
+-- what stays as it is
+pub stays_keeps : (s t : State) (R S : Register) → S ≡ R → Stays s t → Keeps s R t S
+stays_keeps s t R S same stays = subst (λ (X : Register). Keeps s R t X) (sym same) (record {
+  good = λ good. good;
+  typed = λ good typed. typed;
+  clean = λ clean. omega (arith, stays.crash.clean);
+  was_open = λ clean shown. stays_open s t stays shown;
+  tables = λ clean shown good has. subst (λ (db : Database). HasTables db (tables_of R)) (sym stays.now) has;
+  saved = λ clean shown saved. stays_saved s t stays saved;
+  counts = stays.crash.counts;
+  closes = stays.crash.closes;
+})
+
 -- one command, whose fault leaves what the open store shows
-pub one_keeps : {K : Type 0} (kept : K → State) (fails : StoreFault → Type 0) (old new : Desk K) (q : Command) (result : Result Reply DeskFault) → CarriesOut kept fails old new q result
+pub one_keeps : {K : Type 0} (kept : K → State) (fails : DeskFault → Type 0) (old new : Desk K) (q : Command) (result : Result Reply DeskFault) → CarriesOut kept fails old new q result
     → Keeps (kept old.store) old.book.register (kept new.store) new.book.register
 one_keeps kept fails old new q (Ok reply) carried = record {
   good = λ good. subst IsGood (sym (carried.register good)) (commands_keep_good old.book.register q good);

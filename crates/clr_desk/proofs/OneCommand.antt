@@ -25,7 +25,7 @@ use Rattle.clr_tables.specs.Tables.{tables_of}
 use Rattle.clr_tables.proofs.TableChanges.{tables_follow_edits}
 use Rattle.clr_desk.specs.Asking.{near_after, near_answer, near_network}
 use Rattle.clr_desk.specs.Crash.{AreAfter}
-use Rattle.clr_desk.specs.Faults.{IsOfCommand, IsOfKeeper, of_store}
+use Rattle.clr_desk.specs.Faults.{IsOfCommand, of_store}
 use Rattle.clr_desk.specs.declared.desk_fault.DeskFault.{DeskFault}
 use Rattle.clr_load.specs.Fault.{IsOfDatabase}
 use Rattle.clr_load.specs.declared.fault.StoreFault.{StoreFault}
@@ -80,12 +80,12 @@ crash_after old new R q edits is survives =
 
 -- ---- a fault
 
--- a fault of what keeps the changes is one that a command may meet
-pub of_fails : (fails : StoreFault → Type 0) (cause : StoreFault) → fails cause → IsOfKeeper fails (of_store cause)
-of_fails fails Sql h = h
-of_fails fails NoMemory h = tt
-of_fails fails (WrongVersion n) h = h
-of_fails fails (BadRow name) h = h
+-- a fault of the database is one that a command may meet
+of_database : (cause : StoreFault) → IsOfDatabase cause → IsOfCommand (of_store cause)
+of_database Sql h = tt
+of_database NoMemory h = tt
+of_database (WrongVersion n) h = absurd h
+of_database (BadRow name) h = absurd h
 
 pub of_command : (cause : StoreFault) (fault : DeskFault) → IsOfDatabase cause → fault ≡ of_store cause → IsOfCommand fault
-of_command cause fault h is = subst IsOfCommand (sym is) (of_fails IsOfDatabase cause h)
+of_command cause fault h is = subst IsOfCommand (sym is) (of_database cause h)

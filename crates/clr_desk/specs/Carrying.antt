@@ -11,7 +11,6 @@ use Rattle.clr_rules.specs.declared.command.Command.{Command}
 use Rattle.clr_rules.specs.declared.reply.Reply.{Reply}
 use Rattle.clr_load.specs.Contract.{IsSaved}
 use Rattle.clr_load.specs.Stored.{HasTables}
-use Rattle.clr_load.specs.declared.fault.StoreFault.{StoreFault}
 use Rattle.clr_tables.specs.Tables.{tables_of}
 use Rattle.clr_tables.specs.TypedRows.{is_typed_command}
 use Rattle.clr_desk.specs.Answering.{has_accepted}
@@ -23,7 +22,7 @@ use Rattle.clr_desk.specs.declared.desk.Desk.{Desk}
 use Rattle.clr_desk.specs.declared.desk_fault.DeskFault.{DeskFault}
 
 -- A DESK CARRIES OUT A COMMAND, and what came of it is this
-pub record CarriesOut {K : Type 0} (kept : K → State) (fails : StoreFault → Type 0)
+pub record CarriesOut {K : Type 0} (kept : K → State) (fails : DeskFault → Type 0)
     (old new : Desk K) (q : Command) (result : Result Reply DeskFault) : Type 0 where
   -- the reply and the register are those of the command's near part, whatever the register,
   pub near : IfOk result (λ reply. reply ≡ Answer.reply (near_answer old.book.register q))

@@ -2,7 +2,7 @@
 -- the very reply that is given, and not at all for one that only asks. A keeper has a relation of
 -- its own, `takes`, between its states: a call with this command and this reply led from the one to
 -- the other, and this came of it.
-use Rattle.std.specs.Prelude.{◌≡◌, ◌⊎◌, Bool, true, false, List, [], ◌∷◌, Option, None, Some}
+use Rattle.std.specs.Prelude.{◌≡◌, ◌⊎◌, ℕ, Bool, true, false, List, [], ◌∷◌, Option, None, Some}
 use Rattle.std.specs.Prelude.{Result, Ok, Err, length, drop}
 use Rattle.clr_rules.specs.Answer.{Answer}
 use Rattle.clr_rules.specs.Register.{Register}
@@ -20,6 +20,10 @@ Came = Result (Unit {0}) DeskFault
 -- the relation of a keeper
 abbrev pub Taking : Type 0 → Type 1
 Taking K = K → Command → Reply → Came → K → Type 0
+
+-- its relation for the login of the next command
+abbrev pub Hearing : Type 0 → Type 1
+Hearing K = K → Option (List ℕ) → K → Type 0
 
 -- the reply says that the command was refused
 abbrev pub is_refused : Reply → Bool
@@ -70,6 +74,10 @@ TakesRun {K} takes R old commands replies fault new = (before : K)
 abbrev pub PassesOver : {K : Type 0} → K → Command → Reply → Came → K → Type 0
 PassesOver old q (Refused refusal) came new = (new ≡ old) × (came ≡ Ok tt)
 PassesOver old q reply came new = Unit {0}
+
+-- it does not hear a login
+abbrev pub HearsNothing : {K : Type 0} → K → Option (List ℕ) → K → Type 0
+HearsNothing old login new = new ≡ old
 
 -- it fails at nothing, and stays as it is
 abbrev pub NeverFails : {K : Type 0} → K → Command → Reply → Came → K → Type 0

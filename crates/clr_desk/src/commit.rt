@@ -1,20 +1,18 @@
 //! What keeps the changes of a desk: a store, or nothing.
-ghost use Rattle.std.specs.Prelude.{◌≡◌, IfErr, IsTrue, Result, true};
+ghost use Rattle.std.specs.Prelude.{◌≡◌, ℕ, IfErr, IsTrue, List, Option, Result, true};
 ghost use Rattle.sqlite.specs.Held.{state};
 ghost use Rattle.sqlite.specs.State.{State};
 ghost use Rattle.sqlite.specs.Tree.{Trees};
 ghost use Rattle.clr_rules.specs.declared.command.Command.{Command};
 ghost use Rattle.clr_rules.specs.declared.reply.Reply.{Reply};
 ghost use Rattle.clr_answer.specs.Decision.{is_accepted};
-ghost use Rattle.clr_load.specs.Fault.{IsOfDatabase};
-ghost use Rattle.clr_load.specs.declared.fault.StoreFault.{StoreFault};
 ghost use Rattle.clr_desk.specs.Commit.{Commits, Stays, nothing};
-ghost use Rattle.clr_desk.specs.Faults.{IsOfKeeper};
-ghost use Rattle.clr_desk.specs.Taking.{NeverFails, PassesOver, is_refused};
+ghost use Rattle.clr_desk.specs.Faults.{FailsAsStore, IsOfKeeper};
+ghost use Rattle.clr_desk.specs.Taking.{HearsNothing, NeverFails, PassesOver, is_refused};
 ghost use Rattle.clr_desk.specs.declared.desk_fault.DeskFault.{DeskFault};
 
 use crate::desk_fault::DeskFault;
-use clr_rules::{Change, Command, Reply};
+use clr_rules::{Change, Command, Reply, Text};
 use clr_store::Store;
 use sqlite::Alter;
 
@@ -24,12 +22,21 @@ pub trait Commit: Drop {
     /// What it shows, what a crash may leave of it, whether it is open and its disk clean.
     ghost kept: { Self → State };
 
-    /// Which faults of a store it answers.
-    ghost fails: { StoreFault → Type 0 };
+    /// Which faults it answers, beside want of memory.
+    ghost fails: { DeskFault → Type 0 };
 
     /// Which state a call with a command and its reply leads to, by what came of the call. Only the
     /// calls of `commit` and `note_refused` are of this relation.
     ghost takes: { Self → Command → Reply → Result (Unit {0}) DeskFault → Self → Type 0 };
+
+    /// Which state the login of the next command leads to. Only the calls of `hear` are of this
+    /// relation.
+    ghost hears: { Self → Option (List ℕ) → Self → Type 0 };
+
+    /// Hears at which login the next command is given, if at one. What is kept stays as it is.
+    fn hear(&mut self, login: Option<Text>)
+        ensures stays { Stays (kept self.old) (kept self.new) }
+        ensures heard { hears self.old login self.new };
 
     /// Keeps the change of a command that is accepted with a reply.
     ///
@@ -56,11 +63,15 @@ pub trait Commit: Drop {
 impl<S: Alter + Drop> Commit for Store<S> {
     ghost kept = { λ store. state S.Store store };
 
-    ghost fails = { IsOfDatabase };
+    ghost fails = { FailsAsStore };
 
     ghost takes = { PassesOver };
 
+    ghost hears = { HearsNothing };
+
     ghost settled = { λ store trees here left. S.Store.settled store.store trees here left };
+
+    fn hear(&mut self, login: Option<Text>) {}
 
     fn commit(
         &mut self,
@@ -88,7 +99,11 @@ impl Commit for Unkept {
 
     ghost takes = { NeverFails };
 
+    ghost hears = { HearsNothing };
+
     ghost settled = { λ _ trees here left. left };
+
+    fn hear(&mut self, login: Option<Text>) {}
 
     fn commit(
         &mut self,

@@ -26,6 +26,7 @@ ghost use Rattle.clr_desk.specs.Opening.{HasNetworkOf, OpensAs};
 ghost use Rattle.clr_desk.specs.Answering.{fault_of, replies_of};
 ghost use Rattle.clr_desk.specs.Carrying.{CarriesOut};
 ghost use Rattle.clr_desk.specs.Faults.{IsOfCommand, IsOfKeeper, count_after, of_store};
+ghost use Rattle.clr_desk.specs.Given.{LeadsTo};
 ghost use Rattle.clr_desk.specs.Kept.{Keeps};
 ghost use Rattle.clr_desk.specs.NearRun.{IsNearRun, near_network_all};
 ghost use Rattle.clr_desk.specs.Taking.{Takes, TakesOne, TakesRun};
@@ -40,7 +41,7 @@ use crate::run::Run;
 use crate::typed::{Typed, all_typed};
 use clr_answer::Decision;
 use clr_net::Network;
-use clr_rules::{Command, Reply};
+use clr_rules::{Command, Reply, Text};
 use clr_staff::Staff;
 use clr_store::{Back, Store};
 use clr_tables::TableName;
@@ -172,10 +173,20 @@ impl<K: Commit> Desk<K> {
         ensures store { result.store ≡ store }
         ensures faults { result.faults ≡ 0 }
     {
+        Desk::of(book, store, 0)
+    }
+
+    /// A desk of a book and of what keeps its changes from here on, which has answered this many
+    /// faults.
+    pub fn of(book: DeskBook, store: K, faults: u64) -> Desk<K>
+        ensures book { result.book ≡ book }
+        ensures store { result.store ≡ store }
+        ensures faults { result.faults ≡ faults }
+    {
         Desk {
             book,
             store,
-            faults: 0,
+            faults,
         }
     }
 
@@ -219,6 +230,17 @@ impl<K: Commit> Desk<K> {
         self.faults
     }
 
+    /// Says at which login the next command is given, if at one.
+    pub fn hear(&mut self, login: Option<Text>)
+        ensures book { self.new.book ≡ self.old.book }
+        ensures faults { self.new.faults ≡ self.old.faults }
+        ensures stays { Stays (K.kept self.old.store) (K.kept self.new.store) }
+        ensures heard { K.hears self.old.store login self.new.store }
+        ensures led { LeadsTo K.kept K.takes K.hears self.old self.new }
+    {
+        self.store.hear(login);
+    }
+
     /// Carries out one command, but for the count of faults: answer, room, commit, change. A command
     /// that is refused is passed on instead.
     fn carry_out(&mut self, command: &Command) -> Result<Reply, DeskFault>
@@ -260,12 +282,13 @@ impl<K: Commit> Desk<K> {
     /// may note the refused one.
     ///
     /// `Store` where what keeps the changes fails, as `Store(Sql)` where a database refuses or
-    /// fails; `NoMemory` where memory runs out. A fault leaves the register as it was, and is
+    /// fails; `Journal` where its journal was not written; `NoMemory` where memory runs out. A fault leaves the register as it was, and is
     /// counted.
     pub fn one(&mut self, command: Command) -> Result<Reply, DeskFault>
         ensures carried { CarriesOut K.kept K.fails self.old self.new command result }
         ensures taken { TakesOne K.takes self.old.book.register self.old.store command result
             self.new.store }
+        ensures led { LeadsTo K.kept K.takes K.hears self.old self.new }
         ensures ran { IsGood self.old.book.register
             → IsRun self.old.book.register
             (with_reply (command ∷ []) (replies_of result)) (replies_of result)
@@ -318,6 +341,7 @@ impl<K: Commit> Desk<K> {
         ensures cause { IfSome result.fault (IsOfKeeper K.fails) }
         ensures taken { TakesRun K.takes self.new.book.register self.old.store commands.items
             result.replies.items result.fault self.new.store }
+        ensures led { LeadsTo K.kept K.takes K.hears self.old self.new }
         ensures unwritten { list_any is_accepted result.replies.items ≡ false
             → HasCleanDisk (K.kept self.new.store)
             → IsTrue (K.kept self.new.store).is_open

@@ -11,6 +11,8 @@ use std::alloc::{AllocError, AllocFailed};
 pub enum DeskFault {
     /// The store answered this fault, which is never `NoMemory`.
     Store(StoreFault),
+    /// The journal was not written.
+    Journal,
     /// Memory ran out.
     NoMemory,
 }

@@ -2,6 +2,7 @@ use Rattle.std.proofs.Common.{◌∷◌, [], inl, inr, ⊎_elim}
 use Rattle.clr_rules.specs.RunHeadline.{with_reply}
 use Rattle.clr_rules.proofs.isolation.RunReplies.{others_take_nothing}
 use Rattle.clr_desk.specs.Answering.{replies_of}
+use Rattle.clr_desk.proofs.Givings.{one_leads}
 use Rattle.clr_desk.proofs.Keeping.{one_keeps}
 use Rattle.clr_desk.proofs.RunSteps.{no_reply_changed, one_ran, one_survives, standing_alone}
 use Rattle.clr_desk.proofs.desk.Desk.one.Goals as goal
@@ -11,6 +12,11 @@ returns-clause-ran g c good =
     let carried = c.answer.ensures.carried in
     one_ran c.args.self.now.book.register c.answer.new.self.book.register c.args.command c.answer.result
     (carried.reply good) (carried.register good) carried.unchanged
+
+pub returns-clause-led : goal.returns-clause-led
+returns-clause-led g c =
+    one_leads g.K.Commit.kept g.K.Commit.takes g.K.Commit.hears g.K.Commit.fails c.args.self.now c.answer.new.self c.args.command c.answer.result
+    c.answer.ensures.carried c.answer.ensures.taken
 
 pub returns-clause-headline : goal.returns-clause-headline
 returns-clause-headline g c =

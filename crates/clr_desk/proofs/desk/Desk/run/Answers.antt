@@ -12,6 +12,7 @@ use Rattle.clr_answer.specs.Decision.{is_accepted}
 use Rattle.clr_desk.specs.NearRun.{IsNearRun}
 use Rattle.clr_desk.specs.Taking.{TakesOne}
 use Rattle.clr_desk.proofs.Calls.{no_run, stops_at, takes_next, takes_none}
+use Rattle.clr_desk.proofs.Givings.{leads_itself, leads_on, leads_unchanged, one_leads}
 use Rattle.clr_desk.proofs.Keeping.{keeps_itself, keeps_on, one_keeps}
 use Rattle.clr_desk.proofs.NearRuns.{near_ran_so_far, near_run_of_next, near_run_of_none, network_of_next, network_of_none, network_so_far, none_before}
 use Rattle.std.specs.List.{list_any}
@@ -38,6 +39,10 @@ pub returns-then-is_err-clause-taken : goal.returns-then-is_err-clause-taken
 returns-then-is_err-clause-taken g c =
     let none : c.reserve.new.self.items ≡ [] = c.reserve.ensures.items ∙ c.new-replies.ensures.items in
     no_run g.K.Commit.takes c.args.self.now.book.register c.args.self.now.store c.args.commands.items c.reserve.new.self.items none (search rules)
+
+pub returns-then-is_err-clause-led : goal.returns-then-is_err-clause-led
+returns-then-is_err-clause-led g c =
+    leads_unchanged g.K.Commit.kept g.K.Commit.takes g.K.Commit.hears c.args.self.now _ refl refl
 
 pub returns-then-is_err-clause-network : goal.returns-then-is_err-clause-network
 returns-then-is_err-clause-network g c =
@@ -89,6 +94,7 @@ loop-command-init g c =
       ran = λ good. run_of_none c.args.self.now.book.register (take 0 c.args.commands.items) c.reserve.new.self.items (none_taken c.args.commands.items) none;
       near = near_run_of_none c.args.self.now.book.register (take 0 c.args.commands.items) c.reserve.new.self.items (none_taken c.args.commands.items) none;
       taken = takes_none g.K.Commit.takes c.args.self.now.store c.args.commands.items c.reserve.new.self.items none;
+      led = leads_itself g.K.Commit.kept g.K.Commit.takes g.K.Commit.hears c.args.self.now;
       network = network_of_none c.args.self.now.book.register (take 0 c.args.commands.items) c.args.self.now.book.network (none_taken c.args.commands.items);
       keeps = keeps_itself (g.K.Commit.kept c.args.self.now.store) c.args.self.now.book.register;
       unwritten = λ none clean shown. refl;
@@ -127,6 +133,9 @@ loop-command-preserved g c =
           (search rules) inv.near c.in-Ok.ensures.carried.near c.in-Ok.ensures.carried.changed;
       taken = takes_next g.K.Commit.takes c.args.self.now.store c.loop-command.self.store c.answer.new.self.store commands i q
           c.loop-command.replies.items c.push.new.self.items c.in-Ok.reply within at inv.counted (search rules) inv.taken c.in-Ok.ensures.taken;
+      led = leads_on g.K.Commit.kept g.K.Commit.takes g.K.Commit.hears c.args.self.now c.loop-command.self c.answer.new.self inv.led
+          (one_leads g.K.Commit.kept g.K.Commit.takes g.K.Commit.hears g.K.Commit.fails c.loop-command.self c.answer.new.self q c.answer.result carried
+          c.answer.ensures.taken);
       network = network_of_next R X c.args.self.now.book.network c.loop-command.self.book.network c.answer.new.self.book.network commands i q within at
           inv.near.register inv.network c.in-Ok.ensures.carried.network;
       keeps = keeps_on (g.K.Commit.kept c.args.self.now.store) mid new R X Y inv.keeps
@@ -167,6 +176,12 @@ returns-in-Err-clause-taken g c =
           (subst (λ (R : Register). TakesOne g.K.Commit.takes R c.loop-command.self.store q (Err c.in-Err.fault) c.answer.new.self.store)
           (sym back) c.in-Err.ensures.taken),
     )
+
+pub returns-in-Err-clause-led : goal.returns-in-Err-clause-led
+returns-in-Err-clause-led g c =
+    leads_on g.K.Commit.kept g.K.Commit.takes g.K.Commit.hears c.args.self.now c.loop-command.self c.answer.new.self c.loop-command.invariant.led
+    (one_leads g.K.Commit.kept g.K.Commit.takes g.K.Commit.hears g.K.Commit.fails c.loop-command.self c.answer.new.self c.command-item.result
+    c.answer.result c.answer.ensures.carried c.answer.ensures.taken)
 
 pub returns-in-Err-clause-network : goal.returns-in-Err-clause-network
 returns-in-Err-clause-network g c =
@@ -237,6 +252,9 @@ returns-clause-near g c =
 
 pub returns-clause-taken : goal.returns-clause-taken
 returns-clause-taken g c = (c.loop-command.self.store, c.loop-command.invariant.taken, refl)
+
+pub returns-clause-led : goal.returns-clause-led
+returns-clause-led g c = c.loop-command.invariant.led
 
 pub returns-clause-network : goal.returns-clause-network
 returns-clause-network g c =
