@@ -3,6 +3,7 @@ use Rattle.std.specs.Prelude.{ℕ, ◌-◌, ◌==◌, Bool, true, false, if◌th
 use Rattle.std.specs.Prelude.{Option, Some, None, unwrap_or, Result, Ok, Err, ok_or}
 use Rattle.std.specs.Cmp.Lexicographic.{pointwise}
 use Rattle.csv.specs.Records.{field_at}
+use Rattle.clr_logins.specs.Login.{read_login}
 use Rattle.clr_net.specs.NameText.{read_name}
 use Rattle.clr_net.specs.declared.name.NameFault.{NameFault}
 use Rattle.clr_net.specs.declared.point.Position.TheVariants.{Opened, Closed}
@@ -43,6 +44,10 @@ name_or_none place (b ∷ bytes) = some_name (name_if_read place (read_name (b �
 
 abbrev pub name_or_none_in : ℕ → List (List ℕ) → Result (Option (List ℕ)) ColumnFault
 name_or_none_in place fields = name_or_none place (field_in place fields)
+
+-- the login in a column
+abbrev pub login_in : ℕ → List (List ℕ) → Result (List ℕ) ColumnFault
+login_in place fields = ok_or (read_login (field_in place fields)) (column.BadName place)
 
 -- what a word means, of a list of words
 abbrev pub meaning_of : {A : Type 0} → List (List ℕ × A) → List ℕ → Option A

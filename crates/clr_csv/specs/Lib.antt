@@ -1,7 +1,8 @@
 pub mod Answers
-pub mod Rows
-pub mod Table
 pub mod Columns
-pub mod Sections
+pub mod LoginRows
 pub mod Points
+pub mod Rows
+pub mod Sections
 pub mod StaffRows
+pub mod Table

@@ -1,10 +1,11 @@
 //! The columns of a row: what each field reads as.
 ghost use Rattle.std.specs.Prelude.{◌≡◌, ◌<◌};
 ghost use Rattle.csv.specs.Records.{fields_of};
-ghost use Rattle.clr_csv.specs.Columns.{fault_in, field_in, name_in, name_or_none_in, position_in};
-ghost use Rattle.clr_csv.specs.Columns.{role_in, yes_no_in};
+ghost use Rattle.clr_csv.specs.Columns.{fault_in, field_in, login_in, name_in, name_or_none_in};
+ghost use Rattle.clr_csv.specs.Columns.{position_in, role_in, yes_no_in};
 
 use crate::fault::CsvFault;
+use clr_logins::Login;
 use clr_net::{Name, Position};
 use clr_staff::Role;
 use csv::StringRecord;
@@ -12,7 +13,7 @@ use csv::StringRecord;
 /// Why a column of a row does not read. Columns count from 1.
 #[derive(Clone, Copy, Debug, PartialEq, Eq)]
 pub(crate) enum ColumnFault {
-    /// The field is not a name.
+    /// The field is not a name, or not a login.
     BadName(usize),
     /// The field is not a word that may be there.
     BadWord(usize),
@@ -59,6 +60,14 @@ pub(crate) fn name_or_none_in(
     }
     let name = name_in(column, fields)?;
     Ok(Some(name))
+}
+
+/// Reads a login, which is stored in place too.
+pub(crate) fn login_in(column: usize, fields: &StringRecord) -> Result<Login, ColumnFault>
+    requires { 0 < column }
+    ensures { result ≡ login_in column (fields_of fields.now) }
+{
+    Login::read(field_in(column, fields)).ok_or(ColumnFault::BadName(column))
 }
 
 /// Reads `yes` or `no`.

@@ -24,7 +24,7 @@ pub enum CsvFault {
     /// This row has fewer or more fields than the header.
     #[error("row {0} has not as many fields as the header")]
     FieldCount(usize),
-    /// The field of this row and column is not a name.
+    /// The field of this row and column is not a name, or not a login.
     #[error("row {0}, column {1}: no name")]
     BadName(usize, usize),
     /// The field of this row and column is not a word that may be there.
