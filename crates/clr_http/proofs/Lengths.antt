@@ -1,7 +1,8 @@
--- One Content-Length, or several.
-use Rattle.std.proofs.Common.{◌≡◌, ℕ, ◌<◌, Bool, true, false, List, [], ◌∷◌, filter, map, drop, take, get_or, length, ◌-◌, refl, arith, take_all, Err, Result, if◌then◌else◌}
+-- One field of a name, or several.
+use Rattle.std.proofs.Common.{◌≡◌, ℕ, ◌<◌, Bool, true, false, List, [], ◌∷◌, filter, map, drop, take, get_or, length, ◌-◌, refl, arith, take_all, Err, Result, if◌then◌else◌, Option, None, Some}
 use Rattle.clr_rules.proofs.Common.{list_any}
-use Rattle.clr_http.specs.Length.{Field, length_of_fields, read_length}
+use Rattle.clr_http.specs.Fields.{Field, only_value}
+use Rattle.clr_http.specs.Length.{length_of_fields, read_length}
 use Rattle.clr_http.specs.declared.length.LengthFault.{LengthFault}
 use Rattle.clr_http.specs.declared.length.LengthFault.TheVariants.{BadLength}
 
@@ -44,3 +45,32 @@ pub by_front : {X : Type 0} (test : Field → Bool) (f : X → Field) (xs : List
     ≡ (if test (f (get_or xs 0 d)) then given_by test (f (get_or xs 0 d)) (map f (rest_of xs)) else length_of_fields (filter test (map f (rest_of xs))))
 by_front test f [] d l = absurd (omega arith)
 by_front test f (x ∷ xs) d l = rw (rest_whole x xs) (by_first test (f x) (map f xs))
+
+-- ---- the value of the one field
+
+module _ (test : Field → Bool) where
+  abbrev pub value_by : Field → List Field → Option (List ℕ)
+  value_by first rest = if list_any test rest then None else Some first.1
+
+  abbrev HasOne : Field → List Field → Type 0
+  HasOne first rest = only_value (first ∷ filter test rest) ≡ value_by first rest
+
+  next_value : (first field : Field) (rest : List Field) (b : Bool) → test field ≡ b → HasOne first rest → HasOne first (field ∷ rest)
+  next_value first field rest true t later = rw t refl
+  next_value first field rest false t later = rw t later
+
+  one_value : (first : Field) (rest : List Field) → HasOne first rest
+  one_value first [] = refl
+  one_value first (field ∷ rest) = next_value first field rest (test field) refl (one_value first rest)
+
+  first_value : (field : Field) (rest : List Field) (b : Bool) → test field ≡ b
+      → only_value (filter test (field ∷ rest)) ≡ (if test field then value_by field rest else only_value (filter test rest))
+  first_value field rest true t = rw t (one_value field rest)
+  first_value field rest false t = rw t refl
+
+-- the value of the one field of a list, where it has a first
+pub value_by_front : {X : Type 0} (test : Field → Bool) (f : X → Field) (xs : List X) (d : X) → 0 < length xs
+    → only_value (filter test (map f xs))
+    ≡ (if test (f (get_or xs 0 d)) then value_by test (f (get_or xs 0 d)) (map f (rest_of xs)) else only_value (filter test (map f (rest_of xs))))
+value_by_front test f [] d l = absurd (omega arith)
+value_by_front test f (x ∷ xs) d l = rw (rest_whole x xs) (first_value test (f x) (map f xs) (test (f x)) refl)

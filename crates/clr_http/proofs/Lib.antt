@@ -9,3 +9,4 @@ pub mod RequestRuns
 pub mod Answers
 pub mod Exchanges
 pub mod Posts
+pub mod OwnNames

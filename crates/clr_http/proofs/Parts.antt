@@ -6,7 +6,7 @@ use Rattle.std.proofs.lemmas.Str.{IsUtf8-from_ascii, IsUtf8-nil, IsAscii-take, I
 use Rattle.std.proofs.lemmas.Str.Ascii.{IsAscii-nil, IsAscii-cons}
 use Rattle.matchit.proofs.OnLiterals.{matchit_on_literals}
 use Rattle.matchit.specs.Router.{RouteOf}
-use Rattle.clr_http.specs.Target.{the_routes}
+use Rattle.clr_http.specs.Target.{desk_routes, routes_of, the_routes}
 use Rattle.clr_http.specs.declared.target.Route.{Route}
 use Rattle.matchit.specs.Params.{walk, part_of, AllText}
 use Rattle.matchit.specs.Rows.{RowsOf, param_token, catch_all_token}
@@ -87,13 +87,21 @@ module _ {K : Type 0} (test : K → Bool) where
   pub first_passes : (rows : RowsOf K) (path : List ℕ) → all_keys rows ≡ true → passes (first rows path)
   first_passes rows path e = seek_passes 0 rows path e
 
--- the texts of the four routes
+-- the texts of the routes
 pub routes_are_ascii : all_keys (λ (r : RouteOf Route). list_all is_ascii r.text) the_routes ≡ true
 unfolding matchit_on_literals the_routes
 routes_are_ascii = refl
 
+desk_routes_are_ascii : all_keys (λ (r : RouteOf Route). list_all is_ascii r.text) desk_routes ≡ true
+unfolding matchit_on_literals the_routes desk_routes
+desk_routes_are_ascii = refl
+
+all_are_ascii : (desk : Bool) → all_keys (λ (r : RouteOf Route). list_all is_ascii r.text) (routes_of desk) ≡ true
+all_are_ascii true = desk_routes_are_ascii
+all_are_ascii false = routes_are_ascii
+
 -- the text of the route that a target finds
-pub found_is_ascii : (target : List ℕ) (r : RouteOf Route) → first the_routes target ≡ Some r → IsAscii r.text
-found_is_ascii target r e =
-    let found = first_passes (λ (r : RouteOf Route). list_all is_ascii r.text) the_routes target routes_are_ascii in
+pub found_is_ascii : (desk : Bool) (target : List ℕ) (r : RouteOf Route) → first (routes_of desk) target ≡ Some r → IsAscii r.text
+found_is_ascii desk target r e =
+    let found = first_passes (λ (r : RouteOf Route). list_all is_ascii r.text) (routes_of desk) target (all_are_ascii desk) in
     ascii_from_test r.text (subst (λ (o : Option (RouteOf Route)). IfSome o (λ k. list_all is_ascii k.text ≡ true)) e found)

@@ -1,5 +1,5 @@
 -- What a posted body asks: its head is one, and the body is whole.
-use Rattle.std.proofs.Common.{◌≡◌, ◌≤◌, ℕ, Bool, true, false, nat_le, List, [], ◌∷◌, All, codes, decimal, length, map, reverse, Some, Ok, refl, sym, arith, rules, inl, length-append, leb-true}
+use Rattle.std.proofs.Common.{◌≡◌, ◌∙◌, ◌≤◌, ℕ, ap, Bool, true, false, nat_le, List, [], ◌∷◌, All, codes, decimal, length, map, reverse, Option, None, Some, Ok, refl, sym, arith, rules, inl, length-append, leb-true}
 use mathlib.Core.List.{reverse_aux}
 use Rattle.std.specs.Prelude.{IsTrue}
 use Rattle.std.specs.Char.{is_ascii_digit}
@@ -16,7 +16,12 @@ use Rattle.clr_rules.proofs.Common.{list_all, and_parts, list_all-contains, All-
 use Rattle.clr_http.proofs.Parts.{ascii_from_test}
 use Rattle.std.proofs.lemmas.Str.{IsUtf8-from_ascii}
 use Rattle.clr_text.specs.Reading.{read_command}
-use Rattle.clr_http.specs.Asked.{asked_in, body_asks}
+use Rattle.clr_rules.specs.declared.command.Command.{Command as Asked}
+use Rattle.clr_http.specs.Asked.{asked_in, body_asks, reading_asks}
+use Rattle.clr_http.specs.Callers.{caller_checked, login_of, may_ask}
+use Rattle.clr_http.specs.Fields.{fields_of}
+use Rattle.clr_http.specs.Options.{plain}
+use Rattle.clr_http.specs.Request.{Reading, head_read}
 use Rattle.clr_http.specs.Head.{BeginsWith}
 use Rattle.clr_http.specs.Length.{body_length, is_length}
 use Rattle.clr_http.specs.Target.{target_of, the_routes}
@@ -107,13 +112,24 @@ begins body le = record {
   fields = omega arith;
 }
 
-route : target_of (codes "/command") ≡ Some Command
+route : target_of false (codes "/command") ≡ Some Command
 unfolding matchit_on_literals the_routes
 route = refl
 
-asked : (body : List ℕ) → length body ≤ 65536 → asked_in (post_head (length body)) body ≡ body_asks (read_command body)
-asked body le =
+-- the plain service checks no caller
+any_may : (login : Option (List ℕ)) (asked : Option Asked) → may_ask None login asked ≡ true
+any_may login None = refl
+any_may login (Some q) = refl
+
+pub unchecked : (login : Option (List ℕ)) (r : Reading) → caller_checked None login r ≡ r
+unchecked login r = rw (any_may login (reading_asks r)) refl
+
+read_so : (body : List ℕ) → length body ≤ 65536 → reading_asks (head_read plain (post_head (length body)) body) ≡ body_asks (read_command body)
+read_so body le =
     rw (route, length_read (length body) le, le-leb (length body) (length body) (omega arith), take_all (length body) body (omega arith)) refl
+
+asked : (body : List ℕ) → length body ≤ 65536 → asked_in (post_head (length body)) body ≡ body_asks (read_command body)
+asked body le = ap reading_asks (unchecked (login_of (fields_of (post_head (length body)))) (head_read plain (post_head (length body)) body)) ∙ read_so body le
 
 pub posted_bodies_ask : PostedBodiesAsk
 posted_bodies_ask body le = inl (post_head (length body), body, begins body le, sym (asked body le))

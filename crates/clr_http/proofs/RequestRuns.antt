@@ -19,16 +19,18 @@ use Rattle.clr_text.specs.Reading.{read_command}
 use Rattle.clr_text.specs.declared.fault.TextFault.{TextFault}
 use Rattle.clr_http.proofs.Connections.{of_kind, wider}
 use Rattle.clr_http.proofs.Turns.{IsLeft}
-use Rattle.clr_http.specs.Asked.{Asks, MayAsk, asked_in, body_asks, commands_asked, is_own_request, own_among, own_asked, reading_asks, reply_bytes, target_asks, view_asks, with_asked}
-use Rattle.clr_http.specs.Carried.{Carries, IsTold}
+use Rattle.clr_http.specs.Asked.{AsksAt, MayAskAt, asked_in_at, body_asks, commands_asked, is_own_request, own_among, own_asked, reading_asks, reply_bytes, target_asks, view_asks, with_asked}
+use Rattle.clr_http.specs.Carried.{CarriesAt, IsToldAt}
+use Rattle.clr_http.specs.Options.{plain}
 use Rattle.clr_http.specs.Registrar.{AccountsFor, IsTurn, Keeper}
-use Rattle.clr_http.specs.Request.{IsReading, Reading, asks, refusal_of, refused, request_read}
+use Rattle.clr_http.specs.Request.{IsReading, Reading, asks, refusal_of, refused, request_read_at}
 use Rattle.clr_http.specs.RequestLaws.{AskedOnce, CommandsAreAnswered, ComesWithin, HasRun, OnlyCommandsChange, OthersRequestsTakeNothing, OwnRequestsAlone, RequestsAreRuns, SameShownSameResponses}
-use Rattle.clr_http.specs.Respond.{Outcome, Responds, body_outcome, order_outcome, reading_outcome, reply_response, respond_to, show_of, target_outcome, view_outcome}
+use Rattle.clr_http.specs.Respond.{Outcome, RespondsAt, body_outcome, order_outcome, reading_outcome, reply_response, respond_at, show_of, target_outcome, view_outcome}
 use Rattle.clr_http.specs.Response.{Content, content_of, response_bytes, status_of}
 use Rattle.clr_http.specs.Served.{IsWritten}
 use Rattle.clr_http.specs.Service.{IsExchange, ServesAll}
 use Rattle.clr_http.specs.declared.head.HeadFault.{HeadFault}
+use Rattle.clr_http.specs.declared.options.Service.{Service}
 use Rattle.clr_http.specs.declared.response.Response.{Response}
 use Rattle.clr_http.specs.declared.serve.HttpFault.{HttpFault}
 use Rattle.clr_http.specs.declared.serve.HttpFault.TheVariants.{NoMemory}
@@ -79,34 +81,46 @@ of_target R asked.Command body = of_body R (read_command body)
 of_target R (asked.Clearance viewing) body = of_view R viewing
 of_target R (asked.Order printing) body = of_order R printing
 of_target R asked.Board body = nothing_asked R _ refl
+of_target R asked.Network body = nothing_asked R _ refl
 
 of_reading : (R : Register) (reading : Reading) → IsOf R (reading_asks reading) (reading_outcome R reading)
 of_reading R (refused c) = nothing_asked R _ refl
 of_reading R (asks target body) = of_target R target body
 
-pub asked_once : AskedOnce
-asked_once input one other (inl (head, rest, b, e)) (inl (k, left, c, f)) =
-    let (same, behind) = request_unique input head k rest left b.reads c.reads in
-    e ∙ (ap (λ h. asked_in h rest) same ∙ ap (asked_in k) behind) ∙ sym f
-asked_once input one other (inl (head, rest, b, e)) (inr (none, f)) = absurd (none (head, rest, b))
-asked_once input one other (inr (none, e)) (inl (k, left, c, f)) = absurd (none (k, left, c))
-asked_once input one other (inr (none, e)) (inr (again, f)) = e ∙ sym f
+module _ (service : Service) where
+  asks_once : (input : List ℕ) (one other : Option Command) → AsksAt service input one → AsksAt service input other → one ≡ other
+  asks_once input one other (inl (head, rest, b, e)) (inl (k, left, c, f)) =
+      let (same, behind) = request_unique input head k rest left b.reads c.reads in
+      e ∙ (ap (λ h. asked_in_at service h rest) same ∙ ap (asked_in_at service k) behind) ∙ sym f
+  asks_once input one other (inl (head, rest, b, e)) (inr (none, f)) = absurd (none (head, rest, b))
+  asks_once input one other (inr (none, e)) (inl (k, left, c, f)) = absurd (none (k, left, c))
+  asks_once input one other (inr (none, e)) (inr (again, f)) = e ∙ sym f
 
-of_input : (R : Register) (input : List ℕ) (o : Outcome) (command : Option Command) → Responds R input o → Asks input command → IsOf R command o
-of_input R input o command (head, rest, b, e) asking =
-    let same : asked_in head rest ≡ command = asked_once input (asked_in head rest) command (inl (head, rest, b, refl)) asking in
-    let here : IsOf R (asked_in head rest) (respond_to R head rest) = of_reading R (request_read head rest) in
-    subst (λ (x : Option Command). IsOf R x o) same (subst (λ (x : Outcome). IsOf R (asked_in head rest) x) (sym e) here)
+  of_input : (R : Register) (input : List ℕ) (o : Outcome) (command : Option Command) → RespondsAt service R input o → AsksAt service input command → IsOf R command o
+  of_input R input o command (head, rest, b, e) asking =
+      let same : asked_in_at service head rest ≡ command = asks_once input (asked_in_at service head rest) command (inl (head, rest, b, refl)) asking in
+      let here : IsOf R (asked_in_at service head rest) (respond_at service R head rest) = of_reading R (request_read_at service head rest) in
+      subst (λ (x : Option Command). IsOf R x o) same (subst (λ (x : Outcome). IsOf R (asked_in_at service head rest) x) (sym e) here)
+
+  none_changes : (R : Register) (input : List ℕ) (o : Outcome) → RespondsAt service R input o → AsksAt service input None → o.left ≡ R
+  unfolding after_asked
+  none_changes R input o responds asking = (of_input R input o None responds asking).left
+
+  command_answered : (R : Register) (input : List ℕ) (q : Command) (o : Outcome) → RespondsAt service R input o → AsksAt service input (Some q)
+      → (o.response ≡ reply_response (Answer.reply (answer R q))) × (o.left ≡ after R q)
+  unfolding after_asked Answers
+  command_answered R input q o responds asking =
+      let here = of_input R input o (Some q) responds asking in
+      (here.answers, here.left)
+
+pub asked_once : AskedOnce
+asked_once = asks_once plain
 
 pub only_commands_change : OnlyCommandsChange
-unfolding after_asked
-only_commands_change R input o responds asking = (of_input R input o None responds asking).left
+only_commands_change = none_changes plain
 
 pub commands_are_answered : CommandsAreAnswered
-unfolding after_asked Answers
-commands_are_answered R input q o responds asking =
-    let here = of_input R input o (Some q) responds asking in
-    (here.answers, here.left)
+commands_are_answered = command_answered plain
 
 -- ---- a list of requests
 
@@ -140,7 +154,7 @@ none_carried R S (Some q) bytes e same = cc e
 
 of_exchange : (k l : Keeper) (input : List ℕ) (carried : Option Command) (bytes : List ℕ) → IsExchange k l input carried bytes → IsStep k.register carried bytes l.register
 of_exchange k l input carried bytes (inl r) =
-    let here = of_input k.register input r.outcome carried r.responds r.asks in
+    let here = of_input plain k.register input r.outcome carried r.responds r.asks in
     record { left = r.register ∙ here.left; reply = reply_of k.register carried r.outcome.response bytes here.answers r.response }
 of_exchange k l input carried bytes (inr (inl (none, is, counts))) = none_carried k.register l.register carried bytes none counts.0
 of_exchange k l input carried bytes (inr (inr (none, headless, same))) =
@@ -276,8 +290,8 @@ has_run same nothing alone k l inputs responses carried all =
     }
 
 -- at most one command was carried out
-pub carried_one : (input : Option (List ℕ)) (k l : Keeper) (before behind : Stream) (result : Result Served HttpFault)
-    → Carries input k l before behind result → ComesWithin 1 k.register l.register
+pub carried_one : {service : Service} (input : Option (List ℕ)) (k l : Keeper) (before behind : Stream) (result : Result Served HttpFault)
+    → CarriesAt service input k l before behind result → ComesWithin 1 k.register l.register
 unfolding after_all
 carried_one input k l before behind result carries = at_most carries.carried carries.run.register
   where
@@ -302,18 +316,18 @@ comes_within n m R S (commands, few, e) le = (commands, omega (arith, few, le), 
 -- ---- what one turn carries out
 
 -- a command that may be asked is carried out, or none is and there is none
-carried_of : (input : Option (List ℕ)) (old new : Keeper) (before behind : Stream) (result : Result Served HttpFault) (command : Option Command) (o : Outcome)
-    → IsOf old.register command o → MayAsk input command → new.register ≡ o.left
-    → IsWritten (λ c. (c ≡ o.response) × (status_of c ≢ 503) × (new.faults ≡ old.faults)) before behind result → Carries input old new before behind result
+carried_of : (service : Service) (input : Option (List ℕ)) (old new : Keeper) (before behind : Stream) (result : Result Served HttpFault) (command : Option Command) (o : Outcome)
+    → IsOf old.register command o → MayAskAt service input command → new.register ≡ o.left
+    → IsWritten (λ c. (c ≡ o.response) × (status_of c ≢ 503) × (new.faults ≡ old.faults)) before behind result → CarriesAt service input old new before behind result
 unfolding after_asked Answers replies after_all
-carried_of input old new before behind result None o of may left w = record {
+carried_of service input old new before behind result None o of may left w = record {
   carried = None;
   told = [];
   run = record { replied = refl; register = left ∙ of.left };
   asked = inl may;
   written = wider _ _ _ _ _ (λ c (same, other, faults). (left ∙ of.left, inl (may, other, faults))) w;
 }
-carried_of input old new before behind result (Some q) o of may left w = record {
+carried_of service input old new before behind result (Some q) o of may left w = record {
   carried = Some q;
   told = Answer.reply (answer old.register q) ∷ [];
   run = record { replied = refl; register = left ∙ of.left };
@@ -322,10 +336,10 @@ carried_of input old new before behind result (Some q) o of may left w = record 
 }
 
 -- none is, and what goes out says so
-pub none_of : (input : Option (List ℕ)) (old new : Keeper) (before behind : Stream) (result : Result Served HttpFault)
-    → new.register ≡ old.register → IsWritten (IsTold input None old new) before behind result → Carries input old new before behind result
+pub none_of : (service : Service) (input : Option (List ℕ)) (old new : Keeper) (before behind : Stream) (result : Result Served HttpFault)
+    → new.register ≡ old.register → IsWritten (IsToldAt service input None old new) before behind result → CarriesAt service input old new before behind result
 unfolding replies after_all
-none_of input old new before behind result same w = record {
+none_of service input old new before behind result same w = record {
   carried = None;
   told = [];
   run = record { replied = refl; register = same };
@@ -334,27 +348,27 @@ none_of input old new before behind result same w = record {
 }
 
 -- a turn whose response was made
-pub turn_carries : (input : Option (List ℕ)) (old new : Keeper) (before behind : Stream) (result : Result Served HttpFault) (target : Target) (body : List ℕ) (r : Response)
-    → MayAsk input (target_asks target body) → IsTurn (target_outcome old.register target body) old new (content_of r) → AccountsFor old new (Ok r)
-    → IsWritten (λ c. c ≡ content_of r) before behind result → Carries input old new before behind result
-turn_carries input old new before behind result target body r may turn (inr (is, counts)) w =
-    none_of input old new before behind result counts.0
-    (of_kind (IsTold input None old new) (content_of r) before behind result (counts.0, inr (ap content_of is, counts)) w)
-turn_carries input old new before behind result target body r may (inr (is, counts)) (inl (other, faults)) w = absurd (other (ap status_of is))
-turn_carries input old new before behind result target body r may (inl (same, left, kept)) (inl (other, faults)) w =
-    carried_of input old new before behind result (target_asks target body) (target_outcome old.register target body)
-    (of_target old.register target body) may left
-    (of_kind (λ c. (c ≡ Outcome.response (target_outcome old.register target body)) × (status_of c ≢ 503) × (new.faults ≡ old.faults)) (content_of r) before behind result
+pub turn_carries : (service : Service) (input : Option (List ℕ)) (old new : Keeper) (before behind : Stream) (result : Result Served HttpFault) (reading : Reading) (r : Response)
+    → MayAskAt service input (reading_asks reading) → IsTurn (reading_outcome old.register reading) old new (content_of r) → AccountsFor old new (Ok r)
+    → IsWritten (λ c. c ≡ content_of r) before behind result → CarriesAt service input old new before behind result
+turn_carries service input old new before behind result reading r may turn (inr (is, counts)) w =
+    none_of service input old new before behind result counts.0
+    (of_kind (IsToldAt service input None old new) (content_of r) before behind result (counts.0, inr (ap content_of is, counts)) w)
+turn_carries service input old new before behind result reading r may (inr (is, counts)) (inl (other, faults)) w = absurd (other (ap status_of is))
+turn_carries service input old new before behind result reading r may (inl (same, left, kept)) (inl (other, faults)) w =
+    carried_of service input old new before behind result (reading_asks reading) (reading_outcome old.register reading)
+    (of_reading old.register reading) may left
+    (of_kind (λ c. (c ≡ Outcome.response (reading_outcome old.register reading)) × (status_of c ≢ 503) × (new.faults ≡ old.faults)) (content_of r) before behind result
     (same, other, faults) w)
 
 -- one for whose response memory ran out
-pub unmade_carries : (input : Option (List ℕ)) (old new : Keeper) (stream : Stream) (target : Target) (body : List ℕ)
-    → MayAsk input (target_asks target body) → IsLeft (target_outcome old.register target body) old.register new.register
-    → Carries input old new stream stream (Err NoMemory)
-unmade_carries input old new stream target body may (inl e) = none_of input old new stream stream (Err NoMemory) e refl
-unmade_carries input old new stream target body may (inr e) =
-    carried_of input old new stream stream (Err NoMemory) (target_asks target body) (target_outcome old.register target body)
-    (of_target old.register target body) may e refl
+pub unmade_carries : (service : Service) (input : Option (List ℕ)) (old new : Keeper) (stream : Stream) (reading : Reading)
+    → MayAskAt service input (reading_asks reading) → IsLeft (reading_outcome old.register reading) old.register new.register
+    → CarriesAt service input old new stream stream (Err NoMemory)
+unmade_carries service input old new stream reading may (inl e) = none_of service input old new stream stream (Err NoMemory) e refl
+unmade_carries service input old new stream reading may (inr e) =
+    carried_of service input old new stream stream (Err NoMemory) (reading_asks reading) (reading_outcome old.register reading)
+    (of_reading old.register reading) may e refl
 
 -- ---- what is read asks
 
@@ -375,11 +389,11 @@ refusal_asks e reading is = of_some (refusal_of e) is (refused_asks e)
     of_some : (o : Option Reading) → o ≡ Some reading → ask o ≡ None → reading_asks reading ≡ None
     of_some o is none = sym (ap ask is) ∙ none
 
-pub reading_may_ask : (known left : Option (List ℕ)) (reading : Reading) → ((input : List ℕ) → known ≡ Some input → IsReading input left reading)
-    → MayAsk known (reading_asks reading)
-reading_may_ask None left reading reads = tt
-reading_may_ask (Some input) left reading reads = asked (reads input refl)
+pub reading_may_ask : (service : Service) (known left : Option (List ℕ)) (reading : Reading) → ((input : List ℕ) → known ≡ Some input → IsReading service input left reading)
+    → MayAskAt service known (reading_asks reading)
+reading_may_ask service None left reading reads = tt
+reading_may_ask service (Some input) left reading reads = asked (reads input refl)
   where
-    asked : IsReading input left reading → Asks input (reading_asks reading)
+    asked : IsReading service input left reading → AsksAt service input (reading_asks reading)
     asked (inl (head, rest, b, e)) = inl (head, rest, b, ap reading_asks e)
     asked (inr (none, (taken, consumed, e, is, explained))) = inr (none, refusal_asks e reading is)

@@ -1,5 +1,5 @@
 -- One request: its head, and the body after it, in the bytes that were taken.
-use Rattle.std.proofs.Common.{◌≡◌, ◌∙◌, sym, ap, refl, subst, ℕ, suc, ◌+◌, ◌≤◌, ◌<◌, ◌-◌, true, false, nat_le, List, [], ◌∷◌, ◌++◌, length, take, drop, Option, Some, None, arith, rules, length-append, inl, inr}
+use Rattle.std.proofs.Common.{◌≡◌, ◌∙◌, sym, ap, refl, subst, ℕ, suc, ◌+◌, ◌≤◌, ◌<◌, ◌-◌, Bool, true, false, if◌then◌else◌, nat_le, List, [], ◌∷◌, ◌++◌, length, take, drop, Option, Some, None, arith, rules, length-append, inl, inr}
 use Rattle.std.proofs.lemmas.Bool.{le-leb, lt-leb}
 use Rattle.std.proofs.lemmas.List.{take-append-le, drop-append-le, length-drop, length-map, length-take-le}
 use Rattle.std.proofs.Math.Seq.{drop-append_seam}
@@ -12,9 +12,14 @@ use Rattle.httparse.specs.declared.spans.HeaderSpan.{HeaderSpan}
 use Rattle.httparse.specs.declared.spans.RequestSpans.{RequestSpans}
 use Rattle.clr_http.proofs.Heads.{none_at_first}
 use Rattle.clr_http.specs.Head.{BeginsWith, HasHead, IsOutside}
-use Rattle.clr_http.specs.Request.{IsReading, IsRefusedHead, Reading, asks, command_read, refusal_of, refused, request_read}
-use Rattle.clr_http.specs.Response.{fault_response}
+use Rattle.clr_http.specs.Callers.{caller_checked, login_of, may_ask}
+use Rattle.clr_http.specs.Fields.{fields_of}
+use Rattle.clr_http.specs.Request.{IsReading, IsRefusedHead, Reading, asks, command_read, head_read, refusal_of, refused, request_read_at}
+use Rattle.clr_http.specs.Reading.{target_asks}
+use Rattle.clr_http.specs.Response.{Content, fault_response, status_of}
+use Rattle.clr_logins.specs.declared.logins.LoginRow.{LoginRow}
 use Rattle.clr_http.specs.declared.head.HeadFault.{HeadFault}
+use Rattle.clr_http.specs.declared.options.Service.{Service}
 use Rattle.clr_http.specs.declared.head.HeadFault.TheVariants as head_fault
 use Rattle.clr_http.specs.declared.response.Fault.TheVariants as fault
 use Rattle.clr_http.specs.declared.target.Target.{Target}
@@ -100,23 +105,66 @@ outside_unsaid head_fault.ReadFailed reading o e = cc e
 outside_unsaid head_fault.NoMemory reading o e = cc e
 
 -- a request that was read is the one of its head
-pub reading_is : (input rest : List ℕ) (head : RequestHead) (left : Option (List ℕ)) (reading : Reading) → IsReading input left reading
-    → BeginsWith input head rest → reading ≡ request_read head rest
-reading_is input rest head left reading (inl (h, later, b, e)) begins =
+pub reading_is : (service : Service) (input rest : List ℕ) (head : RequestHead) (left : Option (List ℕ)) (reading : Reading) → IsReading service input left reading
+    → BeginsWith input head rest → reading ≡ request_read_at service head rest
+reading_is service input rest head left reading (inl (h, later, b, e)) begins =
     let (one, two) = request_unique input h head later rest b.reads begins.reads in
-    e ∙ (ap (λ x. request_read x later) one ∙ ap (request_read head) two)
-reading_is input rest head left reading (inr (none, refusal)) begins = absurd (none (head, rest, begins))
+    e ∙ (ap (λ x. request_read_at service x later) one ∙ ap (request_read_at service head) two)
+reading_is service input rest head left reading (inr (none, refusal)) begins = absurd (none (head, rest, begins))
 
 -- without a head it is a refusal
-pub refusal_is : (input : List ℕ) (left : Option (List ℕ)) (reading : Reading) → IsReading input left reading → ¬ (HasHead (Some input))
+pub refusal_is : (service : Service) (input : List ℕ) (left : Option (List ℕ)) (reading : Reading) → IsReading service input left reading → ¬ (HasHead (Some input))
     → IsRefusedHead (Some input) left reading
-refusal_is input left reading (inl (h, later, b, e)) none = absurd (none (h, later, b))
-refusal_is input left reading (inr (headless, refusal)) none = refusal
+refusal_is service input left reading (inl (h, later, b, e)) none = absurd (none (h, later, b))
+refusal_is service input left reading (inr (headless, refusal)) none = refusal
 
--- what is asked for is no refusal of a head
+-- what is asked for is no refusal of a head, and neither is the refusal of its caller
 unasked : (e : HeadFault) (a : Target) (body : List ℕ) → refusal_of e ≡ Some (asks a body) → ⊥
 unasked head_fault.BadHead a body e = cc e
 unasked _ a body e = cc e
 
-pub asks_unrefused : (known left : Option (List ℕ)) (a : Target) (body : List ℕ) → IsRefusedHead known left (asks a body) → ⊥
-asks_unrefused known left a body (taken, consumed, e, is, explained) = unasked e a body is
+-- the status of a reading that is refused
+status_in : Option Reading → ℕ
+status_in None = 400
+status_in (Some (refused c)) = status_of c
+status_in (Some (asks a body)) = 400
+
+of_head : (e : HeadFault) → status_in (refusal_of e) ≡ 400
+unfolding status_in
+of_head head_fault.BadHead = refl
+of_head head_fault.HeadTooLarge = refl
+of_head head_fault.HeadCut = refl
+of_head head_fault.ReadFailed = refl
+of_head head_fault.NoMemory = refl
+
+no_caller : (e : HeadFault) → refusal_of e ≡ Some (refused (fault_response fault.NotCaller)) → ⊥
+unfolding status_in
+no_caller e is = let same : 400 ≡ 403 = sym (of_head e) ∙ ap status_in is in absurd (omega (arith, same))
+
+pub asks_unrefused : (logins : Option (List LoginRow)) (login known left : Option (List ℕ)) (a : Target) (body : List ℕ)
+    → IsRefusedHead known left (caller_checked logins login (asks a body)) → ⊥
+asks_unrefused logins login known left a body (taken, consumed, e, is, explained) = by (may_ask logins login (target_asks a body)) is
+  where
+    by : (may : Bool) → refusal_of e ≡ Some (if may then asks a body else refused (fault_response fault.NotCaller)) → ⊥
+    by true is = unasked e a body is
+    by false is = no_caller e is
+
+-- where a request that asks something is refused, its caller is
+pub refused_caller : (logins : Option (List LoginRow)) (login : Option (List ℕ)) (a : Target) (body : List ℕ) (c : Content)
+    → caller_checked logins login (asks a body) ≡ refused c → may_ask logins login (target_asks a body) ≡ false
+refused_caller logins login a body c is = by (may_ask logins login (target_asks a body)) is
+  where
+    by : (may : Bool) → (if may then asks a body else refused (fault_response fault.NotCaller)) ≡ refused c → may ≡ false
+    by true is = cc is
+    by false is = refl
+
+-- a request that was read, by its login and by what it came to before its caller was checked
+pub heard_is : (service : Service) (login : Option (List ℕ)) (r : Reading) (head : RequestHead) (rest : List ℕ)
+    → login ≡ login_of (fields_of head) → r ≡ head_read service head rest → caller_checked service.logins login r ≡ request_read_at service head rest
+heard_is service login r head rest e f = rw (e, f) refl
+
+-- the refusal of a head is no request whose caller is checked
+pub unchecked_refusal : (logins : Option (List LoginRow)) (login : Option (List ℕ)) (e : HeadFault) (r : Reading)
+    → refusal_of e ≡ Some r → refusal_of e ≡ Some (caller_checked logins login r)
+unchecked_refusal logins login e (refused c) is = is
+unchecked_refusal logins login e (asks a body) is = absurd (unasked e a body is)

@@ -6,7 +6,8 @@ use Rattle.clr_rules.proofs.Common.{IsGood, Register, IsReached, after, after_al
 use Rattle.clr_text.specs.Reading.{read_command}
 use Rattle.clr_text.specs.declared.fault.TextFault.{TextFault}
 use Rattle.clr_http.specs.Registrar.{IsTurn, Keeper}
-use Rattle.clr_http.specs.Respond.{Outcome, target_outcome, body_outcome, order_outcome, show_of, view_outcome}
+use Rattle.clr_http.specs.Respond.{Outcome, reading_outcome, target_outcome, body_outcome, order_outcome, show_of, view_outcome}
+use Rattle.clr_http.specs.Reading.{Reading, asks, refused}
 use Rattle.clr_http.specs.Response.{Content}
 use Rattle.clr_http.specs.declared.target.Target.{Target}
 use Rattle.clr_http.specs.declared.target.OrderRequest.{OrderRequest}
@@ -44,13 +45,18 @@ module _ (P : Register → Type 0) (R : Register) (here : P R) (next : (q : Comm
   of_asked (asked.Clearance viewing) body = of_view viewing
   of_asked (asked.Order printing) body = of_order printing
   of_asked asked.Board body = here
+  of_asked asked.Network body = here
 
-  kept_by : (S : Register) (a : Target) (body : List ℕ) → IsLeft (target_outcome R a body) R S → P S
-  kept_by S a body (inl e) = subst P (sym e) here
-  kept_by S a body (inr e) = subst P (sym e) (of_asked a body)
+  of_reading : (reading : Reading) → P (Outcome.left (reading_outcome R reading))
+  of_reading (refused c) = here
+  of_reading (asks a body) = of_asked a body
 
-pub stays_good : (R S : Register) (a : Target) (body : List ℕ) → IsGood R → IsLeft (target_outcome R a body) R S → IsGood S
-stays_good R S a body good left = kept_by IsGood R good (λ q. commands_keep_good R q good) S a body left
+  kept_by : (S : Register) (reading : Reading) → IsLeft (reading_outcome R reading) R S → P S
+  kept_by S reading (inl e) = subst P (sym e) here
+  kept_by S reading (inr e) = subst P (sym e) (of_reading reading)
 
-pub stays_reached : (R S : Register) (a : Target) (body : List ℕ) → IsReached R → IsLeft (target_outcome R a body) R S → IsReached S
-stays_reached R S a body reached left = kept_by IsReached R reached (λ q. after_reached R q reached) S a body left
+pub stays_good : (R S : Register) (reading : Reading) → IsGood R → IsLeft (reading_outcome R reading) R S → IsGood S
+stays_good R S reading good left = kept_by IsGood R good (λ q. commands_keep_good R q good) S reading left
+
+pub stays_reached : (R S : Register) (reading : Reading) → IsReached R → IsLeft (reading_outcome R reading) R S → IsReached S
+stays_reached R S reading reached left = kept_by IsReached R reached (λ q. after_reached R q reached) S reading left

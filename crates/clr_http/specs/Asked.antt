@@ -1,57 +1,45 @@
 -- WHAT REQUESTS ASK: no command or one each, whatever the register; and which responses answer the
 -- commands of a clearance.
 use Rattle.std.specs.Prelude.{◌≡◌, ◌⊎◌, IfSome, ℕ, Bool, false, if◌then◌else◌, filter, List, [], ◌∷◌}
-use Rattle.std.specs.Prelude.{Option, None, Some, Result, Ok, Err}
+use Rattle.std.specs.Prelude.{Option, None, Some}
 use Rattle.httparse.specs.Grammar.{RequestHead}
 use Rattle.clr_rules.specs.Id.{Id}
 use Rattle.clr_rules.specs.Shown.{is_own_command}
 use Rattle.clr_rules.specs.declared.command.Command.{Command}
 use Rattle.clr_rules.specs.declared.reply.Reply.{Reply}
-use Rattle.clr_text.specs.Reading.{read_command}
-use Rattle.clr_text.specs.declared.fault.TextFault.{TextFault}
 use Rattle.clr_http.specs.Head.{BeginsWith, HasHead}
-use Rattle.clr_http.specs.Request.{Reading, asks, refused, request_read}
-use Rattle.clr_http.specs.Respond.{reply_response, show_of}
+use Rattle.clr_http.specs.Options.{plain}
+use Rattle.clr_http.specs.Request.{request_read_at}
+use Rattle.clr_http.specs.Respond.{reply_response}
 use Rattle.clr_http.specs.Response.{response_bytes}
-use Rattle.clr_http.specs.declared.target.Target.{Target}
-use Rattle.clr_http.specs.declared.target.Target.TheVariants as asked
-use Rattle.clr_http.specs.declared.target.ViewRequest.{ViewRequest}
+use Rattle.clr_http.specs.declared.options.Service.{Service}
+pub use Rattle.clr_http.specs.Reading.{body_asks, reading_asks, target_asks, view_asks}
 
--- the command of a body, if it reads as one
-abbrev pub body_asks : Result Command TextFault → Option Command
-body_asks (Ok q) = Some q
-body_asks (Err fault) = None
-
--- the `show` of a view
-abbrev pub view_asks : Option ViewRequest → Option Command
-view_asks None = None
-view_asks (Some v) = Some (show_of v)
-
--- a printed order and the board are no commands
-abbrev pub target_asks : Target → List ℕ → Option Command
-target_asks asked.Command body = body_asks (read_command body)
-target_asks (asked.Clearance viewing) body = view_asks viewing
-target_asks (asked.Order printing) body = None
-target_asks asked.Board body = None
-
--- nor is a request that is refused
-abbrev pub reading_asks : Reading → Option Command
-reading_asks (refused c) = None
-reading_asks (asks target body) = target_asks target body
-
--- WHAT AN INPUT ASKS: the command that its head and the bytes after it read as, if they do
-abbrev pub asked_in : RequestHead → List ℕ → Option Command
-asked_in head rest = reading_asks (request_read head rest)
+-- WHAT AN INPUT ASKS of a service: the command that its head and the bytes after it read as, if they
+-- do, in a name that its login may use
+abbrev pub asked_in_at : Service → RequestHead → List ℕ → Option Command
+asked_in_at service head rest = reading_asks (request_read_at service head rest)
 
 -- an input without a head asks nothing
-abbrev pub Asks : List ℕ → Option Command → Type 0
-Asks input command = ((head : RequestHead) × (rest : List ℕ) × BeginsWith input head rest
-    × (command ≡ asked_in head rest))
+abbrev pub AsksAt : Service → List ℕ → Option Command → Type 0
+AsksAt service input command = ((head : RequestHead) × (rest : List ℕ)
+    × BeginsWith input head rest × (command ≡ asked_in_at service head rest))
     ⊎ (¬ (HasHead (Some input)) × (command ≡ None))
 
 -- an input that may not be known asks this, as far as it is
+abbrev pub MayAskAt : Service → Option (List ℕ) → Option Command → Type 0
+MayAskAt service input command = IfSome input (λ bytes. AsksAt service bytes command)
+
+-- ---- of the plain service
+
+abbrev pub asked_in : RequestHead → List ℕ → Option Command
+asked_in = asked_in_at plain
+
+abbrev pub Asks : List ℕ → Option Command → Type 0
+Asks = AsksAt plain
+
 abbrev pub MayAsk : Option (List ℕ) → Option Command → Type 0
-MayAsk input command = IfSome input (λ bytes. Asks bytes command)
+MayAsk = MayAskAt plain
 
 -- each input asks what is at its place
 unfoldable pub AskEach : List (List ℕ) → List (Option Command) → Type 0

@@ -1,22 +1,13 @@
 -- THE LENGTH of a command's body, as the fields of the head give it.
-use Rattle.std.specs.Prelude.{ℕ, Bool, ◌&&◌, nat_le, nat_eq, if◌then◌else◌, List, [], ◌∷◌, codes}
-use Rattle.std.specs.Prelude.{filter, length, map, Result, Ok, Err}
-use Rattle.std.specs.Char.{is_ascii_digit, to_ascii_lowercase}
-use Rattle.std.specs.Cmp.Lexicographic.{pointwise}
+use Rattle.std.specs.Prelude.{ℕ, Bool, ◌&&◌, nat_le, if◌then◌else◌, List, [], ◌∷◌, codes}
+use Rattle.std.specs.Prelude.{filter, length, Result, Ok, Err}
+use Rattle.std.specs.Char.{is_ascii_digit}
 use Rattle.std.specs.List.{list_all, list_any}
 use Rattle.std.specs.Str.Parse.{digits_value}
+use Rattle.clr_http.specs.Fields.{Field, is_called}
 use Rattle.clr_http.specs.declared.length.LengthFault.{LengthFault}
 use Rattle.clr_http.specs.declared.length.LengthFault.TheVariants.{BadLength, BodyTooLarge}
 use Rattle.clr_http.specs.declared.length.LengthFault.TheVariants.{NoLength}
-
--- a field: its name, and its value without the white space around it
-abbrev pub Field : Type 0
-Field = List ℕ × List ℕ
-
--- field names compare without regard to ASCII case
-abbrev pub is_called : List ℕ → Field → Bool
-is_called name field = pointwise nat_eq (map to_ascii_lowercase field.0)
-    (map to_ascii_lowercase name)
 
 -- 1 to 10 digits
 abbrev pub is_length : List ℕ → Bool

@@ -1,7 +1,12 @@
+pub mod Options
 pub mod Head
+pub mod Fields
+pub mod Foreign
 pub mod Length
 pub mod Request
 pub mod Response
+pub mod Reading
+pub mod Callers
 pub mod Target
 pub mod Respond
 pub mod Registrar
@@ -12,3 +17,4 @@ pub mod Answered
 pub mod Service
 pub mod RequestLaws
 pub mod Posted
+pub mod CallerLaws

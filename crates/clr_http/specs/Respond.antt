@@ -1,7 +1,8 @@
--- WHAT A REQUEST IS ANSWERED at a register, and the register after it: the head, the route and the
--- body come to a reading (Request), and a reading to an outcome. A fault of the store or of memory
--- is no part of it.
-use Rattle.std.specs.Prelude.{◌≡◌, ℕ, List, Option, None, Some, Result, Ok, Err, pos}
+-- WHAT A REQUEST IS ANSWERED at a service and a register, and the register after it: the head, the
+-- route, the body and the caller come to a reading (Request), and a reading to an outcome. A fault of
+-- the store or of memory is no part of it.
+use Rattle.std.specs.Prelude.{◌≡◌, ℕ, if◌then◌else◌, List, Option, None, Some, Result, Ok, Err}
+use Rattle.std.specs.Prelude.{pos}
 use Rattle.httparse.specs.Grammar.{RequestHead}
 use Rattle.clr_rules.specs.Answer.{Answer, answer}
 use Rattle.clr_rules.specs.Prelude.{Register, record_of, steps_of}
@@ -11,18 +12,23 @@ use Rattle.clr_print.specs.Printed.{board_text, order_text}
 use Rattle.clr_text.specs.Reading.{read_command}
 use Rattle.clr_text.specs.Replies.{reply_text}
 use Rattle.clr_text.specs.declared.fault.TextFault.{TextFault}
+use Rattle.clr_logins.specs.declared.logins.LoginRow.{LoginRow}
+use Rattle.clr_view.specs.View.{network_text}
+use Rattle.clr_http.specs.Callers.{may_ask}
 use Rattle.clr_http.specs.Head.{BeginsWith}
-use Rattle.clr_http.specs.Request.{Reading, asks, refused, request_read}
+use Rattle.clr_http.specs.Options.{plain}
+use Rattle.clr_http.specs.Request.{Reading, asks, refused, request_read_at}
 use Rattle.clr_http.specs.Response.{Content, json, printed, fault_response}
-use Rattle.clr_http.specs.declared.response.Fault.TheVariants.{NoSuch}
+use Rattle.clr_http.specs.declared.options.Service.{Service}
+use Rattle.clr_http.specs.declared.response.Fault.TheVariants.{NoSuch, NotCaller}
 use Rattle.clr_http.specs.declared.target.Target.{Target}
 use Rattle.clr_http.specs.declared.target.OrderRequest.{OrderRequest}
 use Rattle.clr_http.specs.declared.target.ViewRequest.{ViewRequest}
 use Rattle.clr_http.specs.declared.target.Target.TheVariants as asked
 use Rattle.clr_rules.specs.declared.command.Command.{Command}
-use Rattle.clr_rules.specs.declared.command.Kind.TheVariants.{Show}
 use Rattle.clr_rules.specs.declared.reply.Reply.{Reply}
 use Rattle.clr_rules.specs.declared.reply.Reply.TheVariants.{Accepted, Added, Refused, Shown}
+pub use Rattle.clr_http.specs.Reading.{show_of, target_asks}
 
 -- a response, and the register that it leaves
 pub record Outcome : Type 0 where
@@ -55,10 +61,6 @@ abbrev pub body_outcome : Register → Result Command TextFault → Outcome
 body_outcome R (Ok q) = command_outcome R q
 body_outcome R (Err fault) = unchanged R (json 400 (fault_text fault))
 
--- `show` by the caller, which looks at no moment
-abbrev pub show_of : ViewRequest → Command
-show_of v = record { caller = v.caller; moment = 0; kind = Show v.id }
-
 abbrev pub view_outcome : Register → Option ViewRequest → Outcome
 view_outcome R None = unchanged R (fault_response NoSuch)
 view_outcome R (Some v) = command_outcome R (show_of v)
@@ -82,17 +84,37 @@ target_outcome R asked.Command body = body_outcome R (read_command body)
 target_outcome R (asked.Clearance viewing) body = view_outcome R viewing
 target_outcome R (asked.Order printing) body = order_outcome R printing
 target_outcome R asked.Board body = unchanged R (printed (board_text R (pos 0)))
+target_outcome R asked.Network body = unchanged R (json 200 (network_text R))
+
+-- a command of a request with this login: it is put to the register in a name that the login may use
+abbrev pub spoken_outcome : Option (List LoginRow) → Option (List ℕ) → Register → Command → Outcome
+spoken_outcome logins login R q = if may_ask logins login (Some q) then command_outcome R q
+    else unchanged R (fault_response NotCaller)
+
+-- what such a request asks for
+abbrev pub checked_outcome : Option (List LoginRow) → Option (List ℕ) → Register → Target → List ℕ
+    → Outcome
+checked_outcome logins login R asked body = if may_ask logins login (target_asks asked body)
+    then target_outcome R asked body else unchanged R (fault_response NotCaller)
 
 abbrev pub reading_outcome : Register → Reading → Outcome
 reading_outcome R (refused c) = unchanged R c
 reading_outcome R (asks asked body) = target_outcome R asked body
 
--- WHAT A HEAD AND THE BYTES AFTER IT ARE ANSWERED
-abbrev pub respond_to : Register → RequestHead → List ℕ → Outcome
-respond_to R head rest = reading_outcome R (request_read head rest)
+-- WHAT A HEAD AND THE BYTES AFTER IT ARE ANSWERED at a service
+abbrev pub respond_at : Service → Register → RequestHead → List ℕ → Outcome
+respond_at service R head rest = reading_outcome R (request_read_at service head rest)
 
 -- WHAT AN INPUT IS ANSWERED: it begins with a head of at most 8,192 bytes and 64 fields, and with
 -- one alone
+abbrev pub RespondsAt : Service → Register → List ℕ → Outcome → Type 0
+RespondsAt service R input o = (head : RequestHead) × (rest : List ℕ) × BeginsWith input head rest
+    × (o ≡ respond_at service R head rest)
+
+-- ---- at the plain service
+
+abbrev pub respond_to : Register → RequestHead → List ℕ → Outcome
+respond_to = respond_at plain
+
 abbrev pub Responds : Register → List ℕ → Outcome → Type 0
-Responds R input o = (head : RequestHead) × (rest : List ℕ) × BeginsWith input head rest
-    × (o ≡ respond_to R head rest)
+Responds = RespondsAt plain

@@ -5,7 +5,7 @@ use Rattle.clr_http.specs.declared.response.Fault.{Fault}
 use Rattle.clr_http.specs.declared.response.Fault.TheVariants.{BadHead, HeadTooLarge, HeadCut}
 use Rattle.clr_http.specs.declared.response.Fault.TheVariants.{NoRoute, NoLength, BadLength}
 use Rattle.clr_http.specs.declared.response.Fault.TheVariants.{BodyTooLarge, BodyCut, NoSuch}
-use Rattle.clr_http.specs.declared.response.Fault.TheVariants.{Unavailable}
+use Rattle.clr_http.specs.declared.response.Fault.TheVariants.{Unavailable, Foreign, NotCaller}
 use Rattle.clr_http.specs.declared.response.Method.{Method}
 use Rattle.clr_http.specs.declared.response.Method.TheVariants.{Get, Post}
 use Rattle.clr_http.specs.declared.response.Response.{Response}
@@ -23,6 +23,8 @@ fault_word BodyTooLarge = codes "BodyTooLarge"
 fault_word BodyCut = codes "BodyCut"
 fault_word NoSuch = codes "NoSuch"
 fault_word Unavailable = codes "Unavailable"
+fault_word Foreign = codes "Foreign"
+fault_word NotCaller = codes "NotCaller"
 
 -- the status of a fault
 abbrev pub fault_status : Fault → ℕ
@@ -36,6 +38,8 @@ fault_status BodyTooLarge = 413
 fault_status BodyCut = 400
 fault_status NoSuch = 404
 fault_status Unavailable = 503
+fault_status Foreign = 403
+fault_status NotCaller = 403
 
 abbrev pub fault_body : Fault → List ℕ
 fault_body fault = codes "{\"fault\":\"" ++ fault_word fault ++ codes "\"}"

@@ -36,7 +36,7 @@ AnsweredOnce = (R : Register) (input : List ℕ) (o other : Outcome) → Respond
 abbrev pub unavailable_bytes : List ℕ
 unavailable_bytes = response_bytes (fault_response Unavailable)
 
--- the bytes that go out to an input that begins with no head: none where it is empty; else a refusal
+-- the bytes that go out to an input that begins with no head: none where it is empty, otherwise a refusal
 abbrev pub IsHeadless : List ℕ → List ℕ → Type 0
 IsHeadless input bytes = ¬ (HasHead (Some input))
     × (((input ≡ []) × (bytes ≡ []))

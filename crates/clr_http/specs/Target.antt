@@ -1,6 +1,6 @@
--- THE TARGET of a request: which of the four routes it takes, by the router's rule, and what its
+-- THE TARGET of a request: which of the routes it takes, by the router's rule, and what its
 -- parts name.
-use Rattle.std.specs.Prelude.{ℕ, if◌then◌else◌, List, [], codes, unwrap_or, Option, Some, None}
+use Rattle.std.specs.Prelude.{ℕ, Bool, if◌then◌else◌, List, [], codes, unwrap_or, Option, Some, None}
 use Rattle.std.specs.Prelude.{option_map, Result, Ok, Err}
 use Rattle.std.specs.Char.{is_ascii}
 use Rattle.clr_rules.specs.Prelude.{list_all, Id}
@@ -19,6 +19,7 @@ use Rattle.clr_http.specs.declared.target.Target.{Target}
 use Rattle.clr_http.specs.declared.target.OrderRequest.{OrderRequest}
 use Rattle.clr_http.specs.declared.target.Route.{Route}
 use Rattle.clr_http.specs.declared.target.Route.TheVariants.{Command, Clearance, Order, Board}
+use Rattle.clr_http.specs.declared.target.Route.TheVariants.{Network}
 use Rattle.clr_http.specs.declared.target.ViewRequest.{ViewRequest}
 use Rattle.clr_http.specs.declared.target.Target.TheVariants as asked
 
@@ -38,6 +39,13 @@ the_routes =
     (with_route (codes "/order/{requester}/{number}/{round}") Order
     (with_route (codes "/clearance/{caller}/{requester}/{number}") Clearance
     (with_route (codes "/command") Command [])))
+
+-- a desk has one more
+unfoldable pub desk_routes : RowsOf (RouteOf Route)
+desk_routes = with_route (codes "/network") Network the_routes
+
+abbrev pub routes_of : Bool → RowsOf (RouteOf Route)
+routes_of desk = if desk then desk_routes else the_routes
 
 -- a route, by its parts
 abbrev pub route_in : List ℕ → List ℕ → List (ℕ × ℕ) → Route → RouteOf Route
@@ -76,7 +84,9 @@ target_by target r Clearance =
 target_by target r Order =
     asked.Order (order_request (id_at target r) (read_round (part target r (codes "round"))))
 target_by target r Board = asked.Board
+target_by target r Network = asked.Network
 
 -- WHAT A TARGET ASKS FOR: nothing where no route is its own
-abbrev pub target_of : List ℕ → Option Target
-target_of target = option_map (λ r. target_by target r r.value) (first the_routes target)
+abbrev pub target_of : Bool → List ℕ → Option Target
+target_of desk target =
+    option_map (λ r. target_by target r r.value) (first (routes_of desk) target)

@@ -6,20 +6,25 @@ ghost use Rattle.clr_desk.proofs.Givings.{leads_itself, leads_on};
 use crate::registrar::Registrar;
 use clr_desk::{Commit, Desk};
 use clr_print::{print_board, print_order};
-use clr_rules::{ClearanceId, Command, Reply};
+use clr_rules::{ClearanceId, Command, Reply, Text};
+use clr_view::network_text;
 use std::alloc::{AllocError, Global};
 
 impl<K: Commit> Registrar for Desk<K> {
     ghost keeper = { λ d. record { register = d.book.register; faults = d.faults } };
 
-    ghost leads_to = { λ before behind. LeadsTo K.kept K.takes before behind };
+    ghost leads_to = { λ before behind. LeadsTo K.kept K.takes K.hears before behind };
 
-    ghost stays = { λ one. leads_itself K.kept K.takes one };
+    ghost stays = { λ one. leads_itself K.kept K.takes K.hears one };
 
-    ghost goes_on = { λ before between behind. leads_on K.kept K.takes before between behind };
+    ghost goes_on = { λ before between behind. leads_on K.kept K.takes K.hears before between behind };
 
     fn faults(&self) -> u64 {
         self.faults()
+    }
+
+    fn hear(&mut self, login: Option<Text>) {
+        self.hear(login);
     }
 
     fn answer(&mut self, command: Command) -> Option<Reply> {
@@ -37,5 +42,9 @@ impl<K: Commit> Registrar for Desk<K> {
 
     fn board(&self, alloc: Global) -> Result<String, AllocError> {
         print_board(alloc, self.book(), 0)
+    }
+
+    fn network(&self, alloc: Global) -> Result<String, AllocError> {
+        network_text(alloc, self.book())
     }
 }

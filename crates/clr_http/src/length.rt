@@ -2,12 +2,14 @@
 ghost use Rattle.std.specs.Prelude.{◌≡◌, ◌≤◌, All, Ok, Err, None, Some, codes, filter};
 ghost use Rattle.std.specs.Prelude.{if◌then◌else◌, length, map};
 ghost use Rattle.std.specs.Char.{is_ascii_digit};
-ghost use Rattle.std.specs.List.{list_all, list_any};
+ghost use Rattle.std.specs.List.{list_all};
 ghost use Rattle.std.specs.Str.Parse.{digits_value};
 ghost use Rattle.httparse.specs.Spans.{IsHeaderWithin, header_bytes, span_bytes};
-ghost use Rattle.clr_http.specs.Length.{body_length, is_called, is_length, length_of_fields};
+ghost use Rattle.clr_http.specs.Fields.{is_called};
+ghost use Rattle.clr_http.specs.Length.{body_length, is_length, length_of_fields};
 ghost use Rattle.clr_http.specs.Length.{read_length};
 
+use crate::fields::{has_field, is_called};
 use httparse::spans::HeaderSpan;
 use std::str::from_utf8;
 
@@ -49,7 +51,8 @@ fn read_digits(value: &[u8]) -> Option<u64>
     text.parse().ok()
 }
 
-fn all_digits(value: &[u8]) -> bool
+/// Whether all bytes are digits.
+pub(crate) fn all_digits(value: &[u8]) -> bool
     ensures { result ≡ list_all is_ascii_digit value.now }
 {
     value.iter().all(|b| b.is_ascii_digit())
@@ -60,26 +63,6 @@ fn is_length(value: &[u8]) -> bool
     ensures { result ≡ is_length value.now }
 {
     1 <= value.len() && value.len() <= 10 && all_digits(value)
-}
-
-/// Whether a field has this name, without regard to ASCII case.
-fn is_called(buffer: &[u8], header: HeaderSpan, name: &str) -> bool
-    requires { IsHeaderWithin (length buffer.now) header }
-    ensures { result ≡ is_called name.now (header_bytes buffer.now header) }
-{
-    let bytes = header.name.of(buffer);
-    bytes.eq_ignore_ascii_case(name.as_bytes())
-}
-
-/// Whether one of these fields has this name.
-fn has_field(buffer: &[u8], headers: &[HeaderSpan], name: &str) -> bool
-    requires { All (IsHeaderWithin (length buffer.now)) headers.now }
-    ensures { result ≡ list_any (is_called name.now) (map (header_bytes buffer.now) headers.now) }
-{
-    match headers {
-        [] => false,
-        [first, rest @ ..] => is_called(buffer, *first, name) || has_field(buffer, rest, name),
-    }
 }
 
 /// What the one field `Content-Length` gives.

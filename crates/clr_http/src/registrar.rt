@@ -7,9 +7,10 @@ ghost use Rattle.clr_rules.specs.Records.{record_of};
 ghost use Rattle.clr_rules.specs.Run.{after};
 ghost use Rattle.clr_rules.specs.Steps.{steps_of};
 ghost use Rattle.clr_print.specs.Printed.{board_text, order_text};
+ghost use Rattle.clr_view.specs.View.{network_text};
 ghost use Rattle.clr_http.specs.Registrar.{Keeper, faults_after};
 
-use clr_rules::{ClearanceId, Command, Reply};
+use clr_rules::{ClearanceId, Command, Reply, Text};
 use std::alloc::{AllocError, Global};
 
 /// One who keeps a register: answers commands, and prints what is in it. A desk is one.
@@ -25,6 +26,11 @@ pub trait Registrar {
     /// 2^64 - 1.
     fn faults(&self) -> u64
         ensures { result ≡ (keeper self.now).faults };
+
+    /// Says at which login the next command is given, if at one.
+    fn hear(&mut self, login: Option<Text>)
+        ensures same { keeper self.new ≡ keeper self.old }
+        ensures led { leads_to self.old self.new };
 
     /// Answers a command and makes its change. `None`, and one more in `faults`, where the store or
     /// memory refused.
@@ -53,6 +59,11 @@ pub trait Registrar {
     fn board(&self, alloc: Global) -> Result<String, AllocError>
         ensures { IfOk result (λ text. string_bytes text
             ≡ board_text (keeper self.now).register (pos 0)) };
+
+    /// The network as a page draws it, as JSON.
+    fn network(&self, alloc: Global) -> Result<String, AllocError>
+        ensures { IfOk result (λ text. string_bytes text
+            ≡ network_text (keeper self.now).register) };
 
     ghost stays: { (one : Self) → leads_to one one };
 

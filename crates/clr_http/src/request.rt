@@ -1,7 +1,7 @@
 //! The request: what its head and the bytes after it ask for.
 ghost use Rattle.std.specs.Prelude.{◌≡◌, ◌≢◌, ◌≤◌, ◌<◌, ℕ, All, List, [], Option, Some, None, Ok};
 ghost use Rattle.std.specs.Prelude.{Err, IfOk, IfErr, IfSome, drop, length, map, take};
-ghost use Rattle.std.specs.Prelude.{true, false, vec_len};
+ghost use Rattle.std.specs.Prelude.{◌&&◌, true, false, vec_len};
 ghost use Rattle.std.specs.Str.{IsUtf8};
 ghost use Rattle.std.specs.Io.KnownBytes.{Consumes, IsAtEnd};
 ghost use Rattle.httparse.specs.Grammar.{RequestHead};
@@ -9,17 +9,22 @@ ghost use Rattle.httparse.specs.Spans.{IsHeaderWithin, IsRequestAt, IsRequestWit
 ghost use Rattle.httparse.specs.Spans.{span_bytes};
 ghost use Rattle.clr_stream.specs.Failures.{Rose};
 ghost use Rattle.clr_http.specs.Head.{IsOutside};
+ghost use Rattle.clr_http.specs.Foreign.{is_foreign};
 ghost use Rattle.clr_http.specs.Length.{body_length};
 ghost use Rattle.clr_http.specs.Request.{IsNo503, IsReadAs, command_read};
 ghost use Rattle.clr_http.specs.Request.{fault_of_length, method_of};
-ghost use Rattle.clr_http.specs.Request.{reading, refusal_of, refused, request_read};
+ghost use Rattle.clr_http.specs.Request.{head_read, reading, refusal_of, refused};
 ghost use Rattle.clr_http.specs.Response.{fault_response};
 ghost use Rattle.clr_http.specs.Target.{target_of};
 
+use crate::callers::login_of;
+use crate::foreign::is_foreign;
 use crate::head::{HeadFault, MAX_FIELDS, fill, read_head};
 use crate::length::{LengthFault, body_length};
+use crate::options::Service;
 use crate::response::{Fault, Method, Response};
 use crate::target::{Target, target_of};
+use clr_logins::Login;
 use clr_stream::CountedRead;
 use httparse::spans::{EMPTY_HEADER_SPAN, HeaderSpan, RequestSpans};
 use std::alloc::Global;
@@ -32,6 +37,13 @@ pub(crate) enum Request {
     Refused(Response),
     /// It asks for this. The body is a command's, and empty for every other route.
     Asks(Target, Vec<u8>),
+}
+
+/// A request that was read, and the login of its head.
+#[derive(Debug, Drop)]
+pub(crate) struct Heard {
+    pub request: Request,
+    pub login: Option<Login>,
 }
 
 /// Why no request was read.
@@ -132,12 +144,12 @@ fn read_fault(fault: HeadFault) -> ReadFault
 }
 
 /// What a target asks for.
-fn target_read(alloc: Global, target: &[u8]) -> Result<Option<Target>, ReadFault>
+fn target_read(alloc: Global, desk: bool, target: &[u8]) -> Result<Option<Target>, ReadFault>
     requires { IsUtf8 target.now }
-    ensures asked { IfOk result (λ o. o ≡ target_of target.now) }
+    ensures asked { IfOk result (λ o. o ≡ target_of desk target.now) }
     ensures calm { result ≢ Err ReadFault.ReadFailed }
 {
-    match target_of(alloc, str::from_utf8(target).unwrap()) {
+    match target_of(alloc, desk, str::from_utf8(target).unwrap()) {
         Ok(asked) => Ok(asked),
         Err(_) => Err(ReadFault::NoMemory),
     }
@@ -196,9 +208,20 @@ fn command_in<R: CountedRead>(
     }
 }
 
+/// Whether a service at a desk refuses a request with these fields, as one that a page of elsewhere
+/// may have sent.
+fn seems_foreign(service: &Service, buffer: &[u8], headers: &[HeaderSpan]) -> bool
+    requires { All (IsHeaderWithin (length buffer.now)) headers.now }
+    ensures { result
+        ≡ (service.now.desk && is_foreign (map (header_bytes buffer.now) headers.now)) }
+{
+    service.desk && is_foreign(buffer, headers)
+}
+
 /// The request whose head lies at the front of the buffer.
 fn request_in<R: CountedRead>(
     alloc: Global,
+    service: &Service,
     reader: &mut R,
     buffer: &mut Vec<u8>,
     headers: &[HeaderSpan],
@@ -210,17 +233,21 @@ fn request_in<R: CountedRead>(
     ensures reading { (head : RequestHead) (input : List ℕ)
         → IsRequestAt buffer.old.items headers.now spans head
         → Consumes (Some input) (R.remaining reader.old) buffer.old.items
-        → IfOk result (λ r. reading r ≡ request_read head (drop spans.len input)) }
+        → IfOk result (λ r. reading r ≡ head_read service.now head (drop spans.len input)) }
     ensures plain { IfOk result (λ r. IsNo503 (reading r)) }
     ensures cause { result ≡ Err ReadFault.ReadFailed
         → Rose (R.failure_count reader.old) (R.failure_count reader.new) }
 {
-    let Some(asked) = target_read(alloc, spans.path.of(buffer.as_slice()))? else {
+    let path = spans.path.of(buffer.as_slice());
+    let Some(asked) = target_read(alloc, service.desk, path)? else {
         return refused(alloc, Fault::NoRoute);
     };
     let method = asked.method();
     if spans.method.of(buffer.as_slice()) != method.word().as_bytes() {
         return Ok(Request::Refused(Response::Allow(method)));
+    }
+    if seems_foreign(service, buffer.as_slice(), &headers[..spans.headers]) {
+        return refused(alloc, Fault::Foreign);
     }
     if asked == Target::Command {
         return command_in(alloc, reader, buffer, &headers[..spans.headers], spans.len);
@@ -232,13 +259,14 @@ fn request_in<R: CountedRead>(
 /// the input ends before its first byte.
 pub(crate) fn read_request<R: CountedRead>(
     alloc: Global,
+    service: &Service,
     reader: &mut R,
-) -> Result<Option<Request>, ReadFault>
+) -> Result<Option<Heard>, ReadFault>
     ensures known { (input : List ℕ) → R.remaining reader.old ≡ Some input
-        → IfOk result (IsReadAs input (R.remaining reader.new)) }
+        → IfOk result (IsReadAs service.now input (R.remaining reader.new)) }
     ensures nothing { result ≡ Ok None → IsAtEnd (R.remaining reader.old) }
     ensures empty { R.remaining reader.old ≡ Some [] → IfOk result (λ o. o ≡ None) }
-    ensures plain { IfOk result (λ o. IfSome o (λ r. IsNo503 (reading r))) }
+    ensures plain { IfOk result (λ o. IfSome o (λ h. IsNo503 (reading h.request))) }
     ensures cause { result ≡ Err ReadFault.ReadFailed
         → Rose (R.failure_count reader.old) (R.failure_count reader.new) }
 {
@@ -247,12 +275,14 @@ pub(crate) fn read_request<R: CountedRead>(
     match read_head(reader, &mut buffer, &mut headers) {
         Ok(None) => Ok(None),
         Ok(Some(spans)) => {
-            let request = request_in(alloc, reader, &mut buffer, &headers, spans)?;
-            Ok(Some(request))
+            let login = login_of(buffer.as_slice(), &headers[..spans.headers]);
+            let request = request_in(alloc, service, reader, &mut buffer, &headers, spans)?;
+            Ok(Some(Heard { request, login }))
         }
         Err(fault) => {
             let request = head_refused(alloc, fault)?;
-            Ok(Some(request))
+            let login = None;
+            Ok(Some(Heard { request, login }))
         }
     }
 }

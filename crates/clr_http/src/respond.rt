@@ -1,41 +1,53 @@
 //! What a request asks for, put to the register, and the response to it.
-ghost use Rattle.std.specs.Prelude.{◌≡◌, IfOk};
+ghost use Rattle.std.specs.Prelude.{◌≡◌, ℕ, IfOk, List, Some, false};
 ghost use Rattle.clr_rules.specs.Good.{IsGood};
-ghost use Rattle.clr_text.specs.Reading.{read_command};
+ghost use Rattle.clr_http.specs.Callers.{may_ask};
 ghost use Rattle.clr_http.specs.Registrar.{AccountsFor, IsTurned};
-ghost use Rattle.clr_http.specs.Respond.{body_outcome, command_outcome, order_outcome};
-ghost use Rattle.clr_http.specs.Respond.{reply_status, show_of, target_outcome, unchanged};
-ghost use Rattle.clr_http.specs.Respond.{view_outcome};
+ghost use Rattle.clr_http.specs.Respond.{checked_outcome, command_outcome, order_outcome};
+ghost use Rattle.clr_http.specs.Respond.{reply_status, show_of, spoken_outcome, target_asks};
+ghost use Rattle.clr_http.specs.Respond.{unchanged};
 ghost use Rattle.clr_http.specs.Response.{content_of, fault_response};
+ghost use Rattle.clr_http.specs.declared.target.Target.TheVariants.{Clearance};
+ghost use Rattle.clr_http.specs.declared.target.Target.TheVariants as asked_for;
 
+use crate::callers::Speaker;
 use crate::registrar::Registrar;
 use crate::response::{Fault, Response};
 use crate::target::{OrderRequest, Target, ViewRequest};
-use clr_rules::{Command, Kind, Moment, Reply};
+use clr_rules::{Command, Kind, Moment, Reply, Text};
 use clr_text::{TextFault, command_of, fault_text, reply_text};
 use http::StatusCode;
 use std::alloc::{AllocError, Global};
 
-/// Answers what is asked for, with the body of a command.
+/// Answers what is asked for, with the body of a command. A command or a view in a name that the
+/// speaker may not use does not come to the desk.
 pub(crate) fn response_to<D: Registrar>(
     alloc: Global,
     desk: &mut D,
+    speaker: &Speaker<'_>,
     asked: Target,
     body: &[u8],
 ) -> Result<Response, AllocError>
-    ensures turn { IsGood (D.keeper desk.old).register
-        → IsTurned (target_outcome (D.keeper desk.old).register asked body.now)
+    ensures turn { let s = speaker.now in IsGood (D.keeper desk.old).register → IsTurned
+        (checked_outcome s.logins.now s.login (D.keeper desk.old).register asked body.now)
         (D.keeper desk.old) (D.keeper desk.new) result }
     ensures accounts { AccountsFor (D.keeper desk.old) (D.keeper desk.new) result }
+    ensures unasked { let s = speaker.now in
+        may_ask s.logins.now s.login (target_asks asked body.now) ≡ false
+        → desk.new ≡ desk.old }
     ensures led { D.leads_to desk.old desk.new }
 {
     match asked {
-        Target::Command => body_response(alloc, desk, body),
-        Target::Clearance(viewing) => view_response(alloc, desk, viewing),
+        Target::Command => body_response(alloc, desk, speaker, body),
+        Target::Clearance(viewing) => view_response(alloc, desk, speaker, viewing),
         Target::Order(printing) => order_response(alloc, desk, printing),
         Target::Board => {
             let text = desk.board(alloc)?;
             Ok(Response::Printed(text))
+        }
+        Target::Network => {
+            let text = desk.network(alloc)?;
+            Ok(Response::Json(StatusCode::OK, text))
         }
     }
 }
@@ -44,16 +56,20 @@ pub(crate) fn response_to<D: Registrar>(
 fn body_response<D: Registrar>(
     alloc: Global,
     desk: &mut D,
+    speaker: &Speaker<'_>,
     body: &[u8],
 ) -> Result<Response, AllocError>
-    ensures turn { IsGood (D.keeper desk.old).register
-        → IsTurned (body_outcome (D.keeper desk.old).register (read_command body.now))
+    ensures turn { let s = speaker.now in IsGood (D.keeper desk.old).register → IsTurned
+        (checked_outcome s.logins.now s.login (D.keeper desk.old).register asked_for.Command body.now)
         (D.keeper desk.old) (D.keeper desk.new) result }
     ensures accounts { AccountsFor (D.keeper desk.old) (D.keeper desk.new) result }
+    ensures unasked { let s = speaker.now in
+        may_ask s.logins.now s.login (target_asks asked_for.Command body.now) ≡ false
+        → desk.new ≡ desk.old }
     ensures led { D.leads_to desk.old desk.new }
 {
     match command_of(alloc, body) {
-        Ok(command) => command_response(alloc, desk, command),
+        Ok(command) => spoken_response(alloc, desk, speaker, command),
         Err(TextFault::NoMemory) => Err(AllocError),
         Err(fault) => {
             let text = fault_text(alloc, &fault)?;
@@ -66,18 +82,62 @@ fn body_response<D: Registrar>(
 fn view_response<D: Registrar>(
     alloc: Global,
     desk: &mut D,
+    speaker: &Speaker<'_>,
     viewing: Option<ViewRequest>,
 ) -> Result<Response, AllocError>
+    ensures turn { let s = speaker.now in (body : List ℕ) → IsGood (D.keeper desk.old).register
+        → IsTurned
+        (checked_outcome s.logins.now s.login (D.keeper desk.old).register (Clearance viewing) body)
+        (D.keeper desk.old) (D.keeper desk.new) result }
+    ensures accounts { AccountsFor (D.keeper desk.old) (D.keeper desk.new) result }
+    ensures unasked { let s = speaker.now in (body : List ℕ)
+        → may_ask s.logins.now s.login (target_asks (Clearance viewing) body) ≡ false
+        → desk.new ≡ desk.old }
+    ensures led { D.leads_to desk.old desk.new }
+{
+    match viewing {
+        Some(viewing) => spoken_response(alloc, desk, speaker, show_of(viewing)),
+        None => Response::of_fault(alloc, Fault::NoSuch),
+    }
+}
+
+/// Puts a command to the register, where the speaker may use its name.
+fn spoken_response<D: Registrar>(
+    alloc: Global,
+    desk: &mut D,
+    speaker: &Speaker<'_>,
+    command: Command,
+) -> Result<Response, AllocError>
+    ensures turn { let s = speaker.now in IsGood (D.keeper desk.old).register → IsTurned
+        (spoken_outcome s.logins.now s.login (D.keeper desk.old).register command)
+        (D.keeper desk.old) (D.keeper desk.new) result }
+    ensures accounts { AccountsFor (D.keeper desk.old) (D.keeper desk.new) result }
+    ensures unasked { let s = speaker.now in
+        may_ask s.logins.now s.login (Some command) ≡ false → desk.new ≡ desk.old }
+    ensures led { D.leads_to desk.old desk.new }
+{
+    if !speaker.may_ask(&command) {
+        return Response::of_fault(alloc, Fault::NotCaller);
+    }
+    let login = speaker.heard_login(alloc)?;
+    heard_response(alloc, desk, login, command)
+}
+
+/// Puts a command to the register, once it has heard the login.
+fn heard_response<D: Registrar>(
+    alloc: Global,
+    desk: &mut D,
+    login: Option<Text>,
+    command: Command,
+) -> Result<Response, AllocError>
     ensures turn { IsGood (D.keeper desk.old).register
-        → IsTurned (view_outcome (D.keeper desk.old).register viewing)
+        → IsTurned (command_outcome (D.keeper desk.old).register command)
         (D.keeper desk.old) (D.keeper desk.new) result }
     ensures accounts { AccountsFor (D.keeper desk.old) (D.keeper desk.new) result }
     ensures led { D.leads_to desk.old desk.new }
 {
-    match viewing {
-        Some(viewing) => command_response(alloc, desk, show_of(viewing)),
-        None => Response::of_fault(alloc, Fault::NoSuch),
-    }
+    desk.hear(login);
+    command_response(alloc, desk, command)
 }
 
 /// The command `show` of a view.

@@ -31,6 +31,10 @@ pub(crate) enum Fault {
     NoSuch,
     /// The store or memory refused: 503. The command did not come into the register.
     Unavailable,
+    /// A page of elsewhere may have sent the request: 403.
+    Foreign,
+    /// A command or a view in a name that the login of the request may not use: 403.
+    NotCaller,
 }
 
 impl Fault {
@@ -45,6 +49,7 @@ impl Fault {
             Fault::NoLength => StatusCode::LENGTH_REQUIRED,
             Fault::BodyTooLarge => StatusCode::PAYLOAD_TOO_LARGE,
             Fault::Unavailable => StatusCode::SERVICE_UNAVAILABLE,
+            Fault::Foreign | Fault::NotCaller => StatusCode::FORBIDDEN,
         }
     }
 
@@ -63,6 +68,8 @@ impl Fault {
             Fault::BodyCut => "BodyCut",
             Fault::NoSuch => "NoSuch",
             Fault::Unavailable => "Unavailable",
+            Fault::Foreign => "Foreign",
+            Fault::NotCaller => "NotCaller",
         }
     }
 }

@@ -1,14 +1,18 @@
 //! One connection: its request is read and answered, and the response written.
 ghost use Rattle.std.specs.Prelude.{◌≡◌, ◌≢◌, ℕ, List, Some, Ok, Err};
-ghost use Rattle.clr_http.specs.Answered.{IsAnswered};
-ghost use Rattle.clr_http.specs.Head.{HasHead};
-ghost use Rattle.clr_http.specs.Response.{content_of, response_bytes};
+ghost use Rattle.httparse.specs.Grammar.{RequestHead};
+ghost use Rattle.clr_http.specs.Answered.{IsAnswered, IsAnsweredAt};
+ghost use Rattle.clr_http.specs.Head.{BeginsWith, HasHead};
+ghost use Rattle.clr_http.specs.Request.{refused, request_read_at};
+ghost use Rattle.clr_http.specs.Response.{Content, content_of, response_bytes};
 ghost use Rattle.clr_http.specs.Served.{IsWritten, http_fault_of};
 ghost use Rattle.clr_http.specs.declared.response.Response.TheVariants.{Unavailable};
 ghost use Rattle.clr_http.specs.declared.serve.HttpFault.TheVariants.{NoMemory};
 
+use crate::callers::Speaker;
+use crate::options::Service;
 use crate::registrar::Registrar;
-use crate::request::{ReadFault, Request, read_request};
+use crate::request::{Heard, ReadFault, Request, read_request};
 use crate::respond::response_to;
 use crate::response::{Response, unavailable_text};
 use clr_stream::{CountedRead, CountedWrite, write_whole};
@@ -69,8 +73,8 @@ impl From<ReadFault> for HttpFault {
     }
 }
 
-/// Serves one connection: reads its request, answers it at the desk, and writes the response,
-/// which is whole before its first byte goes out.
+/// Serves one connection at the plain service: reads its request, answers it at the desk, and writes
+/// the response, which is whole before its first byte goes out.
 ///
 /// A command that the desk accepted stays carried out where its response cannot be made or written.
 /// What comes after the request is not looked at.
@@ -93,11 +97,52 @@ pub fn serve_one<D: Registrar, R: CountedRead, W: CountedWrite>(
     ensures unmade { result ≡ Err HttpFault.NoMemory → writer.new ≡ writer.old }
     ensures led { D.leads_to desk.old desk.new }
 {
-    match read_request(alloc, reader)? {
-        None => Ok(Served::Nothing),
-        Some(Request::Refused(response)) => send(alloc, writer, &response),
-        Some(Request::Asks(asked, body)) => {
-            let response = response_to(alloc, desk, asked, body.as_slice())?;
+    let service = Service::plain();
+    serve_request(alloc, &service, desk, reader, writer)
+}
+
+/// Serves one connection at a service, as `serve_one` does at the plain one.
+///
+/// With `desk` a request that a page of elsewhere may have sent is refused, and the network is shown.
+/// With `logins` a command or a view is refused in a name that the login of the request may not use.
+/// A request that is refused does not come to the desk.
+pub fn serve_request<D: Registrar, R: CountedRead, W: CountedWrite>(
+    alloc: Global,
+    service: &Service,
+    desk: &mut D,
+    reader: &mut R,
+    writer: &mut W,
+) -> Result<Served, HttpFault>
+    ensures answered { IsAnsweredAt service.now (D.keeper desk.old) (D.keeper desk.new)
+        (record { remaining = R.remaining reader.old; failures = R.failure_count reader.old })
+        (record { remaining = R.remaining reader.new; failures = R.failure_count reader.new })
+        (W.stream writer.old) (W.stream writer.new) result }
+    ensures refused { (input : List ℕ) → R.remaining reader.old ≡ Some input
+        → ¬ (HasHead (Some input)) → desk.new ≡ desk.old }
+    ensures unasked { (input rest : List ℕ) (head : RequestHead) (c : Content)
+        → R.remaining reader.old ≡ Some input → BeginsWith input head rest
+        → request_read_at service.now head rest ≡ refused c → desk.new ≡ desk.old }
+    ensures nothing { result ≡ Ok Served.Nothing
+        → (writer.new ≡ writer.old) × (desk.new ≡ desk.old) }
+    ensures unread { result ≡ Err HttpFault.ReadFailed
+        → (writer.new ≡ writer.old) × (desk.new ≡ desk.old) }
+    ensures unmade { result ≡ Err HttpFault.NoMemory → writer.new ≡ writer.old }
+    ensures led { D.leads_to desk.old desk.new }
+{
+    let Some(heard) = read_request(alloc, service, reader)? else {
+        return Ok(Served::Nothing);
+    };
+    let Heard { request, login } = heard;
+    let logins = &service.logins;
+    let speaker = Speaker {
+        logins,
+        login,
+        heard: service.desk,
+    };
+    match request {
+        Request::Refused(response) => send(alloc, writer, &response),
+        Request::Asks(asked, body) => {
+            let response = response_to(alloc, desk, &speaker, asked, body.as_slice())?;
             send(alloc, writer, &response)
         }
     }

@@ -3,6 +3,8 @@ ghost use Rattle.std.specs.Prelude.{◌≡◌, ◌<◌, ◌-◌, ◌^◌, IfOk, 
 ghost use Rattle.clr_rules.specs.Good.{IsGood};
 ghost use Rattle.clr_rules.specs.Run.{IsReached};
 ghost use Rattle.clr_rules.specs.declared.command.Command.{Command};
+ghost use Rattle.clr_http.specs.CallerLaws.{AskedInOwnName, ForeignIsRefused};
+ghost use Rattle.clr_http.specs.CallerLaws.{PlainChecksNoCaller};
 ghost use Rattle.clr_http.specs.Posted.{PostedBodiesAsk};
 ghost use Rattle.clr_http.specs.RequestLaws.{AnswersAreServed, AskedOnce, ComesWithin};
 ghost use Rattle.clr_http.specs.RequestLaws.{CommandsAreAnswered, HasRun};
@@ -29,6 +31,15 @@ pub fn inputs_are_answered_once()
 /// of requests that ask commands is said of some.
 pub fn posted_bodies_ask()
     ensures { PostedBodiesAsk }
+{}
+
+/// A service with logins is asked nothing, no command and no view, in a name that the login of the
+/// request may not use. At a desk a request that a page of elsewhere may have sent is refused. The
+/// plain service looks at no caller.
+pub fn requests_speak_for_themselves()
+    ensures own { AskedInOwnName }
+    ensures foreign { ForeignIsRefused }
+    ensures plain { PlainChecksNoCaller }
 {}
 
 /// Requests are served as a run of the commands of them that are carried out: all that they ask,

@@ -7,7 +7,7 @@ ghost use Rattle.matchit.specs.Seek.{first};
 ghost use Rattle.clr_rules.specs.IdText.{id_of, read_number};
 ghost use Rattle.clr_net.specs.NameText.{read_name};
 ghost use Rattle.clr_http.specs.Target.{target_of, target_by, order_request, part};
-ghost use Rattle.clr_http.specs.Target.{route_in, the_routes, view_request};
+ghost use Rattle.clr_http.specs.Target.{desk_routes, route_in, routes_of, the_routes, view_request};
 
 use clr_net::Name;
 use clr_print::read_round;
@@ -26,6 +26,8 @@ pub(crate) enum Route {
     Order,
     /// `GET /board`
     Board,
+    /// `GET /network`, of a service at a desk
+    Network,
 }
 
 /// Whose view of which clearance is asked for.
@@ -50,6 +52,7 @@ pub(crate) enum Target {
     Clearance(Option<ViewRequest>),
     Order(Option<OrderRequest>),
     Board,
+    Network,
 }
 
 /// A router with the four routes.
@@ -62,6 +65,26 @@ fn routes(alloc: Global) -> Result<Router<Route>, InsertError>
     router.insert("/order/{requester}/{number}/{round}", Route::Order)?;
     router.insert("/board", Route::Board)?;
     Ok(router)
+}
+
+/// A router with the routes of a service at a desk.
+fn desk_routes(alloc: Global) -> Result<Router<Route>, InsertError>
+    ensures { IfOk result (λ r. r ≡ desk_routes) }
+{
+    let mut router = routes(alloc)?;
+    router.insert("/network", Route::Network)?;
+    Ok(router)
+}
+
+/// The routes of a service, at a desk or not.
+fn routes_of(alloc: Global, desk: bool) -> Result<Router<Route>, InsertError>
+    ensures { IfOk result (λ r. r ≡ routes_of desk) }
+{
+    if desk {
+        desk_routes(alloc)
+    } else {
+        routes(alloc)
+    }
 }
 
 /// Whether each byte of a target is ASCII.
@@ -150,14 +173,19 @@ fn target_by(target: &str, params: &Params<'_, '_>, route: Route) -> Target
             Target::Order(order_request(id, read_round(part(target, params, route, "round"))))
         }
         Route::Board => Target::Board,
+        Route::Network => Target::Network,
     }
 }
 
-/// What a target asks for. `None` where it takes no route.
-pub(crate) fn target_of(alloc: Global, target: &str) -> Result<Option<Target>, AllocError>
-    ensures { IfOk result (λ o. o ≡ target_of target.now) }
+/// What a target asks for, of a service at a desk or not. `None` where it takes no route.
+pub(crate) fn target_of(
+    alloc: Global,
+    desk: bool,
+    target: &str,
+) -> Result<Option<Target>, AllocError>
+    ensures { IfOk result (λ o. o ≡ target_of desk target.now) }
 {
-    let Ok(router) = routes(alloc) else {
+    let Ok(router) = routes_of(alloc, desk) else {
         return Err(AllocError);
     };
     match router.at(target) {

@@ -2,7 +2,8 @@ use Rattle.std.proofs.Common.{◌≡◌, ◌∙◌, sym, refl, ap, codes, true, 
 use Rattle.std.specs.List.{list_any}
 use Rattle.httparse.specs.Spans.{header_bytes}
 use Rattle.httparse.specs.declared.spans.HeaderSpan.{HeaderSpan}
-use Rattle.clr_http.specs.Length.{is_called, read_length}
+use Rattle.clr_http.specs.Fields.{is_called}
+use Rattle.clr_http.specs.Length.{read_length}
 use Rattle.clr_http.proofs.Lengths.{by_front, rest_of}
 use Rattle.clr_http.proofs.length.+only_length.Goals as goal
 

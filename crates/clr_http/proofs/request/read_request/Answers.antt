@@ -1,10 +1,12 @@
-use Rattle.std.proofs.Common.{◌≡◌, ◌≤◌, ◌∙◌, sym, ap, subst, arith, rules, inl, inr, [], length, vec_len, Some, IfSome}
+use Rattle.std.proofs.Common.{◌≡◌, ◌≤◌, ◌∙◌, sym, ap, subst, arith, rules, inl, inr, [], ℕ, List, length, map, take, vec_len, None, Some, IfSome}
 use Rattle.std.specs.Io.KnownBytes.{Consumes}
-use Rattle.httparse.specs.Spans.{IsRequestAt, IsRequestOf, IsRequestWithin}
+use Rattle.httparse.specs.Spans.{IsRequestAt, IsRequestOf, IsRequestWithin, header_bytes}
 use Rattle.clr_http.specs.Head.{HasHead}
-use Rattle.clr_http.specs.Request.{reading, request_read}
+use Rattle.clr_http.specs.Callers.{login_of}
+use Rattle.clr_http.specs.Fields.{fields_of}
+use Rattle.clr_http.specs.Request.{head_read, reading}
 use Rattle.clr_http.proofs.Heads.{none_at_first}
-use Rattle.clr_http.proofs.Requests.{has_head, none_taken, nothing_left, only_head, outside_unsaid}
+use Rattle.clr_http.proofs.Requests.{has_head, heard_is, none_taken, nothing_left, only_head, outside_unsaid, unchecked_refusal}
 use Rattle.clr_http.proofs.request.read_request.Goals as goal
 
 pub returns-in-Ok-None-clause-known : goal.returns-in-Ok-None-clause-known
@@ -27,14 +29,19 @@ returns-in-Ok-Some-clause-known g c input e =
     let (head, rest, b) = has_head input left bytes _ _ h taken at within small c.read_head.ensures.room in
     let (one, front) = only_head input rest left bytes _ _ h head taken at b.reads in
     let found = c.in_ok-request-in-Ok-Some.ensures.reading head input (subst (IsRequestAt bytes _ _) one at) taken in
-    inl (head, rest, b, subst (λ x. reading c.in_ok-request-in-Ok-Some.request ≡ request_read head x) front found)
+    let fields = IsRequestAt.fields (subst (IsRequestAt bytes c.read_head.new.headers c.in-Ok-Some.spans) one at) in
+    let login : c.login_of-login.result ≡ login_of (fields_of head) =
+    c.login_of-login.ensures
+    ∙ ap (λ (b : List ℕ). login_of (map (header_bytes b) (take c.in-Ok-Some.spans.headers c.read_head.new.headers))) c.as_slice.ensures.value
+    ∙ ap login_of fields in
+    inl (head, rest, b, heard_is c.args.service.now _ _ head rest login (subst (λ x. reading c.in_ok-request-in-Ok-Some.request ≡ head_read c.args.service.now head x) front found))
 
 pub returns-clause-known : goal.returns-clause-known
 returns-clause-known g c input e =
     let left = g.R.Read.remaining c.read_head.new.reader in
     let bytes = c.read_head.new.buffer.items in
     let taken : Consumes (Some input) left bytes = subst (λ k. Consumes k left bytes) e c.read_head.ensures.taken in
-    let refusal = c.in_ok-request-in-Err.ensures.reading in
+    let refusal = unchecked_refusal c.args.service.now.logins None _ _ c.in_ok-request-in-Err.ensures.reading in
     inr (
       λ head. outside_unsaid _ _ (c.in-Err.ensures.found (subst HasHead (sym e) head)) refusal,
       (bytes, taken, c.in-Err.fault, refusal, c.in-Err.ensures.fault),
