@@ -1,0 +1,3 @@
+pub mod Backwards
+pub mod Logged
+pub mod Wanted

@@ -1,0 +1,14 @@
+//! The switching log: a journal's lines as a person reads them, and its commands alone.
+#![tactic(auto)]
+
+mod about;
+mod commands;
+mod line;
+mod log;
+mod moments;
+mod steps;
+mod texts;
+mod words;
+
+pub use commands::print_commands;
+pub use log::print_log;
