@@ -1,7 +1,8 @@
 -- The words that a command line gave to the arguments of its subcommand, and the numbers that they
 -- say.
-use Rattle.std.specs.Prelude.{ℕ, ℤ, if◌then◌else◌, List, [], Option, Some, None, neg_ℤ, pos}
-use Rattle.std.specs.Prelude.{unwrap_or}
+use Rattle.std.specs.Prelude.{ℕ, ℤ, Bool, false, if◌then◌else◌, List, [], Option, Some, None}
+use Rattle.std.specs.Prelude.{codes, neg_ℤ, option_map, pos, unwrap_or}
+use Rattle.std.specs.Str.{bytes_eq}
 use Rattle.std.specs.Str.Parse.{digits_value, signed_digits_value, without_leading_plus}
 use Rattle.clap.specs.ValueTests.{is_signed_in, is_unsigned_in}
 use Rattle.clap.specs.Words.{Row, all_of, first_of}
@@ -27,3 +28,12 @@ abbrev pub number_in : ℕ → Option (List ℕ) → ℕ
 number_in most None = 1
 number_in most (Some word) = if is_unsigned_in 1 most word
     then digits_value 10 (without_leading_plus word) else 1
+
+-- the seconds that the word of `--deadline` says, where it is given
+abbrev pub deadline_in : Option (List ℕ) → Option ℕ
+deadline_in = option_map (λ word. number_in 600 (Some word))
+
+-- whether a word was given that has no value: its row then says `true`
+abbrev pub flag_in : Option (List ℕ) → Bool
+flag_in None = false
+flag_in (Some word) = bytes_eq word (codes "true")

@@ -1,11 +1,12 @@
 -- What the words of a command line come to. Where clap finds nothing wrong it is what the
 -- subcommand that they name is asked for; otherwise help that they ask for, or why they do not fit.
-use Rattle.std.specs.Prelude.{◌≡◌, ◌≢◌, ◌⊎◌, List, [], ◌∷◌, Option, Some, None, codes, map}
-use Rattle.std.specs.Prelude.{option_map, string_bytes}
+use Rattle.std.specs.Prelude.{◌≡◌, ◌≢◌, ◌⊎◌, Bool, false, List, [], ◌∷◌, Option, Some, None}
+use Rattle.std.specs.Prelude.{codes, map, option_map, string_bytes}
 use Rattle.clap.specs.Words.{IsAmong, Kinds, Row, Text, fault_of, first_of, subcommand_of}
 use Rattle.clap.specs.declared.error.kind.ErrorKind.{ErrorKind}
 use Rattle.clap.specs.declared.error.kind.ErrorKind.TheVariants.{DisplayHelp, DisplayVersion}
-use Rattle.clr_args.specs.ArgumentWords.{number_in, offset_in, word_in, words_in}
+use Rattle.clr_args.specs.ArgumentWords.{deadline_in, flag_in, number_in, offset_in, word_in}
+use Rattle.clr_args.specs.ArgumentWords.{words_in}
 use Rattle.clr_args.specs.Syntax.{gridclear}
 use Rattle.clr_args.specs.declared.asked.Asked.{Asked}
 use Rattle.clr_args.specs.declared.asked.Asked.TheVariants as asked
@@ -13,6 +14,7 @@ use Rattle.clr_args.specs.declared.asked.BoardArgs.{BoardArgs}
 use Rattle.clr_args.specs.declared.asked.FenceArgs.{FenceArgs}
 use Rattle.clr_args.specs.declared.asked.Files.{Files}
 use Rattle.clr_args.specs.declared.asked.InitArgs.{InitArgs}
+use Rattle.clr_args.specs.declared.asked.JournalArgs.{JournalArgs}
 use Rattle.clr_args.specs.declared.asked.OrderArgs.{OrderArgs}
 use Rattle.clr_args.specs.declared.asked.RunArgs.{RunArgs}
 use Rattle.clr_args.specs.declared.asked.RunArgs.TheVariants as over
@@ -44,24 +46,29 @@ pub record AsksInit (rows : List Row) (args : InitArgs) : Type 0 where
   pub files : AsksFiles rows args.files
   pub database : option_map (λ path. path.now) args.database ≡ first_of (codes "db") rows
 
--- a run is asked for over a database, where no files are named, or over three files
-abbrev pub AsksRunOver : Option Text → List Text → RunArgs → Type 0
-AsksRunOver (Some database) [] (over.Database path) = path.now ≡ database
-AsksRunOver None (sections ∷ points ∷ staff ∷ []) (over.Files files) =
+-- a run is asked for over a database and the journal that may go with it, where no files are named,
+-- or over three files
+abbrev pub AsksRunOver : Option Text → Option Text → List Text → RunArgs → Type 0
+AsksRunOver (Some database) journal [] (over.Stored args) =
+    (args.database.now ≡ database) × (option_map (λ path. path.now) args.journal ≡ journal)
+AsksRunOver None None (sections ∷ points ∷ staff ∷ []) (over.Files files) =
     AreFiles sections points staff files
-AsksRunOver database files args = ⊥
+AsksRunOver database journal files args = ⊥
 
 abbrev pub AsksRun : List Row → RunArgs → Type 0
-AsksRun rows args = AsksRunOver (first_of (codes "db") rows) (words_in rows (codes "FILES")) args
+AsksRun rows args = AsksRunOver (first_of (codes "db") rows) (first_of (codes "journal") rows)
+    (words_in rows (codes "FILES")) args
 
--- no run is asked for: both are named, or neither, or files that are not three
-abbrev pub IsNoRunOver : Option Text → List Text → Type 0
-IsNoRunOver (Some database) [] = ⊥
-IsNoRunOver None (sections ∷ points ∷ staff ∷ []) = ⊥
-IsNoRunOver database files = Unit {0}
+-- no run is asked for: a database and files are named, or neither, or files that are not three, or a
+-- journal without a database
+abbrev pub IsNoRunOver : Option Text → Option Text → List Text → Type 0
+IsNoRunOver (Some database) journal [] = ⊥
+IsNoRunOver None None (sections ∷ points ∷ staff ∷ []) = ⊥
+IsNoRunOver database journal files = Unit {0}
 
 abbrev pub IsNoRun : List Row → Type 0
-IsNoRun rows = IsNoRunOver (first_of (codes "db") rows) (words_in rows (codes "FILES"))
+IsNoRun rows = IsNoRunOver (first_of (codes "db") rows) (first_of (codes "journal") rows)
+    (words_in rows (codes "FILES"))
 
 pub record AsksOrder (rows : List Row) (args : OrderArgs) : Type 0 where
   pub database : args.database.now ≡ word_in rows (codes "DB")
@@ -77,10 +84,30 @@ pub record AsksWayBack (rows : List Row) (args : WayBackArgs) : Type 0 where
   pub database : args.database.now ≡ word_in rows (codes "DB")
   pub clearance : args.clearance.now ≡ word_in rows (codes "CLEARANCE")
 
+-- no service is asked for: a file of logins goes with a desk alone
+abbrev pub IsNoServeWith : Option Text → Bool → Type 0
+IsNoServeWith (Some logins) false = Unit {0}
+IsNoServeWith logins desk = ⊥
+
+abbrev pub IsNoServe : List Row → Type 0
+IsNoServe rows =
+    IsNoServeWith (first_of (codes "logins") rows) (flag_in (first_of (codes "desk") rows))
+
 pub record AsksServe (rows : List Row) (args : ServeArgs) : Type 0 where
   pub database : args.database.now ≡ word_in rows (codes "DB")
   pub port : args.port ≡ number_in 65535 (first_of (codes "port") rows)
   pub count : args.count ≡ number_in 1000000 (first_of (codes "count") rows)
+  pub deadline : args.deadline ≡ deadline_in (first_of (codes "deadline") rows)
+  pub desk : args.desk ≡ flag_in (first_of (codes "desk") rows)
+  pub logins : option_map (λ path. path.now) args.logins ≡ first_of (codes "logins") rows
+  pub journal : option_map (λ path. path.now) args.journal ≡ first_of (codes "journal") rows
+  pub paired : IsNoServe rows → ⊥
+
+pub record AsksJournal (rows : List Row) (args : JournalArgs) : Type 0 where
+  pub path : args.path.now ≡ word_in rows (codes "FILE")
+  pub clearance : option_map (λ word. word.now) args.clearance ≡ first_of (codes "CLEARANCE") rows
+  pub offset : args.offset.minutes ≡ offset_in (first_of (codes "offset") rows)
+  pub commands : args.commands ≡ flag_in (first_of (codes "commands") rows)
 
 -- THE SUBCOMMAND of this name is asked for, on the words that its arguments were given
 abbrev pub Asks : Text → List Row → Asked → Type 0
@@ -92,6 +119,7 @@ Asks name rows (asked.Order args) = (name ≡ codes "order") × AsksOrder rows a
 Asks name rows (asked.Board args) = (name ≡ codes "board") × AsksBoard rows args
 Asks name rows (asked.WayBack args) = (name ≡ codes "wayback") × AsksWayBack rows args
 Asks name rows (asked.Serve args) = (name ≡ codes "serve") × AsksServe rows args
+Asks name rows (asked.Journal args) = (name ≡ codes "journal") × AsksJournal rows args
 Asks name rows (asked.Migrate path) = (name ≡ codes "migrate")
     × (path.now ≡ word_in rows (codes "DB"))
 
@@ -105,6 +133,7 @@ pub record IsNoSubcommand (name : Text) : Type 0 where
   pub board : name ≢ codes "board"
   pub wayback : name ≢ codes "wayback"
   pub serve : name ≢ codes "serve"
+  pub journal : name ≢ codes "journal"
   pub migrate : name ≢ codes "migrate"
 
 -- ---- what words come to
@@ -121,22 +150,40 @@ IsUnread (parsed.Asked asked) = ⊥
 IsUnread (parsed.Help text) = ⊥
 IsUnread (parsed.Unread text) = Unit {0}
 
+-- words do not parse, for this reason
+abbrev pub IsUnreadAs : Text → Parsed → Type 0
+IsUnreadAs why (parsed.Asked asked) = ⊥
+IsUnreadAs why (parsed.Help text) = ⊥
+IsUnreadAs why (parsed.Unread text) = string_bytes text ≡ why
+
 -- what is said of words in which clap finds an error of this kind
 abbrev pub IsSaid : ErrorKind → Parsed → Type 0
 IsSaid DisplayHelp result = IsHelp result
 IsSaid DisplayVersion result = IsHelp result
 IsSaid _ result = IsUnread result
 
--- what is said of a `run` that is not taken
-abbrev pub run_usage : Text
-run_usage = codes "error: run takes three files, or --db FILE and no files\n"
+-- what is said of a `run` that is not taken, by the journal that it names
+abbrev pub run_usage : Option Text → Text
+run_usage None = codes "error: run takes three files, or --db FILE and no files\n"
+run_usage (Some journal) =
+    codes "error: run takes --journal FILE only with --db FILE and no files\n"
+
+-- what is said of a `serve` that is not taken
+abbrev pub serve_usage : Text
+serve_usage = codes "error: serve takes --logins FILE only with --desk\n"
+
+-- words of a subcommand that clap takes and the subcommand does not, and what is said of them
+abbrev pub IsNotTaken : Text → List Row → Text → Type 0
+IsNotTaken name rows said =
+    ((name ≡ codes "run") × IsNoRun rows × (said ≡ run_usage (first_of (codes "journal") rows)))
+    ⊎ ((name ≡ codes "serve") × IsNoServe rows × (said ≡ serve_usage))
 
 -- what the words of the subcommand of this name come to
 abbrev pub IsParsedAs : Text → List Row → Parsed → Type 0
 IsParsedAs name rows (parsed.Asked asked) = Asks name rows asked
 IsParsedAs name rows (parsed.Help text) = ⊥
-IsParsedAs name rows (parsed.Unread text) = IsNoSubcommand name
-    ⊎ ((name ≡ codes "run") × IsNoRun rows × (string_bytes text ≡ run_usage))
+IsParsedAs name rows (parsed.Unread text) =
+    IsNoSubcommand name ⊎ IsNotTaken name rows (string_bytes text)
 
 -- WHAT WORDS COME TO, by the kinds of error that clap may find in them and the subcommand that they
 -- name: words that name none do not parse

@@ -2,12 +2,16 @@
 use Rattle.std.specs.Prelude.{codes, true, neg_ℤ, pos, Some, List, [], ℕ}
 use Rattle.clap.specs.Words.{App, Rule, new_app, new_rule, with_rule, with_subcommand}
 use Rattle.clap.specs.Simple.{new_shape}
-use Rattle.clap.specs.declared.builder.action.ArgAction.TheVariants.{Append}
+use Rattle.clap.specs.declared.builder.action.ArgAction.TheVariants.{Append, SetTrue}
 use Rattle.clap.specs.declared.builder.value_parser.ValueParser.TheVariants.{Signed, Unsigned}
 
 -- an argument that has to be given, by its place
 abbrev pub required_rule : List ℕ → Rule
 required_rule id = record (new_rule id) { required = true }
+
+-- an argument that may be given once, by its place
+abbrev pub optional_rule : List ℕ → Rule
+optional_rule id = new_rule id
 
 -- an argument that may be given any number of times, by its place
 abbrev pub repeated_rule : List ℕ → Rule
@@ -17,10 +21,18 @@ repeated_rule id = record (new_rule id) { action = Some Append }
 abbrev pub option_rule : List ℕ → Rule
 option_rule id = record (new_rule id) { long = Some id; value_names = 1 }
 
+-- a word that may be given once, by its name, and has no value
+abbrev pub flag_rule : List ℕ → Rule
+flag_rule id = record (new_rule id) { long = Some id; action = Some SetTrue }
+
 -- `--offset MINUTES`, from -720 to 840
 abbrev pub offset_rule : Rule
 offset_rule = record (option_rule (codes "offset"))
     { parser = Some (Signed (neg_ℤ (pos 720)) (pos 840)) }
+
+-- an option with a number from 1 to a greatest one
+abbrev pub at_most_rule : List ℕ → ℕ → Rule
+at_most_rule id most = record (option_rule id) { parser = Some (Unsigned 1 most) }
 
 -- an option with a number from 1 to a greatest one, which has to be given
 abbrev pub number_rule : List ℕ → ℕ → Rule
@@ -45,9 +57,11 @@ abbrev pub init : App
 init = with_rule (with_rule (with_files (new_app (codes "init"))) (required_rule (codes "STAFF")))
     (option_rule (codes "db"))
 
--- `run [--db FILE] [FILES]...`
+-- `run [--db FILE [--journal FILE]] [FILES]...`
 abbrev pub run : App
-run = with_rule (with_rule (new_app (codes "run")) (option_rule (codes "db")))
+run =
+    with_rule (with_rule (with_rule (new_app (codes "run")) (option_rule (codes "db")))
+    (option_rule (codes "journal")))
     (repeated_rule (codes "FILES"))
 
 -- `order DB CLEARANCE ROUND [--offset MINUTES]`
@@ -69,11 +83,27 @@ wayback =
     (required_rule (codes "CLEARANCE"))
 
 -- `serve DB --port N --count N`
-abbrev pub serve : App
-serve =
+abbrev pub plain_serve : App
+plain_serve =
     with_rule (with_rule (with_rule (new_app (codes "serve")) (required_rule (codes "DB")))
     (number_rule (codes "port") 65535))
     (number_rule (codes "count") 1000000)
+
+-- the same with `[--deadline SECONDS] [--desk] [--logins FILE] [--journal FILE]`
+abbrev pub serve : App
+serve =
+    with_rule (with_rule (with_rule (with_rule plain_serve (at_most_rule (codes "deadline") 600))
+    (flag_rule (codes "desk")))
+    (option_rule (codes "logins")))
+    (option_rule (codes "journal"))
+
+-- `journal FILE [CLEARANCE] [--offset MINUTES] [--commands]`
+abbrev pub journal : App
+journal =
+    with_rule (with_rule (with_rule
+    (with_rule (new_app (codes "journal")) (required_rule (codes "FILE")))
+    (optional_rule (codes "CLEARANCE")))
+    offset_rule) (flag_rule (codes "commands"))
 
 -- `migrate DB`
 abbrev pub migrate : App
@@ -91,5 +121,6 @@ top = record {
 abbrev pub gridclear : App
 gridclear =
     with_subcommand (with_subcommand (with_subcommand (with_subcommand (with_subcommand
-    (with_subcommand (with_subcommand (with_subcommand (with_subcommand top fence.top) check.top)
-    init.top) run.top) order.top) board.top) wayback.top) serve.top) migrate.top
+    (with_subcommand (with_subcommand (with_subcommand (with_subcommand (with_subcommand top
+    fence.top) check.top) init.top) run.top) order.top) board.top) wayback.top) serve.top)
+    journal.top) migrate.top

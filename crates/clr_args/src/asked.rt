@@ -20,6 +20,8 @@ pub enum Asked<'a> {
     WayBack(WayBackArgs<'a>),
     /// Answers over HTTP.
     Serve(ServeArgs<'a>),
+    /// The commands that a journal keeps, printed.
+    Journal(JournalArgs<'a>),
     /// The tables of the register at this path, brought to the version that is read.
     Migrate(&'a str),
 }
@@ -58,8 +60,17 @@ pub struct InitArgs<'a> {
 pub enum RunArgs<'a> {
     /// The register that three files begin.
     Files(Files<'a>),
-    /// The register in the database at this path.
-    Database(&'a str),
+    /// The register in a database.
+    Stored(StoredArgs<'a>),
+}
+
+/// The register of a `run` that is in a database.
+#[derive(Clone, Copy)]
+pub struct StoredArgs<'a> {
+    /// The path of the database.
+    pub database: &'a str,
+    /// The path of the journal of its accepted commands.
+    pub journal: Option<&'a str>,
 }
 
 /// What `order` is asked for.
@@ -99,6 +110,26 @@ pub struct ServeArgs<'a> {
     pub port: u16,
     /// How many connections are served.
     pub count: usize,
+    /// After how many seconds a connection is ended that is not over.
+    pub deadline: Option<u16>,
+    /// Whether the requests of a control desk are answered.
+    pub desk: bool,
+    /// The path of the file of who may speak for whom, which goes with `desk` alone.
+    pub logins: Option<&'a str>,
+    /// The path of the journal of the accepted commands.
+    pub journal: Option<&'a str>,
+}
+
+/// What `journal` is asked for.
+#[derive(Clone, Copy)]
+pub struct JournalArgs<'a> {
+    /// The path of the journal.
+    pub path: &'a str,
+    /// The word that names the one clearance that is wanted.
+    pub clearance: Option<&'a str>,
+    pub offset: Offset,
+    /// Whether the commands alone are printed.
+    pub commands: bool,
 }
 
 /// Minutes east of Greenwich, where a clock is.

@@ -1,15 +1,19 @@
 //! What the words of a command line come to: what they ask for, help, or why they do not parse.
-ghost use Rattle.std.specs.Prelude.{◌≢◌, IfOk, MatchOption, map};
-ghost use Rattle.clap.specs.Words.{found_of, kind_of, rows_of};
-ghost use Rattle.clr_args.specs.Parsed.{AsksBoard, AsksFence, AsksFiles, AsksInit, AsksOrder};
-ghost use Rattle.clr_args.specs.Parsed.{AsksRun, AsksServe, AsksWayBack, IsNoRun, IsParsedAs, IsSaid};
-ghost use Rattle.clr_args.specs.Parsed.{Parses};
+ghost use Rattle.std.specs.Prelude.{◌≡◌, ◌≢◌, IfOk, MatchOption, codes, map};
+ghost use Rattle.clap.specs.Words.{first_of, found_of, kind_of, rows_of};
+ghost use Rattle.clr_args.specs.Parsed.{AsksBoard, AsksFence, AsksFiles, AsksInit, AsksJournal};
+ghost use Rattle.clr_args.specs.Parsed.{AsksOrder, AsksRun, AsksServe, AsksWayBack};
+ghost use Rattle.clr_args.specs.Parsed.{IsNoRun, IsNoServe, IsParsedAs, IsSaid, IsUnreadAs, Parses};
+ghost use Rattle.clr_args.specs.Parsed.{run_usage};
 
 use crate::asked::{
-    Asked, BoardArgs, FenceArgs, Files, InitArgs, OrderArgs, RunArgs, ServeArgs, WayBackArgs,
+    Asked, BoardArgs, FenceArgs, Files, InitArgs, JournalArgs, OrderArgs, RunArgs, ServeArgs,
+    StoredArgs, WayBackArgs,
 };
 use crate::syntax;
-use crate::words::{count_of, offset_of, option_of, port_of, word_of, words_of};
+use crate::words::{
+    count_of, deadline_of, flag_of, offset_of, option_of, port_of, word_of, words_of,
+};
 use clap::ArgMatches;
 use clap::error::ErrorKind;
 use std::alloc::{AllocError, Global};
@@ -18,6 +22,13 @@ use std::convert::AsStr;
 /// Why a `run` is not taken that names both a database and files, or neither, or files that are not
 /// three.
 const RUN_USAGE: &str = "error: run takes three files, or --db FILE and no files\n";
+
+/// Why such a `run` is not taken where it names a journal.
+const RUN_JOURNAL_USAGE: &str =
+    "error: run takes --journal FILE only with --db FILE and no files\n";
+
+/// Why a `serve` is not taken that names a file of logins without a desk.
+const SERVE_USAGE: &str = "error: serve takes --logins FILE only with --desk\n";
 
 /// What the words of a command line come to.
 #[derive(Drop)]
@@ -77,21 +88,30 @@ fn asked<'a>(alloc: Global, name: &str, matches: &ArgMatches<'a>) -> Result<Pars
         "init" => Ok(Parsed::Asked(Asked::Init(init_args(matches)))),
         "run" => match run_args(alloc, matches)? {
             Some(args) => Ok(Parsed::Asked(Asked::Run(args))),
-            None => {
-                let text = String::from_str(alloc, RUN_USAGE)?;
-                Ok(Parsed::Unread(text))
-            }
+            None => unread(alloc, run_usage(matches)),
         },
         "order" => Ok(Parsed::Asked(Asked::Order(order_args(matches)))),
         "board" => Ok(Parsed::Asked(Asked::Board(board_args(matches)))),
         "wayback" => Ok(Parsed::Asked(Asked::WayBack(way_back_args(matches)))),
-        "serve" => Ok(Parsed::Asked(Asked::Serve(serve_args(matches)))),
+        "serve" => match serve_args(matches) {
+            Some(args) => Ok(Parsed::Asked(Asked::Serve(args))),
+            None => unread(alloc, SERVE_USAGE),
+        },
+        "journal" => Ok(Parsed::Asked(Asked::Journal(journal_args(matches)))),
         "migrate" => Ok(Parsed::Asked(Asked::Migrate(word_of(matches, "DB")))),
         _ => {
             let text = format!(in alloc; "error: there is no subcommand {name}\n")?;
             Ok(Parsed::Unread(text))
         }
     }
+}
+
+/// Words that do not parse, for this reason.
+fn unread<'a>(alloc: Global, why: &str) -> Result<Parsed<'a>, AllocError>
+    ensures { IfOk result (IsUnreadAs why.now) }
+{
+    let text = String::from_str(alloc, why)?;
+    Ok(Parsed::Unread(text))
 }
 
 /// What `fence SECTIONS POINTS WORK [CUT]...` asks for.
@@ -131,21 +151,33 @@ fn init_args<'a>(matches: &ArgMatches<'a>) -> InitArgs<'a>
     }
 }
 
-/// What `run [--db FILE] [FILES]...` asks for, if it names a database and no files, or three files
-/// and no database.
+/// What `run [--db FILE [--journal FILE]] [FILES]...` asks for, if it names a database and no files,
+/// or three files alone.
 fn run_args<'a>(alloc: Global, matches: &ArgMatches<'a>) -> Result<Option<RunArgs<'a>>, AllocError>
     ensures { IfOk result (λ args. MatchOption args
         (IsNoRun (rows_of (found_of matches.now))) (AsksRun (rows_of (found_of matches.now)))) }
 {
     let files = words_of(alloc, matches, "FILES")?;
-    match (option_of(matches, "db"), files.as_slice()) {
-        (Some(path), []) => Ok(Some(RunArgs::Database(path))),
-        (None, [sections, points, staff]) => Ok(Some(RunArgs::Files(Files {
+    let journal = option_of(matches, "journal");
+    match (option_of(matches, "db"), journal, files.as_slice()) {
+        (Some(database), _, []) => Ok(Some(RunArgs::Stored(StoredArgs { database, journal }))),
+        (None, None, [sections, points, staff]) => Ok(Some(RunArgs::Files(Files {
             sections: *sections,
             points: *points,
             staff: *staff,
         }))),
         _ => Ok(None),
+    }
+}
+
+/// Why a `run` is not taken.
+fn run_usage(matches: &ArgMatches<'_>) -> &'static str
+    ensures { result.now
+        ≡ run_usage (first_of (codes "journal") (rows_of (found_of matches.now))) }
+{
+    match option_of(matches, "journal") {
+        Some(_) => RUN_JOURNAL_USAGE,
+        None => RUN_USAGE,
     }
 }
 
@@ -181,13 +213,36 @@ fn way_back_args<'a>(matches: &ArgMatches<'a>) -> WayBackArgs<'a>
     }
 }
 
-/// What `serve DB --port N --count N` asks for.
-fn serve_args<'a>(matches: &ArgMatches<'a>) -> ServeArgs<'a>
-    ensures { AsksServe (rows_of (found_of matches.now)) result }
+/// What `serve DB --port N --count N [--deadline SECONDS] [--desk] [--logins FILE] [--journal FILE]`
+/// asks for, if it names no logins without a desk.
+fn serve_args<'a>(matches: &ArgMatches<'a>) -> Option<ServeArgs<'a>>
+    ensures { MatchOption result (IsNoServe (rows_of (found_of matches.now)))
+        (AsksServe (rows_of (found_of matches.now))) }
 {
-    ServeArgs {
-        database: word_of(matches, "DB"),
-        port: port_of(matches),
-        count: count_of(matches),
+    let logins = option_of(matches, "logins");
+    let desk = flag_of(matches, "desk");
+    match (logins, desk) {
+        (Some(_), false) => None,
+        _ => Some(ServeArgs {
+            database: word_of(matches, "DB"),
+            port: port_of(matches),
+            count: count_of(matches),
+            deadline: deadline_of(matches),
+            desk,
+            logins,
+            journal: option_of(matches, "journal"),
+        }),
+    }
+}
+
+/// What `journal FILE [CLEARANCE] [--offset MINUTES] [--commands]` asks for.
+fn journal_args<'a>(matches: &ArgMatches<'a>) -> JournalArgs<'a>
+    ensures { AsksJournal (rows_of (found_of matches.now)) result }
+{
+    JournalArgs {
+        path: word_of(matches, "FILE"),
+        clearance: option_of(matches, "CLEARANCE"),
+        offset: offset_of(matches),
+        commands: flag_of(matches, "commands"),
     }
 }

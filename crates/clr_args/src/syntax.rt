@@ -1,18 +1,10 @@
-//! The command line of gridclear, as clap reads it: one module a subcommand.
+//! The command line of gridclear, as clap reads it.
 ghost use Rattle.std.specs.Prelude.{◌≡◌, IfOk};
 ghost use Rattle.clap.specs.Words.{app_of};
 ghost use Rattle.clr_args.specs.Syntax.{gridclear, top};
 
 mod arguments;
-mod board;
-mod check;
-mod fence;
-mod init;
-mod migrate;
-mod order;
-mod run;
-mod serve;
-mod wayback;
+mod subcommands;
 
 use clap::Command;
 use std::alloc::{AllocError, Global};
@@ -39,24 +31,26 @@ pub fn command<'a>(alloc: Global) -> Result<Command<'a>, AllocError>
     ensures { IfOk result (λ c. app_of c ≡ gridclear) }
 {
     let bare = top(alloc);
-    let fence = fence::command(alloc)?;
+    let fence = subcommands::fence(alloc)?;
     let with_fence = bare.subcommand(fence)?;
-    let check = check::command(alloc)?;
+    let check = subcommands::check(alloc)?;
     let with_check = with_fence.subcommand(check)?;
-    let init = init::command(alloc)?;
+    let init = subcommands::init(alloc)?;
     let with_init = with_check.subcommand(init)?;
-    let run = run::command(alloc)?;
+    let run = subcommands::run(alloc)?;
     let with_run = with_init.subcommand(run)?;
-    let order = order::command(alloc)?;
+    let order = subcommands::order(alloc)?;
     let with_order = with_run.subcommand(order)?;
-    let board = board::command(alloc)?;
+    let board = subcommands::board(alloc)?;
     let with_board = with_order.subcommand(board)?;
-    let wayback = wayback::command(alloc)?;
+    let wayback = subcommands::wayback(alloc)?;
     let with_wayback = with_board.subcommand(wayback)?;
-    let serve = serve::command(alloc)?;
+    let serve = subcommands::serve(alloc)?;
     let with_serve = with_wayback.subcommand(serve)?;
-    let migrate = migrate::command(alloc)?;
-    let command = with_serve.subcommand(migrate)?;
+    let journal = subcommands::journal(alloc)?;
+    let with_journal = with_serve.subcommand(journal)?;
+    let migrate = subcommands::migrate(alloc)?;
+    let command = with_journal.subcommand(migrate)?;
     Ok(command)
 }
 

@@ -1,7 +1,8 @@
 //! The words that a command line gave to its arguments.
 ghost use Rattle.std.specs.Prelude.{◌≡◌, ◌≤ℤ◌, IfOk, Some, codes, map, neg_ℤ, option_map, pos};
 ghost use Rattle.clap.specs.Words.{first_of, found_of, rows_of};
-ghost use Rattle.clr_args.specs.ArgumentWords.{number_in, offset_in, word_in, words_in};
+ghost use Rattle.clr_args.specs.ArgumentWords.{deadline_in, flag_in, number_in, offset_in};
+ghost use Rattle.clr_args.specs.ArgumentWords.{word_in, words_in};
 
 use crate::asked::Offset;
 use clap::ArgMatches;
@@ -102,5 +103,35 @@ fn count_in(word: &str) -> usize
     match word.parse::<usize>() {
         Ok(count) if 1 <= count && count <= 1_000_000 => count,
         _ => 1,
+    }
+}
+
+/// The seconds of `--deadline`, where it is given. clap lets only those from 1 to 600 pass.
+pub fn deadline_of(matches: &ArgMatches<'_>) -> Option<u16>
+    ensures { result ≡ deadline_in (first_of (codes "deadline") (rows_of (found_of matches.now))) }
+{
+    match option_of(matches, "deadline") {
+        Some(word) => Some(seconds_in(word)),
+        None => None,
+    }
+}
+
+/// The seconds that a word says, where they are within clap's range; otherwise 1.
+fn seconds_in(word: &str) -> u16
+    ensures { result ≡ number_in 600 (Some word.now) }
+{
+    match word.parse::<u16>() {
+        Ok(seconds) if 1 <= seconds && seconds <= 600 => seconds,
+        _ => 1,
+    }
+}
+
+/// Whether a word was given that has no value, as `--desk`.
+pub fn flag_of(matches: &ArgMatches<'_>, id: &str) -> bool
+    ensures { result ≡ flag_in (first_of id.now (rows_of (found_of matches.now))) }
+{
+    match option_of(matches, id) {
+        Some(word) => word == "true",
+        None => false,
     }
 }

@@ -1,8 +1,8 @@
 //! The kinds of argument that the subcommands share.
 ghost use Rattle.std.specs.Prelude.{◌≡◌, codes, false};
 ghost use Rattle.clap.specs.Words.{rule_of};
-ghost use Rattle.clr_args.specs.Syntax.{number_rule, offset_rule, option_rule, repeated_rule};
-ghost use Rattle.clr_args.specs.Syntax.{required_rule};
+ghost use Rattle.clr_args.specs.Syntax.{at_most_rule, flag_rule, number_rule, offset_rule};
+ghost use Rattle.clr_args.specs.Syntax.{option_rule, optional_rule, repeated_rule, required_rule};
 
 use clap::builder::ValueParser;
 use clap::{Arg, ArgAction};
@@ -14,6 +14,14 @@ pub fn required<'a>(alloc: Global, id: &'a str, help: &'a str) -> Arg<'a>
     ensures local { result.global ≡ false }
 {
     Arg::new(alloc, id).required(true).help(help)
+}
+
+/// An argument that may be given once, by its place.
+pub fn optional<'a>(alloc: Global, id: &'a str, help: &'a str) -> Arg<'a>
+    ensures rule { rule_of result ≡ optional_rule id.entry.now }
+    ensures local { result.global ≡ false }
+{
+    Arg::new(alloc, id).help(help)
 }
 
 /// An argument that may be given any number of times, by its place.
@@ -30,6 +38,25 @@ pub fn option<'a>(alloc: Global, id: &'a str, value: &'a str, help: &'a str) -> 
     ensures local { result.global ≡ false }
 {
     Arg::new(alloc, id).long(id).value_name(value).help(help)
+}
+
+/// A word that may be given once, as `--desk`, and has no value.
+pub fn flag<'a>(alloc: Global, id: &'a str, help: &'a str) -> Arg<'a>
+    ensures rule { rule_of result ≡ flag_rule id.entry.now }
+    ensures local { result.global ≡ false }
+{
+    Arg::new(alloc, id)
+        .long(id)
+        .action(ArgAction::SetTrue)
+        .help(help)
+}
+
+/// An option with a number from 1 to `most`.
+pub fn at_most<'a>(alloc: Global, id: &'a str, value: &'a str, most: u64, help: &'a str) -> Arg<'a>
+    ensures rule { rule_of result ≡ at_most_rule id.entry.now most }
+    ensures local { result.global ≡ false }
+{
+    option(alloc, id, value, help).value_parser(ValueParser::unsigned(1, most))
 }
 
 /// An option with a number from 1 to `most`, which has to be given.

@@ -1,0 +1,184 @@
+//! The words of each subcommand.
+ghost use Rattle.std.specs.Prelude.{◌≡◌, IfOk};
+ghost use Rattle.clap.specs.Words.{app_of};
+ghost use Rattle.clr_args.specs.Syntax.{board, check, fence, init, journal, migrate, order};
+ghost use Rattle.clr_args.specs.Syntax.{plain_serve, run, serve, wayback};
+
+use super::arguments::{at_most, flag, number, offset, option, optional, repeated, required};
+use clap::Command;
+use std::alloc::{AllocError, Global};
+
+/// `fence SECTIONS POINTS WORK [CUT]...`
+pub fn fence<'a>(alloc: Global) -> Result<Command<'a>, AllocError>
+    ensures { IfOk result (λ c. app_of c ≡ fence) }
+{
+    let command = Command::new(alloc, "fence")
+        .about("Prints the sections that can be reached from WORK without passing a CUT")
+        .arg(required(alloc, "SECTIONS", "The file of sections"))?
+        .arg(required(alloc, "POINTS", "The file of switching points"))?
+        .arg(required(alloc, "WORK", "The section to work on"))?
+        .arg(repeated(alloc, "CUT", "The switching points that no walk passes"))?;
+    Ok(command)
+}
+
+/// `check SECTIONS POINTS STAFF`
+pub fn check<'a>(alloc: Global) -> Result<Command<'a>, AllocError>
+    ensures { IfOk result (λ c. app_of c ≡ check) }
+{
+    let command = Command::new(alloc, "check")
+        .about("Prints what a control room would regret of files that init accepts, one a line")
+        .arg(required(alloc, "SECTIONS", "The file of sections"))?
+        .arg(required(alloc, "POINTS", "The file of switching points"))?
+        .arg(required(alloc, "STAFF", "The file of the staff"))?;
+    Ok(command)
+}
+
+/// `init SECTIONS POINTS STAFF [--db FILE]`
+pub fn init<'a>(alloc: Global) -> Result<Command<'a>, AllocError>
+    ensures { IfOk result (λ c. app_of c ≡ init) }
+{
+    let command = Command::new(alloc, "init")
+        .about("Checks the files of a network and its staff, and prints how many rows each has")
+        .arg(required(alloc, "SECTIONS", "The file of sections"))?
+        .arg(required(alloc, "POINTS", "The file of switching points"))?
+        .arg(required(alloc, "STAFF", "The file of the staff"))?
+        .arg(option(alloc, "db", "FILE", "The database to make the register in"))?;
+    Ok(command)
+}
+
+/// `run [--db FILE [--journal FILE]] [FILES]...`
+pub fn run<'a>(alloc: Global) -> Result<Command<'a>, AllocError>
+    ensures { IfOk result (λ c. app_of c ≡ run) }
+{
+    let command = Command::new(alloc, "run")
+        .about("Answers the commands of standard input, one a line")
+        .arg(option(alloc, "db", "FILE", "The database of a stored register"))?
+        .arg(option(
+            alloc,
+            "journal",
+            "FILE",
+            "The journal of the commands that are accepted, with --db",
+        ))?
+        .arg(repeated(
+            alloc,
+            "FILES",
+            "The files of sections, points and staff, without --db",
+        ))?;
+    Ok(command)
+}
+
+/// `order DB CLEARANCE ROUND [--offset MINUTES]`
+pub fn order<'a>(alloc: Global) -> Result<Command<'a>, AllocError>
+    ensures { IfOk result (λ c. app_of c ≡ order) }
+{
+    let command = Command::new(alloc, "order")
+        .about("Prints a round of a clearance or a switch order")
+        .arg(required(alloc, "DB", "The database of the register"))?
+        .arg(required(alloc, "CLEARANCE", "The clearance, as JONES/1"))?
+        .arg(required(alloc, "ROUND", "1, or 2 for the restoring steps"))?
+        .arg(offset(alloc))?;
+    Ok(command)
+}
+
+/// `board DB [--offset MINUTES]`
+pub fn board<'a>(alloc: Global) -> Result<Command<'a>, AllocError>
+    ensures { IfOk result (λ c. app_of c ≡ board) }
+{
+    let command = Command::new(alloc, "board")
+        .about("Prints the clearances and switch orders that are not closed, and the jumpers")
+        .arg(required(alloc, "DB", "The database of the register"))?
+        .arg(offset(alloc))?;
+    Ok(command)
+}
+
+/// `wayback DB CLEARANCE`
+pub fn wayback<'a>(alloc: Global) -> Result<Command<'a>, AllocError>
+    ensures { IfOk result (λ c. app_of c ≡ wayback) }
+{
+    let command = Command::new(alloc, "wayback")
+        .about("Prints the commands that give a clearance or a switch order back")
+        .arg(required(alloc, "DB", "The database of the register"))?
+        .arg(required(alloc, "CLEARANCE", "The clearance, as JONES/1"))?;
+    Ok(command)
+}
+
+/// `serve DB --port N --count N`
+fn plain_serve<'a>(alloc: Global) -> Result<Command<'a>, AllocError>
+    ensures { IfOk result (λ c. app_of c ≡ plain_serve) }
+{
+    let command = Command::new(alloc, "serve")
+        .about("Answers HTTP requests on 127.0.0.1, one connection after the other")
+        .arg(required(alloc, "DB", "The database of the register"))?
+        .arg(number(alloc, "port", 65_535, "The port, from 1 to 65535"))?
+        .arg(number(
+            alloc,
+            "count",
+            1_000_000,
+            "How many connections are served, from 1 to 1000000",
+        ))?;
+    Ok(command)
+}
+
+/// `serve DB --port N --count N [--deadline SECONDS] [--desk] [--logins FILE] [--journal FILE]`
+pub fn serve<'a>(alloc: Global) -> Result<Command<'a>, AllocError>
+    ensures { IfOk result (λ c. app_of c ≡ serve) }
+{
+    let plain = plain_serve(alloc)?;
+    let command = plain
+        .arg(at_most(
+            alloc,
+            "deadline",
+            "SECONDS",
+            600,
+            "How long a connection may last, from 1 to 600 seconds",
+        ))?
+        .arg(flag(
+            alloc,
+            "desk",
+            "Answers a control desk, and refuses what pages of other places ask",
+        ))?
+        .arg(option(
+            alloc,
+            "logins",
+            "FILE",
+            "Who may speak for whom, with --desk: CSV with the header login,employee",
+        ))?
+        .arg(option(
+            alloc,
+            "journal",
+            "FILE",
+            "The journal of the commands that are accepted",
+        ))?;
+    Ok(command)
+}
+
+/// `journal FILE [CLEARANCE] [--offset MINUTES] [--commands]`
+pub fn journal<'a>(alloc: Global) -> Result<Command<'a>, AllocError>
+    ensures { IfOk result (λ c. app_of c ≡ journal) }
+{
+    let command = Command::new(alloc, "journal")
+        .about("Prints the commands that a journal keeps, and their replies")
+        .arg(required(alloc, "FILE", "The journal"))?
+        .arg(optional(
+            alloc,
+            "CLEARANCE",
+            "The one clearance that is wanted, as JONES/1",
+        ))?
+        .arg(offset(alloc))?
+        .arg(flag(
+            alloc,
+            "commands",
+            "Prints the commands alone, one a line, as run takes them",
+        ))?;
+    Ok(command)
+}
+
+/// `migrate DB`
+pub fn migrate<'a>(alloc: Global) -> Result<Command<'a>, AllocError>
+    ensures { IfOk result (λ c. app_of c ≡ migrate) }
+{
+    let command = Command::new(alloc, "migrate")
+        .about("Brings the tables of a register to the version that this program reads")
+        .arg(required(alloc, "DB", "The database of the register"))?;
+    Ok(command)
+}
