@@ -1,2 +1,4 @@
 pub mod Line
+pub mod Opened
 pub mod Puts
+pub mod Timed

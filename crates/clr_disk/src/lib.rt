@@ -1,16 +1,21 @@
-//! The disk under a database: a file whose reads at an opening are watched.
+//! What the program asks of the system by a name, and the disk under a database, whose reads at an
+//! opening are watched.
 #![tactic(auto)]
 
 mod behind;
-mod console;
+mod host;
 mod line;
 mod opening;
+mod system;
+mod timed;
 mod watch;
 mod watched;
 mod watched_database;
 
 pub use behind::Behind;
-pub use console::{Console, NoConsole};
-pub use watch::Watch;
+pub use host::Host;
+pub use system::System;
+pub use timed::{Limit, Timed, Waits};
+pub use watch::{Event, Watch};
 pub use watched::Watched;
 pub use watched_database::{WatchedDatabase, open_watched};

@@ -5,60 +5,69 @@
 ghost use Rattle.std.specs.Prelude.{◌≡◌, ◌<◌, ◌/◌, ◌^◌};
 ghost use Rattle.std.specs.Duration.{as_nanos};
 
-use crate::console::{Console, Errors};
 use crate::opening::Opening;
 use clr_stream::Counted;
 use std::cell::Cell;
+use std::io::IsTerminal;
+use std::rt::{Clock, Stderr};
 use std::time::{Duration, Instant};
 
-/// The watch over an opening. Where standard error is a terminal, it shows there how far an opening
-/// has come that takes more than a second, until it ends.
+/// What a watch is shown.
+#[derive(Clone, Copy)]
+pub enum Event {
+    /// The opening of a file of this number of bytes begins.
+    Begins(u64),
+    /// This number of bytes was read.
+    Reads(usize),
+    /// The opening has ended, or the program goes on to what comes after it.
+    Ends,
+}
+
+/// The watch over an opening, which has a clock and standard error, and no more of the machine.
+/// Where standard error is a terminal, it shows there how far an opening has come that takes more
+/// than a second, until it ends.
 #[derive(Drop)]
-pub struct Watch<C> {
-    console: C,
+pub struct Watch<K> {
+    clock: K,
+    errors: Stderr,
     opening: Cell<Option<(Opening, Instant)>>,
 }
 
-impl<C: Console> Watch<C> {
+impl<K: Clock> Watch<K> {
     /// A watch that has nothing to show yet.
-    pub fn new(console: C) -> Watch<C>
-        ensures { result.console ≡ console }
+    pub fn new(clock: K, errors: Stderr) -> Watch<K>
+        ensures clock { result.clock ≡ clock }
+        ensures errors { result.errors ≡ errors }
     {
         Watch {
-            console,
+            clock,
+            errors,
             opening: Cell::new(None),
         }
     }
 
-    /// The opening of a file of `size` bytes begins.
-    pub fn begin(&self, size: u64) {
-        let Some(opening) = Opening::begun(self.console.is_terminal(), size) else {
-            return;
+    /// Sees what happens. Where no opening is under way, only the beginning of one counts.
+    pub fn see(&self, event: Event) {
+        let mut errors = Counted::new(self.errors);
+        let under_way = match (event, self.opening.get()) {
+            (Event::Begins(size), _) => {
+                let opening = Opening::begun(self.errors.is_terminal(), size);
+                opening.zip(Instant::now(&self.clock).ok())
+            }
+            (_, None) => return,
+            (Event::Reads(bytes), Some((opening, since))) => match Instant::now(&self.clock) {
+                Ok(now) => {
+                    let millis = millis_of(now.saturating_duration_since(since));
+                    Some((opening.read_on(bytes, millis, &mut errors), since))
+                }
+                Err(_) => Some((opening, since)),
+            },
+            (Event::Ends, Some((opening, _))) => {
+                opening.end(&mut errors);
+                None
+            }
         };
-        if let Ok(since) = self.console.now() {
-            self.opening.set(Some((opening, since)));
-        }
-    }
-
-    /// This many bytes were read. Where no opening is under way nothing is shown.
-    pub fn read(&self, bytes: usize) {
-        let Some((opening, since)) = self.opening.get() else {
-            return;
-        };
-        if let Ok(now) = self.console.now() {
-            let millis = millis_of(now.saturating_duration_since(since));
-            let mut errors = Counted::new(Errors::new(&self.console));
-            let opening = opening.read_on(bytes, millis, &mut errors);
-            self.opening.set(Some((opening, since)));
-        }
-    }
-
-    /// The opening has ended, or the program goes on to what comes after it.
-    pub fn end(&self) {
-        if let Some((opening, _)) = self.opening.replace(None) {
-            let mut errors = Counted::new(Errors::new(&self.console));
-            opening.end(&mut errors);
-        }
+        self.opening.set(under_way);
     }
 }
 

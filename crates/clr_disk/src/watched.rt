@@ -1,21 +1,21 @@
 //! A disk whose reads a watch sees.
 ghost use Rattle.std.specs.Prelude.{◌≡◌};
 
-use crate::console::Console;
-use crate::watch::Watch;
+use crate::watch::{Event, Watch};
 use sqlite_disk::{Disk, Tally};
 use std::io;
+use std::rt::Clock;
 
 /// A disk whose reads a watch sees, if there is one.
 #[derive(Drop)]
-pub struct Watched<'a, D: Disk, C: Console> {
+pub struct Watched<'a, D: Disk, K: Clock> {
     disk: D,
-    watch: Option<&'a Watch<C>>,
+    watch: Option<&'a Watch<K>>,
 }
 
-impl<'a, D: Disk, C: Console> Watched<'a, D, C> {
+impl<'a, D: Disk, K: Clock> Watched<'a, D, K> {
     /// A disk, and what watches it.
-    pub fn new(disk: D, watch: Option<&'a Watch<C>>) -> Watched<'a, D, C>
+    pub fn new(disk: D, watch: Option<&'a Watch<K>>) -> Watched<'a, D, K>
         ensures { result.disk ≡ disk }
     {
         Watched { disk, watch }
@@ -24,13 +24,13 @@ impl<'a, D: Disk, C: Console> Watched<'a, D, C> {
     /// Lets the watch see a read.
     fn see(&self, bytes: usize) {
         if let Some(watch) = self.watch {
-            watch.read(bytes);
+            watch.see(Event::Reads(bytes));
         }
     }
 }
 
 /// What is said of the disk is said of it when it is watched.
-impl<'a, D: Disk, C: Console> Disk for Watched<'a, D, C> {
+impl<'a, D: Disk, K: Clock> Disk for Watched<'a, D, K> {
     ghost seen = { λ w. D.Disk.seen w.disk };
 
     ghost may_leave = { λ w. D.Disk.may_leave w.disk };

@@ -1,71 +1,66 @@
-//! The database in a file, opened under a watch.
-ghost use Rattle.std.specs.Prelude.{false, true, IfErr, IfOk, IsTrue};
-ghost use Rattle.sqlite.specs.Files.{IsOpened, file_state, image_of};
-ghost use Rattle.sqlite.specs.Held.{IsNew};
+//! The database at a path, opened under a watch.
+ghost use Rattle.std.specs.Prelude.{◌≡◌, ◌⊎◌, IfErr, IfOk, IsTrue};
+ghost use Rattle.sqlite.specs.Files.{image_of};
 ghost use Rattle.sqlite.specs.Opening.{is_open_error};
-ghost use Rattle.sqlite.specs.Start.{FindsIn};
-ghost use Rattle.sqlite.specs.State.{HasCleanDisk};
-ghost use Rattle.sqlite_std_file.specs.File.{IsFresh, file_is_usable};
-ghost use Rattle.sqlite_wal.specs.Files.{image_at};
+ghost use Rattle.clr_disk.specs.Opened.{IsOpenedAt, IsOpenedOver, IsShutAt};
 
-use crate::console::Console;
+use crate::system::System;
 use crate::watch::Watch;
 use crate::watched::Watched;
-use sqlite::{Connection, Error, ErrorCode, FileFrom, FileStore, Options, Start};
+use sqlite::{Connection, Error, ErrorCode, FileStore, Options};
 use sqlite_disk::{Disk, Files};
 use sqlite_std_file::OpenError;
 use std::alloc::Global;
-use std::hash::{BuildHasher, RandomState};
 use std::io::ErrorKind;
+use std::rt::Clock;
 
 /// A database in a file, whose reads a watch sees.
-pub type WatchedDatabase<'a, S, C> = Connection<FileStore<Watched<'a, FileFrom<S>, C>>>;
+pub type WatchedDatabase<'a, D, K> = Connection<FileStore<Watched<'a, D, K>>>;
 
-/// Opens the database in a file, as the kit's `Connection::open_from` does: one that is not there is
-/// made. A watch, if there is one, sees what is read of it. `S` says what the files held: it is
-/// found where the disk is clean.
-pub fn open_watched<'a, S: Start, C: Console>(
-    rt: &HostRuntime,
+/// Opens the database at a path, as the kit's `Connection::open_from` does: one that is not there is
+/// made. A watch, if there is one, sees what is read of it. What the files held is found where the
+/// disk is clean.
+pub fn open_watched<'a, Y: System, K: Clock>(
+    alloc: Global,
+    system: &mut Y,
     path: &str,
-    start: S,
-    watch: Option<&'a Watch<C>>,
-) -> Result<WatchedDatabase<'a, S, C>, Error>
-    ensures opened { IfOk result (λ connection. HasCleanDisk (file_state connection)
-        → IsOpened connection) }
-    ensures found { IfOk result (λ connection. HasCleanDisk (file_state connection)
-        → FindsIn (image_at S.Start) (file_state connection)) }
-    ensures guarded { IfOk result (λ connection. HasCleanDisk (file_state connection)
-        → (file_state connection).IsShielded) }
-    ensures new { IfOk result IsNew }
+    watch: Option<&'a Watch<K>>,
+) -> Result<WatchedDatabase<'a, Y::Medium, K>, Error>
+    ensures opened { IfOk result (λ connection.
+        IsOpenedAt Y.has_files Y.Medium.Disk system.old path.now connection system.new) }
+    ensures refused { IfErr result (λ _.
+        IsShutAt Y.has_files Y.lacks_files system.old path.now system.new) }
     ensures fault { IfErr result (λ error. IsTrue (is_open_error error)) }
 {
-    let options = options(rt)?;
-    let files = files_at(rt, path, start)?;
-    over_watched(rt.alloc(), files, options, watch)
+    let options = options(system)?;
+    let files = files_at(system, path)?;
+    over_watched(alloc, files, options, watch)
 }
 
 /// How the database is kept in its pages, with a seed of its own.
-fn options(rt: &HostRuntime) -> Result<Options, Error>
+fn options<Y: System>(system: &Y) -> Result<Options, Error>
     ensures { IfErr result (λ error. IsTrue (is_open_error error)) }
 {
-    match RandomState::new(rt) {
-        Ok(state) => Ok(Options::new(state.hash_one(&0u8))),
+    match system.seed() {
+        Ok(seed) => Ok(Options::new(seed)),
         Err(_) => Err(Error::SqliteFailure(ErrorCode::CannotOpen)),
     }
 }
 
 /// Opens the file at a path and its log, and makes those that are not there. A path that SQLite
 /// would not take for that of a file is refused.
-fn files_at<S: Start>(rt: &HostRuntime, path: &str, start: S) -> Result<Files<FileFrom<S>>, Error>
-    ensures log { IfOk result (λ files. IsTrue (file_is_usable S.Start files.log)) }
-    ensures db { IfOk result (λ files. IsTrue (file_is_usable S.Start files.db)) }
-    ensures fresh { IfOk result (λ files. IsFresh true files.log × IsFresh false files.db) }
+fn files_at<Y: System>(system: &mut Y, path: &str) -> Result<Files<Y::Medium>, Error>
+    ensures log { IfOk result (λ files. IsTrue (Y.Medium.Disk.is_usable files.log)) }
+    ensures db { IfOk result (λ files. IsTrue (Y.Medium.Disk.is_usable files.db)) }
+    ensures has { IfOk result (λ files. Y.has_files system.old path.now files system.new) }
+    ensures lacks { IfErr result (λ _.
+        (system.new ≡ system.old) ⊎ Y.lacks_files system.old path.now system.new) }
     ensures fault { IfErr result (λ error. IsTrue (is_open_error error)) }
 {
     if path == ":memory:" || path.starts_with("file:") {
         return Err(Error::SqliteFailure(ErrorCode::CannotOpen));
     }
-    match sqlite_std_file::open(rt, path, start) {
+    match system.files(path) {
         Ok(files) => Ok(files),
         Err(error) => Err(Error::SqliteFailure(code_of(error))),
     }
@@ -84,21 +79,15 @@ fn code_of(error: OpenError) -> ErrorCode
 }
 
 /// Opens the database in its files, whose reads the watch sees.
-fn over_watched<'a, D: Disk + Drop, C: Console>(
+fn over_watched<'a, D: Disk + Drop, K: Clock>(
     alloc: Global,
     files: Files<D>,
     options: Options,
-    watch: Option<&'a Watch<C>>,
-) -> Result<Connection<FileStore<Watched<'a, D, C>>>, Error>
+    watch: Option<&'a Watch<K>>,
+) -> Result<WatchedDatabase<'a, D, K>, Error>
     requires log { IsTrue (D.Disk.is_usable files.log) }
     requires db { IsTrue (D.Disk.is_usable files.db) }
-    ensures opened { IfOk result (λ connection. HasCleanDisk (file_state connection)
-        → IsOpened connection) }
-    ensures found { IfOk result (λ connection. HasCleanDisk (file_state connection)
-        → FindsIn (image_of D.Disk files) (file_state connection)) }
-    ensures guarded { IfOk result (λ connection. HasCleanDisk (file_state connection)
-        → (file_state connection).IsShielded) }
-    ensures new { IfOk result IsNew }
+    ensures over { IfOk result (λ connection. IsOpenedOver (image_of D.Disk files) connection) }
     ensures fault { IfErr result (λ error. IsTrue (is_open_error error)) }
 {
     let files = Files {

@@ -1,22 +1,22 @@
-use Rattle.std.proofs.Common.{ℕ, Bool, cond, List, ap₂, subst}
-use Rattle.std.specs.Prelude.{IfOk}
-use Rattle.sqlite_disk.specs.Events.{Event, replay}
-use Rattle.sqlite_wal.specs.Recovery.{Image}
-use Rattle.sqlite.specs.Files.{file_state}
-use Rattle.sqlite.specs.Start.{FindsIn}
-use Rattle.sqlite.specs.State.{HasCleanDisk}
+use Rattle.std.proofs.Common.{inr, Result, Ok, Err}
+use Rattle.std.specs.Prelude.{IfErr, IfOk}
 use Rattle.clr_disk.proofs.watched_database.open_watched.Goals as goal
 
-abbrev image : List ℕ → List ℕ → Image
-image log db = record { log = log; db = db }
+of_ok : {A E : Type 0} {P Q : A → Type 0} (result : Result A E) → ((a : A) → P a → Q a) → IfOk result P → IfOk result Q
+of_ok (Ok a) step holds = step a holds
+of_ok (Err e) step holds = tt
 
-abbrev seen : List ℕ → List ℕ → Bool → List Event → List ℕ
-seen log db is_log history = (replay (cond is_log log db) history).seen
+of_err : {A E P : Type 0} (result : Result A E) → P → IfErr result (λ _. P)
+of_err (Ok a) holds = tt
+of_err (Err e) holds = holds
 
--- the files hold what they held before they were opened
-pub returns-clause-found : goal.returns-clause-found
-returns-clause-found g c =
-    let (log, db) = c.in_ok-files.ensures.fresh in
-    let same = ap₂ image (ap₂ (seen g.S.Start.log g.S.Start.db) log.0 log.1) (ap₂ (seen g.S.Start.log g.S.Start.db) db.0 db.1) in
-    subst (λ (i : Image). IfOk c.over_watched.result (λ connection. HasCleanDisk (file_state connection) → FindsIn i (file_state connection)))
-    same c.over_watched.ensures.found
+-- it was opened over the files at that path
+pub returns-clause-opened : goal.returns-clause-opened
+returns-clause-opened g c = of_ok c.over_watched.result (λ connection over. record {
+  files = c.in_ok-files.files;
+  had = c.in_ok-files.ensures.has;
+  over = over;
+}) c.over_watched.ensures.over
+
+pub returns-clause-refused : goal.returns-clause-refused
+returns-clause-refused g c = of_err c.over_watched.result (inr (inr (c.in_ok-files.files, c.in_ok-files.ensures.has)))

@@ -8,8 +8,13 @@ abbrev image : List ℕ → List ℕ → Image
 image log db = record { log = log; db = db }
 
 -- a watch changes nothing of what the files show
-pub returns-in-Ok-clause-found : goal.returns-in-Ok-clause-found
-returns-in-Ok-clause-found g c clean =
-    let found = c.in-Ok.ensures.found clean in
-    let same = ap₂ image (ap g.D.Disk.seen c.new.ensures) (ap g.D.Disk.seen c.new-2.ensures) in
-    subst (λ i. FindsIn i (file_state c.in-Ok.connection)) same (record { holds = found.holds; reads = found.reads })
+pub returns-in-Ok-clause-over : goal.returns-in-Ok-clause-over
+returns-in-Ok-clause-over g c = record {
+  new = c.in-Ok.ensures.fresh;
+  opened = c.in-Ok.ensures.opened;
+  found = λ clean.
+      let found = c.in-Ok.ensures.found clean in
+      let same = ap₂ image (ap g.D.Disk.seen c.new.ensures) (ap g.D.Disk.seen c.new-2.ensures) in
+      subst (λ i. FindsIn i (file_state c.in-Ok.connection)) same (record { holds = found.holds; reads = found.reads });
+  guarded = c.in-Ok.ensures.guarded;
+}

@@ -1,0 +1,72 @@
+//! What the program asks of the system by a name.
+ghost use Rattle.std.specs.Prelude.{◌≡◌, ℕ, List, IfErr, IfOk, IsTrue};
+ghost use Rattle.std.specs.IoError.{error_kind};
+ghost use Rattle.std.specs.declared.io.ErrorKind.{ErrorKind};
+ghost use Rattle.std.specs.declared.net.tcp.TcpListener.{TcpListener as AnyListener};
+ghost use Rattle.std.specs.declared.net.socket_addr.SocketAddr.{SocketAddr as AnySocketAddr};
+ghost use Rattle.sqlite_disk.specs.declared.Files.{Files as DiskFiles};
+
+use sqlite_disk::{Disk, Files};
+use sqlite_std_file::OpenError;
+use std::io;
+use std::io::Read;
+use std::net::{SocketAddr, TcpListener};
+use std::rt::Clock;
+
+/// What the program asks of the system by a name: a file, the files of a database, an address.
+/// What is given is what was asked for by that name, so a clause that names it says so.
+pub trait System {
+    /// A file that is read.
+    type File: Read + Drop;
+
+    /// A file of a database.
+    type Medium: Disk + Drop;
+
+    /// A clock.
+    type Clock: Clock + Copy;
+
+    /// That a file was opened at a path. Only `file` says so.
+    ghost is_file: { List ℕ → Self.File → Type 0 };
+
+    /// That the file at a path has this number of bytes. Only `size` says so.
+    ghost has_size: { List ℕ → ℕ → Type 0 };
+
+    /// That the files of the database at a path were opened. Only `files` says so.
+    ghost has_files: { Self → List ℕ → DiskFiles Self.Medium → Self → Type 0 };
+
+    /// That they could not be opened. Only `files` says so.
+    ghost lacks_files: { Self → List ℕ → Self → Type 0 };
+
+    /// That a listener was had on an address. Only `listener` says so.
+    ghost listens: { Self → AnySocketAddr → AnyListener → Self → Type 0 };
+
+    /// That an address could not be had, for this reason. Only `listener` says so.
+    ghost refuses: { Self → AnySocketAddr → ErrorKind → Self → Type 0 };
+
+    /// Opens the file at a path to be read.
+    fn file(&self, path: &str) -> io::Result<Self::File>
+        ensures { IfOk result (is_file path.now) };
+
+    /// How many bytes the file at a path has.
+    fn size(&self, path: &str) -> io::Result<u64>
+        ensures { IfOk result (has_size path.now) };
+
+    /// A number that cannot be guessed.
+    fn seed(&self) -> io::Result<u64>;
+
+    /// What tells the time.
+    fn clock(&self) -> Self::Clock;
+
+    /// Opens the database file at a path and its log, and makes those that are not there.
+    fn files(&mut self, path: &str) -> Result<Files<Self::Medium>, OpenError>
+        ensures log { IfOk result (λ files. IsTrue (Self.Medium.Disk.is_usable files.log)) }
+        ensures db { IfOk result (λ files. IsTrue (Self.Medium.Disk.is_usable files.db)) }
+        ensures has { IfOk result (λ files. has_files self.old path.now files self.new) }
+        ensures lacks { IfErr result (λ _. lacks_files self.old path.now self.new) };
+
+    /// Listens on an address.
+    fn listener(&mut self, address: SocketAddr) -> io::Result<TcpListener>
+        ensures listens { IfOk result (λ listener. Self.listens self.old address listener self.new) }
+        ensures refuses { IfErr result (λ error.
+            Self.refuses self.old address (error_kind error) self.new) };
+}
