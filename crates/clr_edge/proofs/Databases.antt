@@ -35,6 +35,7 @@ IsOfLine-of_command (desk.Store store.Sql) is = inr refl
 IsOfLine-of_command (desk.Store (store.WrongVersion n)) is = absurd is
 IsOfLine-of_command (desk.Store (store.BadRow table)) is = absurd is
 IsOfLine-of_command (desk.Store store.NoMemory) is = absurd is
+IsOfLine-of_command desk.Journal is = absurd is
 IsOfLine-of_command desk.NoMemory is = inl refl
 
 -- a store that was shut is refused by the database; one that was open, as is said of it

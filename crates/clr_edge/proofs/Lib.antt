@@ -1,1 +1,2 @@
 pub mod Databases
+pub mod TakenUp

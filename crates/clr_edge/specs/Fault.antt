@@ -12,15 +12,25 @@ use Rattle.clr_staff.specs.declared.staff_fault.StaffFault.{StaffFault}
 use Rattle.clr_staff.specs.declared.staff_fault.StaffFault.TheVariants as staff
 use Rattle.clr_stream.specs.declared.fault.ReadFault.{ReadFault}
 use Rattle.clr_stream.specs.declared.fault.ReadFault.TheVariants as read
+use Rattle.clr_rules.specs.HoldKind.{hold_kind_text}
+use Rattle.clr_rules.specs.Id.{id_text}
 use Rattle.clr_tables.specs.TableText.{table_text}
+use Rattle.clr_tables.specs.declared.table_name.TableName.{TableName}
+use Rattle.clr_tables.specs.declared.table_name.TableName.TheVariants as table
+use Rattle.clr_verify.specs.declared.registers.Difference.{Difference}
+use Rattle.clr_verify.specs.declared.registers.Difference.TheVariants as row
 use Rattle.clr_load.specs.declared.fault.StoreFault.{StoreFault}
 use Rattle.clr_load.specs.declared.fault.StoreFault.TheVariants as store
 use Rattle.clr_desk.specs.declared.desk_fault.DeskFault.{DeskFault}
 use Rattle.clr_desk.specs.declared.desk_fault.DeskFault.TheVariants as desk
 use Rattle.clr_edge.specs.declared.fault.ImportFile.{ImportFile}
-use Rattle.clr_edge.specs.declared.fault.ImportFile.TheVariants.{Sections, Points, Staff}
+use Rattle.clr_edge.specs.declared.fault.ImportFile.TheVariants.{Sections, Points, Staff, Logins}
 use Rattle.clr_edge.specs.declared.fault.InputFault.{InputFault}
 use Rattle.clr_edge.specs.declared.fault.InputFault.TheVariants as input
+use Rattle.clr_edge.specs.declared.fault.JournalFault.{JournalFault}
+use Rattle.clr_edge.specs.declared.fault.JournalFault.TheVariants as journal
+use Rattle.clr_edge.specs.declared.fault.VerifyFault.{VerifyFault}
+use Rattle.clr_edge.specs.declared.fault.VerifyFault.TheVariants as verify
 use Rattle.clr_edge.specs.declared.fault.Detail.{Detail}
 use Rattle.clr_edge.specs.declared.fault.Detail.TheVariants as detail
 use Rattle.clr_edge.specs.declared.fault.Fault.{Fault}
@@ -31,6 +41,7 @@ abbrev pub file_text : ImportFile → List ℕ
 file_text Sections = codes "sections"
 file_text Points = codes "points"
 file_text Staff = codes "staff"
+file_text Logins = codes "logins"
 
 -- what a fault is about
 abbrev pub subject_of : Fault → List ℕ
@@ -38,11 +49,14 @@ subject_of fault.Memory = codes "memory"
 subject_of (fault.File file cause) = file_text file
 subject_of (fault.Network cause) = codes "network"
 subject_of (fault.Staff cause) = codes "staff"
+subject_of (fault.UnknownEmployee row) = codes "logins"
 subject_of (fault.Name cause) = codes "name"
 subject_of (fault.UnknownSection section) = codes "network"
 subject_of (fault.UnknownPoint point) = codes "network"
 subject_of (fault.Input cause) = codes "input"
 subject_of (fault.Store cause) = codes "store"
+subject_of (fault.Journal cause) = codes "journal"
+subject_of (fault.Verify cause) = codes "verify"
 subject_of fault.NoSuch = codes "clearance"
 subject_of fault.NoWay = codes "clearance"
 subject_of fault.Output = codes "output"
@@ -84,10 +98,21 @@ abbrev pub input_fault_name : InputFault → List ℕ
 input_fault_name input.ReadFailed = codes "ReadFailed"
 input_fault_name input.TooLong = codes "TooLong"
 
+abbrev pub journal_fault_name : JournalFault → List ℕ
+journal_fault_name journal.OpenFailed = codes "OpenFailed"
+journal_fault_name journal.ReadFailed = codes "ReadFailed"
+journal_fault_name journal.TooLong = codes "TooLong"
+journal_fault_name (journal.BadLine place) = codes "BadLine"
+journal_fault_name journal.WriteFailed = codes "WriteFailed"
+
+abbrev pub verify_fault_name : VerifyFault → List ℕ
+verify_fault_name (verify.Reply number) = codes "Reply"
+verify_fault_name (verify.Differs found) = codes "Differs"
+
 abbrev pub store_fault_name : StoreFault → List ℕ
 store_fault_name store.Sql = codes "Sql"
 store_fault_name (store.WrongVersion n) = codes "WrongVersion"
-store_fault_name (store.BadRow table) = codes "BadRow"
+store_fault_name (store.BadRow name) = codes "BadRow"
 store_fault_name store.NoMemory = codes "NoMemory"
 
 -- the fault's name
@@ -96,11 +121,14 @@ name_of fault.Memory = codes "NoMemory"
 name_of (fault.File file cause) = file_fault_name cause
 name_of (fault.Network cause) = network_fault_name cause
 name_of (fault.Staff cause) = staff_fault_name cause
+name_of (fault.UnknownEmployee row) = codes "UnknownEmployee"
 name_of (fault.Name cause) = name_fault_name cause
 name_of (fault.UnknownSection section) = codes "UnknownSection"
 name_of (fault.UnknownPoint point) = codes "UnknownPoint"
 name_of (fault.Input cause) = input_fault_name cause
 name_of (fault.Store cause) = store_fault_name cause
+name_of (fault.Journal cause) = journal_fault_name cause
+name_of (fault.Verify cause) = verify_fault_name cause
 name_of fault.NoSuch = codes "NoSuch"
 name_of fault.NoWay = codes "NoWay"
 name_of fault.Output = codes "WriteFailed"
@@ -132,19 +160,51 @@ name_fault_detail cause = detail.Nothing
 
 abbrev pub store_fault_detail : StoreFault → Detail
 store_fault_detail (store.WrongVersion n) = detail.Version n
-store_fault_detail (store.BadRow table) = detail.Table table
+store_fault_detail (store.BadRow name) = detail.Table name
 store_fault_detail cause = detail.Nothing
+
+abbrev pub journal_fault_detail : JournalFault → Detail
+journal_fault_detail (journal.BadLine place) = detail.Number place
+journal_fault_detail cause = detail.Nothing
+
+abbrev pub verify_fault_detail : VerifyFault → Detail
+verify_fault_detail (verify.Reply number) = detail.Number number
+verify_fault_detail (verify.Differs found) = detail.Differs found
 
 -- where a fault is, or what it names
 abbrev pub detail_of : Fault → Detail
 detail_of (fault.File file cause) = file_fault_detail cause
 detail_of (fault.Network cause) = network_fault_detail cause
 detail_of (fault.Staff cause) = staff_fault_detail cause
+detail_of (fault.UnknownEmployee row) = detail.Row row
 detail_of (fault.Name cause) = name_fault_detail cause
 detail_of (fault.Store cause) = store_fault_detail cause
+detail_of (fault.Journal cause) = journal_fault_detail cause
+detail_of (fault.Verify cause) = verify_fault_detail cause
 detail_of (fault.UnknownSection section) = detail.Named section
 detail_of (fault.UnknownPoint point) = detail.Named point
 detail_of cause = detail.Nothing
+
+-- the table of a row that differs
+abbrev pub table_of : Difference → TableName
+table_of (row.Section key) = table.Section
+table_of (row.Point key) = table.NetworkPoint
+table_of (row.Staff key) = table.Staff
+table_of (row.Clearance key) = table.Clearance
+table_of (row.Step key) = table.Step
+table_of (row.Hold key) = table.Hold
+
+-- and its key: a name; a clearance; a step's clearance, round and place; a hold's kind, place and
+-- clearance
+abbrev pub key_text : Difference → List ℕ
+key_text (row.Section key) = codes " " ++ key
+key_text (row.Point key) = codes " " ++ key
+key_text (row.Staff key) = codes " " ++ key
+key_text (row.Clearance key) = codes " " ++ id_text key
+key_text (row.Step key) = (codes " " ++ id_text key.id)
+    ++ ((codes " " ++ decimal key.round) ++ (codes " " ++ decimal key.ordinal))
+key_text (row.Hold key) = (codes " " ++ hold_kind_text key.kind)
+    ++ ((codes " " ++ key.place) ++ (codes " " ++ id_text key.id))
 
 -- how a line says it: rows and columns count from 1, under the header; places in a name from 0
 abbrev pub detail_text : Detail → List ℕ
@@ -155,7 +215,9 @@ detail_text (detail.Field row column) = (codes " row " ++ decimal row)
 detail_text (detail.Place place) = codes " place " ++ decimal place
 detail_text (detail.Named found) = codes " " ++ found
 detail_text (detail.Version n) = codes " " ++ signed_decimal n
-detail_text (detail.Table table) = codes " " ++ table_text table
+detail_text (detail.Table name) = codes " " ++ table_text name
+detail_text (detail.Number number) = codes " " ++ decimal number
+detail_text (detail.Differs found) = (codes " " ++ table_text (table_of found)) ++ key_text found
 
 abbrev pub fault_line : Fault → List ℕ
 fault_line cause = codes "fault: "
@@ -193,6 +255,7 @@ of_store cause = fault.Store cause
 
 abbrev pub of_desk : DeskFault → Fault
 of_desk desk.NoMemory = fault.Memory
+of_desk desk.Journal = fault.Journal journal.WriteFailed
 of_desk (desk.Store cause) = of_store cause
 
 -- the fault is one of this file's, or want of memory

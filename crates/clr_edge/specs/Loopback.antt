@@ -1,12 +1,18 @@
 -- Ports of the machine itself.
-use Rattle.std.specs.Prelude.{◌≡◌, ◌∷◌, ℕ, []}
+use Rattle.std.specs.Prelude.{◌≡◌, ◌∷◌, ℕ, [], Option, is_some}
 use Rattle.std.specs.Net.Addr.{IsV4And, ipv4_octets}
 use Rattle.std.specs.Net.Socket.{socket_ip, socket_port}
 use Rattle.std.specs.declared.io.ErrorKind.{ErrorKind}
 use Rattle.std.specs.declared.io.ErrorKind.TheVariants.{OutOfMemory}
 use Rattle.std.specs.declared.net.socket_addr.SocketAddr.{SocketAddr}
+use Rattle.clr_disk.specs.declared.timed.Limit.{Limit}
 use Rattle.clr_edge.specs.declared.fault.Fault.{Fault}
 use Rattle.clr_edge.specs.declared.fault.Fault.TheVariants.{Listen, Memory}
+
+-- the two handles of a connection end together: at one limit where a number of seconds is given, and
+-- otherwise at none
+abbrev pub EndTogether : {K : Type 0} → Option ℕ → Option (Limit K) → Option (Limit K) → Type 0
+EndTogether seconds reader writer = (is_some reader ≡ is_some seconds) × (writer ≡ reader)
 
 -- the address of a port of 127.0.0.1
 pub record IsLocal (address : SocketAddr) (port : ℕ) : Type 0 where

@@ -1,9 +1,8 @@
 -- One visit of a database: it is opened, worked on, and closed as it was left; and nothing else.
 use Rattle.std.specs.Prelude.{◌≡◌, ◌⊎◌, ℕ, IfErr, List, OnErr, OnOk, Result, Ok, Err}
 use Rattle.sqlite.specs.Closing.{IsCopied}
-use Rattle.sqlite.specs.Files.{FailsToClose, IsClosed, IsOpened, file_state}
-use Rattle.sqlite.specs.Held.{Held, IsNew, state}
-use Rattle.sqlite.specs.Start.{FindsIn}
+use Rattle.sqlite.specs.Files.{FailsToClose, IsClosed}
+use Rattle.sqlite.specs.Held.{Held, state}
 use Rattle.sqlite.specs.State.{HasCleanDisk}
 use Rattle.sqlite.specs.declared.error.Error.{Error}
 use Rattle.sqlite_disk.specs.declared.Disk as disk
@@ -14,7 +13,6 @@ use Rattle.sqlite_store.specs.FileStore as store
 use Rattle.sqlite_trees.specs.View.{IsClean}
 use Rattle.sqlite_trees.specs.declared.store.Store.{Ghosts}
 use Rattle.sqlite_wal.specs.Reads.{AreClean}
-use Rattle.sqlite_wal.specs.Recovery.{Image}
 use Rattle.clr_load.specs.Cause.{fault_of}
 use Rattle.clr_rules.specs.Register.{Register}
 use Rattle.clr_edge.specs.Database.{HasRegister, IsMade, IsMoved, IsOfLine, IsUnmade, IsUnmoved}
@@ -38,14 +36,6 @@ Shutting M = M → List ℕ → Fault → M → Type 0
 
 abbrev pub Ending : Type 0 → Type 0 → Type 1
 Ending M D = M → Files D → M → Type 0
-
--- A CONNECTION THAT WAS JUST OPENED over files that held this: it is in no transaction, and where its
--- disk is clean it is able to serve, and shows what the files held
-pub record IsOpenedOver {D : Type 0} {g : disk.Ghosts D} (image : Image) (c : Over g) : Type 0 where
-  pub new : IsNew c
-  pub opened : HasCleanDisk (file_state c) → IsOpened c
-  pub found : HasCleanDisk (file_state c) → FindsIn image (file_state c)
-  pub guarded : HasCleanDisk (file_state c) → (file_state c).IsShielded
 
 -- what was committed last is in the database file, now and after a crash, where the files gave back
 -- what was written; of a closing that failed the fault has its cause

@@ -1,33 +1,34 @@
 //! The databases that registers are stored in, each opened when its turn comes, and closed.
-ghost use Rattle.std.specs.Prelude.{◌≡◌, ◌⊎◌, ℕ, List, IfErr, IfOk, OnErr, OnOk, ⊤};
+ghost use Rattle.std.specs.Prelude.{◌≡◌, ◌⊎◌, ◌<◌, ℕ, List, IfErr, IfOk, OnErr, OnOk};
 ghost use Rattle.sqlite.specs.Files.{over_files};
 ghost use Rattle.sqlite.specs.Held.{state};
 ghost use Rattle.sqlite.specs.State.{HasCleanDisk, Survives};
 ghost use Rattle.sqlite_disk.specs.declared.Disk as disk;
 ghost use Rattle.sqlite_disk.specs.declared.Files.{Files as DiskFiles};
-ghost use Rattle.sqlite_wal.specs.Files.{image_at};
+ghost use Rattle.clr_disk.specs.Opened.{HasBytes, IsOpenedAt, IsShutAt};
 ghost use Rattle.clr_load.specs.Cause.{fault_of};
 ghost use Rattle.clr_rules.specs.Good.{IsGood};
 ghost use Rattle.clr_rules.specs.Register.{Register, opening};
 ghost use Rattle.clr_edge.specs.Database.{HasRegister, IsMade, IsMoved, IsOfLine, IsOfUnfit};
 ghost use Rattle.clr_edge.specs.Database.{IsOfStore, IsOnlyRead, IsRefused, IsUnmade, IsUnmoved};
 ghost use Rattle.clr_edge.specs.Fault.{of_store};
-ghost use Rattle.clr_edge.specs.Visit.{Alone, Comes, Ends, IsLeft, IsOpenedOver};
+ghost use Rattle.clr_edge.specs.Visit.{Alone, Comes, Ends, IsLeft};
 ghost use Rattle.clr_edge.specs.Visit.{MakesRegister, MovesRegister, Over, both};
 ghost use Rattle.clr_edge.specs.declared.fault.Fault.{Fault as AnyFault};
 
 use crate::fault::Fault;
 use crate::machine::Machine;
 use clr_desk::Desk;
-use clr_disk::{Console, Watched, WatchedDatabase, open_watched};
+use clr_disk::{Event, System, Watched, WatchedDatabase, open_watched};
 use clr_load::StoreFault;
 use clr_net::Network;
 use clr_staff::Staff;
 use clr_store::{Back, Store};
-use sqlite::{Alter, Connection, Error, FileFrom, FileStore, Start};
+use sqlite::{Alter, Connection, Error, FileStore};
 use sqlite_disk::{Disk, Files};
 use std::alloc::Global;
-use std::{fs, io};
+use std::io;
+use std::rt::Clock;
 
 /// What opens the databases that are there, and takes their files back. Each step leads from one
 /// state of it to the next, so a clause that names the steps names all that was opened.
@@ -70,54 +71,68 @@ pub trait Makes: Databases {
         ensures fault { IfErr result IsOfLine };
 }
 
-/// What is found is what the files held. Of their paths no clause can speak.
-impl<'a, S: Start + Copy, C: Console> Databases for Machine<'a, S, C> {
-    type Medium = Watched<'a, FileFrom<S>, C>;
+/// A database that is opened lies in the files at that path, and what is found is what they held.
+/// `stored` looks first whether a file is there that is not empty. No other file is had.
+impl<'a, Y: System, K: Clock> Databases for Machine<'a, Y, K> {
+    type Medium = Watched<'a, Y::Medium, K>;
 
-    ghost opens = { λ _ _ _ connection _. IsOpenedOver (image_at S.Start) connection };
+    ghost opens = { λ old path _ connection new. HasBytes Y.has_size path
+        × IsOpenedAt Y.has_files Y.Medium.Disk old.system path connection new.system };
 
-    ghost shuts = { λ _ _ _ _. ⊤ };
+    ghost shuts = { λ old path _ new.
+        IsShutAt Y.has_files Y.lacks_files old.system path new.system };
 
-    ghost ends = { λ _ _ _. ⊤ };
+    ghost ends = { λ old _ new. new.system ≡ old.system };
 
-    fn stored(&mut self, path: &str) -> Result<WatchedDatabase<'a, S, C>, Fault>
-        ensures opens { IfOk result (IsOpenedOver (image_at S.Start)) }
-        ensures shuts { IfErr result (λ _. ⊤) }
+    fn stored(&mut self, path: &str) -> Result<WatchedDatabase<'a, Y::Medium, K>, Fault>
+        ensures opens { IfOk result (λ connection. HasBytes Y.has_size path.now
+            × IsOpenedAt Y.has_files Y.Medium.Disk self.old.system path.now
+            connection self.new.system) }
+        ensures shuts { IfErr result (λ _.
+            IsShutAt Y.has_files Y.lacks_files self.old.system path.now self.new.system) }
         ensures fault { IfErr result IsOfLine }
     {
-        let size = expect_bytes(self.rt, path)?;
+        let size = expect_bytes(&self.system, path)?;
         if let Some(watch) = self.watch {
-            watch.begin(size);
+            watch.see(Event::Begins(size));
         }
         self.opened(path)
     }
 
-    fn give_back(&mut self, files: Files<Watched<'a, FileFrom<S>, C>>)
-        ensures { ⊤ }
+    fn give_back(&mut self, files: Files<Watched<'a, Y::Medium, K>>)
+        ensures { self.new.system ≡ self.old.system }
     {
         drop(files);
     }
 }
 
-impl<'a, S: Start + Copy, C: Console> Makes for Machine<'a, S, C> {
-    ghost makes = { λ _ _ _ connection _. IsOpenedOver (image_at S.Start) connection };
+impl<'a, Y: System, K: Clock> Makes for Machine<'a, Y, K> {
+    ghost makes = { λ old path _ connection new.
+        IsOpenedAt Y.has_files Y.Medium.Disk old.system path connection new.system };
 
-    fn database(&mut self, path: &str) -> Result<WatchedDatabase<'a, S, C>, Fault>
-        ensures makes { IfOk result (IsOpenedOver (image_at S.Start)) }
-        ensures shuts { IfErr result (λ _. ⊤) }
+    fn database(&mut self, path: &str) -> Result<WatchedDatabase<'a, Y::Medium, K>, Fault>
+        ensures makes { IfOk result (λ connection.
+            IsOpenedAt Y.has_files Y.Medium.Disk self.old.system path.now
+            connection self.new.system) }
+        ensures shuts { IfErr result (λ _.
+            IsShutAt Y.has_files Y.lacks_files self.old.system path.now self.new.system) }
         ensures fault { IfErr result IsOfLine }
     {
         self.opened(path)
     }
 }
 
-impl<'a, S: Start + Copy, C: Console> Machine<'a, S, C> {
-    /// The database in a file, which is made if it is not there.
-    fn opened(&self, path: &str) -> Result<WatchedDatabase<'a, S, C>, Fault>
-        ensures opens { IfOk result (IsOpenedOver (image_at S.Start)) }
+impl<'a, Y: System, K: Clock> Machine<'a, Y, K> {
+    /// The database at a path, which is made if it is not there.
+    fn opened(&mut self, path: &str) -> Result<WatchedDatabase<'a, Y::Medium, K>, Fault>
+        ensures opened { IfOk result (λ connection.
+            IsOpenedAt Y.has_files Y.Medium.Disk self.old.system path.now
+            connection self.new.system) }
+        ensures refused { IfErr result (λ _.
+            IsShutAt Y.has_files Y.lacks_files self.old.system path.now self.new.system) }
         ensures fault { IfErr result IsOfLine }
     {
-        match open_watched(self.rt, path, self.files, self.watch) {
+        match open_watched(self.alloc, &mut self.system, path, self.watch) {
             Ok(connection) => Ok(connection),
             Err(error) => Err(fault_of(error)),
         }
@@ -132,13 +147,14 @@ fn fault_of(error: Error) -> Fault
     Fault::from(StoreFault::from(error))
 }
 
-/// How many bytes a file has. Refuses one that is not there, cannot be looked at or is empty: it has
-/// no database.
-fn expect_bytes<R: std::rt::Files>(files: &R, path: &str) -> Result<u64, Fault>
-    ensures { IfErr result IsOfLine }
+/// How many bytes the file at a path has. Refuses one that is not there, cannot be looked at or is
+/// empty: it has no database.
+fn expect_bytes<Y: System>(system: &Y, path: &str) -> Result<u64, Fault>
+    ensures size { IfOk result (λ size. Y.has_size path.now size × (0 < size)) }
+    ensures fault { IfErr result IsOfLine }
 {
-    match fs::metadata(files, path) {
-        Ok(metadata) if metadata.len() > 0 => Ok(metadata.len()),
+    match system.size(path) {
+        Ok(size) if size > 0 => Ok(size),
         Err(error) if error.kind() == io::ErrorKind::OutOfMemory => Err(Fault::Memory),
         _ => Err(Fault::Store(StoreFault::Sql)),
     }

@@ -1,10 +1,11 @@
 //! What ends a command before it has its answer.
 ghost use Rattle.std.specs.Prelude.{◌≡◌, ◌≤◌, length};
 ghost use Rattle.clr_edge.specs.Fault.{file_fault_detail, file_fault_name, file_text};
-ghost use Rattle.clr_edge.specs.Fault.{input_fault_name, name_fault_detail, name_fault_name};
+ghost use Rattle.clr_edge.specs.Fault.{input_fault_name, journal_fault_detail, journal_fault_name};
+ghost use Rattle.clr_edge.specs.Fault.{name_fault_detail, name_fault_name, verify_fault_detail};
 ghost use Rattle.clr_edge.specs.Fault.{network_fault_detail, network_fault_name};
 ghost use Rattle.clr_edge.specs.Fault.{staff_fault_detail, staff_fault_name, store_fault_detail};
-ghost use Rattle.clr_edge.specs.Fault.{store_fault_name};
+ghost use Rattle.clr_edge.specs.Fault.{store_fault_name, verify_fault_name};
 
 use clr_csv::CsvFault;
 use clr_desk::DeskFault;
@@ -13,9 +14,10 @@ use clr_net::{Name, NameFault, NetFault};
 use clr_staff::StaffFault;
 use clr_stream::ReadFault;
 use clr_tables::TableName;
+use clr_verify::Difference;
 use std::alloc::{AllocError, AllocFailed};
 
-/// One of the files that a network and its staff are read from.
+/// One of the files that are read into rows.
 #[derive(Clone, Copy, Debug, PartialEq, Eq)]
 pub enum ImportFile {
     /// The file of sections.
@@ -24,6 +26,8 @@ pub enum ImportFile {
     Points,
     /// The file of the staff.
     Staff,
+    /// The file of logins.
+    Logins,
 }
 
 impl ImportFile {
@@ -36,6 +40,7 @@ impl ImportFile {
             ImportFile::Sections => "sections",
             ImportFile::Points => "points",
             ImportFile::Staff => "staff",
+            ImportFile::Logins => "logins",
         }
     }
 }
@@ -47,6 +52,30 @@ pub enum InputFault {
     ReadFailed,
     /// There are more than 16,777,216 bytes.
     TooLong,
+}
+
+/// Why a journal is not read, or not written.
+#[derive(Clone, Copy, Debug, PartialEq, Eq)]
+pub enum JournalFault {
+    /// It was not opened.
+    OpenFailed,
+    /// The reader failed.
+    ReadFailed,
+    /// There are more than 1,073,741,824 bytes.
+    TooLong,
+    /// The line at this place, counted from 1, does not read, or is not the next.
+    BadLine(u64),
+    /// A line was not written, or not synced.
+    WriteFailed,
+}
+
+/// Why a database is not what the run of a journal leaves.
+#[derive(Clone, Copy, Debug, PartialEq, Eq)]
+pub enum VerifyFault {
+    /// The command of this number has another reply in the run than in its line.
+    Reply(u64),
+    /// The tables differ, first in this row.
+    Differs(Difference),
 }
 
 /// What ends a command before it has its answer. Its line on standard error is made of `subject`,
@@ -61,6 +90,8 @@ pub enum Fault {
     Network(NetFault),
     /// The rows of the staff's file are no staff.
     Staff(StaffFault),
+    /// The staff has no employee of the name in this row of the file of logins.
+    UnknownEmployee(usize),
     /// An argument is no name.
     Name(NameFault),
     /// The network has no section of this name.
@@ -71,6 +102,10 @@ pub enum Fault {
     Input(InputFault),
     /// The database could not be opened, its tables are no register, or it refused or failed.
     Store(StoreFault),
+    /// The journal could not be opened, or failed.
+    Journal(JournalFault),
+    /// The database is not what the run of a journal leaves.
+    Verify(VerifyFault),
     /// An argument names no clearance, or none that has steps in the round that is named.
     NoSuch,
     /// The clearance cannot be given back before the staff has a field employee, since a step of it
@@ -162,6 +197,7 @@ impl From<DeskFault> for Fault {
     fn from(cause: DeskFault) -> Fault {
         match cause {
             DeskFault::NoMemory => Fault::Memory,
+            DeskFault::Journal => Fault::Journal(JournalFault::WriteFailed),
             DeskFault::Store(cause) => Fault::from(cause),
         }
     }
@@ -209,6 +245,10 @@ pub enum Detail {
     Version(i64),
     /// The table with a row that does not read.
     Table(TableName),
+    /// The place of a line of a journal, or the number of its command, each counted from 1.
+    Number(u64),
+    /// The table and the key of the first row that differs.
+    Differs(Difference),
 }
 
 impl Fault {
@@ -224,9 +264,12 @@ impl Fault {
             Fault::File(file, _) => file.as_str(),
             Fault::Network(_) | Fault::UnknownSection(_) | Fault::UnknownPoint(_) => "network",
             Fault::Staff(_) => "staff",
+            Fault::UnknownEmployee(_) => "logins",
             Fault::Name(_) => "name",
             Fault::Input(_) => "input",
             Fault::Store(_) => "store",
+            Fault::Journal(_) => "journal",
+            Fault::Verify(_) => "verify",
             Fault::NoSuch | Fault::NoWay => "clearance",
             Fault::Output => "output",
             Fault::Listen => "listen",
@@ -243,11 +286,14 @@ impl Fault {
             Fault::File(_, fault) => file_fault_name(fault),
             Fault::Network(fault) => network_fault_name(fault),
             Fault::Staff(fault) => staff_fault_name(fault),
+            Fault::UnknownEmployee(_) => "UnknownEmployee",
             Fault::Name(fault) => name_fault_name(fault),
             Fault::UnknownSection(_) => "UnknownSection",
             Fault::UnknownPoint(_) => "UnknownPoint",
             Fault::Input(fault) => input_fault_name(fault),
             Fault::Store(fault) => store_fault_name(fault),
+            Fault::Journal(fault) => journal_fault_name(fault),
+            Fault::Verify(fault) => verify_fault_name(fault),
             Fault::NoSuch => "NoSuch",
             Fault::NoWay => "NoWay",
             Fault::Output => "WriteFailed",
@@ -265,8 +311,11 @@ impl Fault {
             Fault::File(_, fault) => file_fault_detail(fault),
             Fault::Network(fault) => network_fault_detail(fault),
             Fault::Staff(fault) => staff_fault_detail(fault),
+            Fault::UnknownEmployee(row) => Detail::Row(row),
             Fault::Name(fault) => name_fault_detail(fault),
             Fault::Store(fault) => store_fault_detail(fault),
+            Fault::Journal(fault) => journal_fault_detail(fault),
+            Fault::Verify(fault) => verify_fault_detail(fault),
             Fault::UnknownSection(name) | Fault::UnknownPoint(name) => Detail::Named(name),
         }
     }
@@ -279,6 +328,50 @@ fn input_fault_name(fault: InputFault) -> &'static str
     match fault {
         InputFault::ReadFailed => "ReadFailed",
         InputFault::TooLong => "TooLong",
+    }
+}
+
+fn journal_fault_name(fault: JournalFault) -> &'static str
+    ensures text { result.now ≡ journal_fault_name fault }
+    ensures short { length result.now ≤ 17 }
+{
+    match fault {
+        JournalFault::OpenFailed => "OpenFailed",
+        JournalFault::ReadFailed => "ReadFailed",
+        JournalFault::TooLong => "TooLong",
+        JournalFault::BadLine(_) => "BadLine",
+        JournalFault::WriteFailed => "WriteFailed",
+    }
+}
+
+fn journal_fault_detail(fault: JournalFault) -> Detail
+    ensures { result ≡ journal_fault_detail fault }
+{
+    match fault {
+        JournalFault::BadLine(place) => Detail::Number(place),
+        JournalFault::OpenFailed
+        | JournalFault::ReadFailed
+        | JournalFault::TooLong
+        | JournalFault::WriteFailed => Detail::Nothing,
+    }
+}
+
+fn verify_fault_name(fault: VerifyFault) -> &'static str
+    ensures text { result.now ≡ verify_fault_name fault }
+    ensures short { length result.now ≤ 17 }
+{
+    match fault {
+        VerifyFault::Reply(_) => "Reply",
+        VerifyFault::Differs(_) => "Differs",
+    }
+}
+
+fn verify_fault_detail(fault: VerifyFault) -> Detail
+    ensures { result ≡ verify_fault_detail fault }
+{
+    match fault {
+        VerifyFault::Reply(number) => Detail::Number(number),
+        VerifyFault::Differs(found) => Detail::Differs(found),
     }
 }
 

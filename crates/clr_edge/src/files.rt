@@ -1,7 +1,8 @@
-//! The files that a network and its staff are read from, each opened when its turn comes.
+//! The files that are read into rows, each opened when its turn comes.
 ghost use Rattle.std.specs.Prelude.{◌≡◌, ◌≢◌, ◌⊎◌, Err, IfErr, IfSome, IsErrOf};
 ghost use Rattle.clr_csv.specs.Answers.{GivesUnlessFailed};
 ghost use Rattle.clr_stream.specs.Failures.{Rose};
+ghost use Rattle.clr_csv.specs.LoginRows.{logins_of};
 ghost use Rattle.clr_csv.specs.Points.{points_of};
 ghost use Rattle.clr_csv.specs.Sections.{sections_of};
 ghost use Rattle.clr_csv.specs.StaffRows.{staff_of};
@@ -9,7 +10,8 @@ ghost use Rattle.clr_edge.specs.Fault.{IsOfFile};
 ghost use Rattle.clr_edge.specs.Files.{GivesRows, told_of};
 
 use crate::fault::{Fault, ImportFile};
-use clr_csv::{CsvFault, read_points, read_sections, read_staff};
+use clr_csv::{CsvFault, read_logins, read_points, read_sections, read_staff};
+use clr_logins::LoginRow;
 use clr_net::{PointRow, SectionRow};
 use clr_staff::StaffRow;
 use clr_stream::{Counted, CountedRead};
@@ -100,6 +102,28 @@ fn staff_in<S: Source>(alloc: Global, source: &mut S) -> Result<Vec<StaffRow>, C
 {
     source.open()?;
     let rows = read_staff(alloc, source)?;
+    Ok(rows)
+}
+
+/// The rows of the file of logins.
+pub fn logins_from<S: Source>(alloc: Global, source: &mut S) -> Result<Vec<LoginRow>, Fault>
+    ensures rows { IfSome (S.remaining source.old) (λ file. GivesRows ImportFile.Logins
+        (λ rows. rows.items) (told_of ImportFile.Logins (logins_of file)) result) }
+    ensures fault { IfErr result (IsOfFile ImportFile.Logins) }
+    ensures cause { IsErrOf result (Fault.File ImportFile.Logins CsvFault.ReadFailed)
+        → Rose (S.failure_count source.old) (S.failure_count source.new) }
+{
+    told_of(ImportFile::Logins, logins_in(alloc, source))
+}
+
+fn logins_in<S: Source>(alloc: Global, source: &mut S) -> Result<Vec<LoginRow>, CsvFault>
+    ensures rows { IfSome (S.remaining source.old) (λ file.
+        GivesUnlessFailed (λ rows. rows.items) (logins_of file) result) }
+    ensures cause { IsErrOf result CsvFault.ReadFailed
+        → Rose (S.failure_count source.old) (S.failure_count source.new) }
+{
+    source.open()?;
+    let rows = read_logins(alloc, source)?;
     Ok(rows)
 }
 

@@ -4,7 +4,9 @@
 pub mod database;
 pub mod fault;
 pub mod files;
+pub mod journals;
 pub mod line;
+pub mod logins;
 pub mod loopback;
 pub mod machine;
 pub mod output;

@@ -1,18 +1,19 @@
 //! What takes connections on the machine itself.
-ghost use Rattle.std.specs.Prelude.{◌≡◌, ℕ, IfErr, IfOk, ⊤};
+ghost use Rattle.std.specs.Prelude.{◌≡◌, ℕ, IfErr, IfOk, Option, is_some};
 ghost use Rattle.std.specs.IoError.{error_kind};
 ghost use Rattle.std.specs.declared.io.ErrorKind.{ErrorKind};
 ghost use Rattle.std.specs.declared.net.socket_addr.SocketAddr.{SocketAddr as AnySocketAddr};
-ghost use Rattle.clr_edge.specs.Loopback.{IsLocal, RefusesOn, StandsOn, listen_fault};
+ghost use Rattle.clr_edge.specs.Loopback.{EndTogether, IsLocal, RefusesOn, StandsOn, listen_fault};
+ghost use Rattle.clr_stream.specs.Counted.{counted_inner};
 ghost use Rattle.clr_edge.specs.declared.loopback.Connection.{Connection as AnyConnection};
 
 use crate::fault::Fault;
 use crate::machine::Machine;
-use clr_disk::Console;
+use clr_disk::{Event, Limit, System, Timed};
 use clr_stream::{Counted, CountedFlush, CountedRead};
-use sqlite::Start;
 use std::io;
 use std::net::{IpAddr, Ipv4Addr, SocketAddr, TcpListener, TcpStream};
+use std::rt::Clock;
 
 /// What takes connections. Each step leads from one state of it to the next, and each connection
 /// that came is let go by `hang_up`.
@@ -32,9 +33,10 @@ pub trait Loopback {
     /// That a listener was had on an address. Only `bind` says so.
     ghost stands: { Self → AnySocketAddr → Self.Listener → Self → Type 0 };
 
-    /// That a connection came to a listener. Only `accept` says so.
-    ghost comes: { Self → Self.Listener → AnyConnection Self.Reader Self.Writer → Self
-        → Type 0 };
+    /// That a connection came to a listener, which has this number of seconds, if one is given. Only
+    /// `accept` says so.
+    ghost comes: { Self → Self.Listener → Option ℕ → AnyConnection Self.Reader Self.Writer
+        → Self → Type 0 };
 
     /// That a connection could not be taken, for this reason. Only `accept` says so.
     ghost misses: { Self → Self.Listener → ErrorKind → Self → Type 0 };
@@ -48,13 +50,15 @@ pub trait Loopback {
         ensures refuses { IfErr result (λ error.
             refuses self.old address (error_kind error) self.new) };
 
-    /// Waits for the next connection to a listener.
+    /// Waits for the next connection to a listener. One that is not over this number of seconds
+    /// later, if a number is given, is ended: from then on each read and write of it fails.
     fn accept(
         &mut self,
         listener: &Self::Listener,
+        deadline: Option<u16>,
     ) -> io::Result<Connection<Self::Reader, Self::Writer>>
         ensures comes { IfOk result (λ connection.
-            comes self.old listener.now connection self.new) }
+            comes self.old listener.now deadline connection self.new) }
         ensures misses { IfErr result (λ error.
             misses self.old listener.now (error_kind error) self.new) };
 
@@ -72,52 +76,76 @@ pub struct Connection<R, W> {
     pub writer: W,
 }
 
-impl<'a, S: Start, C: Console> Loopback for Machine<'a, S, C> {
+/// One of the two handles of a connection to the machine.
+type Handle<K> = Counted<Timed<TcpStream, K>>;
+
+impl<'a, Y: System, K: Clock> Loopback for Machine<'a, Y, K> {
     type Listener = TcpListener;
 
-    type Reader = Counted<TcpStream>;
+    type Reader = Handle<Y::Clock>;
 
-    type Writer = Counted<TcpStream>;
+    type Writer = Handle<Y::Clock>;
 
-    ghost refuses = { λ _ _ _ _. ⊤ };
+    ghost refuses = { λ old address kind new.
+        Y.refuses old.system address kind new.system };
 
-    ghost stands = { λ _ _ _ _. ⊤ };
+    ghost stands = { λ old address listener new.
+        Y.listens old.system address listener new.system };
 
-    ghost comes = { λ _ _ _ _. ⊤ };
+    ghost comes = { λ old _ deadline connection new. (new ≡ old) × EndTogether deadline
+        (counted_inner connection.reader).limit (counted_inner connection.writer).limit };
 
-    ghost misses = { λ _ _ _ _. ⊤ };
+    ghost misses = { λ old _ _ new. new ≡ old };
 
-    ghost hangs_up = { λ _ _ _. ⊤ };
+    ghost hangs_up = { λ old _ new. new ≡ old };
 
     fn bind(&mut self, address: SocketAddr) -> io::Result<TcpListener>
-        ensures stands { IfOk result (λ _. ⊤) }
-        ensures refuses { IfErr result (λ _. ⊤) }
+        ensures stands { IfOk result (λ listener.
+            Y.listens self.old.system address listener self.new.system) }
+        ensures refuses { IfErr result (λ error.
+            Y.refuses self.old.system address (error_kind error) self.new.system) }
     {
         if let Some(watch) = self.watch {
-            watch.end();
+            watch.see(Event::Ends);
         }
-        TcpListener::bind(self.rt, address)
+        self.system.listener(address)
     }
 
     fn accept(
         &mut self,
         listener: &TcpListener,
-    ) -> io::Result<Connection<Counted<TcpStream>, Counted<TcpStream>>>
-        ensures comes { IfOk result (λ _. ⊤) }
-        ensures misses { IfErr result (λ _. ⊤) }
+        deadline: Option<u16>,
+    ) -> io::Result<Connection<Handle<Y::Clock>, Handle<Y::Clock>>>
+        ensures comes { IfOk result (λ connection. (self.new ≡ self.old) × EndTogether deadline
+            (counted_inner connection.reader).limit (counted_inner connection.writer).limit) }
+        ensures misses { IfErr result (λ _. self.new ≡ self.old) }
     {
         let (reader, _) = listener.accept()?;
         let writer = reader.try_clone()?;
+        let limit = limit_after(self.system.clock(), deadline)?;
         Ok(Connection {
-            reader: Counted::new(reader),
-            writer: Counted::new(writer),
+            reader: Counted::new(Timed::new(reader, limit)),
+            writer: Counted::new(Timed::new(writer, limit)),
         })
     }
 
-    fn hang_up(&mut self, connection: Connection<Counted<TcpStream>, Counted<TcpStream>>)
-        ensures { ⊤ }
+    fn hang_up(&mut self, connection: Connection<Handle<Y::Clock>, Handle<Y::Clock>>)
+        ensures { self.new ≡ self.old }
     {
         drop(connection);
+    }
+}
+
+/// The end of this number of seconds from now, if one is given.
+fn limit_after<K: Clock + Drop>(clock: K, seconds: Option<u16>) -> io::Result<Option<Limit<K>>>
+    ensures { IfOk result (λ limit. is_some limit ≡ is_some seconds) }
+{
+    match seconds {
+        Some(seconds) => {
+            let limit = Limit::after(clock, seconds)?;
+            Ok(Some(limit))
+        }
+        None => Ok(None),
     }
 }
 

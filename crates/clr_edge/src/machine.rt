@@ -1,68 +1,53 @@
-//! The machine that the program runs on: its memory, its files, its databases and its ports.
+//! The machine that the program runs on: its memory, its databases and its ports.
 ghost use Rattle.std.specs.Prelude.{◌≡◌, [], true};
 
-use crate::paths::{AtPath, Opens, Paths};
-use clr_disk::{Console, NoConsole, Watch};
+use clr_disk::{System, Watch};
 use sqlite::Start;
 use std::alloc::Global;
+use std::rt::Clock;
 
-/// The machine, with what its database files hold.
+/// The machine: what it asks of a system it asks by the path or the address that it is given.
 #[derive(Drop)]
-pub struct Machine<'a, S: Start, C: Console> {
-    /// What gives memory, opens files and listens.
-    pub(crate) rt: &'a HostRuntime,
-    /// What the database files hold, which is for contracts alone.
-    pub(crate) files: S,
+pub struct Machine<'a, Y: System, K> {
+    pub(crate) alloc: Global,
+    /// What opens databases and listens.
+    pub(crate) system: Y,
     /// What shows the opening of a database at a terminal, if anything does.
-    pub(crate) watch: Option<&'a Watch<C>>,
+    pub(crate) watch: Option<&'a Watch<K>>,
 }
 
-impl<'a, S: Start> Machine<'a, S, NoConsole> {
-    /// The machine of a runtime. No opening of a database is shown.
-    pub fn new(rt: &'a HostRuntime, files: S) -> Machine<'a, S, NoConsole>
-        ensures runtime { result.rt ≡ rt.entry }
-        ensures files { result.files ≡ files }
+impl<'a, Y: System> Machine<'a, Y, HostRuntime> {
+    /// The machine of a system. No opening of a database is shown.
+    pub fn new(alloc: Global, system: Y) -> Machine<'a, Y, HostRuntime>
+        ensures { result.system ≡ system }
     {
         Machine {
-            rt,
-            files,
+            alloc,
+            system,
             watch: None,
         }
     }
 }
 
-impl<'a, S: Start, C: Console> Machine<'a, S, C> {
+impl<'a, Y: System, K: Clock> Machine<'a, Y, K> {
     /// The same, where a watch shows each opening of a database by `stored`. It ends when the
     /// machine listens; what else comes after an opening is to end it.
-    pub fn watched(rt: &'a HostRuntime, files: S, watch: &'a Watch<C>) -> Machine<'a, S, C>
-        ensures runtime { result.rt ≡ rt.entry }
-        ensures files { result.files ≡ files }
+    pub fn watched(alloc: Global, system: Y, watch: &'a Watch<K>) -> Machine<'a, Y, K>
+        ensures { result.system ≡ system }
     {
         Machine {
-            rt,
-            files,
+            alloc,
+            system,
             watch: Some(watch),
         }
     }
 }
 
-impl<'a, S: Start, C: Console> Alloc for Machine<'a, S, C> {
+impl<'a, Y: System, K> Alloc for Machine<'a, Y, K> {
     type A = Global;
 
     fn alloc(&self) -> Global {
-        self.rt.alloc()
-    }
-}
-
-impl<'a, S: Start, C: Console> Opens<'a> for Machine<'a, S, C> {
-    ghost use Rattle.std.specs.Prelude.{None};
-
-    type File = AtPath<'a, HostRuntime>;
-
-    ghost bytes_at = { λ _ _. None };
-
-    fn at(&self, path: &'a str) -> AtPath<'a, HostRuntime> {
-        Paths::new(self.rt).at(path)
+        self.alloc
     }
 }
 

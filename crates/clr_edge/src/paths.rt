@@ -1,12 +1,12 @@
 //! Files at the paths that a command line names.
-ghost use Rattle.std.specs.Prelude.{◌≡◌, ◌⊎◌, ℕ, List, Option, Err, Ok};
+ghost use Rattle.std.specs.Prelude.{◌≡◌, ◌⊎◌, ℕ, List, None, Option, Err, Ok, ⊤};
 
 use crate::files::Source;
 use clr_csv::CsvFault;
+use clr_disk::System;
 use clr_stream::CountedRead;
+use std::io;
 use std::io::Read;
-use std::rt::Files;
-use std::{fs, io};
 
 /// What has the files at paths.
 pub trait Opens<'a> {
@@ -20,31 +20,38 @@ pub trait Opens<'a> {
         ensures { Self.File.remaining result ≡ bytes_at self.now path.entry.now };
 }
 
-/// The paths of the machine.
+/// The paths of a system.
 #[derive(Drop)]
-pub struct Paths<'a, R> {
-    rt: &'a R,
+pub struct Paths<'a, Y> {
+    system: &'a Y,
 }
 
-impl<'a, R> Paths<'a, R> {
-    /// Paths that `rt` opens.
-    pub fn new(rt: &'a R) -> Paths<'a, R>
-        ensures { result.rt ≡ rt.entry }
+impl<'a, Y> Paths<'a, Y> {
+    /// Paths that a system opens.
+    pub fn new(system: &'a Y) -> Paths<'a, Y>
+        ensures { result.system ≡ system.entry }
     {
-        Paths { rt }
+        Paths { system }
     }
 }
 
-impl<'a, R: Files> Opens<'a> for Paths<'a, R> {
+impl<'a, Y: System> Opens<'a> for Paths<'a, Y> {
     ghost use Rattle.std.specs.Prelude.{None};
 
-    type File = AtPath<'a, R>;
+    type File = AtPath<'a, Y>;
 
     ghost bytes_at = { λ _ _. None };
 
-    fn at(&self, path: &'a str) -> AtPath<'a, R> {
+    fn at(&self, path: &'a str) -> AtPath<'a, Y>
+        ensures bytes { ⊤ }
+
+        // It is that path which is opened later, and by that system.
+        ensures path { result.path ≡ path.entry }
+        ensures system { result.system ≡ self.now.system }
+        ensures unopened { result.file ≡ None }
+    {
         AtPath {
-            rt: self.rt,
+            system: self.system,
             path,
             file: None,
             failures: 0,
@@ -54,14 +61,14 @@ impl<'a, R: Files> Opens<'a> for Paths<'a, R> {
 
 /// The file at a path.
 #[derive(Drop)]
-pub struct AtPath<'a, R: Files> {
-    rt: &'a R,
+pub struct AtPath<'a, Y: System> {
+    system: &'a Y,
     path: &'a str,
-    file: Option<R::File>,
+    file: Option<Y::File>,
     failures: u64,
 }
 
-impl<'a, R: Files> AtPath<'a, R> {
+impl<'a, Y: System> AtPath<'a, Y> {
     ghost use Rattle.clr_stream.specs.Failures.{count_after};
 
     /// Adds a failure to the count, if this was one.
@@ -76,7 +83,7 @@ impl<'a, R: Files> AtPath<'a, R> {
     }
 }
 
-impl<'a, R: Files> Read for AtPath<'a, R> {
+impl<'a, Y: System> Read for AtPath<'a, Y> {
     ghost use Rattle.std.specs.Prelude.{None};
     ghost use Rattle.std.specs.Io.{ReadsAtMost};
     ghost use Rattle.std.specs.Io.KnownBytes.{ReadConsumes};
@@ -92,7 +99,7 @@ impl<'a, R: Files> Read for AtPath<'a, R> {
 
         // So a file ends only where the file itself does, and not where it could not be read on, or
         // was not opened.
-        ensures opened { ReadsOpened R.File.remaining self.old.file self.new.file result buf.new }
+        ensures opened { ReadsOpened Y.File.remaining self.old.file self.new.file result buf.new }
     {
         let answer = match &mut self.file {
             Some(file) => file.read(buf),
@@ -103,7 +110,7 @@ impl<'a, R: Files> Read for AtPath<'a, R> {
     }
 }
 
-impl<'a, R: Files> CountedRead for AtPath<'a, R> {
+impl<'a, Y: System> CountedRead for AtPath<'a, Y> {
     ghost failure_count = { λ s. s.failures };
 
     fn failures(&self) -> u64 {
@@ -115,8 +122,8 @@ impl<'a, R: Files> CountedRead for AtPath<'a, R> {
     }
 }
 
-impl<'a, R: Files> Source for AtPath<'a, R> {
-    ghost use Rattle.std.specs.Prelude.{◌≢◌, IfErr, IsErrOf, IsSome, OnOk, ⊤};
+impl<'a, Y: System> Source for AtPath<'a, Y> {
+    ghost use Rattle.std.specs.Prelude.{◌≢◌, IfErr, IsErrOf, IsSomeAnd, OnOk, ⊤};
     ghost use Rattle.clr_stream.specs.Failures.{Rose};
 
     fn open(&mut self) -> Result<(), CsvFault>
@@ -128,10 +135,11 @@ impl<'a, R: Files> Source for AtPath<'a, R> {
         ensures others { result ≢ Err CsvFault.ReadFailed
             → self.new.failures ≡ self.old.failures }
 
-        // So one that could not be opened is never taken for an empty file.
-        ensures opened { OnOk result (IsSome self.new.file) }
+        // So one that could not be opened is never taken for an empty file, and none for another.
+        ensures opened { OnOk result (IsSomeAnd self.new.file (λ file.
+            Y.is_file self.old.path.now file)) }
     {
-        match fs::open(self.rt, self.path) {
+        match self.system.file(self.path) {
             Ok(file) => {
                 self.file = Some(file);
                 Ok(())
