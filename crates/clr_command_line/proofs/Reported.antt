@@ -119,8 +119,9 @@ module _ {M D L R W I : Type 0} (g : disk.Ghosts D) (makes opens : Opening M D) 
   carried_out (asked.WayBack args) status before after (answer, does, own, untouched, reports) = reported answer status _ _ _ _ own reports
   carried_out (asked.Serve args) status before after (served, middle, untouched, serves, reports) =
       reported_served args.port args.count served status before.output after.output before.errors middle after.errors
-      (serve_written net seen args.port args.count before.output after.output before.errors middle g opens shuts ends args.database.now served
+      (serve_written net seen before.output after.output before.errors middle files args g opens shuts ends served
       before.machine after.machine serves) reports
+  carried_out (asked.Journal args) status before after (answer, does, own, untouched, reports) = reported answer status _ _ _ _ own reports
   carried_out (asked.Migrate path) status before after (answer, does, own, untouched, reports) = reported answer status _ _ _ _ own reports
 
   pub does : (what : Parsed) (status : ℕ) (before after : Moment M I)

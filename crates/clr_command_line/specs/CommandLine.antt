@@ -1,6 +1,6 @@
 -- What a command line does: what its words ask for is carried out and reported.
-use Rattle.std.specs.Prelude.{◌≡◌, ◌⊎◌, ℕ, List, Option, None, Result, IfErr, String, codes}
-use Rattle.std.specs.Prelude.{string_bytes}
+use Rattle.std.specs.Prelude.{◌≡◌, ◌⊎◌, ℕ, List, Option, None, Result, IfErr, IfSome, IsErrOf}
+use Rattle.std.specs.Prelude.{String, codes, string_bytes}
 use Rattle.std.specs.declared.alloc.Global.{Global}
 use Rattle.std.specs.declared.io.ErrorKind.{ErrorKind}
 use Rattle.std.specs.declared.io.ErrorKind.TheVariants.{OutOfMemory}
@@ -10,12 +10,14 @@ use Rattle.clr_stream.specs.Streams.{Sends, Stream}
 use Rattle.clr_args.specs.Parsed.{Parses}
 use Rattle.clr_args.specs.declared.asked.Asked.{Asked}
 use Rattle.clr_args.specs.declared.asked.Asked.TheVariants as asked
+use Rattle.clr_args.specs.declared.asked.JournalArgs.{JournalArgs}
 use Rattle.clr_args.specs.declared.parsing.Parsed.{Parsed}
 use Rattle.clr_args.specs.declared.parsing.Parsed.TheVariants as parsed
 use Rattle.clr_edge.specs.Visit.{Alone, Comes, Done, Ending, MakesRegister, MovesRegister, Opening}
 use Rattle.clr_edge.specs.Visit.{Shutting}
 use Rattle.clr_edge.specs.declared.fault.Fault.{Fault}
-use Rattle.clr_edge.specs.declared.fault.Fault.TheVariants.{Memory}
+use Rattle.clr_edge.specs.declared.fault.Fault.TheVariants.{Journal, Memory}
+use Rattle.clr_edge.specs.declared.fault.JournalFault.TheVariants.{OpenFailed, ReadFailed}
 use Rattle.clr_edge.specs.declared.loopback.Loopback as loopback
 use Rattle.clr_commands.specs.Check.{ChecksAt}
 use Rattle.clr_commands.specs.Connections.{Seen}
@@ -24,11 +26,12 @@ use Rattle.clr_commands.specs.Fence.{FencesAt}
 use Rattle.clr_commands.specs.Init.{InitsAt}
 use Rattle.clr_commands.specs.Migrate.{Migrates}
 use Rattle.clr_commands.specs.Paths.{AtPaths}
-use Rattle.clr_commands.specs.Run.{ReadsInput, RunsAsked, RunsStored}
+use Rattle.clr_commands.specs.Run.{ReadsInput, RunsAsked, RunsKept}
 use Rattle.clr_commands.specs.Serve.{ServesAt}
 use Rattle.clr_commands.specs.Stored.{PrintsBoard, PrintsOrder}
 use Rattle.clr_commands.specs.WayBack.{PrintsWayBack}
 use Rattle.clr_commands.specs.declared.replies.Printed.{Printed}
+use Rattle.clr_history.specs.Journal.{GivesJournal}
 use Rattle.clr_command_line.specs.Report.{Reports, ReportsFault, ReportsRun, ReportsServed}
 use Rattle.clr_command_line.specs.Report.{ReportsText}
 
@@ -54,6 +57,13 @@ ComesTo Does status before after = (answer : Result (String Global) Fault)
     × Does answer before.machine after.machine × IfErr answer IsOfSubcommand
     × (after.input ≡ before.input)
     × Reports answer status before.output after.output before.errors after.errors
+
+-- what `journal` prints of the file at a path, and why it goes unread
+pub record PrintsJournal (files : AtPaths) (args : JournalArgs)
+    (answer : Result (String Global) Fault) : Type 0 where
+  pub text : IfSome (files.bytes args.path.now) (λ bytes. GivesJournal args bytes answer)
+  pub unopened : IsErrOf answer (Journal OpenFailed) → files.fails args.path.now
+  pub unread : IsErrOf answer (Journal ReadFailed) → files.fails args.path.now
 
 -- A command line runs over: the steps by which a machine opens and closes databases and takes
 -- connections, and what is seen of a connection; the files at paths; and what standard input shows of
@@ -81,9 +91,8 @@ module _ {M D L R W I : Type 0} (g : disk.Ghosts D) (makes opens : Opening M D) 
       (InitsAt files (λ path register. Comes g makes shuts ends path
       (Alone (MakesRegister over_files register))) args) status before after
   CarriesOut (asked.Run args) status before after = RunComesTo
-      (RunsAsked files (λ path. Comes g opens shuts ends path
-      (Alone (RunsStored over_files (remaining before.input)))) args (remaining before.input))
-      status before after
+      (RunsAsked files (RunsKept g opens shuts ends (remaining before.input)) args
+      (remaining before.input)) status before after
   CarriesOut (asked.Order args) status before after = ComesTo
       (Comes g opens shuts ends args.database.now (PrintsOrder args)) status before after
   CarriesOut (asked.Board args) status before after = ComesTo
@@ -92,9 +101,11 @@ module _ {M D L R W I : Type 0} (g : disk.Ghosts D) (makes opens : Opening M D) 
       (Comes g opens shuts ends args.database.now (PrintsWayBack args)) status before after
   CarriesOut (asked.Serve args) status before after =
       (served : Done) × (reported : Stream) × (after.input ≡ before.input)
-      × ServesAt net seen args.port args.count before.output after.output before.errors reported
-      g opens shuts ends args.database.now served before.machine after.machine
+      × ServesAt net seen files args before.output after.output before.errors reported
+      g opens shuts ends served before.machine after.machine
       × ReportsServed served status reported after.errors
+  CarriesOut (asked.Journal args) status before after = ComesTo
+      (λ answer old new. PrintsJournal files args answer × (new ≡ old)) status before after
   CarriesOut (asked.Migrate path) status before after = ComesTo
       (Migrates (Comes g opens shuts ends path.now (Alone (MovesRegister over_files))))
       status before after

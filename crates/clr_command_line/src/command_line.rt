@@ -22,9 +22,11 @@ use clr_commands::serve::serve;
 use clr_commands::wayback::wayback;
 use clr_edge::database::Makes;
 use clr_edge::fault::Fault;
+use clr_edge::journals::Journals;
 use clr_edge::loopback::Loopback;
 use clr_edge::output::write_out;
 use clr_edge::paths::Opens;
+use clr_history::journal::journal;
 use clr_stream::{CountedFlush, CountedRead};
 use std::alloc::AllocError;
 use std::convert::AsStr;
@@ -43,7 +45,7 @@ pub fn command_line<'a, R, O, S, I, W, E>(
     errors: &mut E,
 ) -> u8
 where
-    R: Makes + Loopback + AllocGlobal,
+    R: Makes + Journals + Loopback + AllocGlobal,
     O: Opens<'a>,
     S: AsStr,
     I: CountedRead,
@@ -80,7 +82,7 @@ pub fn command_line_over<'a, R, O, S, I, W, E>(
     errors: &mut E,
 ) -> u8
 where
-    R: Makes + Loopback + AllocGlobal,
+    R: Makes + Journals + Loopback + AllocGlobal,
     O: Opens<'a>,
     S: AsStr,
     I: CountedRead,
@@ -113,7 +115,7 @@ fn answer<'a, R, O, I, W, E>(
     errors: &mut E,
 ) -> u8
 where
-    R: Makes + Loopback + AllocGlobal,
+    R: Makes + Journals + Loopback + AllocGlobal,
     O: Opens<'a>,
     I: CountedRead,
     W: CountedFlush,
@@ -146,7 +148,7 @@ fn carry_out<'a, R, O, I, W, E>(
     errors: &mut E,
 ) -> u8
 where
-    R: Makes + Loopback + AllocGlobal,
+    R: Makes + Journals + Loopback + AllocGlobal,
     O: Opens<'a>,
     I: CountedRead,
     W: CountedFlush,
@@ -169,9 +171,10 @@ where
         Asked::Board(args) => report(board(alloc, rt, args), output, errors),
         Asked::WayBack(args) => report(wayback(alloc, rt, args), output, errors),
         Asked::Serve(args) => {
-            let served = serve(alloc, rt, args, output, errors);
+            let served = serve(alloc, rt, paths, args, output, errors);
             report_served(served, errors)
         }
+        Asked::Journal(args) => report(journal(alloc, paths, args), output, errors),
         Asked::Migrate(path) => report(migrate(alloc, rt, *path), output, errors),
     }
 }

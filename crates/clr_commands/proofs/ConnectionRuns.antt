@@ -13,11 +13,12 @@ use Rattle.clr_rules.specs.Shown.{is_own_command}
 use Rattle.clr_rules.specs.declared.command.Command.{Command}
 use Rattle.clr_rules.specs.declared.reply.Reply.{Reply}
 use Rattle.clr_rules.proofs.isolation.RunReplies.{own_replies_are}
-use Rattle.clr_http.specs.Asked.{MayAsk, commands_asked, own_among, reply_bytes, with_asked}
-use Rattle.clr_http.specs.Carried.{Carries, IsTold}
+use Rattle.clr_http.specs.Asked.{MayAskAt, commands_asked, own_among, reply_bytes, with_asked}
+use Rattle.clr_http.specs.Carried.{CarriesAt, IsToldAt}
 use Rattle.clr_http.specs.Registrar.{Keeper}
 use Rattle.clr_http.specs.Response.{Content, response_bytes}
 use Rattle.clr_http.specs.Served.{IsWritten}
+use Rattle.clr_http.specs.declared.options.Service.{Service}
 use Rattle.clr_http.specs.declared.serve.HttpFault.{HttpFault}
 use Rattle.clr_http.specs.declared.serve.HttpFault.TheVariants.{NoMemory, ReadFailed, WriteFailed}
 use Rattle.clr_http.specs.declared.serve.Served.{Served}
@@ -25,6 +26,7 @@ use Rattle.clr_http.specs.declared.serve.Served.TheVariants.{Answered, Nothing}
 use Rattle.clr_http.proofs.Connections.{wider}
 use Rattle.clr_edge.specs.declared.loopback.Loopback as loopback
 use Rattle.clr_commands.specs.Connections.{Seen, TakesFirst, TakesNext}
+use Rattle.clr_commands.specs.declared.serve.Terms.{Terms}
 use Rattle.clr_commands.specs.ConnectionLaws.{CarriesAll, CarriesNext, CarriesOut, ConnectionsHaveRun, HasReply, RunsGetTheSame}
 
 -- ---- one connection
@@ -38,15 +40,15 @@ whole_of kind before behind (Err ReadFailed) w = ([], w)
 whole_of kind before behind (Err (WriteFailed count)) (c, is, part) = (response_bytes c, (c, (is, refl), part))
 whole_of kind before behind (Err NoMemory) w = ([], w)
 
-one_carries : (input : Option (List ℕ)) (k l : Keeper) (before behind : Stream) (served : Result Served HttpFault) → Carries input k l before behind served
-    → (carried : Option Command) × (response : List ℕ) × CarriesOut input k l before behind served carried response
-one_carries input k l before behind served h = of h.carried h.run.register h.asked h.written
+one_carries : (service : Service) (input : Option (List ℕ)) (k l : Keeper) (before behind : Stream) (served : Result Served HttpFault) → CarriesAt service input k l before behind served
+    → (carried : Option Command) × (response : List ℕ) × CarriesOut service input k l before behind served carried response
+one_carries service input k l before behind served h = of h.carried h.run.register h.asked h.written
   where
-    of : (carried : Option Command) → l.register ≡ after_all k.register (with_asked carried []) → MayAsk input carried ⊎ (carried ≡ None)
-        → IsWritten (IsTold input carried k l) before behind served
-        → (carried : Option Command) × (response : List ℕ) × CarriesOut input k l before behind served carried response
+    of : (carried : Option Command) → l.register ≡ after_all k.register (with_asked carried []) → MayAskAt service input carried ⊎ (carried ≡ None)
+        → IsWritten (IsToldAt service input carried k l) before behind served
+        → (carried : Option Command) × (response : List ℕ) × CarriesOut service input k l before behind served carried response
     of None e asked w =
-        let (response, written) = whole_of (IsTold input None k l) before behind served w in
+        let (response, written) = whole_of (IsToldAt service input None k l) before behind served w in
         (None, response, record { left = e; reply = tt; asked = asked; written = written })
     of (Some q) e asked w = (
       Some q,
@@ -55,8 +57,8 @@ one_carries input k l before behind served h = of h.carried h.run.register h.ask
         left = e;
         reply = refl;
         asked = asked;
-        written = wider (IsTold input (Some q) k l)
-            (λ c. IsTold input (Some q) k l c × (reply_bytes (Answer.reply (answer k.register q)) ≡ response_bytes c)) before behind served
+        written = wider (IsToldAt service input (Some q) k l)
+            (λ c. IsToldAt service input (Some q) k l c × (reply_bytes (Answer.reply (answer k.register q)) ≡ response_bytes c)) before behind served
             (λ c told. (told, sym (ap response_bytes told.1))) w;
       },
     )
@@ -83,21 +85,21 @@ run_step R S (Some q) later response others reply rest = record {
       (own_replies d (commands_asked later) (replies (after R q) (commands_asked later))) (rest.texts d));
 }
 
-module _ {M L R W : Type 0} (net : loopback.Ghosts M L R W) (seen : Seen R W) (listener : L) where
+module _ {M L R W : Type 0} (net : loopback.Ghosts M L R W) (seen : Seen R W) (terms : Terms) (listener : L) where
   next_carries : (number : ℕ) (k k' : Keeper) (errors errors' : Stream) (old new : M)
-      → TakesNext net seen listener number k k' errors errors' old new → IsGood k.register
-      → (carried : Option Command) × (response : List ℕ) × CarriesNext net seen listener number k k' errors errors' old new carried response
+      → TakesNext net seen terms listener number k k' errors errors' old new → IsGood k.register
+      → (carried : Option Command) × (response : List ℕ) × CarriesNext net seen terms listener number k k' errors errors' old new carried response
   next_carries number k k' errors errors' old new (inl it) good =
-      let (carried, response, out) = one_carries _ k k' _ _ it.served.0 (it.served.1.carries good) in (carried, response, inl (it, out))
+      let (carried, response, out) = one_carries _ _ k k' _ _ it.served.0 (it.served.1.carries good) in (carried, response, inl (it, out))
   next_carries number k k' errors errors' old new (inr missed) good = (None, [], inr (missed, refl, refl))
 
   next_good : (number : ℕ) (k k' : Keeper) (errors errors' : Stream) (old new : M)
-      → TakesNext net seen listener number k k' errors errors' old new → IsGood k.register → IsGood k'.register
+      → TakesNext net seen terms listener number k k' errors errors' old new → IsGood k.register → IsGood k'.register
   next_good number k k' errors errors' old new (inl it) good = it.served.1.good good
   next_good number k k' errors errors' old new (inr (kind, missed, kept, reported)) good = subst (λ (x : Keeper). IsGood x.register) (sym kept) good
 
   first_good : (n : ℕ) (k k' : Keeper) (errors errors' : Stream) (old new : M)
-      → TakesFirst net seen listener n k k' errors errors' old new → IsGood k.register → IsGood k'.register
+      → TakesFirst net seen terms listener n k k' errors errors' old new → IsGood k.register → IsGood k'.register
   unfolding TakesFirst
   first_good zero k k' errors errors' old new (same, kept, quiet) good = subst (λ (x : Keeper). IsGood x.register) (sym kept) good
   first_good (suc n) k k' errors errors' old new (middle, between, reported, first, next) good =
@@ -106,37 +108,37 @@ module _ {M L R W : Type 0} (net : loopback.Ghosts M L R W) (seen : Seen R W) (l
   record Carried (n : ℕ) (k k' : Keeper) (errors errors' : Stream) (old new : M) : Type 0 where
     carried : List (Option Command)
     responses : List (List ℕ)
-    each : CarriesAll net seen listener 1 k k' errors errors' old new carried responses
+    each : CarriesAll net seen terms listener 1 k k' errors errors' old new carried responses
     count : length carried ≡ n
 
   -- the first connections, and then the others: what all of them carry out
   first_carries : (n m : ℕ) (k k' l : Keeper) (errors errors' last : Stream) (old new end : M) (later : List (Option Command)) (others : List (List ℕ))
-      → TakesFirst net seen listener n k k' errors errors' old new → IsGood k.register
-      → CarriesAll net seen listener (n + 1) k' l errors' last new end later others → length later + n ≡ m
+      → TakesFirst net seen terms listener n k k' errors errors' old new → IsGood k.register
+      → CarriesAll net seen terms listener (n + 1) k' l errors' last new end later others → length later + n ≡ m
       → Carried m k l errors last old end
   unfolding TakesFirst CarriesAll
   first_carries zero m k k' l errors errors' last old new end later others (same, kept, quiet) good rest count =
-      let at_keeper : CarriesAll net seen listener 1 k l errors' last new end later others =
-      subst (λ (x : Keeper). CarriesAll net seen listener 1 x l errors' last new end later others) kept rest in
-      let at_stream : CarriesAll net seen listener 1 k l errors last new end later others =
-      subst (λ (x : Stream). CarriesAll net seen listener 1 k l x last new end later others) quiet at_keeper in
+      let at_keeper : CarriesAll net seen terms listener 1 k l errors' last new end later others =
+      subst (λ (x : Keeper). CarriesAll net seen terms listener 1 x l errors' last new end later others) kept rest in
+      let at_stream : CarriesAll net seen terms listener 1 k l errors last new end later others =
+      subst (λ (x : Stream). CarriesAll net seen terms listener 1 k l x last new end later others) quiet at_keeper in
       record {
         carried = later;
         responses = others;
-        each = subst (λ (x : M). CarriesAll net seen listener 1 k l errors last x end later others) same at_stream;
+        each = subst (λ (x : M). CarriesAll net seen terms listener 1 k l errors last x end later others) same at_stream;
         count = omega (arith, count);
       }
   first_carries (suc n) m k k' l errors errors' last old new end later others (middle, between, reported, first, next) good rest count =
       let good_between = first_good n k between errors reported old middle first good in
       let (carried, response, step) = next_carries (n + 1) between k' reported errors' middle new next good_between in
       let number : suc n + 1 ≡ n + 1 + 1 = omega arith in
-      let after : CarriesAll net seen listener (n + 1 + 1) k' l errors' last new end later others =
-      subst (λ (x : ℕ). CarriesAll net seen listener x k' l errors' last new end later others) number rest in
+      let after : CarriesAll net seen terms listener (n + 1 + 1) k' l errors' last new end later others =
+      subst (λ (x : ℕ). CarriesAll net seen terms listener x k' l errors' last new end later others) number rest in
       first_carries n m k between l errors reported last old middle end (carried ∷ later) (response ∷ others) first good
       (new, k', errors', step, after) (omega (arith, count))
 
   all_run : (number : ℕ) (k k' : Keeper) (errors errors' : Stream) (old new : M) (carried : List (Option Command)) (responses : List (List ℕ))
-      → CarriesAll net seen listener number k k' errors errors' old new carried responses → Runs k.register carried responses k'.register
+      → CarriesAll net seen terms listener number k k' errors errors' old new carried responses → Runs k.register carried responses k'.register
   unfolding CarriesAll commands_asked after_all own_among replies own_replies
   all_run number k k' errors errors' old new [] [] (same, kept, quiet) = record { register = ap (λ (x : Keeper). x.register) kept; texts = λ c. refl }
   all_run number k k' errors errors' old new (command ∷ later) (response ∷ others) (middle, between, reported, step, rest) =
@@ -145,7 +147,7 @@ module _ {M L R W : Type 0} (net : loopback.Ghosts M L R W) (seen : Seen R W) (l
       run_step k.register k'.register command later response others one.1 (subst (λ (X : Register). Runs X later others k'.register) one.0 more)
     where
       left_by : (number : ℕ) (k k' : Keeper) (errors errors' : Stream) (old new : M) (command : Option Command) (response : List ℕ)
-          → CarriesNext net seen listener number k k' errors errors' old new command response
+          → CarriesNext net seen terms listener number k k' errors errors' old new command response
           → (k'.register ≡ after_all k.register (with_asked command [])) × HasReply k.register command response
       left_by number k k' errors errors' old new command response (inl (it, out)) = (out.left, out.reply)
       left_by number k k' errors errors' old new None response (inr ((kind, missed, kept, reported), none, empty)) = (ap (λ (x : Keeper). x.register) kept, tt)
@@ -155,11 +157,11 @@ module _ {M L R W : Type 0} (net : loopback.Ghosts M L R W) (seen : Seen R W) (l
 
   -- WHAT THE FIRST CONNECTIONS CARRY OUT IS A RUN
   connections_have_run : RunsChangeNoReply → RunsTakeNothing → RunsStandAlone → (n : ℕ) (k k' : Keeper) (errors errors' : Stream) (old new : M)
-      → TakesFirst net seen listener n k k' errors errors' old new → IsGood k.register
-      → ConnectionsHaveRun net seen listener n k k' errors errors' old new
+      → TakesFirst net seen terms listener n k k' errors errors' old new → IsGood k.register
+      → ConnectionsHaveRun net seen terms listener n k k' errors errors' old new
   unfolding CarriesAll
   connections_have_run same nothing alone n k k' errors errors' old new taken good =
-      let none : CarriesAll net seen listener (n + 1) k' k' errors' errors' new new [] [] = (refl, refl, refl) in
+      let none : CarriesAll net seen terms listener (n + 1) k' k' errors' errors' new new [] [] = (refl, refl, refl) in
       let all = first_carries n n k k' k' errors errors' errors' old new new [] [] taken good none (omega arith) in
       let here = all_run 1 k k' errors errors' old new all.carried all.responses all.each in
       let told = replies k.register (commands_asked all.carried) in
@@ -178,11 +180,11 @@ module _ {M L R W : Type 0} (net : loopback.Ghosts M L R W) (seen : Seen R W) (l
 
   -- and so it is once all were taken
   pub all_have_run : RunsChangeNoReply → RunsTakeNothing → RunsStandAlone → (n count : ℕ) → n ≤ count → count ≤ n → (k k' : Keeper) (errors errors' : Stream)
-      (old new : M) → TakesFirst net seen listener n k k' errors errors' old new → IsGood k.register
-      → ConnectionsHaveRun net seen listener count k k' errors errors' old new
+      (old new : M) → TakesFirst net seen terms listener n k k' errors errors' old new → IsGood k.register
+      → ConnectionsHaveRun net seen terms listener count k k' errors errors' old new
   all_have_run same nothing alone n count most all k k' errors errors' old new taken good =
       let end : n ≡ count = omega (arith, most, all) in
-      subst (λ (x : ℕ). ConnectionsHaveRun net seen listener x k k' errors errors' old new) end
+      subst (λ (x : ℕ). ConnectionsHaveRun net seen terms listener x k k' errors errors' old new) end
       (connections_have_run same nothing alone n k k' errors errors' old new taken good)
 
 -- ---- two runs

@@ -1,5 +1,5 @@
 -- The connections of a port, one by one, and the register that they lead to.
-use Rattle.std.proofs.Common.{◌≡◌, ◌⊎◌, ◌+◌, ◌∙◌, ℕ, zero, suc, List, [], Option, Result, Ok, Err, ap, arith, inl, inr, refl, subst, sym}
+use Rattle.std.proofs.Common.{◌≡◌, ◌⊎◌, ◌+◌, ◌∙◌, ℕ, zero, suc, List, [], Option, None, Some, Result, Ok, Err, ap, arith, inl, inr, refl, subst, sym}
 use Rattle.std.specs.Prelude.{IsErrAnd, OnErr, OnOk}
 use Rattle.std.specs.Io.KnownBytes.{Appends}
 use Rattle.clr_stream.specs.Streams.{AppendsFront, IsCut, Sends, Stream}
@@ -12,13 +12,19 @@ use Rattle.clr_http.specs.RequestLaws.{ComesWithin}
 use Rattle.clr_http.proofs.RequestRuns.{carried_one, comes_further}
 use Rattle.clr_http.specs.declared.serve.HttpFault.{HttpFault}
 use Rattle.clr_http.specs.declared.serve.Served.{Served}
+use Rattle.clr_args.specs.declared.asked.ServeArgs.{ServeArgs}
+use Rattle.clr_logins.specs.declared.logins.LoginRow.{LoginRow}
+use Rattle.clr_result.specs.Results.{◌>>=◌}
+use Rattle.clr_edge.specs.Logins.{known_logins}
 use Rattle.clr_edge.specs.Visit.{Done}
 use Rattle.clr_edge.specs.declared.fault.Fault.{Fault}
 use Rattle.clr_edge.specs.declared.fault.Fault.TheVariants.{Output}
 use Rattle.clr_edge.specs.Loopback.{StandsOn}
 use Rattle.clr_edge.specs.declared.loopback.Loopback as loopback
 use Rattle.clr_commands.specs.Connections.{ReportsConnection, Seen, TakesFirst, TakesNext, connection_line}
-use Rattle.clr_commands.specs.Serve.{ServesKeeper, serving_line}
+use Rattle.clr_commands.specs.Logins.{terms_of, terms_with}
+use Rattle.clr_commands.specs.Serve.{ServesKeeper, ServesOn, serving_line}
+use Rattle.clr_commands.specs.declared.serve.Terms.{Terms}
 
 none_within : (n : ℕ) (R Q : Register) → Q ≡ R → ComesWithin n R Q
 unfolding after_all
@@ -27,31 +33,31 @@ none_within n R Q e = ([], omega arith, e)
 within_good : (n : ℕ) (R Q : Register) → ComesWithin n R Q → IsGood R → IsGood Q
 within_good n R Q (commands, few, e) good = subst IsGood (sym e) (runs_keep_good R commands good)
 
-module _ {M L R W : Type 0} (net : loopback.Ghosts M L R W) (seen : Seen R W) (listener : L) where
+module _ {M L R W : Type 0} (net : loopback.Ghosts M L R W) (seen : Seen R W) (terms : Terms) (listener : L) where
   -- before the first connection nothing was done
-  pub first_taken : (k : Keeper) (errors : Stream) (old : M) → TakesFirst net seen listener 0 k k errors errors old old
+  pub first_taken : (k : Keeper) (errors : Stream) (old : M) → TakesFirst net seen terms listener 0 k k errors errors old old
   unfolding TakesFirst
   first_taken k errors old = (refl, refl, refl)
 
   taken_after : (n : ℕ) (k between k' : Keeper) (errors reported errors' : Stream) (old middle new : M)
-      → TakesFirst net seen listener n k between errors reported old middle
-      → TakesNext net seen listener (n + 1) between k' reported errors' middle new
-      → TakesFirst net seen listener (suc n) k k' errors errors' old new
+      → TakesFirst net seen terms listener n k between errors reported old middle
+      → TakesNext net seen terms listener (n + 1) between k' reported errors' middle new
+      → TakesFirst net seen terms listener (suc n) k k' errors errors' old new
   unfolding TakesFirst
   taken_after n k between k' errors reported errors' old middle new first next = (middle, between, reported, first, next)
 
   -- one connection more
   pub next_taken : (n : ℕ) (k between k' : Keeper) (errors reported errors' : Stream) (old middle new : M)
-      → TakesFirst net seen listener n k between errors reported old middle
-      → TakesNext net seen listener (n + 1) between k' reported errors' middle new
-      → TakesFirst net seen listener (n + 1) k k' errors errors' old new
+      → TakesFirst net seen terms listener n k between errors reported old middle
+      → TakesNext net seen terms listener (n + 1) between k' reported errors' middle new
+      → TakesFirst net seen terms listener (n + 1) k k' errors errors' old new
   next_taken n k between k' errors reported errors' old middle new first next =
-      let P : ℕ → Type 0 = λ m. TakesFirst net seen listener m k k' errors errors' old new in
+      let P : ℕ → Type 0 = λ m. TakesFirst net seen terms listener m k k' errors errors' old new in
       let e : suc n ≡ n + 1 = omega arith in
       subst P e (taken_after n k between k' errors reported errors' old middle new first next)
 
   next_follows : (number : ℕ) (k k' : Keeper) (errors errors' : Stream) (old new : M)
-      → TakesNext net seen listener number k k' errors errors' old new → IsGood k.register → ComesWithin 1 k.register k'.register
+      → TakesNext net seen terms listener number k k' errors errors' old new → IsGood k.register → ComesWithin 1 k.register k'.register
   next_follows number k k' errors errors' old new (inl answers) good =
       let (served, answered, reported) = answers.served in
       carried_one _ k k' _ _ served (answered.carries good)
@@ -60,7 +66,7 @@ module _ {M L R W : Type 0} (net : loopback.Ghosts M L R W) (seen : Seen R W) (l
 
   -- the first connections lead to the register by as many commands at most
   first_within : (n : ℕ) (k k' : Keeper) (errors errors' : Stream) (old new : M)
-      → TakesFirst net seen listener n k k' errors errors' old new → IsGood k.register → ComesWithin n k.register k'.register
+      → TakesFirst net seen terms listener n k k' errors errors' old new → IsGood k.register → ComesWithin n k.register k'.register
   unfolding TakesFirst
   first_within zero k k' errors errors' old new (same, kept, quiet) good =
       none_within 0 k.register k'.register (ap (λ (it : Keeper). it.register) kept)
@@ -71,22 +77,38 @@ module _ {M L R W : Type 0} (net : loopback.Ghosts M L R W) (seen : Seen R W) (l
       (omega arith)
 
 -- and so does a server, whatever it came to
-pub server_within : {M L R W : Type 0} (net : loopback.Ghosts M L R W) (seen : Seen R W) (port count : ℕ)
+pub server_within : {M L R W : Type 0} (net : loopback.Ghosts M L R W) (seen : Seen R W) (terms : Terms)
     (output output' errors errors' : Stream) (k k' : Keeper) (served : Done) (old new : M)
-    → ServesKeeper net seen port count output output' errors errors' k k' served old new
-    → IsGood k.register → ComesWithin count k.register k'.register
-server_within net seen port count output output' errors errors' k k' (Ok value) old new (listener, middle, stands, went, taken, run) good =
-    first_within net seen listener count k k' errors errors' middle new taken good
-server_within net seen port count output output' errors errors' k k' (Err fault) old new (kept, quiet, rest) good =
-    none_within count k.register k'.register (ap (λ (it : Keeper). it.register) kept)
+    → ServesKeeper net seen output output' errors errors' terms k k' served old new
+    → IsGood k.register → ComesWithin terms.count k.register k'.register
+server_within net seen terms output output' errors errors' k k' (Ok value) old new (listener, middle, stands, went, taken, run) good =
+    first_within net seen terms listener terms.count k k' errors errors' middle new taken good
+server_within net seen terms output output' errors errors' k k' (Err fault) old new (kept, quiet, rest) good =
+    none_within terms.count k.register k'.register (ap (λ (it : Keeper). it.register) kept)
+
+-- and so does one that is asked for, whose logins the staff may lack
+pub asked_within : {M L R W : Type 0} (net : loopback.Ghosts M L R W) (seen : Seen R W) (args : ServeArgs) (logins : Option (List LoginRow))
+    (output output' errors errors' : Stream) (k k' : Keeper) (served : Done) (old new : M)
+    → ServesOn net seen output output' errors errors' (terms_of args k.register.staff logins) k k' served old new
+    → IsGood k.register → ComesWithin args.count k.register k'.register
+asked_within net seen args None output output' errors errors' k k' served old new serves good =
+    server_within net seen (terms_with args None) output output' errors errors' k k' served old new serves good
+asked_within net seen args (Some rows) output output' errors errors' k k' served old new serves good =
+    of (known_logins k.register.staff rows) serves
+  where
+    of : (known : Result (List LoginRow) Fault)
+        → ServesOn net seen output output' errors errors' (known >>= (λ rows. Ok (terms_with args (Some rows)))) k k' served old new
+        → ComesWithin args.count k.register k'.register
+    of (Ok rows) serves = server_within net seen (terms_with args (Some rows)) output output' errors errors' k k' served old new serves good
+    of (Err fault) (kept, unserved) = none_within args.count k.register k'.register (ap (λ (it : Keeper). it.register) kept)
 
 -- a server whose line could not be written
-pub server_cut : {M L R W : Type 0} (net : loopback.Ghosts M L R W) (seen : Seen R W) (port count : ℕ) (output output' errors : Stream)
+pub server_cut : {M L R W : Type 0} (net : loopback.Ghosts M L R W) (seen : Seen R W) (terms : Terms) (output output' errors : Stream)
     (k : Keeper) (result : Done) (fault : Fault) (text : List ℕ) (listener : L) (old new : M) → IsErrAnd result (λ cause. cause ≡ fault) → fault ≡ Output
-    → StandsOn net.stands old port listener new → text ≡ serving_line port → IsCut output output' text
-    → ServesKeeper net seen port count output output' errors errors k k result old new
-server_cut net seen port count output output' errors k (Ok value) fault text listener old new is of_output stands same cut = absurd is
-server_cut net seen port count output output' errors k (Err cause) fault text listener old new is of_output stands same cut =
+    → StandsOn net.stands old terms.port listener new → text ≡ serving_line terms.port → IsCut output output' text
+    → ServesKeeper net seen output output' errors errors terms k k result old new
+server_cut net seen terms output output' errors k (Ok value) fault text listener old new is of_output stands same cut = absurd is
+server_cut net seen terms output output' errors k (Err cause) fault text listener old new is of_output stands same cut =
     (refl, refl, inr (listener, stands, is ∙ of_output, subst (λ (t : List ℕ). IsCut output output' t) same cut))
 
 -- a connection that failed is reported

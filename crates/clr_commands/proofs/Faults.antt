@@ -15,6 +15,7 @@ use Rattle.clr_desk.specs.declared.desk_fault.DeskFault.{DeskFault}
 use Rattle.clr_desk.specs.declared.desk_fault.DeskFault.TheVariants as desk
 use Rattle.clr_edge.specs.Database.{IsOfLine, IsOfStore}
 use Rattle.clr_edge.specs.Fault.{IsOfFile, of_desk, of_file, of_name, of_network, of_staff, of_store}
+use Rattle.clr_edge.specs.Journals.{IsOfTakingUp}
 use Rattle.clr_edge.specs.declared.fault.Fault.{Fault}
 use Rattle.clr_edge.specs.declared.fault.Fault.TheVariants.{Listen, Memory, Output}
 use Rattle.clr_edge.specs.declared.fault.ImportFile.{ImportFile}
@@ -70,6 +71,7 @@ of_store_plain store.NoMemory = plain _ refl
 
 pub of_desk_plain : (cause : DeskFault) → IsOfSubcommand (of_desk cause)
 of_desk_plain desk.NoMemory = plain _ refl
+of_desk_plain desk.Journal = plain _ refl
 of_desk_plain (desk.Store cause) = of_store_plain cause
 
 of_file_plain : (file : ImportFile) (cause : CsvFault) → IsOfSubcommand (of_file file cause)
@@ -99,6 +101,11 @@ way_back_plain fault (inl memory) = memory_plain fault memory
 way_back_plain fault (inr (inl none)) = plain_as fault _ none refl
 way_back_plain fault (inr (inr hangs)) = plain_as fault _ hangs refl
 
+pub taking_up_plain : (fault : Fault) → IsOfTakingUp fault → IsOfSubcommand fault
+taking_up_plain fault (inl (inl memory)) = memory_plain fault memory
+taking_up_plain fault (inl (inr shut)) = plain_as fault _ shut refl
+taking_up_plain fault (inr (cause, is)) = subst (λ (f : Fault). IsOfSubcommand f) (sym is) (of_desk_plain cause)
+
 pub store_plain : (fault : Fault) → IsOfStore fault → IsOfSubcommand fault
 store_plain fault (inl memory) = memory_plain fault memory
 store_plain fault (inr (cause, is)) = plain_as fault _ is refl
@@ -118,7 +125,7 @@ printed_plain : (texts : List (List ℕ)) (ended : Option DeskFault) (printed : 
 printed_plain texts ended printed (inl (all, same)) = told_plain printed.fault ended same
 printed_plain texts ended printed (inr some) = subst (λ (f : Option Fault). IfSome f IsOfSubcommand) (sym some.memory) (plain _ refl)
 
-pub answers_plain : {fails : StoreFault → Type 0} {R S : Register} {input : List ℕ} {told : List Reply} {printed : Printed}
+pub answers_plain : {fails : DeskFault → Type 0} {R S : Register} {input : List ℕ} {told : List Reply} {printed : Printed}
     → AnswersInput fails R S input told printed → IfSome printed.fault IsOfSubcommand
 answers_plain {input} {told} {printed} is =
     printed_plain (answers (readings_of (asked_lines input)) told) is.ended printed is.prints

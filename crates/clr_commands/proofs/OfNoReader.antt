@@ -107,12 +107,15 @@ no_reader-from_rows (File file cause) sections points work cut told =
     is_fence-no_reader _ sections points work cut (Err (File file cause)) (told (λ e. cc e))
 no_reader-from_rows (found.Network cause) sections points work cut told = refl
 no_reader-from_rows (found.Staff cause) sections points work cut told = refl
+no_reader-from_rows (found.UnknownEmployee row) sections points work cut told = refl
 no_reader-from_rows (found.Name cause) sections points work cut told = refl
 no_reader-from_rows (found.UnknownSection section) sections points work cut told = refl
 no_reader-from_rows (found.UnknownPoint point) sections points work cut told = refl
 no_reader-from_rows (Input cause) sections points work cut told =
     is_fence-no_reader _ sections points work cut (Err (Input cause)) (told (λ e. cc e))
 no_reader-from_rows (found.Store cause) sections points work cut told = refl
+no_reader-from_rows (found.Journal cause) sections points work cut told = refl
+no_reader-from_rows (found.Verify cause) sections points work cut told = refl
 no_reader-from_rows found.NoSuch sections points work cut told = refl
 no_reader-from_rows found.NoWay sections points work cut told = refl
 no_reader-from_rows found.Output sections points work cut told = refl

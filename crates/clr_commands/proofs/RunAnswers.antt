@@ -4,7 +4,8 @@ use Rattle.std.specs.Prelude.{Some, None, IfErr, IfSome, IsErrAnd, IsErrOf, OnEr
 use Rattle.clr_stream.specs.Failures.{Rose}
 use Rattle.clr_rules.specs.Good.{IsGood}
 use Rattle.clr_rules.specs.Register.{Register}
-use Rattle.clr_load.specs.Fault.{IsOfDatabase}
+use Rattle.clr_desk.specs.Faults.{FailsAsStore}
+use Rattle.clr_journaled.specs.Journaling.{FailsToo}
 use Rattle.clr_load.specs.declared.fault.StoreFault.{StoreFault}
 use Rattle.clr_load.specs.declared.fault.StoreFault.TheVariants as store
 use Rattle.sqlite.specs.Held.{Held, state}
@@ -15,6 +16,7 @@ use Rattle.clr_desk.specs.declared.desk_fault.DeskFault.{DeskFault}
 use Rattle.clr_desk.specs.declared.desk_fault.DeskFault.TheVariants as desk
 use Rattle.clr_edge.specs.Database.{HasRegister, IsOfLine, IsOnlyRead, IsRefused}
 use Rattle.clr_edge.specs.Fault.{of_desk, of_store}
+use Rattle.clr_edge.specs.Journals.{IsNotTakenUp, IsTakenUp}
 use Rattle.clr_edge.specs.Visit.{Done}
 use Rattle.clr_edge.specs.declared.fault.Fault.{Fault}
 use Rattle.clr_edge.specs.declared.fault.Fault.TheVariants.{Input}
@@ -23,9 +25,9 @@ use Rattle.clr_commands.specs.Answers.{Answers, IsMemory}
 use Rattle.clr_commands.specs.Faults.{FailsAsSubcommand, IsOfSubcommand}
 use Rattle.clr_commands.specs.Import.{FileRows}
 use Rattle.clr_commands.specs.Replies.{AnswersOver, PrintsAnswers, answers, asked_lines, readings_of}
-use Rattle.clr_commands.specs.Run.{IsOfInput, IsOpeningOf, IsRunOf, ReadsInput, RunsFrom, RunsOnDesk, ended_by, printed_after, rows_fault}
+use Rattle.clr_commands.specs.Run.{IsOfInput, IsOpeningOf, IsRunOf, ReadsInput, RunsFrom, RunsLoggedFrom, RunsOnDesk, ended_by, printed_after, rows_fault}
 use Rattle.clr_commands.specs.declared.replies.Printed.{Printed}
-use Rattle.clr_commands.proofs.Faults.{answers_plain, input_plain, line_plain, of_store_plain}
+use Rattle.clr_commands.proofs.Faults.{answers_plain, input_plain, line_plain, of_store_plain, taking_up_plain}
 
 -- ---- the input
 
@@ -45,7 +47,7 @@ ReadsInput-other input n n' before after (Err cause) fault other is same = recor
 }
 
 -- the input of a run over a desk
-pub ReadsInput-desk : {X : Type 0} (fails : StoreFault → Type 0) (old new : State) (R S : Register) (input : Option (List ℕ)) (n n' : ℕ) (before after : X) (result : Result Printed Fault)
+pub ReadsInput-desk : {X : Type 0} (fails : DeskFault → Type 0) (old new : State) (R S : Register) (input : Option (List ℕ)) (n n' : ℕ) (before after : X) (result : Result Printed Fault)
     → RunsOnDesk fails old new R S input result → (IsErrOf result (Input ReadFailed) → Rose n n') → ReadsInput input n n' before after result
 ReadsInput-desk fails old new R S input n n' before after (Ok printed) runs rose = record { cause = rose; waits = tt }
 ReadsInput-desk fails old new R S input n n' before after (Err fault) runs rose = record { cause = rose; waits = inr runs }
@@ -56,6 +58,19 @@ of_store-no_input store.Sql fault is e = cc (sym is ∙ e)
 of_store-no_input (store.WrongVersion n) fault is e = cc (sym is ∙ e)
 of_store-no_input (store.BadRow table) fault is e = cc (sym is ∙ e)
 of_store-no_input store.NoMemory fault is e = cc (sym is ∙ e)
+
+-- nor is one of a register that is not taken up with its journal
+desk-no_input : (cause : DeskFault) (fault : Fault) → fault ≡ of_desk cause → fault ≡ Input ReadFailed → ⊥
+desk-no_input desk.NoMemory fault is e = cc (sym is ∙ e)
+desk-no_input desk.Journal fault is e = cc (sym is ∙ e)
+desk-no_input (desk.Store cause) fault is e = of_store-no_input cause fault is e
+
+pub not_taken-no_input : {T : Type 0} (g : Ghosts T) (before after : Held T) (fault : Fault) → IsNotTakenUp g before fault after
+    → fault ≡ Input ReadFailed → ⊥
+not_taken-no_input g before after fault (inl (refused, survives)) e = of_store-no_input refused.fault fault refused.told_is e
+not_taken-no_input g before after fault (inr (inl (inl memory), S, kept)) e = cc (sym memory ∙ e)
+not_taken-no_input g before after fault (inr (inl (inr shut), S, kept)) e = cc (sym shut ∙ e)
+not_taken-no_input g before after fault (inr (inr (cause, is), S, kept)) e = desk-no_input cause fault is e
 
 -- nor is one of opening a database
 pub line-no_input : (fault : Fault) → IsOfLine fault → fault ≡ Input ReadFailed → ⊥
@@ -79,7 +94,7 @@ ReadsInput-closed input n n' before after printed closed result is reads =
 pub RunsFrom-run : {T X : Type 0} (g : Ghosts T) (store_of : X → Held T) (before after : Held T) (opened last : X) (R S : Register) (input : Option (List ℕ))
     (result : Result Printed Fault) → IsOnlyRead g before (store_of opened) → IsGood R
     → ((K : Register) → HasRegister g K before → HasCleanDisk (state g (store_of opened)) → R ≡ K)
-    → after ≡ store_of last → RunsOnDesk IsOfDatabase (state g (store_of opened)) (state g (store_of last)) R S input result
+    → after ≡ store_of last → RunsOnDesk FailsAsStore (state g (store_of opened)) (state g (store_of last)) R S input result
     → OnErr result (last ≡ opened) → RunsFrom g input result before after
 RunsFrom-run {T} {X} g store_of before after opened last R S input (Ok printed) read good is_register same (bytes, is_input, answers) none = record {
   opened = store_of opened;
@@ -90,7 +105,7 @@ RunsFrom-run {T} {X} g store_of before after opened last R S input (Ok printed) 
   left = S;
   bytes = bytes;
   is_input = is_input;
-  answers = subst (λ (h : Held T). AnswersOver IsOfDatabase (state g (store_of opened)) (state g h) R S bytes printed) (sym same) answers;
+  answers = subst (λ (h : Held T). AnswersOver FailsAsStore (state g (store_of opened)) (state g h) R S bytes printed) (sym same) answers;
 }
 RunsFrom-run {T} {X} g store_of before after opened last R S input (Err fault) read good is_register same of none = record {
   unanswered = record {
@@ -100,6 +115,24 @@ RunsFrom-run {T} {X} g store_of before after opened last R S input (Err fault) r
   known = λ K has clean. inr of;
 }
 
+-- what a run over a desk with a journal leaves in the database
+pub RunsLoggedFrom-run : {T X : Type 0} (g : Ghosts T) (keeper_of : X → Held T) (before after : Held T) (opened last : X) (R S : Register) (input : Option (List ℕ))
+    (result : Result Printed Fault) → IsGood R → IsTakenUp g before (keeper_of opened) R → after ≡ keeper_of last
+    → RunsOnDesk (FailsToo FailsAsStore) (state g (keeper_of opened)) (state g (keeper_of last)) R S input result
+    → OnErr result (last ≡ opened) → RunsLoggedFrom g input result before after
+RunsLoggedFrom-run {T} {X} g keeper_of before after opened last R S input (Ok printed) good taken same (bytes, is_input, answers) none = record {
+  taken = keeper_of opened;
+  register = R;
+  good = good;
+  taken_up = taken;
+  left = S;
+  bytes = bytes;
+  is_input = is_input;
+  answers = subst (λ (h : Held T). AnswersOver (FailsToo FailsAsStore) (state g (keeper_of opened)) (state g h) R S bytes printed) (sym same) answers;
+}
+RunsLoggedFrom-run {T} {X} g keeper_of before after opened last R S input (Err fault) good taken same of none =
+    inr (of, R, subst (λ (h : Held T). IsTakenUp g before h R) (sym (same ∙ ap keeper_of none)) taken)
+
 -- over a desk whose changes are kept nowhere, no fault but want of memory ends it
 ended_memory : (ended : Option DeskFault) → IfSome ended (IsOfKeeper (λ _. ⊥)) → IfSome (option_map of_desk ended) IsMemory
 ended_memory None cause = tt
@@ -107,6 +140,7 @@ ended_memory (Some (desk.Store store.Sql)) cause = absurd cause
 ended_memory (Some (desk.Store (store.WrongVersion n))) cause = absurd cause
 ended_memory (Some (desk.Store (store.BadRow table))) cause = absurd cause
 ended_memory (Some (desk.Store store.NoMemory)) cause = absurd cause
+ended_memory (Some desk.Journal) cause = absurd cause
 ended_memory (Some desk.NoMemory) cause = refl
 
 prints_memory : (texts : List (List ℕ)) (ended : Option DeskFault) (printed : Printed) → IfSome ended (IsOfKeeper (λ _. ⊥))
@@ -135,7 +169,7 @@ IsRunOf-run old new R S rows input (Err fault) none opens of = λ other. inr (no
 
 -- ---- which faults are reported
 
-pub FailsAsSubcommand-desk : (fails : StoreFault → Type 0) (old new : State) (R S : Register) (input : Option (List ℕ)) (result : Result Printed Fault)
+pub FailsAsSubcommand-desk : (fails : DeskFault → Type 0) (old new : State) (R S : Register) (input : Option (List ℕ)) (result : Result Printed Fault)
     → RunsOnDesk fails old new R S input result → FailsAsSubcommand result
 FailsAsSubcommand-desk fails old new R S input (Ok printed) (bytes, is_input, over) = answers_plain over.run
 FailsAsSubcommand-desk fails old new R S input (Err fault) of = input_plain input fault of
@@ -162,6 +196,23 @@ pub FailsAsSubcommand-closed : {T : Type 0} (g : Ghosts T) (before after : Held 
     → RunsFrom g input printed before after → FailsAsSubcommand result
 FailsAsSubcommand-closed g before after input printed closed result is line runs =
     subst (λ (r : Result Printed Fault). FailsAsSubcommand r) (sym is) (runs_plain g before after input printed closed line runs)
+
+-- the same with a journal
+not_taken_plain : {T : Type 0} (g : Ghosts T) (before after : Held T) (fault : Fault) → IsNotTakenUp g before fault after → IsOfSubcommand fault
+not_taken_plain g before after fault (inl (refused, survives)) = refused_plain g before after fault refused
+not_taken_plain g before after fault (inr (of, S, kept)) = taking_up_plain fault of
+
+logged_plain : {T : Type 0} (g : Ghosts T) (before after : Held T) (input : Option (List ℕ)) (printed : Result Printed Fault) (closed : Done)
+    → IfErr closed IsOfLine → RunsLoggedFrom g input printed before after → FailsAsSubcommand (printed_after printed closed)
+logged_plain g before after input (Ok run) closed line runs = ended_plain run.fault closed (answers_plain runs.answers.run) line
+logged_plain g before after input (Err fault) closed line (inl not) = not_taken_plain g before after fault not
+logged_plain g before after input (Err fault) closed line (inr (of, S, taken)) = input_plain input fault of
+
+pub FailsAsSubcommand-logged : {T : Type 0} (g : Ghosts T) (before after : Held T) (input : Option (List ℕ)) (printed : Result Printed Fault)
+    (closed : Done) (result : Result Printed Fault) → result ≡ printed_after printed closed → IfErr closed IsOfLine
+    → RunsLoggedFrom g input printed before after → FailsAsSubcommand result
+FailsAsSubcommand-logged g before after input printed closed result is line runs =
+    subst (λ (r : Result Printed Fault). FailsAsSubcommand r) (sym is) (logged_plain g before after input printed closed line runs)
 
 pub FailsAsSubcommand-passed : (result : Result Printed Fault) (fault : Fault) → IsErrAnd result (λ cause. cause ≡ fault) → IsOfSubcommand fault
     → FailsAsSubcommand result

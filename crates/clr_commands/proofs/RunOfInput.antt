@@ -6,9 +6,9 @@ use Rattle.clr_rules.specs.Good.{IsGood}
 use Rattle.clr_rules.specs.Register.{Register}
 use Rattle.clr_rules.specs.RunHeadline.{IsRun, OthersChangeNoReply, OthersTakeNothing, OwnStandAlone, with_reply}
 use Rattle.clr_rules.specs.declared.command.Command.{Command}
-use Rattle.clr_load.specs.declared.fault.StoreFault.{StoreFault}
 use Rattle.clr_desk.specs.Crash.{LeavesSome}
 use Rattle.clr_desk.specs.Faults.{IsOfKeeper}
+use Rattle.clr_desk.specs.declared.desk_fault.DeskFault.{DeskFault}
 use Rattle.clr_desk.specs.Kept.{Keeps}
 use Rattle.clr_desk.specs.NearRun.{IsNearRun}
 use Rattle.clr_desk.specs.declared.run.Run.{Run}
@@ -18,7 +18,7 @@ use Rattle.clr_commands.specs.declared.replies.Reading.{Reading}
 use Rattle.clr_commands.proofs.AnsweredLines.{answers_are}
 
 -- what a desk's run of commands answers
-pub record RunsAll (fails : StoreFault → Type 0) (old new : State) (R S : Register) (run : Run) (commands : List Command) : Type 0 where
+pub record RunsAll (fails : DeskFault → Type 0) (old new : State) (R S : Register) (run : Run) (commands : List Command) : Type 0 where
   pub cause : IfSome run.fault (IsOfKeeper fails)
   pub ends : IfNone run.fault (length run.replies.items ≡ length commands)
   pub stops : IfSome run.fault (λ _. length run.replies.items < length commands)
@@ -31,7 +31,7 @@ pub record RunsAll (fails : StoreFault → Type 0) (old new : State) (R S : Regi
   pub crash : HasCleanDisk new → LeavesSome old new R commands (length run.replies.items)
 
 -- its commands are those of the input, and its answers are printed
-pub answers_over : (fails : StoreFault → Type 0) (old new : State) (R S : Register) (input : List ℕ) (run : Run) (commands : List Command)
+pub answers_over : (fails : DeskFault → Type 0) (old new : State) (R S : Register) (input : List ℕ) (run : Run) (commands : List Command)
     (readings : List Reading) (printed : Printed)
     → commands ≡ asked_commands input → readings ≡ readings_of (asked_lines input)
     → RunsAll fails old new R S run commands → PrintsAnswers (answers readings run.replies.items) run.fault printed

@@ -1,6 +1,7 @@
 -- What a server writes: its line, and the lines of connections that failed.
-use Rattle.std.proofs.Common.{◌≡◌, ◌≢◌, ◌⊎◌, ◌∙◌, ℕ, zero, suc, ◌+◌, List, Result, Ok, Err, inl, inr, subst, sym}
-use Rattle.std.specs.Prelude.{IfErr}
+use Rattle.std.proofs.Common.{◌≡◌, ◌≢◌, ◌⊎◌, ◌∙◌, ℕ, zero, suc, ◌+◌, not, List, Option, None, Some, Result, Ok, Err, ap, inl, inr, subst, sym}
+use Rattle.std.specs.Borrow.{Bor}
+use Rattle.std.specs.Prelude.{IfErr, position}
 use Rattle.std.specs.declared.io.ErrorKind.{ErrorKind}
 use Rattle.std.specs.declared.io.ErrorKind.TheVariants.{OutOfMemory}
 use Rattle.sqlite.specs.Files.{over_files}
@@ -13,21 +14,33 @@ use Rattle.clr_stream.specs.Streams.{IsCut, Stream, WentOut}
 use Rattle.clr_http.specs.Registrar.{Keeper}
 use Rattle.clr_http.specs.declared.serve.HttpFault.{HttpFault}
 use Rattle.clr_http.specs.declared.serve.Served.{Served}
+use Rattle.clr_result.specs.Results.{◌>>=◌}
+use Rattle.clr_staff.specs.declared.employee.StaffRow.{StaffRow}
+use Rattle.clr_logins.specs.declared.logins.LoginRow.{LoginRow}
+use Rattle.clr_args.specs.declared.asked.ServeArgs.{ServeArgs}
 use Rattle.clr_load.specs.declared.fault.StoreFault.{StoreFault}
 use Rattle.clr_load.specs.declared.fault.StoreFault.TheVariants as store
+use Rattle.clr_desk.specs.declared.desk_fault.DeskFault.{DeskFault}
+use Rattle.clr_desk.specs.declared.desk_fault.DeskFault.TheVariants as desk
 use Rattle.clr_edge.specs.Database.{IsOfLine, IsRefused}
-use Rattle.clr_edge.specs.Fault.{of_store}
+use Rattle.clr_edge.specs.Fault.{of_desk, of_store}
+use Rattle.clr_edge.specs.Journals.{IsNotTakenUp}
+use Rattle.clr_edge.specs.Logins.{is_employee, unless_unknown}
 use Rattle.clr_edge.specs.Loopback.{listen_fault}
 use Rattle.clr_edge.specs.Visit.{Copies, Done, Ending, Opening, Shutting, both}
 use Rattle.clr_edge.specs.declared.fault.Fault.{Fault}
-use Rattle.clr_edge.specs.declared.fault.Fault.TheVariants.{Output}
+use Rattle.clr_edge.specs.declared.fault.Fault.TheVariants.{Output, UnknownEmployee}
 use Rattle.clr_edge.specs.declared.loopback.Loopback as loopback
 use Rattle.clr_commands.specs.Connections.{ReportsConnection, ReportsFirst, Seen, TakesFirst, TakesNext, accept_fault}
-use Rattle.clr_commands.specs.Serve.{ServesAt, ServesKeeper, ServesOver, serving_line}
+use Rattle.clr_commands.specs.Logins.{NamesLogins, terms_of, terms_with}
+use Rattle.clr_commands.specs.Paths.{AtPaths}
+use Rattle.clr_commands.specs.Serve.{ServesAt, ServesKeeper, ServesKept, ServesLogged, ServesLoggedPath, ServesOn, ServesOver, ServesPath, serving_line}
+use Rattle.clr_commands.specs.declared.serve.Terms.{Terms}
+use Rattle.clr_commands.proofs.Faults.{file_plain}
 
-module _ {M L R W : Type 0} (net : loopback.Ghosts M L R W) (seen : Seen R W) (listener : L) where
+module _ {M L R W : Type 0} (net : loopback.Ghosts M L R W) (seen : Seen R W) (terms : Terms) (listener : L) where
   next_reported : (number : ℕ) (k k' : Keeper) (errors errors' : Stream) (old new : M)
-      → TakesNext net seen listener number k k' errors errors' old new → (served : Result Served HttpFault) × ReportsConnection number served errors errors'
+      → TakesNext net seen terms listener number k k' errors errors' old new → (served : Result Served HttpFault) × ReportsConnection number served errors errors'
   next_reported number k k' errors errors' old new (inl answers) =
       let (served, answered, reported) = answers.served in
       (served, reported)
@@ -35,7 +48,7 @@ module _ {M L R W : Type 0} (net : loopback.Ghosts M L R W) (seen : Seen R W) (l
 
   -- what is reported of connections that were taken
   pub first_reported : (n : ℕ) (k k' : Keeper) (errors errors' : Stream) (old new : M)
-      → TakesFirst net seen listener n k k' errors errors' old new → ReportsFirst n errors errors'
+      → TakesFirst net seen terms listener n k k' errors errors' old new → ReportsFirst n errors errors'
   unfolding TakesFirst ReportsFirst
   first_reported zero k k' errors errors' old new (same, kept, quiet) = quiet
   first_reported (suc n) k k' errors errors' old new (middle, between, reported, first, next) = (
@@ -60,6 +73,17 @@ listen_other _ e = cc e
 other_as : (fault found : Fault) → fault ≡ found → found ≢ Output → fault ≢ Output
 other_as fault found is other e = other (sym is ∙ e)
 
+desk_other : (cause : DeskFault) → of_desk cause ≢ Output
+desk_other desk.NoMemory e = cc e
+desk_other desk.Journal e = cc e
+desk_other (desk.Store cause) e = store_other cause e
+
+not_taken_other : {T : Type 0} (g : Ghosts T) (before after : Held T) (fault : Fault) → IsNotTakenUp g before fault after → fault ≢ Output
+not_taken_other g before after fault (inl (refused, survives)) e = other_as fault _ refused.told_is (store_other refused.fault) e
+not_taken_other g before after fault (inr (inl (inl memory), S, kept)) e = cc (sym memory ∙ e)
+not_taken_other g before after fault (inr (inl (inr shut), S, kept)) e = cc (sym shut ∙ e)
+not_taken_other g before after fault (inr (inr (cause, is), S, kept)) e = other_as fault _ is (desk_other cause) e
+
 closed_other : {D : Type 0} (g : disk.Ghosts D) (c : Held (FileStore D g)) (last : FileStore D g) (files : Files D) (closed : Done)
     → Copies g c last files closed → IfErr closed (λ fault. fault ≢ Output)
 closed_other g c last files (Ok value) copies = tt
@@ -75,44 +99,111 @@ Writes port count (Err fault) output output' errors errors' =
     ⊎ (((fault ≡ Output) × IsCut output output' (serving_line port) × (errors' ≡ errors))
     ⊎ ((fault ≢ Output) × WentOut output output' (serving_line port) × ReportsFirst count errors errors'))
 
-module _ {M L R W : Type 0} (net : loopback.Ghosts M L R W) (seen : Seen R W) (port count : ℕ) (output output' errors errors' : Stream) where
-  keeper_written : (k k' : Keeper) (fault : Fault) (old new : M)
-      → ServesKeeper net seen port count output output' errors errors' k k' (Err fault) old new → Writes port count (Err fault) output output' errors errors'
-  keeper_written k k' fault old new (kept, quiet, inl ((address, kind, local, is, refuses), same)) =
-      inl (other_as fault (listen_fault kind) is (listen_other kind), same, quiet)
-  keeper_written k k' fault old new (kept, quiet, inr (listener, stands, is_output, cut)) = inr (inl (is_output, cut, quiet))
+-- a file of logins that has a fault
+named_other : (at : AtPaths) (path : Option (Bor (List ℕ))) (fault : Fault) → NamesLogins at path (Err fault) → fault ≢ Output
+named_other at None fault named = cc named
+named_other at (Some path) fault (Ok rows, are, e) = cc e
+named_other at (Some path) fault (Err cause, are, e) = let same : fault ≡ cause = cc e in other_as fault cause same (file_plain _ cause are.fault).0
 
-  over_written : {D : Type 0} (g : Ghosts D) (served closed : Done) (old new : M) (before after : Held D)
-      → ServesOver net seen port count output output' errors errors' g served old new before after
-      → IfErr closed (λ fault. fault ≢ Output) → Writes port count (both served closed) output output' errors errors'
-  over_written g (Ok value) closed old new before after (inl (refused, same, quiet, rest)) other = absurd refused
-  over_written g (Ok value) closed old new before after (inr opened) other =
-      let (listener, middle, stands, went, taken, run) = opened.serves in
-      closed_written closed other went
-      (first_reported net seen listener count opened.keeper opened.left errors errors' middle new taken)
+module _ {M L R W : Type 0} (net : loopback.Ghosts M L R W) (seen : Seen R W) (output output' errors errors' : Stream) where
+  keeper_written : (terms : Terms) (k k' : Keeper) (fault : Fault) (old new : M)
+      → ServesKeeper net seen output output' errors errors' terms k k' (Err fault) old new
+      → Writes terms.port terms.count (Err fault) output output' errors errors'
+  keeper_written terms k k' fault old new (kept, quiet, inl ((address, kind, local, is, refuses), same)) =
+      inl (other_as fault (listen_fault kind) is (listen_other kind), same, quiet)
+  keeper_written terms k k' fault old new (kept, quiet, inr (listener, stands, is_output, cut)) = inr (inl (is_output, cut, quiet))
+
+  terms_written : (terms : Terms) (k k' : Keeper) (served closed : Done) (old new : M)
+      → ServesKeeper net seen output output' errors errors' terms k k' served old new
+      → IfErr closed (λ fault. fault ≢ Output) → Writes terms.port terms.count (both served closed) output output' errors errors'
+  terms_written terms k k' (Ok value) closed old new (listener, middle, stands, went, taken, run) other =
+      closed_written closed other (first_reported net seen terms listener terms.count k k' errors errors' middle new taken)
     where
-      closed_written : (closed : Done) → IfErr closed (λ fault. fault ≢ Output) → WentOut output output' (serving_line port)
-          → ReportsFirst count errors errors' → Writes port count closed output output' errors errors'
-      closed_written (Ok value) other went reported = (went, reported)
-      closed_written (Err fault) other went reported = inr (inr (other, went, reported))
-  over_written g (Err fault) closed old new before after (inl ((unanswered, known), same, quiet, rest)) other =
+      closed_written : (closed : Done) → IfErr closed (λ fault. fault ≢ Output) → ReportsFirst terms.count errors errors'
+          → Writes terms.port terms.count closed output output' errors errors'
+      closed_written (Ok value) other reported = (went, reported)
+      closed_written (Err fault) other reported = inr (inr (other, went, reported))
+  terms_written terms k k' (Err fault) closed old new serves other = keeper_written terms k k' fault old new serves
+
+  unserved_written : (port count : ℕ) (fault : Fault) (result : Done) → fault ≢ Output → result ≡ Err fault → output' ≡ output → errors' ≡ errors
+      → Writes port count result output output' errors errors'
+  unserved_written port count fault result other is same quiet =
+      subst (λ (r : Done). Writes port count r output output' errors errors') (sym is) (inl (other, same, quiet))
+
+  -- a server that is asked for, whose logins the staff may lack
+  asked_written : (args : ServeArgs) (staff : List StaffRow) (logins : Option (List LoginRow)) (k k' : Keeper) (served closed : Done) (old new : M)
+      → ServesOn net seen output output' errors errors' (terms_of args staff logins) k k' served old new
+      → IfErr closed (λ fault. fault ≢ Output) → Writes args.port args.count (both served closed) output output' errors errors'
+  asked_written args staff None k k' served closed old new serves other = terms_written (terms_with args None) k k' served closed old new serves other
+  asked_written args staff (Some rows) k k' served closed old new serves other = of (position (λ row. not (is_employee staff row.employee)) rows) serves
+    where
+      of : (place : Option ℕ)
+          → ServesOn net seen output output' errors errors' (unless_unknown rows place >>= (λ known. Ok (terms_with args (Some known)))) k k' served old new
+          → Writes args.port args.count (both served closed) output output' errors errors'
+      of None serves = terms_written (terms_with args (Some rows)) k k' served closed old new serves other
+      of (Some place) (kept, (is, untouched, same, quiet)) =
+          unserved_written args.port args.count (UnknownEmployee (place + 1)) (both served closed) (λ e. cc e) (ap (λ (r : Done). both r closed) is) same quiet
+
+  over_written : {D : Type 0} (args : ServeArgs) (logins : Option (List LoginRow)) (g : Ghosts D) (served closed : Done) (old new : M) (before after : Held D)
+      → ServesOver net seen args logins output output' errors errors' g served old new before after
+      → IfErr closed (λ fault. fault ≢ Output) → Writes args.port args.count (both served closed) output output' errors errors'
+  over_written args logins g (Ok value) closed old new before after (inl (refused, same, quiet, rest)) other = absurd refused
+  over_written args logins g (Err fault) closed old new before after (inl ((unanswered, known), same, quiet, rest)) other =
       inl (refused_other unanswered.cause, same, quiet)
     where
       refused_other : ⊥ ⊎ IsRefused g before fault after → fault ≢ Output
       refused_other (inl none) = absurd none
       refused_other (inr refused) = other_as fault _ refused.told_is (store_other refused.fault)
-  over_written g (Err fault) closed old new before after (inr opened) other =
-      keeper_written opened.keeper opened.left fault old new opened.serves
+  over_written args logins g served closed old new before after (inr opened) other =
+      asked_written args opened.keeper.register.staff logins opened.keeper opened.left served closed old new opened.serves other
 
-  -- what `serve` wrote
-  pub serve_written : {D : Type 0} (g : disk.Ghosts D) (opens : Opening M D) (shuts : Shutting M) (ends : Ending M D) (path : List ℕ) (result : Done)
-      (old new : M) → ServesAt net seen port count output output' errors errors' g opens shuts ends path result old new
-      → Writes port count result output output' errors errors'
-  serve_written g opens shuts ends path result old new (inl (fault, is, line, (shut, same, quiet))) =
-      subst (λ (r : Done). Writes port count r output output' errors errors') (sym is) (inl (line_other fault line, same, quiet))
-  serve_written g opens shuts ends path result old new (inr visits) =
+  path_written : {D : Type 0} (args : ServeArgs) (logins : Option (List LoginRow)) (g : disk.Ghosts D) (opens : Opening M D) (shuts : Shutting M) (ends : Ending M D)
+      (path : List ℕ) (result : Done) (old new : M) → ServesPath net seen args logins output output' errors errors' g opens shuts ends path result old new
+      → Writes args.port args.count result output output' errors errors'
+  path_written args logins g opens shuts ends path result old new (inl (fault, is, line, (shut, same, quiet))) =
+      unserved_written args.port args.count fault result (line_other fault line) is same quiet
+  path_written args logins g opens shuts ends path result old new (inr visits) =
       let (files, left, back) = visits.ended in
       let did = visits.does in
-      subst (λ (r : Done). Writes port count r output output' errors errors') (sym did.result_is)
-      (over_written over_files did.served visits.closed visits.middle visits.later visits.before visits.after did.serves
+      subst (λ (r : Done). Writes args.port args.count r output output' errors errors') (sym did.result_is)
+      (over_written args logins over_files did.served visits.closed visits.middle visits.later visits.before visits.after did.serves
       (closed_other g visits.after left.last files visits.closed left.copies))
+
+  -- the same of a register with a journal
+  logged_written : {D : Type 0} (args : ServeArgs) (logins : Option (List LoginRow)) (g : Ghosts D) (served closed : Done) (new : M) (before after : Held D)
+      → ServesLogged net seen args logins output output' errors errors' g served new before after
+      → IfErr closed (λ fault. fault ≢ Output) → Writes args.port args.count (both served closed) output output' errors errors'
+  logged_written args logins g (Ok value) closed new before after (inl (not, same, quiet)) other = absurd not
+  logged_written args logins g (Err fault) closed new before after (inl (not, same, quiet)) other = inl (not_taken_other g before after fault not, same, quiet)
+  logged_written args logins g served closed new before after (inr taken) other =
+      asked_written args taken.keeper.register.staff logins taken.keeper taken.left served closed taken.between new taken.serves other
+
+  logged_path_written : {D : Type 0} (args : ServeArgs) (logins : Option (List LoginRow)) (g : disk.Ghosts D) (opens : Opening M D) (shuts : Shutting M)
+      (ends : Ending M D) (path : List ℕ) (result : Done) (old new : M)
+      → ServesLoggedPath net seen args logins output output' errors errors' g opens shuts ends path result old new
+      → Writes args.port args.count result output output' errors errors'
+  logged_path_written args logins g opens shuts ends path result old new (inl (fault, is, line, (shut, same, quiet))) =
+      unserved_written args.port args.count fault result (line_other fault line) is same quiet
+  logged_path_written args logins g opens shuts ends path result old new (inr visits) =
+      let (files, left, back) = visits.ended in
+      let did = visits.does in
+      subst (λ (r : Done). Writes args.port args.count r output output' errors errors') (sym did.result_is)
+      (logged_written args logins over_files did.served visits.closed visits.later visits.before visits.after did.serves
+      (closed_other g visits.after left.last files visits.closed left.copies))
+
+  kept_written : {X D : Type 0} (args : ServeArgs) (logins : Option (List LoginRow)) (g : disk.Ghosts D) (opens : Opening M D) (shuts : Shutting M)
+      (ends : Ending M D) (journal : Option X) (path : List ℕ) (result : Done) (old new : M)
+      → ServesKept net seen args logins output output' errors errors' g opens shuts ends journal path result old new
+      → Writes args.port args.count result output output' errors errors'
+  kept_written args logins g opens shuts ends None path result old new did = path_written args logins g opens shuts ends path result old new did
+  kept_written args logins g opens shuts ends (Some journal) path result old new did =
+      logged_path_written args logins g opens shuts ends path result old new did
+
+  -- what `serve` wrote
+  pub serve_written : {D : Type 0} (at : AtPaths) (args : ServeArgs) (g : disk.Ghosts D) (opens : Opening M D) (shuts : Shutting M) (ends : Ending M D)
+      (result : Done) (old new : M) → ServesAt net seen at args output output' errors errors' g opens shuts ends result old new
+      → Writes args.port args.count result output output' errors errors'
+  serve_written at args g opens shuts ends result old new (Ok logins, named, did) =
+      kept_written args logins g opens shuts ends args.journal args.database.now result old new did
+  serve_written at args g opens shuts ends result old new (Err fault, named, (is, untouched, same, quiet)) =
+      unserved_written args.port args.count fault result (named_other at args.logins fault named) is same quiet

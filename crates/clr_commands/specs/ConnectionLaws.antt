@@ -12,43 +12,47 @@ use Rattle.clr_rules.specs.Run.{after_all}
 use Rattle.clr_rules.specs.RunHeadline.{OthersChangeNoReply, OthersTakeNothing, OwnStandAlone}
 use Rattle.clr_rules.specs.declared.command.Command.{Command}
 use Rattle.clr_rules.specs.declared.reply.Reply.{Reply}
-use Rattle.clr_http.specs.Asked.{MayAsk, commands_asked, own_among, reply_bytes, with_asked}
-use Rattle.clr_http.specs.Carried.{IsTold}
+use Rattle.clr_http.specs.Asked.{MayAskAt, commands_asked, own_among, reply_bytes, with_asked}
+use Rattle.clr_http.specs.Carried.{IsToldAt}
 use Rattle.clr_http.specs.Registrar.{Keeper}
 use Rattle.clr_http.specs.RequestLaws.{AreRun}
 use Rattle.clr_http.specs.Response.{response_bytes}
 use Rattle.clr_http.specs.Served.{IsWritten}
+use Rattle.clr_http.specs.declared.options.Service.{Service}
 use Rattle.clr_http.specs.declared.serve.HttpFault.{HttpFault}
 use Rattle.clr_http.specs.declared.serve.Served.{Served}
 use Rattle.clr_edge.specs.declared.loopback.Loopback as loopback
 use Rattle.clr_commands.specs.Connections.{Answers, Misses, Seen}
+use Rattle.clr_commands.specs.declared.serve.Terms.{Terms}
 
 -- the response to a command has its reply
 abbrev pub HasReply : Register → Option Command → List ℕ → Type 0
 HasReply R None response = Unit {0}
 HasReply R (Some q) response = response ≡ reply_bytes (Answer.reply (answer R q))
 
--- WHAT A CONNECTION CARRIES OUT: this command, which it asks, or none; and its response, of which
--- the whole went out, or the first bytes, or nothing
-pub record CarriesOut (input : Option (List ℕ)) (old new : Keeper) (before behind : Stream)
-    (served : Result Served HttpFault) (carried : Option Command) (response : List ℕ)
-    : Type 0 where
+-- WHAT A CONNECTION CARRIES OUT: this command, which it asks of the service, or none; and its
+-- response, of which the whole went out, or the first bytes, or nothing
+pub record CarriesOut (service : Service) (input : Option (List ℕ)) (old new : Keeper)
+    (before behind : Stream) (served : Result Served HttpFault) (carried : Option Command)
+    (response : List ℕ) : Type 0 where
   pub left : new.register ≡ after_all old.register (with_asked carried [])
   pub reply : HasReply old.register carried response
-  pub asked : MayAsk input carried ⊎ (carried ≡ None)
-  pub written : IsWritten (λ c. IsTold input carried old new c × (response ≡ response_bytes c))
+  pub asked : MayAskAt service input carried ⊎ (carried ≡ None)
+  pub written : IsWritten (λ c.
+      IsToldAt service input carried old new c × (response ≡ response_bytes c))
       before behind served
 
-module _ {M L R W : Type 0} (net : loopback.Ghosts M L R W) (seen : Seen R W) (listener : L) where
+module _ {M L R W : Type 0} (net : loopback.Ghosts M L R W) (seen : Seen R W) (terms : Terms)
+    (listener : L) where
   -- THE NEXT CONNECTION carries this out, with this response; where none could be taken, nothing
   abbrev pub CarriesNext : ℕ → Keeper → Keeper → Stream → Stream → M → M → Option Command → List ℕ
       → Type 0
   CarriesNext number k k' errors errors' old new carried response =
-      ((it : Answers net seen listener number k k' errors errors' old new)
-      × CarriesOut (seen.source it.connection.reader).remaining k k'
+      ((it : Answers net seen terms listener number k k' errors errors' old new)
+      × CarriesOut terms.service (seen.source it.connection.reader).remaining k k'
       (seen.stream it.connection.writer) (seen.stream it.answered.writer) it.served.0
       carried response)
-      ⊎ (Misses net seen listener number k k' errors errors' old new
+      ⊎ (Misses net seen terms listener number k k' errors errors' old new
       × (carried ≡ None) × (response ≡ []))
 
   -- CONNECTIONS FROM THIS NUMBER ON, one after the other: what each carries out, and its response,

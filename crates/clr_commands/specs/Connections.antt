@@ -5,13 +5,15 @@ use Rattle.std.specs.Prelude.{Option, Result, Ok, Err}
 use Rattle.std.specs.declared.io.ErrorKind.{ErrorKind}
 use Rattle.std.specs.declared.io.ErrorKind.TheVariants.{OutOfMemory}
 use Rattle.clr_stream.specs.Streams.{Sends, Stream}
-use Rattle.clr_http.specs.Answered.{IsAnswered, Source}
+use Rattle.clr_http.specs.Answered.{IsAnsweredAt, Source}
 use Rattle.clr_http.specs.Registrar.{Keeper}
+use Rattle.clr_http.specs.declared.options.Service.{Service}
 use Rattle.clr_http.specs.declared.serve.HttpFault.{HttpFault}
 use Rattle.clr_http.specs.declared.serve.HttpFault.TheVariants.{NoMemory, ReadFailed, WriteFailed}
 use Rattle.clr_http.specs.declared.serve.Served.{Served}
 use Rattle.clr_edge.specs.declared.loopback.Connection.{Connection}
 use Rattle.clr_edge.specs.declared.loopback.Loopback as loopback
+use Rattle.clr_commands.specs.declared.serve.Terms.{Terms}
 
 -- why a connection got no response, or no whole one
 abbrev pub http_fault_name : HttpFault → List ℕ
@@ -52,24 +54,26 @@ seen remaining failures stream = record {
   stream = stream;
 }
 
--- A CONNECTION OF THIS NUMBER WAS ANSWERED from the register of a keeper, as its reader and its
--- writer show, and reported if that failed
-abbrev pub Serves : {R W : Type 0} → Seen R W → ℕ → Keeper → Keeper → Connection R W
+-- A CONNECTION OF THIS NUMBER WAS ANSWERED by a service from the register of a keeper, as its reader
+-- and its writer show, and reported if that failed
+abbrev pub Serves : {R W : Type 0} → Seen R W → Service → ℕ → Keeper → Keeper → Connection R W
     → Connection R W → Stream → Stream → Type 0
-Serves seen number k k' c c' errors errors' = (served : Result Served HttpFault)
-    × IsAnswered k k' (seen.source c.reader) (seen.source c'.reader)
+Serves seen service number k k' c c' errors errors' = (served : Result Served HttpFault)
+    × IsAnsweredAt service k k' (seen.source c.reader) (seen.source c'.reader)
     (seen.stream c.writer) (seen.stream c'.writer) served
     × ReportsConnection number served errors errors'
 
-module _ {M L R W : Type 0} (net : loopback.Ghosts M L R W) (seen : Seen R W) (listener : L) where
-  -- a connection came to the listener, was answered, and was let go as that left it
+module _ {M L R W : Type 0} (net : loopback.Ghosts M L R W) (seen : Seen R W) (terms : Terms)
+    (listener : L) where
+  -- a connection came to the listener, which has the deadline of the terms, was answered by their
+  -- service, and was let go as that left it
   pub record Answers (number : ℕ) (k k' : Keeper) (errors errors' : Stream) (old new : M)
       : Type 0 where
     pub connection : Connection R W
     pub answered : Connection R W
     pub middle : M
-    pub came : net.comes old listener connection middle
-    pub served : Serves seen number k k' connection answered errors errors'
+    pub came : net.comes old listener terms.deadline connection middle
+    pub served : Serves seen terms.service number k k' connection answered errors errors'
     pub left : net.hangs_up middle answered new
 
   -- none could be taken, for a reason that is reported

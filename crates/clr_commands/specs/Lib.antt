@@ -7,6 +7,7 @@ pub mod Fence
 pub mod Import
 pub mod Init
 pub mod Lines
+pub mod Logins
 pub mod Migrate
 pub mod Order
 pub mod Paths

@@ -11,7 +11,6 @@ use Rattle.clr_rules.specs.RunHeadline.{IsRun, OthersChangeNoReply, OthersTakeNo
 use Rattle.clr_rules.specs.RunHeadline.{OwnStandAlone, with_reply}
 use Rattle.clr_rules.specs.declared.command.Command.{Command}
 use Rattle.clr_rules.specs.declared.reply.Reply.{Reply}
-use Rattle.clr_load.specs.declared.fault.StoreFault.{StoreFault}
 use Rattle.clr_desk.specs.Crash.{LeavesSome}
 use Rattle.clr_desk.specs.Faults.{IsOfKeeper}
 use Rattle.clr_desk.specs.Kept.{Keeps}
@@ -103,7 +102,7 @@ pub record AnswerLines (R : Register) (lines texts : List (List ℕ)) (S : Regis
 -- THE RUN of an input over the register R: `told` are the replies to its commands, up to a fault,
 -- and S is what these leave. Each line has its answer printed, and what others ask changes no reply
 -- and takes nothing away. A fault is one that what keeps the changes has, or memory ran out.
-pub record AnswersInput (fails : StoreFault → Type 0) (R S : Register) (input : List ℕ)
+pub record AnswersInput (fails : DeskFault → Type 0) (R S : Register) (input : List ℕ)
     (told : List Reply) (printed : Printed) : Type 0 where
   pub ended : Option DeskFault
   pub cause : IfSome ended (IsOfKeeper fails)
@@ -119,7 +118,7 @@ pub record AnswersInput (fails : StoreFault → Type 0) (R S : Register) (input 
       → AnswerLines R (asked_lines input) (answers (readings_of (asked_lines input)) told) S
 
 -- THE SAME OVER WHAT KEEPS ITS CHANGES: what is kept of the run, and what a crash leaves
-pub record AnswersOver (fails : StoreFault → Type 0) (old new : State) (R S : Register)
+pub record AnswersOver (fails : DeskFault → Type 0) (old new : State) (R S : Register)
     (input : List ℕ) (printed : Printed) : Type 0 where
   pub told : List Reply
   pub run : AnswersInput fails R S input told printed

@@ -9,17 +9,22 @@ use Rattle.clr_stream.specs.Failures.{Rose}
 use Rattle.clr_rules.specs.Good.{IsGood}
 use Rattle.clr_rules.specs.Register.{Register, opening}
 use Rattle.clr_rules.specs.declared.reply.Reply.{Reply}
-use Rattle.clr_load.specs.Fault.{IsOfDatabase}
-use Rattle.clr_load.specs.declared.fault.StoreFault.{StoreFault}
+use Rattle.clr_desk.specs.Faults.{FailsAsStore}
+use Rattle.clr_desk.specs.declared.desk_fault.DeskFault.{DeskFault}
+use Rattle.clr_journaled.specs.Journaling.{FailsToo}
+use Rattle.sqlite.specs.Files.{over_files}
 use Rattle.sqlite.specs.Held.{Held, state}
 use Rattle.sqlite.specs.State.{HasCleanDisk, State}
+use Rattle.sqlite_disk.specs.declared.Disk as disk
 use Rattle.sqlite_trees.specs.declared.store.Store.{Ghosts}
 use Rattle.clr_args.specs.declared.asked.Files.{Files}
 use Rattle.clr_args.specs.declared.asked.RunArgs.{RunArgs}
 use Rattle.clr_args.specs.declared.asked.RunArgs.TheVariants as over
+use Rattle.clr_args.specs.declared.asked.StoredArgs.{StoredArgs}
 use Rattle.clr_edge.specs.Answers.{unless}
 use Rattle.clr_edge.specs.Database.{HasRegister, IsOfLine, IsOnlyRead}
-use Rattle.clr_edge.specs.Visit.{Done}
+use Rattle.clr_edge.specs.Journals.{IsNotTakenUp, IsTakenUp}
+use Rattle.clr_edge.specs.Visit.{Alone, Comes, Done, Ending, Opening, Shutting}
 use Rattle.clr_edge.specs.Fault.{of_network, of_staff}
 use Rattle.clr_edge.specs.declared.fault.Fault.{Fault}
 use Rattle.clr_edge.specs.declared.fault.Fault.TheVariants.{Input, Memory}
@@ -51,7 +56,7 @@ pub record ReadsInput {X : Type 0} (input : Option (List ℕ)) (failures failure
 
 -- what a run over a desk answers, from one state of what keeps its changes and of its register to the
 -- next: the replies to the lines of the input
-abbrev pub RunsOnDesk : (StoreFault → Type 0) → State → State → Register → Register
+abbrev pub RunsOnDesk : (DeskFault → Type 0) → State → State → Register → Register
     → Option (List ℕ) → Result Printed Fault → Type 0
 RunsOnDesk fails old new R S input (Ok printed) = (bytes : List ℕ) × IsInput input bytes
     × AnswersOver fails old new R S bytes printed
@@ -122,7 +127,7 @@ pub record RunsIn {T : Type 0} (g : Ghosts T) (before after : Held T) (input : O
   pub left : Register
   pub bytes : List ℕ
   pub is_input : IsInput input bytes
-  pub answers : AnswersOver IsOfDatabase (state g opened) (state g after) register left bytes
+  pub answers : AnswersOver FailsAsStore (state g opened) (state g after) register left bytes
       printed
 
 -- a run that answers nothing leaves the database as it was; where that is known to have a register,
@@ -146,10 +151,60 @@ pub record RunsStored {T : Type 0} (g : Ghosts T) (input : Option (List ℕ))
   pub closing : IfErr closed IsOfLine
   pub result_is : result ≡ printed_after printed closed
 
+-- ---- over a stored register with a journal
+
+-- WHAT A RUN WITH A JOURNAL LEAVES IN A DATABASE: its register was taken up with the journal, and the
+-- input was answered over it
+pub record RunsWithin {T : Type 0} (g : Ghosts T) (before after : Held T) (input : Option (List ℕ))
+    (printed : Printed) : Type 0 where
+  pub taken : Held T
+  pub register : Register
+  pub good : IsGood register
+  pub taken_up : IsTakenUp g before taken register
+  pub left : Register
+  pub bytes : List ℕ
+  pub is_input : IsInput input bytes
+  pub answers : AnswersOver (FailsToo FailsAsStore) (state g taken) (state g after) register left
+      bytes printed
+
+-- a run that answers nothing: the register was not taken up, or the input was not read
+abbrev pub RunsUnlogged : {T : Type 0} → Ghosts T → Held T → Held T → Option (List ℕ) → Fault
+    → Type 0
+RunsUnlogged g before after input fault = IsNotTakenUp g before fault after
+    ⊎ (IsOfInput input fault × (S : Register) × IsTakenUp g before after S)
+
+abbrev pub RunsLoggedFrom : {T : Type 0} → Ghosts T → Option (List ℕ) → Result Printed Fault
+    → Held T → Held T → Type 0
+RunsLoggedFrom g input (Ok printed) before after = RunsWithin g before after input printed
+RunsLoggedFrom g input (Err fault) before after = RunsUnlogged g before after input fault
+
+-- the same of a database that is closed after it. Of the steps by which the journal was opened
+-- nothing is said
+pub record RunsLogged {M T : Type 0} (g : Ghosts T) (input : Option (List ℕ))
+    (result : Result Printed Fault) (middle : M) (before after : Held T) (closed : Done) (later : M)
+    : Type 0 where
+  pub printed : Result Printed Fault
+  pub runs : RunsLoggedFrom g input printed before after
+  pub closing : IfErr closed IsOfLine
+  pub result_is : result ≡ printed_after printed closed
+
+-- with a journal or without one
+abbrev pub RunsOver : {X M T : Type 0} → Ghosts T → Option X → Option (List ℕ)
+    → Result Printed Fault → M → Held T → Held T → Done → M → Type 0
+RunsOver g None input = Alone (RunsStored g input)
+RunsOver g (Some journal) input = RunsLogged g input
+
+-- over the database at a path, which is closed after it
+abbrev pub RunsKept : {M D : Type 0} → (g : disk.Ghosts D) → Opening M D → Shutting M → Ending M D
+    → Option (List ℕ) → StoredArgs → Result Printed Fault → M → M → Type 0
+RunsKept g opens shuts ends input args = Comes g opens shuts ends args.database.now
+    (RunsOver over_files args.journal input)
+
 -- what `run` answers of what it was asked for: three files, and no database is opened; or a
 -- database, where `Comes` says how
-abbrev pub RunsAsked : {M : Type 0} → AtPaths → (List ℕ → Result Printed Fault → M → M → Type 0)
+abbrev pub RunsAsked : {M : Type 0} → AtPaths
+    → (StoredArgs → Result Printed Fault → M → M → Type 0)
     → RunArgs → Option (List ℕ) → Result Printed Fault → M → M → Type 0
 RunsAsked at Comes (over.Files files) input result old new =
     RunsAt at files input result × (new ≡ old)
-RunsAsked at Comes (over.Database path) input result old new = Comes path.now result old new
+RunsAsked at Comes (over.Stored args) input result old new = Comes args result old new

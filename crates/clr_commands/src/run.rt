@@ -4,20 +4,23 @@ ghost use Rattle.std.specs.Prelude.{◌≡◌, ◌≢◌, Err, IfErr, IfOk, IsEr
 ghost use Rattle.sqlite.specs.Files.{over_files};
 ghost use Rattle.clr_stream.specs.Failures.{Rose};
 ghost use Rattle.clr_rules.specs.Run.{IsReached};
+ghost use Rattle.clr_desk.specs.Given.{LeadsTo};
 ghost use Rattle.clr_commands.specs.Faults.{FailsAsSubcommand, IsOfSubcommand};
 ghost use Rattle.clr_commands.specs.Import.{lists_of};
 ghost use Rattle.clr_commands.specs.Paths.{at_paths};
 ghost use Rattle.clr_commands.specs.Run.{IsInput, IsOfInput, IsOpeningOf, ReadsInput, RunsAsked};
-ghost use Rattle.clr_commands.specs.Run.{RunsAt, RunsFrom, RunsOnDesk, RunsStored};
+ghost use Rattle.clr_commands.specs.Run.{RunsAt, RunsFrom, RunsKept, RunsLogged, RunsLoggedFrom};
+ghost use Rattle.clr_commands.specs.Run.{RunsOnDesk, RunsStored};
 ghost use Rattle.clr_commands.specs.Run.{ended_by, printed_after, rows_fault};
 ghost use Rattle.clr_edge.specs.Visit.{Alone, Comes};
 
 use crate::import::{Rows, rows_at};
 use crate::replies::{Printed, print, read_lines};
-use clr_args::asked::{Files, RunArgs};
+use clr_args::asked::{Files, RunArgs, StoredArgs};
 use clr_desk::{Commit, Desk, Unkept};
 use clr_edge::database::{Databases, close, desk_over};
 use clr_edge::fault::{Fault, InputFault};
+use clr_edge::journals::{Journals, journaled_desk};
 use clr_edge::paths::Opens;
 use clr_net::Network;
 use clr_staff::Staff;
@@ -28,8 +31,8 @@ use std::alloc::Global;
 /// The most bytes of standard input.
 pub const MAX_INPUT_BYTES: usize = 16_777_216;
 
-/// What `run [--db FILE] [FILES]...` prints. The input is read last.
-pub fn run<'a, R: Databases, O: Opens<'a>, I: CountedRead>(
+/// What `run [--db FILE [--journal FILE]] [FILES]...` prints. The input is read last.
+pub fn run<'a, R: Databases + Journals, O: Opens<'a>, I: CountedRead>(
     alloc: Global,
     rt: &mut R,
     paths: &O,
@@ -38,8 +41,7 @@ pub fn run<'a, R: Databases, O: Opens<'a>, I: CountedRead>(
 ) -> Result<Printed, Fault>
     ensures visit { RunsAsked
         (at_paths O.File.remaining O.File.failure_count (O.bytes_at paths.now))
-        (λ path. Comes R.Medium.Disk R.opens R.shuts R.ends path
-        (Alone (RunsStored over_files (I.remaining input.old)))) args.now
+        (RunsKept R.Medium.Disk R.opens R.shuts R.ends (I.remaining input.old)) args.now
         (I.remaining input.old) result rt.old rt.new }
     ensures input { ReadsInput (I.remaining input.old) (I.failure_count input.old)
         (I.failure_count input.new) input.old input.new result }
@@ -47,7 +49,71 @@ pub fn run<'a, R: Databases, O: Opens<'a>, I: CountedRead>(
 {
     match args {
         RunArgs::Files(files) => run_of_files(alloc, paths, files, input),
-        RunArgs::Database(path) => run_of_database(alloc, rt, *path, input),
+        RunArgs::Stored(args) => run_stored(alloc, rt, args, input),
+    }
+}
+
+/// The replies to the commands of the input, over the register that a database has, with a journal
+/// or without one.
+fn run_stored<R: Databases + Journals, I: CountedRead>(
+    alloc: Global,
+    rt: &mut R,
+    args: &StoredArgs<'_>,
+    input: &mut I,
+) -> Result<Printed, Fault>
+    ensures visit { RunsKept R.Medium.Disk R.opens R.shuts R.ends (I.remaining input.old) args.now
+        result rt.old rt.new }
+    ensures input { ReadsInput (I.remaining input.old) (I.failure_count input.old)
+        (I.failure_count input.new) input.old input.new result }
+    ensures faults { FailsAsSubcommand result }
+{
+    match args.journal {
+        Some(journal) => run_with_journal(alloc, rt, args.database, journal, input),
+        None => run_of_database(alloc, rt, args.database, input),
+    }
+}
+
+/// The replies to the commands of the input, over the register that the database at a path has, each
+/// of which has its line in the journal at another path before it is carried out. Both are opened
+/// before the input is read.
+pub fn run_with_journal<R: Databases + Journals, I: CountedRead>(
+    alloc: Global,
+    rt: &mut R,
+    path: &str,
+    journal: &str,
+    input: &mut I,
+) -> Result<Printed, Fault>
+    ensures visit { Comes R.Medium.Disk R.opens R.shuts R.ends path.now
+        (RunsLogged over_files (I.remaining input.old)) result rt.old rt.new }
+    ensures input { ReadsInput (I.remaining input.old) (I.failure_count input.old)
+        (I.failure_count input.new) input.old input.new result }
+    ensures faults { FailsAsSubcommand result }
+{
+    let connection = rt.stored(path)?;
+    let (printed, connection) = run_logged(alloc, rt, connection, journal, input);
+    let closed = close(rt, connection);
+    printed_after(printed, closed)
+}
+
+/// The replies to the commands of the input, over the register that a database has, with the journal
+/// at a path.
+fn run_logged<S: Alter + Drop, L: Journals, I: CountedRead>(
+    alloc: Global,
+    rt: &mut L,
+    connection: Connection<S>,
+    journal: &str,
+    input: &mut I,
+) -> (Result<Printed, Fault>, Connection<S>)
+    ensures runs { RunsLoggedFrom S.Store (I.remaining input.old) result.0 connection result.1 }
+    ensures input { ReadsInput (I.remaining input.old) (I.failure_count input.old)
+        (I.failure_count input.new) input.old input.new result.0 }
+{
+    match journaled_desk(alloc, rt, connection, journal) {
+        Ok(mut desk) => {
+            let printed = run_over(alloc, &mut desk, input);
+            (printed, desk.end().end().end())
+        }
+        Err((fault, connection)) => (Err(fault), connection),
     }
 }
 
@@ -131,6 +197,7 @@ pub fn run_over<K: Commit, I: CountedRead>(
     ensures answer { RunsOnDesk K.fails (K.kept desk.old.store) (K.kept desk.new.store)
         desk.old.book.register desk.new.book.register (I.remaining input.old) result }
     ensures none { OnErr result (desk.new ≡ desk.old) }
+    ensures led { LeadsTo K.kept K.takes K.hears desk.old desk.new }
     ensures cause { IsErrOf result (Fault.Input InputFault.ReadFailed)
         → Rose (I.failure_count input.old) (I.failure_count input.new) }
 {

@@ -1,49 +1,207 @@
 //! The subcommand `serve`: the register of a database, answered over HTTP.
 ghost use Rattle.std.specs.Prelude.{◌≡◌, OnErr};
 ghost use Rattle.std.specs.IoError.{error_kind};
+ghost use Rattle.clr_edge.specs.Visit.{both};
 ghost use Rattle.clr_rules.specs.Good.{IsGood};
 ghost use Rattle.clr_commands.specs.Connections.{ReportsConnection, Serves, TakesFirst, TakesNext};
 ghost use Rattle.clr_commands.specs.Connections.{accept_fault, seen};
 ghost use Rattle.clr_commands.specs.ConnectionLaws.{ConnectionsHaveRun};
-ghost use Rattle.clr_commands.specs.Serve.{ServesAt, ServesKeeper, ServesOver};
+ghost use Rattle.clr_commands.specs.Logins.{AreLoginsAt, NamesLogins, terms_of, terms_with};
+ghost use Rattle.clr_commands.specs.Paths.{at_paths};
+ghost use Rattle.clr_commands.specs.Serve.{ServesAt, ServesKeeper, ServesKept, ServesLogged};
+ghost use Rattle.clr_commands.specs.Serve.{ServesLoggedPath, ServesOn, ServesOver, ServesPath};
 
 use crate::serve_line::{connection_line, serving_line};
 use clr_args::asked::ServeArgs;
 use clr_edge::database::{Databases, close, desk_over};
 use clr_edge::fault::Fault;
+use clr_edge::files::logins_from;
+use clr_edge::journals::{Journals, journaled_desk};
+use clr_edge::logins::known_logins;
 use clr_edge::loopback::{Connection, Loopback, listen};
 use clr_edge::output::write_out;
-use clr_http::{HttpFault, Registrar, Served, serve_one};
+use clr_edge::paths::Opens;
+use clr_http::{HttpFault, Registrar, Served, Service, serve_request};
+use clr_logins::Logins;
 use clr_rules::laws::run_headline::headline_holds_of_runs;
+use clr_staff::Staff;
 use clr_stream::{CountedFlush, CountedRead};
 use sqlite::Alter;
 use std::alloc::Global;
 use std::io;
 
+/// The terms of a server.
+#[derive(Drop)]
+pub struct Terms {
+    /// The port of 127.0.0.1.
+    pub port: u16,
+    /// How many connections are served.
+    pub count: usize,
+    /// After how many seconds a connection is ended that is not over.
+    pub deadline: Option<u16>,
+    /// What answers the requests.
+    pub service: Service,
+}
+
 /// Opens the register of a database, listens on a port of 127.0.0.1, says so, serves that number of
 /// connections, one after the other, and closes the database.
 ///
-/// The faults of the database are those of `run`. `Listen` where the port cannot be had, `Output`
-/// where the line cannot be written. A connection that fails is reported, and ends nothing.
-pub fn serve<R: Databases + Loopback, W: CountedFlush, E: CountedFlush>(
+/// A file of logins that is named is read first: where it has a fault, no database is opened. The
+/// faults of the database are those of `run`. `UnknownEmployee` where the register has no such
+/// employee, `Listen` where the port cannot be had, `Output` where the line cannot be written. A
+/// connection that fails is reported, and ends nothing.
+pub fn serve<
+    'a,
+    R: Databases + Journals + Loopback,
+    O: Opens<'a>,
+    W: CountedFlush,
+    E: CountedFlush,
+>(
     alloc: Global,
     rt: &mut R,
-    args: &ServeArgs<'_>,
+    paths: &O,
+    args: &ServeArgs<'a>,
     output: &mut W,
     errors: &mut E,
 ) -> Result<(), Fault>
     ensures visit { ServesAt R.Loopback
         (seen R.Reader.remaining R.Reader.failure_count R.Writer.stream)
-        args.now.port args.now.count
+        (at_paths O.File.remaining O.File.failure_count (O.bytes_at paths.now)) args.now
+        (W.stream output.old) (W.stream output.new) (E.stream errors.old) (E.stream errors.new)
+        R.Medium.Disk R.opens R.shuts R.ends result rt.old rt.new }
+{
+    let logins = logins_at(alloc, paths, args.logins)?;
+    serve_kept(alloc, rt, args, logins, output, errors)
+}
+
+/// Serves the register of the database at a path, with a journal or without one.
+fn serve_kept<R: Databases + Journals + Loopback, W: CountedFlush, E: CountedFlush>(
+    alloc: Global,
+    rt: &mut R,
+    args: &ServeArgs<'_>,
+    logins: Option<Logins>,
+    output: &mut W,
+    errors: &mut E,
+) -> Result<(), Fault>
+    ensures visit { ServesKept R.Loopback
+        (seen R.Reader.remaining R.Reader.failure_count R.Writer.stream) args.now logins
+        (W.stream output.old) (W.stream output.new) (E.stream errors.old) (E.stream errors.new)
+        R.Medium.Disk R.opens R.shuts R.ends args.now.journal args.now.database.now result
+        rt.old rt.new }
+{
+    match args.journal {
+        Some(journal) => serve_with_journal(alloc, rt, args, journal, logins, output, errors),
+        None => serve_path(alloc, rt, args, logins, output, errors),
+    }
+}
+
+/// Serves the register of the database at a path, whose commands have their lines in the journal at
+/// another path before they are carried out.
+fn serve_with_journal<R: Databases + Journals + Loopback, W: CountedFlush, E: CountedFlush>(
+    alloc: Global,
+    rt: &mut R,
+    args: &ServeArgs<'_>,
+    journal: &str,
+    logins: Option<Logins>,
+    output: &mut W,
+    errors: &mut E,
+) -> Result<(), Fault>
+    ensures visit { ServesLoggedPath R.Loopback
+        (seen R.Reader.remaining R.Reader.failure_count R.Writer.stream) args.now logins
+        (W.stream output.old) (W.stream output.new) (E.stream errors.old) (E.stream errors.new)
+        R.Medium.Disk R.opens R.shuts R.ends args.now.database.now result rt.old rt.new }
+{
+    let found = rt.stored(args.database)?;
+    let (served, connection) = serve_logged(
+        alloc, rt, found, args, journal, logins, output, errors,
+    );
+    let closed = close(rt, connection);
+    both(served, closed)
+}
+
+/// Serves the register that a database has, with the journal at a path, and gives the database back.
+fn serve_logged<S: Alter + Drop, L: Loopback + Journals, W: CountedFlush, E: CountedFlush>(
+    alloc: Global,
+    net: &mut L,
+    connection: sqlite::Connection<S>,
+    args: &ServeArgs<'_>,
+    journal: &str,
+    logins: Option<Logins>,
+    output: &mut W,
+    errors: &mut E,
+) -> (Result<(), Fault>, sqlite::Connection<S>)
+    ensures served { ServesLogged L.Loopback
+        (seen L.Reader.remaining L.Reader.failure_count L.Writer.stream) args.now logins
+        (W.stream output.old) (W.stream output.new) (E.stream errors.old) (E.stream errors.new)
+        S.Store result.0 net.new connection result.1 }
+{
+    match journaled_desk(alloc, net, connection, journal) {
+        Ok(mut desk) => {
+            let asked = terms_of(args, desk.book().staff(), logins);
+            let served = serve_on(alloc, net, &mut desk, asked, output, errors);
+            (served, desk.end().end().end())
+        }
+        Err((fault, connection)) => (Err(fault), connection),
+    }
+}
+
+/// The logins of the file at a path, if one is named.
+fn logins_at<'a, O: Opens<'a>>(
+    alloc: Global,
+    paths: &O,
+    path: Option<&'a str>,
+) -> Result<Option<Logins>, Fault>
+    ensures { NamesLogins
+        (at_paths O.File.remaining O.File.failure_count (O.bytes_at paths.now)) path.entry result }
+{
+    match path {
+        Some(path) => {
+            let logins = logins_of(alloc, paths, path)?;
+            Ok(Some(logins))
+        }
+        None => Ok(None),
+    }
+}
+
+/// The logins of the file at a path.
+fn logins_of<'a, O: Opens<'a>>(alloc: Global, paths: &O, path: &'a str) -> Result<Logins, Fault>
+    ensures { AreLoginsAt
+        (at_paths O.File.remaining O.File.failure_count (O.bytes_at paths.now))
+        path.entry.now result }
+{
+    let mut source = paths.at(path);
+    let rows = logins_from(alloc, &mut source)?;
+    Ok(Logins::new(rows))
+}
+
+/// Serves the register of the database at a path, with these logins.
+fn serve_path<R: Databases + Loopback, W: CountedFlush, E: CountedFlush>(
+    alloc: Global,
+    rt: &mut R,
+    args: &ServeArgs<'_>,
+    logins: Option<Logins>,
+    output: &mut W,
+    errors: &mut E,
+) -> Result<(), Fault>
+    ensures visit { ServesPath R.Loopback
+        (seen R.Reader.remaining R.Reader.failure_count R.Writer.stream) args.now logins
         (W.stream output.old) (W.stream output.new) (E.stream errors.old) (E.stream errors.new)
         R.Medium.Disk R.opens R.shuts R.ends args.now.database.now result rt.old rt.new }
 {
     let connection = rt.stored(args.database)?;
-    let (port, count) = (args.port, args.count);
-    let (served, connection) = serve_over(alloc, rt, connection, port, count, output, errors);
+    let (served, connection) = serve_over(alloc, rt, connection, args, logins, output, errors);
     let closed = close(rt, connection);
-    served?;
-    closed
+    both(served, closed)
+}
+
+/// The fault of a server, or that of closing its database.
+fn both(served: Result<(), Fault>, closed: Result<(), Fault>) -> Result<(), Fault>
+    ensures { result ≡ both served closed }
+{
+    match served {
+        Ok(()) => closed,
+        Err(fault) => Err(fault),
+    }
 }
 
 /// Serves the register that a database has, and gives the database back.
@@ -51,22 +209,73 @@ fn serve_over<S: Alter + Drop, L: Loopback, W: CountedFlush, E: CountedFlush>(
     alloc: Global,
     net: &mut L,
     connection: sqlite::Connection<S>,
-    port: u16,
-    count: usize,
+    args: &ServeArgs<'_>,
+    logins: Option<Logins>,
     output: &mut W,
     errors: &mut E,
 ) -> (Result<(), Fault>, sqlite::Connection<S>)
     ensures served { ServesOver L.Loopback
-        (seen L.Reader.remaining L.Reader.failure_count L.Writer.stream) port count
+        (seen L.Reader.remaining L.Reader.failure_count L.Writer.stream) args.now logins
         (W.stream output.old) (W.stream output.new) (E.stream errors.old) (E.stream errors.new)
         S.Store result.0 net.old net.new connection result.1 }
 {
     match desk_over(alloc, connection) {
         Ok(mut desk) => {
-            let served = serve_desk(alloc, net, &mut desk, port, count, output, errors);
+            let terms = terms_of(args, desk.book().staff(), logins);
+            let served = serve_on(alloc, net, &mut desk, terms, output, errors);
             (served, desk.end().end())
         }
         Err((fault, connection)) => (Err(fault), connection),
+    }
+}
+
+/// The terms of a server that is asked for, whose logins speak for employees of this staff.
+fn terms_of(args: &ServeArgs<'_>, staff: &Staff, logins: Option<Logins>) -> Result<Terms, Fault>
+    ensures { result ≡ terms_of args.now staff.now logins }
+{
+    match logins {
+        Some(logins) => {
+            let known = known_logins(staff, logins)?;
+            Ok(terms_with(args, Some(known)))
+        }
+        None => Ok(terms_with(args, None)),
+    }
+}
+
+/// The terms of a server that is asked for, with these logins.
+fn terms_with(args: &ServeArgs<'_>, logins: Option<Logins>) -> Terms
+    ensures { result ≡ terms_with args.now logins }
+{
+    Terms {
+        port: args.port,
+        count: args.count,
+        deadline: args.deadline,
+        service: Service {
+            desk: args.desk,
+            logins,
+        },
+    }
+}
+
+/// Serves a register on terms, if there are any.
+fn serve_on<D: Registrar, L: Loopback, W: CountedFlush, E: CountedFlush>(
+    alloc: Global,
+    net: &mut L,
+    desk: &mut D,
+    terms: Result<Terms, Fault>,
+    output: &mut W,
+    errors: &mut E,
+) -> Result<(), Fault>
+    ensures served { ServesOn L.Loopback
+        (seen L.Reader.remaining L.Reader.failure_count L.Writer.stream)
+        (W.stream output.old) (W.stream output.new) (E.stream errors.old) (E.stream errors.new)
+        terms (D.keeper desk.old) (D.keeper desk.new) result net.old net.new }
+    ensures unserved { OnErr result (desk.new ≡ desk.old) }
+    ensures led { D.leads_to desk.old desk.new }
+{
+    match terms {
+        Ok(terms) => serve_desk(alloc, net, desk, &terms, output, errors),
+        Err(fault) => Err(fault),
     }
 }
 
@@ -76,48 +285,47 @@ pub fn serve_desk<D: Registrar, L: Loopback, W: CountedFlush, E: CountedFlush>(
     alloc: Global,
     net: &mut L,
     desk: &mut D,
-    port: u16,
-    count: usize,
+    terms: &Terms,
     output: &mut W,
     errors: &mut E,
 ) -> Result<(), Fault>
     ensures served { ServesKeeper L.Loopback
-        (seen L.Reader.remaining L.Reader.failure_count L.Writer.stream) port count
+        (seen L.Reader.remaining L.Reader.failure_count L.Writer.stream)
         (W.stream output.old) (W.stream output.new) (E.stream errors.old) (E.stream errors.new)
-        (D.keeper desk.old) (D.keeper desk.new) result net.old net.new }
+        terms.now (D.keeper desk.old) (D.keeper desk.new) result net.old net.new }
     ensures unserved { OnErr result (desk.new ≡ desk.old) }
     ensures led { D.leads_to desk.old desk.new }
 {
-    let listener = listen(net, port)?;
-    let line = serving_line(port);
+    let listener = listen(net, terms.port)?;
+    let line = serving_line(terms.port);
     write_out(line.as_str(), output)?;
-    serve_connections(alloc, net, &listener, desk, count, errors);
+    serve_connections(alloc, net, &listener, desk, terms, errors);
     Ok(())
 }
 
-/// Serves that number of connections, one after the other. One that fails is reported, and the next
-/// is served. The commands that they carry out from a good register are a run.
+/// Serves as many connections as the terms say, one after the other. One that fails is reported, and
+/// the next is served. The commands that they carry out from a good register are a run.
 pub fn serve_connections<D: Registrar, L: Loopback, E: CountedFlush>(
     alloc: Global,
     net: &mut L,
     listener: &L::Listener,
     desk: &mut D,
-    count: usize,
+    terms: &Terms,
     errors: &mut E,
 )
     ensures taken { TakesFirst L.Loopback
-        (seen L.Reader.remaining L.Reader.failure_count L.Writer.stream) listener.now count
-        (D.keeper desk.old) (D.keeper desk.new) (E.stream errors.old) (E.stream errors.new)
-        net.old net.new }
+        (seen L.Reader.remaining L.Reader.failure_count L.Writer.stream) terms.now listener.now
+        terms.now.count (D.keeper desk.old) (D.keeper desk.new) (E.stream errors.old)
+        (E.stream errors.new) net.old net.new }
     ensures run { IsGood (D.keeper desk.old).register → ConnectionsHaveRun L.Loopback
-        (seen L.Reader.remaining L.Reader.failure_count L.Writer.stream) listener.now count
-        (D.keeper desk.old) (D.keeper desk.new) (E.stream errors.old) (E.stream errors.new)
-        net.old net.new }
+        (seen L.Reader.remaining L.Reader.failure_count L.Writer.stream) terms.now listener.now
+        terms.now.count (D.keeper desk.old) (D.keeper desk.new) (E.stream errors.old)
+        (E.stream errors.new) net.old net.new }
     ensures led { D.leads_to desk.old desk.new }
 {
     headline_holds_of_runs();
-    for done in 0..count {
-        serve_next(alloc, net, listener, desk, done + 1, errors);
+    for done in 0..terms.count {
+        serve_next(alloc, net, listener, desk, terms, done + 1, errors);
     }
 }
 
@@ -128,33 +336,37 @@ fn serve_next<D: Registrar, L: Loopback, E: CountedFlush>(
     net: &mut L,
     listener: &L::Listener,
     desk: &mut D,
+    terms: &Terms,
     number: usize,
     errors: &mut E,
 )
     ensures taken { TakesNext L.Loopback
-        (seen L.Reader.remaining L.Reader.failure_count L.Writer.stream) listener.now number
-        (D.keeper desk.old) (D.keeper desk.new) (E.stream errors.old) (E.stream errors.new)
-        net.old net.new }
+        (seen L.Reader.remaining L.Reader.failure_count L.Writer.stream) terms.now listener.now
+        number (D.keeper desk.old) (D.keeper desk.new) (E.stream errors.old)
+        (E.stream errors.new) net.old net.new }
     ensures led { D.leads_to desk.old desk.new }
 {
-    match net.accept(listener) {
+    match net.accept(listener, terms.deadline) {
         Ok(connection) => {
-            let connection = answered(alloc, desk, connection, number, errors);
+            let service = &terms.service;
+            let connection = answered(alloc, service, desk, connection, number, errors);
             net.hang_up(connection);
         }
         Err(error) => report_connection(number, Err(accept_fault(&error)), errors),
     }
 }
 
-/// A connection of this number, once it was answered. If it fails its line goes to `errors`.
+/// A connection of this number, once it was answered by a service. If it fails its line goes to
+/// `errors`.
 fn answered<D: Registrar, R: CountedRead + Drop, W: CountedFlush + Drop, E: CountedFlush>(
     alloc: Global,
+    service: &Service,
     desk: &mut D,
     connection: Connection<R, W>,
     number: usize,
     errors: &mut E,
 ) -> Connection<R, W>
-    ensures served { Serves (seen R.remaining R.failure_count W.stream) number
+    ensures served { Serves (seen R.remaining R.failure_count W.stream) service.now number
         (D.keeper desk.old) (D.keeper desk.new) connection result
         (E.stream errors.old) (E.stream errors.new) }
     ensures led { D.leads_to desk.old desk.new }
@@ -163,7 +375,7 @@ fn answered<D: Registrar, R: CountedRead + Drop, W: CountedFlush + Drop, E: Coun
         mut reader,
         mut writer,
     } = connection;
-    let served = serve_one(alloc, desk, &mut reader, &mut writer);
+    let served = serve_request(alloc, service, desk, &mut reader, &mut writer);
     report_connection(number, served, errors);
     Connection { reader, writer }
 }

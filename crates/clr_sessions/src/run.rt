@@ -1,10 +1,12 @@
 //! A command line is run, and what it gave is compared with what must come.
 use crate::line::{Stream, Told};
 use clr_command_line::command_line::command_line_over;
+use clr_disk::{Host, System};
 use clr_edge::machine::{AnyFiles, Machine};
 use clr_edge::paths::Paths;
-use clr_stream::Counted;
+use clr_stream::{Counted, CountedFlush, CountedRead};
 use std::alloc::{AllocError, Global};
+use std::convert::AsStr;
 use std::fmt;
 
 /// What a command line gave.
@@ -65,9 +67,10 @@ pub fn run_line(rt: &HostRuntime, line: &str, input: &str) -> anyhow::Result<Run
         .collect(rt.alloc())?;
     let mut output = Counted::new(Vec::new(rt.alloc()));
     let mut errors = Counted::new(Vec::new(rt.alloc()));
-    let status = command_line_over(
-        &mut Machine::new(rt, AnyFiles),
-        &Paths::new(rt),
+    let status = answered(
+        rt.alloc(),
+        Host::new(rt, AnyFiles),
+        &Host::new(rt, AnyFiles),
         words.as_slice(),
         &mut Counted::new(input.as_bytes()),
         &mut output,
@@ -80,6 +83,21 @@ pub fn run_line(rt: &HostRuntime, line: &str, input: &str) -> anyhow::Result<Run
         output,
         errors,
     })
+}
+
+/// Answers words on a system: one value of it opens databases and listens, the other opens files.
+fn answered<Y: System + Drop, S: AsStr, I: CountedRead, W: CountedFlush, E: CountedFlush>(
+    alloc: Global,
+    system: Y,
+    files: &Y,
+    words: &[S],
+    input: &mut I,
+    output: &mut W,
+    errors: &mut E,
+) -> u8 {
+    let mut machine = Machine::new(alloc, system);
+    let paths = Paths::new(files);
+    command_line_over(&mut machine, &paths, words, input, output, errors)
 }
 
 /// The first place where a stream has something else than what must come there; `end` is the line

@@ -1,13 +1,11 @@
 //! Standard input, as it is when the program starts.
-ghost use Rattle.std.specs.Prelude.{◌≡◌, false, true, IsErr};
+ghost use Rattle.std.specs.Prelude.{◌≡◌, false, is_ok, true, IsErr};
 ghost use Rattle.std.specs.Io.{ReadsAtMost};
 ghost use Rattle.std.specs.Io.KnownBytes.{ReadConsumes};
 
 use clr_stream::ReadStep;
 use std::io;
 use std::io::Read;
-use std::os::fd::AsFd;
-use std::rt::Stdin;
 
 /// Standard input. Where it was closed when the program started, a file that the program opens gets
 /// its number; it is not read then.
@@ -17,13 +15,16 @@ pub struct StandardInput<T> {
     is_open: bool,
 }
 
-impl StandardInput<Stdin> {
-    /// Looks whether it is open, by a second descriptor of it. To be called before a file is opened.
-    pub fn new(stdin: Stdin) -> StandardInput<Stdin>
-        ensures { result.stdin ≡ stdin }
+impl<T> StandardInput<T> {
+    /// Standard input, which is open if a second descriptor of it could be had.
+    pub fn new<D>(stdin: T, second: &io::Result<D>) -> StandardInput<T>
+        ensures stdin { result.stdin ≡ stdin }
+        ensures open { result.is_open ≡ is_ok second.now }
     {
-        let is_open = stdin.as_fd().try_clone_to_owned().is_ok();
-        StandardInput { stdin, is_open }
+        StandardInput {
+            stdin,
+            is_open: second.is_ok(),
+        }
     }
 }
 

@@ -5,42 +5,67 @@ ghost use Rattle.std.specs.Prelude.{◌≡◌, ◌≤◌};
 ghost use Rattle.std.specs.Process.{exit_status};
 
 mod input;
-mod terminal;
 
 use crate::input::StandardInput;
-use crate::terminal::Terminal;
 use clr_command_line::command_line::command_line;
-use clr_disk::{Behind, Watch};
+use clr_disk::{Behind, Host, System, Watch};
 use clr_edge::machine::{AnyFiles, Machine};
 use clr_edge::paths::Paths;
-use clr_stream::Counted;
+use clr_stream::{Counted, CountedFlush, CountedRead};
+use std::alloc::Global;
+use std::os::fd::AsFd;
 use std::process::ExitCode;
+use std::rt::Clock;
 use std::{env, io};
 
 fn main(rt: HostRuntime) -> ExitCode {
     program(&rt)
 }
 
-/// Runs the program on the words of its process, and returns its status.
+/// Runs the program on the words of its process, and returns its status. Whether standard input is
+/// open is seen before a file is opened, by a second descriptor of it.
 fn program(rt: &HostRuntime) -> ExitCode
     ensures { exit_status result ≤ 2 }
 {
-    let watch = Watch::new(Terminal::new(rt));
-    let mut machine = Machine::watched(rt, AnyFiles, &watch);
-    let paths = Paths::new(rt);
+    let stdin = rt.stdin();
+    let second = stdin.as_fd().try_clone_to_owned();
+    let stdin = StandardInput::new(stdin, &second);
+    drop(second);
+    let watch = Watch::new(*rt, rt.stderr());
     let words = words_of(rt);
-    let mut input = Behind::new(Counted::new(StandardInput::new(rt.stdin())), &watch);
+    let mut input = Behind::new(Counted::new(stdin), &watch);
     let mut output = Behind::new(Counted::new(rt.stdout()), &watch);
     let mut errors = Behind::new(Counted::new(rt.stderr()), &watch);
-    let status = command_line(
-        &mut machine,
-        &paths,
+    let status = answer(
+        rt.alloc(),
+        Host::new(rt, AnyFiles),
+        &Host::new(rt, AnyFiles),
+        &watch,
         &words,
         &mut input,
         &mut output,
         &mut errors,
     );
     exit_code(status)
+}
+
+/// Answers the words of a command line on a system: one value of it opens databases and listens, the
+/// other opens files.
+fn answer<Y: System + Drop, K: Clock, I: CountedRead, W: CountedFlush, E: CountedFlush>(
+    alloc: Global,
+    system: Y,
+    files: &Y,
+    watch: &Watch<K>,
+    words: &io::Result<Vec<String>>,
+    input: &mut I,
+    output: &mut W,
+    errors: &mut E,
+) -> u8
+    ensures { result ≤ 2 }
+{
+    let mut machine = Machine::watched(alloc, system, watch);
+    let paths = Paths::new(files);
+    command_line(&mut machine, &paths, words, input, output, errors)
 }
 
 /// The status as the system has it.

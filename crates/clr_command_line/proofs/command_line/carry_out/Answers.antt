@@ -1,4 +1,5 @@
 use Rattle.std.proofs.Common.{refl}
+use Rattle.clr_command_line.proofs.Journals.{journal_plain}
 use Rattle.clr_command_line.proofs.command_line.carry_out.Goals as goal
 
 pub returns-in-Fence : goal.returns-in-Fence
@@ -29,3 +30,12 @@ returns-in-Serve g c =
 
 pub returns-in-Migrate : goal.returns-in-Migrate
 returns-in-Migrate g c = rw c.in-Migrate.is (c.migrate.result, c.migrate.ensures.visit, c.migrate.ensures.faults, refl, c.report-in-Migrate.ensures)
+
+pub returns-in-Journal : goal.returns-in-Journal
+returns-in-Journal g c = rw c.in-Journal.is (
+  c.journal.result,
+  (record { text = c.journal.ensures.answer; unopened = c.journal.ensures.unopened; unread = c.journal.ensures.unread }, refl),
+  journal_plain c.journal.result c.journal.ensures.fault,
+  refl,
+  c.report-in-Journal.ensures,
+)

@@ -1,4 +1,5 @@
 use Rattle.std.proofs.Common.{◌∙◌, ap}
+use Rattle.clr_desk.proofs.Givings.{leads_itself}
 use Rattle.clr_commands.specs.Replies.{asked_commands, asked_lines, readings_of}
 use Rattle.clr_commands.proofs.RunAnswers.{passed_cause}
 use Rattle.clr_commands.proofs.RunOfInput.{answers_over}
@@ -6,6 +7,13 @@ use Rattle.clr_commands.proofs.run.run_over.Goals as goal
 
 pub returns-in_err-bytes-clause-cause : goal.returns-in_err-bytes-clause-cause
 returns-in_err-bytes-clause-cause g c = passed_cause _ _ _ _ c.in_err-bytes.ensures.cause c.from_residual.ensures.1
+
+-- a desk whose input was not read is as it was
+pub returns-in_err-bytes-clause-led : goal.returns-in_err-bytes-clause-led
+returns-in_err-bytes-clause-led g c = leads_itself g.K.Commit.kept g.K.Commit.takes g.K.Commit.hears c.args.desk.now
+
+pub returns-in_err-asked-clause-led : goal.returns-in_err-asked-clause-led
+returns-in_err-asked-clause-led g c = leads_itself g.K.Commit.kept g.K.Commit.takes g.K.Commit.hears c.args.desk.now
 
 -- the answers to the lines of the input
 pub returns-clause-answer : goal.returns-clause-answer
