@@ -3,5 +3,3 @@ pub mod Clean
 pub mod OneList
 pub mod WorkedRows
 pub mod JonesRegister
-pub mod BoardServed
-pub mod KnownVisits

@@ -19,6 +19,10 @@ use Rattle.std.specs.declared.io.ErrorKind.{ErrorKind}
 use Rattle.std.specs.declared.net.socket_addr.SocketAddr.{SocketAddr}
 use Rattle.clr_http.specs.Answered.{Source}
 use Rattle.clr_commands.specs.Connections.{Seen}
+use Rattle.clr_http.specs.Options.{plain}
+use Rattle.clr_args.specs.declared.asked.ServeArgs.{ServeArgs}
+use Rattle.clr_commands.specs.Logins.{terms_with}
+use Rattle.clr_commands.specs.declared.serve.Terms.{Terms}
 use Rattle.clr_edge.specs.declared.loopback.Connection.{Connection}
 use Rattle.clr_edge.specs.declared.loopback.Loopback as loopback
 use Rattle.sqlite_disk.specs.declared.Disk as disk
@@ -78,13 +82,25 @@ pub record IsExchange {M D L R W : Type 0} (g : disk.Ghosts D) (opens : Opening 
   pub opened : (old new : M) (c : Over g) → opens old jones_path g c new → asked new ≡ asked old
   pub stands : (old new : M) (address : SocketAddr) (l : L) → net.stands old address l new
       → asked new ≡ asked old
-  pub comes : (old new : M) (l : L) (c : Connection R W) → net.comes old l c new
+  pub comes : (old new : M) (l : L) (deadline : Option ℕ) (c : Connection R W)
+      → net.comes old l deadline c new
       → (Source.remaining (seen.source c.reader) ≡ Some (asked old))
       × (Stream.contents (seen.stream c.writer) ≡ Some [])
   pub misses : (old new : M) (l : L) (kind : ErrorKind) → net.misses old l kind new → ⊥
   pub keeps : (old new : M) (c : Connection R W) → net.hangs_up old c new
       → Stream.contents (seen.stream c.writer) ≡ Some (response new)
   pub ended : (old new : M) (files : Files D) → ends old files new → response new ≡ response old
+
+-- the terms of a server of one connection at a port, without an option
+abbrev pub once_at : ℕ → Terms
+once_at port = record { port = port; count = 1; deadline = None; service = plain }
+
+-- such a server of the database at that path is asked for
+pub record ServesOnce (args : ServeArgs) : Type 0 where
+  pub path : args.database.now ≡ jones_path
+  pub no_logins : args.logins ≡ None
+  pub no_journal : args.journal ≡ None
+  pub terms : terms_with args None ≡ once_at args.port
 
 -- a writer to which nothing was written yet
 abbrev pub fresh : Stream
@@ -110,3 +126,9 @@ point_file =
 abbrev pub staff_file : List ℕ
 staff_file =
     codes "employee,role,supervisor\nOPS,operator,\nREED,field,\nDALE,field,\nJONES,charge,BOSS\nKIM,charge,\nBOSS,charge,\n"
+
+-- a machine that has them at these paths
+pub record HasWorkedFiles (bytes_at : List ℕ → Option (List ℕ)) : Type 0 where
+  pub sections : bytes_at (codes "sections.csv") ≡ Some section_file
+  pub points : bytes_at (codes "points.csv") ≡ Some point_file
+  pub staff : bytes_at (codes "staff.csv") ≡ Some staff_file

@@ -4,9 +4,11 @@ ghost use Rattle.std.specs.Prelude.{◌≡◌, IfErr, IfOk};
 ghost use Rattle.clr_stream.specs.Failures.{one_more};
 
 use crate::worked::{REQUEST, RESPONSE};
-use clr_commands::serve::serve_connections;
+use clr_commands::serve::{Terms, serve_connections};
+use clr_disk::{Host, System};
 use clr_edge::loopback::{Connection, Loopback, listen, local_address};
 use clr_edge::machine::{AnyFiles, Machine};
+use clr_http::Service;
 use clr_stream::Counted;
 use clr_worked::{network, new_desk};
 use std::alloc::Global;
@@ -15,17 +17,27 @@ use std::io::{Read, Write};
 use std::net::{Shutdown, SocketAddr, TcpStream};
 use std::test::Fail;
 
-/// Serves n connections from a new desk, and returns the lines that report which failed. Out of
-/// memory ends the test.
+/// The terms of a plain service of n connections.
+fn plain(count: usize) -> Terms {
+    Terms {
+        port: 0,
+        count,
+        deadline: None,
+        service: Service::plain(),
+    }
+}
+
+/// Serves connections on these terms from a new desk, and returns the lines that report which failed.
+/// Out of memory ends the test.
 fn failures<L: Loopback>(
     alloc: Global,
     net: &mut L,
     listener: &L::Listener,
-    count: usize,
+    terms: &Terms,
 ) -> Result<String, Fail> {
     let mut errors = Counted::new(Vec::with_capacity(alloc, 256)?);
     let mut desk = new_desk(alloc, network(alloc)?)?;
-    serve_connections(alloc, net, listener, &mut desk, count, &mut errors);
+    serve_connections(alloc, net, listener, &mut desk, terms, &mut errors);
     let lines = String::from_utf8(errors.into_inner())?;
     if lines.as_str().contains("NoMemory") {
         return Err(Fail::new("out of memory"));
@@ -54,14 +66,20 @@ fn response(alloc: Global, mut client: TcpStream) -> Result<String, Fail> {
 
 #[test]
 fn a_request_and_its_response_byte_for_byte(rt: HostRuntime) -> Result<(), Fail> {
-    let mut machine = Machine::new(&rt, AnyFiles);
-    let listener = listen(&mut machine, 0)?;
-    let client = client(&rt, listener.local_addr()?.port())?;
-    let failures = failures(rt.alloc(), &mut machine, &listener, 1)?;
+    let (failures, response) = served(&rt, Host::new(&rt, AnyFiles))?;
     assert_eq!(rt; failures.as_str(), "");
-    let response = response(rt.alloc(), client)?;
     assert_eq!(rt; response.as_str(), RESPONSE);
     Ok(())
+}
+
+/// What one connection of a system gives: what is reported of it, and what its client reads.
+fn served<Y: System + Drop>(rt: &HostRuntime, system: Y) -> Result<(String, String), Fail> {
+    let mut machine = Machine::new(rt.alloc(), system);
+    let listener = listen(&mut machine, 0)?;
+    let client = client(rt, listener.local_addr()?.port())?;
+    let failures = failures(rt.alloc(), &mut machine, &listener, &plain(1))?;
+    let response = response(rt.alloc(), client)?;
+    Ok((failures, response))
 }
 
 /// Connections on which nothing comes through: by turns one is not accepted, one cannot be read and
@@ -116,7 +134,7 @@ impl Loopback for Torn {
 
     ghost stands = { λ old _ _ new. new ≡ old };
 
-    ghost comes = { λ old _ _ new. new ≡ record old { asked = one_more old.asked } };
+    ghost comes = { λ old _ _ _ new. new ≡ record old { asked = one_more old.asked } };
 
     ghost misses = { λ old _ _ new. new ≡ record old { asked = one_more old.asked } };
 
@@ -132,6 +150,7 @@ impl Loopback for Torn {
     fn accept(
         &mut self,
         _listener: &(),
+        _deadline: Option<u16>,
     ) -> io::Result<Connection<Counted<TornReader>, Counted<TornWriter>>>
         ensures comes { IfOk result (λ _.
             self.new ≡ record self.old { asked = one_more self.old.asked }) }
@@ -165,7 +184,7 @@ fn connections_that_fail_are_reported(rt: HostRuntime) -> Result<(), Fail> {
         asked: 0,
         let_go: 0,
     };
-    let failures = failures(rt.alloc(), &mut torn, &(), 3)?;
+    let failures = failures(rt.alloc(), &mut torn, &(), &plain(3))?;
     assert_eq!(rt;
         failures.as_str(),
         "connection 1 ReadFailed\nconnection 2 ReadFailed\nconnection 3 WriteFailed\n"

@@ -7,7 +7,7 @@ use crate::worked::{REQUEST, RESPONSE};
 use clr_desk::Desk;
 use clr_http::{HttpFault, Registrar, Served, serve_one};
 use clr_load::Rows;
-use clr_rules::{ClearanceId, Command, Reply};
+use clr_rules::{ClearanceId, Command, Reply, Text};
 use clr_store::Store;
 use clr_stream::{Counted, CountedRead, CountedWrite};
 use clr_worked::{are_same, network};
@@ -415,6 +415,8 @@ impl<D: Registrar + Drop> Registrar for Unanswering<D> {
         self.faults
     }
 
+    fn hear(&mut self, _login: Option<Text>) {}
+
     fn answer(&mut self, _command: Command) -> Option<Reply> {
         self.faults = self.faults.saturating_add(1);
         None
@@ -431,6 +433,10 @@ impl<D: Registrar + Drop> Registrar for Unanswering<D> {
 
     fn board(&self, alloc: Global) -> Result<String, AllocError> {
         self.desk.board(alloc)
+    }
+
+    fn network(&self, alloc: Global) -> Result<String, AllocError> {
+        self.desk.network(alloc)
     }
 }
 

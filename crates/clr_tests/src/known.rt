@@ -3,8 +3,8 @@
 mod databases;
 mod exchange;
 mod files;
+mod journals;
 mod lines;
-mod visits;
 
 use std::alloc::Global;
 

@@ -10,6 +10,8 @@ mod csv_files;
 #[cfg(test)]
 mod desk;
 #[cfg(test)]
+mod desk_service;
+#[cfg(test)]
 mod driver;
 #[cfg(test)]
 mod fakes;

@@ -25,7 +25,7 @@ impl<'f> Loopback for Known<'f> {
 
     ghost stands = { λ old address _ new. (new ≡ old) × (socket_port address ≢ 1) };
 
-    ghost comes = { λ old _ connection new. (new ≡ old)
+    ghost comes = { λ old _ _ connection new. (new ≡ old)
         × ((counted_inner connection.reader).now ≡ old.request.now)
         × ((counted_inner connection.writer).items ≡ []) };
 
@@ -50,6 +50,7 @@ impl<'f> Loopback for Known<'f> {
     fn accept(
         &mut self,
         _listener: &(),
+        _deadline: Option<u16>,
     ) -> io::Result<Connection<Counted<&'f [u8]>, Counted<Vec<u8>>>>
         ensures comes { IfOk result (λ connection. (self.new ≡ self.old)
             × ((counted_inner connection.reader).now ≡ self.old.request.now)
