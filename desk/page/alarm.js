@@ -1,9 +1,10 @@
 // A section that was tested live under a clearance is an alarm, until it is tested dead there or the clearance is
 // released. The register keeps no trace of it but the missing test. So the page raises it by what this browser said,
-// which is kept over a reload; where it saw a test go while the ground stayed as it was; and where a ground is on
-// without a test.
+// which is kept over a reload; where it saw a test go while the ground stayed as it was; where a ground is on without a
+// test; and, where this desk has a log, by that.
 
 import { keepIn, readKept } from "./kept.js";
+import { liveByLog } from "./log.js";
 import { now } from "./moments.js";
 
 const KEPT = "gridclear-live";
@@ -85,7 +86,8 @@ export function noteRoom(room) {
 
 // All alarms, as { id, section }.
 export function alarms() {
-  return [...new Map([...seen, ...own]).values()].sort((a, b) => (`${a.id} ${a.section}` < `${b.id} ${b.section}` ? -1 : 1));
+  const logged = liveByLog().map((alarm) => [`${alarm.id} ${alarm.section}`, alarm]);
+  return [...new Map([...logged, ...seen, ...own]).values()].sort((a, b) => (`${a.id} ${a.section}` < `${b.id} ${b.section}` ? -1 : 1));
 }
 
 export function liveUnder(id) {

@@ -1,7 +1,8 @@
 // The position of a point before an isolating order opened it. The page keeps what the register showed while the order's
-// OPEN was still waiting; without that it goes by the steps of other records, and by the points file.
+// OPEN was still waiting; without that it looks into the log.
 
 import { keepIn, readKept } from "./kept.js";
+import { movedBefore } from "./log.js";
 import { room } from "./watch.js";
 
 const KEPT = "gridclear-before", MOST_KEPT = 200;
@@ -36,16 +37,12 @@ export function noteBefore() {
   if (any) keepIn("localStorage", KEPT, [...before].slice(-MOST_KEPT));
 }
 
-// { position, from }: the position before the order of this clearance, null where it is not clear, and how it is known.
-// Another record that left the point open may have come later than the order, and shows nothing then.
+// { position, from }: the position before the order of this clearance; null where neither this browser saw it, nor the part
+// of the log that was read has it.
 export function positionBefore(state, clearance) {
-  const seen = before.get(`${clearance} ${state.point.name}`);
+  const { name } = state.point, seen = before.get(`${clearance} ${name}`);
   if (seen) return { position: seen, from: "seen here when it was ordered" };
-  const others = [...state.moved].filter(([id]) => id !== clearance);
-  const ends = new Set(others.map(([, end]) => end));
-  if (!ends.size) return { position: state.point.normal, from: "by the file" };
-  const ids = others.map(([id]) => id).join(", "), [end] = ends;
-  if (ends.size > 1) return { position: null, from: `${ids} left it differently` };
-  if (end === "open" && state.point.normal !== "open") return { position: null, from: `${ids} left it open, before this order or after it` };
-  return { position: end, from: `by the steps done under ${ids}` };
+  const moved = movedBefore(clearance, name);
+  if (moved) return { position: moved.position, from: `by the log: ${moved.text} under ${moved.id}` };
+  return { position: null, from: "this browser did not see it" };
 }

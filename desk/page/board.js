@@ -39,6 +39,14 @@ function workWords(view) {
   ];
 }
 
+// Each record in words, as its row on paper.
+export function recordRows() {
+  return room.board.map((row) => {
+    const view = viewOf(row.id);
+    return [row.id, row.phase, row.work === "-" ? "switch order" : row.work, stepsWords(view), workWords(view).map(([, text]) => text).join("; "), row.holder, shortTime(row.last)];
+  });
+}
+
 function boardRow(row, staff, chosen) {
   const view = viewOf(row.id);
   const hatched = row.id === chosen && view?.fence.length;
@@ -53,7 +61,7 @@ function boardRow(row, staff, chosen) {
 }
 
 function jumperRow({ point, from, to, position }) {
-  return el("tr", {}, el("th", { scope: "row" }, point), [from, to, position].map((text) => el("td", {}, text)));
+  return el("tr", {}, el("th", { scope: "row" }, el("a", { href: `#/points/${point}` }, point)), [from, to, position].map((text) => el("td", {}, text)));
 }
 
 function recordsTable(staff, chosen) {

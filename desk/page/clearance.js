@@ -2,6 +2,7 @@
 
 import { liveIn } from "./alarm.js";
 import { holderCell } from "./board.js";
+import { mayUse } from "./caller.js";
 import { el, button, choice, panel, table } from "./elements.js";
 import { cancelControl, emergencyControl, grantControl, releaseControl, transferControl } from "./giving.js";
 import { shortTime, wholeTime } from "./moments.js";
@@ -11,10 +12,12 @@ import { RestoreEditor } from "./restore.js";
 import { instructControl, readingOf } from "./reading.js";
 import { severalControl, withRow } from "./several.js";
 import { waits } from "./still.js";
+import { Story } from "./story.js";
 import { amendControl, repeatControl, reportControl, stepsFindings, stepsTable } from "./steps.js";
 import { boardLine, choose, lookAt, viewOf } from "./watch.js";
 import { offersOf, presentStep } from "./who.js";
 import { holdWord, phaseWord } from "./words.js";
+import { wayBackOf } from "./wayback.js";
 import { sectionState, workControl } from "./work.js";
 
 const CONTROLS = {
@@ -36,7 +39,9 @@ const SHOWN = {
 
 const MOST_BUTTONS = 4;
 
-function asControl(names, desk) {
+// Names that this login may use.
+function asControl(all, desk) {
+  const names = all.filter(mayUse);
   if (names.length <= MOST_BUTTONS) {
     return names.map((name) => button(`Speak as ${name}`, () => desk.speakAs(name), { class: "quiet", "data-name": `as ${name}` }));
   }
@@ -108,7 +113,7 @@ function idleWords(view, caller) {
 
 export class ClearancePage {
   #desk; #id; #made = new Map(); #missing = false; #tall = 0;
-  #card = el("div", { class: "card-place" }); #reading = el("div"); #next = el("div", { class: "next-body" }); #others = el("div"); #steps = el("div", { class: "steps-place" }); #facts = el("div", { class: "facts-place" });
+  #card = el("div", { class: "card-place" }); #reading = el("div"); #next = el("div", { class: "next-body" }); #others = el("div"); #steps = el("div", { class: "steps-place" }); #facts = el("div", { class: "facts-place" }); #way = el("div", { class: "way-place" }); #story;
   #heading = el("h3", { tabindex: -1, id: "next" }, "Next");
   title;
   node;
@@ -118,11 +123,12 @@ export class ClearancePage {
     this.#id = id;
     this.title = id;
     choose(id);
+    this.#story = new Story(id);
     this.node = el("section", { class: "clearance", "data-id": id },
       el("h2", { tabindex: -1 }, id), this.#card,
       el("div", { class: "columns" },
         el("div", {}, el("div", { class: "next" }, this.#heading, this.#reading, this.#next, this.#others), this.#steps),
-        el("div", {}, el("div", { class: "diagram-place small" }), this.#facts)));
+        el("div", {}, el("div", { class: "diagram-place small" }), this.#facts, this.#way)), this.#story.node);
     this.update();
     if (!viewOf(id)) lookAt(id).then((answer) => this.#noteMissing(answer));
   }
@@ -149,6 +155,8 @@ export class ClearancePage {
     this.#drawNext(view);
     const found = stepsFindings(view, this.#desk);
     panel(this.#steps, [view.steps, found], () => (view.steps.length ? [el("h3", {}, `Steps of round ${view.card.round}`), stepsTable(view, found)] : []));
+    panel(this.#way, view.card.phase === "Closed", () => (view.card.phase === "Closed" ? [] : [wayBackOf(this.#id, this.#desk)]));
+    this.#story.draw();
     panel(this.#facts, [view.points, view.holds, view.fence, view.crews, view.card, liveIn(view.fence)], () => facts(view));
   }
 

@@ -9,6 +9,7 @@ import { noteGiven } from "./given.js";
 import { keepIn, readKept } from "./kept.js";
 import { lost } from "./lost.js";
 import { now, secondsOfField, shortTime, span, wholeTime } from "./moments.js";
+import { network } from "./network.js";
 import { postCommand } from "./register.js";
 import { addReply, plainLines, replyOf } from "./replies.js";
 import { asOwn } from "./still.js";
@@ -17,6 +18,7 @@ import { saidOf } from "./words.js";
 
 const FAR = 120;     // seconds off the clock that are asked about
 const PENDING = "gridclear-pending";
+const TIMELESS = new Set(["jumper"]); // commands without a moment
 const DOUBLE = 1000; // milliseconds within which a second press is none
 
 let caller = null;
@@ -103,7 +105,8 @@ function noteUnsent(command, text) {
 // What was known before the command, for the case that its reply is lost.
 function before(command) {
   const view = command.clearance ? viewOf(command.clearance) : null;
-  return { view: view ? JSON.stringify(view) : null, ids: new Set([...room.closed.keys(), ...room.board.map((row) => row.id)]) };
+  const ids = new Set([...room.closed.keys(), ...room.board.map((row) => row.id)]);
+  return { view: view ? JSON.stringify(view) : null, ids, had: network.points.has(command.point) };
 }
 
 // Gives the command; the answer is whether it was accepted, with the clearance's name.
@@ -115,7 +118,7 @@ export async function give(parts) {
   }
   noteSending(true);
   try {
-    const at = await momentFor(command);
+    const at = TIMELESS.has(command.do) ? undefined : await momentFor(command);
     if (at === null) {
       noteUnsent(command, "You did not let it be sent. The register is as it was.");
       return { accepted: false };
@@ -135,10 +138,10 @@ function keepPending(pending) {
 export async function takeUpPending() {
   const pending = readKept("sessionStorage", PENDING);
   if (!pending) return;
-  const { command, view, ids } = pending;
+  const { command, view, ids, had } = pending;
   noteSending(true);
   try {
-    await lost(command, "the page was loaded again before it", { view, ids: new Set(ids) }, () => giveAgain(command, give));
+    await lost(command, "the page was loaded again before it", { view, ids: new Set(ids), had }, () => giveAgain(command, give));
   } finally {
     keepPending(null);
     noteSending(false);
@@ -147,7 +150,7 @@ export async function takeUpPending() {
 
 async function send(command) {
   const known = before(command);
-  keepPending({ command, view: known.view, ids: [...known.ids] });
+  keepPending({ command, view: known.view, ids: [...known.ids], had: known.had });
   try {
     return await sendKnowing(command, known);
   } finally {
@@ -164,7 +167,7 @@ async function sendKnowing(command, known) {
   }
   addReply(replyOf(command, answer, now()));
   if (momentField) momentField.value = "";
-  const accepted = answer.body?.reply === "accepted";
+  const accepted = ["accepted", "added"].includes(answer.body?.reply);
   if (accepted && command.do === "instruct") noteGiven({ ...command, round: answer.body.card.round }, isNear(command.at));
   if (accepted) {
     noteTest(command, true);

@@ -1,46 +1,56 @@
 // The one-line diagram: sections, the points between them, and what the register says of both.
 
 import { el, svg, button } from "./elements.js";
+import { sectionWords } from "./findings.js";
 import { BOX, layOut } from "./layout.js";
 import { sectionMarks } from "./marks.js";
-import { isOffNormal, sourceOf } from "./positions.js";
+import { isOffNormal } from "./positions.js";
 import { Writing } from "./writing.js";
 import { holdWord } from "./words.js";
 import { Zoom } from "./zoom.js";
 
 export const MOST_DRAWN = 1000;
+const FLASH = "M5,-11L1.5,-4.5H4L2.5,1L7.5,-6.5H5L6.5,-11Z"; // at the left upper edge of a section's box
 const MOST_TABBED = 60; // points that Tab goes through while points are picked; of more, the list beside them is the way
 
-function pointTitle(state, lookedThrough) {
+function pointTitle(state) {
   const { point } = state;
   return [
-    `${point.name}, between ${point.from} and ${point.to}`,
-    `${state.position ?? "position not clear"} (${sourceOf(state, lookedThrough)}); normally ${point.normal}`,
+    `${point.jumper ? "jumper " : ""}${point.name}, between ${point.from} and ${point.to}`,
+    `${state.position}${point.normal ? `; normally ${point.normal}` : ""}`,
     state.hand ? `in hand of ${state.hand}` : "",
     ...state.holds.map((hold) => `${holdWord(hold.kind)} by ${hold.by}`),
   ].filter(Boolean).join("\n");
 }
 
-// Closed is full, open is hollow with a gap; dashed where the register does not say it; a question mark where nobody does.
+// Closed is full, open is hollow with a gap.
 function pointSymbol(state, picked, found) {
   const parts = [svg("rect", { class: "hit", x: -16, y: -16, width: 32, height: 32 })];
   if (found) parts.push(svg("circle", { class: "found", r: 17 }));
   if (picked) parts.push(svg("rect", { class: "ring", x: -12, y: -12, width: 24, height: 24, rx: 4 }));
   parts.push(svg("rect", { class: "box", x: -7, y: -7, width: 14, height: 14 }));
   if (state.position === "open") parts.push(svg("path", { class: "gap", d: "M-4,4L4,-4" }));
-  if (state.position === null) parts.push(svg("text", { class: "unclear", x: 0, y: 4, "text-anchor": "middle" }, "?"));
   return parts;
 }
 
+// What the title of a section says: live and dead are the register's words, and no test.
+function sectionTitle(section, marks, fenced) {
+  const fed = section.live ? "live: closed points lead here from a source" : "dead by the positions of the points; a test shows it in the field";
+  return [`section ${section.name}${section.source ? ", a source" : ""}`, fed, fenced ? "in the fence" : "",
+    ...marks.filter(({ kind }) => kind !== "dead").map(({ text }) => text)].filter(Boolean).join("\n");
+}
+
+// A live section has a filled box with a flash in it; the box of a dead one is empty, and its border is broken.
 function sectionParts(spot, section, marks, fenced, found) {
   const { width } = spot, top = -BOX / 2;
   return [
-    svg("title", {}, [`section ${section.name}${section.source ? ", a source" : ""}`, fenced ? "in the fence" : "", ...marks.map(({ text }) => text)].filter(Boolean).join("\n")),
+    svg("title", {}, sectionTitle(section, marks, fenced)),
     section.source ? svg("g", { class: "feed" },
       svg("circle", { cx: -16, cy: 0, r: 11 }), svg("path", { d: "M-22,1c3,-7 5,-7 6,-1s4,6 6,-1" }), svg("path", { d: "M-5,0H0" })) : null,
     found ? svg("rect", { class: "found", x: -7, y: top - 7, width: width + 14, height: BOX + 14, rx: 9 }) : null,
     svg("rect", { class: "box", x: 0, y: top, width, height: BOX, rx: 4 }),
     fenced ? svg("rect", { class: "hatch", x: 0, y: top, width, height: BOX, rx: 4, fill: "url(#hatch)" }) : null,
+    section.live ? svg("path", { class: "flash", d: FLASH }) : null,
   ].filter(Boolean);
 }
 
@@ -69,6 +79,7 @@ function pressable(group, does) {
 export class Diagram {
   #network; #plan; #zoom; #svg; #writing; #points = new Map(); #sections = new Map(); #keys = new Map();
   #picking = null; #press; #found = new Set(); #finding = el("span", { class: "hint", role: "status" }); #last = null;
+  #dead = el("p", { class: "hint", "data-name": "dead" });
   node;
 
   // `press(kind, name)` is called where nothing is being picked.
@@ -79,7 +90,7 @@ export class Diagram {
     this.#writing = new Writing(network, this.#plan);
     this.#svg = this.#draw();
     this.#zoom = new Zoom(this.#svg, this.#plan, (scale) => this.#writing.atScale(scale));
-    this.node = el("div", { class: "diagram" }, this.#tools(), this.#svg, legend());
+    this.node = el("div", { class: "diagram" }, this.#tools(), this.#svg, this.#dead, legend());
   }
 
   // Shows the whole network where that can be read; otherwise these sections in the middle.
@@ -139,27 +150,34 @@ export class Diagram {
 
   // Draws what has changed since the last time.
   update(seen) {
-    const { states, room, fence } = this.#last = seen;
-    const marks = sectionMarks(room);
+    const { states, room, fence, turned } = this.#last = seen;
+    const marks = sectionMarks(room, turned);
     const picked = (kind, name) => this.#picking?.kind === kind && this.#picking.picked.has(name);
     for (const [name, { group }] of this.#points) {
       const state = states.get(name), chosen = picked("point", name), found = this.#found.has(name);
-      this.#redraw(group, [state.position, state.from, state.hand, state.holds, chosen, found, room.lookedThrough, this.#picking?.kind], () => {
+      this.#redraw(group, [state.position, state.hand, state.holds, chosen, found, this.#picking?.kind], () => {
         this.#dressPoint(group, state, chosen);
-        return [svg("title", {}, pointTitle(state, room.lookedThrough)), ...pointSymbol(state, chosen, found)];
+        return [svg("title", {}, pointTitle(state)), ...pointSymbol(state, chosen, found)];
       });
     }
     for (const [name, { group }] of this.#sections) {
       const own = marks.get(name) ?? [], chosen = picked("section", name), fenced = fence.has(name), found = this.#found.has(name);
-      this.#redraw(group, [own, chosen, fenced, found, this.#picking?.kind], () => {
-        const section = this.#network.sections.get(name), live = own.some(({ kind }) => kind === "live");
-        group.setAttribute("class", ["section", section.source ? "source" : "", fenced ? "fenced" : "", chosen ? "picked" : "", live ? "live" : ""].join(" "));
+      const section = this.#network.sections.get(name), alarmed = own.some(({ kind }) => kind === "live");
+      this.#redraw(group, [own, section.live, chosen, fenced, found, this.#picking?.kind], () => {
+        group.setAttribute("class", ["section", section.live ? "fed" : "dead", section.source ? "source" : "", fenced ? "fenced" : "", chosen ? "picked" : "", alarmed ? "live" : ""].join(" "));
         this.#tellPicking(group, "section", chosen, name);
         return sectionParts(this.#plan.spots.get(name), section, own, fenced, found);
       });
     }
+    this.#sayDead();
     this.#markWay();
     this.#writing.write({ states, marks, fence, found: this.#found, picked });
+  }
+
+  #sayDead() {
+    const all = [...this.#network.sections.values()], dead = all.filter(({ live }) => !live).map(({ name }) => name);
+    const text = dead.length ? `${dead.length} of ${all.length} sections are dead by the register's positions: ${sectionWords(dead)}` : `all ${all.length} sections are live by the register's positions`;
+    if (this.#dead.textContent !== text) this.#dead.textContent = text;
   }
 
   // The way to a source that the picked points leave open: section, point, section and so on.
@@ -172,9 +190,8 @@ export class Diagram {
   }
 
   #dressPoint(group, state, chosen) {
-    const known = state.from === "view" || state.from === "steps" ? "known" : "unknown";
-    group.setAttribute("class", `point ${state.position ?? "unclear"} ${known}${chosen ? " picked" : ""}`);
-    this.#tellPicking(group, "point", chosen, `${state.point.name}, ${state.position ?? "position not clear"}`);
+    group.setAttribute("class", `point ${state.position}${chosen ? " picked" : ""}`);
+    this.#tellPicking(group, "point", chosen, `${state.point.name}, ${state.position}`);
   }
 
   #tellPicking(group, kind, chosen, label) {
@@ -199,6 +216,12 @@ function sample(className, position, marks = {}) {
     svg("path", { class: "line", d: "M-14,0H14" }), svg("g", { class: className }, pointSymbol(state, marks.picked)));
 }
 
+function sectionSample(className, live) {
+  return svg("svg", { class: "net sample", viewBox: "0 -14 40 28", width: 40, height: 24, "aria-hidden": "true" },
+    svg("g", { class: `section ${className}` }, svg("rect", { class: "box", x: 2, y: -11, width: 36, height: 22, rx: 4 }),
+      live ? svg("path", { class: "flash", d: FLASH, transform: "translate(3,2)" }) : null));
+}
+
 function fenceSample() {
   return svg("svg", { class: "net sample", viewBox: "0 -14 40 28", width: 40, height: 24, "aria-hidden": "true" },
     svg("g", { class: "section fenced" }, svg("rect", { class: "box", x: 2, y: -11, width: 36, height: 22, rx: 4 }),
@@ -209,11 +232,13 @@ function legend() {
   const entry = (mark, text) => el("li", {}, mark, el("span", {}, text));
   const sign = (text) => el("b", {}, text);
   return el("details", { class: "legend" }, el("summary", {}, "Signs"), el("ul", {},
-    entry(sample("point closed known"), "closed"), entry(sample("point open known"), "open"),
-    entry(sample("point closed unknown"), "dashed: as in the file, the register does not say"),
+    entry(sample("point closed"), "closed"), entry(sample("point open"), "open"),
+    entry(sectionSample("fed", true), "live by the register: closed points lead there from a source"),
+    entry(sectionSample("dead", false), "dead by the positions of the points; only a test shows it in the field"),
+    entry(sign("→ live, → dead"), "what the step at hand, or the order that is being written, would make of it, by this page's reckoning"),
     entry(sign("≠"), "not in its normal position"),
     entry(fenceSample(), "in the fence of the chosen clearance, or of the points that are picked"),
-    entry(sample("point closed known way"), "purple: on the way to a source that the picked points leave open"),
+    entry(sample("point closed way"), "purple: on the way to a source that the picked points leave open"),
     entry(sign("red"), "tested live, until it is tested dead"),
     entry(sign("O B C T"), "held open, blocked, control off, tagged, after the owner's name"),
     entry(sign("hand"), "its owner's step is given out there")));

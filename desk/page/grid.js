@@ -3,7 +3,7 @@
 const otherEnd = (point, name) => (point.from === name ? point.to : point.from);
 
 // The sections that are reached from one, the nearest first, each with the step that led to it; null at the first.
-function reached({ ways }, start, passes) {
+export function reached({ ways }, start, passes) {
   const found = new Map([[start, null]]);
   for (const name of found.keys()) {
     for (const point of ways.get(name) ?? []) {
@@ -32,8 +32,7 @@ export function fenceOf(network, work, cut) {
   return { sections: new Set(found.keys()), sources };
 }
 
-// What closing a point does while points have these positions: { loop: way }, { joins: sources, way }, or null. A point
-// whose position is not clear counts as closed.
+// What closing a point does while points have these positions: { loop: way }, { joins: sources, way }, or null.
 export function closingOf(network, positionOf, point) {
   const passes = (one) => one.name !== point.name && positionOf(one.name) !== "open";
   const here = reached(network, point.from, passes);

@@ -8,7 +8,8 @@ const LETTER = 7.4, SMALL = 6.4;
 const MARGIN = 44, TRACK = 16, MOST_WIDE = 8;
 const WIDE = 16 / 10, COLUMN = 130, MOST_STRIPS = 12;
 
-// A tree over all sections: closed points first, as the files have them, so that it follows the feeders.
+// A tree over all sections: first over the points that are normally closed, or, where that is not known, were closed when
+// this page first saw them; so it follows the feeders, and does not move when one is opened.
 function spanning({ sections, ways }) {
   const parent = new Map(), order = [], roots = [];
   const reach = (name, from, point) => { parent.set(name, from ? { from, point } : null); order.push(name); };
@@ -18,7 +19,7 @@ function spanning({ sections, ways }) {
       const name = order[place];
       for (const point of ways.get(name)) {
         const next = other(point, name);
-        if (point.normal === "closed" && !parent.has(next)) reach(next, name, point);
+        if ((point.normal ?? point.first) === "closed" && !parent.has(next)) reach(next, name, point);
       }
     }
   };
@@ -148,7 +149,7 @@ function levels(rows, lanes) {
   return { heights, lane };
 }
 
-const boxWidth = (name) => Math.max(40, name.length * LETTER + 16);
+const boxWidth = (name) => Math.max(44, name.length * LETTER + 24); // with room for the flash of a live one
 const widest = (names, letter) => Math.max(0, ...names.map((name) => name.length * letter));
 
 // The left side of each column, and in the channel after it the place of its tracks, its trunk and its points.

@@ -5,7 +5,8 @@ import { dropDraftOf } from "./drafts.js";
 import { el } from "./elements.js";
 import { noteGiven } from "./given.js";
 import { now, shortTime } from "./moments.js";
-import { judgeNew, judgeRecord } from "./outcome.js";
+import { network } from "./network.js";
+import { judgeJumper, judgeNew, judgeRecord } from "./outcome.js";
 import { addReply, changeReply, plainLines } from "./replies.js";
 import { asOwn } from "./still.js";
 import { boardLine, lookAt, lookNow, room, viewOf } from "./watch.js";
@@ -22,6 +23,7 @@ async function newRecords(command, known) {
 }
 
 async function judged(command, known) {
+  if (command.do === "jumper") return judgeJumper(command, known.had, network.points.get(command.point));
   if (!command.clearance) return judgeNew(command, await newRecords(command, known));
   await lookAt(command.clearance);
   const before = known.view ? JSON.parse(known.view) : null;

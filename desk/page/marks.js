@@ -1,9 +1,11 @@
 // What the diagram says in words of a section and of a point: clearances, tests, grounds and alarms; holds and hands.
 
 import { alarms, untested } from "./alarm.js";
+import { network } from "./network.js";
 
 const LETTERS = { HeldOpen: "O", Block: "B", Control: "C", Tag: "T" };
 const MOST_MARKS = 2;
+const NOTHING = { live: [], dead: [] };
 
 // Holds and the hand at a point by owner, as JONES/1 O B T hand.
 export function holdMarks({ holds, hand }) {
@@ -13,9 +15,10 @@ export function holdMarks({ holds, hand }) {
   return [...owners.values()];
 }
 
-// At each section, by clearance: its phase where that is its work section, its test and its ground, and what is amiss.
-// A mark is { text, kind }, of the kinds live, bad and plain.
-export function sectionMarks(room) {
+// At each section, by clearance: its phase where that is its work section, its test and its ground, and what is amiss; what
+// the steps at hand make of it, `turned`; and whether it is dead by position, and was not found live. A mark is { text, kind }, of the kinds live, bad, turn,
+// plain and dead.
+export function sectionMarks(room, { live, dead } = NOTHING) {
   const marks = new Map();
   const add = (place, id, word, kind = "plain") => {
     const ids = marks.get(place) ?? marks.set(place, new Map()).get(place);
@@ -31,8 +34,14 @@ export function sectionMarks(room) {
     for (const place of untested(view)) add(place, id, "not tested", "bad");
   }
   for (const { id, section } of alarms()) add(section, id, "TESTED LIVE", "live");
-  return new Map([...marks].map(([place, ids]) => [place, [...ids].map(([id, { words, kind }]) =>
+  const found = new Map([...marks].map(([place, ids]) => [place, [...ids].map(([id, { words, kind }]) =>
     ({ text: `${kind === "live" ? "⚠ " : ""}${id} ${words.join(", ")}`, kind }))]));
+  const put = (names, text, kind) => { for (const name of names) found.set(name, [...(found.get(name) ?? []), { text, kind }]); };
+  put(live, "→ live", "turn");
+  put(dead, "→ dead", "turn");
+  const alarmed = (name) => found.get(name)?.some(({ kind }) => kind === "live");
+  put([...network.sections.values()].filter(({ live: fed, name }) => !fed && !alarmed(name)).map(({ name }) => name), "dead", "dead");
+  return found;
 }
 
 // Lines of text in shorter and shorter forms: all, the first with the number of the others, the first name with it.

@@ -28,12 +28,12 @@ export class NetList {
     const found = [...this.#network.sections.values()].filter((section) =>
       !text || section.name.includes(text) || this.#network.ways.get(section.name).some((point) => point.name.includes(text)));
     const shown = found.sort((a, b) => seen.fence.has(b.name) - seen.fence.has(a.name)).slice(0, MOST_LISTED);
-    const said = sectionMarks(seen.room);
+    const said = sectionMarks(seen.room, seen.turned);
     const rows = shown.map((section) => [section, this.#network.ways.get(section.name).map((point) => {
       const state = seen.states.get(point.name);
       const marks = holdMarks(state).join(", ");
-      return `${point.name} to ${point.from === section.name ? point.to : point.from}: ${state.position ?? "not clear"}${state.from === "file" ? " in the file" : ""}${marks ? ` (${marks})` : ""}`;
-    }), [section.source ? "source" : "", seen.fence.has(section.name) ? "in the fence" : ""].filter(Boolean).join(", "), said.get(section.name) ?? []]);
+      return `${point.name} to ${point.from === section.name ? point.to : point.from}: ${state.position}${marks ? ` (${marks})` : ""}`;
+    }), [section.source ? "source" : "", section.live ? "live" : "dead", seen.fence.has(section.name) ? "in the fence" : ""].filter(Boolean).join(", "), (said.get(section.name) ?? []).filter(({ kind }) => kind !== "dead")]);
     panel(this.#rows, [rows, found.length], () => [
       el("p", { class: "hint" }, `${shown.length} of ${found.length} sections`),
       table(["Section", "", "Points"], rows.map(([section, ways, words, own]) => el("tr", {},

@@ -1,69 +1,57 @@
-// The network and the staff, from copies of the three files that the register was made from.
+// The network and the staff as the register has them: sections, points with their positions, hands and holds, and who
+// works here. It is asked for at the start and whenever the board has changed, and kept in the same maps all the time,
+// since a jumper may come.
 
-// The records of a CSV text, each a list of fields. Empty lines are no records.
-function records(text) {
-  const rows = [];
-  let row = [], field = "", quoted = false, any = false;
-  const endField = () => { row.push(field); field = ""; };
-  const endRow = () => {
-    if (any || row.length) { endField(); rows.push(row); }
-    row = []; any = false;
-  };
-  const bytes = text.replace(/^\uFEFF/, "");
-  for (let place = 0; place < bytes.length; place++) {
-    const sign = bytes[place];
-    if (quoted) {
-      if (sign === '"' && bytes[place + 1] === '"') { field += '"'; place++; }
-      else if (sign === '"') quoted = false;
-      else field += sign;
-    } else if (sign === '"') { quoted = true; any = true; }
-    else if (sign === ",") { endField(); any = true; }
-    else if (sign === "\n" || sign === "\r") endRow();
-    else { field += sign; any = true; }
-  }
-  endRow();
-  return rows;
+import { normalPositions } from "./files.js";
+
+export const network = {
+  sections: new Map(), // name: { name, source, live, holds }
+  points: new Map(),   // name: { name, from, to, lockable, remote, jumper, position, hand, holds, normal, first }
+  staff: new Map(),    // name: { name, role, supervisor }
+  ways: new Map(),     // section: the points with an end there
+  shape: "",           // what the diagram is drawn from: it is drawn again where this has changed
+};
+
+function refill(map, rows) {
+  map.clear();
+  for (const row of rows) map.set(row.name, row);
 }
 
-async function readFile(name, header) {
-  const answer = await fetch(`network/${name}.csv`, { cache: "no-store" }).catch(() => null);
-  if (!answer || !answer.ok) throw new Error(`the copy of ${name}.csv is not there: put it into desk/network`);
-  const [head, ...rows] = records(await answer.text());
-  if (!head || head.join() !== header) throw new Error(`${name}.csv does not begin with the line ${header}`);
-  return rows;
+const KINDS = ["HeldOpen", "Block", "Control", "Tag"]; // of holds at a point, as they are put there
+
+function inOrder(holds) {
+  return [...holds].sort((a, b) => KINDS.indexOf(a.kind) - KINDS.indexOf(b.kind));
 }
 
-const byName = (a, b) => (a.name < b.name ? -1 : a.name > b.name ? 1 : 0);
-
-function mapped(rows) {
-  return new Map(rows.sort(byName).map((row) => [row.name, row]));
+function sectionOf({ section: name, source, live, holds }) {
+  return { name, source, live, holds };
 }
 
-// Each section's points, in the order of names.
-function waysOf(sections, points) {
-  const ways = new Map([...sections.keys()].map((name) => [name, []]));
-  for (const point of points.values()) {
-    for (const end of [point.from, point.to]) {
-      if (!ways.has(end)) throw new Error(`points.csv has ${end} as an end of ${point.name}, and sections.csv has no such section`);
-      ways.get(end).push(point);
-    }
-  }
-  return ways;
+// Normal positions come from the points file, where it is there: the register keeps none. `first` is what this page saw
+// first: by it the diagram lies as it did when another position comes.
+function pointOf({ point: name, from, to, lockable, remote, jumper, position, hand, holds }, normal) {
+  const first = network.points.get(name)?.first ?? position;
+  return { name, from, to, lockable, remote, jumper, position, hand, holds: inOrder(holds), first, normal: normal.get(name) ?? null };
 }
 
-export async function readNetwork() {
-  const sections = mapped((await readFile("sections", "section,source"))
-    .map(([name, source]) => ({ name, source: source === "yes" })));
-  const points = mapped((await readFile("points", "point,from,to,lockable,remote,position"))
-    .map(([name, from, to, lockable, remote, normal]) =>
-      ({ name, from, to, lockable: lockable === "yes", remote: remote === "yes", normal })));
-  const staff = mapped((await readFile("staff", "employee,role,supervisor"))
-    .map(([name, role, supervisor]) => ({ name, role, supervisor: supervisor || null })));
-  return { sections, points, staff, ways: waysOf(sections, points) };
+function fillWays() {
+  network.ways.clear();
+  for (const name of network.sections.keys()) network.ways.set(name, []);
+  for (const point of network.points.values()) for (const end of [point.from, point.to]) network.ways.get(end)?.push(point);
+}
+
+// Takes what the register has answered.
+export async function takeNetwork({ sections, points, staff }) {
+  const normal = await normalPositions();
+  refill(network.sections, sections.map(sectionOf));
+  refill(network.points, points.map((row) => pointOf(row, normal)));
+  refill(network.staff, staff.map(({ employee: name, role, supervisor }) => ({ name, role, supervisor })));
+  fillWays();
+  network.shape = [...network.sections.keys(), "|", ...network.points.keys()].join(" ");
 }
 
 export function marksOf(point) {
-  return [point.lockable ? "lockable" : null, point.remote ? "remote" : null].filter(Boolean).join(", ") || "none";
+  return [point.lockable ? "lockable" : null, point.remote ? "remote" : null, point.jumper ? "jumper" : null].filter(Boolean).join(", ") || "none";
 }
 
 export function namesOfRole(staff, role) {

@@ -2,10 +2,10 @@
 
 import { ask } from "./ask.js";
 import { el, panel } from "./elements.js";
-import { findingsAt, findingsOfSteps } from "./findings.js";
+import { findingsAt, findingsOfSteps, sectionWords, turnedBySteps } from "./findings.js";
 
 const MOST_ASKED = 10;
-const OWN = "This is what the page finds by what it knows; a dashed point counts as in the file. The register decides.";
+const OWN = "This is the page's own reckoning, by what the register last answered. The register decides.";
 
 // A list of findings; nothing where there are none.
 export function findingsList(found) {
@@ -39,8 +39,9 @@ export function pickedNotes(desk, picked, { own = null, action = null, more = ()
   const node = el("div", { class: "picked-notes" });
   return living(node, () => {
     const known = desk.states();
-    const rows = [...picked()].map((name) => [name, [...more(name), ...findingsAt(desk, name, { own, action, known })]]).filter(([, found]) => found.length);
-    panel(node, rows, () => (rows.length ? [el("h4", {}, "In the way, by what this page knows"),
+    const at = (name) => findingsAt(desk, name, { own, action, known }).filter(({ turns }) => !turns);
+    const rows = [...picked()].map((name) => [name, [...more(name), ...at(name)]]).filter(([, found]) => found.length);
+    panel(node, rows, () => (rows.length ? [el("h4", {}, "In the way, by this page's reckoning"),
       el("ul", { class: "ways" }, rows.map(([name, found]) => el("li", { "data-at": name }, el("strong", {}, name), findingsList(found))))] : []));
   });
 }
@@ -52,6 +53,17 @@ export function orderNotes(desk, steps, own) {
     const rows = findingsOfSteps(desk, steps(), own).map(({ text, found }) => [text, found.filter(({ asks }) => asks)]).filter(([, found]) => found.length);
     panel(node, rows, () => (rows.length ? el("ul", { class: "ways" },
       rows.map(([text, found]) => el("li", {}, el("span", { class: "text" }, text), findingsList(found)))) : []));
+  });
+}
+
+// What the steps of an order that is being written make live and dead, once all are done.
+export function turnNotes(desk, steps) {
+  const node = el("div", { class: "turn-notes", role: "status" });
+  return living(node, () => {
+    const { live, dead } = turnedBySteps(desk, steps());
+    panel(node, [live, dead, steps().length > 0], () => (steps().length ? el("p", {}, "Once all these steps are done, by this page's reckoning: ",
+      live.length || dead.length ? [live.length ? `live will be ${sectionWords(live)}` : "", dead.length ? `dead will be ${sectionWords(dead)}` : ""].filter(Boolean).join("; ")
+        : "no section turns live or dead", ".") : []));
   });
 }
 

@@ -4,10 +4,11 @@
 import { draft, draftName, keepDraft } from "./drafts.js";
 import { el, button } from "./elements.js";
 import { fenceNotes, offFence } from "./fencing.js";
-import { findingsOfSteps } from "./findings.js";
+import { findingsOfSteps, turnedBySteps } from "./findings.js";
 import { fenceOf } from "./grid.js";
-import { mayGo, pickedNotes } from "./notes.js";
+import { learn, mayGo, pickedNotes, turnNotes } from "./notes.js";
 import { PointPicker, StepList } from "./picking.js";
+import { StandardOrders } from "./standard.js";
 
 const ACTIONS = ["OPEN", "BLOCK", "CONTROL", "TAG"];
 
@@ -37,6 +38,7 @@ export class OrderEditor {
     this.#picker = new PointPicker(desk, () => this.#picked(), view.card.clearance);
     this.#picker.fence = () => (this.#picker.picked.size ? this.#fence().sections : new Set());
     this.#picker.way = () => (this.#picker.picked.size ? this.#fence().sources[0]?.way ?? [] : []);
+    this.#picker.turned = () => turnedBySteps(desk, this.#list.steps);
     this.#list = new StepList(() => this.#keep());
     this.#recall();
     this.node = this.#draw();
@@ -48,18 +50,25 @@ export class OrderEditor {
   }
 
   #keep() {
+    learn();
     keepDraft(this.#draftName(), { points: [...this.#picker.picked], steps: this.#list.steps, byPoint: this.#arrange === byPoint });
   }
 
-  // What was half written before a look elsewhere. The files may have changed since.
+  // What was half written before a look elsewhere.
   #recall() {
     const kept = draft(this.#draftName());
     if (!kept) return;
     if (kept.byPoint) this.#arrange = byPoint;
-    this.#picker.take(kept.points);
+    this.#take(kept);
+  }
+
+  // These points, and their steps in this order where they are those that are needed now.
+  #take(kept) {
+    this.#picker.put(kept.points);
     const needed = this.#neededSteps();
     const same = needed.length === kept.steps.length && needed.every((text) => kept.steps.includes(text));
     this.#list.set(same ? kept.steps : needed);
+    this.#desk.redraw();
   }
 
   #neededSteps() {
@@ -68,7 +77,7 @@ export class OrderEditor {
 
   // Worked out once for what is picked.
   #fence() {
-    const key = [...this.#picker.picked].join(" ");
+    const key = [this.#network.shape, ...this.#picker.picked].join(" ");
     if (this.#fenced?.key !== key) this.#fenced = { key, found: fenceOf(this.#network, this.#view.work, this.#picker.picked) };
     return this.#fenced.found;
   }
@@ -79,6 +88,7 @@ export class OrderEditor {
     return el("div", { class: "offer editor" },
       el("p", {}, `Isolating order of ${clearance} for work on `, el("strong", {}, this.#view.work),
         ". Pick each point that is to be held open; each way to a source has to be among them, an open point too."),
+      new StandardOrders("order", this.#view.work, () => ({ points: [...picked()], steps: this.#list.steps }), (order) => this.#take(order)).node,
       this.#picker.node,
       fenceNotes(picked, () => this.#fence()),
       pickedNotes(this.#desk, picked, { own: clearance, action: "OPEN", more: (name) => offFence(this.#network, this.#fence(), name) }),
@@ -87,7 +97,7 @@ export class OrderEditor {
         button("By action", () => this.#arranged(byAction), { "data-name": "by-action" }),
         button("By point", () => this.#arranged(byPoint), { "data-name": "by-point" }),
         el("span", { class: "hint" }, "at each point: OPEN, BLOCK if lockable, CONTROL if remote, TAG")),
-      this.#list.node,
+      this.#list.node, turnNotes(this.#desk, () => this.#list.steps),
       button(`Give the order of ${clearance}`, () => this.#send(), { class: "main", "data-name": "order" }));
   }
 

@@ -139,6 +139,14 @@ export function judgeRecord(command, before, after, last) {
   return { found, text };
 }
 
+// A jumper: `had` is whether a point of its name was there before, `point` that which is there now.
+export function judgeJumper(command, had, point) {
+  if (had) return unknown(`${command.point} was in the network before.`);
+  if (!point) return no(`The network has no ${command.point}.`);
+  const fits = ["from", "to", "lockable", "remote"].every((part) => point[part] === command[part]);
+  return fits ? yes(`${command.point} is in the network, between ${point.from} and ${point.to}.`) : no(`The network has another ${command.point}, between ${point.from} and ${point.to}.`);
+}
+
 // A command that makes a record: `made` are the records of its caller that are new, each { row, view }.
 export function judgeNew(command, made) {
   const fits = ({ row, view }) => (command.do === "request" ? row.work === command.section : row.work === "-" && (!view || sameSteps(command.steps, view)));

@@ -1,37 +1,43 @@
-// The page: who speaks, and what is shown.
+// The page: what is shown, and what is drawn again when the register has answered.
 
 import { noteRoom, onAlarmElsewhere, recallAlarms } from "./alarm.js";
 import { noteBefore } from "./before.js";
 import { BoardPage } from "./board.js";
+import { drawNameless, keptName, listCallers, mayUse, readLogin, showCaller } from "./caller.js";
 import { ClearancePage } from "./clearance.js";
-import { meantNow } from "./clock.js";
-import { give, isSending, onSending, setCaller, setMomentField, takeUpPending } from "./commands.js";
+import { give, isSending, onSending, setCaller, takeUpPending } from "./commands.js";
 import { Diagram, MOST_DRAWN } from "./diagram.js";
 import { tidyDrafts } from "./drafts.js";
 import { choice, el, field, panel } from "./elements.js";
+import { turnedBySteps } from "./findings.js";
 import { watchGiven } from "./given.js";
 import { guardPresses } from "./guard.js";
+import { journal, newest } from "./journal.js";
+import { JumperForm } from "./jumper.js";
 import { startKeys } from "./keys.js";
+import { LogPage } from "./logpage.js";
 import { MinePage } from "./mine.js";
-import { fieldTime, wholeTime } from "./moments.js";
-import { namesOfRole, readNetwork } from "./network.js";
+import { namesOfRole, network } from "./network.js";
 import { NetList } from "./netlist.js";
 import { learn } from "./notes.js";
 import { PointsPage } from "./points.js";
-import { pointStates, strangeNames } from "./positions.js";
+import { pointStates } from "./positions.js";
 import { onContact } from "./register.js";
 import { showReplies } from "./replies.js";
 import { RequestForm } from "./request.js";
+import { startMoment } from "./setmoment.js";
 import { startSeveral } from "./several.js";
+import { ShiftPage } from "./shift.js";
 import { fromAfar, keepStill } from "./still.js";
 import { SwitchEditor } from "./switch.js";
 import { drawAlarms, drawContact, startTop } from "./top.js";
-import { isWatching, onRoom, room, setRequesters, startWatch, viewOf, watchAs } from "./watch.js";
+import { onRoom, room, startWatch, viewOf, watchAs } from "./watch.js";
+import { presentStep } from "./who.js";
 
 const at = (id) => document.getElementById(id);
-const KEPT = "gridclear-caller"; // the name that this tab speaks in, over a reload
 
 let desk, page = null, chosen = null;
+let drawnShape = "", listedStaff = ""; // what the diagram and the list of names were made from
 
 // A page that is a heading, a form and the diagram.
 class FormPage {
@@ -64,7 +70,7 @@ class DiagramPage {
 function formFor(role, title, make) {
   if (desk.caller?.role === role) return new FormPage(desk, title, make().node);
   const names = namesOfRole(desk.network.staff, role).slice(0, 12).join(", ");
-  const what = role === "charge" ? "Those who may be in charge ask for clearances" : "Operators write switch orders";
+  const what = role === "charge" ? "Those who may be in charge ask for clearances" : "Operators write switch orders and add jumpers";
   return new FormPage(desk, title, el("p", {}, `${what}: ${names}. Say above that you are one of them.`));
 }
 
@@ -74,6 +80,9 @@ const ROUTES = [
   [/^#\/points(?:\/([A-Z0-9-]+))?$/, (name) => new PointsPage(desk, name)],
   [/^#\/mine$/, () => new MinePage(desk)],
   [/^#\/request$/, () => formFor("charge", "Ask for a clearance", () => new RequestForm(desk))],
+  [/^#\/jumper$/, () => formFor("operator", "Jumpers", () => new JumperForm(desk))],
+  [/^#\/log$/, () => new LogPage()],
+  [/^#\/shift$/, () => new ShiftPage(desk)],
   [/^#\/switch$/, () => formFor("operator", "Write a switch order", () => new SwitchEditor(desk))],
   [/.*/, () => new BoardPage(desk)],
 ];
@@ -87,10 +96,7 @@ function turn(focus = true) {
     break;
   }
   at("main").replaceChildren(page.node);
-  const place = page.node.querySelector(".diagram-place");
-  place?.append(desk.diagram.node);
-  const legend = place?.querySelector(".legend");
-  if (legend) legend.open = !place.classList.contains("small");
+  placeDiagram();
   document.title = `${page.title} · gridclear desk`;
   for (const link of document.querySelectorAll("nav a")) {
     if (link.hash === (location.hash || "#/board")) link.setAttribute("aria-current", "page");
@@ -98,6 +104,30 @@ function turn(focus = true) {
   }
   update();
   if (focus) page.node.querySelector("h2").focus();
+}
+
+function placeDiagram() {
+  const place = page?.node.querySelector(".diagram-place");
+  if (!place) return;
+  place.replaceChildren(desk.diagram.node);
+  const legend = place.querySelector(".legend");
+  if (legend) legend.open = !place.classList.contains("small");
+}
+
+// The diagram is made again where a jumper has come, and the list of names where the register is another.
+function followNetwork() {
+  const staff = [...network.staff.keys()].join(" ");
+  if (drawnShape !== network.shape) {
+    drawnShape = network.shape;
+    desk.diagram = makeDiagram();
+    desk.diagram.pick(desk.picking);
+    looked = "";
+    placeDiagram();
+  }
+  if (listedStaff !== staff) {
+    listedStaff = staff;
+    listCallers(network.staff);
+  }
 }
 
 // The sections of a clearance; of a switch order those at its first point.
@@ -121,10 +151,19 @@ function lookAtChosen() {
 
 function drawDiagram() {
   if (!desk.diagram.node.isConnected) return;
-  desk.diagram.update({ states: desk.states(), room, fence: desk.picking?.fence?.() ?? new Set(viewOf(chosen)?.fence ?? []) });
+  desk.diagram.update({ states: desk.states(), room, turned: turnedNow(), fence: desk.picking?.fence?.() ?? new Set(viewOf(chosen)?.fence ?? []) });
+}
+
+// What the order that is being written, or the present step of the chosen clearance, makes live and dead.
+function turnedNow() {
+  if (desk.picking?.turned) return desk.picking.turned();
+  const view = viewOf(chosen), step = view ? presentStep(view) : null;
+  return step && page.title === chosen ? turnedBySteps(desk, [step.text]) : undefined;
 }
 
 function update() {
+  followNetwork();
+  drawNameless(desk.caller);
   noteBefore();
   tidyDrafts();
   watchGiven();
@@ -133,71 +172,50 @@ function update() {
   learn();
   drawDiagram();
   lookAtChosen();
-  drawStrange();
-}
-
-// Where the copies of the files are not those that the register was made from.
-function drawStrange() {
-  const names = strangeNames(desk.network, room).slice(0, 5);
-  const node = at("strange");
-  node.hidden = !names.length;
-  node.textContent = names.length ? `⚠ The files of this page are not those of the register: ${names.join("; ")}. The diagram and the lists are wrong.` : "";
 }
 
 function speakAs(name) {
-  const row = desk.network.staff.get(name) ?? null;
+  const row = mayUse(name) ? network.staff.get(name) ?? null : null;
   desk.caller = row;
   setCaller(row?.name ?? null);
-  at("caller").value = row?.name ?? "";
-  at("role").textContent = row ? `${row.role === "charge" ? "may be in charge" : row.role}${row.supervisor ? `, supervisor ${row.supervisor}` : ""}` : "";
-  try {
-    sessionStorage.setItem(KEPT, row?.name ?? "");
-  } catch { /* without storage the name is asked for again after a reload */ }
   if (row) watchAs(row.name);
-  at("nameless").hidden = isWatching();
+  showCaller(row);
   if (page instanceof FormPage || page instanceof MinePage) turn(false);
   else update();
   if (page instanceof ClearancePage && document.activeElement === document.body) page.focusNext();
 }
 
-function listCallers(staff) {
-  const roles = [["operator", "Operators"], ["charge", "May be in charge"], ["field", "Field"]];
-  at("caller").replaceChildren(el("option", { value: "" }, "choose your name"), ...roles.map(([role, label]) =>
-    el("optgroup", { label }, namesOfRole(staff, role).map((name) => el("option", { value: name }, name)))));
-  at("caller").addEventListener("change", () => speakAs(at("caller").value));
+function makeDiagram() {
+  return network.sections.size > MOST_DRAWN ? new NetList(network) : new Diagram(network, (kind, name) => { location.hash = `#/points/${name}`; });
 }
 
-// The moment of the next command: the clock's, unless another is set. After a reply it is the clock's again.
-function startMoment() {
-  const field = at("moment"), line = at("moment-line"), set = at("moment-set");
-  const show = (other) => {
-    line.hidden = !other;
-    set.hidden = other;
-    field.value = other ? fieldTime(meantNow()) : "";
-    (other ? field : set).focus();
-  };
-  setMomentField(field);
-  set.addEventListener("click", () => show(true));
-  at("moment-now").addEventListener("click", () => show(false));
-  onSending(() => {
-    if (isSending() || field.value || line.hidden) return;
-    line.hidden = true;
-    set.hidden = false;
-  });
-  const tick = () => { at("clock").textContent = wholeTime(meantNow()); };
-  setInterval(tick, 1000);
-  tick();
-}
-
-function makeDesk(network) {
+function makeDesk() {
   let known = null;
-  const states = () => known ??= pointStates(network, room);
+  const states = () => known ??= pointStates(room);
   onRoom(() => { known = null; });
-  const diagram = network.sections.size > MOST_DRAWN ? new NetList(network)
-    : new Diagram(network, (kind, name) => { location.hash = `#/points/${name}`; });
   const redraw = () => { drawDiagram(); learn(); };
-  const pick = (picking) => { desk.picking = picking; diagram.pick(picking); drawDiagram(); };
-  return { network, diagram, caller: null, chosen: () => chosen, states, redraw, speakAs, act: give, picking: null, pick };
+  const pick = (picking) => { desk.picking = picking; desk.diagram.pick(picking); drawDiagram(); };
+  return { network, diagram: null, caller: null, chosen: () => chosen, states, redraw, speakAs, act: give, picking: null, pick };
+}
+
+// What has come to the log since the last board.
+let logged = 0;
+async function followLog() {
+  if (logged === room.turns) return;
+  logged = room.turns;
+  const before = journal.entries;
+  await newest();
+  if (journal.entries !== before) fromAfar(update);
+}
+
+// Until the register has said what there is, nothing can be shown.
+async function firstNetwork() {
+  await startWatch();
+  if (room.network !== null) return;
+  panel(at("main"), "none", () => [el("h2", {}, "The network is not known yet"),
+    el("p", {}, "The page asks the register for it every few seconds, and goes on by itself once it has answered. "
+      + "One that was started without --desk, or is older than this page, does not.")]);
+  await new Promise((settle) => { onRoom(() => { if (room.network !== null) settle(); }); });
 }
 
 async function start() {
@@ -205,37 +223,27 @@ async function start() {
   keepStill();
   recallAlarms();
   showReplies(at("replies"));
-  let network;
-  try {
-    network = await readNetwork();
-  } catch (fault) {
-    panel(at("main"), "none", () => [el("h2", {}, "The network cannot be shown"), el("p", {}, fault.message)]);
-    return;
-  }
-  performance.mark("network-read");
-  desk = makeDesk(network);
-  setRequesters([...network.staff.values()].filter((row) => row.role !== "field").map((row) => row.name));
-  listCallers(network.staff);
+  onContact(drawContact);
+  startTop();
   startMoment();
+  await Promise.all([firstNetwork(), readLogin()]);
+  performance.mark("network-read");
+  desk = makeDesk();
+  at("caller").addEventListener("change", () => speakAs(at("caller").value));
   startKeys(at("to-next"), at("to-repeat"));
   startSeveral(at("several"), update);
+  followNetwork();
   onRoom(() => {
     noteRoom(room);
+    followLog();
     fromAfar(update);
   });
   onAlarmElsewhere(update);
-  onContact(drawContact);
-  startTop();
   onSending(() => document.body.classList.toggle("sending", isSending()));
   addEventListener("hashchange", () => turn());
   turn(false);
   requestAnimationFrame(() => requestAnimationFrame(() => performance.measure("drawn", "network-read")));
-  await startWatch();
-  let kept = "";
-  try {
-    kept = sessionStorage.getItem(KEPT) ?? "";
-  } catch { /* as above */ }
-  speakAs(kept);
+  speakAs(keptName());
   takeUpPending();
   document.body.dataset.ready = "yes";
 }

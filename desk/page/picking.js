@@ -35,8 +35,9 @@ export class PointPicker {
     this.#changed(name, this.picked.has(name));
   }
 
-  // What was picked before a look elsewhere.
-  take(names) {
+  // What was picked before a look elsewhere, or by a standard order; points that are not in the network are left out.
+  put(names) {
+    this.picked.clear();
     for (const name of names) if (this.#network.points.has(name)) this.picked.add(name);
     this.#draw();
   }

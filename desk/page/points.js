@@ -1,16 +1,17 @@
 // The points: position, normal position, hand, holds and steps under way; who is at a point, and what is not normal.
 
-import { el, button, field, panel, table } from "./elements.js";
+import { el, field, panel, table } from "./elements.js";
+import { shortTime } from "./moments.js";
 import { marksOf } from "./network.js";
-import { isOffNormal, sourceOf } from "./positions.js";
-import { room, lookThrough } from "./watch.js";
+import { isOffNormal } from "./positions.js";
+import { room } from "./watch.js";
 import { holdWord, stateWord } from "./words.js";
 
-const MOST_LISTED = 300, ALL = 20000;
+const MOST_LISTED = 300;
 
 const KINDS = {
   all: ["all points", () => true],
-  off: ["not in their normal position", (state) => isOffNormal(state) || state.from === "unclear"],
+  off: ["not in their normal position", (state) => isOffNormal(state)],
   held: ["held by somebody", (state) => state.holds.length > 0],
   hand: ["in hand: a step is given out", (state) => state.hand !== null],
 };
@@ -31,13 +32,12 @@ function stepsCell(state) {
     ` step ${step.number} ${step.text}: ${stateWord(step.state)}${step.reader ? `, ${step.reader}` : ""}`)) : "–";
 }
 
-function row(state, lookedThrough) {
+function row(state) {
   const { point } = state;
   return el("tr", { "data-point": point.name },
     el("th", { scope: "row" }, point.name), el("td", {}, `${point.from} – ${point.to}`), el("td", {}, marksOf(point)),
-    el("td", {}, el("strong", {}, state.position ?? "not clear"), isOffNormal(state) ? " ≠" : "",
-      el("p", { class: "hint" }, sourceOf(state, lookedThrough))),
-    el("td", {}, point.normal), el("td", {}, state.hand ? links([state.hand]) : "–"),
+    el("td", {}, el("strong", {}, state.position), isOffNormal(state) ? " ≠" : ""),
+    el("td", {}, point.normal ?? "not known"), el("td", {}, state.hand ? links([state.hand]) : "–"),
     el("td", {}, holdsCell(state)), el("td", {}, stepsCell(state)));
 }
 
@@ -51,9 +51,8 @@ export class PointsPage {
     this.#filter = el("input", { type: "search", size: 16, value: name, "data-name": "filter", oninput: () => this.update() });
     const kinds = el("fieldset", { class: "kinds" }, el("legend", {}, "Show"), Object.entries(KINDS).map(([kind, [text]]) =>
       el("label", { class: "radio" }, el("input", { type: "radio", name: "kind", checked: kind === "all", onchange: () => { this.#kind = kind; this.update(); } }), text)));
-    const look = button("Look through all closed records", () => lookThrough(ALL), { "data-name": "look" });
     this.node = el("section", { class: "points" }, el("h2", { tabindex: -1 }, "Points"),
-      el("div", { class: "line" }, field("Point or section", this.#filter), kinds, look), this.#count, this.#rows);
+      el("div", { class: "line" }, field("Point or section", this.#filter), kinds), this.#count, this.#rows);
     this.update();
   }
 
@@ -68,9 +67,8 @@ export class PointsPage {
   update() {
     const states = this.#desk.states();
     const found = this.#found(states), shown = found.slice(0, MOST_LISTED);
-    const through = room.lookedThrough ? "All closed records were looked through." : "Not all closed records were looked through: a position from the file may have been changed since.";
-    this.#count.textContent = `${shown.length} of ${found.length} points. ${through}`;
-    panel(this.#rows, [shown.map((state) => [state.point.name, state.position, state.from, state.hand, state.holds, state.steps, [...state.moved]]), room.lookedThrough], () =>
-      table(["Point", "Between", "Marks", "Position", "Normally", "In hand of", "Holds", "Steps left"], shown.map((state) => row(state, room.lookedThrough)), { class: "wide" }));
+    this.#count.textContent = `${shown.length} of ${found.length} points, as the register had them at ${shortTime(room.network)}.`;
+    panel(this.#rows, [shown.map((state) => [state.point.name, state.position, state.hand, state.holds, state.steps])], () =>
+      table(["Point", "Between", "Marks", "Position", "Normally", "In hand of", "Holds", "Steps left"], shown.map((state) => row(state)), { class: "wide" }));
   }
 }

@@ -3,6 +3,7 @@
 import { el, button } from "./elements.js";
 import { now, wholeTime } from "./moments.js";
 import { getOrder } from "./register.js";
+import { Story } from "./story.js";
 import { faultWords } from "./words.js";
 
 // A button for each round that there may be, and the place where the order comes.
@@ -25,7 +26,7 @@ async function show(clearance, round, place) {
     return;
   }
   place.replaceChildren(
-    el("div", { class: "paper" }, el("pre", {}, answer.body),
+    el("div", { class: "paper" }, el("pre", {}, answer.body), new Story(clearance).node,
       el("p", {}, `Printed ${wholeTime(now())}. The moment above is in Greenwich time.`)),
     button("Print", () => window.print(), { "data-name": "print" }),
     button("Put it away", () => place.replaceChildren()));

@@ -49,6 +49,7 @@ function noteAnswer(answer) {
 function troubleIn(answer) {
   const last = contact.answered ? ` Its last answer came at ${shortTime(contact.answered)}.` : "";
   if (answer.kind === "barred") return `The proxy lets nothing through: status ${answer.status}.${last}`;
+  if (answer.body?.fault === "Foreign") return `The register takes what the proxy passes on for another page's (Foreign): the proxy is not that of this desk.${last}`;
   if (answer.status === 503) return "The register answers, but its database or memory refuses (503). Is its disk full?";
   return "";
 }
@@ -66,7 +67,7 @@ function parsed(text, type) {
 function judged(status, type, text) {
   const body = parsed(text, type);
   const printed = status === 200 && type.includes("text/plain");
-  if (printed || (body && (body.reply || body.fault))) return { kind: "answered", status, body };
+  if (printed || body?.reply || body?.fault || body?.sections) return { kind: "answered", status, body };
   if (status >= 400 && status < 500) return { kind: "barred", status };
   return { kind: "lost", why: `the proxy said ${status}${text.includes("<title>") ? titleOf(text) : ""}` };
 }
@@ -99,6 +100,10 @@ function inTurn(method, path, body) {
 
 export function getBoard() {
   return inTurn("GET", "board");
+}
+
+export function getNetwork() {
+  return inTurn("GET", "network");
 }
 
 export function getView(caller, clearance) {

@@ -83,6 +83,7 @@ export function replyOf(command, answer, at) {
   if (body.reply === "accepted") {
     return { ...base, kind: "accepted", lines: () => [el("p", {}, cardWords(body.card))] };
   }
+  if (body.reply === "added") return { ...base, kind: "accepted", lines: () => [el("p", {}, `Jumper ${body.point} is in the register, open.`)] };
   if (body.reply === "refused") return { ...base, kind: "refused", lines: () => refusedLines(refusalWords(body)) };
   return { ...base, kind: "fault", lines: () => refusedLines(faultWords(status, body)) };
 }

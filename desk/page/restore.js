@@ -6,7 +6,8 @@ import { positionBefore } from "./before.js";
 import { draft, draftName, keepDraft } from "./drafts.js";
 import { el, button, panel, table } from "./elements.js";
 import { findingsAt, findingsOfSteps } from "./findings.js";
-import { learn, living, livingFindings, mayGo, orderNotes } from "./notes.js";
+import { newest } from "./journal.js";
+import { learn, living, livingFindings, mayGo, orderNotes, turnNotes } from "./notes.js";
 import { StepList } from "./picking.js";
 import { holdWord } from "./words.js";
 
@@ -33,6 +34,7 @@ export class RestoreEditor {
     this.#held = heldPoints(view);
     this.#recall();
     this.node = this.#draw();
+    newest().then(learn);
   }
 
   #draftName() {
@@ -64,13 +66,13 @@ export class RestoreEditor {
     return el("div", { class: "offer editor" },
       el("p", {}, `Restoring order of ${clearance}. Choose at each point what it ends with.`),
       table(["Point", "Normally", "Before the order", "It ends with"], this.#held.map((held) => this.#row(held)), { class: "ends" }),
-      el("h3", {}, "Steps"), this.#list.node, orderNotes(this.#desk, () => this.#list.steps, clearance),
+      el("h3", {}, "Steps"), this.#list.node, orderNotes(this.#desk, () => this.#list.steps, clearance), turnNotes(this.#desk, () => this.#list.steps),
       button(`Give the restoring order of ${clearance}`, () => this.#send(), { class: "main", "data-name": "restore" }));
   }
 
   #row(held) {
     const state = this.#desk.states().get(held.place), { clearance } = this.#view.card;
-    const normal = state?.point.normal === "closed" ? "CLOSE" : "LEAVE";
+    const normal = { closed: "CLOSE", open: "LEAVE" }[state?.point.normal] ?? null;
     const end = (action) => el("label", { class: "radio" },
       el("input", { type: "radio", name: `end-${held.place}`, value: action, checked: this.#ends.get(held.place) === action,
         "data-name": `${action} ${held.place}`, "aria-label": `${action} ${held.place}`, onchange: () => this.#end(held, action) }),
@@ -78,9 +80,9 @@ export class RestoreEditor {
     return el("tr", { "data-point": held.place },
       el("th", { scope: "row" }, held.place, el("p", { class: "hint" }, held.kinds.map(holdWord).join(", ")),
         livingFindings(() => findingsAt(this.#desk, held.place, { own: clearance }))),
-      el("td", { "data-name": "normal", "data-head": "Normally" }, state ? el("strong", {}, state.point.normal) : "not in the files"),
+      el("td", { "data-name": "normal", "data-head": "Normally" }, normal ? el("strong", {}, state.point.normal) : "not known"),
       this.#before(held.place),
-      el("td", { class: "choices" }, end(normal), end(normal === "CLOSE" ? "LEAVE" : "CLOSE")));
+      el("td", { class: "choices" }, (normal === "LEAVE" ? ["LEAVE", "CLOSE"] : ["CLOSE", "LEAVE"]).map(end)));
   }
 
   // What is known of it may come later than the form.
@@ -88,9 +90,9 @@ export class RestoreEditor {
     const cell = el("td", { "data-name": "before", "data-head": "Before the order" });
     return living(cell, () => {
       const state = this.#desk.states().get(name);
-      const { position, from } = state ? positionBefore(state, this.#view.card.clearance) : { position: null, from: "not in the files" };
-      const other = state && position && position !== state.point.normal ? " ≠" : "";
-      panel(cell, [position, from], () => [el("strong", {}, `${position ?? "not clear"}${other}`), el("p", { class: "hint" }, from)]);
+      const { position, from } = state ? positionBefore(state, this.#view.card.clearance) : { position: null, from: "" };
+      const normal = state?.point.normal, other = normal && position && position !== normal ? " ≠" : "";
+      panel(cell, [position, from], () => [el("strong", {}, `${position ?? "not known"}${other}`), el("p", { class: "hint" }, from)]);
     });
   }
 

@@ -1,6 +1,7 @@
 // One row for the present step, where this desk speaks for several: it is given, repeated and reported, each by the name
 // that is chosen there. Enter goes on from one to the next, and nothing goes on by itself.
 
+import { mayUse } from "./caller.js";
 import { el, button, choice, field } from "./elements.js";
 import { keepIn, readKept } from "./kept.js";
 import { namesOfRole } from "./network.js";
@@ -55,8 +56,8 @@ function cell(title, now, pick, ...controls) {
 
 export function severalControl({ view, act, staff, desk, caller }) {
   const step = presentStep(view), part = PARTS[step.state];
-  const fields = namesOfRole(staff, "field"), { clearance } = view.card;
-  const giver = nameChoice("giver", namesOfRole(staff, "operator"), kept.giver ?? caller?.name);
+  const fields = namesOfRole(staff, "field").filter(mayUse), { clearance } = view.card;
+  const giver = nameChoice("giver", namesOfRole(staff, "operator").filter(mayUse), kept.giver ?? caller?.name);
   const hearer = nameChoice("hearer", fields, kept.hearer), reporter = nameChoice("reporter", fields, step.reader ?? kept.hearer);
   const heard = heardInput(view, step);
   const does = {

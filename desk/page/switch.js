@@ -2,11 +2,19 @@
 
 import { draft, draftName, keepDraft } from "./drafts.js";
 import { el, button } from "./elements.js";
-import { findingsOfSteps } from "./findings.js";
-import { learn, mayGo, orderNotes, pickedNotes } from "./notes.js";
+import { findingsOfSteps, turnedBySteps } from "./findings.js";
+import { learn, mayGo, orderNotes, pickedNotes, turnNotes } from "./notes.js";
 import { PointPicker, StepList } from "./picking.js";
+import { StandardOrders } from "./standard.js";
 
 const DRAFT = draftName("switch");
+
+// Puts a step to what is half written here, and shows it.
+export function offerStep(text) {
+  const { points, steps } = draft(DRAFT) ?? { points: [], steps: [] }, name = text.split(" ")[1];
+  keepDraft(DRAFT, { points: [...new Set([...points, name])], steps: steps.includes(text) ? steps : [...steps, text] });
+  location.hash = "#/switch";
+}
 
 export class SwitchEditor {
   #desk; #picker; #chosen = el("div", { class: "answers" }); #list;
@@ -15,11 +23,13 @@ export class SwitchEditor {
   constructor(desk) {
     this.#desk = desk;
     this.#picker = new PointPicker(desk, (name, on) => this.#picked(name, on));
+    this.#picker.turned = () => turnedBySteps(desk, this.#list.steps);
     this.#list = new StepList(() => this.#changed(), (place) => this.#list.set(this.#list.steps.filter((_, at) => at !== place)));
     this.node = el("div", { class: "offer editor" },
       el("p", {}, "Pick the points, and say of each whether it is to be opened or closed. A switch order holds nothing."),
+      new StandardOrders("switch", "", () => ({ points: [...this.#picker.picked], steps: this.#list.steps }), (order) => this.#take(order)).node,
       this.#picker.node, pickedNotes(desk, () => this.#picker.picked), this.#chosen,
-      el("h3", {}, "Steps, in their order"), this.#list.node, orderNotes(desk, () => this.#list.steps, null),
+      el("h3", {}, "Steps, in their order"), this.#list.node, orderNotes(desk, () => this.#list.steps, null), turnNotes(desk, () => this.#list.steps),
       button("Give the switch order", () => this.#send(), { class: "main", "data-name": "switch" }));
     desk.pick(this.#picker);
     this.#recall();
@@ -29,9 +39,15 @@ export class SwitchEditor {
   #recall() {
     const kept = draft(DRAFT);
     if (!kept) return;
-    this.#picker.take(kept.points);
+    this.#take(kept);
+  }
+
+  // A standard order in place of what is written.
+  #take({ points, steps }) {
+    this.#picker.put(points);
+    this.#list.set(steps.filter((text) => this.#picker.picked.has(text.split(" ")[1])));
     this.#drawChosen();
-    this.#list.set(kept.steps.filter((text) => this.#picker.picked.has(text.split(" ")[1])));
+    this.#desk.redraw();
   }
 
   #changed() {

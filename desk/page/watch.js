@@ -1,14 +1,15 @@
-// The watch over the register: the board every few seconds, and the views of what is on it. All that the page
-// shows of the register is kept here as it was last answered.
+// The watch over the register: the board every few seconds, the network, and the views of what is on the board. All that
+// the page shows of the register is kept here, or in network.js, as it was last answered.
 
-import { contact, getBoard, getView } from "./register.js";
 import { now, secondsOfPrinted } from "./moments.js";
+import { takeNetwork } from "./network.js";
+import { getBoard, getNetwork, getView } from "./register.js";
 
 const PERIOD = 4000;      // between two looks at the board
 const HIDDEN = 20000;     // the same while nobody sees the page
 const AT_ONCE = 25;       // views that are asked for in one turn
 const ALL_AGAIN = 10;     // turns after which each view is asked for again
-const LOOK_THROUGH = 300; // closed records that are asked for by itself
+const QUICK = 50;         // milliseconds: a network that is answered in this time is asked for with each board
 
 export const room = {
   board: [],            // the board's lines of records: id, phase, work, last, holder, line
@@ -17,8 +18,8 @@ export const room = {
   turns: 0,             // how many boards were answered
   views: new Map(),     // what is on the board: id to view
   closed: new Map(),    // what is over: id to view
-  lookedThrough: false, // whether all closed records are known
-  unknownCaller: null,  // a name of the staff file that the register does not know
+  network: null,        // when the network was answered
+  barred: null,         // a name that this login may not use
 };
 
 const urgent = new Set(); // what has changed, and is to be asked for first
@@ -28,7 +29,8 @@ let caller = null;
 let chosen = null;
 let timer = null;
 let running = null;
-let begun = false; // whether closed records were asked for
+let shown = "";        // the board as it was last read
+let slow = 0;          // how long the network took when it was last asked for
 
 export function onRoom(listener) {
   listeners.push(listener);
@@ -82,7 +84,7 @@ function keepBoard(text) {
   const gone = [...room.views.keys()].filter((id) => !present.has(id));
   for (const id of [...changed, ...gone]) urgent.add(id);
   if (changed.length || gone.length || room.turns % ALL_AGAIN === 0) for (const id of present) stale.add(id);
-  if (chosen && present.has(chosen) && room.turns % 3 === 0) stale.add(chosen);
+  if (chosen && present.has(chosen)) stale.add(chosen); // two commands of one second leave its line as it was
 }
 
 function keepView(id, view) {
@@ -92,13 +94,26 @@ function keepView(id, view) {
 }
 
 async function readView(id) {
-  const answer = await getView(caller, id);
+  const by = caller, answer = await getView(by, id);
   if (answer.kind !== "answered") return answer;
   urgent.delete(id);
   stale.delete(id);
   if (answer.body.reply === "shown") keepView(id, answer.body.view);
-  room.unknownCaller = answer.body.refusal === "UNKNOWN_CALLER" ? caller : null;
+  room.barred = answer.body.fault === "NotCaller" ? by : null;
   return answer;
+}
+
+// The network may have changed where the board has; what the board does not show of a change is asked for with each
+// board, or with some of them where that takes long.
+async function readNetwork(text) {
+  const isSame = text === shown;
+  if (isSame && room.network !== null && slow > QUICK && room.turns % ALL_AGAIN) return;
+  const begun = performance.now(), answer = await getNetwork();
+  if (answer.kind !== "answered" || !answer.body.sections) return;
+  slow = performance.now() - begun;
+  await takeNetwork(answer.body);
+  room.network = now();
+  shown = text;
 }
 
 async function readViews() {
@@ -111,21 +126,18 @@ async function readViews() {
 
 async function look() {
   const answer = await getBoard();
-  if (answer.kind === "answered" && typeof answer.body === "string") {
-    keepBoard(answer.body);
+  if (answer.kind !== "answered" || typeof answer.body !== "string") {
     report();
-    if (caller) {
-      await readViews();
-      report();
-      if (!begun) {
-        begun = true;
-        lookThrough(LOOK_THROUGH);
-      }
-    }
-    return true;
+    return false;
   }
+  keepBoard(answer.body);
+  await readNetwork(answer.body);
   report();
-  return false;
+  if (caller) {
+    await readViews();
+    report();
+  }
+  return true;
 }
 
 // One look at a time; who asks while one goes on gets one that begins after it.
@@ -152,14 +164,9 @@ export async function lookAt(id) {
   return answer;
 }
 
-// Whether views are read: the register shows them to a name of the staff.
-export function isWatching() {
-  return caller !== null;
-}
-
 export function watchAs(name) {
   if (caller === name) return;
-  const first = caller === null;
+  const first = caller === null || room.barred === caller;
   caller = name;
   if (!first) return;
   for (const row of room.board) stale.add(row.id);
@@ -177,46 +184,13 @@ export function startWatch() {
   return lookNow();
 }
 
-let requesters = [];
-
-// Those who may have records: everybody who is not of the field.
-export function setRequesters(names) {
-  requesters = names;
-}
-
-// The records of a requester from the first one that is not known to the last there is. Numbers have no gaps.
-async function lookThroughOf(name, limit) {
-  for (let number = 1, asked = 0; ; number++) {
+// A requester's records, closed ones too, from the first one that is not known to the last there is: numbers have no gaps.
+export async function recordsOf(name) {
+  for (let number = 1; ; number++) {
     const id = `${name}/${number}`;
     if (room.closed.has(id) || room.views.has(id)) continue;
-    if (asked++ >= limit) return { asked, whole: false };
     const answer = await readView(id);
-    if (answer.kind !== "answered") return { asked, whole: false };
-    if (answer.body.reply !== "shown") return { asked, whole: true };
+    if (answer.kind !== "answered" || answer.body.reply !== "shown") break;
   }
-}
-
-// Asks for all closed records, up to a limit of names and numbers.
-export async function lookThrough(limit) {
-  let left = limit;
-  let whole = caller !== null;
-  for (const name of requesters) {
-    if (left <= 0 || contact.silentSince !== null) {
-      begun = left <= 0;
-      whole = false;
-      break;
-    }
-    const found = await lookThroughOf(name, left);
-    left -= found.asked;
-    whole = whole && found.whole;
-  }
-  room.lookedThrough = room.lookedThrough || whole;
-  report();
-  return whole;
-}
-
-// A requester's records, closed ones too.
-export async function recordsOf(name) {
-  await lookThroughOf(name, 9999);
   report();
 }

@@ -54,6 +54,8 @@ const FAULTS = {
   BadLength: ["The proxy sent the command with a wrong length. It was not carried out.", "Report it to whoever keeps this desk."],
   BodyCut: ["The command ended too early. It was not carried out.", "Give it again."],
   BodyTooLarge: ["The command is longer than 65,536 bytes.", "Split the order."],
+  Foreign: ["The register took the request for one of another page.", "The proxy is not that of this desk: report it to whoever keeps it."],
+  NotCaller: ["Your login may not speak in this name.", "Choose a name of your own, or log in as another. Who keeps this desk has the list of logins."],
   NoRoute: ["The register has no such address.", "The page and the register are of different versions: report it to whoever keeps this desk."],
 };
 
@@ -120,7 +122,7 @@ export function statusWords(status) {
 }
 
 // A command as one would say it.
-const SAID = {
+export const SAID = {
   request: (c) => `request section ${c.section}`,
   order: (c) => `order ${c.clearance}: points ${c.points.join(", ")}, ${c.steps.length} steps`,
   instruct: (c) => `instruct step ${c.step} of ${c.clearance}`,
@@ -137,6 +139,7 @@ const SAID = {
   release: (c) => `release ${c.clearance}`,
   restore: (c) => `restore ${c.clearance}: ${c.steps.length} steps`,
   amend: (c) => `amend step ${c.step} of ${c.clearance} to LEAVE`,
+  jumper: (c) => `add jumper ${c.point} between ${c.from} and ${c.to}${c.lockable ? ", lockable" : ""}${c.remote ? ", remote" : ""}`,
   switch: (c) => `switch order: ${c.steps.join(", ")}`,
 };
 

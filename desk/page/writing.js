@@ -12,11 +12,12 @@ const LEAST = 8;                            // the size of a label on the screen
 const LEAST_INSIDE = 7.4;                   // that of a name in its box
 const PART = 8;                             // a size is rounded up to such a part of itself
 const HALF = 7, FEED = 28;                  // half a point; what a source has at its left
-const KINDS = ["live", "bad", "plain"];     // of the marks at a section, the worst first
+const SETTLED = 90;                         // milliseconds after which texts have the size for a new scale
+const KINDS = ["live", "bad", "turn", "plain", "dead"]; // of the marks at a section, the worst first
 const SIDES = { row: ["above", "below", "right", "left"], upright: ["right", "left", "below", "above"], lane: ["above", "below", "right", "left"] };
 
 export class Writing {
-  #network; #plan; #labels; #factor = 0; #inside = NAME; #seen = null; #key = "";
+  #network; #plan; #labels; #factor = 0; #later = null; #inside = NAME; #seen = null; #key = "";
   node = svg("g", { class: "writing" });
 
   constructor(network, plan) {
@@ -36,14 +37,18 @@ export class Writing {
     return [x - HALF, y - HALF, x + HALF, y + HALF];
   }
 
-  // The scale at which the drawing is shown. Before that is known nothing is written.
+  // The scale at which the drawing is shown. Before that is known nothing is written; while it changes, texts keep the size
+  // that they have in the drawing.
   atScale(scale) {
     const factor = Math.max(1, Math.ceil((LEAST / (LABEL * scale)) * PART) / PART);
     const inside = NAME * scale >= LEAST_INSIDE ? NAME : 0;
     if (factor === this.#factor && inside === this.#inside) return;
     this.#factor = factor;
     this.#inside = inside;
-    if (this.#seen) this.write(this.#seen);
+    if (!this.#seen) return;
+    clearTimeout(this.#later);
+    if (this.#key) this.#later = setTimeout(() => this.write(this.#seen), SETTLED);
+    else this.write(this.#seen);
   }
 
   // What is known now: `picked(kind, name)` is whether it is picked.
@@ -71,13 +76,13 @@ export class Writing {
   #sectionLabels({ marks, fence, found, picked }) {
     return [...this.#plan.spots.values()].flatMap((spot) => {
       const { name } = spot, own = marks.get(name) ?? [], box = this.#boxOf(spot), { source } = this.#network.sections.get(name);
-      const matters = found.has(name) || own.length || fence.has(name);
+      const said = own.some(({ kind }) => kind !== "dead"), matters = found.has(name) || said || fence.has(name);
       const names = this.#label(NAME, { of: name, kind: "name", box, inside: this.#inside, sides: ["above", "below"],
         forms: [[`${picked("section", name) ? "✓ " : ""}${name}`]], rank: this.#rank(0, matters ? 0.5 : source ? 3 : 5) });
       if (!own.length) return [names];
       const lines = [...own].sort((a, b) => KINDS.indexOf(a.kind) - KINDS.indexOf(b.kind)), isLive = lines[0].kind === "live";
       return [names, this.#label(MARK, { of: name, kind: "mark section-mark", kinds: lines.map(({ kind }) => kind), box,
-        sides: ["above", "below", "right", "left"], forms: formsOf(lines.map(({ text }) => text)), rank: this.#rank(isLive ? 2 : 3, isLive ? 0 : 1) })];
+        sides: ["above", "below", "right", "left"], forms: formsOf(lines.map(({ text }) => text)), rank: this.#rank(isLive ? 2 : said ? 3 : 5, isLive ? 0 : said ? 1 : 7) })];
     });
   }
 

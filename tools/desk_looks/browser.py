@@ -12,6 +12,7 @@ import urllib.request
 
 NEEDED = {"chromium": "chromium", "chromedriver": "chromium-driver", "nginx": "nginx"}
 TAB, ENTER, ALT = "\ue004", "\ue007", "\ue00a"
+REBOUND = "rebound.example"  # a foreign name that leads to this machine
 LONG = 30  # seconds that anything is waited for
 
 direct = urllib.request.build_opener(urllib.request.ProxyHandler({}))
@@ -62,7 +63,7 @@ class Browser:
         wait_until(self.is_up, "the driver of chromium")
         words = ["--headless=new", "--disable-gpu", f"--window-size={width},{height}", "--no-proxy-server", "--no-first-run",
                  "--disable-background-networking", "--disable-component-update", "--disable-sync", "--hide-scrollbars",
-                 "--host-resolver-rules=MAP * ~NOTFOUND, EXCLUDE 127.0.0.1"]
+                 f"--host-resolver-rules=MAP {REBOUND} 127.0.0.1, MAP * ~NOTFOUND, EXCLUDE 127.0.0.1, EXCLUDE localhost"]
         if os.geteuid() == 0:
             words.append("--no-sandbox")
         options = {"browserName": "chrome", "goog:loggingPrefs": {"browser": "ALL"},
@@ -140,7 +141,17 @@ class Browser:
         self.settled(css)
         self.script("document.querySelector(arguments[0])?.focus()", css)
         self.settled(css)
-        self.own("POST", f"/element/{self.find(css)}/value", {"text": text})
+        wait_until(lambda: self.typed(css, text), f"typing into {css}")
+
+    def typed(self, css, text):
+        """Whether it was typed: a panel may be drawn again just then, before the first sign."""
+        try:
+            self.own("POST", f"/element/{self.find(css)}/value", {"text": text})
+        except Differs as fault:
+            if "stale" in str(fault):
+                return False
+            raise
+        return True
 
     def keys(self, text):
         steps = [{"type": kind, "value": sign} for sign in text for kind in ("keyDown", "keyUp")]

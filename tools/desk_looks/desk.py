@@ -17,29 +17,33 @@ EXAMPLES = [os.path.join(TOP, "examples", name) for name in FILES]
 
 
 class Desk:
-    """tools/desk over a register."""
+    """tools/desk over a register; `options` are more words of its command line."""
 
-    def __init__(self, work, name, files, ports):
+    def __init__(self, work, name, files, ports, options=()):
+        self.options = list(options)
         self.folder, self.files, self.ports = os.path.join(work, name), files, ports
         self.base = os.path.join(work, f"{name}.db")
         self.address = f"http://127.0.0.1:{ports[0]}/"
         self.process, self.starts = None, 0
         gridclear("init", *files, "--db", self.base)
 
-    def start(self):
+    def start(self, status=200):
+        """Serves, until the board has this status."""
         self.starts += 1
         environment = dict(os.environ, GRIDCLEAR=GRIDCLEAR, DESK_FOLDER=self.run_folder())
-        words = [DESK, self.base, *self.files, *map(str, self.ports)]
+        words = [DESK, "--points", self.files[1], *self.options, self.base, *map(str, self.ports)]
         self.process = subprocess.Popen(words, env=environment, stdout=subprocess.DEVNULL, stderr=subprocess.DEVNULL)
-        wait_until(self.answers, "the desk's board")
+        wait_until(lambda: self.answers(status), "the desk's board")
 
     def run_folder(self):
         return f"{self.folder}-{self.starts}"
 
-    def answers(self):
+    def answers(self, status):
         try:
-            return direct.open(f"{self.address}board", timeout=5).status == 200
-        except OSError:
+            return direct.open(f"{self.address}board", timeout=5).status == status
+        except OSError as fault:
+            if getattr(fault, "code", None) == status:
+                return True
             if self.process.poll() is not None:
                 raise Differs("tools/desk ended by itself") from None
             return False

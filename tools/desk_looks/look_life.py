@@ -10,11 +10,11 @@ from desk_looks.desk import EXAMPLES, Desk, gridclear, tables
 from desk_looks.labels import look_at_labels
 
 
-def compare(desk, work):
-    """The tables under the page are those of `run` over the same commands."""
+def compare(desk, work, lines=None):
+    """The tables under the page are those of `run` over the same commands: those that were sent, or these."""
     second = os.path.join(work, "second.db")
     gridclear("init", *desk.files, "--db", second)
-    lines = desk.sent()
+    lines = lines or desk.sent()
     gridclear("run", "--db", second, text="".join(f"{line}\n" for line in lines))
     own, other = tables(desk.base), tables(second)
     for name in sorted(own.keys() | other.keys()):
@@ -276,10 +276,9 @@ def release(hand):
 
 def look_around(hand):
     say("the other pages: points, my clearances, the printed order, the diagram")
-    hand.turn("points/S4")
-    hand.shows("by the steps done under OPS/2")
-    hand.turn("points/S3")
-    hand.shows("by the steps done under JONES/1")
+    for point, words in (("S4", "open ≠"), ("S3", "open ≠"), ("S1", "closed closed")):
+        hand.turn(f"points/{point}")
+        wait_until(lambda: words in " ".join(hand.text(f'main tr[data-point="{point}"]').split()), f"{point} to be {words}")
     hand.turn("mine")
     hand.speak("JONES")
     hand.shows("Closed")

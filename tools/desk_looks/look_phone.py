@@ -16,7 +16,7 @@ def phone(stage):
     hand = stage.network([*ordered("KIM", "N13-F12", cut), *steps("KIM/1", texts[:3])], "board")
     hand.browser.size(WIDE, HIGH)
     hand.speak("DISP1")
-    for page in ("board", "diagram", "points", "mine", "switch", "clearance/KIM/1"):
+    for page in ("board", "diagram", "points", "mine", "switch", "jumper", "log", "shift", "clearance/KIM/1"):
         hand.turn(page)
         hand.shows("KIM/1" if page in ("board", "clearance/KIM/1") else "")
         wide = hand.browser.script("return document.documentElement.scrollWidth")

@@ -5,9 +5,7 @@ import os
 import time
 
 from desk_looks.browser import free_ports
-from desk_looks.desk import EXAMPLES, FILES, Desk, gridclear
-
-MORE = {"sections.csv": "X1,no\n", "points.csv": "J1,L1,X1,yes,no,open\n", "staff.csv": ""}  # what the page's copies have
+from desk_looks.desk import EXAMPLES, Desk, gridclear
 
 
 def shift():
@@ -16,22 +14,11 @@ def shift():
         return [json.loads(line) for line in file][:-2]
 
 
-def with_jumper(work):
-    """The files with the jumper in them, as the guide has it for the page."""
-    folder = os.path.join(work, "page")
-    os.mkdir(folder)
-    for path, name in zip(EXAMPLES, FILES):
-        with open(path, encoding="utf-8") as file, open(os.path.join(folder, name), "w", encoding="utf-8") as copy:
-            copy.write(file.read() + MORE[name])
-    return [os.path.join(folder, name) for name in FILES]
-
-
 def picture(stage):
     desk = Desk(stage.work, "desk", EXAMPLES, free_ports(2))
     moment = int(time.time()) - 120
     timed = [one if one["do"] == "jumper" else dict(one, at=moment + 4 * place) for place, one in enumerate(shift())]
     gridclear("run", "--db", desk.base, text="".join(json.dumps(one) + "\n" for one in timed))
-    desk.files = with_jumper(stage.work)
     hand = stage.begin(desk)
     hand.speak("OPS")
     hand.turn("switch")

@@ -1,7 +1,7 @@
 """A restoring order shows what was; sources that would be joined and loops that would be closed are said and asked about."""
 
 from desk_looks.browser import Differs
-from desk_looks.network import needed, ordered, released, steps, switch
+from desk_looks.network import ordered, released, steps, switch
 
 WIDTHS = (1440, 1024, 390)
 TIE = "TIE1-N12-N13"
@@ -15,14 +15,27 @@ def choices(hand, point):
         .map((one) => [one.value, one.checked])""", point)
 
 
+def given_beside(hand, commands):
+    """Commands of other desks, all accepted."""
+    for command in commands:
+        hand.post(command)
+
+
 def what_was(stage):
-    hand, other = stage.network([*BYPASSED, *WEBER], "clearance/WEBER/1"), stage.window("clearance/WEBER/1")
+    """A desk that saw the order shows what was before it; one that comes later says that it did not see it."""
+    begun = ordered("WEBER", "N13-F11", ["N13-Q11", "N13-B1", TIE, "TIE1-N13-N14"])
+    hand = stage.network([*BYPASSED, *begun], "clearance/WEBER/1")
     hand.speak("DISP1")
+    hand.shows("OPEN N13-B1", "main .steps")
+    given_beside(hand, WEBER[len(begun):])
+    hand.shows("It ends with")
+    other = stage.window("clearance/WEBER/1")
     other.speak("DISP2")
     for point, normal, before in (("N13-Q11", "closed", "closed"), ("N13-B1", "open", "closed"), (TIE, "open", "open")):
         row = f'tr[data-point="{point}"]'
         hand.shows(normal, f'{row} [data-name="normal"]')
         hand.shows(before, f'{row} [data-name="before"]')
+        other.shows("not known", f'{row} [data-name="before"]')
         first = "CLOSE" if normal == "closed" else "LEAVE"
         found = choices(hand, point)
         if [one[1] for one in found] != [False, False] or found[0][0] != first:
@@ -37,17 +50,6 @@ def what_was(stage):
         wide = hand.browser.script("return document.documentElement.scrollWidth")
         if wide > width:
             raise Differs(f"the restoring form is {wide} wide on {width} pixels")
-
-
-def opened_later(stage):
-    """Where another clearance has opened the point too, maybe after this one, what was before is not clear."""
-    cut = ["N13-Q11", "N13-B1", "N13-Q13"]
-    later = [*ordered("KIM", "N13-F12", cut), *steps("KIM/1", needed(cut)[:1])]
-    hand = stage.network([*WEBER, *later], "clearance/WEBER/1")
-    hand.speak("DISP1")
-    hand.shows("not clear", 'tr[data-point="N13-Q11"] [data-name="before"]')
-    hand.shows("KIM/1 left it open, before this order or after it", 'tr[data-point="N13-Q11"] [data-name="before"]')
-    hand.shows("open", 'tr[data-point="N13-B1"] [data-name="before"]')
 
 
 def restoring_joins(stage):
@@ -81,4 +83,4 @@ def switching_joins(stage):
     hand.picture("switch-joins")
 
 
-LOOKS = {"restoring-what-was": what_was, "restoring-later": opened_later, "restoring-joins": restoring_joins, "switching-joins": switching_joins}
+LOOKS = {"restoring-what-was": what_was, "restoring-joins": restoring_joins, "switching-joins": switching_joins}

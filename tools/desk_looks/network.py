@@ -65,6 +65,12 @@ def undoing(cut, ends):
             [f"UNTAG {point}", *([f"UNCONTROL {point}"] if marks[point][4] == "yes" else []), *([f"UNBLOCK {point}"] if marks[point][3] == "yes" else []), f"{end} {point}"]]
 
 
+def closed(name, section, cut, ends):
+    """NAME/1 from its request to its end: each of its points ends by its word."""
+    texts = undoing(cut, ends)
+    return [*released(name, section, cut), {"by": "DISP1", "do": "restore", "clearance": f"{name}/1", "steps": texts}, *steps(f"{name}/1", texts)]
+
+
 def step(clearance, number, text, until="report"):
     """The three commands of a step, up to this one."""
     commands = [{"by": "DISP1", "do": "instruct", "clearance": clearance, "step": number},

@@ -48,10 +48,15 @@ class Stage:
 
     def window(self, page="board"):
         """A window more, each a browser of its own."""
+        hand = self.bare_window()
+        hand.open(page)
+        return hand
+
+    def bare_window(self):
+        """The same, in which nothing is open yet."""
         hand = Hand(self.windows.get(len(self.hands)), self.desk, self.pictures)
         self.hands.append(hand)
         hand.browser.size(0)
-        hand.open(page)
         return hand
 
     def complain(self):
@@ -74,8 +79,8 @@ class Stage:
 def give(desk, commands):
     """Gives commands to the register itself, before it is served."""
     moment = int(time.time()) - 60
-    text = "".join(json.dumps(dict(one, at=moment)) + "\n" for one in commands)
+    text = "".join(json.dumps(one if one["do"] == "jumper" else dict(one, at=moment)) + "\n" for one in commands)
     replies = gridclear("run", "--db", desk.base, text=text) if text else ""
     for command, reply in zip(commands, replies.splitlines()):
-        if json.loads(reply)["reply"] != "accepted":
+        if json.loads(reply).get("reply") not in ("accepted", "added"):
             raise Differs(f"before the look: {command} is {reply}")

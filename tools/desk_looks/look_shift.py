@@ -1,0 +1,159 @@
+"""A shift of two operators, two holders and a field employee through three windows, with a jumper; the register is killed in
+the middle, and nginx is ended; at the end the register is what its journal says."""
+
+import os
+import signal
+
+from desk_looks.browser import Differs, free_ports, say, wait_until
+from desk_looks.desk import Desk, gridclear
+from desk_looks.look_life import compare as tables_are_those_of
+from desk_looks.look_register import compare
+from desk_looks.network import needed, undoing, write_files
+
+JONES, KIM = ("JONES", "N11-F33", ["N11-Q33", "TIE3-N11-N12"]), ("KIM", "N16-F33", ["N16-Q33", "TIE3-N15-N16"])
+
+
+class Shift:
+    """Three windows: the operators', the field employee's, the holders'."""
+
+    def __init__(self, stage):
+        self.journal = os.path.join(stage.work, "journal")
+        self.desk = Desk(stage.work, "desk", write_files(stage.work), free_ports(2), ["--journal", self.journal])
+        self.room = stage.begin(self.desk)
+        self.field, self.line = stage.window(), stage.window()
+        self.field.speak("REED")
+
+    def hands(self):
+        return self.room, self.field, self.line
+
+    def step(self, clearance, number, text, operator):
+        """Given by the operator, repeated and reported by the field employee, each at their own window."""
+        for hand in (self.room, self.field):
+            if hand.browser.script("return location.hash") != f"#/clearance/{clearance}":
+                hand.turn(f"clearance/{clearance}")
+        self.room.speak(operator)
+        self.room.press("instruct")
+        self.room.reply("accepted", f"instruct step {number} of {clearance}")
+        self.room.shows(text, "main .read-out")
+        self.field.browser.type('main [data-name="repeat-text"]', text)
+        self.field.press("repeat")
+        self.field.reply("accepted", "repeat", text)
+        self.field.press("done")
+        self.field.reply("accepted", "done")
+
+    def steps(self, clearance, texts, operator):
+        for number, text in enumerate(texts, 1):
+            self.step(clearance, number, text, operator)
+
+    def isolate(self, name, section, cut, operator):
+        clearance = f"{name}/1"
+        self.line.speak(name)
+        self.line.turn("request")
+        self.line.browser.type('main [data-name="section"]', section)
+        self.line.press("request")
+        self.line.reply("accepted", clearance)
+        self.room.speak(operator)
+        self.room.turn(f"clearance/{clearance}")
+        self.room.pick(*cut)
+        self.room.press("order")
+        self.room.reply("accepted", f"order {clearance}")
+        self.steps(clearance, needed(cut), operator)
+        self.room.press("grant")
+        self.room.answer("yes")
+        self.room.reply("accepted", f"grant {clearance}")
+
+    def work(self, name, section):
+        hand = self.line
+        hand.speak(name)
+        hand.turn(f"clearance/{name}/1")
+        for act, words in ((f"dead {section}", "dead"), (f"ground {section}", "ground")):
+            hand.press(act)
+            hand.reply("accepted", words)
+        hand.browser.type('main [data-name="crew"]', "C1\ue007")
+        hand.reply("accepted", "sign crew C1 on")
+
+    def give_back(self, name, section, cut, operator):
+        hand, clearance, ends = self.line, f"{name}/1", ["CLOSE", "LEAVE"]
+        hand.speak(name)
+        hand.turn(f"clearance/{clearance}")
+        for act, words in (("off C1", "sign crew C1 off"), (f"ground {section}", "take the ground off")):
+            hand.press(act)
+            hand.answer("yes")
+            hand.reply("accepted", words)
+        hand.press("release")
+        hand.answer("yes")
+        hand.answer("yes")
+        hand.reply("accepted", "Released")
+        self.room.speak(operator)
+        self.room.turn(f"clearance/{clearance}")
+        for point, end in zip(cut, ends):
+            self.room.press(f"{end} {point}")
+        self.room.press("restore")
+        self.room.reply("accepted", "Restoring")
+        self.steps(clearance, undoing(cut, ends), operator)
+
+    def lay_jumper(self):
+        self.room.speak("DISP2")
+        self.room.turn("jumper")
+        for part, text in (("point", "J1"), ("from", "N12-F23"), ("to", "PUMP")):
+            self.room.browser.type(f'main [data-name="{part}"]', text)
+        self.room.press("jumper")
+        self.room.answer("yes")
+        self.room.reply("accepted", "J1 is in the register")
+        self.room.press("write CLOSE J1")
+        self.room.press("switch")
+        self.room.reply("accepted", "DISP2/1")
+        self.steps("DISP2/1", ["CLOSE J1"], "DISP2")
+
+    def kill_register(self):
+        os.kill(self.desk.register(), signal.SIGKILL)
+        self.all_show("does not answer since")
+        self.all_show("The register answers")
+
+    def end_nginx(self):
+        with open(os.path.join(self.desk.run_folder(), "desk", "run", "nginx.pid"), encoding="utf-8") as file:
+            os.kill(int(file.read()), signal.SIGTERM)  # its worker would serve on after a SIGKILL
+        self.desk.process.wait(30)
+        self.desk.start()
+        self.all_show("The register answers")
+
+    def all_show(self, text):
+        for hand in self.hands():
+            hand.shows(text, "#contact")
+
+
+def shift(stage):
+    day = Shift(stage)
+    say("two clearances isolated and granted, by two operators")
+    day.isolate(*JONES, "DISP1")
+    day.work(*JONES[:2])
+    day.isolate(*KIM, "DISP2")
+    say("the register killed; a jumper laid; nginx ended")
+    day.kill_register()
+    day.lay_jumper()
+    day.end_nginx()
+    day.work(*KIM[:2])
+    say("both given back and restored")
+    day.give_back(*KIM, "DISP1")
+    day.give_back(*JONES, "DISP2")
+    fresh(stage, day)
+
+
+def fresh(stage, day):
+    """What a fresh browser draws, what the log has, and what the journal says."""
+    hand = day.line
+    hand.browser.script("localStorage.clear(); sessionStorage.clear()")
+    hand.open("diagram")
+    wait_until(lambda: not hand.browser.script("return document.getElementById('caller').value"), "a browser without a name")
+    compare(hand, day.desk.base)
+    hand.turn("log")
+    hand.shows("The whole journal was read")
+    stage.complain()
+    day.desk.stop()
+    lines, sent = gridclear("journal", day.journal, "--commands").splitlines(), day.desk.sent()
+    if len(lines) != len(sent):
+        raise Differs(f"the journal has {len(lines)} commands that were accepted, and {len(sent)} were sent")
+    tables_are_those_of(day.desk, stage.work, lines)
+
+
+LOOKS = {"shift": shift}
