@@ -17,7 +17,7 @@ from tally import Tally
 
 TOP = pathlib.Path(__file__).resolve().parent.parent.parent
 COMMAND = '{"at":1795503600,"by":"JONES","do":"request","section":"L2"}'
-DATA, LOGS, ETC = "var/lib/gridclear", "var/log/gridclear", "etc/gridclear"
+DATA, LOGS, ETC, BACKUPS = "var/lib/gridclear", "var/log/gridclear", "etc/gridclear", "var/backups/gridclear/register"
 
 
 class Root:
@@ -65,18 +65,21 @@ def install(root, tally):
         status, out = root.run(line)
         tally.check(f"{line}", status == 0, out)
         printed += out
-    tally.check("the files were counted, and looked at", "sections 5 points 5 staff 6" in printed and "KIM BOSS" in printed and "sources: G H" in printed, printed)
-    status, out = root.run("; ".join(guide("gridclear init /etc")))
+    tally.check("the files were counted, and looked at", "sections 5 points 5 staff 6" in printed and "look: employee KIM may hold" in printed and "look: point T1 can be locked" in printed, printed)
+    status, out = root.run("; ".join(guide("cd /var/lib/gridclear")))
     tally.check("the user reads the files", status == 0 and out == "sections 5 points 5 staff 6\n", out)
     tally.check("the register answers", root.curl("/board", port=8080) == ("200", "BOARD 0\n"), root.curl("/board", port=8080))
     status, page = root.curl("/")
     tally.check("the page is there", status == "200" and "gridclear desk" in page, page)
-    tally.check("and its files", root.curl("/page.js")[0] == "200" and root.curl("/network/staff.csv")[1] == (TOP / "examples" / "staff.csv").read_text())
+    tally.check("and its files", root.curl("/page.js")[0] == "200" and root.curl("/normal")[1] == (TOP / "examples" / "points.csv").read_text())
+    tally.check("and the network", root.curl("/network")[1].startswith('{"points":[{"from":"G"'), root.curl("/network"))
     tally.check("a command by the page", root.curl("/command", "-d", COMMAND)[0] == "200")
     tally.check("a page of another site is refused", root.curl("/board", "-H", "Sec-Fetch-Site: cross-site")[0] == "403")
+    tally.check("and in the journal, which the page reads", root.curl("/journal")[1].count('"number":1,') == 1, root.curl("/journal"))
     log = root.path(f"{LOGS}/commands.log").read_text()
     tally.check("the log has it", log.count("\n") == 1 and "JONES" in log, log)
-    wanted = {DATA: "700 gridclear:gridclear", f"{DATA}/room.db": "600 gridclear:gridclear", LOGS: "2750 www-data:adm",
+    wanted = {DATA: "710 gridclear:www-data", f"{DATA}/room.db": "600 gridclear:gridclear", f"{DATA}/staff.csv": "600 gridclear:gridclear",
+              f"{DATA}/journal": "640 gridclear:www-data", BACKUPS: "700 gridclear:gridclear", LOGS: "2750 www-data:adm",
               f"{LOGS}/commands.log": "640 www-data:adm", ETC: "755 root:root", f"{ETC}/gridclear.conf": "644 root:root"}
     for name, owner in wanted.items():
         tally.check(f"/{name} is {owner}", root.owner(name) == owner, root.owner(name))
@@ -98,7 +101,9 @@ def refusals(root, tally):
     root.run("systemctl start gridclear")
     status, out = root.run("gridclear-setup --board")
     tally.check("not while it is served", status == 1 and "is served" in out, out)
-    for call in ("--login", "--login A B", "--other"):
+    status, out = root.run("gridclear-setup --login OPS NOBODY", "a word\n")
+    tally.check("a login speaks as employees alone", status == 1 and "nobody in" in out and not root.path(f"{ETC}/users").exists(), out)
+    for call in ("--login", "--other"):
         tally.check(f"{call} is no call", root.run(f"gridclear-setup {call}")[0] == 2)
     for name, old, new in (("staff", "operator", "field"), ("sections", "yes", "no"), ("points", "S2,", "s2,")):
         file = root.path(f"{ETC}/network/{name}.csv")
@@ -127,14 +132,54 @@ def logins(root, tally):
     found = root.curl("/board", port=8180)[0], root.curl("/board", "-u", "OPS:second", port=8190)[0], root.curl("/board")[0]
     tally.check("other ports", found == ("200", "200", "000"), found)
     config.write_text(config.read_text().replace("=8180", "=8080").replace("=8190", "=8090"))
-    root.run("rm /etc/gridclear/users; systemctl restart gridclear gridclear-desk")
+    employees(root, tally)
+    root.run("rm /etc/gridclear/users /etc/gridclear/logins.csv; systemctl restart gridclear gridclear-desk")
+    given = root.path(f"{LOGS}/commands.log").read_text().count("\n")
     status, out = root.run("logrotate -f /etc/logrotate.d/gridclear")
     time.sleep(2)
     root.curl("/command", "-d", COMMAND)
     time.sleep(2)
     logs = {one.name: one.read_text().count("\n") for one in root.path(LOGS).iterdir()}
-    tally.check("the log is rotated, and goes on", status == 0 and logs == {"commands.log": 1, "commands.log.1": 2}, f"{out} {logs}")
+    tally.check("the log is rotated, and goes on", status == 0 and logs == {"commands.log": 1, "commands.log.1": given}, f"{out} {logs}")
     tally.check("the new one is nobody else's", root.owner(f"{LOGS}/commands.log") == "640 www-data:adm", root.owner(f"{LOGS}/commands.log"))
+
+
+def employees(root, tally):
+    """A login that is one of employees speaks as these; with the first one, each other speaks as nobody."""
+    for call in ("OPS OPS REED", "KIM KIM", "OPS OPS REED DALE"):
+        status, out = root.run(f"gridclear-setup --login {call}", f"of {call[:3]}\n")
+        tally.check(f"--login {call}", status == 0, out)
+    tally.check("the rows", root.path(f"{ETC}/logins.csv").read_text() == "login,employee\nKIM,KIM\nOPS,OPS\nOPS,REED\nOPS,DALE\n", root.path(f"{ETC}/logins.csv").read_text())
+    tally.check("the rows are root's to change", root.owner(f"{ETC}/logins.csv") == "644 root:root", root.owner(f"{ETC}/logins.csv"))
+    root.run("systemctl restart gridclear gridclear-desk")
+    command = '{"at":1795503700,"by":"%s","do":"request","section":"L2"}'
+    found = [root.curl("/command", "-u", f"{login}:of {login}", "-d", command % name)[0] for login, name in (("OPS", "KIM"), ("KIM", "OPS"), ("KIM", "KIM"))]
+    tally.check("a login speaks as its employees", found == ["403", "403", "200"], found)
+    found = root.curl("/command", "-H", "X-Forwarded-User: OPS", "-u", "KIM:of KIM", "-d", command % "OPS")
+    tally.check("nobody names another login", found == ("403", '{"fault":"NotCaller"}'), found)
+
+
+def backup(root, tally):
+    """gridclear-backup.service, while commands come."""
+    print("backups", flush=True)
+    ask = f"while [ -e /srv/go ]; do curl -s -d '{COMMAND}' http://127.0.0.1:8080/command >/dev/null; sleep 0.2; done"
+    root.run(f"touch go; ({ask}) >/dev/null 2>&1 &")
+    status, out = root.run("systemctl start gridclear-backup; s=$?; rm go; cat /run/gridclear-backup.out; exit $s")
+    first = list(root.path(BACKUPS).iterdir())
+    tally.check("a backup while commands come", status == 0 and len(first) == 1 and ": verified " in out, out)
+    held = {"room.db", "journal", "sections.csv", "points.csv", "staff.csv", "verified"}
+    tally.check("it has the register, the journal and the files", held <= {one.name for one in first[0].iterdir()}, list(first[0].iterdir()))
+    root.run(f"touch -d '40 days ago' /{BACKUPS}/{first[0].name}; systemctl stop gridclear; cp -p /{BACKUPS}/{first[0].name}/room.db /srv/older.db")
+    root.run(f"systemctl start gridclear; curl -s -d '{COMMAND}' http://127.0.0.1:8080/command; systemctl start gridclear-backup")
+    names = [one.name for one in root.path(BACKUPS).iterdir()]
+    tally.check("it is kept for 30 days", len(names) == 1 and names[0] != first[0].name, names)
+    root.run(f"systemctl stop gridclear; cp -p /{DATA}/room.db /srv/newer.db; rm /{DATA}/room.db*; cp -p /srv/older.db /{DATA}/room.db; rm -f /run/gridclear-backup.out")
+    status, out = root.run("sleep 1; systemctl start gridclear-backup; s=$?; cat /run/gridclear-backup.out; exit $s")
+    tally.check("a register that verify finds is made again from the journal", status == 0 and "was made from the journal" in out and ": verified " in out, out)
+    root.run(f"rm /{DATA}/room.db*; cp -p /srv/newer.db /{DATA}/room.db; mv /{DATA}/journal /srv; rm -f /run/gridclear-backup.out")
+    status, out = root.run("systemctl start gridclear-backup; s=$?; cat /run/gridclear-backup.out; exit $s")
+    tally.check("without a journal there is none", status != 0 and "has no journal" in out and not list(root.path(BACKUPS).glob("*.part")), out)
+    root.run(f"mv /srv/journal /{DATA}; systemctl start gridclear")
 
 
 def port_443(root, tally):
@@ -164,12 +209,12 @@ def upgrade(root, tally):
     tally.check("removing stops both", status == 0 and root.curl("/board")[0] == "000" and root.curl("/board", port=8080)[0] == "000", out)
     before, kept = root.register(), sorted(os.listdir(root.path(LOGS)))
     status, out = root.run("apt-get purge -y gridclear")
-    tally.check("purging says what is left", status == 0 and all(f"/{name} is left as it is" in out for name in (DATA, LOGS, ETC)), out)
+    tally.check("purging says what is left", status == 0 and all(f"/{name} is left as it is" in out for name in (DATA, LOGS, ETC, "var/backups/gridclear")), out)
     tally.check("the register and the logs are left", root.register() == before and len(before) == 2 and sorted(os.listdir(root.path(LOGS))) == kept)
     status, out = root.run("apt install ./gridclear_*_amd64.deb")
     tally.check("the package is installed again", status == 0 and root.register() == before, out)
     tally.check("over a register it makes none", root.run("gridclear-setup")[0] == 1 and root.register() == before)
-    root.run("systemctl enable --now gridclear gridclear-desk")
+    root.run("systemctl enable --now gridclear gridclear-desk gridclear-backup.timer")
     tally.check("nothing was lost", root.curl("/board", port=8080) == board, root.curl("/board", port=8080))
 
 
@@ -215,7 +260,7 @@ def main():
     for name, kind in (("proc", "proc"), ("run", "tmpfs")):
         subprocess.run(["mount", "-t", kind, kind, str(root.path(name))], check=True)
     root.run("mkdir -p /run/systemd/system")
-    for part in (install, refusals, logins, upgrade, migrate):
+    for part in (install, refusals, logins, backup, upgrade, migrate):
         part(root, tally)
     asked = root.path("run/asked").read_text()
     tally.check("systemd was asked to read the units again", "--system daemon-reload" in asked, asked)

@@ -10,7 +10,7 @@ import subprocess
 import tarfile
 
 TOP = pathlib.Path(__file__).resolve().parent.parent.parent
-PROGRAMS = {"usr/bin/gridclear", "usr/sbin/gridclear-setup", "usr/lib/gridclear/desk-conf"}
+PROGRAMS = {"usr/bin/gridclear", "usr/sbin/gridclear-setup", *(f"usr/lib/gridclear/{name}" for name in ("serve", "verify", "backup", "desk-conf"))}
 CONFIGURATION = {"etc/gridclear/gridclear.conf", "etc/logrotate.d/gridclear"}
 SCRIPTS = {"preinst", "postinst", "prerm", "postrm"}
 CONTROL = {"control", "conffiles", "md5sums", *SCRIPTS}
@@ -69,7 +69,7 @@ def shape(package, tally):
     tops = {one.parts[0] for one in folders if one.parts}
     tally.check("nothing outside /etc, /lib and /usr", tops == {"etc", "lib", "usr"}, tops)
     modes = {one.name.removeprefix("./"): one.mode for one, _ in package.data if one.isfile()}
-    tally.check("three programs", {name for name, mode in modes.items() if mode == 0o755} == PROGRAMS, modes)
+    tally.check("its programs", {name for name, mode in modes.items() if mode == 0o755} == PROGRAMS, modes)
     tally.check("everything besides is plain", set(modes.values()) == {0o755, 0o644} and {one.mode for one in every if one.isdir()} == {0o755}, modes)
 
 
