@@ -1,7 +1,8 @@
 """What tools/stops and tools/no-memory share: the built program run from outside under a small library that is loaded
-before the C library, folders for its files, the tables that it leaves, and a shift with its replies. It needs gcc and
-sqlite3 (Debian's packages of these names). GRIDCLEAR names another program than tools/gridclear."""
+before the C library, folders for its files, the tables and the journal that it leaves, and a shift with its replies. It
+needs gcc and sqlite3 (Debian's packages of these names). GRIDCLEAR names another program than tools/gridclear."""
 import collections
+import json
 import lzma
 import os
 import shutil
@@ -19,6 +20,9 @@ IMPORTED = "sections 5 points 5 staff 6\n"
 NO_REGISTER = "fault: store Sql\n"
 NO_OUTPUT = "fault: output WriteFailed\n"
 MOVED = "version 2\n"
+# the words of `run` and `serve` that have a journal
+WITH_JOURNAL = ["--journal", "journal"]
+NO_JOURNAL = ("fault: journal OpenFailed\n", "fault: journal WriteFailed\n")
 OLD = os.path.join(TOP, "tools", "try", "version-1.db.xz")  # a register of version 1
 ALLOWED = 60  # seconds for one run of a program
 
@@ -108,6 +112,29 @@ class Bench:
         expect(done.returncode == 0 and lines[:1] == ["ok"], f"sqlite3: {done.stdout[:200]}{done.stderr[:200]}")
         return tuple(sorted(line for line in lines[1:] if line.startswith(("CREATE", "INSERT"))))
 
+    def agrees(self, held, left_out=0):
+        """Whether the tables are those that the journal's commands make, where its last lines are left out."""
+        folder = self.new()
+        with open(os.path.join(folder, "journal"), "w", encoding="ascii") as file:
+            lines = whole_lines(held)
+            file.writelines(lines[: len(lines) - left_out])
+        commands = self.run(folder, ["journal", "journal", "--commands"])
+        made = self.run(folder, ["init", *FILES, "--db", "room.db"])
+        expect(commands[::2] == made[::2] == (0, ""), f"journal --commands: {commands}, init: {made}")
+        self.run(folder, ["run", "--db", "room.db"], [commands.output])
+        is_so = self.tables(folder) == self.tables(held)
+        shutil.rmtree(folder)
+        return is_so
+
+
+def whole_lines(folder):
+    """The lines of the journal in a folder that a line feed ends; none where there is no journal."""
+    path = os.path.join(folder, "journal")
+    if not os.path.exists(path):
+        return []
+    with open(path, encoding="ascii", errors="replace") as file:
+        return [line for line in file.read().splitlines(keepends=True) if line.endswith("\n")]
+
 
 JUMPER = '{"by":"OPS","do":"jumper","from":"L3","lockable":true,"point":"J9","remote":false,"to":"X9"}\n'
 
@@ -131,8 +158,27 @@ class Shift:
             bench.run(folder, ["run", "--db", "room.db"], [line])
             self.tables.append(bench.tables(folder))
 
-    def go_on(self, folder, least, most, last):
+    def look_at_journal(self, folder, answered):
+        """Each command that was answered has a line. The tables are those of the journal, or of all of it but its last line."""
+        wanted = [line for line, reply in zip(self.lines, self.replies[:answered]) if '"reply":"shown"' not in reply]
+        found = [json.loads(line) for line in whole_lines(folder)]
+        given = [line["command"] for line in found if "command" in line]
+        # a command that was answered 503 has a line too, and may be said again
+        once = [command for place, command in enumerate(given) if command not in given[:place]]
+        expect(once[: len(wanted)] == [json.loads(line) for line in wanted], f"{answered} answered, and the journal has {once[-2:]}")
+        expect(self.bench.agrees(folder) or (found and self.bench.agrees(folder, 1)), "the tables are not those of the journal")
+
+    def open_again(self, folder):
+        """Opens register and journal: from then on the tables are those of the journal."""
+        done = self.bench.run(folder, ["run", "--db", "room.db", *WITH_JOURNAL])
+        expect(done == Ended(0, "", ""), f"opened with its journal: {done}")
+        expect(self.bench.agrees(folder), "opened again, the tables are not those of the journal")
+
+    def go_on(self, folder, least, most, last, journal=()):
         """The numbers of commands after which the tables are those that are left; the others up to the last go on from there."""
+        if journal:
+            self.look_at_journal(folder, least)
+            self.open_again(folder)
         tables = self.bench.tables(folder)
         places = [place for place in range(least, min(most, last) + 1) if self.tables[place] == tables]
         everywhere = [place for place, known in enumerate(self.tables) if known == tables]
@@ -141,9 +187,11 @@ class Shift:
         expect(board.status == 0 and board.errors == "", f"board: {board}")
         expect(self.bench.tables(folder) == tables, "board changes the tables")
         place = places[0]
-        rest = self.bench.run(folder, ["run", "--db", "room.db"], self.lines[place:last])
+        rest = self.bench.run(folder, ["run", "--db", "room.db", *journal], self.lines[place:last])
         expect(rest == Ended(0, "".join(self.replies[place:last]), ""), f"from {place}: {rest}")
         expect(self.bench.tables(folder) == self.tables[last], "the tables at the end")
+        if journal:
+            expect(self.bench.agrees(folder), "the journal at the end")
         return places
 
 

@@ -130,6 +130,7 @@ else
   opens 'an order' "${register[@]}" -- order "$edge/room.db" JONES/1 1
   opens 'an order of nothing' "${register[@]}" -- order "$edge/room.db" JONES/9 1
   opens 'a way back' "${register[@]}" -- wayback "$edge/room.db" JONES/1
+  opens 'a log' "$work/journal" -- journal "$work/journal"
   opens 'a move' "${register[@]}" -- migrate "$edge/room.db"
   with_input "$work/asks" opens 'a run over a database' "${register[@]}" -- run --db "$edge/room.db"
   opens 'a fence' "${three[@]:0:2}" -- fence "${three[@]:0:2}" L2 S2 S3

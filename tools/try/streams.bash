@@ -15,6 +15,7 @@ each_subcommand() {
   "$@" 'run --db' run --db "$work/run.db"
   "$@" 'order' order "$work/ordered.db" JONES/1 1
   "$@" 'board' board "$work/ordered.db"
+  "$@" 'journal' journal "$work/journal"
   "$@" 'serve' serve "$work/ordered.db" --port "$port" --count 1
   : >"$work/input"
 }

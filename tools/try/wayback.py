@@ -296,6 +296,7 @@ def main():
         for one in pool.map(outcome, sys.argv[1:] or STATES):
             outcomes.append(one)
             print(one, flush=True)
+    print("all looks were made")
     return 1 if any(one.startswith("differs") for one in outcomes) else 0
 
 
