@@ -3,7 +3,6 @@
 #![tactic(auto)]
 
 mod fault;
-mod file;
 mod journal;
 mod lines;
 mod on_disk;
@@ -11,8 +10,7 @@ mod opening;
 mod tail;
 
 pub use fault::{OpenFault, WriteFault};
-pub use file::open_file;
 pub use journal::Journal;
 pub use lines::{first_line, last_line};
 pub use on_disk::OnDisk;
-pub use opening::{Opened, open};
+pub use opening::{End, cut_at, end_of};

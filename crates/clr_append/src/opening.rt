@@ -1,4 +1,4 @@
-//! A journal is opened: only its end is read.
+//! A journal is opened: only its end is read, and what no line feed ends is cut off.
 ghost use Rattle.std.specs.Prelude.{◌≡◌, ◌-◌, ◌≤◌, ℕ, List, false, length, take, true};
 ghost use Rattle.std.specs.Prelude.{IfErr, IfOk, IsErrOf, IsTrue, OnOk, Some, option_map};
 ghost use Rattle.sqlite_disk.specs.Disk.{Cut, Follows, MoreFaults};
@@ -12,58 +12,28 @@ use crate::tail::tail_of;
 use sqlite_disk::Disk;
 use std::alloc::Global;
 
-/// A journal that was opened, and the last of its lines, if it has one.
+/// The end of what a disk holds.
 #[derive(Drop)]
-pub struct Opened<D: Disk> {
-    pub journal: OnDisk<D>,
+pub struct End {
+    /// Where the last line feed ends; 0 where there is none.
+    pub at: usize,
+    /// The line that it ends, if there is one.
     pub last: Option<Vec<u8>>,
+    /// What comes after it.
+    pub rest: Vec<u8>,
 }
 
-/// Opens the journal on a disk. What comes after its last line feed is cut off. Where this fails,
-/// the disk is given back, and nothing else was changed on it.
-pub fn open<D: Disk + Drop>(alloc: Global, disk: D) -> Result<Opened<D>, (OpenFault, D)>
-    requires { IsTrue (D.Disk.is_usable disk) }
-    ensures text { IfOk result (λ opened. IsTrue (D.Disk.is_clean opened.journal.disk)
-        → ⟦<OnDisk<D> as Journal>⟧.text opened.journal ≡ ended_text (D.Disk.seen disk)) }
-    ensures last { IfOk result (λ opened. IsTrue (D.Disk.is_clean opened.journal.disk)
-        → option_map (λ line. line.items) opened.last ≡ last_line (D.Disk.seen disk)) }
-    ensures crash { IfOk result (λ opened.
-        Follows (Cut (length (⟦<OnDisk<D> as Journal>⟧.text opened.journal)))
-        (D.Disk.may_leave disk) (⟦<OnDisk<D> as Journal>⟧.may_leave opened.journal)) }
-    ensures whole { IfOk result (λ opened. ⟦<OnDisk<D> as Journal>⟧.found opened.journal
-        ≡ ⟦<OnDisk<D> as Journal>⟧.text opened.journal) }
-    ensures usable { IfOk result (λ opened.
-        IsTrue (⟦<OnDisk<D> as Journal>⟧.is_usable opened.journal)) }
-    ensures seen { IfErr result (λ back. IsTrue (D.Disk.is_clean back.1)
-        → Cut (length (ended_text (D.Disk.seen disk))) (D.Disk.seen disk) (D.Disk.seen back.1)) }
-    ensures kept { IfErr result (λ back. IsTrue (D.Disk.is_clean back.1)
-        → Follows (Cut (length (ended_text (D.Disk.seen disk))))
-        (D.Disk.may_leave disk) (D.Disk.may_leave back.1)) }
-    ensures cause { IfErr result (λ back. back.0 ≡ OpenFault.OpenFailed
-        → MoreFaults (D.Disk.faults disk) (D.Disk.faults back.1)) }
-    ensures memory { IfErr result (λ back. back.0 ≡ OpenFault.NoMemory
-        → D.Disk.faults back.1 ≡ D.Disk.faults disk) }
-    ensures back { IfErr result (λ back. IsTrue (D.Disk.is_usable back.1)) }
-{
-    let mut disk = disk;
-    match end_of(alloc, &mut disk) {
-        Ok((end, last)) => match cut_at(disk, end) {
-            Ok(journal) => Ok(Opened { journal, last }),
-            Err(disk) => Err((OpenFault::OpenFailed, disk)),
-        },
-        Err(fault) => Err((fault, disk)),
-    }
-}
-
-/// Where the last line feed of what a disk holds is, and the line that it ends.
-fn end_of<D: Disk>(alloc: Global, disk: &mut D) -> Result<(usize, Option<Vec<u8>>), OpenFault>
+/// Reads the end of what a disk holds. Nothing is written, whatever comes of it.
+pub fn end_of<D: Disk>(alloc: Global, disk: &mut D) -> Result<End, OpenFault>
     requires { IsTrue (D.Disk.is_usable disk.old) }
-    ensures text { IfOk result (λ found. IsTrue (D.Disk.is_clean disk.new)
-        → take found.0 (D.Disk.seen disk.old) ≡ ended_text (D.Disk.seen disk.old)) }
-    ensures within { IfOk result (λ found. IsTrue (D.Disk.is_clean disk.new)
-        → found.0 ≤ length (D.Disk.seen disk.old)) }
-    ensures last { IfOk result (λ found. IsTrue (D.Disk.is_clean disk.new)
-        → option_map (λ line. line.items) found.1 ≡ last_line (D.Disk.seen disk.old)) }
+    ensures text { IfOk result (λ end. IsTrue (D.Disk.is_clean disk.new)
+        → take end.at (D.Disk.seen disk.old) ≡ ended_text (D.Disk.seen disk.old)) }
+    ensures within { IfOk result (λ end. IsTrue (D.Disk.is_clean disk.new)
+        → end.at ≤ length (D.Disk.seen disk.old)) }
+    ensures last { IfOk result (λ end. IsTrue (D.Disk.is_clean disk.new)
+        → option_map (λ line. line.items) end.last ≡ last_line (D.Disk.seen disk.old)) }
+    ensures rest { IfOk result (λ end. IsTrue (D.Disk.is_clean disk.new)
+        → unfinished (D.Disk.seen disk.old) ≡ Some end.rest.items) }
     ensures seen { D.Disk.seen disk.new ≡ D.Disk.seen disk.old }
     ensures crash { (c : List ℕ) → D.Disk.may_leave disk.new c → D.Disk.may_leave disk.old c }
     ensures cause { IsErrOf result OpenFault.OpenFailed
@@ -77,32 +47,44 @@ fn end_of<D: Disk>(alloc: Global, disk: &mut D) -> Result<(usize, Option<Vec<u8>
         return Err(OpenFault::OpenFailed);
     };
     let tail = tail_of(alloc, disk, len)?;
-    let found = found_in(alloc, len, &tail)?;
-    Ok(found)
+    let end = end_in(alloc, len, &tail)?;
+    Ok(end)
 }
 
-/// Where the last line feed is, and the line that it ends.
-fn found_in(alloc: Global, len: usize, tail: &[u8]) -> Result<(usize, Option<Vec<u8>>), OpenFault>
+/// The end of what has this length, by its last bytes.
+fn end_in(alloc: Global, len: usize, tail: &[u8]) -> Result<End, OpenFault>
     requires { length tail.now ≤ len }
-    ensures end { IfOk result (λ found. (rest : List ℕ) × (unfinished tail.now ≡ Some rest)
-        × (length rest ≤ length tail.now) × (found.0 ≡ len - length rest)) }
-    ensures last { IfOk result (λ found.
-        option_map (λ line. line.items) found.1 ≡ last_line tail.now) }
+    ensures at { IfOk result (λ end. end.at ≡ len - length end.rest.items) }
+    ensures last { IfOk result (λ end.
+        option_map (λ line. line.items) end.last ≡ last_line tail.now) }
+    ensures rest { IfOk result (λ end. unfinished tail.now ≡ Some end.rest.items) }
     ensures failed { IsErrOf result OpenFault.OpenFailed → false ≡ true }
 {
     let (last, rest) = last_line(tail);
-    let end = len - rest.len();
-    match last {
+    let at = len - rest.len();
+    let last = copy_of(alloc, last)?;
+    let rest = Vec::from_slice(alloc, rest)?;
+    Ok(End { at, last, rest })
+}
+
+/// A copy of a line.
+fn copy_of(alloc: Global, line: Option<&[u8]>) -> Result<Option<Vec<u8>>, OpenFault>
+    ensures copy { IfOk result (λ copy.
+        option_map (λ line. line.items) copy ≡ option_map (λ line. line.now) line.entry) }
+    ensures failed { IsErrOf result OpenFault.OpenFailed → false ≡ true }
+{
+    match line {
         Some(line) => {
             let copy = Vec::from_slice(alloc, line)?;
-            Ok((end, Some(copy)))
+            Ok(Some(copy))
         }
-        None => Ok((end, None)),
+        None => Ok(None),
     }
 }
 
-/// The journal of a disk up to this place. What comes after it is cut off.
-fn cut_at<D: Disk + Drop>(disk: D, end: usize) -> Result<OnDisk<D>, D>
+/// The journal of a disk up to this place. What comes after it is cut off. Where the disk fails it
+/// is given back, and no more than that was cut off it.
+pub fn cut_at<D: Disk + Drop>(disk: D, end: usize) -> Result<OnDisk<D>, D>
     requires { IsTrue (D.Disk.is_usable disk) }
     ensures text { IfOk result (λ journal. end ≤ length (D.Disk.seen disk)
         → ⟦<OnDisk<D> as Journal>⟧.text journal ≡ take end (D.Disk.seen disk)) }
