@@ -1,3 +1,4 @@
+pub mod Ends
 pub mod FrontsRead
 pub mod JournalsRead
 pub mod LinesRead

@@ -1,3 +1,4 @@
 pub mod Line
 pub mod Journals
 pub mod Laws
+pub mod Opening

@@ -1,6 +1,7 @@
 //! A journal is written, its disk crashes, and it is opened again.
 use clr_journal::{
-    Journal, Opened, Receipt, carried_out, open, print_carried, print_withdrawn, read_journal,
+    Journal, OpenFault, Opened, Receipt, carried_out, open_journal, print_carried, print_withdrawn,
+    read_journal,
 };
 use clr_net::Name;
 use clr_rules::{Card, ClearanceId, Phase, Reply, Text};
@@ -64,7 +65,7 @@ fn opened(alloc: Global, disk: Memory) -> Result<Opened<Memory>, Fail> {
     if !disk.may_be_used() {
         return Err(Fail::new("a sync failed"));
     }
-    match open(alloc, disk) {
+    match open_journal(alloc, disk) {
         Ok(opened) => Ok(opened),
         Err((fault, _)) => Err(fault.into()),
     }
@@ -120,5 +121,50 @@ fn unfinished_line_is_cut_off(rt: HostRuntime) -> Result<(), Fail> {
     assert_eq!(rt; last.as_deref(), Some(FIRST.as_bytes()));
     let kept = format!(in alloc; "{FIRST}\n")?;
     assert_eq!(rt; journal.into_disk().bytes(), kept.as_bytes());
+    Ok(())
+}
+
+/// A disk that holds this text.
+fn holding(alloc: Global, text: &str) -> Result<Memory, Fail> {
+    let mut disk = Memory::new(alloc);
+    disk.write_at(0, text.as_bytes())?;
+    Ok(disk)
+}
+
+#[test]
+fn what_is_no_journal_is_refused(rt: HostRuntime) -> Result<(), Fail> {
+    let alloc = rt.alloc();
+    let torn = format!(in alloc; "{FIRST}\nno line\n{SECOND}")?;
+    for text in [
+        "a text of one line",
+        "two lines\nno feed",
+        "\n",
+        "{\"command\";",
+        torn.as_str(),
+    ] {
+        let disk = holding(alloc, text)?;
+        if !disk.may_be_used() {
+            return Err(Fail::new("a sync failed"));
+        }
+        match open_journal(alloc, disk) {
+            Ok(_) => return Err(Fail::new("what is no journal was opened")),
+            Err((fault, disk)) => {
+                assert_eq!(rt; fault, OpenFault::OpenFailed);
+                assert_eq!(rt; disk.bytes(), text.as_bytes());
+            }
+        }
+    }
+    Ok(())
+}
+
+#[test]
+fn front_of_a_first_line_is_cut_off(rt: HostRuntime) -> Result<(), Fail> {
+    let alloc = rt.alloc();
+    for text in ["", "{", "{\"command\":", FIRST] {
+        let disk = holding(alloc, text)?;
+        let Opened { journal, last } = opened(alloc, disk)?;
+        assert_eq!(rt; last.as_deref(), None);
+        assert_eq!(rt; journal.into_disk().bytes(), b"".as_slice());
+    }
     Ok(())
 }
