@@ -19,6 +19,7 @@ use Rattle.clr_args.specs.declared.asked.OrderArgs.{OrderArgs}
 use Rattle.clr_args.specs.declared.asked.RunArgs.{RunArgs}
 use Rattle.clr_args.specs.declared.asked.RunArgs.TheVariants as over
 use Rattle.clr_args.specs.declared.asked.ServeArgs.{ServeArgs}
+use Rattle.clr_args.specs.declared.asked.VerifyArgs.{VerifyArgs}
 use Rattle.clr_args.specs.declared.asked.WayBackArgs.{WayBackArgs}
 use Rattle.clr_args.specs.declared.parsing.Parsed.{Parsed}
 use Rattle.clr_args.specs.declared.parsing.Parsed.TheVariants as parsed
@@ -109,6 +110,11 @@ pub record AsksJournal (rows : List Row) (args : JournalArgs) : Type 0 where
   pub offset : args.offset.minutes ≡ offset_in (first_of (codes "offset") rows)
   pub commands : args.commands ≡ flag_in (first_of (codes "commands") rows)
 
+pub record AsksVerify (rows : List Row) (args : VerifyArgs) : Type 0 where
+  pub database : args.database.now ≡ word_in rows (codes "DB")
+  pub journal : args.journal.now ≡ word_in rows (codes "JOURNAL")
+  pub files : AsksFiles rows args.files
+
 -- THE SUBCOMMAND of this name is asked for, on the words that its arguments were given
 abbrev pub Asks : Text → List Row → Asked → Type 0
 Asks name rows (asked.Fence args) = (name ≡ codes "fence") × AsksFence rows args
@@ -120,6 +126,7 @@ Asks name rows (asked.Board args) = (name ≡ codes "board") × AsksBoard rows a
 Asks name rows (asked.WayBack args) = (name ≡ codes "wayback") × AsksWayBack rows args
 Asks name rows (asked.Serve args) = (name ≡ codes "serve") × AsksServe rows args
 Asks name rows (asked.Journal args) = (name ≡ codes "journal") × AsksJournal rows args
+Asks name rows (asked.Verify args) = (name ≡ codes "verify") × AsksVerify rows args
 Asks name rows (asked.Migrate path) = (name ≡ codes "migrate")
     × (path.now ≡ word_in rows (codes "DB"))
 
@@ -134,6 +141,7 @@ pub record IsNoSubcommand (name : Text) : Type 0 where
   pub wayback : name ≢ codes "wayback"
   pub serve : name ≢ codes "serve"
   pub journal : name ≢ codes "journal"
+  pub verify : name ≢ codes "verify"
   pub migrate : name ≢ codes "migrate"
 
 -- ---- what words come to

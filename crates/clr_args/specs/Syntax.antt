@@ -105,6 +105,13 @@ journal =
     (optional_rule (codes "CLEARANCE")))
     offset_rule) (flag_rule (codes "commands"))
 
+-- `verify DB JOURNAL SECTIONS POINTS STAFF`
+abbrev pub verify : App
+verify =
+    with_rule (with_files (with_rule
+    (with_rule (new_app (codes "verify")) (required_rule (codes "DB")))
+    (required_rule (codes "JOURNAL")))) (required_rule (codes "STAFF"))
+
 -- `migrate DB`
 abbrev pub migrate : App
 migrate = with_rule (new_app (codes "migrate")) (required_rule (codes "DB"))
@@ -121,6 +128,6 @@ top = record {
 abbrev pub gridclear : App
 gridclear =
     with_subcommand (with_subcommand (with_subcommand (with_subcommand (with_subcommand
-    (with_subcommand (with_subcommand (with_subcommand (with_subcommand (with_subcommand top
-    fence.top) check.top) init.top) run.top) order.top) board.top) wayback.top) serve.top)
-    journal.top) migrate.top
+    (with_subcommand (with_subcommand (with_subcommand (with_subcommand (with_subcommand
+    (with_subcommand top fence.top) check.top) init.top) run.top) order.top) board.top) wayback.top)
+    serve.top) journal.top) verify.top) migrate.top

@@ -22,6 +22,8 @@ pub enum Asked<'a> {
     Serve(ServeArgs<'a>),
     /// The commands that a journal keeps, printed.
     Journal(JournalArgs<'a>),
+    /// A register, compared with a run of its journal.
+    Verify(VerifyArgs<'a>),
     /// The tables of the register at this path, brought to the version that is read.
     Migrate(&'a str),
 }
@@ -130,6 +132,17 @@ pub struct JournalArgs<'a> {
     pub offset: Offset,
     /// Whether the commands alone are printed.
     pub commands: bool,
+}
+
+/// What `verify` is asked for.
+#[derive(Clone, Copy)]
+pub struct VerifyArgs<'a> {
+    /// The path of the database.
+    pub database: &'a str,
+    /// The path of its journal.
+    pub journal: &'a str,
+    /// The files that it began with.
+    pub files: Files<'a>,
 }
 
 /// Minutes east of Greenwich, where a clock is.

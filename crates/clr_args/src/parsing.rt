@@ -2,13 +2,13 @@
 ghost use Rattle.std.specs.Prelude.{◌≡◌, ◌≢◌, IfOk, MatchOption, codes, map};
 ghost use Rattle.clap.specs.Words.{first_of, found_of, kind_of, rows_of};
 ghost use Rattle.clr_args.specs.Parsed.{AsksBoard, AsksFence, AsksFiles, AsksInit, AsksJournal};
-ghost use Rattle.clr_args.specs.Parsed.{AsksOrder, AsksRun, AsksServe, AsksWayBack};
+ghost use Rattle.clr_args.specs.Parsed.{AsksOrder, AsksRun, AsksServe, AsksVerify, AsksWayBack};
 ghost use Rattle.clr_args.specs.Parsed.{IsNoRun, IsNoServe, IsParsedAs, IsSaid, IsUnreadAs, Parses};
 ghost use Rattle.clr_args.specs.Parsed.{run_usage};
 
 use crate::asked::{
     Asked, BoardArgs, FenceArgs, Files, InitArgs, JournalArgs, OrderArgs, RunArgs, ServeArgs,
-    StoredArgs, WayBackArgs,
+    StoredArgs, VerifyArgs, WayBackArgs,
 };
 use crate::syntax;
 use crate::words::{
@@ -98,6 +98,7 @@ fn asked<'a>(alloc: Global, name: &str, matches: &ArgMatches<'a>) -> Result<Pars
             None => unread(alloc, SERVE_USAGE),
         },
         "journal" => Ok(Parsed::Asked(Asked::Journal(journal_args(matches)))),
+        "verify" => Ok(Parsed::Asked(Asked::Verify(verify_args(matches)))),
         "migrate" => Ok(Parsed::Asked(Asked::Migrate(word_of(matches, "DB")))),
         _ => {
             let text = format!(in alloc; "error: there is no subcommand {name}\n")?;
@@ -244,5 +245,16 @@ fn journal_args<'a>(matches: &ArgMatches<'a>) -> JournalArgs<'a>
         clearance: option_of(matches, "CLEARANCE"),
         offset: offset_of(matches),
         commands: flag_of(matches, "commands"),
+    }
+}
+
+/// What `verify DB JOURNAL SECTIONS POINTS STAFF` asks for.
+fn verify_args<'a>(matches: &ArgMatches<'a>) -> VerifyArgs<'a>
+    ensures { AsksVerify (rows_of (found_of matches.now)) result }
+{
+    VerifyArgs {
+        database: word_of(matches, "DB"),
+        journal: word_of(matches, "JOURNAL"),
+        files: three_files(matches),
     }
 }

@@ -49,8 +49,10 @@ pub fn command<'a>(alloc: Global) -> Result<Command<'a>, AllocError>
     let with_serve = with_wayback.subcommand(serve)?;
     let journal = subcommands::journal(alloc)?;
     let with_journal = with_serve.subcommand(journal)?;
+    let verify = subcommands::verify(alloc)?;
+    let with_verify = with_journal.subcommand(verify)?;
     let migrate = subcommands::migrate(alloc)?;
-    let command = with_journal.subcommand(migrate)?;
+    let command = with_verify.subcommand(migrate)?;
     Ok(command)
 }
 

@@ -2,7 +2,7 @@
 ghost use Rattle.std.specs.Prelude.{◌≡◌, IfOk};
 ghost use Rattle.clap.specs.Words.{app_of};
 ghost use Rattle.clr_args.specs.Syntax.{board, check, fence, init, journal, migrate, order};
-ghost use Rattle.clr_args.specs.Syntax.{plain_serve, run, serve, wayback};
+ghost use Rattle.clr_args.specs.Syntax.{plain_serve, run, serve, verify, wayback};
 
 use super::arguments::{at_most, flag, number, offset, option, optional, repeated, required};
 use clap::Command;
@@ -170,6 +170,20 @@ pub fn journal<'a>(alloc: Global) -> Result<Command<'a>, AllocError>
             "commands",
             "Prints the commands alone, one a line, as run takes them",
         ))?;
+    Ok(command)
+}
+
+/// `verify DB JOURNAL SECTIONS POINTS STAFF`
+pub fn verify<'a>(alloc: Global) -> Result<Command<'a>, AllocError>
+    ensures { IfOk result (λ c. app_of c ≡ verify) }
+{
+    let command = Command::new(alloc, "verify")
+        .about("Compares a register with a run of its journal over the files that it began with")
+        .arg(required(alloc, "DB", "The database of the register"))?
+        .arg(required(alloc, "JOURNAL", "The journal of the register"))?
+        .arg(required(alloc, "SECTIONS", "The file of sections"))?
+        .arg(required(alloc, "POINTS", "The file of switching points"))?
+        .arg(required(alloc, "STAFF", "The file of the staff"))?;
     Ok(command)
 }
 
