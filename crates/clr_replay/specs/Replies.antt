@@ -1,0 +1,38 @@
+-- WHETHER REPLIES ARE THOSE OF THE LINES, one by one.
+use Rattle.std.specs.Prelude.{◌≡◌, ◌≢◌, ◌≤◌, ℕ, Bool, true, false, List, [], ◌∷◌, Option, None, Some}
+use Rattle.std.specs.Prelude.{⊤, slice_get, take}
+use Rattle.serde_json.specs.Data.{Data, depth}
+use Rattle.clr_rules.specs.declared.reply.Reply.{Reply}
+use Rattle.clr_text.specs.Replies.{reply_data}
+
+-- a line's reply is this one. Of one that nests deeper than any that was read nothing is said
+abbrev pub IsReply : Data → Reply → Type 0
+IsReply d reply = depth d ≤ 127 → d ≡ reply_data reply
+
+abbrev pub DecidesReply : Data → Reply → Bool → Type 0
+DecidesReply d reply true = IsReply d reply
+DecidesReply d reply false = d ≢ reply_data reply
+
+-- as many replies as lines, and each is the line's
+abbrev pub AreReplies : List (ℕ × Data) → List Reply → Type 0
+AreReplies [] [] = ⊤
+AreReplies [] (reply ∷ replies) = ⊥
+AreReplies (line ∷ lines) [] = ⊥
+AreReplies (line ∷ lines) (reply ∷ replies) = IsReply line.1 reply × AreReplies lines replies
+
+-- the reply is not that of the line of this number
+abbrev pub IsAnother : ℕ → Option (ℕ × Data) → Option Reply → Type 0
+IsAnother number None reply = ⊥
+IsAnother number (Some line) None = number ≡ line.0
+IsAnother number (Some line) (Some reply) = (number ≡ line.0) × (line.1 ≢ reply_data reply)
+
+-- THE NUMBER OF THE FIRST LINE whose reply is another: the replies before a place are the lines'
+pub record DiffersAt (lines : List (ℕ × Data)) (replies : List Reply) (number : ℕ) : Type 0 where
+  pub place : ℕ
+  pub before : AreReplies (take place lines) (take place replies)
+  pub here : IsAnother number (slice_get lines place) (slice_get replies place)
+
+-- all replies are the lines', or this is the number of the first line whose reply is another
+abbrev pub RepliesDiffer : List (ℕ × Data) → List Reply → Option ℕ → Type 0
+RepliesDiffer lines replies None = AreReplies lines replies
+RepliesDiffer lines replies (Some number) = DiffersAt lines replies number
