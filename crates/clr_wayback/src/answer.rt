@@ -30,7 +30,8 @@ pub enum WayBack {
 /// phase is, without closing or opening a point. They are all accepted, if they are given one after
 /// the other and no other command between them.
 ///
-/// The book has to be good. It is used up: the commands are tried in it.
+/// The book is used up: the commands are tried in it. The book of every register that is reached is
+/// good.
 pub fn way_back<P, C, T, H>(
     alloc: Global,
     book: Book<P, C, T, H>,
@@ -41,8 +42,8 @@ where
     C: Shelf<Record>,
     T: Shelf<StepRow>,
     H: Shelf<Hold>,
-    requires { IsGood book.register }
-    ensures answer { IfOk result (λ answer. answer ≡ way_back_answer book.register id.now) }
+    ensures answer { IsGood book.register
+        → IfOk result (λ answer. answer ≡ way_back_answer book.register id.now) }
     ensures closes { IsReached book.register
         → IfOk result (GivesBack book.register id.now) }
 {
@@ -62,8 +63,8 @@ where
     C: Shelf<Record>,
     T: Shelf<StepRow>,
     H: Shelf<Hold>,
-    requires { IsGood book.register }
-    ensures { IfOk result (λ answer. answer ≡ way_back_answer book.register id.now) }
+    ensures { IsGood book.register
+        → IfOk result (λ answer. answer ≡ way_back_answer book.register id.now) }
 {
     if book.record(id).is_none() {
         return Ok(WayBack::NoSuch);

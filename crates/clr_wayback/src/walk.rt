@@ -24,8 +24,7 @@ where
     C: Shelf<Record>,
     T: Shelf<StepRow>,
     H: Shelf<Hold>,
-    requires { IsGood book.old.register }
-    ensures { IfOk result (λ commands. items_of commands
+    ensures { IsGood book.old.register → IfOk result (λ commands. items_of commands
         ≡ given (way_back book.old.register id.now)) }
 {
     let mut commands = Vec::new(alloc);
@@ -78,10 +77,9 @@ where
     C: Shelf<Record>,
     T: Shelf<StepRow>,
     H: Shelf<Hold>,
-    requires { IsGood book.old.register }
-    ensures register { OnOk result
+    ensures register { IsGood book.old.register → OnOk result
         (book.new.register ≡ after_all book.old.register commands.now) }
-    ensures good { OnOk result (IsGood book.new.register) }
+    ensures good { IsGood book.old.register → OnOk result (IsGood book.new.register) }
 {
     for command in commands {
         carry_out(book, command)?;
@@ -96,10 +94,9 @@ where
     C: Shelf<Record>,
     T: Shelf<StepRow>,
     H: Shelf<Hold>,
-    requires { IsGood book.old.register }
-    ensures register { OnOk result
+    ensures register { IsGood book.old.register → OnOk result
         (book.new.register ≡ after book.old.register command.now) }
-    ensures good { OnOk result (IsGood book.new.register) }
+    ensures good { IsGood book.old.register → OnOk result (IsGood book.new.register) }
 {
     let decision = book.answer(command)?;
     book.reserve(&decision.change)?;

@@ -5,8 +5,8 @@ use Rattle.clr_rules.specs.Run.{after}
 use Rattle.clr_wayback.proofs.walk.carry_out.Goals as goal
 
 pub returns-clause-good : goal.returns-clause-good
-returns-clause-good g c =
+returns-clause-good g c good =
     let R = c.args.book.now.register in
     let q = c.args.command.now in
     let same : c.apply.new.self.register ≡ after R q = search rules in
-    subst IsGood (sym same) (commands_keep_good R q c.requires)
+    subst IsGood (sym same) (commands_keep_good R q good)

@@ -5,4 +5,5 @@ use Rattle.clr_wayback.proofs.walk.carry_out_all.Given as goal
 
 -- the commands that are left lead where all do
 abbrev pub invariant-loop-command : goal.invariant-loop-command
-invariant-loop-command g l = IsGood l.book.register × (after_all l.book.register (drop l.command-index l.fn.commands) ≡ after_all l.fn.book.register l.fn.commands)
+invariant-loop-command g l = IsGood l.fn.book.register
+    → IsGood l.book.register × (after_all l.book.register (drop l.command-index l.fn.commands) ≡ after_all l.fn.book.register l.fn.commands)
