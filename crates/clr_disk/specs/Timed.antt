@@ -1,9 +1,21 @@
--- A stream that ends at a time. Of the time no clause speaks.
-use Rattle.std.specs.Prelude.{◌≡◌, ◌⊎◌, IsErr, IsSome, Result}
+-- A stream that ends at a time, which is that of a clock.
+use Rattle.std.specs.Prelude.{◌≡◌, ◌⊎◌, ◌+◌, ◌*◌, ℕ, IfSome, IsErr, IsSome, Result}
+use Rattle.std.specs.Time.{instant_nanos}
+use Rattle.std.specs.declared.time.Instant.{Instant}
+use Rattle.clr_disk.specs.declared.timed.Call.{Call}
+use Rattle.clr_disk.specs.declared.timed.Limit.{Limit}
 use Rattle.clr_disk.specs.declared.timed.Timed.{Timed}
 
--- A CALL OF A STREAM IS PASSED ON, and then its limit stays; or, where it has one, the call fails and
--- the stream is as it was
-abbrev pub IsPassedOn : {T K V E : Type 0} → Timed T K → Timed T K → Result V E → Type 0 → Type 0
-IsPassedOn old new result Passed = (Passed × (new.limit ≡ old.limit))
+-- A LIMIT THAT IS THIS NUMBER OF SECONDS after a moment of a clock, and goes by that clock
+pub record EndsAfter {K : Type 0} (clock : K) (now : Instant) (seconds : ℕ) (limit : Limit K)
+    : Type 0 where
+  pub by : limit.clock ≡ clock
+  pub at : instant_nanos limit.end ≡ instant_nanos now + seconds * 1_000_000_000
+
+-- A CALL OF A STREAM IS PASSED ON, and then its limit stays, and the stream was let wait up to it
+-- first; or, where it has one, the call fails and the stream is as it was
+abbrev pub IsPassedOn : {T K V E : Type 0} → (T → Call → Limit K → Type 0) → Call → Timed T K
+    → Timed T K → Result V E → Type 0 → Type 0
+IsPassedOn waits call old new result Passed =
+    (IfSome old.limit (waits old.stream call) × Passed × (new.limit ≡ old.limit))
     ⊎ (IsErr result × IsSome old.limit × (new ≡ old))

@@ -49,6 +49,8 @@ impl<S: Start + Copy> System for Host<S> {
 
     ghost has_size = { λ _ _. ⊤ };
 
+    ghost has_clock = { λ host clock. clock ≡ host.rt };
+
     ghost has_files = { λ old _ files new. (new ≡ old)
         × (image_of ⟦<FileFrom<S> as Disk>⟧ files ≡ image_at S.Start) };
 
@@ -76,7 +78,9 @@ impl<S: Start + Copy> System for Host<S> {
         Ok(state.hash_one(&0u8))
     }
 
-    fn clock(&self) -> HostRuntime {
+    fn clock(&self) -> HostRuntime
+        ensures { result ≡ self.now.rt }
+    {
         self.rt
     }
 

@@ -15,7 +15,7 @@ mod watched_database;
 pub use behind::Behind;
 pub use host::Host;
 pub use system::System;
-pub use timed::{Limit, Timed, Waits};
+pub use timed::{Call, Limit, Timed, Waits};
 pub use watch::{Event, Watch};
 pub use watched::Watched;
 pub use watched_database::{WatchedDatabase, open_watched};

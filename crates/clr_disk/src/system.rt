@@ -31,6 +31,9 @@ pub trait System {
     /// That the file at a path has this number of bytes. Only `size` says so.
     ghost has_size: { List ℕ → ℕ → Type 0 };
 
+    /// That this clock is the system's. Only `clock` says so.
+    ghost has_clock: { Self → Self.Clock → Type 0 };
+
     /// That the files of the database at a path were opened. Only `files` says so.
     ghost has_files: { Self → List ℕ → DiskFiles Self.Medium → Self → Type 0 };
 
@@ -54,8 +57,9 @@ pub trait System {
     /// A number that cannot be guessed.
     fn seed(&self) -> io::Result<u64>;
 
-    /// What tells the time.
-    fn clock(&self) -> Self::Clock;
+    /// What shows the time.
+    fn clock(&self) -> Self::Clock
+        ensures { has_clock self.now result };
 
     /// Opens the database file at a path and its log, and makes those that are not there.
     fn files(&mut self, path: &str) -> Result<Files<Self::Medium>, OpenError>

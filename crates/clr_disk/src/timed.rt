@@ -1,6 +1,10 @@
 //! A stream that ends at a time.
-ghost use Rattle.std.specs.Prelude.{◌≡◌, IsErr, IsSome};
-ghost use Rattle.clr_disk.specs.Timed.{IsPassedOn};
+ghost use Rattle.std.specs.Prelude.{◌≡◌, ◌-◌, ◌≤◌, ◌↔◌, IfOk, IfSome, IsErr, IsSome, OnOk, ⊤};
+ghost use Rattle.std.specs.Duration.{as_nanos};
+ghost use Rattle.std.specs.Time.{instant_nanos};
+ghost use Rattle.clr_disk.specs.Timed.{EndsAfter, IsPassedOn};
+ghost use Rattle.clr_disk.specs.declared.timed.Call.{Call as AnyCall};
+ghost use Rattle.clr_disk.specs.declared.timed.Limit.{Limit as AnyLimit};
 
 use clr_stream::{ReadStep, WriteStep};
 use std::io;
@@ -9,23 +13,37 @@ use std::net::TcpStream;
 use std::rt::Clock;
 use std::time::{Duration, Instant};
 
-/// A stream of which a read or a write may be let wait for so long, and no longer. One that would
-/// wait longer fails.
-pub trait Waits {
-    /// Lets each read that follows wait for at most this long.
-    fn let_reads_wait(&self, most: Duration) -> io::Result<()>;
-
-    /// Lets each write that follows wait for at most this long.
-    fn let_writes_wait(&self, most: Duration) -> io::Result<()>;
+/// A call of a stream. A flush waits as a write does.
+#[derive(Clone, Copy)]
+pub enum Call {
+    Read,
+    Write,
 }
 
-impl Waits for TcpStream {
-    fn let_reads_wait(&self, most: Duration) -> io::Result<()> {
-        self.set_read_timeout(Some(most))
-    }
+/// A stream of which a read or a write may be let wait up to a limit, and no longer. One that would
+/// wait longer fails.
+pub trait Waits<K> {
+    /// That a call of this stream waits up to this limit, and no longer. Only `let_wait` says so.
+    ghost waits: { Self → AnyCall → AnyLimit K → Type 0 };
 
-    fn let_writes_wait(&self, most: Duration) -> io::Result<()> {
-        self.set_write_timeout(Some(most))
+    /// Lets each call of that kind that follows wait for at most what is left of the time now. Fails
+    /// where nothing is.
+    fn let_wait(&self, call: Call, limit: &Limit<K>) -> io::Result<()>
+        ensures { OnOk result (waits self.now call limit.now) };
+}
+
+/// Of how long a call of a socket waits no clause can speak.
+impl<K: Clock> Waits<K> for TcpStream {
+    ghost waits = { λ _ _ _. ⊤ };
+
+    fn let_wait(&self, call: Call, limit: &Limit<K>) -> io::Result<()>
+        ensures { OnOk result ⊤ }
+    {
+        let left = limit.left(Instant::now(&limit.clock)?)?;
+        match call {
+            Call::Read => self.set_read_timeout(Some(left)),
+            Call::Write => self.set_write_timeout(Some(left)),
+        }
     }
 }
 
@@ -36,10 +54,12 @@ pub struct Limit<K> {
     end: Instant,
 }
 
-impl<K: Clock + Drop> Limit<K> {
-    /// The end of this number of seconds from now.
-    pub fn after(clock: K, seconds: u16) -> io::Result<Limit<K>> {
-        let now = Instant::now(&clock)?;
+impl<K: Drop> Limit<K> {
+    /// The end of this number of seconds from a moment of a clock. There is none after the last
+    /// moment that the clock can show.
+    pub fn after(clock: K, now: Instant, seconds: u16) -> io::Result<Limit<K>>
+        ensures { IfOk result (EndsAfter clock now seconds) }
+    {
         match now.checked_add(Duration::from_secs(u64::from(seconds))) {
             Some(end) => Ok(Limit { clock, end }),
             None => Err(io::Error::from(io::ErrorKind::TimedOut)),
@@ -47,10 +67,13 @@ impl<K: Clock + Drop> Limit<K> {
     }
 }
 
-impl<K: Clock> Limit<K> {
-    /// What is left of the time. Where nothing is, the stream has timed out.
-    fn left(&self) -> io::Result<Duration> {
-        let now = Instant::now(&self.clock)?;
+impl<K> Limit<K> {
+    /// What is left of the time at a moment. Where nothing is, the stream has timed out.
+    fn left(&self, now: Instant) -> io::Result<Duration>
+        ensures left { IfOk result (λ left.
+            as_nanos left ≡ instant_nanos self.now.end - instant_nanos now) }
+        ensures over { IsErr result ↔ (instant_nanos self.now.end ≤ instant_nanos now) }
+    {
         let left = self.end.saturating_duration_since(now);
         if left.is_zero() {
             return Err(io::Error::from(io::ErrorKind::TimedOut));
@@ -78,29 +101,20 @@ impl<T, K> Timed<T, K> {
     }
 }
 
-impl<T: Waits, K: Clock> Timed<T, K> {
-    /// Lets the next read wait for what is left of the time.
-    fn limit_read(&self) -> io::Result<()>
-        ensures { IsErr result → IsSome self.now.limit }
+impl<T: Waits<K>, K> Timed<T, K> {
+    /// Lets the next call wait up to the limit, if there is one.
+    fn let_wait(&self, call: Call) -> io::Result<()>
+        ensures waits { OnOk result (IfSome self.now.limit (T.waits self.now.stream call)) }
+        ensures unlimited { IsErr result → IsSome self.now.limit }
     {
         match &self.limit {
-            Some(limit) => self.stream.let_reads_wait(limit.left()?),
-            None => Ok(()),
-        }
-    }
-
-    /// Lets the next write wait for what is left of the time.
-    fn limit_write(&self) -> io::Result<()>
-        ensures { IsErr result → IsSome self.now.limit }
-    {
-        match &self.limit {
-            Some(limit) => self.stream.let_writes_wait(limit.left()?),
+            Some(limit) => self.stream.let_wait(call, limit),
             None => Ok(()),
         }
     }
 }
 
-impl<T: ReadStep + Waits, K: Clock> Read for Timed<T, K> {
+impl<T: ReadStep + Waits<K>, K> Read for Timed<T, K> {
     ghost use Rattle.std.specs.Io.{ReadsAtMost};
     ghost use Rattle.std.specs.Io.KnownBytes.{ReadConsumes};
 
@@ -112,15 +126,15 @@ impl<T: ReadStep + Waits, K: Clock> Read for Timed<T, K> {
             result buf.new }
 
         // The read of the stream: one, into this buffer, with this answer; or none, at its end.
-        ensures step { IsPassedOn self.old self.new result
+        ensures step { IsPassedOn T.waits Call.Read self.old self.new result
             (T.reads self.old.stream buf.old result buf.new self.new.stream) }
     {
-        self.limit_read()?;
+        self.let_wait(Call::Read)?;
         self.stream.read_step(buf)
     }
 }
 
-impl<T: WriteStep + Waits, K: Clock> Write for Timed<T, K> {
+impl<T: WriteStep + Waits<K>, K> Write for Timed<T, K> {
     ghost use Rattle.std.specs.Io.{WritesAtMost};
     ghost use Rattle.std.specs.Io.KnownBytes.{Keeps, WriteAppends};
 
@@ -132,10 +146,10 @@ impl<T: WriteStep + Waits, K: Clock> Write for Timed<T, K> {
             result buf.now }
 
         // The write of the stream: one, of these bytes, with this answer; or none, at its end.
-        ensures step { IsPassedOn self.old self.new result
+        ensures step { IsPassedOn T.waits Call.Write self.old self.new result
             (T.writes self.old.stream buf.now result self.new.stream) }
     {
-        self.limit_write()?;
+        self.let_wait(Call::Write)?;
         self.stream.write_step(buf)
     }
 
@@ -143,10 +157,10 @@ impl<T: WriteStep + Waits, K: Clock> Write for Timed<T, K> {
         ensures bytes { Keeps (T.contents self.old.stream) (T.contents self.new.stream) }
 
         // The flush of the stream: one, with this answer; or none, at its end.
-        ensures step { IsPassedOn self.old self.new result
+        ensures step { IsPassedOn T.waits Call.Write self.old self.new result
             (T.flushes self.old.stream result self.new.stream) }
     {
-        self.limit_write()?;
+        self.let_wait(Call::Write)?;
         self.stream.flush_step()
     }
 }
