@@ -1,5 +1,5 @@
 -- A stream that ends at a time, which is that of a clock.
-use Rattle.std.specs.Prelude.{◌≡◌, ◌⊎◌, ◌+◌, ◌*◌, ℕ, IfSome, IsErr, IsSome, Result}
+use Rattle.std.specs.Prelude.{◌≡◌, ◌⊎◌, ◌+◌, ◌*◌, ℕ, IfSome, IsErr, IsSomeAnd, Result}
 use Rattle.std.specs.Time.{instant_nanos}
 use Rattle.std.specs.declared.time.Instant.{Instant}
 use Rattle.clr_disk.specs.declared.timed.Call.{Call}
@@ -13,9 +13,9 @@ pub record EndsAfter {K : Type 0} (clock : K) (now : Instant) (seconds : ℕ) (l
   pub at : instant_nanos limit.end ≡ instant_nanos now + seconds * 1_000_000_000
 
 -- A CALL OF A STREAM IS PASSED ON, and then its limit stays, and the stream was let wait up to it
--- first; or, where it has one, the call fails and the stream is as it was
-abbrev pub IsPassedOn : {T K V E : Type 0} → (T → Call → Limit K → Type 0) → Call → Timed T K
-    → Timed T K → Result V E → Type 0 → Type 0
-IsPassedOn waits call old new result Passed =
+-- first; or, where it has one and could not be let wait, the call fails and it is as it was
+abbrev pub IsPassedOn : {T K V E : Type 0} → (T → Call → Limit K → Type 0)
+    → (T → Call → Limit K → Type 0) → Call → Timed T K → Timed T K → Result V E → Type 0 → Type 0
+IsPassedOn waits is_over call old new result Passed =
     (IfSome old.limit (waits old.stream call) × Passed × (new.limit ≡ old.limit))
-    ⊎ (IsErr result × IsSome old.limit × (new ≡ old))
+    ⊎ (IsErr result × IsSomeAnd old.limit (is_over old.stream call) × (new ≡ old))

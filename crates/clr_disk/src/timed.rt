@@ -1,5 +1,6 @@
 //! A stream that ends at a time.
-ghost use Rattle.std.specs.Prelude.{◌≡◌, ◌-◌, ◌≤◌, ◌↔◌, IfOk, IfSome, IsErr, IsSome, OnOk, ⊤};
+ghost use Rattle.std.specs.Prelude.{◌≡◌, ◌-◌, ◌≤◌, ◌↔◌, IfOk, IfSome, IsErr, IsSomeAnd};
+ghost use Rattle.std.specs.Prelude.{OnErr, OnOk, ⊤};
 ghost use Rattle.std.specs.Duration.{as_nanos};
 ghost use Rattle.std.specs.Time.{instant_nanos};
 ghost use Rattle.clr_disk.specs.Timed.{EndsAfter, IsPassedOn};
@@ -26,18 +27,26 @@ pub trait Waits<K> {
     /// That a call of this stream waits up to this limit, and no longer. Only `let_wait` says so.
     ghost waits: { Self → AnyCall → AnyLimit K → Type 0 };
 
+    /// That this stream could not be let wait: nothing is left of the time, or it failed. Only
+    /// `let_wait` says so.
+    ghost is_over: { Self → AnyCall → AnyLimit K → Type 0 };
+
     /// Lets each call of that kind that follows wait for at most what is left of the time now. Fails
     /// where nothing is.
     fn let_wait(&self, call: Call, limit: &Limit<K>) -> io::Result<()>
-        ensures { OnOk result (waits self.now call limit.now) };
+        ensures waits { OnOk result (waits self.now call limit.now) }
+        ensures is_over { OnErr result (is_over self.now call limit.now) };
 }
 
 /// Of how long a call of a socket waits no clause can speak.
 impl<K: Clock> Waits<K> for TcpStream {
     ghost waits = { λ _ _ _. ⊤ };
 
+    ghost is_over = { λ _ _ _. ⊤ };
+
     fn let_wait(&self, call: Call, limit: &Limit<K>) -> io::Result<()>
-        ensures { OnOk result ⊤ }
+        ensures waits { OnOk result ⊤ }
+        ensures is_over { OnErr result ⊤ }
     {
         let left = limit.left(Instant::now(&limit.clock)?)?;
         match call {
@@ -105,7 +114,8 @@ impl<T: Waits<K>, K> Timed<T, K> {
     /// Lets the next call wait up to the limit, if there is one.
     fn let_wait(&self, call: Call) -> io::Result<()>
         ensures waits { OnOk result (IfSome self.now.limit (T.waits self.now.stream call)) }
-        ensures unlimited { IsErr result → IsSome self.now.limit }
+        ensures is_over { OnErr result
+            (IsSomeAnd self.now.limit (T.is_over self.now.stream call)) }
     {
         match &self.limit {
             Some(limit) => self.stream.let_wait(call, limit),
@@ -126,7 +136,7 @@ impl<T: ReadStep + Waits<K>, K> Read for Timed<T, K> {
             result buf.new }
 
         // The read of the stream: one, into this buffer, with this answer; or none, at its end.
-        ensures step { IsPassedOn T.waits Call.Read self.old self.new result
+        ensures step { IsPassedOn T.waits T.is_over Call.Read self.old self.new result
             (T.reads self.old.stream buf.old result buf.new self.new.stream) }
     {
         self.let_wait(Call::Read)?;
@@ -146,7 +156,7 @@ impl<T: WriteStep + Waits<K>, K> Write for Timed<T, K> {
             result buf.now }
 
         // The write of the stream: one, of these bytes, with this answer; or none, at its end.
-        ensures step { IsPassedOn T.waits Call.Write self.old self.new result
+        ensures step { IsPassedOn T.waits T.is_over Call.Write self.old self.new result
             (T.writes self.old.stream buf.now result self.new.stream) }
     {
         self.let_wait(Call::Write)?;
@@ -157,7 +167,7 @@ impl<T: WriteStep + Waits<K>, K> Write for Timed<T, K> {
         ensures bytes { Keeps (T.contents self.old.stream) (T.contents self.new.stream) }
 
         // The flush of the stream: one, with this answer; or none, at its end.
-        ensures step { IsPassedOn T.waits Call.Write self.old self.new result
+        ensures step { IsPassedOn T.waits T.is_over Call.Write self.old self.new result
             (T.flushes self.old.stream result self.new.stream) }
     {
         self.let_wait(Call::Write)?;
