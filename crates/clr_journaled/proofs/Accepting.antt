@@ -4,6 +4,7 @@ use Rattle.serde_json.specs.Data.{Data, member, no_members, object, string}
 use Rattle.clr_rules.specs.Refusal.{number_of}
 use Rattle.clr_rules.specs.declared.reply.Reply.{Reply}
 use Rattle.clr_rules.specs.declared.reply.Reply.TheVariants.{Accepted, Added, Refused, Shown}
+use Rattle.clr_again.specs.Again.{is_accepted as accepts}
 use Rattle.clr_answer.specs.Decision.{is_accepted}
 use Rattle.clr_text.specs.Json.{member_if, whole_data}
 use Rattle.clr_text.specs.RefusalText.{by_of, kind_of, point_of, refusal_name, section_of}
@@ -37,3 +38,9 @@ accepted_data (Shown view) = refl
 accepted_data (Added point) = refl
 accepted_data (Refused refusal) =
     refused_by (by_of refusal) (kind_of refusal) (point_of refusal) (whole_data (number_of refusal)) (string (refusal_name refusal)) (section_of refusal)
+
+pub same_accepted : (reply : Reply) → is_accepted reply ≡ accepts reply
+same_accepted (Accepted card) = refl
+same_accepted (Shown view) = refl
+same_accepted (Refused refusal) = refl
+same_accepted (Added point) = refl

@@ -1,3 +1,4 @@
 pub mod Accepting
 pub mod Following
 pub mod Redoing
+pub mod Restarting

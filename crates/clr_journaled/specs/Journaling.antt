@@ -1,13 +1,17 @@
 -- A KEEPER WITH A JOURNAL: which line a command has, and when.
-use Rattle.std.specs.Prelude.{◌≡◌, ◌⊎◌, ◌+◌, ℕ, Bool, true, false, List, Option, Ok, Err}
+use Rattle.std.specs.Prelude.{◌≡◌, ◌⊎◌, ◌+◌, ◌^◌, ◌<◌, ℕ, Bool, true, false, IsTrue, List, ⊤}
+use Rattle.std.specs.Prelude.{None, Option, Some, Ok, Err}
 use Rattle.sqlite_disk.specs.Disk.{Only}
 use Rattle.clr_append.specs.Journal.{with_line}
 use Rattle.clr_rules.specs.declared.command.Command.{Command}
 use Rattle.clr_rules.specs.declared.reply.Reply.{Reply}
+use Rattle.clr_rules.specs.Id.{Id, is_id}
+use Rattle.clr_again.specs.Redo.{clearance_in}
 use Rattle.clr_answer.specs.Decision.{is_accepted}
+use Rattle.clr_text.specs.CommandText.{has_its_moment}
 use Rattle.clr_text.specs.Replies.{reply_data}
 use Rattle.clr_journal.specs.Journals.{turn_after}
-use Rattle.clr_journal.specs.Line.{Entry, carried, line_text, withdrawn}
+use Rattle.clr_journal.specs.Line.{Entry, carried, line_text, read_line, withdrawn}
 use Rattle.clr_journal.specs.declared.line.Receipt.{Receipt}
 use Rattle.clr_journal.specs.declared.reading.Turn.{Turn}
 use Rattle.clr_desk.specs.Taking.{Came, Taking}
@@ -46,23 +50,35 @@ is_doubtful Doubtful = true
 
 -- ---- one command
 
+-- a clearance of a reply is named as clearances are
+abbrev pub IsNamed : Option Id → Type 0
+IsNamed None = ⊤
+IsNamed (Some c) = IsTrue (is_id c)
+
 -- THE LINE OF A COMMAND is added to what the journal says: the next number, the login that was
--- heard, the command and its reply
+-- heard, which is that of no other command, the command and its reply
 pub record IsNoted {K J C : Type 0} (text : J → List ℕ) (old : Journaled K J C) (q : Command)
     (reply : Reply) (new : Journaled K J C) : Type 0 where
   pub receipt : Receipt
   pub number : receipt.number ≡ (turn_said old).last + 1
+  pub within : receipt.number < 2 ^ 64
   pub login : receipt.login ≡ old.login
+  pub passed : new.login ≡ None
   pub text_is : text new.journal
       ≡ with_entry (said text old) (carried receipt q (reply_data reply))
   pub turn_is : new.turn ≡ turn_after (carried receipt q (reply_data reply))
   pub certain : is_doubtful old.last ≡ false
+  pub named : IsNamed (clearance_in reply)
+  pub reads : has_its_moment q ≡ true → read_line (line_text (carried receipt q (reply_data reply)))
+      ≡ Some (carried receipt q (reply_data reply))
 
--- NO LINE IS ADDED to what the journal says
+-- NO LINE IS ADDED to what the journal says; where a withdrawal is owed, it was
 pub record IsUnnoted {K J C : Type 0} (text : J → List ℕ) (old new : Journaled K J C) : Type 0 where
   pub text_is : said text new ≡ said text old
   pub turn_is : turn_said new ≡ turn_said old
   pub doubt : is_doubtful new.last ≡ is_doubtful old.last
+  pub owes : new.last ≡ Owed
+      → (old.last ≡ Owed) × (text new.journal ≡ text old.journal)
 
 -- the journal was not written, or memory ran out
 abbrev pub IsOfJournal : DeskFault → Type 0

@@ -1,3 +1,5 @@
 pub mod Journaling
+pub mod Left
 pub mod Saying
 pub mod Redo
+pub mod Restarting

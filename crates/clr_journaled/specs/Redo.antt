@@ -1,25 +1,22 @@
 -- REDO: what is done with the last line of a journal when it is opened. A line is written before
 -- its change, so a crash may have left the register without it.
-use Rattle.std.specs.Prelude.{◌≡◌, ◌⊎◌, ℕ, Bool, true, false, IsTrue, List, [], ◌∷◌, ◌++◌, Option, None, Some}
-use Rattle.std.specs.Prelude.{codes, if◌then◌else◌, option_and_then, option_map, ⊤}
+use Rattle.std.specs.Prelude.{◌≡◌, ℕ, Bool, true, List, Option, None, Some, codes}
+use Rattle.std.specs.Prelude.{if◌then◌else◌, option_and_then, option_map}
 use Rattle.serde_json.specs.Data.{Data}
 use Rattle.serde_json.specs.Find.{as_str}
 use Rattle.clr_rules.specs.Good.{IsGood}
-use Rattle.clr_rules.specs.Id.{Id, is_id}
+use Rattle.clr_rules.specs.Id.{Id}
 use Rattle.clr_rules.specs.IdText.{read_id}
 use Rattle.clr_rules.specs.Register.{Register}
-use Rattle.clr_rules.specs.Run.{after}
-use Rattle.clr_rules.specs.declared.command.Command.{Command}
 use Rattle.clr_rules.specs.declared.reply.Reply.{Reply}
-use Rattle.clr_again.specs.Again.{is_accepted as accepts, reply_to}
 use Rattle.clr_again.specs.Redo.{clearance_in, redone, same_clearance}
-use Rattle.clr_text.specs.Replies.{reply_data}
 use Rattle.clr_journal.specs.Journals.{carried_out, first_turn, in_turn, journal_text, turn_after}
-use Rattle.clr_journal.specs.Line.{Entry, at_key, carried, is_accepted, line_text, read_line, withdrawn}
-use Rattle.clr_journal.specs.declared.line.Receipt.{Receipt}
+use Rattle.clr_journal.specs.Line.{Entry, at_key, carried, is_accepted, line_text, read_line}
+use Rattle.clr_journal.specs.Line.{withdrawn}
 use Rattle.clr_journal.specs.declared.reading.Turn.{Turn}
 use Rattle.clr_desk.specs.declared.desk.Desk.{Desk}
-use Rattle.clr_journaled.specs.Saying.{IsRunOf}
+use Rattle.clr_journaled.specs.Left.{IsRunOf, WasLeft, last_entry}
+use Rattle.clr_journaled.specs.Saying.{AreRead}
 use Rattle.clr_journaled.specs.declared.journaled.Journaled.{Journaled}
 
 -- the clearance whose card a reply has, by its JSON value
@@ -57,44 +54,16 @@ pub record IsRedone (last : Option (List ℕ)) (turn : Turn) (R S : Register) : 
   pub turn_is : turn ≡ turn_by entry
   pub register : IsGood R → S ≡ redone_by entry R
 
--- ---- what was left
-
--- a clearance of a reply is named as clearances are
-abbrev pub IsNamed : Option Id → Type 0
-IsNamed None = ⊤
-IsNamed (Some c) = IsTrue (is_id c)
-
-abbrev pub last_entry : List Entry → Option Entry
-last_entry [] = None
-last_entry (entry ∷ []) = Some entry
-last_entry (entry ∷ next ∷ rest) = last_entry (next ∷ rest)
-
--- whether the last line of a journal accepts a command
-abbrev pub accepts_last : Option Entry → Bool
-accepts_last None = false
-accepts_last (Some (withdrawn n)) = false
-accepts_last (Some (carried receipt q said)) = is_accepted said
-
--- THE REGISTER THAT WAS LEFT: that of the commands of the lines; or, where the last line accepts a
--- command, that of all of them or of all but this
-pub data WasLeft (first : Register) (lines : List Entry) (S : Register) : Type 0 where
-  whole : accepts_last (last_entry lines) ≡ false → IsRunOf first (carried_out lines) S
-      → WasLeft first lines S
-  last_in_doubt : (earlier : List Entry) (receipt : Receipt) (q : Command) (R : Register)
-      → IsRunOf first (carried_out earlier) R → accepts (reply_to R q) ≡ true
-      → IsNamed (clearance_in (reply_to R q))
-      → lines ≡ earlier ++ carried receipt q (reply_data (reply_to R q)) ∷ []
-      → (S ≡ R) ⊎ (S ≡ after R q) → WasLeft first lines S
-
 -- REDONE, IT IS WHAT THE JOURNAL SAYS
 abbrev pub LastLinesAreRedone : Type 0
 LastLinesAreRedone = (first S : Register) (lines : List Entry) → IsGood first
     → WasLeft first lines S → IsRunOf first (carried_out lines) (redone_by (last_entry lines) S)
 
--- a journal has these lines in turn, and its last line reads
+-- a journal has these lines in turn, which are read from their texts, as its last line is
 pub record HasLines (text : List ℕ) (last : Option (List ℕ)) (lines : List Entry) : Type 0 where
   pub text_is : text ≡ journal_text lines
   pub turns : in_turn first_turn lines ≡ true
+  pub are_read : AreRead lines
   pub last_is : last ≡ option_map line_text (last_entry lines)
   pub reads : option_and_then (λ entry. read_line (line_text entry)) (last_entry lines)
       ≡ last_entry lines

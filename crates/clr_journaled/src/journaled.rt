@@ -1,10 +1,11 @@
 //! A keeper, and a journal in which each command has its line before the keeper takes it.
-ghost use Rattle.std.specs.Prelude.{◌≡◌, ◌+◌, false, true, IfErr, IfOk, IsTrue, OnErr, OnOk};
+ghost use Rattle.std.specs.Prelude.{◌≡◌, ◌+◌, false, true, IfErr, IfOk, IsTrue, None, OnErr, OnOk};
+ghost use Rattle.clr_again.specs.Redo.{clearance_in};
 ghost use Rattle.clr_answer.specs.Decision.{is_accepted as accepts};
 ghost use Rattle.clr_journal.specs.Line.{is_accepted};
 ghost use Rattle.clr_text.specs.Replies.{reply_data};
-ghost use Rattle.clr_journaled.specs.Journaling.{IsDurable, IsNoted, IsOfJournal, IsUnnoted};
-ghost use Rattle.clr_journaled.specs.Journaling.{IsUnwritten, is_doubtful};
+ghost use Rattle.clr_journaled.specs.Journaling.{IsDurable, IsNamed, IsNoted, IsOfJournal};
+ghost use Rattle.clr_journaled.specs.Journaling.{IsUnnoted, IsUnwritten, is_doubtful};
 ghost use Rattle.clr_journaled.specs.Journaling.{said, turn_said};
 
 use crate::clock::Clock;
@@ -31,7 +32,7 @@ pub struct Journaled<K: Commit, J: Journal + Drop, C: Clock> {
 
 impl<K: Commit, J: Journal + Drop, C: Clock> Journaled<K, J, C> {
     /// A keeper with a journal that has come to this turn, and whose last command was carried out,
-    /// refused or withdrawn.
+    /// refused or withdrawn. No login was heard.
     pub(crate) fn new(
         alloc: Global,
         keeper: K,
@@ -41,6 +42,8 @@ impl<K: Commit, J: Journal + Drop, C: Clock> Journaled<K, J, C> {
     ) -> Journaled<K, J, C>
         ensures keeper { result.keeper ≡ keeper }
         ensures journal { result.journal ≡ journal }
+        ensures clock { result.clock ≡ clock }
+        ensures login { result.login ≡ None }
         ensures turn { result.turn ≡ turn }
         ensures last { result.last ≡ Last.Settled }
     {
@@ -72,6 +75,7 @@ impl<K: Commit, J: Journal + Drop, C: Clock> Journaled<K, J, C> {
         ensures none { OnErr result (IsUnnoted J.text self.old self.new) }
         ensures fault { IfErr result IsOfJournal }
     {
+        named(reply);
         self.settle()?;
         let receipt = self.receipt()?;
         let number = receipt.number;
@@ -132,6 +136,7 @@ impl<K: Commit, J: Journal + Drop, C: Clock> Journaled<K, J, C> {
     fn receipt(&mut self) -> Result<Receipt, DeskFault>
         ensures number { IfOk result (λ receipt. receipt.number ≡ self.old.turn.last + 1) }
         ensures login { IfOk result (λ receipt. receipt.login ≡ self.old.login) }
+        ensures passed { OnOk result (self.new.login ≡ None) }
         ensures keeper { self.new.keeper ≡ self.old.keeper }
         ensures journal { self.new.journal ≡ self.old.journal }
         ensures turn { self.new.turn ≡ self.old.turn }
@@ -158,5 +163,17 @@ fn is_accepted(reply: &Reply) -> bool
     match reply {
         Reply::Accepted(_) | Reply::Added(_) => true,
         Reply::Shown(_) | Reply::Refused(_) => false,
+    }
+}
+
+/// The clearance of a card is named as clearances are, as every value of the program is: a law, with
+/// nothing to do.
+fn named(reply: &Reply)
+    ensures { IsNamed (clearance_in reply.now) }
+{
+    if let Reply::Accepted(card) = reply {
+        let requester = card.clearance.requester();
+        let _name = requester.as_str();
+        let _number = card.clearance.number();
     }
 }

@@ -1,13 +1,16 @@
 //! A desk is given a journal: its last line is redone first.
-ghost use Rattle.std.specs.Prelude.{◌≡◌, Err, IfErr, IfOk, IfSome, List, None, OnOk, Some, codes};
-ghost use Rattle.std.specs.Prelude.{option_map};
+ghost use Rattle.std.specs.Prelude.{◌≡◌, Err, IfErr, IfOk, IsSomeAnd, List, None, OnErr, OnOk};
+ghost use Rattle.std.specs.Prelude.{Some, codes, option_map};
 ghost use Rattle.serde_json.specs.View.{view};
 ghost use Rattle.clr_rules.specs.Good.{IsGood};
 ghost use Rattle.clr_rules.specs.Register.{Register};
 ghost use Rattle.clr_again.specs.Redo.{clearance_in, redone, same_clearance};
+ghost use Rattle.clr_desk.specs.Faults.{IsOfKeeper};
 ghost use Rattle.clr_desk.specs.Given.{LeadsTo};
+ghost use Rattle.clr_desk.specs.declared.desk_fault.DeskFault.{DeskFault};
 ghost use Rattle.clr_journal.specs.Line.{Entry, at_key, entry_of, read_line};
-ghost use Rattle.clr_journaled.specs.Redo.{HasLines, IsOver, IsRedone, WasLeft, clearance_at};
+ghost use Rattle.clr_journaled.specs.Left.{WasLeft};
+ghost use Rattle.clr_journaled.specs.Redo.{HasLines, IsOver, IsRedone, clearance_at};
 ghost use Rattle.clr_journaled.specs.Redo.{id_in, is_of, redone_by};
 ghost use Rattle.clr_journaled.specs.Saying.{Says};
 
@@ -25,8 +28,8 @@ use std::alloc::Global;
 ///
 /// Its change may be missing, since a line is written before its change. So the command of the last
 /// line, where that accepts it, is answered; where the answer is the line's, it is carried out.
-/// `BadLine` where the last line is no line of a journal; `Desk` where the command is not carried
-/// out. A fault gives the desk back.
+/// `BadLine` where there is a last line and it is no line of a journal; `Desk` where the command is
+/// not carried out, or memory runs out. A fault gives the desk back, with its register as it was.
 pub fn with_journal<K: Commit, J: Journal + Drop, C: Clock>(
     alloc: Global,
     desk: Desk<K>,
@@ -37,6 +40,8 @@ pub fn with_journal<K: Commit, J: Journal + Drop, C: Clock>(
     ensures redone { IfOk result (λ opened. IsRedone (option_map (λ text. text.items) last)
         opened.store.turn desk.book.register opened.book.register) }
     ensures journal { IfOk result (λ opened. opened.store.journal ≡ journal) }
+    ensures clock { IfOk result (λ opened. opened.store.clock ≡ clock) }
+    ensures login { IfOk result (λ opened. opened.store.login ≡ None) }
     ensures settled { IfOk result (λ opened. opened.store.last ≡ Last.Settled) }
     ensures led { IfOk result (λ opened. IsOver (LeadsTo K.kept K.takes K.hears) desk opened) }
     ensures says { IfOk result (λ opened. (first : Register) → (lines : List Entry)
@@ -44,8 +49,11 @@ pub fn with_journal<K: Commit, J: Journal + Drop, C: Clock>(
         → WasLeft first lines desk.book.register
         → Says J.text first opened.book.register opened.store) }
     ensures back { IfErr result (λ back. LeadsTo K.kept K.takes K.hears desk back.1) }
+    ensures same { IfErr result (λ back. back.1.book.register ≡ desk.book.register) }
     ensures bad { IfErr result (λ back. back.0 ≡ OpeningFault.BadLine
-        → IfSome last (λ text. read_line text.items ≡ None)) }
+        → IsSomeAnd last (λ text. read_line text.items ≡ None)) }
+    ensures cause { IfErr result (λ back. (cause : DeskFault) → back.0 ≡ OpeningFault.Desk cause
+        → IsOfKeeper K.fails cause) }
 {
     let mut desk = desk;
     match redo(alloc, &mut desk, last) {
@@ -68,8 +76,11 @@ fn redo<K: Commit>(
     ensures redone { IfOk result (λ turn. IsRedone (option_map (λ text. text.items) last) turn
         desk.old.book.register desk.new.book.register) }
     ensures led { LeadsTo K.kept K.takes K.hears desk.old desk.new }
+    ensures same { OnErr result (desk.new.book.register ≡ desk.old.book.register) }
     ensures bad { result ≡ Err OpeningFault.BadLine
-        → IfSome last (λ text. read_line text.items ≡ None) }
+        → IsSomeAnd last (λ text. read_line text.items ≡ None) }
+    ensures cause { (cause : DeskFault) → result ≡ Err (OpeningFault.Desk cause)
+        → IsOfKeeper K.fails cause }
 {
     let Some(text) = last else {
         return Ok(Turn::first());
@@ -87,6 +98,8 @@ fn redo_line<K: Commit>(desk: &mut Desk<K>, line: Line) -> Result<(), DeskFault>
     ensures redone { IsGood desk.old.book.register → OnOk result (desk.new.book.register
         ≡ redone_by (Some (entry_of line)) desk.old.book.register) }
     ensures led { LeadsTo K.kept K.takes K.hears desk.old desk.new }
+    ensures same { OnErr result (desk.new.book.register ≡ desk.old.book.register) }
+    ensures fault { IfErr result (IsOfKeeper K.fails) }
 {
     match line {
         Line::Withdrawn(_) => Ok(()),
@@ -105,6 +118,8 @@ fn redo_command<K: Commit>(desk: &mut Desk<K>, carried: Carried) -> Result<(), D
     ensures redone { IsGood desk.old.book.register → OnOk result (desk.new.book.register
         ≡ redone (is_of (view carried.reply)) desk.old.book.register carried.command) }
     ensures led { LeadsTo K.kept K.takes K.hears desk.old desk.new }
+    ensures same { OnErr result (desk.new.book.register ≡ desk.old.book.register) }
+    ensures fault { IfErr result (IsOfKeeper K.fails) }
 {
     let clearance = clearance_at(&carried.reply);
     let decision = desk.book().answer(&carried.command)?;

@@ -1,0 +1,55 @@
+-- RESTARTS: what a keeper with a journal leaves is what opening it again takes.
+use Rattle.std.specs.Prelude.{◌≡◌, ◌⊎◌, ℕ, true, List, [], ◌∷◌, ◌++◌, Ok}
+use Rattle.std.specs.List.{list_all}
+use Rattle.clr_append.specs.Lines.{ended_text, last_line}
+use Rattle.clr_journal.specs.Journals.{read_journal}
+use Rattle.clr_journal.specs.Line.{Entry, withdrawn}
+use Rattle.clr_rules.specs.Register.{Register}
+use Rattle.clr_rules.specs.Run.{after}
+use Rattle.clr_journaled.specs.Journaling.{said}
+use Rattle.clr_journaled.specs.Left.{WasLeft}
+use Rattle.clr_journaled.specs.Redo.{HasLines}
+use Rattle.clr_journaled.specs.Saying.{InDoubt, IsDue, Says, has_moment}
+use Rattle.clr_journaled.specs.declared.journaled.Journaled.{Journaled}
+use Rattle.clr_journaled.specs.declared.last.Last.{Last}
+use Rattle.clr_journaled.specs.declared.last.Last.TheVariants.{Doubtful, Owed, Settled}
+
+-- all lines that a journal has, where a command's text states its moment, or this is 0
+abbrev pub HasMoments : List Entry → Type 0
+HasMoments lines = list_all has_moment lines ≡ true
+
+-- A JOURNAL READS BACK as the lines that it says
+abbrev pub JournalsSayTheirLines : (K J C : Type 0) → (J → List ℕ) → Type 0
+JournalsSayTheirLines K J C text = (first R : Register) (it : Journaled K J C)
+    (says : Says text first R it) → HasMoments (says.lines ++ says.doubted)
+    → read_journal (said text it) ≡ Ok (says.lines ++ says.doubted)
+
+-- THE LINES THAT ARE WRITTEN: all that are said, but for a withdrawal that is owed
+abbrev pub AreWritten : Last → List Entry → List Entry → Type 0
+AreWritten Settled all lines = lines ≡ all
+AreWritten Owed all lines = (n : ℕ) × (all ≡ lines ++ withdrawn n ∷ [])
+AreWritten Doubtful all lines = lines ≡ all
+
+-- THE REGISTER THAT A CRASH LEAVES: the one that there is; or, where the last line is in doubt, that
+-- with its command carried out
+abbrev pub MayLeave : (last : Last) (R : Register) (doubted : List Entry)
+    → InDoubt last R doubted → Register → Type 0
+MayLeave Settled R doubted none S = S ≡ R
+MayLeave Owed R doubted none S = S ≡ R
+MayLeave Doubtful R doubted one S = (S ≡ R) ⊎ (S ≡ after R (IsDue.q one.1))
+
+-- what opening a journal and a register takes: the journal has these lines, and the register was
+-- left by them
+pub record CanBeTaken (first : Register) (left : List ℕ) (S : Register) (lines : List Entry)
+    : Type 0 where
+  pub has : HasLines (ended_text left) (last_line left) lines
+  pub was_left : WasLeft first lines S
+
+-- RESTARTS FOLLOW: where a crash leaves the whole text of a journal, and such a register, they can
+-- be taken by opening them, with the lines that are written; what the journal says then holds again
+abbrev pub RestartsFollow : (K J C : Type 0) → (J → List ℕ) → Type 0
+RestartsFollow K J C text = (first R S : Register) (it : Journaled K J C) (left : List ℕ)
+    (says : Says text first R it) → HasMoments (says.lines ++ says.doubted)
+    → left ≡ text it.journal → MayLeave it.last R says.doubted says.doubt S
+    → (lines : List Entry) × AreWritten it.last (says.lines ++ says.doubted) lines
+    × CanBeTaken first left S lines
