@@ -5,6 +5,7 @@ mod asking;
 mod at_fault;
 mod book;
 mod commit;
+mod copy;
 mod desk;
 mod desk_fault;
 pub mod laws;
@@ -14,6 +15,7 @@ mod typed;
 
 pub use book::DeskBook;
 pub use commit::{Commit, Unkept};
+pub use copy::copy_of;
 pub use desk::Desk;
 pub use desk_fault::DeskFault;
 pub use run::Run;

@@ -154,7 +154,7 @@ fn built_staff(alloc: Global, rows: Vec<StaffRow>) -> Result<Staff, StoreFault>
 }
 
 /// The book of loaded rows.
-fn book_of(rows: Rows) -> Result<DeskBook, StoreFault>
+pub(crate) fn book_of(rows: Rows) -> Result<DeskBook, StoreFault>
     ensures register { IfOk result (λ book. IsRegisterOf (rows_told rows) book.register) }
     ensures network { IfOk result
         (λ book. IsGridOf (rows_told rows).sections (rows_told rows).points book.network) }

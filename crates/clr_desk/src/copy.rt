@@ -1,0 +1,110 @@
+//! A copy of a book, in which commands can be tried.
+ghost use Rattle.std.specs.Prelude.{◌≡◌, IfOk, map};
+ghost use Rattle.clr_load.specs.Contract.{rows_told};
+ghost use Rattle.clr_net.specs.Grid.{unplaced};
+ghost use Rattle.clr_rules.specs.Good.{IsGood};
+ghost use Rattle.clr_tables.specs.RowsRead.{rows_of, with_its_position};
+
+use crate::book::DeskBook;
+use crate::opening::book_of;
+use clr_book::{Book, all_rows};
+use clr_load::Rows;
+use clr_net::{PointRow, Position};
+use clr_rules::{Hold, PointState, Record, StepRow};
+use clr_shelf::{Row, Shelf};
+use std::alloc::{AllocError, Global};
+
+/// Another book with the register of a book, which is good in every register that is reached.
+pub fn copy_of(alloc: Global, book: &DeskBook) -> Result<DeskBook, AllocError>
+    ensures { IsGood book.now.register
+        → IfOk result (λ copy. copy.register ≡ book.now.register) }
+{
+    let rows = rows_of(alloc, book)?;
+    match book_of(rows) {
+        Ok(copy) => Ok(copy),
+        Err(_) => Err(AllocError),
+    }
+}
+
+/// All rows of a book, as a store that has its tables loads them.
+fn rows_of<P, C, T, H>(alloc: Global, book: &Book<P, C, T, H>) -> Result<Rows, AllocError>
+where
+    P: Shelf<PointState>,
+    C: Shelf<Record>,
+    T: Shelf<StepRow>,
+    H: Shelf<Hold>,
+    ensures { IfOk result (λ rows. rows_told rows ≡ rows_of book.now.register) }
+{
+    let (states, records, steps, holds) = book.shelves();
+    let sections = Vec::from_slice(alloc, book.network().sections())?;
+    let points = points_now(alloc, book, book.network().points())?;
+    let states = copied(alloc, states)?;
+    let staff = Vec::from_slice(alloc, book.staff().rows())?;
+    let records = copied(alloc, records)?;
+    let steps = copied(alloc, steps)?;
+    let holds = copied(alloc, holds)?;
+    Ok(Rows {
+        version: 2,
+        sections,
+        points,
+        states,
+        staff,
+        records,
+        steps,
+        holds,
+    })
+}
+
+/// The rows of a shelf, in key order.
+fn copied<R: Row + Copy, S: Shelf<R>>(alloc: Global, shelf: &S) -> Result<Vec<R>, AllocError>
+    ensures { IfOk result (λ rows. rows.items ≡ S.rows shelf.now) }
+{
+    let rows = all_rows(alloc, shelf)?;
+    copied_rows(alloc, &rows)
+}
+
+fn copied_rows<R: Row + Copy>(alloc: Global, rows: &[&R]) -> Result<Vec<R>, AllocError>
+    ensures { IfOk result (λ found. found.items ≡ map (λ row. row.now) rows.now) }
+{
+    let mut found = Vec::with_capacity(alloc, rows.len())?;
+    for row in rows {
+        found.push(**row)?;
+    }
+    Ok(found)
+}
+
+/// Switching points of a book, each in its present position.
+fn points_now<P, C, T, H>(
+    alloc: Global,
+    book: &Book<P, C, T, H>,
+    points: &[PointRow],
+) -> Result<Vec<PointRow>, AllocError>
+where
+    P: Shelf<PointState>,
+    C: Shelf<Record>,
+    T: Shelf<StepRow>,
+    H: Shelf<Hold>,
+    ensures { IfOk result (λ placed. placed.items
+        ≡ map (λ p. with_its_position book.now.register.states (unplaced p)) points.now) }
+{
+    points
+        .iter()
+        .map(|point| point_now(book, point))
+        .collect(alloc)
+}
+
+/// A switching point of a book in its present position.
+fn point_now<P, C, T, H>(book: &Book<P, C, T, H>, point: &PointRow) -> PointRow
+where
+    P: Shelf<PointState>,
+    C: Shelf<Record>,
+    T: Shelf<StepRow>,
+    H: Shelf<Hold>,
+    ensures { result ≡ with_its_position book.now.register.states (unplaced point.now) }
+{
+    let position = match book.state(&point.name) {
+        Some(state) => state.position,
+        None => Position::Opened,
+    };
+    PointRow { position, ..*point }
+}
