@@ -5,13 +5,17 @@ import { sectionWords } from "./findings.js";
 import { BOX, layOut } from "./layout.js";
 import { sectionMarks } from "./marks.js";
 import { isOffNormal } from "./positions.js";
+import { Roving } from "./roving.js";
 import { Writing } from "./writing.js";
 import { holdWord } from "./words.js";
 import { Zoom } from "./zoom.js";
 
 export const MOST_DRAWN = 1000;
+const MOVES = [["←", "To the left", -160, 0], ["→", "To the right", 160, 0], ["↑", "Up", 0, -160], ["↓", "Down", 0, 160]];
 const FLASH = "M5,-11L1.5,-4.5H4L2.5,1L7.5,-6.5H5L6.5,-11Z"; // at the left upper edge of a section's box
-const MOST_TABBED = 60; // points that Tab goes through while points are picked; of more, the list beside them is the way
+const KEYS = "Plus and minus zoom, arrows move it, 0 shows all. The points are also listed under Points.";
+const PICKING = { point: "a point", section: "a section" };
+const BY_KEYS = (kind) => `By keys: Tab leads to ${PICKING[kind]} in the diagram, to the one that was found, arrows to the next, and Space picks it.`;
 
 function pointTitle(state) {
   const { point } = state;
@@ -60,8 +64,8 @@ function hatch() {
       svg("path", { d: "M0,0V8", class: "stroke" })));
 }
 
-// Where a press or a key on a point or section leads to, as long as it was no drag.
-function pressable(group, does) {
+// Where a press or a key on a point or section leads to, as long as it was no drag; `moves(event)` is whether a key moved on.
+function pressable(group, does, moves) {
   let from = null;
   group.addEventListener("pointerdown", (event) => { from = [event.clientX, event.clientY]; });
   group.addEventListener("click", (event) => {
@@ -69,17 +73,18 @@ function pressable(group, does) {
     does();
   });
   group.addEventListener("keydown", (event) => {
-    if (event.key !== "Enter" && event.key !== " ") return;
+    const picks = event.key === "Enter" || event.key === " ";
+    if (!picks && !moves(event)) return;
     event.preventDefault();
     event.stopPropagation();
-    does();
+    if (picks) does();
   });
 }
 
 export class Diagram {
-  #network; #plan; #zoom; #svg; #writing; #points = new Map(); #sections = new Map(); #keys = new Map();
+  #network; #plan; #zoom; #frame; #writing; #points = new Map(); #sections = new Map(); #keys = new Map(); #roving;
   #picking = null; #press; #found = new Set(); #finding = el("span", { class: "hint", role: "status" }); #last = null;
-  #dead = el("p", { class: "hint", "data-name": "dead" });
+  #dead = el("p", { class: "hint", "data-name": "dead" }); #byKeys = el("p", { class: "hint by-keys" });
   node;
 
   // `press(kind, name)` is called where nothing is being picked.
@@ -88,9 +93,25 @@ export class Diagram {
     this.#press = press;
     this.#plan = layOut(network);
     this.#writing = new Writing(network, this.#plan);
-    this.#svg = this.#draw();
-    this.#zoom = new Zoom(this.#svg, this.#plan, (scale) => this.#writing.atScale(scale));
-    this.node = el("div", { class: "diagram" }, this.#tools(), this.#svg, this.#dead, legend());
+    const drawing = this.#draw();
+    this.#frame = el("div", { class: "net", tabindex: 0, role: "group", "aria-label": `One-line diagram. ${KEYS}` }, drawing);
+    this.#zoom = new Zoom(this.#frame, drawing, this.#plan, (scale) => this.#writing.atScale(scale));
+    this.#roving = this.#rovings();
+    this.node = el("div", { class: "diagram" }, this.#tools(), this.#byKeys, this.#frame, this.#dead, legend());
+  }
+
+  // One for each kind that may be picked.
+  #rovings() {
+    const reveal = (place) => this.#zoom.reveal(place);
+    const sections = new Map([...this.#plan.spots.values()].map(({ name, x, y, width }) => [name, { x: x + width / 2, y }]));
+    const points = new Map(this.#plan.edges.map(({ point, x, y }) => [point.name, { x, y }]));
+    return { section: new Roving(sections, this.#sections, reveal), point: new Roving(points, this.#points, reveal) };
+  }
+
+  // Tab leads to what is picked, or to what is in the middle.
+  #placeStop() {
+    const roving = this.#roving[this.#picking?.kind];
+    roving?.begin([...this.#picking.picked].find((name) => this.#plan.spots.has(name) || this.#points.has(name)) ?? roving.nearest(this.#zoom.middle()));
   }
 
   // Shows the whole network where that can be read; otherwise these sections in the middle.
@@ -98,6 +119,7 @@ export class Diagram {
     const spots = names.map((name) => this.#plan.spots.get(name)).filter(Boolean);
     const mean = (key) => spots.reduce((sum, spot) => sum + spot[key], 0) / spots.length;
     this.#zoom.lookAt(spots.length ? { x: mean("x") + spots[0].width / 2, y: mean("y") } : null);
+    this.#placeStop();
   }
 
   #draw() {
@@ -106,13 +128,16 @@ export class Diagram {
       .map(([cx, cy]) => svg("circle", { class: "dot", cx, cy, r: 2.5 }));
     const sections = [...this.#plan.spots.values()].map((spot) => this.#group("section", spot.name, spot.x, spot.y, this.#sections));
     const points = this.#plan.edges.map((edge) => this.#group("point", edge.point.name, edge.x, edge.y, this.#points));
-    return svg("svg", { class: "net", tabindex: 0, role: "group", "aria-label": "One-line diagram. Plus and minus zoom, arrows pan, 0 shows all. The points are also listed under Points." },
+    const { width, height } = this.#plan;
+    return svg("svg", { class: "drawing", width, height, viewBox: `0 0 ${width} ${height}` },
       hatch(), svg("g", {}, base, dots), svg("g", {}, sections), svg("g", {}, points), this.#writing.node);
   }
 
   #group(kind, name, x, y, groups) {
     const group = svg("g", { "data-kind": kind, "data-name": name, transform: `translate(${x},${y})` });
-    pressable(group, () => (this.#picking?.kind === kind ? this.#picking.toggle(name) : this.#press(kind, name)));
+    const picks = () => this.#picking?.kind === kind;
+    pressable(group, () => (picks() ? this.#picking.toggle(name) : this.#press(kind, name)), (event) => picks() && this.#roving[kind].onKey(event, name));
+    group.addEventListener("focus", () => { if (picks()) this.#roving[kind].onFocus(name); });
     groups.set(name, { group });
     return group;
   }
@@ -125,6 +150,7 @@ export class Diagram {
       button("Whole network", () => this.#zoom.all()),
       button("Closer", () => this.#zoom.closer()),
       button("Farther", () => this.#zoom.farther()),
+      el("span", { class: "moves" }, MOVES.map(([sign, words, x, y]) => button(sign, () => this.#zoom.pan(x, y), { "aria-label": words, title: words }))),
       find, button("Find", go), this.#finding);
   }
 
@@ -138,14 +164,18 @@ export class Diagram {
       : `${found.length === 1 ? found[0] : `${found.length} found, as ${found[0]}`}, ringed`;
     const spot = this.#plan.spots.get(found[0]) ?? this.#plan.edges.find((edge) => edge.point.name === found[0]);
     if (spot) this.#zoom.bringToMiddle(spot);
+    const kind = this.#picking?.kind, first = found.find((one) => (kind === "point" ? this.#points : this.#sections).has(one));
+    if (kind && first) this.#roving[kind].begin(first);
     if (this.#last) this.update(this.#last);
   }
 
   // What is being picked: { kind, picked: Set, toggle(name), way() }, or null.
   pick(picking) {
     this.#picking = picking;
-    this.#svg.classList.toggle("picking-points", picking?.kind === "point");
-    this.#svg.classList.toggle("picking-sections", picking?.kind === "section");
+    this.#frame.classList.toggle("picking-points", picking?.kind === "point");
+    this.#frame.classList.toggle("picking-sections", picking?.kind === "section");
+    this.#byKeys.textContent = picking ? BY_KEYS(picking.kind) : "";
+    this.#placeStop();
   }
 
   // Draws what has changed since the last time.
@@ -165,7 +195,7 @@ export class Diagram {
       const section = this.#network.sections.get(name), alarmed = own.some(({ kind }) => kind === "live");
       this.#redraw(group, [own, section.live, chosen, fenced, found, this.#picking?.kind], () => {
         group.setAttribute("class", ["section", section.live ? "fed" : "dead", section.source ? "source" : "", fenced ? "fenced" : "", chosen ? "picked" : "", alarmed ? "live" : ""].join(" "));
-        this.#tellPicking(group, "section", chosen, name);
+        this.#offerPicking(group, "section", name, chosen, name);
         return sectionParts(this.#plan.spots.get(name), section, own, fenced, found);
       });
     }
@@ -176,7 +206,7 @@ export class Diagram {
 
   #sayDead() {
     const all = [...this.#network.sections.values()], dead = all.filter(({ live }) => !live).map(({ name }) => name);
-    const text = dead.length ? `${dead.length} of ${all.length} sections are dead by the register's positions: ${sectionWords(dead)}` : `all ${all.length} sections are live by the register's positions`;
+    const text = dead.length ? `${dead.length} of ${all.length} sections ${dead.length === 1 ? "is" : "are"} dead by the register's positions: ${sectionWords(dead)}` : `all ${all.length} sections are live by the register's positions`;
     if (this.#dead.textContent !== text) this.#dead.textContent = text;
   }
 
@@ -191,14 +221,14 @@ export class Diagram {
 
   #dressPoint(group, state, chosen) {
     group.setAttribute("class", `point ${state.position}${chosen ? " picked" : ""}`);
-    this.#tellPicking(group, "point", chosen, `${state.point.name}, ${state.position}`);
+    this.#offerPicking(group, "point", state.point.name, chosen, `${state.point.name}, ${state.position}`);
   }
 
-  #tellPicking(group, kind, chosen, label) {
-    const on = this.#picking?.kind === kind && this.#points.size <= MOST_TABBED;
-    for (const [name, value] of [["tabindex", "0"], ["role", "checkbox"], ["aria-checked", String(chosen)], ["aria-label", label]]) {
-      if (on) group.setAttribute(name, value);
-      else group.removeAttribute(name);
+  #offerPicking(group, kind, name, chosen, label) {
+    const tabindex = this.#roving[kind].isStop(name) ? "0" : "-1", on = this.#picking?.kind === kind;
+    for (const [attribute, value] of [["tabindex", tabindex], ["role", "checkbox"], ["aria-checked", String(chosen)], ["aria-label", label]]) {
+      if (on) group.setAttribute(attribute, value);
+      else group.removeAttribute(attribute);
     }
   }
 

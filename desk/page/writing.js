@@ -12,12 +12,11 @@ const LEAST = 8;                            // the size of a label on the screen
 const LEAST_INSIDE = 7.4;                   // that of a name in its box
 const PART = 8;                             // a size is rounded up to such a part of itself
 const HALF = 7, FEED = 28;                  // half a point; what a source has at its left
-const SETTLED = 90;                         // milliseconds after which texts have the size for a new scale
 const KINDS = ["live", "bad", "turn", "plain", "dead"]; // of the marks at a section, the worst first
 const SIDES = { row: ["above", "below", "right", "left"], upright: ["right", "left", "below", "above"], lane: ["above", "below", "right", "left"] };
 
 export class Writing {
-  #network; #plan; #labels; #factor = 0; #later = null; #inside = NAME; #seen = null; #key = "";
+  #network; #plan; #labels; #factor = 0; #inside = NAME; #seen = null; #key = "";
   node = svg("g", { class: "writing" });
 
   constructor(network, plan) {
@@ -37,18 +36,14 @@ export class Writing {
     return [x - HALF, y - HALF, x + HALF, y + HALF];
   }
 
-  // The scale at which the drawing is shown. Before that is known nothing is written; while it changes, texts keep the size
-  // that they have in the drawing.
+  // The scale at which the drawing is shown, once it is still. Before that is known nothing is written.
   atScale(scale) {
     const factor = Math.max(1, Math.ceil((LEAST / (LABEL * scale)) * PART) / PART);
     const inside = NAME * scale >= LEAST_INSIDE ? NAME : 0;
     if (factor === this.#factor && inside === this.#inside) return;
     this.#factor = factor;
     this.#inside = inside;
-    if (!this.#seen) return;
-    clearTimeout(this.#later);
-    if (this.#key) this.#later = setTimeout(() => this.write(this.#seen), SETTLED);
-    else this.write(this.#seen);
+    if (this.#seen) this.write(this.#seen);
   }
 
   // What is known now: `picked(kind, name)` is whether it is picked.

@@ -1,31 +1,49 @@
-// Zoom and pan of a drawing, by wheel, drag, buttons and keys.
+// Zoom and pan of a drawing, by wheel, drag, buttons and keys. The drawing is as large as it is, and is moved and scaled
+// within its frame as one picture: while that goes on nothing is drawn again, and it is drawn sharply once it is still.
 
 const MOST = 3, LEAST = 0.05, READABLE = 0.62, FAR = 0.42, CLOSE = 0.8, LARGEST = 1.4, STEP = 1.25, PAN = 80, DRAG = 5;
+const EDGE = 40;   // pixels from the edge of the frame, within which a place is not in view
+const STILL = 160; // milliseconds after which it is still
 
 export class Zoom {
-  #drawing; #size; #changed;
+  #frame; #drawing; #size; #changed;
   #x = 0; #y = 0; #scale = 1;
   #byHand = false; // whether the operator has zoomed or moved it
   #middle = null;  // what is to be in the middle where not all can be read
+  #later = null;
 
   // `changed(scale)` is called whenever the drawing is shown at a scale.
-  constructor(drawing, size, changed) {
+  constructor(frame, drawing, size, changed) {
+    this.#frame = frame;
     this.#drawing = drawing;
     this.#size = size;
     this.#changed = changed;
     this.#listen();
-    new ResizeObserver(() => this.#begin()).observe(drawing);
+    new ResizeObserver(() => this.#begin()).observe(frame);
   }
 
   #box() {
-    return { width: this.#drawing.clientWidth || 800, height: this.#drawing.clientHeight || 500 };
+    return { width: this.#frame.clientWidth || 800, height: this.#frame.clientHeight || 500 };
+  }
+
+  #place() {
+    this.#drawing.style.transform = `translate(${Math.round(-this.#x * this.#scale)}px, ${Math.round(-this.#y * this.#scale)}px) scale(${this.#scale})`;
   }
 
   #show() {
-    const { width, height } = this.#box();
-    this.#drawing.setAttribute("viewBox", `${this.#x} ${this.#y} ${width / this.#scale} ${height / this.#scale}`);
-    this.#drawing.classList.toggle("far", this.#scale < FAR);
+    clearTimeout(this.#later);
+    this.#place();
+    this.#drawing.classList.remove("moving");
+    this.#frame.classList.toggle("far", this.#scale < FAR);
     this.#changed(this.#scale);
+  }
+
+  #move() {
+    this.#byHand = true;
+    this.#drawing.classList.add("moving");
+    this.#place();
+    clearTimeout(this.#later);
+    this.#later = setTimeout(() => this.#show(), STILL);
   }
 
   #zoomAt(factor, left, top) {
@@ -33,15 +51,13 @@ export class Zoom {
     this.#x += left / this.#scale - left / scale;
     this.#y += top / this.#scale - top / scale;
     this.#scale = scale;
-    this.#byHand = true;
-    this.#show();
+    this.#move();
   }
 
-  #pan(left, top) {
+  pan(left, top) {
     this.#x += left / this.#scale;
     this.#y += top / this.#scale;
-    this.#byHand = true;
-    this.#show();
+    this.#move();
   }
 
   #centre(x, y, scale) {
@@ -63,7 +79,7 @@ export class Zoom {
 
   // The whole drawing where it can be read so; otherwise its middle, or its beginning.
   #begin() {
-    if (!this.#drawing.clientWidth) return;
+    if (!this.#frame.clientWidth) return;
     if (this.#byHand) this.#show();
     else if (this.#whole() >= READABLE) this.#fit();
     else if (this.#middle) this.#centre(this.#middle.x, this.#middle.y, CLOSE);
@@ -100,40 +116,56 @@ export class Zoom {
     this.#centre(x, y, Math.max(1, this.#scale));
   }
 
+  // The place of the drawing that is in the middle of the frame.
+  middle() {
+    const { width, height } = this.#box();
+    return { x: this.#x + width / this.#scale / 2, y: this.#y + height / this.#scale / 2 };
+  }
+
+  // Brings a place to the middle where it is not in view.
+  reveal({ x, y }) {
+    const { width, height } = this.#box(), left = (x - this.#x) * this.#scale, top = (y - this.#y) * this.#scale;
+    if (left > EDGE && left < width - EDGE && top > EDGE && top < height - EDGE) return;
+    this.#byHand = true;
+    this.#centre(x, y, this.#scale);
+  }
+
   #listen() {
-    this.#drawing.addEventListener("wheel", (event) => {
+    this.#frame.addEventListener("wheel", (event) => {
       event.preventDefault();
-      const frame = this.#drawing.getBoundingClientRect();
+      const frame = this.#frame.getBoundingClientRect();
       this.#zoomAt(event.deltaY < 0 ? STEP : 1 / STEP, event.clientX - frame.left, event.clientY - frame.top);
     }, { passive: false });
     const keys = {
       "+": () => this.closer(), "=": () => this.closer(), "-": () => this.farther(), 0: () => this.all(),
-      ArrowLeft: () => this.#pan(-PAN, 0), ArrowRight: () => this.#pan(PAN, 0),
-      ArrowUp: () => this.#pan(0, -PAN), ArrowDown: () => this.#pan(0, PAN),
+      ArrowLeft: () => this.pan(-PAN, 0), ArrowRight: () => this.pan(PAN, 0),
+      ArrowUp: () => this.pan(0, -PAN), ArrowDown: () => this.pan(0, PAN),
     };
-    this.#drawing.addEventListener("keydown", (event) => {
+    this.#frame.addEventListener("keydown", (event) => {
       if (!keys[event.key] || event.ctrlKey || event.altKey || event.metaKey) return;
       event.preventDefault();
       keys[event.key]();
     });
+    // What the browser scrolls into view by itself is moved by us alone.
+    this.#frame.addEventListener("scroll", () => { this.#frame.scrollTop = this.#frame.scrollLeft = 0; });
     this.#drag();
   }
 
   #drag() {
     let from = null;
-    this.#drawing.addEventListener("pointerdown", (event) => {
+    this.#frame.addEventListener("pointerdown", (event) => {
       if (event.button === 0) from = { x: event.clientX, y: event.clientY, moved: false };
     });
-    this.#drawing.addEventListener("pointermove", (event) => {
+    this.#frame.addEventListener("pointermove", (event) => {
       if (!from) return;
       const left = from.x - event.clientX, top = from.y - event.clientY;
       if (!from.moved && Math.hypot(left, top) < DRAG) return;
-      if (!from.moved) this.#drawing.setPointerCapture(event.pointerId);
+      if (!from.moved) this.#frame.setPointerCapture(event.pointerId);
       from = { x: event.clientX, y: event.clientY, moved: true };
-      this.#pan(left, top);
+      this.pan(left, top);
     });
     const stop = () => { from = null; };
-    this.#drawing.addEventListener("pointerup", stop);
-    this.#drawing.addEventListener("pointercancel", stop);
+    this.#frame.addEventListener("pointerup", stop);
+    this.#frame.addEventListener("pointercancel", stop);
   }
 }
