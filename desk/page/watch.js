@@ -5,7 +5,7 @@ import { now, secondsOfPrinted } from "./moments.js";
 import { takeNetwork } from "./network.js";
 import { getBoard, getNetwork, getView } from "./register.js";
 
-const PERIOD = 4000;      // between two looks at the board
+const PERIOD = 3000;      // between two looks at the board
 const HIDDEN = 20000;     // the same while nobody sees the page
 const AT_ONCE = 25;       // views that are asked for in one turn
 const ALL_AGAIN = 10;     // turns after which each view is asked for again
@@ -29,8 +29,9 @@ let caller = null;
 let chosen = null;
 let timer = null;
 let running = null;
-let shown = "";        // the board as it was last read
-let slow = 0;          // how long the network took when it was last asked for
+let shown = "";        // the board at which the network was last asked for
+let settled = false;   // whether that board was the same one look before
+let slow = 0;          // how long the network took then
 
 export function onRoom(listener) {
   listeners.push(listener);
@@ -103,16 +104,17 @@ async function readView(id) {
   return answer;
 }
 
-// The network may have changed where the board has; what the board does not show of a change is asked for with each
-// board, or with some of them where that takes long.
+// The network may have changed where the board has, and once more after that, since two commands of one second leave it as
+// it was. Further it is asked for with each board, or with some of them where that takes long.
 async function readNetwork(text) {
   const isSame = text === shown;
-  if (isSame && room.network !== null && slow > QUICK && room.turns % ALL_AGAIN) return;
+  if (isSame && settled && room.network !== null && slow > QUICK && room.turns % ALL_AGAIN) return;
   const begun = performance.now(), answer = await getNetwork();
   if (answer.kind !== "answered" || !answer.body.sections) return;
   slow = performance.now() - begun;
   await takeNetwork(answer.body);
   room.network = now();
+  settled = isSame;
   shown = text;
 }
 
