@@ -3,7 +3,7 @@
 import { liveIn } from "./alarm.js";
 import { holderCell } from "./board.js";
 import { mayUse } from "./caller.js";
-import { el, button, choice, panel, table } from "./elements.js";
+import { el, button, choice, field, panel, table } from "./elements.js";
 import { cancelControl, emergencyControl, grantControl, releaseControl, transferControl } from "./giving.js";
 import { shortTime, wholeTime } from "./moments.js";
 import { OrderEditor } from "./order.js";
@@ -45,9 +45,8 @@ function asControl(all, desk) {
   if (names.length <= MOST_BUTTONS) {
     return names.map((name) => button(`Speak as ${name}`, () => desk.speakAs(name), { class: "quiet", "data-name": `as ${name}` }));
   }
-  const pick = choice([["", "speak as…"], ...names.map((name) => [name, name])], {
-    "aria-label": "Speak as", onchange: () => pick.value && desk.speakAs(pick.value) });
-  return pick;
+  const pick = choice([["", "choose"], ...names.map((name) => [name, name])], { "data-name": "as" });
+  return [field("Speak as", pick), button("Speak", () => pick.value && desk.speakAs(pick.value), { class: "quiet", "data-name": "speak" })];
 }
 
 // What others may do, one line for the same names.

@@ -23,7 +23,11 @@ const GOES = {
   t: () => goTo(document.querySelector('main [data-name="repeat-text"]:not(:disabled)') ?? nextAct()),
 };
 
-export function startKeys(next, repeat) {
+export function startKeys(skip, next, repeat) {
+  skip.addEventListener("click", (event) => {
+    event.preventDefault();
+    goTo(document.querySelector("main h2"));
+  });
   next.addEventListener("click", GOES.n);
   repeat.addEventListener("click", GOES.t);
   addEventListener("keydown", (event) => {

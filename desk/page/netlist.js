@@ -36,7 +36,7 @@ export class NetList {
     }), [section.source ? "source" : "", section.live ? "live" : "dead", seen.fence.has(section.name) ? "in the fence" : ""].filter(Boolean).join(", "), (said.get(section.name) ?? []).filter(({ kind }) => kind !== "dead")]);
     panel(this.#rows, [rows, found.length], () => [
       el("p", { class: "hint" }, `${shown.length} of ${found.length} sections`),
-      table(["Section", "", "Points"], rows.map(([section, ways, words, own]) => el("tr", {},
+      table(["Section", "Now", "Points"], rows.map(([section, ways, words, own]) => el("tr", {},
         el("th", { scope: "row" }, section.name), el("td", {}, words, own.map(({ text, kind }) => el("p", {}, el("span", { class: kind }, text)))),
         el("td", {}, ways.map((way) => el("p", {}, way))))))]);
   }

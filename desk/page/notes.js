@@ -41,7 +41,7 @@ export function pickedNotes(desk, picked, { own = null, action = null, more = ()
     const known = desk.states();
     const at = (name) => findingsAt(desk, name, { own, action, known }).filter(({ turns }) => !turns);
     const rows = [...picked()].map((name) => [name, [...more(name), ...at(name)]]).filter(([, found]) => found.length);
-    panel(node, rows, () => (rows.length ? [el("h4", {}, "In the way, by this page's reckoning"),
+    panel(node, rows, () => (rows.length ? [el("p", { class: "head" }, "In the way, by this page's reckoning"),
       el("ul", { class: "ways" }, rows.map(([name, found]) => el("li", { "data-at": name }, el("strong", {}, name), findingsList(found))))] : []));
   });
 }

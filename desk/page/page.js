@@ -230,7 +230,7 @@ async function start() {
   performance.mark("network-read");
   desk = makeDesk();
   at("caller").addEventListener("change", () => speakAs(at("caller").value));
-  startKeys(at("to-next"), at("to-repeat"));
+  startKeys(at("skip"), at("to-next"), at("to-repeat"));
   startSeveral(at("several"), update);
   followNetwork();
   onRoom(() => {

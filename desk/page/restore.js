@@ -75,8 +75,8 @@ export class RestoreEditor {
     const normal = { closed: "CLOSE", open: "LEAVE" }[state?.point.normal] ?? null;
     const end = (action) => el("label", { class: "radio" },
       el("input", { type: "radio", name: `end-${held.place}`, value: action, checked: this.#ends.get(held.place) === action,
-        "data-name": `${action} ${held.place}`, "aria-label": `${action} ${held.place}`, onchange: () => this.#end(held, action) }),
-      action, state && action === normal ? el("span", { class: "hint" }, " (normal)") : null);
+        "data-name": `${action} ${held.place}`, "aria-label": `${action}${action === normal ? " (normal)" : ""} ${held.place}`, onchange: () => this.#end(held, action) }),
+      action, action === normal ? el("span", { class: "hint" }, " (normal)") : null);
     return el("tr", { "data-point": held.place },
       el("th", { scope: "row" }, held.place, el("p", { class: "hint" }, held.kinds.map(holdWord).join(", ")),
         livingFindings(() => findingsAt(this.#desk, held.place, { own: clearance }))),

@@ -29,7 +29,7 @@ function drawn(id) {
   return [
     el("h3", {}, "Log"), isWhole() ? null : el("p", { class: "hint" }, NOT_WHOLE),
     others.length ? table(["Moment", "Who", "What"], others.map(otherRow), { class: "log" }) : null,
-    steps.length ? table(["Step", "", "Given by", "Repeated by", "Reported done by"], steps.map(stepRow), { class: "log" }) : null,
+    steps.length ? table(["No", "Step", "Given by", "Repeated by", "Reported done by"], steps.map(stepRow), { class: "log" }) : null,
     steps.length || others.length ? null : el("p", { class: "hint" }, "The journal has nothing of it."),
   ];
 }

@@ -54,8 +54,8 @@ function sectionRow(view, section, act) {
       button("Tested dead", () => give({ do: "test", dead: true }), { "data-name": `dead ${section}`, "aria-label": `${section} tested dead` }),
       button("Tested live", () => testedLive(view, section, give), { "data-name": `live ${section}`, "aria-label": `${section} tested live` }),
       isThere(view, "Ground", section)
-        ? button("Ground is off", () => groundOff(view, section, give), { "data-name": `ground ${section}`, "aria-label": `ground of ${section} is off` })
-        : button("Ground is on", () => give({ do: "ground" }), { "data-name": `ground ${section}`, "aria-label": `ground of ${section} is on` })));
+        ? button("Ground is off", () => groundOff(view, section, give), { "data-name": `ground ${section}`, "aria-label": `${section}: ground is off` })
+        : button("Ground is on", () => give({ do: "ground" }), { "data-name": `ground ${section}`, "aria-label": `${section}: ground is on` })));
 }
 
 // Where a section of the fence was tested live, under another clearance too, a crew is signed on only after a question.
