@@ -7,7 +7,7 @@ import sqlite3
 import subprocess
 import tempfile
 
-from desk_looks.browser import LONG, Differs, direct, wait_until
+from desk_looks.browser import LONG, Differs, direct, say, wait_until
 
 TOP = os.path.dirname(os.path.dirname(os.path.dirname(os.path.realpath(__file__))))
 GRIDCLEAR = os.environ.get("GRIDCLEAR", os.path.join(TOP, "tools", "gridclear"))
@@ -84,3 +84,26 @@ def tables(path):
         found = {name: sorted(base.execute(f'SELECT * FROM "{name}"').fetchall(), key=repr) for name in names}
         base.close()
         return found
+
+
+def same_as_run(desk, work, lines, least):
+    """The tables under the page are those of `run` over the same commands; `least` has how many rows a table has at least."""
+    second = os.path.join(work, "second.db")
+    gridclear("init", *desk.files, "--db", second)
+    gridclear("run", "--db", second, text="".join(f"{line}\n" for line in lines))
+    own, other = tables(desk.base), tables(second)
+    for name in sorted(own.keys() | other.keys()):
+        if own.get(name) != other.get(name):
+            raise Differs(f"table {name}: {own.get(name)} under the page, {other.get(name)} by run")
+    for name, count in least.items():
+        if len(own.get(name, [])) < count:
+            raise Differs(f"table {name} has {len(own.get(name, []))} rows, too few to say anything")
+    say(f"  {len(lines)} commands; the {len(own)} tables are those of run, {sum(map(len, own.values()))} rows")
+
+
+def verified(desk, journal, count):
+    """The program compares the register with a run of its journal, and has run all commands of it."""
+    printed = gridclear("verify", desk.base, journal, *desk.files).strip()
+    if printed != f"verified {count} commands":
+        raise Differs(f"verify prints {printed}, and the journal has {count} commands")
+    say(f"  {printed}")

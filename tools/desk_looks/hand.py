@@ -41,6 +41,14 @@ class Hand:
     def answer(self, value):
         self.browser.click(f'dialog [data-answer="{value}"]')
 
+    def declined(self, name, *texts, sent=0):
+        """A press that asks a question with these texts; a no to it sends nothing."""
+        self.press(name)
+        for text in texts:
+            self.shows(text, "dialog")
+        self.answer("null")
+        self.nothing_sent(sent)
+
     def post(self, command, at=None):
         """Another desk's command, now; it is accepted."""
         body = json.dumps(dict(command, at=int(time.time()) if at is None else at)).encode()

@@ -24,8 +24,7 @@ def asked(hand):
 
 def double_press(stage):
     """Of four crews one is signed off; presses that go on at the same place sign off no other."""
-    hand = stage.network(granted("KIM", "N13-F12", CUT, ["C1", "C2", "C3", "C4"]), "clearance/KIM/1")
-    hand.speak("KIM")
+    hand = stage.network(granted("KIM", "N13-F12", CUT, ["C1", "C2", "C3", "C4"]), "clearance/KIM/1", speaker="KIM")
     name = 'main [data-name="off C1"]'
     hand.browser.settled(name)
     place = middle(hand, name)
@@ -55,8 +54,7 @@ def double_press(stage):
 
 def double_touch(stage):
     """The same by a finger, which needs no other place between two touches, but a moment."""
-    hand = stage.network(granted("KIM", "N13-F12", CUT, ["C1", "C2", "C3"]), "clearance/KIM/1")
-    hand.speak("KIM")
+    hand = stage.network(granted("KIM", "N13-F12", CUT, ["C1", "C2", "C3"]), "clearance/KIM/1", speaker="KIM")
     name = 'main [data-name="off C1"]'
     hand.browser.settled(name)
     place = middle(hand, name)
@@ -120,8 +118,7 @@ look.observe(document.body, { childList: true, subtree: true });
 def new_control(stage):
     """What has just come takes no press for 700 ms."""
     text = "OPEN N11-Q13"
-    hand = stage.network([*ordered("LEE", "N11-F13", ["N11-Q13", "TIE1-N11-N12"]), *step("LEE/1", 1, text, "instruct")], "clearance/LEE/1")
-    hand.speak("REED")
+    hand = stage.network([*ordered("LEE", "N11-F13", ["N11-Q13", "TIE1-N11-N12"]), *step("LEE/1", 1, text, "instruct")], "clearance/LEE/1", speaker="REED")
     hand.browser.script(SOON)
     hand.browser.type('main [data-name="repeat-text"]', text + ENTER)
     hand.reply("accepted", "repeat step 1")
@@ -134,8 +131,7 @@ def new_control(stage):
 
 def waiting(stage):
     """Another desk's crew does not move the list under the pointer: it waits, until the pointer leaves or 15 seconds."""
-    hand = stage.network(granted("KIM", "N13-F12", CUT, ["C2"]), "clearance/KIM/1")
-    hand.speak("KIM")
+    hand = stage.network(granted("KIM", "N13-F12", CUT, ["C2"]), "clearance/KIM/1", speaker="KIM")
     name = 'main [data-name="off C2"]'
     hand.browser.settled(name)
     place = middle(hand, name)
@@ -165,8 +161,7 @@ def waiting(stage):
 
 def given_elsewhere(stage):
     """That another desk gave the step out comes above the controls: it waits while the pointer is on them."""
-    hand = stage.network(ordered("KIM", "N13-F12", CUT), "clearance/KIM/1")
-    hand.speak("DISP1")
+    hand = stage.network(ordered("KIM", "N13-F12", CUT), "clearance/KIM/1", speaker="DISP1")
     hand.browser.settled('main [data-name="instruct"]')
     place = middle(hand, 'main [data-name="instruct"]')
     hand.browser.point(1, 1, *place)
@@ -182,8 +177,7 @@ def given_elsewhere(stage):
 
 def focused(stage):
     """The focus is on Instruct of step 1, which another desk does meanwhile: Enter gives nothing out then."""
-    hand = stage.network(ordered("KIM", "N13-F12", CUT), "clearance/KIM/1")
-    hand.speak("DISP1")
+    hand = stage.network(ordered("KIM", "N13-F12", CUT), "clearance/KIM/1", speaker="DISP1")
     hand.tab_to("instruct")
     for command in step("KIM/1", 1, "OPEN N13-Q11"):
         hand.post(command)
@@ -196,8 +190,7 @@ def focused(stage):
 
 def field(stage):
     """Nor under a field that has the focus; and the board does so too."""
-    hand = stage.network(granted("KIM", "N13-F12", CUT, ["C2"]), "clearance/KIM/1")
-    hand.speak("KIM")
+    hand = stage.network(granted("KIM", "N13-F12", CUT, ["C2"]), "clearance/KIM/1", speaker="KIM")
     hand.browser.type('main [data-name="crew"]', "C9")
     hand.browser.point(1, 1)
     hand.post({"by": "KIM", "do": "sign_on", "clearance": "KIM/1", "crew": "C1"})
@@ -218,8 +211,7 @@ def field(stage):
 
 def questions(stage):
     """Grant, ground off, crew off and release are asked about, each with what it means."""
-    hand = stage.network(granted("KIM", "N13-F12", CUT, ["C1"])[:-4], "clearance/KIM/1")
-    hand.speak("DISP1")
+    hand = stage.network(granted("KIM", "N13-F12", CUT, ["C1"])[:-4], "clearance/KIM/1", speaker="DISP1")
     hand.press("grant")
     hand.shows("nobody takes a grant back", "dialog")
     hand.answer("null")

@@ -18,8 +18,7 @@ def has(hand, name, value):
 
 
 def orders(stage):
-    hand = stage.network([{"by": "KIM", "do": "request", "section": "N13-F12"}, *released("JONES", "N11-F13", ["N11-Q13", "TIE1-N11-N12"])], "clearance/KIM/1")
-    hand.speak("DISP1")
+    hand = stage.network([{"by": "KIM", "do": "request", "section": "N13-F12"}, *released("JONES", "N11-F13", ["N11-Q13", "TIE1-N11-N12"])], "clearance/KIM/1", speaker="DISP1")
     for point in CUT[:2]:
         hand.press(f"pick {point}")
     hand.press("by-point")
@@ -55,8 +54,7 @@ def texts(hand):
 def fields(stage):
     """A crew's name and a repeat, while another desk touches the clearances."""
     start = [*granted("KIM", "N13-F12", CUT, ["C1"]), *ordered("LEE", "N11-F13", ["N11-Q13", "TIE1-N11-N12"]), *step("LEE/1", 1, "OPEN N11-Q13", "instruct")]
-    hand = stage.network(start, "clearance/KIM/1")
-    hand.speak("KIM")
+    hand = stage.network(start, "clearance/KIM/1", speaker="KIM")
     hand.browser.type('main [data-name="crew"]', "C2")
     hand.post({"by": "KIM", "do": "sign_on", "clearance": "KIM/1", "crew": "C3"})
     hand.shows("C3 is on")
@@ -77,8 +75,7 @@ def fields(stage):
 def given_again(stage):
     """What was typed of a step is gone where it came back meanwhile and is given out once more."""
     instruct, repeat = step("LEE/1", 1, "OPEN N11-Q13", "repeat")
-    hand = stage.network([*ordered("LEE", "N11-F13", ["N11-Q13", "TIE1-N11-N12"]), instruct], "clearance/LEE/1")
-    hand.speak("REED")
+    hand = stage.network([*ordered("LEE", "N11-F13", ["N11-Q13", "TIE1-N11-N12"]), instruct], "clearance/LEE/1", speaker="REED")
     hand.browser.type('main [data-name="repeat-text"]', "open n11-q13")
     hand.post(dict(repeat, by="DALE"))
     hand.post({"by": "DALE", "do": "report", "clearance": "LEE/1", "step": 1, "done": False})
@@ -91,8 +88,7 @@ def given_again(stage):
 def over(stage):
     """What was written for a clearance that is over, or of a register before this one, does not stay."""
     names = "return Object.keys(sessionStorage).filter((key) => key.startsWith('gridclear-draft ')).sort()"
-    hand = stage.network([{"by": "KIM", "do": "request", "section": "N13-F12"}], "clearance/KIM/1")
-    hand.speak("DISP1")
+    hand = stage.network([{"by": "KIM", "do": "request", "section": "N13-F12"}], "clearance/KIM/1", speaker="DISP1")
     hand.press("pick N13-Q11")
     hand.turn("request")
     hand.speak("LEE")
@@ -105,8 +101,7 @@ def over(stage):
 
 def example(stage):
     """Not the step that is to be repeated, either."""
-    hand = stage.network([*ordered("LEE", "N11-F13", ["N11-Q13", "TIE1-N11-N12"]), *step("LEE/1", 1, "OPEN N11-Q13", "instruct")], "clearance/LEE/1")
-    hand.speak("REED")
+    hand = stage.network([*ordered("LEE", "N11-F13", ["N11-Q13", "TIE1-N11-N12"]), *step("LEE/1", 1, "OPEN N11-Q13", "instruct")], "clearance/LEE/1", speaker="REED")
     hand.shows("word for word, as OPEN ")
     text = hand.browser.script("return document.querySelector('main .next').textContent")
     name = text.split("word for word, as OPEN ")[1].split("Repeat")[0].strip()

@@ -20,8 +20,7 @@ def waits_for(hand, word, *names):
 
 def present_step(stage):
     """The present step of a clearance: in its row, beside the act, on the diagram; and what is so once it is done."""
-    hand = stage.network(KIM, "clearance/KIM/1")
-    hand.speak("DISP1")
+    hand = stage.network(KIM, "clearance/KIM/1", speaker="DISP1")
     hand.shows("makes N11-F12, N11-F13 dead (this page's reckoning)", "main .step-place")
     hand.shows("makes N11-F12, N11-F13 dead (this page's reckoning)", "main .steps")
     waits_for(hand, "dead", "N11-F12", "N11-F13")
@@ -40,8 +39,7 @@ def present_step(stage):
 
 def written(stage):
     """A switch order that is being written: all its steps together, in words and on the diagram; its CLOSE joins sources."""
-    hand = stage.network(ISLAND, "switch")
-    hand.speak("DISP1")
+    hand = stage.network(ISLAND, "switch", speaker="DISP1")
     hand.pick("TIE2-N12-N13", "N13-Q22")
     hand.press("CLOSE TIE2-N12-N13")
     hand.shows("live will be N13-F22, N13-F23", ".turn-notes")
@@ -62,15 +60,11 @@ def trusted(stage):
     """A CLOSE beyond a fence that makes a section live which another has tested and grounded is asked about."""
     cut = ["N13-Q12", "N13-Q13"]
     inner = [switch(["OPEN TIE1-N12-N13"])]
-    hand = stage.network([*inner, *granted("JONES", "N13-F12", cut, ["C1"])], "switch")
-    hand.speak("DISP1")
+    hand = stage.network([*inner, *granted("JONES", "N13-F12", cut, ["C1"])], "switch", speaker="DISP1")
     hand.pick("N13-Q12")
     hand.press("CLOSE N13-Q12")
     hand.shows("makes N13-F12 live, which JONES/1 (Granted, crew C1 on) found dead or grounded", ".order-notes")
-    hand.press("switch")
-    hand.shows("makes N13-F12 live", "dialog")
-    hand.answer("null")
-    hand.nothing_sent(0)
+    hand.declined("switch", "makes N13-F12 live")
 
 
 LOOKS = {"fed step": present_step, "fed switch": written, "fed trusted": trusted}

@@ -32,8 +32,7 @@ def fence_of_picked(stage):
 
 def off_fence(stage):
     """A point that is no part of the border is said to be so."""
-    hand = stage.network([WORK], "clearance/LEE/1")
-    hand.speak("DISP1")
+    hand = stage.network([WORK], "clearance/LEE/1", speaker="DISP1")
     hand.pick("N13-Q12", "N13-Q13", "N16-Q12")
     hand.shows("NOT_ON_FENCE", '.picked-notes [data-at="N16-Q12"]')
     if hand.there('.picked-notes [data-at="N13-Q12"]'):

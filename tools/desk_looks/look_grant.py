@@ -12,8 +12,7 @@ def lies_over(one, other):
 
 
 def not_before(stage):
-    hand = stage.network(ordered("KIM", "N11-F12", CUT), "clearance/KIM/1")
-    hand.speak("DISP1")
+    hand = stage.network(ordered("KIM", "N11-F12", CUT), "clearance/KIM/1", speaker="DISP1")
     hand.shows("Instruct step 1")
     if hand.there('main [data-name="grant"]'):
         raise Differs("a grant is offered at 0 of 6 steps")
@@ -59,8 +58,7 @@ def elsewhere(stage):
 def after_a_row(stage):
     """At a desk that speaks for several, not over a control of the row either."""
     texts = needed(CUT)
-    hand = stage.network([*ordered("KIM", "N11-F12", CUT), *steps("KIM/1", texts[:-1])], "clearance/KIM/1")
-    hand.speak("DISP1")
+    hand = stage.network([*ordered("KIM", "N11-F12", CUT), *steps("KIM/1", texts[:-1])], "clearance/KIM/1", speaker="DISP1")
     hand.browser.click("#several")
     hand.browser.click('main [data-name="hearer"] option[value="REED"]')
     hand.press("instruct")

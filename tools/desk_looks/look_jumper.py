@@ -17,8 +17,7 @@ def value(hand, name):
 
 
 def jumper(stage):
-    hand = stage.network(JONES, "jumper")
-    hand.speak("DISP1")
+    hand = stage.network(JONES, "jumper", speaker="DISP1")
     hand.shows("A jumper makes no source")
     hand.browser.type('main [data-name="point"]', "j1")
     for name in ("N13-F13", "N14-F13"):
@@ -33,10 +32,7 @@ def jumper(stage):
     press_section(hand, "N14-F13")
     hand.browser.type('main [data-name="to"]', "gen-3")
     hand.shows("GEN-3 is a new section, which comes with it, and no source", ".picked-notes")
-    hand.press("jumper")
-    hand.shows("Nobody can take it out of the register again", "dialog")
-    hand.answer("null")
-    hand.nothing_sent(0)
+    hand.declined("jumper", "Nobody can take it out of the register again")
     hand.press("jumper")
     hand.answer("yes")
     hand.reply("accepted", "J1 is in the register, open")

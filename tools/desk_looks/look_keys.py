@@ -9,8 +9,7 @@ def focus(hand, script, what):
 
 
 def access_keys(stage):
-    hand = stage.network(ordered("KIM", "N11-F12", ["N11-Q12", "N11-Q13"]), "clearance/KIM/1")
-    hand.speak("DISP1")
+    hand = stage.network(ordered("KIM", "N11-F12", ["N11-Q12", "N11-Q13"]), "clearance/KIM/1", speaker="DISP1")
     hand.shows("Instruct step 1")
     hand.browser.chord(ALT, "n")
     focus(hand, "dataset.name === 'instruct'", "the focus on Instruct")

@@ -80,7 +80,7 @@ def draw_large(stage):
     hand.turn("clearance/KIM/1")
     hand.shows("TAG B2-5C-Q")
     hand.turn("diagram")
-    hand.shows("KIM/1", "main .net")
+    hand.shows("KIM/1", "main .drawing")
     hand.picture("large")
     hand.browser.click(".tools button:first-child")
     hand.picture("large-whole")

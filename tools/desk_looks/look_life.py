@@ -6,23 +6,8 @@ import signal
 import time
 
 from desk_looks.browser import ENTER, Differs, free_ports, say, wait_until
-from desk_looks.desk import EXAMPLES, Desk, gridclear, tables
+from desk_looks.desk import EXAMPLES, Desk, same_as_run
 from desk_looks.labels import look_at_labels
-
-
-def compare(desk, work, lines=None):
-    """The tables under the page are those of `run` over the same commands: those that were sent, or these."""
-    second = os.path.join(work, "second.db")
-    gridclear("init", *desk.files, "--db", second)
-    lines = lines or desk.sent()
-    gridclear("run", "--db", second, text="".join(f"{line}\n" for line in lines))
-    own, other = tables(desk.base), tables(second)
-    for name in sorted(own.keys() | other.keys()):
-        if own.get(name) != other.get(name):
-            raise Differs(f"table {name}: {own.get(name)} under the page, {other.get(name)} by run")
-    if len(own.get("clearance", [])) < 4 or len(own.get("step", [])) < 14:
-        raise Differs("the tables have too few rows to say anything")
-    say(f"  {len(lines)} commands; the {len(own)} tables are those of run, {sum(map(len, own.values()))} rows")
 
 
 def ask_and_order(hand):
@@ -287,7 +272,7 @@ def look_around(hand):
     hand.shows("ORDER JONES/1 ROUND 2", "main .paper")
     hand.browser.on_paper(hand.path("paper"))
     hand.turn("diagram")
-    hand.shows("S4", "main .net")
+    hand.shows("S4", "main .drawing")
     hand.picture("diagram")
 
 
@@ -302,7 +287,7 @@ def whole_life(stage):
         hand.browser.complain()
     stage.desk.stop()
     say("the tables under the page")
-    compare(stage.desk, stage.work)
+    same_as_run(stage.desk, stage.work, stage.desk.sent(), {"clearance": 4, "step": 14})
 
 
 LOOKS = {"life": whole_life}

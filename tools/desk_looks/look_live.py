@@ -86,8 +86,7 @@ def reloads(one, two):
 
 def grounded(stage):
     """A ground without its test is an alarm at each desk, whenever it was opened; a release ends it."""
-    one = stage.network(granted("KIM", "N13-F12", CUT, ["C1"]), "clearance/KIM/1")
-    one.speak("KIM")
+    one = stage.network(granted("KIM", "N13-F12", CUT, ["C1"]), "clearance/KIM/1", speaker="KIM")
     say_live(one, "N13-F12")
     two = stage.window("board")
     two.speak("DISP2")
@@ -111,8 +110,7 @@ def grounded(stage):
 
 def other_clearance(stage):
     """A section that was found live under one clearance asks before a crew signs on under another that has it, too."""
-    hand = stage.network([*granted("KIM", "N13-F12", CUT, ["C1"]), *granted("JONES", "N13-F12", CUT, ["C5"])], "clearance/KIM/1")
-    hand.speak("KIM")
+    hand = stage.network([*granted("KIM", "N13-F12", CUT, ["C1"]), *granted("JONES", "N13-F12", CUT, ["C5"])], "clearance/KIM/1", speaker="KIM")
     say_live(hand, "N13-F12")
     hand.turn("clearance/JONES/1")
     hand.speak("JONES")
@@ -142,8 +140,7 @@ def nameless(stage):
 
 def without_reply(stage):
     """What was found live is an alarm also where the reply is lost, and the register still has the test."""
-    hand = stage.network(granted("KIM", "N13-F12", CUT, ["C1"]), "clearance/KIM/1")
-    hand.speak("KIM")
+    hand = stage.network(granted("KIM", "N13-F12", CUT, ["C1"]), "clearance/KIM/1", speaker="KIM")
 
     def say():
         hand.press("live N13-F12")

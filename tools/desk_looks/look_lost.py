@@ -43,8 +43,7 @@ def sign_off(hand, crew="C1"):
 
 
 def crews(stage):
-    hand = stage.network(granted("KIM", "N13-F12", CUT, ["C1", "C2"]), "clearance/KIM/1")
-    hand.speak("KIM")
+    hand = stage.network(granted("KIM", "N13-F12", CUT, ["C1", "C2"]), "clearance/KIM/1", speaker="KIM")
     other = {"by": "KIM", "do": "sign_on", "clearance": "KIM/1"}
     lose(hand, lambda: sign_off(hand), False, [(dict(other, crew="C7"), 0)])
     hand.found("Crew C1 is still on", "So far it was not carried out")
@@ -77,8 +76,7 @@ def leave(hand):
 
 
 def steps(stage):
-    hand = stage.network(ordered("KIM", "N13-F12", CUT), "clearance/KIM/1")
-    hand.speak("DISP1")
+    hand = stage.network(ordered("KIM", "N13-F12", CUT), "clearance/KIM/1", speaker="DISP1")
     lose(hand, lambda: hand.press("instruct"), False, [])
     hand.found("is waiting", "not carried out")
     leave(hand)
@@ -93,8 +91,7 @@ def steps(stage):
 
 def records(stage):
     """A request has no name before its reply: another section's record is not it."""
-    hand = stage.network((), "request")
-    hand.speak("KIM")
+    hand = stage.network((), "request", speaker="KIM")
     ask = lambda: hand.browser.type('main [data-name="section"]', "\ue009a\ue000N13-F12" + ENTER)
     lose(hand, ask, False, [({"by": "KIM", "do": "request", "section": "N11-F11"}, 0)])
     hand.found("for something else: KIM/1", "So far it was not carried out")
@@ -105,8 +102,7 @@ def records(stage):
 
 def again(stage):
     """A test that finds what an earlier one found leaves no trace."""
-    hand = stage.network(granted("KIM", "N13-F12", CUT, ["C1"]), "clearance/KIM/1")
-    hand.speak("KIM")
+    hand = stage.network(granted("KIM", "N13-F12", CUT, ["C1"]), "clearance/KIM/1", speaker="KIM")
     lose(hand, lambda: hand.press("dead N13-F12"), True, [])
     hand.found("was tested dead before, so the register shows no difference", "cannot be known")
     leave(hand)

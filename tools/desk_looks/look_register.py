@@ -51,7 +51,7 @@ def fresh(stage):
     for point, position in ((TIE, "closed"), ("N16-Q21", "open"), ("TIE1-N14-N15", "open"), ("TIE1-N15-N16", "closed"), ("N15-Q13", "open"), ("N13-Q11", "open")):
         if found[point] != position:
             raise Differs(f"{point} is drawn {found[point]}")
-    hand.shows("JONES/1 O B T", "main .net")
+    hand.shows("JONES/1 O B T", "main .drawing")
     hand.picture("fresh")
 
 

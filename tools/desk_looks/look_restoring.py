@@ -24,8 +24,7 @@ def given_beside(hand, commands):
 def what_was(stage):
     """A desk that saw the order shows what was before it; one that comes later says that it did not see it."""
     begun = ordered("WEBER", "N13-F11", ["N13-Q11", "N13-B1", TIE, "TIE1-N13-N14"])
-    hand = stage.network([*BYPASSED, *begun], "clearance/WEBER/1")
-    hand.speak("DISP1")
+    hand = stage.network([*BYPASSED, *begun], "clearance/WEBER/1", speaker="DISP1")
     hand.shows("OPEN N13-B1", "main .steps")
     given_beside(hand, WEBER[len(begun):])
     hand.shows("It ends with")
@@ -54,15 +53,11 @@ def what_was(stage):
 
 def restoring_joins(stage):
     """A normally open tie that would be closed joins two sources: it is said, and asked before the order is given."""
-    hand = stage.network(WEBER, "clearance/WEBER/1")
-    hand.speak("DISP1")
+    hand = stage.network(WEBER, "clearance/WEBER/1", speaker="DISP1")
     for choice in ("CLOSE N13-Q11", "LEAVE N13-B1", f"CLOSE {TIE}", "LEAVE TIE1-N13-N14"):
         hand.press(choice)
     hand.shows("joins the sources GRID-1 and GRID-2", ".order-notes")
-    hand.press("restore")
-    hand.shows("joins the sources GRID-1 and GRID-2", "dialog")
-    hand.answer("null")
-    hand.nothing_sent(0)
+    hand.declined("restore", "joins the sources GRID-1 and GRID-2")
     hand.press(f"LEAVE {TIE}")
     hand.press("restore")
     hand.reply("accepted", "Restoring")
@@ -70,16 +65,12 @@ def restoring_joins(stage):
 
 def switching_joins(stage):
     """A coupler between two stations of one source closes a loop, one between two sources joins them."""
-    hand = stage.network([], "switch")
-    hand.speak("DISP1")
+    hand = stage.network([], "switch", speaker="DISP1")
     for point, words in (("CPL-N11-N12", "closes a loop"), ("CPL-N12-N13", "joins the sources GRID-1 and GRID-2")):
         hand.pick(point)
         hand.press(f"CLOSE {point}")
         hand.shows(words, ".order-notes")
-        hand.press("switch")
-        hand.shows(words, "dialog")
-        hand.answer("null")
-        hand.nothing_sent(0)
+        hand.declined("switch", words)
     hand.picture("switch-joins")
 
 

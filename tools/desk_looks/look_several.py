@@ -50,8 +50,7 @@ def row(stage):
 
 def other_step(stage):
     """The pointer is on Instruct of step 1, which another desk does meanwhile: what comes there does not give out step 2."""
-    hand = stage.network(ordered("KIM", "N11-F12", CUT), "clearance/KIM/1")
-    hand.speak("DISP1")
+    hand = stage.network(ordered("KIM", "N11-F12", CUT), "clearance/KIM/1", speaker="DISP1")
     hand.browser.click("#several")
     hand.browser.settled('main [data-name="instruct"]')
     hand.browser.point(1, 1, *middle(hand, 'main [data-name="instruct"]'))
@@ -67,8 +66,7 @@ def other_step(stage):
 def held_key(stage):
     """Enter that is held down on `is done` does not give out the next step."""
     texts = needed(CUT)
-    hand = stage.network([*ordered("KIM", "N11-F12", CUT), *step("KIM/1", 1, texts[0], "repeat")], "clearance/KIM/1")
-    hand.speak("DISP1")
+    hand = stage.network([*ordered("KIM", "N11-F12", CUT), *step("KIM/1", 1, texts[0], "repeat")], "clearance/KIM/1", speaker="DISP1")
     hand.browser.click("#several")
     hand.browser.settled('main [data-name="done"]')
     hand.browser.script("document.querySelector('main [data-name=done]').focus()")

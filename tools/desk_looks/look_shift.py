@@ -5,8 +5,7 @@ import os
 import signal
 
 from desk_looks.browser import Differs, free_ports, say, wait_until
-from desk_looks.desk import Desk, gridclear
-from desk_looks.look_life import compare as tables_are_those_of
+from desk_looks.desk import Desk, gridclear, same_as_run, verified
 from desk_looks.look_register import compare
 from desk_looks.network import needed, undoing, write_files
 
@@ -18,7 +17,7 @@ class Shift:
 
     def __init__(self, stage):
         self.journal = os.path.join(stage.work, "journal")
-        self.desk = Desk(stage.work, "desk", write_files(stage.work), free_ports(2), ["--journal", self.journal])
+        self.desk = Desk(stage.work, "desk", write_files(stage.work), free_ports(2), ["--journal", self.journal, "--deadline", "10"])
         self.room = stage.begin(self.desk)
         self.field, self.line = stage.window(), stage.window()
         self.field.speak("REED")
@@ -153,7 +152,8 @@ def fresh(stage, day):
     lines, sent = gridclear("journal", day.journal, "--commands").splitlines(), day.desk.sent()
     if len(lines) != len(sent):
         raise Differs(f"the journal has {len(lines)} commands that were accepted, and {len(sent)} were sent")
-    tables_are_those_of(day.desk, stage.work, lines)
+    same_as_run(day.desk, stage.work, lines, {"clearance": 3, "step": 25})
+    verified(day.desk, day.journal, len(lines))
 
 
 LOOKS = {"shift": shift}

@@ -17,8 +17,7 @@ def is_green(hand):
 
 def green(stage):
     """The top is green only while an answer is younger than 6 seconds, by either clock of the page."""
-    hand = stage.network()
-    hand.speak("DISP1")
+    hand = stage.network(speaker="DISP1")
     for pause in (1.7, 1.7, 0.4):
         wait_until(lambda: is_green(hand), "green")
         time.sleep(pause)

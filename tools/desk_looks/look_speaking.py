@@ -60,8 +60,7 @@ def one_desk(stage):
 
 def until_repeated(stage):
     """It stays through a reload and another page, and goes when it is repeated."""
-    hand = stage.network(KIM_ORDER, "clearance/KIM/1")
-    hand.speak("DISP1")
+    hand = stage.network(KIM_ORDER, "clearance/KIM/1", speaker="DISP1")
     hand.press("instruct")
     hand.reply("accepted")
     hand.browser.own("POST", "/refresh", {})
@@ -104,8 +103,7 @@ def given_again(stage):
 
 def lost_reply(stage):
     """An instruct whose reply was lost may have been another desk's: people agree before one of them reads it out."""
-    hand = stage.network(KIM_ORDER, "clearance/KIM/1")
-    hand.speak("DISP1")
+    hand = stage.network(KIM_ORDER, "clearance/KIM/1", speaker="DISP1")
     hand.shows("Instruct step 1")
     with hanging(hand.desk.register()):
         hand.press("instruct")
@@ -142,8 +140,7 @@ sessionStorage.setItem('gridclear-given', JSON.stringify(given));
 
 def gap(stage):
     """Another desk may have given it again while this one did not look."""
-    hand = stage.network(KIM_ORDER, "clearance/KIM/1")
-    hand.speak("DISP1")
+    hand = stage.network(KIM_ORDER, "clearance/KIM/1", speaker="DISP1")
     hand.press("instruct")
     hand.reply("accepted", "instruct step 1")
     hand.shows("Read this out", "main .next")

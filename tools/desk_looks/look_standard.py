@@ -19,8 +19,7 @@ def unfold(hand):
 
 
 def standard(stage):
-    hand = stage.network([{"by": "KIM", "do": "request", "section": "N11-F12"}], "switch")
-    hand.speak("DISP1")
+    hand = stage.network([{"by": "KIM", "do": "request", "section": "N11-F12"}], "switch", speaker="DISP1")
     hand.pick("N11-Q12", "TIE1-N11-N12")
     for step in ("CLOSE TIE1-N11-N12", "OPEN N11-Q12"):
         hand.press(step)
@@ -70,8 +69,7 @@ def imported(stage, hand):
 
 
 def hand_over(stage):
-    hand = stage.network([*JONES, *ordered("KIM", "N11-F12", ["N11-Q12", "TIE1-N11-N12"]), switch(["OPEN N14-Q21"], "DISP2")], "shift")
-    hand.speak("DISP1")
+    hand = stage.network([*JONES, *ordered("KIM", "N11-F12", ["N11-Q12", "TIE1-N11-N12"]), switch(["OPEN N14-Q21"], "DISP2")], "shift", speaker="DISP1")
     hand.browser.click('main [data-name="leaves"] option[value="DISP1"]')
     hand.browser.click('main [data-name="comes"] option[value="DISP3"]')
     hand.browser.type('main [data-name="notes"]', "the key of N11 is at the gate")

@@ -45,34 +45,31 @@ def overprinted(hand, where):
 
 
 def texts(stage):
-    hand = stage.network(busy(), "diagram")
-    hand.speak("DISP1")
-    hand.shows("LEE/1", "main .net")
+    hand = stage.network(busy(), "diagram", speaker="DISP1")
+    hand.shows("LEE/1", "main .drawing")
     hand.browser.type(".tools input", "N13-F12" + ENTER)
     hand.picture("texts-near")
     overprinted(hand, "from near by")
     for name in ("JONES/1", "KIM/1", "OWENS/1", "TIE1-N12-N13"):
-        hand.shows(name, "main .net")
+        hand.shows(name, "main .drawing")
     hand.turn("clearance/JONES/1")
     overprinted(hand, "beside a clearance")
 
 
 def far_off(stage):
-    hand = stage.network(busy(), "diagram")
-    hand.speak("DISP1")
-    hand.shows("LEE/1", "main .net")
+    hand = stage.network(busy(), "diagram", speaker="DISP1")
+    hand.shows("LEE/1", "main .drawing")
     hand.browser.click(".tools button:first-child")
     count = overprinted(hand, "the whole network")
     hand.picture("texts-whole")
     for name in ("GRID-1", "JONES/1", "N13-F12", "N15-BUS"):
-        hand.shows(name, "main .net")
+        hand.shows(name, "main .drawing")
     if count < 60:
         raise Differs(f"the whole network has {count} texts")
 
 
 def find(stage):
-    hand = stage.network((), "diagram")
-    hand.speak("DISP1")
+    hand = stage.network((), "diagram", speaker="DISP1")
     hand.browser.type(".tools input", "N15-Q22" + ENTER)
     hand.shows("N15-Q22, ringed", ".tools")
     marked = hand.browser.script("return [...document.querySelectorAll('main .net .found')].map((node) => node.closest('[data-name]').dataset.name)")

@@ -31,35 +31,24 @@ def held_close(stage):
 
 def others_fence(stage):
     """An OPEN inside a Granted fence with a crew on: whose fence it is is said and asked, as it is written and given out."""
-    hand = stage.network(OWENS, "switch")
-    hand.speak("DISP4")
+    hand = stage.network(OWENS, "switch", speaker="DISP4")
     hand.pick(INSIDE)
     hand.shows("inside the fence of OWENS/1 (Granted, crew C7 on)", ".picked-notes")
     hand.press(f"OPEN {INSIDE}")
-    hand.press("switch")
-    hand.shows("inside the fence of OWENS/1 (Granted, crew C7 on)", "dialog")
-    hand.answer("null")
-    hand.nothing_sent(0)
+    hand.declined("switch", "inside the fence of OWENS/1 (Granted, crew C7 on)")
     hand.press("switch")
     hand.answer("send")
     hand.reply("accepted", "DISP4/1")
     hand.shows("inside the fence of OWENS/1", "main .step-place")
-    hand.press("instruct")
-    hand.shows("inside the fence of OWENS/1", "dialog")
-    hand.answer("null")
-    hand.nothing_sent(1)
+    hand.declined("instruct", "inside the fence of OWENS/1", sent=1)
 
 
 def in_hand(stage):
     """A point in another's hand, at a step that would be refused for it."""
     out = [*ordered("KIM", "N11-F12", ["N11-Q12", "N11-Q13"]), *step("KIM/1", 1, "OPEN N11-Q12", "instruct"), switch(["OPEN N11-Q12"])]
-    hand = stage.network(out, "clearance/DISP1/1")
-    hand.speak("DISP1")
+    hand = stage.network(out, "clearance/DISP1/1", speaker="DISP1")
     hand.shows("would be refused (IN_HAND): in hand of KIM/1", "main .step-place")
-    hand.press("instruct")
-    hand.shows("in hand of KIM/1", "dialog")
-    hand.answer("null")
-    hand.nothing_sent(0)
+    hand.declined("instruct", "in hand of KIM/1")
     hand.turn("switch")
     hand.pick("N11-Q12")
     hand.shows("in hand of KIM/1", ".picked-notes")
@@ -68,8 +57,7 @@ def in_hand(stage):
 def not_normal(stage):
     """A point that was moved, and the holds of another clearance, while an isolating order is written."""
     moved = [switch(["OPEN N14-Q12"]), *steps("DISP1/1", ["OPEN N14-Q12"]), *JONES, {"by": "LEE", "do": "request", "section": "N14-F13"}]
-    hand = stage.network(moved, "clearance/LEE/1")
-    hand.speak("DISP2")
+    hand = stage.network(moved, "clearance/LEE/1", speaker="DISP2")
     hand.browser.type('main [data-name="filter"]', "N14-")
     for words in ("N14-Q12 N14-F11 – N14-F12 marks: lockable open, normally closed", "TIE1-N13-N14 N13-F13 – N14-F13 marks: lockable held by JONES/1"):
         wait_until(lambda: words in " ".join(hand.text(".picks").split()), f"in the list: {words}")

@@ -53,8 +53,7 @@ def way_back(stage):
     in_hand = [*released("LEE", "N14-F33", ["N14-Q33", "TIE3-N13-N14", "TIE3-N14-N15"]), switch(["OPEN N14-Q33"], "DISP3"), *step("DISP3/1", 1, "OPEN N14-Q33", "instruct")]
     asked = [{"by": "PATEL", "do": "request", "section": "N12-F22"}, switch(["OPEN N12-Q22"], "DISP4"), *step("DISP4/1", 1, "OPEN N12-Q22", "repeat")]
     over = closed("OWENS", "N12-F33", ["N12-Q33", "TIE3-N11-N12", "TIE3-N12-N13"], ["CLOSE", "LEAVE", "LEAVE"])
-    hand = stage.network([*granted("JONES", "N13-F12", CUT, ["C2", "C1"]), *out, *at_close, *half, *in_hand, *asked, *over])
-    hand.speak("DISP1")
+    hand = stage.network([*granted("JONES", "N13-F12", CUT, ["C2", "C1"]), *out, *at_close, *half, *in_hand, *asked, *over], speaker="DISP1")
     for clearance in ("JONES/1", "KIM/1", "WEBER/1", "SOTO/1", "LEE/1", "DISP3/1", "PATEL/1", "DISP4/1"):
         compare(stage, hand, clearance)
     hand.turn("clearance/JONES/1")

@@ -40,11 +40,14 @@ class Stage:
         desk.start()
         return self.window(page)
 
-    def network(self, commands=(), page="board"):
-        """The made network, after these commands, a minute ago; each of them is accepted."""
+    def network(self, commands=(), page="board", speaker=None):
+        """The made network, after these commands, a minute ago; each of them is accepted. The first window speaks as this one."""
         desk = Desk(self.work, "desk", write_files(self.work), free_ports(2))
         give(desk, commands)
-        return self.begin(desk, page)
+        hand = self.begin(desk, page)
+        if speaker:
+            hand.speak(speaker)
+        return hand
 
     def window(self, page="board"):
         """A window more, each a browser of its own."""
