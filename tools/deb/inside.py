@@ -173,6 +173,14 @@ def backup(root, tally):
     root.run(f"systemctl start gridclear; curl -s -d '{COMMAND}' http://127.0.0.1:8080/command; systemctl start gridclear-backup")
     names = [one.name for one in root.path(BACKUPS).iterdir()]
     tally.check("it is kept for 30 days", len(names) == 1 and names[0] != first[0].name, names)
+    lines = "; ".join(guide("tail -n 1 journal > next"))
+    status, out = root.run(f"rm -f /run/gridclear-backup.out; cd /{DATA} && {lines}; curl -s -d '{COMMAND}' http://127.0.0.1:8080/command; "
+                           "sleep 1; systemctl start gridclear-backup; s=$?; cat /run/gridclear-backup.out; exit $s")
+    tally.check("a backup of a rotated journal", status == 0 and ": verified " in out and "made from the journal" not in out, out)
+    parts = [one.read_bytes() for one in [*sorted(root.path(DATA).glob("journal-2*")), root.path(f"{DATA}/journal")]]
+    newest = max(root.path(BACKUPS).iterdir(), key=lambda one: one.name)
+    tally.check("it has all parts as one", len(parts) == 2 and (newest / "journal").read_bytes() == b"".join(parts), [len(part) for part in parts])
+    tally.check("the new part is the page's to read", root.owner(f"{DATA}/journal") == "640 gridclear:www-data", root.owner(f"{DATA}/journal"))
     root.run(f"systemctl stop gridclear; cp -p /{DATA}/room.db /srv/newer.db; rm /{DATA}/room.db*; cp -p /srv/older.db /{DATA}/room.db; rm -f /run/gridclear-backup.out")
     status, out = root.run("sleep 1; systemctl start gridclear-backup; s=$?; cat /run/gridclear-backup.out; exit $s")
     tally.check("a register that verify finds is made again from the journal", status == 0 and "was made from the journal" in out and ": verified " in out, out)
