@@ -204,7 +204,11 @@ def free_port():
 def ask(port, line):
     """The status and the body of the response to a command, or None where none came whole."""
     body = line.rstrip("\n")
-    request = f"POST /command HTTP/1.1\r\nHost: 127.0.0.1\r\nContent-Length: {len(body)}\r\n\r\n{body}"
+    return answer(port, f"POST /command HTTP/1.1\r\nHost: 127.0.0.1\r\nContent-Length: {len(body)}\r\n\r\n{body}")
+
+
+def answer(port, request):
+    """The same of the response to a request."""
     received = b""
     try:
         with socket.create_connection(("127.0.0.1", port), timeout=ALLOWED) as connection:

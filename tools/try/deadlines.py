@@ -71,11 +71,13 @@ def of_kind(folder, kind):
         wanted = "".join(f"connection {number} ReadFailed\n" for number in range(1, count + 1))
         same(f"{kind}: each is reported", server.ended(), (0, wanted))
     same(f"{kind}: no late command was carried out", run("board", path)[1].count("KIM"), 0)
+    return took
 
 
 def beside(folder):
     with ThreadPoolExecutor(4) as pool:
-        list(pool.map(lambda kind: of_kind(folder, kind), KINDS[:4]))
+        slowest = max(pool.map(lambda kind: of_kind(folder, kind), KINDS[:4]))
+    print(f"a command after {max(COUNT // 4, 1)} silent connections, at a deadline of 1 second: answered after {slowest:.1f} s at most", flush=True)
 
 
 def large(folder):

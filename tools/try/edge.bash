@@ -103,21 +103,31 @@ opens() {
   expect "$title: has no socket" test -z "$(grep -E '^[0-9]+ +(socket|bind|listen|connect)' "$work/calls")"
 }
 
-# serving_opens PATH..: a server of one connection opens these alone, listens once, at 127.0.0.1, and connects to nobody.
+# serving_opens TITLE WORD.. -- PATH..: a server of one connection, given these words, opens these alone, listens once, at
+# 127.0.0.1, and connects to nobody.
 serving_opens() {
+  local title=$1 words=()
+  shift
+  while [ "$1" != -- ]; do
+    words+=("$1")
+    shift
+  done
+  shift
   : >"$work/told"
-  "${traced[@]}" "$program" serve "$1" --port "$port" --count 1 >"$work/told" 2>"$work/faults" &
+  "${traced[@]}" "$program" serve "${words[@]}" --port "$port" --count 1 >"$work/told" 2>"$work/faults" &
   server=$!
   for _ in $(seq 100); do [ -s "$work/told" ] || sleep 0.1; done
-  ask 'GET /board HTTP/1.1' '' >/dev/null
-  served 'a server whose calls are looked at' ''
-  opened_alone 'a server' "$@"
-  expect 'a server: listens once' test "$(grep -cE '^[0-9]+ +listen\(' "$work/calls")" -eq 1
-  expect 'a server: at 127.0.0.1' \
+  ask 'POST /command HTTP/1.1' 'Host: 127.0.0.1' 'X-Forwarded-User: JONES' "Content-Length: ${#show}" "$show" >/dev/null
+  served "$title whose calls are looked at" ''
+  opened_alone "$title" "$@"
+  expect "$title: listens once" test "$(grep -cE '^[0-9]+ +listen\(' "$work/calls")" -eq 1
+  expect "$title: at 127.0.0.1" \
     test "$(grep -E '^[0-9]+ +bind\(' "$work/calls" | grep -cF 'inet_addr("127.0.0.1")')" -eq 1
-  expect 'a server: binds once' test "$(grep -cE '^[0-9]+ +bind\(' "$work/calls")" -eq 1
-  expect 'a server: connects to nobody' test -z "$(grep -E '^[0-9]+ +connect\(' "$work/calls")"
+  expect "$title: binds once" test "$(grep -cE '^[0-9]+ +bind\(' "$work/calls")" -eq 1
+  expect "$title: accepts once" test "$(grep -E '^[0-9]+ +accept4?\(' "$work/calls" | grep -vc ' = -1 ')" -eq 1
+  expect "$title: connects to nobody" test -z "$(grep -E '^[0-9]+ +connect\(' "$work/calls")"
 }
+show='{"by":"JONES","clearance":"JONES/1","do":"show"}'
 
 if ! command -v strace >/dev/null || ! strace -qq -o /dev/null true 2>/dev/null; then
   left_out 'which files a subcommand opens' 'strace is not installed, or may not trace'
@@ -141,5 +151,17 @@ else
   opens 'a register that is made' "${three[@]}" "$edge/made.db" "$edge/made.db" "$edge/made.db-wal" "$edge" -- \
     init "${three[@]}" --db "$edge/made.db"
   opens 'a register made over one' "${three[@]}" "${register[@]}" -- init "${three[@]}" --db "$edge/room.db"
-  serving_opens "${register[@]}"
+  serving_opens 'a server' "$edge/room.db" -- "${register[@]}"
+  # with the options of a desk: the logins first, the journal after the register
+  cp "$work/kept.db" "$edge/room.db"
+  cp "$work/journal" "$edge/journal"
+  : >"$edge/journal-wal"
+  printf '%s\n' 'login,employee' 'JONES,JONES' >"$edge/logins.csv"
+  kept=("$edge/journal" "$edge/journal-wal" "$edge")
+  with_input "$work/asks" opens 'a run with a journal' "${register[@]}" "${kept[@]}" -- \
+    run --db "$edge/room.db" --journal "$edge/journal"
+  serving_opens 'a server with a journal' "$edge/room.db" --journal "$edge/journal" -- "${register[@]}" "${kept[@]}"
+  serving_opens 'a server at a desk' "$edge/room.db" --desk --deadline 5 --logins "$edge/logins.csv" \
+    --journal "$edge/journal" -- "$edge/logins.csv" "${register[@]}" "${kept[@]}"
+  expect 'the journal of what changed nothing is unchanged' cmp "$work/journal" "$edge/journal"
 fi
