@@ -192,8 +192,7 @@ def backup(root, tally):
 
 def port_443(root, tally):
     """Desks on other machines: the package's lines for Debian's own nginx."""
-    certificate = guide("openssl req")[0]
-    status, out = root.run(f"cp /usr/share/gridclear/port-443.conf /etc/nginx/conf.d/register.conf && {certificate} && nginx")
+    status, out = root.run(" && ".join([*guide("openssl req")[:3], "nginx"]))
     tally.check("nginx takes the lines of port 443", status == 0, out)
     call = "curl -s -m 20 -k --resolve register.example:443:127.0.0.1 -w ' %{http_code}' https://register.example"
     found = [root.run(f"{call}{words}")[1][-3:] for words in ("/board", "/board -u OPS:first", "/board -u KIM:other", f"/command -u KIM:other -d '{COMMAND}'")]
