@@ -1,11 +1,10 @@
 -- What a keeper with a journal leaves is what opening it again takes.
-use Rattle.std.proofs.Common.{◌≡◌, ◌∙◌, ◌⊎◌, ◌++◌, ℕ, Bool, true, false, List, [], ◌∷◌, map, None, Option, Some, Ok, inl, inr, refl, sym, subst, ap, append-nil, append_assoc, option_map, option_and_then}
+use Rattle.std.proofs.Common.{◌≡◌, ◌∙◌, ◌++◌, ℕ, true, List, [], ◌∷◌, map, None, Some, inl, inr, refl, sym, subst, ap, append-nil, append_assoc, option_map, option_and_then}
 use Rattle.std.proofs.lemmas.Bool.{and_from, and_parts}
 use Rattle.std.specs.List.{last_or, list_all}
 use Rattle.clr_append.proofs.Pieces.{line_first}
 use Rattle.clr_append.specs.Lines.{ended_lines, ended_text, last_line, text_of}
 use Rattle.clr_rules.specs.Register.{Register}
-use Rattle.clr_rules.specs.Run.{after}
 use Rattle.clr_again.specs.Again.{reply_to}
 use Rattle.clr_text.specs.Replies.{reply_data}
 use Rattle.clr_journal.specs.Journals.{carried_out, first_turn, in_turn, journal_text, read_journal}
