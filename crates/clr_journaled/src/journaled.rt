@@ -166,7 +166,7 @@ fn is_accepted(reply: &Reply) -> bool
     }
 }
 
-/// The clearance of a card is named as clearances are, as every value of the program is: a law, with
+/// The clearance of a card is named as clearances are, as each value of the program is: a law, with
 /// nothing to do.
 fn named(reply: &Reply)
     ensures { IsNamed (clearance_in reply.now) }
