@@ -15,7 +15,7 @@ use Rattle.clr_journaled.specs.declared.journaled.Journaled.{Journaled}
 use Rattle.clr_journaled.specs.declared.last.Last.{Last}
 use Rattle.clr_journaled.specs.declared.last.Last.TheVariants.{Doubtful, Owed, Settled}
 
--- all lines that a journal has, where a command's text states its moment, or this is 0
+-- each command of these lines has the moment that its text states; 0 where it states none
 abbrev pub HasMoments : List Entry → Type 0
 HasMoments lines = list_all has_moment lines ≡ true
 

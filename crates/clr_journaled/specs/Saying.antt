@@ -33,7 +33,7 @@ InDoubt Settled R doubted = doubted ≡ []
 InDoubt Owed R doubted = doubted ≡ []
 InDoubt Doubtful R doubted = (entry : Entry) × IsDue R entry × (doubted ≡ entry ∷ [])
 
--- a command's text states its moment, or this is 0
+-- a command has the moment that its text states; 0 where it states none
 abbrev pub has_moment : Entry → Bool
 has_moment (carried receipt q reply) = has_its_moment q
 has_moment (withdrawn n) = true
