@@ -1,2 +1,3 @@
-pub mod FedSections
-pub mod NoFloats
+pub mod LiveMarks
+pub mod Spreading
+pub mod Tokens

@@ -1,2 +1,4 @@
-pub mod Fed
+pub mod Live
+pub mod Spread
+pub mod Tokens
 pub mod View

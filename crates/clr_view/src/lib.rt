@@ -2,6 +2,7 @@
 #![tactic(auto)]
 
 mod live;
+mod spread;
 mod values;
 mod view;
 

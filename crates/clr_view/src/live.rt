@@ -1,54 +1,84 @@
-//! The live sections: those that sources feed over closed points.
-ghost use Rattle.std.specs.Prelude.{◌≡◌, IfOk, filter, map, not};
-ghost use Rattle.std.specs.List.{list_any};
-ghost use Rattle.clr_net.specs.Fence.{fence_has};
+//! The live sections: those to which closed points lead from a source.
+ghost use Rattle.std.specs.Prelude.{◌≡◌, IfOk, filter, map};
+ghost use Rattle.std.specs.List.Sorted.{IsStrictlySortedBy};
+ghost use Rattle.clr_net.specs.Grid.{section_names};
+ghost use Rattle.clr_net.specs.Index.{place_in};
+ghost use Rattle.clr_net.specs.Name.{name_cmp};
 ghost use Rattle.clr_rules.specs.Live.{is_closed_point, is_live};
-ghost use Rattle.clr_view.specs.Fed.{TogetherHave, is_fed};
+ghost use Rattle.clr_view.specs.Live.{AreMarksOf, link_of, section_mark};
+ghost use Rattle.clr_view.specs.Spread.{is_marked};
 
+use crate::spread::{Link, spread};
 use clr_book::Book;
-use clr_net::{Fence, Name, Network, PointRow, Position};
+use clr_net::{Name, PointRow, Position, SectionRow, place_of};
 use clr_rules::{Hold, PointState, Record, StepRow};
 use clr_shelf::Shelf;
 use std::alloc::{AllocError, Global};
 
-/// The fences of sources, cut at the points that are not closed: together they have the live
-/// sections.
-pub(crate) fn fed<'a, P, C, T, H>(
-    alloc: Global,
-    book: &'a Book<P, C, T, H>,
-) -> Result<Vec<Fence<'a>>, AllocError>
-where
-    P: Shelf<PointState>,
-    C: Shelf<Record>,
-    T: Shelf<StepRow>,
-    H: Shelf<Hold>,
-    ensures { IfOk result (λ fences. TogetherHave
-        (is_live book.now.register.net book.now.register.states) fences.items) }
-{
-    let network = book.network();
-    let open = open_among(alloc, book, network.points())?;
-    fences_of_sources(alloc, network, &open)
-}
-
-/// The names of those points that are not closed.
-fn open_among<P, C, T, H>(
+/// For each section, at its place in the order of names, whether it is live. The marks of the
+/// sources spread over the closed points.
+pub(crate) fn live_marks<P, C, T, H>(
     alloc: Global,
     book: &Book<P, C, T, H>,
-    points: &[PointRow],
-) -> Result<Vec<Name>, AllocError>
+) -> Result<Vec<bool>, AllocError>
 where
     P: Shelf<PointState>,
     C: Shelf<Record>,
     T: Shelf<StepRow>,
     H: Shelf<Hold>,
-    ensures { IfOk result (λ names. names.items
-        ≡ filter (λ name. not (is_closed_point book.now.register.states name))
-        (map (λ row. row.name) points.now)) }
+    ensures { IfOk result (λ marks. AreMarksOf
+        (is_live book.now.register.net book.now.register.states)
+        book.now.register.net.sections marks.items) }
+{
+    let network = book.network();
+    let links = closed_links(alloc, book, network.sections(), network.points())?;
+    let mut marks = source_marks(alloc, network.sections())?;
+    spread(&links, &mut marks);
+    Ok(marks)
+}
+
+/// Whether a section has its mark; the sections are in the order of their names.
+pub(crate) fn section_mark(sections: &[SectionRow], marks: &[bool], section: &Name) -> bool
+    requires { IsStrictlySortedBy name_cmp (section_names sections.now) }
+    ensures { result ≡ section_mark sections.now marks.now section.now }
+{
+    mark_at(marks, place_in(sections, section))
+}
+
+fn mark_at(marks: &[bool], place: usize) -> bool
+    ensures { result ≡ is_marked marks.now place }
+{
+    place < marks.len() && marks[place]
+}
+
+/// The sources are marked.
+fn source_marks(alloc: Global, sections: &[SectionRow]) -> Result<Vec<bool>, AllocError>
+    ensures { IfOk result (λ marks. marks.items ≡ map (λ row. row.source) sections.now) }
+{
+    sections.iter().map(|section| section.source).collect(alloc)
+}
+
+/// The links over those of the points that are closed.
+fn closed_links<P, C, T, H>(
+    alloc: Global,
+    book: &Book<P, C, T, H>,
+    sections: &[SectionRow],
+    points: &[PointRow],
+) -> Result<Vec<Link>, AllocError>
+where
+    P: Shelf<PointState>,
+    C: Shelf<Record>,
+    T: Shelf<StepRow>,
+    H: Shelf<Hold>,
+    requires { IsStrictlySortedBy name_cmp (section_names sections.now) }
+    ensures { IfOk result (λ links. links.items ≡ map (link_of sections.now)
+        (filter (λ p. is_closed_point book.now.register.states p.name) points.now)) }
 {
     points
         .iter()
-        .map(|row| row.name)
-        .filter(|name| !is_closed(book, name))
+        .copied()
+        .filter(|point| is_closed(book, &point.name))
+        .map(|point| link_of(sections, &point))
         .collect(alloc)
 }
 
@@ -67,28 +97,24 @@ where
     }
 }
 
-/// The fences of the sources, cut at these points; a source inside one of another is passed over,
-/// since its fence is the same.
-fn fences_of_sources<'a>(
-    alloc: Global,
-    network: &'a Network,
-    cut: &[Name],
-) -> Result<Vec<Fence<'a>>, AllocError>
-    ensures { IfOk result (λ fences. TogetherHave (is_fed network.now cut.now) fences.items) }
+/// The places of a point's ends.
+fn link_of(sections: &[SectionRow], point: &PointRow) -> Link
+    requires { IsStrictlySortedBy name_cmp (section_names sections.now) }
+    ensures { result ≡ link_of sections.now point.now }
 {
-    let mut fences = Vec::new(alloc);
-    for section in network.sections() {
-        if section.source && !is_inside(&fences, &section.name) {
-            let fence = network.fence(&section.name, cut)?;
-            fences.push(fence)?;
-        }
+    Link {
+        from: place_in(sections, &point.from_end),
+        to: place_in(sections, &point.to_end),
     }
-    Ok(fences)
 }
 
-/// Whether one of these fences has a section.
-pub(crate) fn is_inside(fences: &[Fence<'_>], section: &Name) -> bool
-    ensures { result ≡ list_any (λ fence. fence_has fence section.now) fences.now }
+/// The place of a section, or past the last one.
+fn place_in(sections: &[SectionRow], name: &Name) -> usize
+    requires { IsStrictlySortedBy name_cmp (section_names sections.now) }
+    ensures { result ≡ place_in (section_names sections.now) name.now }
 {
-    fences.iter().any(|fence| fence.has(section))
+    match place_of(sections, *name) {
+        Some(place) => place,
+        None => sections.len(),
+    }
 }

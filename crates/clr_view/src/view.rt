@@ -1,19 +1,23 @@
 //! The network as a page draws it, as JSON.
-ghost use Rattle.std.specs.Prelude.{◌≡◌, IfOk, string_bytes};
-ghost use Rattle.serde_json.specs.View.{view};
+ghost use Rattle.std.specs.Prelude.{◌≡◌, [], IfOk, OnOk, string_bytes};
+ghost use Rattle.json.specs.Print.{print};
 ghost use Rattle.clr_text.specs.Json.{list_data};
 ghost use Rattle.clr_rules.specs.Live.{is_live};
 ghost use Rattle.clr_rules.specs.States.{hand_of, position_of};
-ghost use Rattle.clr_view.specs.View.{employee_data, holders_data, network_data, network_text};
-ghost use Rattle.clr_view.specs.View.{point_data, section_data};
+ghost use Rattle.clr_view.specs.Tokens.{Adds, data_tokens, member_tokens};
+ghost use Rattle.clr_view.specs.View.{holders_data, network_data, network_text, point_data};
+ghost use Rattle.clr_view.specs.View.{employee_data, section_data};
 
-use crate::live::{fed, is_inside};
-use crate::values::{clearance_or_null, holders_value, name_value, position_or_null, staff_value};
+use crate::live::{live_marks, section_mark};
+use crate::values::{
+    begin, begin_list, end, end_list, push_clearance_or_null, push_flag, push_holders, push_name,
+    push_position_or_null, push_staff,
+};
 use clr_book::Book;
-use clr_net::{Fence, Name, PointRow, Position, SectionRow};
+use clr_net::{Name, PointRow, Position, SectionRow};
 use clr_rules::{ClearanceId, Hold, HoldGroup, PointState, Record, StepRow};
 use clr_shelf::Shelf;
-use serde_json::{Value, json};
+use json::Writer;
 use std::alloc::{AllocError, Global};
 use std::marker::Model;
 
@@ -35,32 +39,45 @@ where
     let drawing = Drawing {
         alloc,
         book,
-        fed: fed(alloc, book)?,
+        live: live_marks(alloc, book)?,
     };
-    let value = drawing.network()?;
-    value.to_string(alloc)
+    let mut out = Writer::new(Vec::new(alloc));
+    drawing.push_network(&mut out)?;
+    Ok(text_of(out))
 }
 
-/// A book that is drawn, with the fences of its sources. A contract sees its register.
+/// The text of what was written.
+fn text_of(out: Writer) -> String
+    requires { out.before ≡ [] }
+    ensures { string_bytes result ≡ print out.tokens }
+{
+    let Ok(text) = String::from_utf8(out.into_inner()) else {
+        unreachable!()
+    };
+    text
+}
+
+/// A book that is drawn, with the marks of its live sections. A contract sees its register.
 #[derive(Drop)]
 struct Drawing<'a, P: Shelf<PointState>, C: Shelf<Record>, T: Shelf<StepRow>, H: Shelf<Hold>> {
     alloc: Global,
     book: &'a Book<P, C, T, H>,
-    fed: Vec<Fence<'a>>,
+    live: Vec<bool>,
 }
 
 impl<'a, P: Shelf<PointState>, C: Shelf<Record>, T: Shelf<StepRow>, H: Shelf<Hold>> Model
     for Drawing<'a, P, C, T, H> {
     ghost use Rattle.clr_rules.specs.Live.{is_live};
     ghost use Rattle.clr_rules.specs.Register.{Register};
-    ghost use Rattle.clr_view.specs.Fed.{TogetherHave};
+    ghost use Rattle.clr_view.specs.Live.{AreMarksOf};
 
     ghost Value = { Register };
 
     ghost view = { λ d. d.book.now.register };
 
-    ghost invariant = { λ d. TogetherHave
-        (is_live d.book.now.register.net d.book.now.register.states) d.fed.items };
+    ghost invariant = { λ d. AreMarksOf
+        (is_live d.book.now.register.net d.book.now.register.states)
+        d.book.now.register.net.sections d.live.items };
 }
 
 impl<'a, P: Shelf<PointState>, C: Shelf<Record>, T: Shelf<StepRow>, H: Shelf<Hold>> Drawing<
@@ -70,100 +87,106 @@ impl<'a, P: Shelf<PointState>, C: Shelf<Record>, T: Shelf<StepRow>, H: Shelf<Hol
     T,
     H,
 > {
-    fn network(&self) -> Result<Value, AllocError>
-        ensures { IfOk result (λ value. view value ≡ network_data self.now) }
+    fn push_network(&self, out: &mut Writer) -> Result<(), AllocError>
+        ensures { OnOk result (Adds (data_tokens (network_data self.now)) out.old out.new) }
     {
-        let points = self.points()?;
-        let sections = self.sections()?;
-        let staff = self.staff()?;
-        json!(in self.alloc; {"points": points, "sections": sections, "staff": staff})
+        begin(out)?;
+        self.push_points(out, "points")?;
+        self.push_sections(out, "sections")?;
+        self.push_staff(out, "staff")?;
+        end(out)
     }
 
-    fn points(&self) -> Result<Value, AllocError>
-        ensures { IfOk result (λ value.
-            view value ≡ list_data (point_data self.now) self.now.net.points) }
-    {
-        let network = self.book.network();
-        self.point_list(network.points())
-    }
-
-    fn sections(&self) -> Result<Value, AllocError>
-        ensures { IfOk result (λ value.
-            view value ≡ list_data (section_data self.now) self.now.net.sections) }
+    fn push_points(&self, out: &mut Writer, key: &str) -> Result<(), AllocError>
+        ensures { OnOk result (Adds (member_tokens key.now
+            (list_data (point_data self.now) self.now.net.points)) out.old out.new) }
     {
         let network = self.book.network();
-        self.section_list(network.sections())
+        self.push_point_list(out, key, network.points())
     }
 
-    fn staff(&self) -> Result<Value, AllocError>
-        ensures { IfOk result (λ value. view value ≡ list_data employee_data self.now.staff) }
+    fn push_sections(&self, out: &mut Writer, key: &str) -> Result<(), AllocError>
+        ensures { OnOk result (Adds (member_tokens key.now
+            (list_data (section_data self.now) self.now.net.sections)) out.old out.new) }
+    {
+        let network = self.book.network();
+        self.push_section_list(out, key, network.sections())
+    }
+
+    fn push_staff(&self, out: &mut Writer, key: &str) -> Result<(), AllocError>
+        ensures { OnOk result (Adds (member_tokens key.now
+            (list_data employee_data self.now.staff)) out.old out.new) }
     {
         let staff = self.book.staff();
-        staff_value(self.alloc, staff.rows())
+        push_staff(out, key, staff.rows())
     }
 
-    fn point_list(&self, points: &[PointRow]) -> Result<Value, AllocError>
-        ensures { IfOk result (λ value. view value ≡ list_data (point_data self.now) points.now) }
+    fn push_point_list(
+        &self,
+        out: &mut Writer,
+        key: &str,
+        points: &[PointRow],
+    ) -> Result<(), AllocError>
+        ensures { OnOk result (Adds (member_tokens key.now
+            (list_data (point_data self.now) points.now)) out.old out.new) }
     {
-        let mut list = Vec::with_capacity(self.alloc, points.len())?;
+        begin_list(out, key)?;
         for point in points {
-            list.push(self.point(point)?)?;
+            self.push_point(out, point)?;
         }
-        Ok(Value::Array(list))
+        end_list(out)
     }
 
-    fn section_list(&self, sections: &[SectionRow]) -> Result<Value, AllocError>
-        ensures { IfOk result (λ value.
-            view value ≡ list_data (section_data self.now) sections.now) }
+    fn push_section_list(
+        &self,
+        out: &mut Writer,
+        key: &str,
+        sections: &[SectionRow],
+    ) -> Result<(), AllocError>
+        ensures { OnOk result (Adds (member_tokens key.now
+            (list_data (section_data self.now) sections.now)) out.old out.new) }
     {
-        let mut list = Vec::with_capacity(self.alloc, sections.len())?;
+        begin_list(out, key)?;
         for section in sections {
-            list.push(self.section(section)?)?;
+            self.push_section(out, section)?;
         }
-        Ok(Value::Array(list))
+        end_list(out)
     }
 
-    fn point(&self, point: &PointRow) -> Result<Value, AllocError>
-        ensures { IfOk result (λ value. view value ≡ point_data self.now point.now) }
+    fn push_point(&self, out: &mut Writer, point: &PointRow) -> Result<(), AllocError>
+        ensures { OnOk result
+            (Adds (data_tokens (point_data self.now point.now)) out.old out.new) }
     {
-        let alloc = self.alloc;
-        let from = name_value(alloc, &point.from_end)?;
-        let hand = clearance_or_null(alloc, self.hand(&point.name))?;
-        let holds = self.holders(HoldGroup::AtPoint(point.name))?;
-        let name = name_value(alloc, &point.name)?;
-        let position = position_or_null(alloc, self.position(&point.name))?;
-        let to = name_value(alloc, &point.to_end)?;
-        json!(in alloc; {
-            "from": from,
-            "hand": hand,
-            "holds": holds,
-            "jumper": point.jumper,
-            "lockable": point.lockable,
-            "point": name,
-            "position": position,
-            "remote": point.remote,
-            "to": to
-        })
+        begin(out)?;
+        push_name(out, "from", &point.from_end)?;
+        push_clearance_or_null(self.alloc, out, "hand", self.hand(&point.name))?;
+        self.push_holders(out, "holds", HoldGroup::AtPoint(point.name))?;
+        push_flag(out, "jumper", point.jumper)?;
+        push_flag(out, "lockable", point.lockable)?;
+        push_name(out, "point", &point.name)?;
+        push_position_or_null(out, "position", self.position(&point.name))?;
+        push_flag(out, "remote", point.remote)?;
+        push_name(out, "to", &point.to_end)?;
+        end(out)
     }
 
-    fn section(&self, section: &SectionRow) -> Result<Value, AllocError>
-        ensures { IfOk result (λ value. view value ≡ section_data self.now section.now) }
+    fn push_section(&self, out: &mut Writer, section: &SectionRow) -> Result<(), AllocError>
+        ensures { OnOk result
+            (Adds (data_tokens (section_data self.now section.now)) out.old out.new) }
     {
-        let holds = self.holders(HoldGroup::AtSection(section.name))?;
-        let live = self.is_live(&section.name);
-        let name = name_value(self.alloc, &section.name)?;
-        json!(in self.alloc; {
-            "holds": holds,
-            "live": live,
-            "section": name,
-            "source": section.source
-        })
+        begin(out)?;
+        self.push_holders(out, "holds", HoldGroup::AtSection(section.name))?;
+        push_flag(out, "live", self.is_live(&section.name))?;
+        push_name(out, "section", &section.name)?;
+        push_flag(out, "source", section.source)?;
+        end(out)
     }
 
     fn is_live(&self, section: &Name) -> bool
         ensures { result ≡ is_live self.now.net self.now.states section.now }
     {
-        is_inside(&self.fed, section)
+        let network = self.book.network();
+        section_mark(network.sections(), &self.live, section)
     }
 
     fn hand(&self, point: &Name) -> Option<ClearanceId>
@@ -184,11 +207,12 @@ impl<'a, P: Shelf<PointState>, C: Shelf<Record>, T: Shelf<StepRow>, H: Shelf<Hol
         }
     }
 
-    fn holders(&self, group: HoldGroup) -> Result<Value, AllocError>
-        ensures { IfOk result (λ value. view value ≡ holders_data self.now.holds group) }
+    fn push_holders(&self, out: &mut Writer, key: &str, group: HoldGroup) -> Result<(), AllocError>
+        ensures { OnOk result (Adds (member_tokens key.now
+            (holders_data self.now.holds group)) out.old out.new) }
     {
         let (_, _, _, holds) = self.book.shelves();
         let rows = holds.group(&group)?;
-        holders_value(self.alloc, &rows)
+        push_holders(self.alloc, out, key, &rows)
     }
 }
