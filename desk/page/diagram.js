@@ -95,6 +95,8 @@ export class Diagram {
     this.#writing = new Writing(network, this.#plan);
     const drawing = this.#draw();
     this.#frame = el("div", { class: "net", tabindex: 0, role: "group", "aria-label": `One-line diagram. ${KEYS}` }, drawing);
+    // At the frame: a browser takes each part of a drawing that listens for the focus for a stop of Tab.
+    this.#frame.addEventListener("focusin", ({ target: { dataset } }) => { if (dataset.kind === this.#picking?.kind) this.#roving[dataset.kind]?.onFocus(dataset.name); });
     this.#zoom = new Zoom(this.#frame, drawing, this.#plan, (scale) => this.#writing.atScale(scale));
     this.#roving = this.#rovings();
     this.node = el("div", { class: "diagram" }, this.#tools(), this.#byKeys, this.#frame, this.#dead, legend());
@@ -137,7 +139,6 @@ export class Diagram {
     const group = svg("g", { "data-kind": kind, "data-name": name, transform: `translate(${x},${y})` });
     const picks = () => this.#picking?.kind === kind;
     pressable(group, () => (picks() ? this.#picking.toggle(name) : this.#press(kind, name)), (event) => picks() && this.#roving[kind].onKey(event, name));
-    group.addEventListener("focus", () => { if (picks()) this.#roving[kind].onFocus(name); });
     groups.set(name, { group });
     return group;
   }

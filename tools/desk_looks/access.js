@@ -215,7 +215,7 @@ function tablesAndLists() {
 // drawing, which a list has too, are left out.
 function targetsAreLarge() {
   const targets = all(CONTROLS).filter((node) => isSeen(node) && !isUnseen(node) && !node.closest("svg") && !node.matches("svg"));
-  const boxes = new Map(targets.map((node) => [node, boxOf(node)]));
+  const boxes = new Map(targets.map((node) => [node, boxOf(node)]).filter(([node, box]) => !isScrolledAway(node, box)));
   for (const [node, box] of boxes) {
     if ((box.width >= SMALLEST && box.height >= SMALLEST) || isInSentence(node)) continue;
     const x = box.left + box.width / 2, y = box.top + box.height / 2;
@@ -228,6 +228,12 @@ function targetsAreLarge() {
       }
     }
   }
+}
+
+// What is scrolled out of a list is nowhere to be pressed.
+function isScrolledAway(node, { top, bottom }) {
+  const list = node.closest(".picks")?.getBoundingClientRect();
+  return list !== undefined && (top > list.bottom || bottom < list.top);
 }
 
 // A label is pressed as its control is.
@@ -292,9 +298,10 @@ function isScrolled(...nodes) {
 // What has the focus by a key: a ring that is seen, and nothing over all of it.
 function stop() {
   const node = document.activeElement;
-  window.stops ??= new Set();
-  if (!node || node === document.body || window.stops.has(node)) return null;
-  window.stops.add(node);
+  const been = (window.stops ??= new Set());
+  if (node && [...been].at(-1) === node) return []; // a field of a date has more than one stop
+  if (!node || node === document.body || been.has(node)) return null;
+  been.add(node);
   const { outlineStyle, outlineWidth, outlineColor, outlineOffset } = getComputedStyle(node);
   const around = ground(parseFloat(outlineOffset) < 0 ? node : node.parentElement), found = ratio(over(colourIn(outlineColor), around), around);
   if (outlineStyle === "none" || parseFloat(outlineWidth) < 2) fault("focus", node, "no ring");

@@ -3,7 +3,7 @@ Chromium itself makes of the page for a screen reader."""
 
 import os
 
-from desk_looks.browser import TAB, Differs, say
+from desk_looks.browser import SHIFT, TAB, Differs, say
 
 with open(os.path.join(os.path.dirname(__file__), "access.js"), encoding="utf-8") as file:
     SCRIPT = file.read()
@@ -66,15 +66,18 @@ class Access:
     def walk(self, state):
         """Tab from the top of the page to its end: each control is a stop, with a ring that is seen."""
         browser = self.hand.browser
-        browser.script("delete window.stops; document.activeElement.blur(); window.scrollTo(0, 0); getSelection().collapse(document.body, 0)")
+        browser.script("delete window.stops; document.getElementById('skip').focus()")
+        browser.keys(TAB)
+        browser.chord(SHIFT, TAB)
         for count in range(MOST_STOPS):
-            browser.keys(TAB)
             found = self.script("stop")
             if found is None:
                 break
             self.note(state, found)
+            browser.keys(TAB)
         else:
             raise Differs(f"{state}: {MOST_STOPS} times Tab do not lead out of the page")
+        self.looks += 1
         self.note(state, self.script("missed"))
         say(f"  {state}: {count} stops of Tab")
 

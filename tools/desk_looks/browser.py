@@ -11,7 +11,7 @@ import urllib.error
 import urllib.request
 
 NEEDED = {"chromium": "chromium", "chromedriver": "chromium-driver", "nginx": "nginx"}
-TAB, ENTER, ALT = "\ue004", "\ue007", "\ue00a"
+TAB, ENTER, ALT, SHIFT = "\ue004", "\ue007", "\ue00a", "\ue008"
 REBOUND = "rebound.example"  # a foreign name that leads to this machine
 LONG = 30  # seconds that anything is waited for
 

@@ -5,7 +5,6 @@ from desk_looks.desk import Desk
 from desk_looks.network import needed, steps, write_files
 
 SPACE, ESCAPE, DOWN, UP, LEFT, RIGHT, HOME = " ", "\ue00c", "\ue015", "\ue013", "\ue012", "\ue014", "\ue011"
-SHIFT = "\ue008"
 MOST = 400  # Tabs to anything
 CUT = ["N11-Q33", "TIE3-N11-N12"]
 # What has the focus in the diagram, and how far from it another one is.
