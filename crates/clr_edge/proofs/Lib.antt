@@ -1,2 +1,3 @@
 pub mod Databases
+pub mod Ending
 pub mod TakenUp

@@ -1,5 +1,5 @@
 -- A register taken up with its journal.
-use Rattle.std.proofs.Common.{◌≡◌, inl, inr, subst, sym, Result, Ok, Err}
+use Rattle.std.proofs.Common.{◌≡◌, ℕ, inl, inr, refl, subst, sym, List, Option, Result, Ok, Err}
 use Rattle.std.specs.Prelude.{IfErr, IfOk}
 use Rattle.sqlite.specs.Held.{Held, state}
 use Rattle.sqlite.specs.State.{HasCleanDisk}
@@ -7,26 +7,51 @@ use Rattle.sqlite_trees.specs.declared.store.Store.{Ghosts}
 use Rattle.clr_rules.specs.Good.{IsGood}
 use Rattle.clr_rules.specs.Register.{Register}
 use Rattle.clr_desk.specs.Kept.{Keeps}
-use Rattle.clr_desk.proofs.Keeping.{keeps_itself}
+use Rattle.clr_journaled.specs.declared.journaled.Journaled.{Journaled}
 use Rattle.clr_edge.specs.Database.{HasRegister, IsOnlyRead}
-use Rattle.clr_edge.specs.Journals.{IsKept, IsNotTakenUp, IsOfOpening, IsOfTakingUp, IsRedoneOver, IsTakenUp, KeepsSome}
+use Rattle.clr_edge.specs.Journals.{IsKept, IsOfBadLine, IsOfOpening, IsOfTakingUp, IsRedoneOver}
+use Rattle.clr_edge.specs.TakenUp.{IsNotTakenUp, IsTakenUp}
 use Rattle.clr_edge.specs.declared.fault.Fault.{Fault}
+use Rattle.clr_edge.specs.declared.journals.Journals as journals
 
-module _ {T : Type 0} (g : Ghosts T) (before opened : Held T) (R : Register) (read : IsOnlyRead g before opened) (good : IsGood R)
+module _ {M J C T : Type 0} (g : Ghosts T) (at : journals.Ghosts M J C) (path : List ℕ) (old new : M) (before opened : Held T) (R : Register)
+    (read : IsOnlyRead g before opened) (good : IsGood R)
     (is_register : (K : Register) → HasRegister g K before → HasCleanDisk (state g opened) → R ≡ K) where
   abbrev kept : (after : Held T) (S : Register) → Keeps (state g opened) R (state g after) S → IsKept g before after S
   kept after S keeps = record { opened = opened; read = read; first = R; good = good; is_register = is_register; keeps = keeps }
 
-  pub takes_up : {X Y : Type 0} (keeper_of : X → Held T) (register_of : X → Register) (result : Result X Y)
-      → IfOk result (λ x. IsRedoneOver g opened R (keeper_of x) (register_of x)) → IfOk result (λ x. IsTakenUp g before (keeper_of x) (register_of x))
-  takes_up keeper_of register_of (Ok x) redone = record { kept = kept (keeper_of x) (register_of x) redone.keeps; entry = redone.entry; register = redone.register good }
-  takes_up keeper_of register_of (Err y) redone = tt
+  pub takes_up : {X Y : Type 0} (keeper_of : X → Journaled (Held T) J C) (register_of : X → Register) (journal : J) (last : Option (List ℕ)) (clock : C)
+      (result : Result X Y) → at.opens_journal old path journal last new → at.has_time new clock
+      → IfOk result (λ x. IsRedoneOver g journal last clock opened R (keeper_of x) (register_of x))
+      → IfOk result (λ x. IsTakenUp g at path old new before (keeper_of x) (register_of x))
+  takes_up keeper_of register_of journal last clock (Ok x) opens time redone = record {
+    kept = kept (keeper_of x).keeper (register_of x) redone.keeps;
+    entry = redone.entry;
+    register = redone.register good;
+    journal = record {
+      last = last;
+      opened = subst (λ (j : J). at.opens_journal old path j last new) (sym redone.journal_is) opens;
+      timed = subst (λ (c : C). at.has_time new c) (sym redone.clock_is) time;
+      goes_on = redone.goes_on;
+    };
+  }
+  takes_up keeper_of register_of journal last clock (Err y) opens time redone = tt
 
-  pub not_up : {X : Type 0} (result : Result X (Fault × Held T)) → IfErr result (λ back. IsOfTakingUp back.0) → IfErr result (λ back. KeepsSome g opened R back.1)
-      → IfErr result (λ back. IsNotTakenUp g before back.0 back.1)
-  not_up (Ok x) of some = tt
-  not_up (Err (fault, after)) of (S, keeps) = inr (of, S, kept after S keeps)
+  pub not_up : {X : Type 0} (journal : J) (last : Option (List ℕ)) (result : Result X (Fault × Held T)) → at.opens_journal old path journal last new
+      → IfErr result (λ back. IsOfTakingUp back.0) → IfErr result (λ back. IsOfBadLine last back.0)
+      → IfErr result (λ back. Keeps (state g opened) R (state g back.1) R) → IfErr result (λ back. IsNotTakenUp g at path before back.0 back.1 old new)
+  not_up journal last (Ok x) opens of bad keeps = tt
+  not_up journal last (Err (fault, after)) opens of bad keeps = inr (inr (record {
+    journal = journal;
+    last = last;
+    opened = opens;
+    register = R;
+    kept = kept after R keeps;
+    same = refl;
+    of = of;
+    bad = bad;
+  }))
 
-  pub not_opened : (after : Held T) (fault : Fault) → after ≡ opened → IsOfOpening fault → IsNotTakenUp g before fault after
-  not_opened after fault same of =
-      inr (inl of, R, kept after R (subst (λ (h : Held T). Keeps (state g opened) R (state g h) R) (sym same) (keeps_itself (state g opened) R)))
+  pub not_opened : (after : Held T) (fault : Fault) → after ≡ opened → IsOfOpening fault → at.shuts_journal old path fault new
+      → IsNotTakenUp g at path before fault after old new
+  not_opened after fault same of shuts = inr (inl (of, subst (λ (h : Held T). IsOnlyRead g before h) (sym same) read, shuts))

@@ -1,14 +1,26 @@
 -- A register with a journal: its database is opened, its journal taken up, and the last line redone.
-use Rattle.std.specs.Prelude.{◌≡◌, ◌⊎◌, Option}
+use Rattle.std.specs.Prelude.{◌≡◌, ◌⊎◌, ℕ, false, true, IsSomeAnd, IsTrue, List, None, Option, length}
 use Rattle.sqlite.specs.Held.{Held, state}
 use Rattle.sqlite.specs.State.{HasCleanDisk, Survives}
+use Rattle.sqlite_disk.specs.Disk.{Cut, Follows, MoreFaults}
+use Rattle.sqlite_disk.specs.declared.Disk as disk
+use Rattle.sqlite_disk.specs.declared.Files.{Files}
 use Rattle.sqlite_trees.specs.declared.store.Store.{Ghosts}
+use Rattle.clr_append.specs.Lines.{ended_text, last_line}
+use Rattle.clr_append.specs.declared.fault.OpenFault.{OpenFault}
+use Rattle.clr_append.specs.declared.fault.OpenFault.TheVariants as shut
+use Rattle.clr_append.specs.declared.journal.Journal as append
 use Rattle.clr_rules.specs.Good.{IsGood}
 use Rattle.clr_rules.specs.Register.{Register}
-use Rattle.clr_journal.specs.Line.{Entry}
+use Rattle.clr_journal.specs.Line.{Entry, read_line}
+use Rattle.clr_journal.specs.Opening.{FailedToCut, Unchanged, is_journal_text}
 use Rattle.clr_desk.specs.Kept.{Keeps}
 use Rattle.clr_desk.specs.declared.desk_fault.DeskFault.{DeskFault}
-use Rattle.clr_journaled.specs.Redo.{redone_by}
+use Rattle.clr_journaled.specs.Redo.{IsRead, redone_by, turn_by}
+use Rattle.clr_journaled.specs.declared.fault.OpeningFault.{OpeningFault}
+use Rattle.clr_journaled.specs.declared.fault.OpeningFault.TheVariants as opening
+use Rattle.clr_journaled.specs.declared.journaled.Journaled.{Journaled}
+use Rattle.clr_journaled.specs.declared.last.Last.TheVariants.{Settled}
 use Rattle.clr_edge.specs.Database.{HasRegister, IsOnlyRead, IsRefused}
 use Rattle.clr_edge.specs.Fault.{of_desk}
 use Rattle.clr_edge.specs.declared.fault.Fault.{Fault}
@@ -23,16 +35,76 @@ IsOfOpening fault = (fault ≡ Memory) ⊎ (fault ≡ Journal OpenFailed)
 abbrev pub IsOfTakingUp : Fault → Type 0
 IsOfTakingUp fault = IsOfOpening fault ⊎ ((cause : DeskFault) × (fault ≡ of_desk cause))
 
+-- the fault of a journal that was not opened, and of one whose last line was not taken up
+abbrev pub of_open : OpenFault → Fault
+of_open shut.OpenFailed = Journal OpenFailed
+of_open shut.NoMemory = Memory
+
+abbrev pub of_opening : OpeningFault → Fault
+of_opening opening.BadLine = Journal OpenFailed
+of_opening (opening.Desk cause) = of_desk cause
+
+-- ---- the journal itself
+
+-- a keeper goes on from the last line of its journal, which says this, and no login was heard
+pub record GoesOnFrom {K J C : Type 0} (last : Option (List ℕ)) (entry : Option Entry)
+    (it : Journaled K J C) : Type 0 where
+  pub read : IsRead last entry
+  pub turn : it.turn ≡ turn_by entry
+  pub settled : it.last ≡ Settled
+  pub unheard : it.login ≡ None
+
+-- a journal over the file at a path: what that held up to its last line feed, with its last line. A
+-- crash leaves what it left before, or that text
+pub record IsBegunAt {Y D J : Type 0} (has : Y → List ℕ → Files D → Y → Type 0) (g : disk.Ghosts D)
+    (log : append.Ghosts J) (disk_of : J → D) (old : Y) (path : List ℕ) (journal : J)
+    (last : Option (List ℕ)) (new : Y) : Type 0 where
+  pub files : Files D
+  pub had : has old path files new
+  pub is_journal : IsTrue (g.is_clean (disk_of journal)) → is_journal_text (g.seen files.db) ≡ true
+  pub text : IsTrue (g.is_clean (disk_of journal)) → log.text journal ≡ ended_text (g.seen files.db)
+  pub last_is : IsTrue (g.is_clean (disk_of journal)) → last ≡ last_line (g.seen files.db)
+  pub whole : log.found journal ≡ log.text journal
+  pub crash : Follows (Cut (length (log.text journal))) (g.may_leave files.db)
+      (log.may_leave journal)
+
+-- there is none over the file at a path: it holds none, memory ran out, or the disk failed. Its bytes
+-- are as they were, unless the disk failed to cut off what comes after its last line feed
+pub record IsUnbegunOver {Y D : Type 0} (has : Y → List ℕ → Files D → Y → Type 0)
+    (g : disk.Ghosts D) (old : Y) (path : List ℕ) (fault : Fault) (new : Y) : Type 0 where
+  pub files : Files D
+  pub had : has old path files new
+  pub left : D
+  pub bytes : IsTrue (g.is_clean left) → Unchanged g.seen g.may_leave files.db left
+      ⊎ FailedToCut g.seen g.may_leave g.faults (length (ended_text (g.seen files.db))) files.db left
+  pub spared : fault ≡ Memory → Unchanged g.seen g.may_leave files.db left
+  pub cause : IsTrue (g.is_clean left) → fault ≡ Journal OpenFailed
+      → (is_journal_text (g.seen files.db) ≡ false) ⊎ MoreFaults (g.faults files.db) (g.faults left)
+
+-- the same, or the files at the path were not had
+abbrev pub IsUnbegunAt : {Y D : Type 0} → (Y → List ℕ → Files D → Y → Type 0)
+    → (Y → List ℕ → Y → Type 0) → disk.Ghosts D → Y → List ℕ → Fault → Y → Type 0
+IsUnbegunAt has lacks g old path fault new =
+    lacks old path new ⊎ IsUnbegunOver has g old path fault new
+
+-- a journal that was opened is refused as one that was not only where its last line is none of a
+-- journal
+abbrev pub IsOfBadLine : Option (List ℕ) → Fault → Type 0
+IsOfBadLine last fault = fault ≡ Journal OpenFailed
+    → IsSomeAnd last (λ text. read_line text ≡ None)
+
+-- ---- a register with it
+
 -- the last line of a journal was redone over a register that is kept
-pub record IsRedoneOver {T : Type 0} (g : Ghosts T) (old : Held T) (R : Register) (new : Held T)
-    (S : Register) : Type 0 where
+pub record IsRedoneOver {T J C : Type 0} (g : Ghosts T) (journal : J) (last : Option (List ℕ))
+    (clock : C) (old : Held T) (R : Register) (it : Journaled (Held T) J C) (S : Register)
+    : Type 0 where
   pub entry : Option Entry
   pub register : IsGood R → S ≡ redone_by entry R
-  pub keeps : Keeps (state g old) R (state g new) S
-
--- it was not, and some register is kept
-abbrev pub KeepsSome : {T : Type 0} → Ghosts T → Held T → Register → Held T → Type 0
-KeepsSome g old R new = (S : Register) × Keeps (state g old) R (state g new) S
+  pub keeps : Keeps (state g old) R (state g it.keeper) S
+  pub journal_is : it.journal ≡ journal
+  pub clock_is : it.clock ≡ clock
+  pub goes_on : GoesOnFrom last entry it
 
 -- what a database has after it was opened, which changes nothing, and the register that it had after
 -- commands
@@ -44,16 +116,3 @@ pub record IsKept {T : Type 0} (g : Ghosts T) (before after : Held T) (S : Regis
   pub is_register : (R : Register) → HasRegister g R before → HasCleanDisk (state g opened)
       → first ≡ R
   pub keeps : Keeps (state g opened) first (state g after) S
-
--- A REGISTER WAS TAKEN UP WITH ITS JOURNAL: it is that of the database, with the last line redone
-pub record IsTakenUp {T : Type 0} (g : Ghosts T) (before after : Held T) (S : Register)
-    : Type 0 where
-  pub kept : IsKept g before after S
-  pub entry : Option Entry
-  pub register : S ≡ redone_by entry (IsKept.first kept)
-
--- it was not: the database was refused, and is as it was; or its journal was not taken up
-abbrev pub IsNotTakenUp : {T : Type 0} → Ghosts T → Held T → Fault → Held T → Type 0
-IsNotTakenUp g before fault after =
-    (IsRefused g before fault after × Survives (state g before) (state g after) (λ _. ⊥))
-    ⊎ (IsOfTakingUp fault × (S : Register) × IsKept g before after S)

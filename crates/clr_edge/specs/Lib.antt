@@ -6,3 +6,4 @@ pub mod Journals
 pub mod Logins
 pub mod Loopback
 pub mod Visit
+pub mod TakenUp

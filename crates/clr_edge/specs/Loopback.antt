@@ -1,18 +1,24 @@
 -- Ports of the machine itself.
-use Rattle.std.specs.Prelude.{◌≡◌, ◌∷◌, ℕ, [], Option, is_some}
+use Rattle.std.specs.Prelude.{◌≡◌, ◌∷◌, ℕ, [], None, Option, Some}
 use Rattle.std.specs.Net.Addr.{IsV4And, ipv4_octets}
 use Rattle.std.specs.Net.Socket.{socket_ip, socket_port}
 use Rattle.std.specs.declared.io.ErrorKind.{ErrorKind}
 use Rattle.std.specs.declared.io.ErrorKind.TheVariants.{OutOfMemory}
 use Rattle.std.specs.declared.net.socket_addr.SocketAddr.{SocketAddr}
+use Rattle.std.specs.declared.time.Instant.{Instant}
+use Rattle.clr_disk.specs.Timed.{EndsAfter}
 use Rattle.clr_disk.specs.declared.timed.Limit.{Limit}
 use Rattle.clr_edge.specs.declared.fault.Fault.{Fault}
 use Rattle.clr_edge.specs.declared.fault.Fault.TheVariants.{Listen, Memory}
 
--- the two handles of a connection end together: at one limit where a number of seconds is given, and
--- otherwise at none
-abbrev pub EndTogether : {K : Type 0} → Option ℕ → Option (Limit K) → Option (Limit K) → Type 0
-EndTogether seconds reader writer = (is_some reader ≡ is_some seconds) × (writer ≡ reader)
+-- the two handles of a connection end together: this number of seconds after a moment of the clock,
+-- where a number is given, and otherwise not at all
+abbrev pub EndTogether : {K : Type 0} → (K → Type 0) → Option ℕ → Option (Limit K)
+    → Option (Limit K) → Type 0
+EndTogether is_clock None reader writer = (reader ≡ None) × (writer ≡ None)
+EndTogether {K} is_clock (Some seconds) reader writer = (clock : K) × (now : Instant)
+    × (limit : Limit K) × is_clock clock × EndsAfter clock now seconds limit
+    × (reader ≡ Some limit) × (writer ≡ Some limit)
 
 -- the address of a port of 127.0.0.1
 pub record IsLocal (address : SocketAddr) (port : ℕ) : Type 0 where

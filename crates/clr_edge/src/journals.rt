@@ -1,22 +1,17 @@
 //! The journals of registers, each opened when its turn comes.
-ghost use Rattle.std.specs.Prelude.{◌≡◌, IfErr, IfOk};
-ghost use Rattle.clr_rules.specs.Good.{IsGood};
-ghost use Rattle.clr_edge.specs.Fault.{of_desk};
-ghost use Rattle.clr_edge.specs.Journals.{IsNotTakenUp, IsOfOpening, IsOfTakingUp, IsRedoneOver};
-ghost use Rattle.clr_edge.specs.Journals.{IsTakenUp, KeepsSome};
+ghost use Rattle.std.specs.Prelude.{◌≡◌, ◌/◌, ℕ, List, IfErr, IfOk, Option, option_map};
+ghost use Rattle.std.specs.Time.{system_time_nanos};
+ghost use Rattle.clr_edge.specs.Journals.{IsBegunAt, IsOfOpening, IsUnbegunAt, of_open};
+ghost use Rattle.clr_edge.specs.declared.fault.Fault.{Fault as AnyFault};
 
-use crate::database::desk_over;
 use crate::fault::{Fault, JournalFault};
 use crate::machine::Machine;
-use clr_append::{Journal, OnDisk, OpenFault, open};
-use clr_desk::Desk;
+use clr_append::{Journal, OnDisk, OpenFault};
 use clr_disk::System;
-use clr_journaled::{Clock, Journaled, OpeningFault, with_journal};
-use clr_store::Store;
-use sqlite::{Alter, Connection};
+use clr_journal::open_journal;
+use clr_journaled::Clock;
 use sqlite_disk::Files;
 use sqlite_std_file::OpenError;
-use std::alloc::Global;
 use std::rt;
 use std::time::{SystemTime, UNIX_EPOCH};
 
@@ -27,7 +22,8 @@ pub struct OpenedJournal<J: Journal + Drop> {
     pub last: Option<Vec<u8>>,
 }
 
-/// What opens journals. No clause says what a journal at a path holds.
+/// What opens journals. Each opening leads from one state of it to the next, so a clause that names
+/// it names all that was opened.
 pub trait Journals {
     /// What a journal is kept in.
     type Log: Journal + Drop;
@@ -35,20 +31,52 @@ pub trait Journals {
     /// What gives the moments of its lines.
     type Time: Clock;
 
+    /// That the journal at a path was opened, with its last line, if it has one. Only `journal` says
+    /// so.
+    ghost opens_journal: { Self → List ℕ → Self.Log → Option (List ℕ) → Self → Type 0 };
+
+    /// That it could not be opened. Only `journal` says so.
+    ghost shuts_journal: { Self → List ℕ → AnyFault → Self → Type 0 };
+
+    /// That this is its clock. Only `time` says so.
+    ghost has_time: { Self → Self.Time → Type 0 };
+
     /// Opens the journal in a file. A file that is not there is made.
     fn journal(&mut self, path: &str) -> Result<OpenedJournal<Self::Log>, Fault>
-        ensures { IfErr result IsOfOpening };
+        ensures opens_journal { IfOk result (λ opened. opens_journal self.old path.now
+            opened.journal (option_map (λ line. line.items) opened.last) self.new) }
+        ensures shuts_journal { IfErr result (λ fault.
+            shuts_journal self.old path.now fault self.new) }
+        ensures fault { IfErr result IsOfOpening };
 
     /// The clock of a journal.
-    fn time(&self) -> Self::Time;
+    fn time(&self) -> Self::Time
+        ensures { has_time self.now result };
 }
 
+/// A journal lies in the file at that path, and has what that held. No other file is had.
 impl<'a, Y: System, K: rt::Clock> Journals for Machine<'a, Y, K> {
     type Log = OnDisk<Y::Medium>;
 
     type Time = Seconds<Y::Clock>;
 
-    fn journal(&mut self, path: &str) -> Result<OpenedJournal<OnDisk<Y::Medium>>, Fault> {
+    ghost opens_journal = { λ old path journal last new. IsBegunAt Y.has_files Y.Medium.Disk
+        ⟦<OnDisk<Y::Medium> as Journal>⟧ (λ it. it.disk)
+        old.system path journal last new.system };
+
+    ghost shuts_journal = { λ old path fault new. IsUnbegunAt Y.has_files Y.lacks_files
+        Y.Medium.Disk old.system path fault new.system };
+
+    ghost has_time = { λ machine time. Y.has_clock machine.system time.clock };
+
+    fn journal(&mut self, path: &str) -> Result<OpenedJournal<OnDisk<Y::Medium>>, Fault>
+        ensures opens_journal { IfOk result (λ opened. IsBegunAt Y.has_files Y.Medium.Disk
+            ⟦<OnDisk<Y::Medium> as Journal>⟧ (λ it. it.disk) self.old.system path.now
+            opened.journal (option_map (λ line. line.items) opened.last) self.new.system) }
+        ensures shuts_journal { IfErr result (λ fault. IsUnbegunAt Y.has_files Y.lacks_files
+            Y.Medium.Disk self.old.system path.now fault self.new.system) }
+        ensures fault { IfErr result IsOfOpening }
+    {
         let files = match self.system.files(path) {
             Ok(files) => files,
             Err(OpenError::OutOfMemory) => return Err(Fault::Memory),
@@ -56,7 +84,7 @@ impl<'a, Y: System, K: rt::Clock> Journals for Machine<'a, Y, K> {
         };
         let Files { log, db } = files;
         drop(log);
-        match open(self.alloc, db) {
+        match open_journal(self.alloc, db) {
             Ok(opened) => Ok(OpenedJournal {
                 journal: opened.journal,
                 last: opened.last,
@@ -68,7 +96,9 @@ impl<'a, Y: System, K: rt::Clock> Journals for Machine<'a, Y, K> {
         }
     }
 
-    fn time(&self) -> Seconds<Y::Clock> {
+    fn time(&self) -> Seconds<Y::Clock>
+        ensures { Y.has_clock self.now.system result.clock }
+    {
         Seconds {
             clock: self.system.clock(),
         }
@@ -77,7 +107,8 @@ impl<'a, Y: System, K: rt::Clock> Journals for Machine<'a, Y, K> {
 
 /// Why a journal was not opened.
 fn of_open(fault: OpenFault) -> Fault
-    ensures { IsOfOpening result }
+    ensures value { result ≡ of_open fault }
+    ensures opening { IsOfOpening result }
 {
     match fault {
         OpenFault::OpenFailed => Fault::Journal(JournalFault::OpenFailed),
@@ -91,69 +122,22 @@ pub struct Seconds<K: rt::Clock + Drop> {
     clock: K,
 }
 
+/// Of what a clock shows no clause can speak.
 impl<K: rt::Clock + Drop> Clock for Seconds<K> {
     fn seconds(&mut self) -> u64 {
-        let Ok(now) = SystemTime::now(&self.clock) else {
-            return 0;
-        };
-        match now.duration_since(UNIX_EPOCH) {
-            Ok(passed) => passed.as_secs(),
+        match SystemTime::now(&self.clock) {
+            Ok(now) => seconds_of(now),
             Err(_) => 0,
         }
     }
 }
 
-/// Opens a desk over the register that a database has, with the journal in a file, whose last line
-/// is redone. A fault gives the database back.
-///
-/// The journal is opened after the database. `Journal(OpenFailed)` also where the last line is no
-/// line of a journal.
-pub fn journaled_desk<S: Alter + Drop, L: Journals>(
-    alloc: Global,
-    rt: &mut L,
-    connection: Connection<S>,
-    path: &str,
-) -> Result<Desk<Journaled<Store<S>, L::Log, L::Time>>, (Fault, Connection<S>)>
-    ensures good { IfOk result (λ desk. IsGood desk.book.register) }
-    ensures taken_up { IfOk result (λ desk.
-        IsTakenUp S.Store connection desk.store.keeper desk.book.register) }
-    ensures not { IfErr result (λ back. IsNotTakenUp S.Store connection back.0 back.1) }
+/// The whole seconds since 1970 at a moment.
+fn seconds_of(now: SystemTime) -> u64
+    ensures { result ≡ system_time_nanos now / 1_000_000_000 }
 {
-    let desk = match desk_over(alloc, connection) {
-        Ok(desk) => desk,
-        Err(back) => return Err(back),
-    };
-    match rt.journal(path) {
-        Ok(opened) => taken_up(alloc, desk, opened, rt.time()),
-        Err(fault) => Err((fault, desk.end().end())),
-    }
-}
-
-/// Gives a desk a journal that was opened.
-fn taken_up<S: Alter + Drop, J: Journal + Drop, C: Clock>(
-    alloc: Global,
-    desk: Desk<Store<S>>,
-    opened: OpenedJournal<J>,
-    clock: C,
-) -> Result<Desk<Journaled<Store<S>, J, C>>, (Fault, Connection<S>)>
-    ensures redone { IfOk result (λ taken. IsRedoneOver S.Store desk.store desk.book.register
-        taken.store.keeper taken.book.register) }
-    ensures fault { IfErr result (λ back. IsOfTakingUp back.0) }
-    ensures kept { IfErr result (λ back. KeepsSome S.Store desk.store desk.book.register back.1) }
-{
-    let OpenedJournal { journal, last } = opened;
-    match with_journal(alloc, desk, journal, last, clock) {
-        Ok(desk) => Ok(desk),
-        Err((fault, desk)) => Err((of_opening(fault), desk.end().end())),
-    }
-}
-
-/// Why a journal was not taken up.
-fn of_opening(fault: OpeningFault) -> Fault
-    ensures { IsOfTakingUp result }
-{
-    match fault {
-        OpeningFault::BadLine => Fault::Journal(JournalFault::OpenFailed),
-        OpeningFault::Desk(cause) => Fault::from(cause),
+    match now.duration_since(UNIX_EPOCH) {
+        Ok(passed) => passed.as_secs(),
+        Err(_) => 0,
     }
 }

@@ -11,3 +11,4 @@ pub mod loopback;
 pub mod machine;
 pub mod output;
 pub mod paths;
+pub mod taking_up;

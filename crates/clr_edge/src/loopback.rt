@@ -1,5 +1,5 @@
 //! What takes connections on the machine itself.
-ghost use Rattle.std.specs.Prelude.{◌≡◌, ℕ, IfErr, IfOk, Option, is_some};
+ghost use Rattle.std.specs.Prelude.{◌≡◌, ℕ, IfErr, IfOk, Option};
 ghost use Rattle.std.specs.IoError.{error_kind};
 ghost use Rattle.std.specs.declared.io.ErrorKind.{ErrorKind};
 ghost use Rattle.std.specs.declared.net.socket_addr.SocketAddr.{SocketAddr as AnySocketAddr};
@@ -14,6 +14,7 @@ use clr_stream::{Counted, CountedFlush, CountedRead};
 use std::io;
 use std::net::{IpAddr, Ipv4Addr, SocketAddr, TcpListener, TcpStream};
 use std::rt::Clock;
+use std::time::Instant;
 
 /// What takes connections. Each step leads from one state of it to the next, and each connection
 /// that came is let go by `hang_up`.
@@ -92,7 +93,8 @@ impl<'a, Y: System, K: Clock> Loopback for Machine<'a, Y, K> {
     ghost stands = { λ old address listener new.
         Y.listens old.system address listener new.system };
 
-    ghost comes = { λ old _ deadline connection new. (new ≡ old) × EndTogether deadline
+    ghost comes = { λ old _ deadline connection new. (new ≡ old)
+        × EndTogether (Y.has_clock old.system) deadline
         (counted_inner connection.reader).limit (counted_inner connection.writer).limit };
 
     ghost misses = { λ old _ _ new. new ≡ old };
@@ -116,13 +118,21 @@ impl<'a, Y: System, K: Clock> Loopback for Machine<'a, Y, K> {
         listener: &TcpListener,
         deadline: Option<u16>,
     ) -> io::Result<Connection<Handle<Y::Clock>, Handle<Y::Clock>>>
-        ensures comes { IfOk result (λ connection. (self.new ≡ self.old) × EndTogether deadline
+        ensures comes { IfOk result (λ connection. (self.new ≡ self.old)
+            × EndTogether (Y.has_clock self.old.system) deadline
             (counted_inner connection.reader).limit (counted_inner connection.writer).limit) }
         ensures misses { IfErr result (λ _. self.new ≡ self.old) }
     {
         let (reader, _) = listener.accept()?;
+        let limit = match deadline {
+            Some(seconds) => {
+                let clock = self.system.clock();
+                let now = Instant::now(&clock)?;
+                Some(Limit::after(clock, now, seconds)?)
+            }
+            None => None,
+        };
         let writer = reader.try_clone()?;
-        let limit = limit_after(self.system.clock(), deadline)?;
         Ok(Connection {
             reader: Counted::new(Timed::new(reader, limit)),
             writer: Counted::new(Timed::new(writer, limit)),
@@ -133,19 +143,6 @@ impl<'a, Y: System, K: Clock> Loopback for Machine<'a, Y, K> {
         ensures { self.new ≡ self.old }
     {
         drop(connection);
-    }
-}
-
-/// The end of this number of seconds from now, if one is given.
-fn limit_after<K: Clock + Drop>(clock: K, seconds: Option<u16>) -> io::Result<Option<Limit<K>>>
-    ensures { IfOk result (λ limit. is_some limit ≡ is_some seconds) }
-{
-    match seconds {
-        Some(seconds) => {
-            let limit = Limit::after(clock, seconds)?;
-            Ok(Some(limit))
-        }
-        None => Ok(None),
     }
 }
 

@@ -111,13 +111,26 @@ impl<'a, Y: System> Read for AtPath<'a, Y> {
 }
 
 impl<'a, Y: System> CountedRead for AtPath<'a, Y> {
+    ghost use Rattle.std.specs.Prelude.{None};
+    ghost use Rattle.std.specs.Io.{ReadsAtMost};
+    ghost use Rattle.std.specs.Io.KnownBytes.{ReadConsumes};
+    ghost use Rattle.clr_stream.specs.Failures.{count_after};
+    ghost use Rattle.clr_edge.specs.Files.{ReadsOpened};
+
     ghost failure_count = { λ s. s.failures };
 
     fn failures(&self) -> u64 {
         self.failures
     }
 
-    fn read_counted(&mut self, buf: &mut [u8]) -> io::Result<usize> {
+    fn read_counted(&mut self, buf: &mut [u8]) -> io::Result<usize>
+        ensures bound { ReadsAtMost result buf.new }
+        ensures bytes { ReadConsumes None None result buf.new }
+        ensures count { self.new.failures ≡ count_after result self.old.failures }
+
+        // It is one read, so no part of a file is passed over.
+        ensures opened { ReadsOpened Y.File.remaining self.old.file self.new.file result buf.new }
+    {
         self.read(buf)
     }
 }
