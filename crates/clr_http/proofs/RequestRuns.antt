@@ -25,7 +25,7 @@ use Rattle.clr_http.specs.Options.{plain}
 use Rattle.clr_http.specs.Registrar.{AccountsFor, IsTurn, Keeper}
 use Rattle.clr_http.specs.Request.{IsReading, Reading, asks, refusal_of, refused, request_read_at}
 use Rattle.clr_http.specs.RequestLaws.{AskedOnce, CommandsAreAnswered, ComesWithin, HasRun, OnlyCommandsChange, OthersRequestsTakeNothing, OwnRequestsAlone, RequestsAreRuns, SameShownSameResponses}
-use Rattle.clr_http.specs.Respond.{Outcome, RespondsAt, body_outcome, order_outcome, reading_outcome, reply_response, respond_at, show_of, target_outcome, view_outcome}
+use Rattle.clr_http.specs.Respond.{Outcome, RespondsAt, body_outcome, order_outcome, reading_outcome, reply_response, respond_at, show_of, target_outcome, view_outcome, way_back_outcome}
 use Rattle.clr_http.specs.Response.{Content, content_of, response_bytes, status_of}
 use Rattle.clr_http.specs.Served.{IsWritten}
 use Rattle.clr_http.specs.Service.{IsExchange, ServesAll}
@@ -76,12 +76,17 @@ of_order : (R : Register) (printing : Option OrderRequest) → IsOf R None (orde
 of_order R None = nothing_asked R _ refl
 of_order R (Some p) = nothing_asked R _ refl
 
+of_way_back : (R : Register) (id : Option Id) → IsOf R None (way_back_outcome R id)
+of_way_back R None = nothing_asked R _ refl
+of_way_back R (Some c) = nothing_asked R _ refl
+
 of_target : (R : Register) (target : Target) (body : List ℕ) → IsOf R (target_asks target body) (target_outcome R target body)
 of_target R asked.Command body = of_body R (read_command body)
 of_target R (asked.Clearance viewing) body = of_view R viewing
 of_target R (asked.Order printing) body = of_order R printing
 of_target R asked.Board body = nothing_asked R _ refl
 of_target R asked.Network body = nothing_asked R _ refl
+of_target R (asked.WayBack id) body = of_way_back R id
 
 of_reading : (R : Register) (reading : Reading) → IsOf R (reading_asks reading) (reading_outcome R reading)
 of_reading R (refused c) = nothing_asked R _ refl

@@ -3,10 +3,11 @@ use Rattle.std.proofs.Common.{◌≡◌, ℕ, List, [], ◌∷◌, inl, inr, sym
 use Rattle.clr_rules.proofs.edits.Runs.{reached_go_on}
 use Rattle.clr_rules.proofs.keeps.EveryKind.{commands_keep_good}
 use Rattle.clr_rules.proofs.Common.{IsGood, Register, IsReached, after, after_all}
+use Rattle.clr_rules.specs.Id.{Id}
 use Rattle.clr_text.specs.Reading.{read_command}
 use Rattle.clr_text.specs.declared.fault.TextFault.{TextFault}
 use Rattle.clr_http.specs.Registrar.{IsTurn, Keeper}
-use Rattle.clr_http.specs.Respond.{Outcome, reading_outcome, target_outcome, body_outcome, order_outcome, show_of, view_outcome}
+use Rattle.clr_http.specs.Respond.{Outcome, reading_outcome, target_outcome, body_outcome, order_outcome, show_of, view_outcome, way_back_outcome}
 use Rattle.clr_http.specs.Reading.{Reading, asks, refused}
 use Rattle.clr_http.specs.Response.{Content}
 use Rattle.clr_http.specs.declared.target.Target.{Target}
@@ -40,12 +41,17 @@ module _ (P : Register → Type 0) (R : Register) (here : P R) (next : (q : Comm
   of_order None = here
   of_order (Some p) = here
 
+  of_way_back : (id : Option Id) → P (Outcome.left (way_back_outcome R id))
+  of_way_back None = here
+  of_way_back (Some c) = here
+
   of_asked : (a : Target) (body : List ℕ) → P (Outcome.left (target_outcome R a body))
   of_asked asked.Command body = of_body (read_command body)
   of_asked (asked.Clearance viewing) body = of_view viewing
   of_asked (asked.Order printing) body = of_order printing
   of_asked asked.Board body = here
   of_asked asked.Network body = here
+  of_asked (asked.WayBack id) body = of_way_back id
 
   of_reading : (reading : Reading) → P (Outcome.left (reading_outcome R reading))
   of_reading (refused c) = here

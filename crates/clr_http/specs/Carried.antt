@@ -25,7 +25,7 @@ use Rattle.clr_http.specs.declared.serve.Served.{Served}
 -- What a response depends on, where no command was carried out: a 503, on the store and the memory of
 -- the machine, and on nothing of the register; the refusal of an input, on the input alone, and on
 -- how much of it each read gave; a printed order, on the record and the steps of the clearance that
--- the path names; the board and the network, on the whole register.
+-- the path names; the board, the network and a way back, on the whole register.
 abbrev pub IsToldAt : Service → Option (List ℕ) → Option Command → Keeper → Keeper → Content
     → Type 0
 IsToldAt service input (Some q) old new c = MayAskAt service input (Some q)

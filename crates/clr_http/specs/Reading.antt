@@ -35,6 +35,7 @@ target_asks (asked.Clearance viewing) body = view_asks viewing
 target_asks (asked.Order printing) body = None
 target_asks asked.Board body = None
 target_asks asked.Network body = None
+target_asks (asked.WayBack id) body = None
 
 -- nor is a request that is refused
 abbrev pub reading_asks : Reading → Option Command

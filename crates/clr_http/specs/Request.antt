@@ -25,7 +25,7 @@ use Rattle.clr_http.specs.declared.response.Method.{Method}
 use Rattle.clr_http.specs.declared.response.Method.TheVariants.{Get, Post}
 use Rattle.clr_http.specs.declared.target.Target.{Target}
 use Rattle.clr_http.specs.declared.target.Target.TheVariants.{Command, Clearance, Order, Board}
-use Rattle.clr_http.specs.declared.target.Target.TheVariants.{Network}
+use Rattle.clr_http.specs.declared.target.Target.TheVariants.{Network, WayBack}
 use Rattle.clr_http.specs.declared.head.HeadFault.TheVariants as head_fault
 use Rattle.clr_http.specs.declared.length.LengthFault.TheVariants as length_fault
 use Rattle.clr_http.specs.declared.request.Request.TheVariants as made
@@ -39,6 +39,7 @@ method_of (Clearance viewing) = Get
 method_of (Order printing) = Get
 method_of Board = Get
 method_of Network = Get
+method_of (WayBack id) = Get
 
 abbrev pub fault_of_length : LengthFault → Fault
 fault_of_length length_fault.NoLength = fault.NoLength
@@ -58,6 +59,7 @@ body_read (Clearance viewing) head rest = asks (Clearance viewing) []
 body_read (Order printing) head rest = asks (Order printing) []
 body_read Board head rest = asks Board []
 body_read Network head rest = asks Network []
+body_read (WayBack id) head rest = asks (WayBack id) []
 
 -- a request to a desk that a page of elsewhere may have sent is refused, whatever its route
 abbrev pub own_read : Service → Target → RequestHead → List ℕ → Reading

@@ -5,6 +5,7 @@ use Rattle.std.specs.Prelude.{◌≡◌, ℕ, if◌then◌else◌, List, Option,
 use Rattle.std.specs.Prelude.{pos}
 use Rattle.httparse.specs.Grammar.{RequestHead}
 use Rattle.clr_rules.specs.Answer.{Answer, answer}
+use Rattle.clr_rules.specs.Id.{Id}
 use Rattle.clr_rules.specs.Prelude.{Register, record_of, steps_of}
 use Rattle.clr_rules.specs.Run.{after}
 use Rattle.clr_text.specs.FaultText.{fault_text}
@@ -14,13 +15,17 @@ use Rattle.clr_text.specs.Replies.{reply_text}
 use Rattle.clr_text.specs.declared.fault.TextFault.{TextFault}
 use Rattle.clr_logins.specs.declared.logins.LoginRow.{LoginRow}
 use Rattle.clr_view.specs.View.{network_text}
+use Rattle.clr_wayback.specs.Answer.{way_back_answer}
+use Rattle.clr_wayback.specs.Text.{way_back_text}
+use Rattle.clr_wayback.specs.declared.answer.WayBack.{WayBack}
+use Rattle.clr_wayback.specs.declared.answer.WayBack.TheVariants as way
 use Rattle.clr_http.specs.Callers.{may_ask}
 use Rattle.clr_http.specs.Head.{BeginsWith}
 use Rattle.clr_http.specs.Options.{plain}
 use Rattle.clr_http.specs.Request.{Reading, asks, refused, request_read_at}
 use Rattle.clr_http.specs.Response.{Content, json, printed, fault_response}
 use Rattle.clr_http.specs.declared.options.Service.{Service}
-use Rattle.clr_http.specs.declared.response.Fault.TheVariants.{NoSuch, NotCaller}
+use Rattle.clr_http.specs.declared.response.Fault.TheVariants.{NoSuch, NotCaller, NoWay}
 use Rattle.clr_http.specs.declared.target.Target.{Target}
 use Rattle.clr_http.specs.declared.target.OrderRequest.{OrderRequest}
 use Rattle.clr_http.specs.declared.target.ViewRequest.{ViewRequest}
@@ -78,6 +83,16 @@ abbrev pub order_outcome : Register → Option OrderRequest → Outcome
 order_outcome R None = unchanged R (fault_response NoSuch)
 order_outcome R (Some p) = unchanged R (text_response (order_printed R p))
 
+-- the commands that give a clearance back, each on a line; nothing where it is Closed
+abbrev pub way_back_content : WayBack → Content
+way_back_content (way.Commands commands) = printed (way_back_text commands)
+way_back_content way.NoSuch = fault_response NoSuch
+way_back_content way.NoWay = fault_response NoWay
+
+abbrev pub way_back_outcome : Register → Option Id → Outcome
+way_back_outcome R None = unchanged R (fault_response NoSuch)
+way_back_outcome R (Some c) = unchanged R (way_back_content (way_back_answer R c))
+
 -- what is asked for, with the body of a command
 abbrev pub target_outcome : Register → Target → List ℕ → Outcome
 target_outcome R asked.Command body = body_outcome R (read_command body)
@@ -85,6 +100,7 @@ target_outcome R (asked.Clearance viewing) body = view_outcome R viewing
 target_outcome R (asked.Order printing) body = order_outcome R printing
 target_outcome R asked.Board body = unchanged R (printed (board_text R (pos 0)))
 target_outcome R asked.Network body = unchanged R (json 200 (network_text R))
+target_outcome R (asked.WayBack id) body = way_back_outcome R id
 
 -- a command of a request with this login: it is put to the register in a name that the login may use
 abbrev pub spoken_outcome : Option (List LoginRow) → Option (List ℕ) → Register → Command → Outcome

@@ -4,7 +4,7 @@ use Rattle.http.specs.StatusCode.{reason_phrase}
 use Rattle.clr_http.specs.declared.response.Fault.{Fault}
 use Rattle.clr_http.specs.declared.response.Fault.TheVariants.{BadHead, HeadTooLarge, HeadCut}
 use Rattle.clr_http.specs.declared.response.Fault.TheVariants.{NoRoute, NoLength, BadLength}
-use Rattle.clr_http.specs.declared.response.Fault.TheVariants.{BodyTooLarge, BodyCut, NoSuch}
+use Rattle.clr_http.specs.declared.response.Fault.TheVariants.{BodyTooLarge, BodyCut, NoSuch, NoWay}
 use Rattle.clr_http.specs.declared.response.Fault.TheVariants.{Unavailable, Foreign, NotCaller}
 use Rattle.clr_http.specs.declared.response.Method.{Method}
 use Rattle.clr_http.specs.declared.response.Method.TheVariants.{Get, Post}
@@ -22,6 +22,7 @@ fault_word BadLength = codes "BadLength"
 fault_word BodyTooLarge = codes "BodyTooLarge"
 fault_word BodyCut = codes "BodyCut"
 fault_word NoSuch = codes "NoSuch"
+fault_word NoWay = codes "NoWay"
 fault_word Unavailable = codes "Unavailable"
 fault_word Foreign = codes "Foreign"
 fault_word NotCaller = codes "NotCaller"
@@ -37,6 +38,7 @@ fault_status BadLength = 400
 fault_status BodyTooLarge = 413
 fault_status BodyCut = 400
 fault_status NoSuch = 404
+fault_status NoWay = 409
 fault_status Unavailable = 503
 fault_status Foreign = 403
 fault_status NotCaller = 403

@@ -19,7 +19,7 @@ use Rattle.clr_http.specs.declared.target.Target.{Target}
 use Rattle.clr_http.specs.declared.target.OrderRequest.{OrderRequest}
 use Rattle.clr_http.specs.declared.target.Route.{Route}
 use Rattle.clr_http.specs.declared.target.Route.TheVariants.{Command, Clearance, Order, Board}
-use Rattle.clr_http.specs.declared.target.Route.TheVariants.{Network}
+use Rattle.clr_http.specs.declared.target.Route.TheVariants.{Network, WayBack}
 use Rattle.clr_http.specs.declared.target.ViewRequest.{ViewRequest}
 use Rattle.clr_http.specs.declared.target.Target.TheVariants as asked
 
@@ -40,9 +40,10 @@ the_routes =
     (with_route (codes "/clearance/{caller}/{requester}/{number}") Clearance
     (with_route (codes "/command") Command [])))
 
--- a desk has one more
+-- a desk has two more
 unfoldable pub desk_routes : RowsOf (RouteOf Route)
-desk_routes = with_route (codes "/network") Network the_routes
+desk_routes = with_route (codes "/wayback/{requester}/{number}") WayBack
+    (with_route (codes "/network") Network the_routes)
 
 abbrev pub routes_of : Bool → RowsOf (RouteOf Route)
 routes_of desk = if desk then desk_routes else the_routes
@@ -85,6 +86,7 @@ target_by target r Order =
     asked.Order (order_request (id_at target r) (read_round (part target r (codes "round"))))
 target_by target r Board = asked.Board
 target_by target r Network = asked.Network
+target_by target r WayBack = asked.WayBack (id_at target r)
 
 -- WHAT A TARGET ASKS FOR: nothing where no route is its own
 abbrev pub target_of : Bool → List ℕ → Option Target

@@ -4,10 +4,11 @@ ghost use Rattle.clr_desk.specs.Given.{LeadsTo};
 ghost use Rattle.clr_desk.proofs.Givings.{leads_itself, leads_on};
 
 use crate::registrar::Registrar;
-use clr_desk::{Commit, Desk};
+use clr_desk::{Commit, Desk, copy_of};
 use clr_print::{print_board, print_order};
 use clr_rules::{ClearanceId, Command, Reply, Text};
 use clr_view::network_text;
+use clr_wayback::{WayBack, way_back};
 use std::alloc::{AllocError, Global};
 
 impl<K: Commit> Registrar for Desk<K> {
@@ -46,5 +47,11 @@ impl<K: Commit> Registrar for Desk<K> {
 
     fn network(&self, alloc: Global) -> Result<String, AllocError> {
         network_text(alloc, self.book())
+    }
+
+    // The commands are tried in a copy, since they change it.
+    fn way_back(&self, alloc: Global, id: &ClearanceId) -> Result<WayBack, AllocError> {
+        let book = copy_of(alloc, self.book())?;
+        way_back(alloc, book, id)
     }
 }

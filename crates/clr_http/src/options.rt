@@ -8,7 +8,7 @@ use clr_logins::Logins;
 #[derive(Debug, Drop)]
 pub struct Service {
     /// It is at a desk: requests that a page of elsewhere may have sent are refused, and it shows
-    /// the network.
+    /// the network and ways back.
     pub desk: bool,
     /// The employees that each login may speak for. `None` where a request may speak for any.
     pub logins: Option<Logins>,

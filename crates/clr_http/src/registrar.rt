@@ -8,9 +8,11 @@ ghost use Rattle.clr_rules.specs.Run.{after};
 ghost use Rattle.clr_rules.specs.Steps.{steps_of};
 ghost use Rattle.clr_print.specs.Printed.{board_text, order_text};
 ghost use Rattle.clr_view.specs.View.{network_text};
+ghost use Rattle.clr_wayback.specs.Answer.{way_back_answer};
 ghost use Rattle.clr_http.specs.Registrar.{Keeper, faults_after};
 
 use clr_rules::{ClearanceId, Command, Reply, Text};
+use clr_wayback::WayBack;
 use std::alloc::{AllocError, Global};
 
 /// One who keeps a register: answers commands, and prints what is in it. A desk is one.
@@ -64,6 +66,11 @@ pub trait Registrar {
     fn network(&self, alloc: Global) -> Result<String, AllocError>
         ensures { IfOk result (λ text. string_bytes text
             ≡ network_text (keeper self.now).register) };
+
+    /// The commands that give a clearance or a switch order back.
+    fn way_back(&self, alloc: Global, id: &ClearanceId) -> Result<WayBack, AllocError>
+        ensures { IsGood (keeper self.now).register → IfOk result (λ answer.
+            answer ≡ way_back_answer (keeper self.now).register id.now) };
 
     ghost stays: { (one : Self) → leads_to one one };
 

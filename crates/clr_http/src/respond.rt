@@ -5,7 +5,7 @@ ghost use Rattle.clr_http.specs.Callers.{may_ask};
 ghost use Rattle.clr_http.specs.Registrar.{AccountsFor, IsTurned};
 ghost use Rattle.clr_http.specs.Respond.{checked_outcome, command_outcome, order_outcome};
 ghost use Rattle.clr_http.specs.Respond.{reply_status, show_of, spoken_outcome, target_asks};
-ghost use Rattle.clr_http.specs.Respond.{unchanged};
+ghost use Rattle.clr_http.specs.Respond.{unchanged, way_back_content, way_back_outcome};
 ghost use Rattle.clr_http.specs.Response.{content_of, fault_response};
 ghost use Rattle.clr_http.specs.declared.target.Target.TheVariants.{Clearance};
 ghost use Rattle.clr_http.specs.declared.target.Target.TheVariants as asked_for;
@@ -14,8 +14,9 @@ use crate::callers::Speaker;
 use crate::registrar::Registrar;
 use crate::response::{Fault, Response};
 use crate::target::{OrderRequest, Target, ViewRequest};
-use clr_rules::{Command, Kind, Moment, Reply, Text};
+use clr_rules::{ClearanceId, Command, Kind, Moment, Reply, Text};
 use clr_text::{TextFault, command_of, fault_text, reply_text};
+use clr_wayback::{WayBack, print_way_back};
 use http::StatusCode;
 use std::alloc::{AllocError, Global};
 
@@ -49,6 +50,7 @@ pub(crate) fn response_to<D: Registrar>(
             let text = desk.network(alloc)?;
             Ok(Response::Json(StatusCode::OK, text))
         }
+        Target::WayBack(id) => way_back_response(alloc, desk, id),
     }
 }
 
@@ -171,6 +173,39 @@ fn order_response<D: Registrar>(
     match desk.order(alloc, &printing.id, printing.round)? {
         Some(text) => Ok(Response::Printed(text)),
         None => Response::of_fault(alloc, Fault::NoSuch),
+    }
+}
+
+/// Prints the way back of a clearance, where the path names one that is there.
+fn way_back_response<D: Registrar>(
+    alloc: Global,
+    desk: &mut D,
+    id: Option<ClearanceId>,
+) -> Result<Response, AllocError>
+    ensures turn { IsGood (D.keeper desk.old).register
+        → IsTurned (way_back_outcome (D.keeper desk.old).register id)
+        (D.keeper desk.old) (D.keeper desk.new) result }
+    ensures accounts { AccountsFor (D.keeper desk.old) (D.keeper desk.new) result }
+    ensures led { D.leads_to desk.old desk.new }
+{
+    let Some(id) = id else {
+        return Response::of_fault(alloc, Fault::NoSuch);
+    };
+    let answer = desk.way_back(alloc, &id)?;
+    way_back_printed(alloc, &answer)
+}
+
+/// A way back as it is printed, or why there is none.
+fn way_back_printed(alloc: Global, answer: &WayBack) -> Result<Response, AllocError>
+    ensures { IfOk result (λ response. content_of response ≡ way_back_content answer.now) }
+{
+    match answer {
+        WayBack::Commands(commands) => {
+            let text = print_way_back(alloc, commands.as_slice())?;
+            Ok(Response::Printed(text))
+        }
+        WayBack::NoSuch => Response::of_fault(alloc, Fault::NoSuch),
+        WayBack::NoWay => Response::of_fault(alloc, Fault::NoWay),
     }
 }
 

@@ -29,6 +29,8 @@ pub(crate) enum Fault {
     BodyCut,
     /// The path names no clearance, order or round that is there: 404.
     NoSuch,
+    /// The staff has nobody who gives a command of the way back: 409.
+    NoWay,
     /// The store or memory refused: 503. The command did not come into the register.
     Unavailable,
     /// A page of elsewhere may have sent the request: 403.
@@ -46,6 +48,7 @@ impl Fault {
             Fault::BadHead | Fault::HeadTooLarge | Fault::HeadCut => StatusCode::BAD_REQUEST,
             Fault::BadLength | Fault::BodyCut => StatusCode::BAD_REQUEST,
             Fault::NoRoute | Fault::NoSuch => StatusCode::NOT_FOUND,
+            Fault::NoWay => StatusCode::CONFLICT,
             Fault::NoLength => StatusCode::LENGTH_REQUIRED,
             Fault::BodyTooLarge => StatusCode::PAYLOAD_TOO_LARGE,
             Fault::Unavailable => StatusCode::SERVICE_UNAVAILABLE,
@@ -67,6 +70,7 @@ impl Fault {
             Fault::BodyTooLarge => "BodyTooLarge",
             Fault::BodyCut => "BodyCut",
             Fault::NoSuch => "NoSuch",
+            Fault::NoWay => "NoWay",
             Fault::Unavailable => "Unavailable",
             Fault::Foreign => "Foreign",
             Fault::NotCaller => "NotCaller",

@@ -103,7 +103,8 @@ pub fn serve_one<D: Registrar, R: CountedRead, W: CountedWrite>(
 
 /// Serves one connection at a service, as `serve_one` does at the plain one.
 ///
-/// With `desk` a request that a page of elsewhere may have sent is refused, and the network is shown.
+/// With `desk` a request that a page of elsewhere may have sent is refused, and the network and ways
+/// back are shown.
 /// With `logins` a command or a view is refused in a name that the login of the request may not use.
 /// A request that is refused does not come to the desk.
 pub fn serve_request<D: Registrar, R: CountedRead, W: CountedWrite>(

@@ -28,6 +28,8 @@ pub(crate) enum Route {
     Board,
     /// `GET /network`, of a service at a desk
     Network,
+    /// `GET /wayback/{requester}/{number}`, of a service at a desk
+    WayBack,
 }
 
 /// Whose view of which clearance is asked for.
@@ -44,8 +46,8 @@ pub(crate) struct OrderRequest {
     pub round: u8,
 }
 
-/// What a target asks for. A view or an order is `None` where a name, a number or the round in the
-/// path does not read.
+/// What a target asks for. A view, an order or a way back is `None` where a name, a number or the round
+/// in the path does not read.
 #[derive(Clone, Copy, Debug, PartialEq, Eq)]
 pub(crate) enum Target {
     Command,
@@ -53,6 +55,7 @@ pub(crate) enum Target {
     Order(Option<OrderRequest>),
     Board,
     Network,
+    WayBack(Option<ClearanceId>),
 }
 
 /// A router with the four routes.
@@ -73,6 +76,7 @@ fn desk_routes(alloc: Global) -> Result<Router<Route>, InsertError>
 {
     let mut router = routes(alloc)?;
     router.insert("/network", Route::Network)?;
+    router.insert("/wayback/{requester}/{number}", Route::WayBack)?;
     Ok(router)
 }
 
@@ -174,6 +178,10 @@ fn target_by(target: &str, params: &Params<'_, '_>, route: Route) -> Target
         }
         Route::Board => Target::Board,
         Route::Network => Target::Network,
+        Route::WayBack => Target::WayBack(id_of(
+            part(target, params, route, "requester"),
+            part(target, params, route, "number"),
+        )),
     }
 }
 

@@ -7,4 +7,5 @@ pub returns : goal.returns
 unfolding matchit_on_literals desk_routes
 returns c =
     let a = c.in_ok-insert.ensures in
-    rw (a.1, c.in_ok-router.ensures) refl
+    let b = c.in_ok-insert-2.ensures in
+    rw (b.1, a.1, c.in_ok-router.ensures) refl
