@@ -2,7 +2,7 @@
 """`serve --desk`: it answers requests that name this machine and come from no page of a browser, and the network as JSON.
 Without the option each of these requests is answered as if it was not there."""
 
-from looks import Server, fault, get, look, main, post, register, replied, response, same, shift, REQUEST
+from looks import FILES, Server, copied, fault, get, look, main, post, register, replied, response, run, same, shift, REQUEST
 
 # Fields of requests that are answered, and of those that are Foreign.
 OWN = (
@@ -120,4 +120,34 @@ def drawn(folder):
         same("the network for a page", server.ask(get("/network", own, "Origin: null")), IS_FOREIGN)
 
 
-main(hosts, plain, drawn)
+def way_back(folder):
+    """The commands that give a clearance back are those that `wayback` prints of a copy; a register is not changed by it."""
+    own = "Host: localhost"
+    path = register(folder / "room.db", shift(23))
+    copy = copied(path, folder / "copy.db")
+    texts = {clearance: run("wayback", copy, clearance)[1] for clearance in ("JONES/1", "OPS/1")}
+    look("there are commands that give both back", all('"do":' in text for text in texts.values()), texts)
+    with Server(path, "--desk") as server:
+        before = server.ask(get("/network", own)), server.ask(get("/board", own))
+        for clearance, text in texts.items():
+            same(f"/wayback/{clearance}", server.ask(get(f"/wayback/{clearance}", own)), response(200, text, "text/plain"))
+        for target in ("/wayback/JONES/2", "/wayback/JONES/01", "/wayback/KIM/1", "/wayback/jones/1", "/wayback/JONES/x", "/wayback/JONES/1?x"):
+            same(f"{target} is no clearance", server.ask(get(target, own)), fault(404, "NoSuch"))
+        for target in ("/wayback", "/wayback/JONES", "/wayback/JONES/1/", "/wayback/JONES/1/1"):
+            same(f"{target} is no route", server.ask(get(target, own)), NO_ROUTE)
+        same("/wayback has one method", server.ask(post("{}", own, target="/wayback/JONES/1")), NO_BODY)
+        same("a way back for a page", server.ask(get("/wayback/JONES/1", own, "Origin: null")), IS_FOREIGN)
+        same("nothing is changed", (server.ask(get("/network", own)), server.ask(get("/board", own))), before)
+    with Server(register(folder / "closed.db", shift(100)), "--desk") as server:
+        same("a Closed one", server.ask(get("/wayback/JONES/1", own)), response(200, "", "text/plain"))
+    with Server(register(folder / "plain.db", shift(23))) as server:
+        same("without --desk, /wayback", server.ask(get("/wayback/JONES/1", own)), NO_ROUTE)
+    staff = folder / "staff.csv"
+    staff.write_text("employee,role,supervisor\nJONES,charge,\nOPS,operator,\n", encoding="ascii")
+    path = register(folder / "nobody.db", shift(3), [*FILES[:2], str(staff)])
+    same("wayback without a field employee", run("wayback", copied(path, folder / "copy.db"), "JONES/1"), (1, "", "fault: clearance NoWay\n"))
+    with Server(path, "--desk") as server:
+        same("/wayback without a field employee", server.ask(get("/wayback/JONES/1", own)), fault(409, "NoWay"))
+
+
+main(hosts, plain, drawn, way_back)

@@ -42,7 +42,7 @@ def names(folder):
                 same(f"OPS does not look as {name}", (view_status, view), (403, {"fault": "NotCaller"}))
         found = replied(server.ask(post(said_by("JONES"), OWN, of("jones@grid.example"))))
         same("JONES speaks at his login", (found[0], found[1]["card"]["clearance"]), (200, "JONES/2"))
-        for target in ("/board", "/order/JONES/1/1", "/network"):
+        for target in ("/board", "/order/JONES/1/1", "/network", "/wayback/JONES/1"):
             same(f"{target} asks for no login", replied(server.ask(get(target, OWN)))[0], 200)
 
 
