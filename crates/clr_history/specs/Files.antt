@@ -28,15 +28,15 @@ abbrev pub IsOfFile : Fault → Type 0
 IsOfFile fault = (fault ≡ Memory) ⊎ ((cause : JournalFault) × (fault ≡ Journal cause))
 
 -- what the lines come to
-abbrev pub lines_told : {A : Type 0} → Result A BadJournal → Result A Fault
-lines_told (Ok lines) = Ok lines
-lines_told (Err (bad.BadLine place)) = Err (Journal (BadLine place))
-lines_told (Err bad.NoMemory) = Err Memory
+abbrev pub lines_or_fault : {A : Type 0} → Result A BadJournal → Result A Fault
+lines_or_fault (Ok lines) = Ok lines
+lines_or_fault (Err (bad.BadLine place)) = Err (Journal (BadLine place))
+lines_or_fault (Err bad.NoMemory) = Err Memory
 
 -- THE LINES of these bytes, or the first that is none
 abbrev pub lines_of : List ℕ → Result (List Entry) Fault
 lines_of bytes = if nat_lt 1073741824 (length bytes) then Err (Journal TooLong)
-    else lines_told (read_journal bytes)
+    else lines_or_fault (read_journal bytes)
 
 -- the lines as a call gives them; only a file that goes unread may come in their place
 abbrev pub GivesLines : List ℕ → Result (Vec Line Global) Fault → Type 0

@@ -2,7 +2,7 @@
 ghost use Rattle.std.specs.Prelude.{◌≡◌, IfErr, IfSome, IsErrOf};
 ghost use Rattle.clr_stream.specs.Failures.{Rose};
 ghost use Rattle.clr_history.specs.Files.{FailsToRead, GivesBytes, GivesLines, IsOfFile};
-ghost use Rattle.clr_history.specs.Files.{lines_told};
+ghost use Rattle.clr_history.specs.Files.{lines_or_fault};
 
 use clr_csv::CsvFault;
 use clr_edge::fault::{Fault, JournalFault};
@@ -47,12 +47,12 @@ fn lines_from<S: Source>(alloc: Global, source: &mut S) -> Result<Vec<Line>, Fau
     ensures fault { IfErr result IsOfFile }
 {
     let bytes = bytes_from(alloc, source)?;
-    lines_told(read_journal(alloc, &bytes))
+    lines_or_fault(read_journal(alloc, &bytes))
 }
 
 /// What the lines of a journal come to.
-fn lines_told<T>(lines: Result<T, BadJournal>) -> Result<T, Fault>
-    ensures { result ≡ lines_told lines }
+fn lines_or_fault<T>(lines: Result<T, BadJournal>) -> Result<T, Fault>
+    ensures { result ≡ lines_or_fault lines }
 {
     match lines {
         Ok(lines) => Ok(lines),
