@@ -1,5 +1,5 @@
 -- What is printed of registers that databases have, and why nothing is.
-use Rattle.std.proofs.Common.{◌≡◌, ◌∙◌, ap, inl, inr, sym, ℕ, List, Result, Ok, Err}
+use Rattle.std.proofs.Common.{◌≡◌, ap, inl, inr, subst, sym, ℕ, List, Result, Ok, Err}
 use Rattle.std.specs.Prelude.{IfErr, IfOk, IsErrAnd, String, string_bytes}
 use Rattle.std.specs.declared.alloc.Global.{Global}
 use Rattle.sqlite.specs.Held.{Held, state}
@@ -10,8 +10,8 @@ use Rattle.clr_edge.specs.Database.{HasRegister, IsOfLine, IsOnlyRead, IsRefused
 use Rattle.clr_edge.specs.declared.fault.Fault.{Fault}
 use Rattle.clr_edge.specs.declared.fault.Fault.TheVariants.{Memory}
 use Rattle.clr_edge.proofs.Databases.{OnOk-any}
-use Rattle.clr_commands.specs.Answers.{GivesText, IsMemory}
-use Rattle.clr_commands.specs.Stored.{IsUnanswered, PrintsOf}
+use Rattle.clr_commands.specs.Answers.{GivesText, IsMemory, Prints}
+use Rattle.clr_commands.specs.Stored.{AnswersOf, IsUnanswered, PrintsOf}
 
 -- a fault that is passed on is the answer
 pub is_err : {T : Type 0} (result : Result T Fault) (fault : Fault) → IsErrAnd result (λ cause. cause ≡ fault) → result ≡ Err fault
@@ -25,32 +25,45 @@ GivesText-text text (Ok printed) is memory = ap Ok (sym is)
 GivesText-text text (Err fault) is memory = λ other. absurd (other memory)
 
 -- an answer that only want of memory may come in place of
-gives_line : (gave expected : Result (List ℕ) Fault) (result : Result (String Global) Fault) → gave ≡ expected → GivesText IsMemory gave result
-    → GivesText IsOfLine expected result
-gives_line gave expected (Ok value) same gives = sym same ∙ gives
-gives_line gave expected (Err fault) same gives = λ other. sym same ∙ gives (λ memory. other (inl memory))
+gives_line : (Is IsToo : Result (List ℕ) Fault → Type 0) (result : Result (String Global) Fault) → ((known : Result (List ℕ) Fault) → Is known → IsToo known)
+    → Prints IsMemory Is result → Prints IsOfLine IsToo result
+gives_line Is IsToo (Ok value) same gives = same (Ok (string_bytes value)) gives
+gives_line Is IsToo (Err fault) same gives = λ other. same (Err fault) (gives (λ memory. other (inl memory)))
 
 unanswered : {T S : Type 0} (g : Ghosts S) (IsOwn : Fault → Type 0) (before after : Held S) (result : Result T Fault) → IfErr result IsOwn
     → Survives (state g before) (state g after) (λ _. ⊥) → IfErr result (IsUnanswered g before after IsOwn)
 unanswered g IsOwn before after (Ok value) own survives = tt
 unanswered g IsOwn before after (Err fault) own survives = record { cause = inl own; survives = survives }
 
--- what is printed of the register Q that was read from a database
-pub PrintsOf-read : {S : Type 0} (g : Ghosts S) (IsOwn : Fault → Type 0) (answer : Register → Result (List ℕ) Fault) (result : Result (String Global) Fault)
+-- what is answered of the register Q that was read from a database
+pub AnswersOf-read : {S : Type 0} (g : Ghosts S) (IsOwn : Fault → Type 0) (Is : Register → Result (List ℕ) Fault → Type 0) (result : Result (String Global) Fault)
     (before after : Held S) (Q : Register) → ((R : Register) → HasRegister g R before → HasCleanDisk (state g after) → Q ≡ R)
-    → IsOnlyRead g before after → GivesText IsMemory (answer Q) result → IfErr result IsOwn → PrintsOf g IsOwn answer result before after
-PrintsOf-read g IsOwn answer result before after Q is_register read gives own = record {
-  known = λ R has clean. gives_line (answer Q) (answer R) result (ap answer (is_register R has clean)) gives;
+    → IsOnlyRead g before after → Prints IsMemory (Is Q) result → IfErr result IsOwn → AnswersOf g IsOwn Is result before after
+AnswersOf-read g IsOwn Is result before after Q is_register read gives own = record {
+  known = λ R has clean. gives_line (Is Q) (Is R) result (λ known is. subst (λ (P : Register). Is P known) (is_register R has clean) is) gives;
   read = OnOk-any result (IsOnlyRead g before after) read;
   refused = unanswered g IsOwn before after result own read.survives;
 }
 
--- nothing is printed of one whose tables were refused
-pub PrintsOf-refused : {S : Type 0} (g : Ghosts S) (IsOwn : Fault → Type 0) (answer : Register → Result (List ℕ) Fault) (fault : Fault)
+-- nothing is answered of one whose tables were refused
+pub AnswersOf-refused : {S : Type 0} (g : Ghosts S) (IsOwn : Fault → Type 0) (Is : Register → Result (List ℕ) Fault → Type 0) (fault : Fault)
     (before after : Held S) → ((R : Register) → HasRegister g R before → HasCleanDisk (state g after) → IsOfLine fault)
-    → IsRefused g before fault after → Survives (state g before) (state g after) (λ _. ⊥) → PrintsOf g IsOwn answer (Err fault) before after
-PrintsOf-refused g IsOwn answer fault before after line refused survives = record {
+    → IsRefused g before fault after → Survives (state g before) (state g after) (λ _. ⊥) → AnswersOf g IsOwn Is (Err fault) before after
+AnswersOf-refused g IsOwn Is fault before after line refused survives = record {
   known = λ R has clean other. absurd (other (line R has clean));
   read = tt;
   refused = record { cause = inr refused; survives = survives };
 }
+
+-- the same of an answer that is computed
+pub PrintsOf-read : {S : Type 0} (g : Ghosts S) (IsOwn : Fault → Type 0) (answer : Register → Result (List ℕ) Fault) (result : Result (String Global) Fault)
+    (before after : Held S) (Q : Register) → ((R : Register) → HasRegister g R before → HasCleanDisk (state g after) → Q ≡ R)
+    → IsOnlyRead g before after → GivesText IsMemory (answer Q) result → IfErr result IsOwn → PrintsOf g IsOwn answer result before after
+PrintsOf-read g IsOwn answer result before after Q is_register read gives own =
+    AnswersOf-read g IsOwn (λ R known. answer R ≡ known) result before after Q is_register read gives own
+
+pub PrintsOf-refused : {S : Type 0} (g : Ghosts S) (IsOwn : Fault → Type 0) (answer : Register → Result (List ℕ) Fault) (fault : Fault)
+    (before after : Held S) → ((R : Register) → HasRegister g R before → HasCleanDisk (state g after) → IsOfLine fault)
+    → IsRefused g before fault after → Survives (state g before) (state g after) (λ _. ⊥) → PrintsOf g IsOwn answer (Err fault) before after
+PrintsOf-refused g IsOwn answer fault before after line refused survives =
+    AnswersOf-refused g IsOwn (λ R known. answer R ≡ known) fault before after line refused survives

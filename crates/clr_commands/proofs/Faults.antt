@@ -27,7 +27,9 @@ use Rattle.clr_commands.specs.Import.{IsOfAnyFile}
 use Rattle.clr_commands.specs.Run.{IsOfInput}
 use Rattle.clr_commands.specs.declared.replies.Printed.{Printed}
 use Rattle.clr_commands.specs.Stored.{IsOfOrder}
+use Rattle.clr_commands.specs.Verify.{IsOfVerify}
 use Rattle.clr_commands.specs.WayBack.{IsOfWayBack}
+use Rattle.clr_history.specs.Files.{IsOfFile as IsOfJournalFile}
 
 abbrev is_plain : Fault → Bool
 is_plain Output = false
@@ -100,6 +102,14 @@ pub way_back_plain : (fault : Fault) → IsOfWayBack fault → IsOfSubcommand fa
 way_back_plain fault (inl memory) = memory_plain fault memory
 way_back_plain fault (inr (inl none)) = plain_as fault _ none refl
 way_back_plain fault (inr (inr hangs)) = plain_as fault _ hangs refl
+
+pub verify_plain : (fault : Fault) → IsOfVerify fault → IsOfSubcommand fault
+verify_plain fault (inl memory) = memory_plain fault memory
+verify_plain fault (inr (found, is)) = plain_as fault _ is refl
+
+pub history_plain : (fault : Fault) → IsOfJournalFile fault → IsOfSubcommand fault
+history_plain fault (inl memory) = memory_plain fault memory
+history_plain fault (inr (cause, is)) = plain_as fault _ is refl
 
 pub taking_up_plain : (fault : Fault) → IsOfTakingUp fault → IsOfSubcommand fault
 taking_up_plain fault (inl (inl memory)) = memory_plain fault memory

@@ -13,4 +13,5 @@ pub mod ReadRows
 pub mod RunAnswers
 pub mod RunOfInput
 pub mod Serving
+pub mod Verifies
 pub mod Written

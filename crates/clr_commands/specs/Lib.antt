@@ -15,4 +15,5 @@ pub mod Replies
 pub mod Run
 pub mod Serve
 pub mod Stored
+pub mod Verify
 pub mod WayBack

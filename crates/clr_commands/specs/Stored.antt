@@ -14,7 +14,7 @@ use Rattle.clr_edge.specs.Database.{HasRegister, IsOfLine, IsOnlyRead, IsRefused
 use Rattle.clr_edge.specs.Visit.{Alone, Done, Over}
 use Rattle.clr_edge.specs.declared.fault.Fault.{Fault}
 use Rattle.clr_edge.specs.declared.fault.Fault.TheVariants.{Memory, NoSuch}
-use Rattle.clr_commands.specs.Answers.{GivesText, IsMemory}
+use Rattle.clr_commands.specs.Answers.{IsMemory, Prints}
 use Rattle.clr_commands.specs.Order.{order_asked_for}
 
 -- why a register has no such order: memory ran out, or it is not there
@@ -28,15 +28,21 @@ pub record IsUnanswered {S : Type 0} (g : Ghosts S) (before after : Held S)
   pub cause : IsOwn fault ⊎ IsRefused g before fault after
   pub survives : Survives (state g before) (state g after) (λ _. ⊥)
 
--- WHAT IS PRINTED OF A DATABASE while it is open: of the register that it is known to have, unless
+-- WHAT IS ANSWERED OF A DATABASE while it is open: of the register that it is known to have, unless
 -- the database refuses or memory runs out. It was only read
-pub record PrintsOf {S : Type 0} (g : Ghosts S) (IsOwn : Fault → Type 0)
-    (answer : Register → Result (List ℕ) Fault) (result : Result (String Global) Fault)
+pub record AnswersOf {S : Type 0} (g : Ghosts S) (IsOwn : Fault → Type 0)
+    (Is : Register → Result (List ℕ) Fault → Type 0) (result : Result (String Global) Fault)
     (before after : Held S) : Type 0 where
   pub known : (R : Register) → HasRegister g R before → HasCleanDisk (state g after)
-      → GivesText IsOfLine (answer R) result
+      → Prints IsOfLine (Is R) result
   pub read : OnOk result (IsOnlyRead g before after)
   pub refused : IfErr result (IsUnanswered g before after IsOwn)
+
+-- the same of an answer that is computed
+abbrev pub PrintsOf : {S : Type 0} → Ghosts S → (Fault → Type 0)
+    → (Register → Result (List ℕ) Fault) → Result (String Global) Fault → Held S → Held S → Type 0
+PrintsOf g IsOwn answer result before after =
+    AnswersOf g IsOwn (λ R known. answer R ≡ known) result before after
 
 -- what is done over a database while it is open, with no step beside it, however it is closed
 abbrev pub WhileOpen : {M T H : Type 0} → (Result T Fault → H → H → Type 0) → Result T Fault → M → H

@@ -1,5 +1,6 @@
-//! The headline between two servers.
+//! Laws of the definitions: the headline between two servers, and what the yes of `verify` says.
 ghost use Rattle.clr_commands.specs.ConnectionLaws.{RunsGetTheSame};
+ghost use Rattle.clr_commands.specs.Verify.{YesIsOfJournal};
 
 use clr_rules::laws::run_headline::headline_holds_of_runs;
 
@@ -10,3 +11,8 @@ pub fn runs_get_the_same()
 {
     headline_holds_of_runs();
 }
+
+/// What `verify` says yes of is what the journal says: a law, with nothing to do.
+pub fn yes_is_of_the_journal()
+    ensures { YesIsOfJournal }
+{}

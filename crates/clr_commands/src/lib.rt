@@ -13,4 +13,5 @@ pub mod replies;
 pub mod run;
 pub mod serve;
 pub mod serve_line;
+pub mod verify;
 pub mod wayback;

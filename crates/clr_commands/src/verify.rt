@@ -1,0 +1,100 @@
+//! The subcommand `verify`: whether a database is what the run of its journal leaves.
+ghost use Rattle.std.specs.Prelude.{IfErr};
+ghost use Rattle.clr_commands.specs.Answers.{IsMemory, Prints};
+ghost use Rattle.clr_commands.specs.Faults.{IsOfSubcommand};
+ghost use Rattle.clr_commands.specs.Paths.{at_paths};
+ghost use Rattle.clr_commands.specs.Stored.{AnswersOf};
+ghost use Rattle.clr_commands.specs.Verify.{IsOfVerify, IsVerified, RunsJournalAt, Verifies};
+ghost use Rattle.clr_commands.specs.Verify.{VerifiesAt};
+ghost use Rattle.clr_edge.specs.Visit.{Comes};
+
+use crate::import::rows_at;
+use crate::run::desk_of_rows;
+use clr_args::asked::VerifyArgs;
+use clr_desk::DeskBook;
+use clr_edge::database::{Databases, close, desk_over};
+use clr_edge::fault::{Fault, VerifyFault};
+use clr_edge::paths::Opens;
+use clr_history::file::lines_at;
+use clr_rerun::{Rerun, RerunFault, compare_with, run_again};
+use sqlite::{Alter, Connection};
+use std::alloc::Global;
+
+/// What `verify DB JOURNAL SECTIONS POINTS STAFF` prints: how many commands of the journal were
+/// carried out, where the tables of the database are those that they leave over the register of the
+/// files. The database is opened last, and only read.
+///
+/// `Reply` where a command has another reply in the run than in its line; `Differs` with the first
+/// table and the key of the first row that is another.
+pub fn verify<'a, R: Databases, O: Opens<'a>>(
+    alloc: Global,
+    rt: &mut R,
+    paths: &O,
+    args: &VerifyArgs<'a>,
+) -> Result<String, Fault>
+    ensures visit { VerifiesAt
+        (at_paths O.File.remaining O.File.failure_count (O.bytes_at paths.now)) args.now
+        (λ run. Comes R.Medium.Disk R.opens R.shuts R.ends args.now.database.now
+        (Verifies run)) result rt.old rt.new }
+    ensures faults { IfErr result IsOfSubcommand }
+{
+    let rerun = run_of_journal(alloc, paths, args)?;
+    let connection = rt.stored(args.database)?;
+    let (printed, connection) = verify_over(alloc, connection, &rerun);
+    let _closed = close(rt, connection);
+    printed
+}
+
+/// The journal at a path, run again over the register of the files at three paths. These are read
+/// first.
+fn run_of_journal<'a, O: Opens<'a>>(
+    alloc: Global,
+    paths: &O,
+    args: &VerifyArgs<'a>,
+) -> Result<Rerun, Fault>
+    ensures runs { RunsJournalAt
+        (at_paths O.File.remaining O.File.failure_count (O.bytes_at paths.now)) args.now result }
+    ensures faults { IfErr result IsOfSubcommand }
+{
+    let rows = rows_at(alloc, paths, &args.files)?;
+    let desk = desk_of_rows(alloc, rows)?;
+    let lines = lines_at(alloc, paths, args.journal)?;
+    match run_again(alloc, desk, lines) {
+        Ok(rerun) => Ok(rerun),
+        Err(RerunFault::Reply(number)) => Err(Fault::Verify(VerifyFault::Reply(number))),
+        Err(RerunFault::NoMemory) => Err(Fault::Memory),
+    }
+}
+
+/// Compares the register that a database has with that of a run.
+fn verify_over<S: Alter + Drop>(
+    alloc: Global,
+    connection: Connection<S>,
+    rerun: &Rerun,
+) -> (Result<String, Fault>, Connection<S>)
+    ensures printed { AnswersOf S.Store IsOfVerify (IsVerified rerun.now) result.0
+        connection result.1 }
+    ensures faults { IfErr result.0 IsOfSubcommand }
+{
+    match desk_over(alloc, connection) {
+        Ok(desk) => {
+            let printed = verified(alloc, rerun, desk.book());
+            (printed, desk.end().end())
+        }
+        Err((fault, connection)) => (Err(fault), connection),
+    }
+}
+
+/// What is printed of a register that is compared with that of a run.
+fn verified(alloc: Global, rerun: &Rerun, book: &DeskBook) -> Result<String, Fault>
+    ensures answer { Prints IsMemory (IsVerified rerun.now book.now.register) result }
+    ensures faults { IfErr result IsOfVerify }
+{
+    match compare_with(alloc, rerun, book)? {
+        Some(found) => Err(Fault::Verify(VerifyFault::Differs(found))),
+        None => {
+            let text = format!(in alloc; "verified {} commands\n", rerun.count)?;
+            Ok(text)
+        }
+    }
+}
