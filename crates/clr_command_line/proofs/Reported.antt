@@ -122,6 +122,7 @@ module _ {M D L R W I : Type 0} (g : disk.Ghosts D) (makes opens : Opening M D) 
       (serve_written net seen before.output after.output before.errors middle files args g opens shuts ends served
       before.machine after.machine serves) reports
   carried_out (asked.Journal args) status before after (answer, does, own, untouched, reports) = reported answer status _ _ _ _ own reports
+  carried_out (asked.Verify args) status before after (answer, does, own, untouched, reports) = reported answer status _ _ _ _ own reports
   carried_out (asked.Migrate path) status before after (answer, does, own, untouched, reports) = reported answer status _ _ _ _ own reports
 
   pub does : (what : Parsed) (status : ℕ) (before after : Moment M I)

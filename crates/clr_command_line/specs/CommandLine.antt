@@ -29,6 +29,7 @@ use Rattle.clr_commands.specs.Paths.{AtPaths}
 use Rattle.clr_commands.specs.Run.{ReadsInput, RunsAsked, RunsKept}
 use Rattle.clr_commands.specs.Serve.{ServesAt}
 use Rattle.clr_commands.specs.Stored.{PrintsBoard, PrintsOrder}
+use Rattle.clr_commands.specs.Verify.{Verifies, VerifiesAt}
 use Rattle.clr_commands.specs.WayBack.{PrintsWayBack}
 use Rattle.clr_commands.specs.declared.replies.Printed.{Printed}
 use Rattle.clr_history.specs.Journal.{GivesJournal}
@@ -106,6 +107,9 @@ module _ {M D L R W I : Type 0} (g : disk.Ghosts D) (makes opens : Opening M D) 
       × ReportsServed served status reported after.errors
   CarriesOut (asked.Journal args) status before after = ComesTo
       (λ answer old new. PrintsJournal files args answer × (new ≡ old)) status before after
+  CarriesOut (asked.Verify args) status before after = ComesTo
+      (VerifiesAt files args (λ run. Comes g opens shuts ends args.database.now (Verifies run)))
+      status before after
   CarriesOut (asked.Migrate path) status before after = ComesTo
       (Migrates (Comes g opens shuts ends path.now (Alone (MovesRegister over_files))))
       status before after

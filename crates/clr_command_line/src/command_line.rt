@@ -19,6 +19,7 @@ use clr_commands::migrate::migrate;
 use clr_commands::order::order;
 use clr_commands::run::run;
 use clr_commands::serve::serve;
+use clr_commands::verify::verify;
 use clr_commands::wayback::wayback;
 use clr_edge::database::Makes;
 use clr_edge::fault::Fault;
@@ -175,6 +176,7 @@ where
             report_served(served, errors)
         }
         Asked::Journal(args) => report(journal(alloc, paths, args), output, errors),
+        Asked::Verify(args) => report(verify(alloc, rt, paths, args), output, errors),
         Asked::Migrate(path) => report(migrate(alloc, rt, *path), output, errors),
     }
 }

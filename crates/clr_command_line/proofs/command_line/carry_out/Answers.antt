@@ -28,6 +28,9 @@ returns-in-Serve g c =
     rw c.in-Serve.is
     (c.serve-served.result, g.E.CountedWrite.stream c.serve-served.new.errors, refl, c.serve-served.ensures.visit, c.report_served.ensures)
 
+pub returns-in-Verify : goal.returns-in-Verify
+returns-in-Verify g c = rw c.in-Verify.is (c.verify.result, c.verify.ensures.visit, c.verify.ensures.faults, refl, c.report-in-Verify.ensures)
+
 pub returns-in-Migrate : goal.returns-in-Migrate
 returns-in-Migrate g c = rw c.in-Migrate.is (c.migrate.result, c.migrate.ensures.visit, c.migrate.ensures.faults, refl, c.report-in-Migrate.ensures)
 
