@@ -18,9 +18,9 @@ abbrev pub some_or_none : Option Id → Result (Option Id) Fault
 some_or_none None = Err NoSuch
 some_or_none (Some c) = Ok (Some c)
 
-abbrev pub wanted_told : Option (List ℕ) → Result (Option Id) Fault
-wanted_told None = Ok None
-wanted_told (Some word) = some_or_none (read_id word)
+abbrev pub wanted_clearance : Option (List ℕ) → Result (Option Id) Fault
+wanted_clearance None = Ok None
+wanted_clearance (Some word) = some_or_none (read_id word)
 
 -- the log, or the commands alone
 abbrev pub journal_text : JournalArgs → Option Id → List Entry → List ℕ
@@ -28,16 +28,16 @@ journal_text args wanted entries = if args.commands then commands_text (commands
     else log_text wanted args.offset.minutes entries
 
 -- THE ANSWER
-abbrev pub journal_told : JournalArgs → List ℕ → Result (List ℕ) Fault
-journal_told args bytes =
-    wanted_told (option_map (λ word. word.now) args.clearance)
+abbrev pub journal_printed : JournalArgs → List ℕ → Result (List ℕ) Fault
+journal_printed args bytes =
+    wanted_clearance (option_map (λ word. word.now) args.clearance)
     >>= λ wanted. lines_of bytes
     >>= λ entries. Ok (journal_text args wanted entries)
 
 -- the same as a call gives it; only a file that goes unread, or want of memory, may come in its place
 abbrev pub GivesJournal : JournalArgs → List ℕ → Result (String Global) Fault → Type 0
-GivesJournal args bytes (Ok text) = journal_told args bytes ≡ Ok (string_bytes text)
-GivesJournal args bytes (Err fault) = (IsUnread fault → ⊥) → journal_told args bytes ≡ Err fault
+GivesJournal args bytes (Ok text) = journal_printed args bytes ≡ Ok (string_bytes text)
+GivesJournal args bytes (Err fault) = (IsUnread fault → ⊥) → journal_printed args bytes ≡ Err fault
 
 -- the faults of `journal`
 abbrev pub IsOfJournal : Fault → Type 0

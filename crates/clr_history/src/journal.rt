@@ -2,7 +2,7 @@
 ghost use Rattle.std.specs.Prelude.{◌≡◌, IfErr, IfOk, IfSome, IsErrOf, map, option_map, string_bytes};
 ghost use Rattle.clr_journal.specs.Line.{entry_of};
 ghost use Rattle.clr_history.specs.Files.{FailsToRead};
-ghost use Rattle.clr_history.specs.Journal.{GivesJournal, IsOfJournal, journal_text, wanted_told};
+ghost use Rattle.clr_history.specs.Journal.{GivesJournal, IsOfJournal, journal_text, wanted_clearance};
 
 use crate::file::lines_at;
 use clr_args::asked::JournalArgs;
@@ -31,15 +31,15 @@ pub fn journal<'a, O: Opens<'a>>(
         O.File.remaining O.File.failure_count (O.bytes_at paths.now args.now.path.now) }
     ensures fault { IfErr result IsOfJournal }
 {
-    let wanted = wanted_told(args.clearance)?;
+    let wanted = wanted_clearance(args.clearance)?;
     let lines = lines_at(alloc, paths, args.path)?;
     let text = journal_text(alloc, args, &lines, &wanted)?;
     Ok(text)
 }
 
 /// The clearance that a word names, if one was given.
-fn wanted_told(word: Option<&str>) -> Result<Option<ClearanceId>, Fault>
-    ensures told { result ≡ wanted_told (option_map (λ text. text.now) word.entry) }
+fn wanted_clearance(word: Option<&str>) -> Result<Option<ClearanceId>, Fault>
+    ensures wanted { result ≡ wanted_clearance (option_map (λ text. text.now) word.entry) }
     ensures fault { IfErr result (λ fault. fault ≡ Fault.NoSuch) }
 {
     let Some(word) = word else {
