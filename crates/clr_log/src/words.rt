@@ -79,9 +79,9 @@ pub(crate) fn push_words(
             clear,
             ..
         } => {
-            let told = either(*notified, ", notified", ", not notified");
+            let printed = either(*notified, ", notified", ", not notified");
             let gone = either(*clear, ", clear", ", not clear");
-            push_all(out, "release", told, gone)
+            push_all(out, "release", printed, gone)
         }
         Kind::Cancel { .. } => out.push_str("cancel"),
         Kind::Show { .. } => out.push_str("show"),
