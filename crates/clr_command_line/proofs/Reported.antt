@@ -11,6 +11,7 @@ use Rattle.clr_args.specs.declared.asked.Asked.{Asked}
 use Rattle.clr_args.specs.declared.asked.Asked.TheVariants as asked
 use Rattle.clr_args.specs.declared.parsing.Parsed.{Parsed}
 use Rattle.clr_args.specs.declared.parsing.Parsed.TheVariants as parsed
+use Rattle.clr_edge.specs.TakenUp.{Logs}
 use Rattle.clr_edge.specs.Visit.{Done, Ending, Opening, Shutting}
 use Rattle.clr_edge.specs.declared.fault.Fault.{Fault}
 use Rattle.clr_edge.specs.declared.fault.Fault.TheVariants.{Memory, Output}
@@ -105,10 +106,10 @@ unread status output output' errors errors' two same = record {
   unread = λ _. same;
 }
 
-module _ {M D L R W I : Type 0} (g : disk.Ghosts D) (makes opens : Opening M D) (shuts : Shutting M) (ends : Ending M D)
+module _ {M D L R W I J C : Type 0} (logs : Logs M J C) (g : disk.Ghosts D) (makes opens : Opening M D) (shuts : Shutting M) (ends : Ending M D)
     (net : loopback.Ghosts M L R W) (seen : Seen R W) (files : AtPaths) (remaining : I → Option (List ℕ)) (failures : I → ℕ) where
   carried_out : (what : Asked) (status : ℕ) (before after : Moment M I)
-      → CarriesOut g makes opens shuts ends net seen files remaining failures what status before after
+      → CarriesOut logs g makes opens shuts ends net seen files remaining failures what status before after
       → IsReported status before.output after.output before.errors after.errors
   carried_out (asked.Fence args) status before after (answer, does, own, untouched, reports) = reported answer status _ _ _ _ own reports
   carried_out (asked.Check three) status before after (answer, does, own, untouched, reports) = reported answer status _ _ _ _ own reports
@@ -119,14 +120,14 @@ module _ {M D L R W I : Type 0} (g : disk.Ghosts D) (makes opens : Opening M D) 
   carried_out (asked.WayBack args) status before after (answer, does, own, untouched, reports) = reported answer status _ _ _ _ own reports
   carried_out (asked.Serve args) status before after (served, middle, untouched, serves, reports) =
       reported_served args.port args.count served status before.output after.output before.errors middle after.errors
-      (serve_written net seen before.output after.output before.errors middle files args g opens shuts ends served
+      (serve_written logs net seen before.output after.output before.errors middle files args g opens shuts ends served
       before.machine after.machine serves) reports
   carried_out (asked.Journal args) status before after (answer, does, own, untouched, reports) = reported answer status _ _ _ _ own reports
   carried_out (asked.Verify args) status before after (answer, does, own, untouched, reports) = reported answer status _ _ _ _ own reports
   carried_out (asked.Migrate path) status before after (answer, does, own, untouched, reports) = reported answer status _ _ _ _ own reports
 
   pub does : (what : Parsed) (status : ℕ) (before after : Moment M I)
-      → DoesParsed g makes opens shuts ends net seen files remaining failures what status before after
+      → DoesParsed logs g makes opens shuts ends net seen files remaining failures what status before after
       → IsReported status before.output after.output before.errors after.errors
   does (parsed.Asked what) status before after is = carried_out what status before after is
   does (parsed.Help text) status before after (untouched, is) = reported_text _ None status _ _ _ _ tt is
@@ -134,7 +135,7 @@ module _ {M D L R W I : Type 0} (g : disk.Ghosts D) (makes opens : Opening M D) 
 
   -- the status is 0 only for words that may have an answer
   pub MayAnswer-does : (words : List (List ℕ)) (what : Parsed) (status : ℕ) (before after : Moment M I) → Parses words what
-      → DoesParsed g makes opens shuts ends net seen files remaining failures what status before after → status ≡ 0 → MayAnswer words
+      → DoesParsed logs g makes opens shuts ends net seen files remaining failures what status before after → status ≡ 0 → MayAnswer words
   MayAnswer-does words (parsed.Asked what) status before after is is_done zero =
       MayAnswer-parsed words (parsed.Asked what) is (λ unread. unread)
   MayAnswer-does words (parsed.Help text) status before after is is_done zero =

@@ -13,6 +13,7 @@ use Rattle.clr_args.specs.declared.asked.Asked.TheVariants as asked
 use Rattle.clr_args.specs.declared.asked.JournalArgs.{JournalArgs}
 use Rattle.clr_args.specs.declared.parsing.Parsed.{Parsed}
 use Rattle.clr_args.specs.declared.parsing.Parsed.TheVariants as parsed
+use Rattle.clr_edge.specs.TakenUp.{Logs}
 use Rattle.clr_edge.specs.Visit.{Alone, Comes, Done, Ending, MakesRegister, MovesRegister, Opening}
 use Rattle.clr_edge.specs.Visit.{Shutting}
 use Rattle.clr_edge.specs.declared.fault.Fault.{Fault}
@@ -66,12 +67,12 @@ pub record PrintsJournal (files : AtPaths) (args : JournalArgs)
   pub unopened : IsErrOf answer (Journal OpenFailed) → files.fails args.path.now
   pub unread : IsErrOf answer (Journal ReadFailed) → files.fails args.path.now
 
--- A command line runs over: the steps by which a machine opens and closes databases and takes
--- connections, and what is seen of a connection; the files at paths; and what standard input shows of
--- itself, what is left to read and how many reads failed.
-module _ {M D L R W I : Type 0} (g : disk.Ghosts D) (makes opens : Opening M D) (shuts : Shutting M)
-    (ends : Ending M D) (net : loopback.Ghosts M L R W) (seen : Seen R W) (files : AtPaths)
-    (remaining : I → Option (List ℕ)) (failures : I → ℕ) where
+-- A command line runs over: the steps by which a machine opens journals, opens and closes databases
+-- and takes connections, and what is seen of a connection; the files at paths; and what standard
+-- input shows of itself, what is left to read and how many reads failed.
+module _ {M D L R W I J C : Type 0} (logs : Logs M J C) (g : disk.Ghosts D) (makes opens : Opening M D)
+    (shuts : Shutting M) (ends : Ending M D) (net : loopback.Ghosts M L R W) (seen : Seen R W)
+    (files : AtPaths) (remaining : I → Option (List ℕ)) (failures : I → ℕ) where
   -- what `run` printed is reported, and the input is read for it
   abbrev pub RunComesTo : (Result Printed Fault → M → M → Type 0) → ℕ → Moment M I → Moment M I
       → Type 0
@@ -92,7 +93,7 @@ module _ {M D L R W I : Type 0} (g : disk.Ghosts D) (makes opens : Opening M D) 
       (InitsAt files (λ path register. Comes g makes shuts ends path
       (Alone (MakesRegister over_files register))) args) status before after
   CarriesOut (asked.Run args) status before after = RunComesTo
-      (RunsAsked files (RunsKept g opens shuts ends (remaining before.input)) args
+      (RunsAsked files (RunsKept logs g opens shuts ends (remaining before.input)) args
       (remaining before.input)) status before after
   CarriesOut (asked.Order args) status before after = ComesTo
       (Comes g opens shuts ends args.database.now (PrintsOrder args)) status before after
@@ -102,7 +103,7 @@ module _ {M D L R W I : Type 0} (g : disk.Ghosts D) (makes opens : Opening M D) 
       (Comes g opens shuts ends args.database.now (PrintsWayBack args)) status before after
   CarriesOut (asked.Serve args) status before after =
       (served : Done) × (reported : Stream) × (after.input ≡ before.input)
-      × ServesAt net seen files args before.output after.output before.errors reported
+      × ServesAt logs net seen files args before.output after.output before.errors reported
       g opens shuts ends served before.machine after.machine
       × ReportsServed served status reported after.errors
   CarriesOut (asked.Journal args) status before after = ComesTo

@@ -2,6 +2,7 @@
 ghost use Rattle.std.specs.Prelude.{◌≡◌, IfErr, IfOk, map};
 ghost use Rattle.std.specs.IoError.{error_kind};
 ghost use Rattle.clr_args.specs.Parsed.{MayAnswer};
+ghost use Rattle.clr_edge.specs.TakenUp.{logs};
 ghost use Rattle.clr_commands.specs.Connections.{seen};
 ghost use Rattle.clr_commands.specs.Paths.{at_paths};
 ghost use Rattle.clr_command_line.specs.CommandLine.{AnswersNone, AnswersWords, CarriesOut};
@@ -53,6 +54,7 @@ where
     W: CountedFlush,
     E: CountedFlush,
     ensures answer { IfOk words.now (λ given. AnswersWords
+        (logs R.Journals R.Log.Journal)
         R.Medium.Disk R.makes R.opens R.shuts R.ends R.Loopback
         (seen R.Reader.remaining R.Reader.failure_count R.Writer.stream)
         (at_paths O.File.remaining O.File.failure_count (O.bytes_at paths.now))
@@ -90,6 +92,7 @@ where
     W: CountedFlush,
     E: CountedFlush,
     ensures answer { AnswersWords
+        (logs R.Journals R.Log.Journal)
         R.Medium.Disk R.makes R.opens R.shuts R.ends R.Loopback
         (seen R.Reader.remaining R.Reader.failure_count R.Writer.stream)
         (at_paths O.File.remaining O.File.failure_count (O.bytes_at paths.now))
@@ -122,6 +125,7 @@ where
     W: CountedFlush,
     E: CountedFlush,
     ensures { DoesParsed
+        (logs R.Journals R.Log.Journal)
         R.Medium.Disk R.makes R.opens R.shuts R.ends R.Loopback
         (seen R.Reader.remaining R.Reader.failure_count R.Writer.stream)
         (at_paths O.File.remaining O.File.failure_count (O.bytes_at paths.now))
@@ -155,6 +159,7 @@ where
     W: CountedFlush,
     E: CountedFlush,
     ensures { CarriesOut
+        (logs R.Journals R.Log.Journal)
         R.Medium.Disk R.makes R.opens R.shuts R.ends R.Loopback
         (seen R.Reader.remaining R.Reader.failure_count R.Writer.stream)
         (at_paths O.File.remaining O.File.failure_count (O.bytes_at paths.now))

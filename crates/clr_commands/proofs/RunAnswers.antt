@@ -6,6 +6,7 @@ use Rattle.clr_rules.specs.Good.{IsGood}
 use Rattle.clr_rules.specs.Register.{Register}
 use Rattle.clr_desk.specs.Faults.{FailsAsStore}
 use Rattle.clr_journaled.specs.Journaling.{FailsToo}
+use Rattle.clr_journaled.specs.declared.journaled.Journaled.{Journaled}
 use Rattle.clr_load.specs.declared.fault.StoreFault.{StoreFault}
 use Rattle.clr_load.specs.declared.fault.StoreFault.TheVariants as store
 use Rattle.sqlite.specs.Held.{Held, state}
@@ -16,11 +17,13 @@ use Rattle.clr_desk.specs.declared.desk_fault.DeskFault.{DeskFault}
 use Rattle.clr_desk.specs.declared.desk_fault.DeskFault.TheVariants as desk
 use Rattle.clr_edge.specs.Database.{HasRegister, IsOfLine, IsOnlyRead, IsRefused}
 use Rattle.clr_edge.specs.Fault.{of_desk, of_store}
-use Rattle.clr_edge.specs.Journals.{IsNotTakenUp, IsTakenUp}
+use Rattle.clr_edge.specs.Journals.{IsOfTakingUp}
+use Rattle.clr_edge.specs.TakenUp.{GoThrough, IsNotTakenUp, IsTakenUp, Logs}
 use Rattle.clr_edge.specs.Visit.{Done}
 use Rattle.clr_edge.specs.declared.fault.Fault.{Fault}
 use Rattle.clr_edge.specs.declared.fault.Fault.TheVariants.{Input}
 use Rattle.clr_edge.specs.declared.fault.InputFault.TheVariants.{ReadFailed}
+use Rattle.clr_edge.specs.declared.journals.Journals as journals
 use Rattle.clr_commands.specs.Answers.{Answers, IsMemory}
 use Rattle.clr_commands.specs.Faults.{FailsAsSubcommand, IsOfSubcommand}
 use Rattle.clr_commands.specs.Import.{FileRows}
@@ -65,12 +68,17 @@ desk-no_input desk.NoMemory fault is e = cc (sym is ∙ e)
 desk-no_input desk.Journal fault is e = cc (sym is ∙ e)
 desk-no_input (desk.Store cause) fault is e = of_store-no_input cause fault is e
 
-pub not_taken-no_input : {T : Type 0} (g : Ghosts T) (before after : Held T) (fault : Fault) → IsNotTakenUp g before fault after
-    → fault ≡ Input ReadFailed → ⊥
-not_taken-no_input g before after fault (inl (refused, survives)) e = of_store-no_input refused.fault fault refused.told_is e
-not_taken-no_input g before after fault (inr (inl (inl memory), S, kept)) e = cc (sym memory ∙ e)
-not_taken-no_input g before after fault (inr (inl (inr shut), S, kept)) e = cc (sym shut ∙ e)
-not_taken-no_input g before after fault (inr (inr (cause, is), S, kept)) e = desk-no_input cause fault is e
+taking_up-no_input : (fault : Fault) → IsOfTakingUp fault → fault ≡ Input ReadFailed → ⊥
+taking_up-no_input fault (inl (inl memory)) e = cc (sym memory ∙ e)
+taking_up-no_input fault (inl (inr shut)) e = cc (sym shut ∙ e)
+taking_up-no_input fault (inr (cause, is)) e = desk-no_input cause fault is e
+
+pub not_taken-no_input : {M J C T : Type 0} (g : Ghosts T) (at : journals.Ghosts M J C) (path : List ℕ) (old new : M) (before after : Held T) (fault : Fault)
+    → IsNotTakenUp g at path before fault after old new → fault ≡ Input ReadFailed → ⊥
+not_taken-no_input g at path old new before after fault (inl (refused, survives, same)) e = of_store-no_input refused.fault fault refused.told_is e
+not_taken-no_input g at path old new before after fault (inr (inl (inl memory, read, shuts))) e = cc (sym memory ∙ e)
+not_taken-no_input g at path old new before after fault (inr (inl (inr shut, read, shuts))) e = cc (sym shut ∙ e)
+not_taken-no_input g at path old new before after fault (inr (inr refused)) e = taking_up-no_input fault refused.of e
 
 -- nor is one of opening a database
 pub line-no_input : (fault : Fault) → IsOfLine fault → fault ≡ Input ReadFailed → ⊥
@@ -116,22 +124,28 @@ RunsFrom-run {T} {X} g store_of before after opened last R S input (Err fault) r
 }
 
 -- what a run over a desk with a journal leaves in the database
-pub RunsLoggedFrom-run : {T X : Type 0} (g : Ghosts T) (keeper_of : X → Held T) (before after : Held T) (opened last : X) (R S : Register) (input : Option (List ℕ))
-    (result : Result Printed Fault) → IsGood R → IsTakenUp g before (keeper_of opened) R → after ≡ keeper_of last
-    → RunsOnDesk (FailsToo FailsAsStore) (state g (keeper_of opened)) (state g (keeper_of last)) R S input result
-    → OnErr result (last ≡ opened) → RunsLoggedFrom g input result before after
-RunsLoggedFrom-run {T} {X} g keeper_of before after opened last R S input (Ok printed) good taken same (bytes, is_input, answers) none = record {
-  taken = keeper_of opened;
-  register = R;
-  good = good;
-  taken_up = taken;
-  left = S;
-  bytes = bytes;
-  is_input = is_input;
-  answers = subst (λ (h : Held T). AnswersOver (FailsToo FailsAsStore) (state g (keeper_of opened)) (state g h) R S bytes printed) (sym same) answers;
-}
-RunsLoggedFrom-run {T} {X} g keeper_of before after opened last R S input (Err fault) good taken same of none =
-    inr (of, R, subst (λ (h : Held T). IsTakenUp g before h R) (sym (same ∙ ap keeper_of none)) taken)
+pub RunsLoggedFrom-run : {M J C T X : Type 0} (logs : Logs M J C) (journal : List ℕ) (g : Ghosts T) (store_of : X → Journaled (Held T) J C) (old new : M)
+    (before after : Held T) (opened last : X) (R S : Register) (input : Option (List ℕ)) (result : Result Printed Fault) → IsGood R
+    → IsTakenUp g logs.steps journal old new before (store_of opened) R → after ≡ (store_of last).keeper
+    → GoThrough logs.log R (store_of opened) S (store_of last)
+    → RunsOnDesk (FailsToo FailsAsStore) (state g (store_of opened).keeper) (state g (store_of last).keeper) R S input result
+    → OnErr result (last ≡ opened) → RunsLoggedFrom logs journal g input result old before after new
+RunsLoggedFrom-run {M} {J} {C} {T} {X} logs journal g store_of old new before after opened last R S input (Ok printed) good taken same went
+    (bytes, is_input, answers) none = record {
+      taken = store_of opened;
+      register = R;
+      good = good;
+      taken_up = taken;
+      left = S;
+      ended = store_of last;
+      went = went;
+      after_is = same;
+      bytes = bytes;
+      is_input = is_input;
+      answers = subst (λ (h : Held T). AnswersOver (FailsToo FailsAsStore) (state g (store_of opened).keeper) (state g h) R S bytes printed) (sym same) answers;
+    }
+RunsLoggedFrom-run {M} {J} {C} {T} {X} logs journal g store_of old new before after opened last R S input (Err fault) good taken same went of none =
+    inr (of, R, store_of opened, taken, same ∙ ap (λ (x : X). (store_of x).keeper) none)
 
 -- over a desk whose changes are kept nowhere, no fault but want of memory ends it
 ended_memory : (ended : Option DeskFault) → IfSome ended (IsOfKeeper (λ _. ⊥)) → IfSome (option_map of_desk ended) IsMemory
@@ -198,21 +212,26 @@ FailsAsSubcommand-closed g before after input printed closed result is line runs
     subst (λ (r : Result Printed Fault). FailsAsSubcommand r) (sym is) (runs_plain g before after input printed closed line runs)
 
 -- the same with a journal
-not_taken_plain : {T : Type 0} (g : Ghosts T) (before after : Held T) (fault : Fault) → IsNotTakenUp g before fault after → IsOfSubcommand fault
-not_taken_plain g before after fault (inl (refused, survives)) = refused_plain g before after fault refused
-not_taken_plain g before after fault (inr (of, S, kept)) = taking_up_plain fault of
+not_taken_plain : {M J C T : Type 0} (g : Ghosts T) (at : journals.Ghosts M J C) (path : List ℕ) (old new : M) (before after : Held T) (fault : Fault)
+    → IsNotTakenUp g at path before fault after old new → IsOfSubcommand fault
+not_taken_plain g at path old new before after fault (inl (refused, survives, same)) = refused_plain g before after fault refused
+not_taken_plain g at path old new before after fault (inr (inl (of, read, shuts))) = taking_up_plain fault (inl of)
+not_taken_plain g at path old new before after fault (inr (inr refused)) = taking_up_plain fault refused.of
 
-logged_plain : {T : Type 0} (g : Ghosts T) (before after : Held T) (input : Option (List ℕ)) (printed : Result Printed Fault) (closed : Done)
-    → IfErr closed IsOfLine → RunsLoggedFrom g input printed before after → FailsAsSubcommand (printed_after printed closed)
-logged_plain g before after input (Ok run) closed line runs = ended_plain run.fault closed (answers_plain runs.answers.run) line
-logged_plain g before after input (Err fault) closed line (inl not) = not_taken_plain g before after fault not
-logged_plain g before after input (Err fault) closed line (inr (of, S, taken)) = input_plain input fault of
+module _ {M J C T : Type 0} (logs : Logs M J C) (journal : List ℕ) (g : Ghosts T) (old new : M) (before after : Held T) (input : Option (List ℕ))
+    (printed : Result Printed Fault) (closed : Done) where
+  logged_plain : IfErr closed IsOfLine → RunsLoggedFrom logs journal g input printed old before after new → FailsAsSubcommand (printed_after printed closed)
+  logged_plain line runs = by printed runs
+    where
+      by : (printed : Result Printed Fault) → RunsLoggedFrom logs journal g input printed old before after new
+          → FailsAsSubcommand (printed_after printed closed)
+      by (Ok run) runs = ended_plain run.fault closed (answers_plain runs.answers.run) line
+      by (Err fault) (inl not) = not_taken_plain g logs.steps journal old new before after fault not
+      by (Err fault) (inr (of, S, it, taken, same)) = input_plain input fault of
 
-pub FailsAsSubcommand-logged : {T : Type 0} (g : Ghosts T) (before after : Held T) (input : Option (List ℕ)) (printed : Result Printed Fault)
-    (closed : Done) (result : Result Printed Fault) → result ≡ printed_after printed closed → IfErr closed IsOfLine
-    → RunsLoggedFrom g input printed before after → FailsAsSubcommand result
-FailsAsSubcommand-logged g before after input printed closed result is line runs =
-    subst (λ (r : Result Printed Fault). FailsAsSubcommand r) (sym is) (logged_plain g before after input printed closed line runs)
+  pub FailsAsSubcommand-logged : (result : Result Printed Fault) → result ≡ printed_after printed closed → IfErr closed IsOfLine
+      → RunsLoggedFrom logs journal g input printed old before after new → FailsAsSubcommand result
+  FailsAsSubcommand-logged result is line runs = subst (λ (r : Result Printed Fault). FailsAsSubcommand r) (sym is) (logged_plain line runs)
 
 pub FailsAsSubcommand-passed : (result : Result Printed Fault) (fault : Fault) → IsErrAnd result (λ cause. cause ≡ fault) → IsOfSubcommand fault
     → FailsAsSubcommand result

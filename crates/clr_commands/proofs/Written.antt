@@ -24,12 +24,14 @@ use Rattle.clr_desk.specs.declared.desk_fault.DeskFault.{DeskFault}
 use Rattle.clr_desk.specs.declared.desk_fault.DeskFault.TheVariants as desk
 use Rattle.clr_edge.specs.Database.{IsOfLine, IsRefused}
 use Rattle.clr_edge.specs.Fault.{of_desk, of_store}
-use Rattle.clr_edge.specs.Journals.{IsNotTakenUp}
+use Rattle.clr_edge.specs.Journals.{IsOfTakingUp}
+use Rattle.clr_edge.specs.TakenUp.{IsNotTakenUp, Logs}
 use Rattle.clr_edge.specs.Logins.{is_employee, unless_unknown}
 use Rattle.clr_edge.specs.Loopback.{listen_fault}
 use Rattle.clr_edge.specs.Visit.{Copies, Done, Ending, Opening, Shutting, both}
 use Rattle.clr_edge.specs.declared.fault.Fault.{Fault}
 use Rattle.clr_edge.specs.declared.fault.Fault.TheVariants.{Output, UnknownEmployee}
+use Rattle.clr_edge.specs.declared.journals.Journals as journals
 use Rattle.clr_edge.specs.declared.loopback.Loopback as loopback
 use Rattle.clr_commands.specs.Connections.{ReportsConnection, ReportsFirst, Seen, TakesFirst, TakesNext, accept_fault}
 use Rattle.clr_commands.specs.Logins.{NamesLogins, terms_of, terms_with}
@@ -78,11 +80,17 @@ desk_other desk.NoMemory e = cc e
 desk_other desk.Journal e = cc e
 desk_other (desk.Store cause) e = store_other cause e
 
-not_taken_other : {T : Type 0} (g : Ghosts T) (before after : Held T) (fault : Fault) → IsNotTakenUp g before fault after → fault ≢ Output
-not_taken_other g before after fault (inl (refused, survives)) e = other_as fault _ refused.told_is (store_other refused.fault) e
-not_taken_other g before after fault (inr (inl (inl memory), S, kept)) e = cc (sym memory ∙ e)
-not_taken_other g before after fault (inr (inl (inr shut), S, kept)) e = cc (sym shut ∙ e)
-not_taken_other g before after fault (inr (inr (cause, is), S, kept)) e = other_as fault _ is (desk_other cause) e
+taking_up_other : (fault : Fault) → IsOfTakingUp fault → fault ≢ Output
+taking_up_other fault (inl (inl memory)) e = cc (sym memory ∙ e)
+taking_up_other fault (inl (inr shut)) e = cc (sym shut ∙ e)
+taking_up_other fault (inr (cause, is)) e = other_as fault _ is (desk_other cause) e
+
+not_taken_other : {M J C T : Type 0} (g : Ghosts T) (at : journals.Ghosts M J C) (path : List ℕ) (old new : M) (before after : Held T) (fault : Fault)
+    → IsNotTakenUp g at path before fault after old new → fault ≢ Output
+not_taken_other g at path old new before after fault (inl (refused, survives, same)) e = other_as fault _ refused.told_is (store_other refused.fault) e
+not_taken_other g at path old new before after fault (inr (inl (inl memory, read, shuts))) e = cc (sym memory ∙ e)
+not_taken_other g at path old new before after fault (inr (inl (inr shut, read, shuts))) e = cc (sym shut ∙ e)
+not_taken_other g at path old new before after fault (inr (inr refused)) e = taking_up_other fault refused.of e
 
 closed_other : {D : Type 0} (g : disk.Ghosts D) (c : Held (FileStore D g)) (last : FileStore D g) (files : Files D) (closed : Done)
     → Copies g c last files closed → IfErr closed (λ fault. fault ≢ Output)
@@ -169,41 +177,45 @@ module _ {M L R W : Type 0} (net : loopback.Ghosts M L R W) (seen : Seen R W) (o
       (over_written args logins over_files did.served visits.closed visits.middle visits.later visits.before visits.after did.serves
       (closed_other g visits.after left.last files visits.closed left.copies))
 
+module _ {M L R W J C : Type 0} (logs : Logs M J C) (net : loopback.Ghosts M L R W) (seen : Seen R W) (output output' errors errors' : Stream) where
   -- the same of a register with a journal
-  logged_written : {D : Type 0} (args : ServeArgs) (logins : Option (List LoginRow)) (g : Ghosts D) (served closed : Done) (new : M) (before after : Held D)
-      → ServesLogged net seen args logins output output' errors errors' g served new before after
+  logged_written : {D : Type 0} (args : ServeArgs) (logins : Option (List LoginRow)) (g : Ghosts D) (journal : List ℕ) (served closed : Done) (old new : M)
+      (before after : Held D) → ServesLogged logs net seen args logins output output' errors errors' g journal served old new before after
       → IfErr closed (λ fault. fault ≢ Output) → Writes args.port args.count (both served closed) output output' errors errors'
-  logged_written args logins g (Ok value) closed new before after (inl (not, same, quiet)) other = absurd not
-  logged_written args logins g (Err fault) closed new before after (inl (not, same, quiet)) other = inl (not_taken_other g before after fault not, same, quiet)
-  logged_written args logins g served closed new before after (inr taken) other =
-      asked_written args taken.keeper.register.staff logins taken.keeper taken.left served closed taken.between new taken.serves other
+  logged_written args logins g journal (Ok value) closed old new before after (inl (not, same, quiet)) other = absurd not
+  logged_written args logins g journal (Err fault) closed old new before after (inl (not, same, quiet)) other =
+      inl (not_taken_other g logs.steps journal old new before after fault not, same, quiet)
+  logged_written args logins g journal served closed old new before after (inr taken) other =
+      asked_written net seen output output' errors errors' args taken.keeper.register.staff logins taken.keeper taken.left served closed taken.between new
+      taken.serves other
 
   logged_path_written : {D : Type 0} (args : ServeArgs) (logins : Option (List LoginRow)) (g : disk.Ghosts D) (opens : Opening M D) (shuts : Shutting M)
-      (ends : Ending M D) (path : List ℕ) (result : Done) (old new : M)
-      → ServesLoggedPath net seen args logins output output' errors errors' g opens shuts ends path result old new
+      (ends : Ending M D) (journal path : List ℕ) (result : Done) (old new : M)
+      → ServesLoggedPath logs net seen args logins output output' errors errors' g opens shuts ends journal path result old new
       → Writes args.port args.count result output output' errors errors'
-  logged_path_written args logins g opens shuts ends path result old new (inl (fault, is, line, (shut, same, quiet))) =
-      unserved_written args.port args.count fault result (line_other fault line) is same quiet
-  logged_path_written args logins g opens shuts ends path result old new (inr visits) =
+  logged_path_written args logins g opens shuts ends journal path result old new (inl (fault, is, line, (shut, same, quiet))) =
+      unserved_written net seen output output' errors errors' args.port args.count fault result (line_other fault line) is same quiet
+  logged_path_written args logins g opens shuts ends journal path result old new (inr visits) =
       let (files, left, back) = visits.ended in
       let did = visits.does in
       subst (λ (r : Done). Writes args.port args.count r output output' errors errors') (sym did.result_is)
-      (logged_written args logins over_files did.served visits.closed visits.later visits.before visits.after did.serves
+      (logged_written args logins over_files journal did.served visits.closed visits.middle visits.later visits.before visits.after did.serves
       (closed_other g visits.after left.last files visits.closed left.copies))
 
-  kept_written : {X D : Type 0} (args : ServeArgs) (logins : Option (List LoginRow)) (g : disk.Ghosts D) (opens : Opening M D) (shuts : Shutting M)
-      (ends : Ending M D) (journal : Option X) (path : List ℕ) (result : Done) (old new : M)
-      → ServesKept net seen args logins output output' errors errors' g opens shuts ends journal path result old new
+  kept_written : {D : Type 0} (args : ServeArgs) (logins : Option (List LoginRow)) (g : disk.Ghosts D) (opens : Opening M D) (shuts : Shutting M)
+      (ends : Ending M D) (journal : Option (Bor (List ℕ))) (path : List ℕ) (result : Done) (old new : M)
+      → ServesKept logs net seen args logins output output' errors errors' g opens shuts ends journal path result old new
       → Writes args.port args.count result output output' errors errors'
-  kept_written args logins g opens shuts ends None path result old new did = path_written args logins g opens shuts ends path result old new did
+  kept_written args logins g opens shuts ends None path result old new did =
+      path_written net seen output output' errors errors' args logins g opens shuts ends path result old new did
   kept_written args logins g opens shuts ends (Some journal) path result old new did =
-      logged_path_written args logins g opens shuts ends path result old new did
+      logged_path_written args logins g opens shuts ends journal.now path result old new did
 
   -- what `serve` wrote
   pub serve_written : {D : Type 0} (at : AtPaths) (args : ServeArgs) (g : disk.Ghosts D) (opens : Opening M D) (shuts : Shutting M) (ends : Ending M D)
-      (result : Done) (old new : M) → ServesAt net seen at args output output' errors errors' g opens shuts ends result old new
+      (result : Done) (old new : M) → ServesAt logs net seen at args output output' errors errors' g opens shuts ends result old new
       → Writes args.port args.count result output output' errors errors'
   serve_written at args g opens shuts ends result old new (Ok logins, named, did) =
       kept_written args logins g opens shuts ends args.journal args.database.now result old new did
   serve_written at args g opens shuts ends result old new (Err fault, named, (is, untouched, same, quiet)) =
-      unserved_written args.port args.count fault result (named_other at args.logins fault named) is same quiet
+      unserved_written net seen output output' errors errors' args.port args.count fault result (named_other at args.logins fault named) is same quiet

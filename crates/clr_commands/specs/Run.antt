@@ -1,6 +1,7 @@
 -- What `run` prints over a register, and over the opening one of its three files.
 use Rattle.std.specs.Prelude.{◌≡◌, ◌⊎◌, ◌<◌, ◌≤◌, ℕ, List, Option, Some, None, option_map}
 use Rattle.std.specs.Prelude.{Result, Ok, Err, IfErr, IfSome, IsErrOf, length}
+use Rattle.std.specs.Borrow.{Bor}
 use Rattle.clr_net.specs.Grid.{Grid}
 use Rattle.clr_net.specs.Network as network
 use Rattle.clr_staff.specs.Staff as staff
@@ -12,6 +13,7 @@ use Rattle.clr_rules.specs.declared.reply.Reply.{Reply}
 use Rattle.clr_desk.specs.Faults.{FailsAsStore}
 use Rattle.clr_desk.specs.declared.desk_fault.DeskFault.{DeskFault}
 use Rattle.clr_journaled.specs.Journaling.{FailsToo}
+use Rattle.clr_journaled.specs.declared.journaled.Journaled.{Journaled}
 use Rattle.sqlite.specs.Files.{over_files}
 use Rattle.sqlite.specs.Held.{Held, state}
 use Rattle.sqlite.specs.State.{HasCleanDisk, State}
@@ -23,7 +25,7 @@ use Rattle.clr_args.specs.declared.asked.RunArgs.TheVariants as over
 use Rattle.clr_args.specs.declared.asked.StoredArgs.{StoredArgs}
 use Rattle.clr_edge.specs.Answers.{unless}
 use Rattle.clr_edge.specs.Database.{HasRegister, IsOfLine, IsOnlyRead}
-use Rattle.clr_edge.specs.Journals.{IsNotTakenUp, IsTakenUp}
+use Rattle.clr_edge.specs.TakenUp.{GoThrough, IsNotTakenUp, IsTakenUp, Logs}
 use Rattle.clr_edge.specs.Visit.{Alone, Comes, Done, Ending, Opening, Shutting}
 use Rattle.clr_edge.specs.Fault.{of_network, of_staff}
 use Rattle.clr_edge.specs.declared.fault.Fault.{Fault}
@@ -153,52 +155,61 @@ pub record RunsStored {T : Type 0} (g : Ghosts T) (input : Option (List ℕ))
 
 -- ---- over a stored register with a journal
 
--- WHAT A RUN WITH A JOURNAL LEAVES IN A DATABASE: its register was taken up with the journal, and the
--- input was answered over it
-pub record RunsWithin {T : Type 0} (g : Ghosts T) (before after : Held T) (input : Option (List ℕ))
-    (printed : Printed) : Type 0 where
-  pub taken : Held T
-  pub register : Register
-  pub good : IsGood register
-  pub taken_up : IsTakenUp g before taken register
-  pub left : Register
-  pub bytes : List ℕ
-  pub is_input : IsInput input bytes
-  pub answers : AnswersOver (FailsToo FailsAsStore) (state g taken) (state g after) register left
-      bytes printed
+-- a machine that opens journals, and the path of one
+module _ {M J C : Type 0} (logs : Logs M J C) (journal : List ℕ) where
+  -- WHAT A RUN WITH A JOURNAL LEAVES IN A DATABASE: its register was taken up with the journal at the
+  -- path, and the input was answered over it, through the journal
+  pub record RunsWithin {T : Type 0} (g : Ghosts T) (old new : M) (before after : Held T)
+      (input : Option (List ℕ)) (printed : Printed) : Type 0 where
+    pub taken : Journaled (Held T) J C
+    pub register : Register
+    pub good : IsGood register
+    pub taken_up : IsTakenUp g logs.steps journal old new before taken register
+    pub left : Register
+    pub ended : Journaled (Held T) J C
+    pub went : GoThrough logs.log register taken left ended
+    pub after_is : after ≡ ended.keeper
+    pub bytes : List ℕ
+    pub is_input : IsInput input bytes
+    pub answers : AnswersOver (FailsToo FailsAsStore) (state g taken.keeper) (state g after)
+        register left bytes printed
 
--- a run that answers nothing: the register was not taken up, or the input was not read
-abbrev pub RunsUnlogged : {T : Type 0} → Ghosts T → Held T → Held T → Option (List ℕ) → Fault
-    → Type 0
-RunsUnlogged g before after input fault = IsNotTakenUp g before fault after
-    ⊎ (IsOfInput input fault × (S : Register) × IsTakenUp g before after S)
+  -- a run that answers nothing: the register was not taken up, or the input was not read
+  abbrev pub RunsUnlogged : {T : Type 0} → Ghosts T → M → M → Held T → Held T → Option (List ℕ)
+      → Fault → Type 0
+  RunsUnlogged {T} g old new before after input fault =
+      IsNotTakenUp g logs.steps journal before fault after old new
+      ⊎ (IsOfInput input fault × (S : Register) × (it : Journaled (Held T) J C)
+      × IsTakenUp g logs.steps journal old new before it S × (after ≡ it.keeper))
 
-abbrev pub RunsLoggedFrom : {T : Type 0} → Ghosts T → Option (List ℕ) → Result Printed Fault
-    → Held T → Held T → Type 0
-RunsLoggedFrom g input (Ok printed) before after = RunsWithin g before after input printed
-RunsLoggedFrom g input (Err fault) before after = RunsUnlogged g before after input fault
+  abbrev pub RunsLoggedFrom : {T : Type 0} → Ghosts T → Option (List ℕ) → Result Printed Fault
+      → M → Held T → Held T → M → Type 0
+  RunsLoggedFrom g input (Ok printed) old before after new =
+      RunsWithin g old new before after input printed
+  RunsLoggedFrom g input (Err fault) old before after new =
+      RunsUnlogged g old new before after input fault
 
--- the same of a database that is closed after it. Of the steps by which the journal was opened
--- nothing is said
-pub record RunsLogged {M T : Type 0} (g : Ghosts T) (input : Option (List ℕ))
-    (result : Result Printed Fault) (middle : M) (before after : Held T) (closed : Done) (later : M)
-    : Type 0 where
-  pub printed : Result Printed Fault
-  pub runs : RunsLoggedFrom g input printed before after
-  pub closing : IfErr closed IsOfLine
-  pub result_is : result ≡ printed_after printed closed
+  -- the same of a database that is closed after it. Nothing is opened but the journal
+  pub record RunsLogged {T : Type 0} (g : Ghosts T) (input : Option (List ℕ))
+      (result : Result Printed Fault) (middle : M) (before after : Held T) (closed : Done)
+      (later : M) : Type 0 where
+    pub printed : Result Printed Fault
+    pub runs : RunsLoggedFrom g input printed middle before after later
+    pub closing : IfErr closed IsOfLine
+    pub result_is : result ≡ printed_after printed closed
 
 -- with a journal or without one
-abbrev pub RunsOver : {X M T : Type 0} → Ghosts T → Option X → Option (List ℕ)
-    → Result Printed Fault → M → Held T → Held T → Done → M → Type 0
-RunsOver g None input = Alone (RunsStored g input)
-RunsOver g (Some journal) input = RunsLogged g input
+abbrev pub RunsOver : {M J C T : Type 0} → Logs M J C → Ghosts T → Option (Bor (List ℕ))
+    → Option (List ℕ) → Result Printed Fault → M → Held T → Held T → Done → M → Type 0
+RunsOver logs g None input = Alone (RunsStored g input)
+RunsOver logs g (Some journal) input = RunsLogged logs journal.now g input
 
 -- over the database at a path, which is closed after it
-abbrev pub RunsKept : {M D : Type 0} → (g : disk.Ghosts D) → Opening M D → Shutting M → Ending M D
-    → Option (List ℕ) → StoredArgs → Result Printed Fault → M → M → Type 0
-RunsKept g opens shuts ends input args = Comes g opens shuts ends args.database.now
-    (RunsOver over_files args.journal input)
+abbrev pub RunsKept : {M J C D : Type 0} → Logs M J C → (g : disk.Ghosts D) → Opening M D
+    → Shutting M → Ending M D → Option (List ℕ) → StoredArgs → Result Printed Fault → M → M
+    → Type 0
+RunsKept logs g opens shuts ends input args = Comes g opens shuts ends args.database.now
+    (RunsOver logs over_files args.journal input)
 
 -- what `run` answers of what it was asked for: three files, and no database is opened; or a
 -- database, where `Comes` says how

@@ -2,6 +2,7 @@
 -- the connections that come from the register that the database has, and closes it.
 use Rattle.std.specs.Prelude.{◌≡◌, ◌⊎◌, ℕ, List, [], ◌∷◌, ◌++◌, codes, decimal}
 use Rattle.std.specs.Prelude.{IsErrAnd, None, OnErr, Option, Some, Result, Ok, Err}
+use Rattle.std.specs.Borrow.{Bor}
 use Rattle.sqlite.specs.Files.{over_files}
 use Rattle.sqlite.specs.Held.{Held, state}
 use Rattle.sqlite.specs.State.{HasCleanDisk}
@@ -12,11 +13,12 @@ use Rattle.clr_rules.specs.Good.{IsGood}
 use Rattle.clr_rules.specs.Register.{Register}
 use Rattle.clr_logins.specs.declared.logins.LoginRow.{LoginRow}
 use Rattle.clr_desk.specs.Kept.{Keeps}
+use Rattle.clr_journaled.specs.declared.journaled.Journaled.{Journaled}
 use Rattle.clr_http.specs.Registrar.{Keeper}
 use Rattle.clr_http.specs.RequestLaws.{ComesWithin}
 use Rattle.clr_args.specs.declared.asked.ServeArgs.{ServeArgs}
 use Rattle.clr_edge.specs.Database.{HasRegister, IsOfLine, IsOnlyRead}
-use Rattle.clr_edge.specs.Journals.{IsNotTakenUp, IsTakenUp}
+use Rattle.clr_edge.specs.TakenUp.{GoThrough, IsNotTakenUp, IsTakenUp, Logs}
 use Rattle.clr_edge.specs.Loopback.{RefusesOn, StandsOn}
 use Rattle.clr_edge.specs.Visit.{Comes, Done, Ending, Opening, Shutting, both}
 use Rattle.clr_edge.specs.declared.fault.Fault.{Fault}
@@ -105,54 +107,66 @@ module _ {M L R W : Type 0} (net : loopback.Ghosts M L R W) (seen : Seen R W) (a
       (λ old path fault new. shuts old path fault new × (output' ≡ output) × (errors' ≡ errors))
       ends path (ServesStored over_files)
 
-  -- THE REGISTER OF A DATABASE WAS TAKEN UP WITH ITS JOURNAL and served in the same way. Of the steps
-  -- by which the journal was opened nothing is said
-  pub record ServesTaken {D : Type 0} (g : Ghosts D) (served : Done) (new : M)
-      (before after : Held D) : Type 0 where
-    pub taken : Held D
-    pub between : M
-    pub keeper : Keeper
-    pub good : IsGood keeper.register
-    pub taken_up : IsTakenUp g before taken keeper.register
-    pub left : Keeper
-    pub serves : ServesOn net seen output output' errors errors'
-        (terms_of args keeper.register.staff logins) keeper left served between new
-    pub goes_on : ComesWithin args.count keeper.register left.register
-    pub keeps : Keeps (state g taken) keeper.register (state g after) left.register
-    pub unserved : OnErr served (after ≡ taken)
+-- the same of a machine that opens journals
+module _ {M L R W J C : Type 0} (logs : Logs M J C) (net : loopback.Ghosts M L R W) (seen : Seen R W)
+    (args : ServeArgs) (logins : Option (List LoginRow)) (output output' errors errors' : Stream)
+  where
+    -- THE REGISTER OF A DATABASE WAS TAKEN UP WITH THE JOURNAL AT A PATH, and served in the same way.
+    -- Its commands went through the journal
+    pub record ServesTaken {D : Type 0} (g : Ghosts D) (journal : List ℕ) (served : Done) (old new : M)
+        (before after : Held D) : Type 0 where
+      pub taken : Journaled (Held D) J C
+      pub between : M
+      pub keeper : Keeper
+      pub good : IsGood keeper.register
+      pub taken_up : IsTakenUp g logs.steps journal old between before taken keeper.register
+      pub left : Keeper
+      pub ended : Journaled (Held D) J C
+      pub serves : ServesOn net seen output output' errors errors'
+          (terms_of args keeper.register.staff logins) keeper left served between new
+      pub goes_on : ComesWithin args.count keeper.register left.register
+      pub went : GoThrough logs.log keeper.register taken left.register ended
+      pub after_is : after ≡ ended.keeper
+      pub keeps : Keeps (state g taken.keeper) keeper.register (state g after) left.register
+      pub unserved : OnErr served (ended ≡ taken)
 
-  -- the same, unless it was not taken up, and then nothing more was done
-  abbrev pub ServesLogged : {D : Type 0} → Ghosts D → Done → M → Held D → Held D → Type 0
-  ServesLogged g served new before after =
-      (IsErrAnd served (λ fault. IsNotTakenUp g before fault after) × (output' ≡ output)
-      × (errors' ≡ errors)) ⊎ ServesTaken g served new before after
+    -- the same, unless it was not taken up, and then nothing more was done
+    abbrev pub ServesLogged : {D : Type 0} → Ghosts D → List ℕ → Done → M → M → Held D → Held D
+        → Type 0
+    ServesLogged g journal served old new before after = (IsErrAnd served (λ fault.
+        IsNotTakenUp g logs.steps journal before fault after old new) × (output' ≡ output)
+        × (errors' ≡ errors)) ⊎ ServesTaken g journal served old new before after
 
-  pub record ServesWithJournal {D : Type 0} (g : Ghosts D) (result : Done) (old : M)
-      (before after : Held D) (closed : Done) (new : M) : Type 0 where
-    pub served : Done
-    pub serves : ServesLogged g served new before after
-    pub result_is : result ≡ both served closed
+    -- the same of a database that is closed after it
+    pub record ServesWithJournal {D : Type 0} (g : Ghosts D) (journal : List ℕ) (result : Done)
+        (old : M) (before after : Held D) (closed : Done) (new : M) : Type 0 where
+      pub served : Done
+      pub serves : ServesLogged g journal served old new before after
+      pub result_is : result ≡ both served closed
 
-  abbrev pub ServesLoggedPath : {D : Type 0} → (g : disk.Ghosts D) → Opening M D → Shutting M
-      → Ending M D → List ℕ → Done → M → M → Type 0
-  ServesLoggedPath g opens shuts ends path = Comes g opens
-      (λ old path fault new. shuts old path fault new × (output' ≡ output) × (errors' ≡ errors))
-      ends path (ServesWithJournal over_files)
+    -- what is done over the database at a path, with a journal or without one; where that was not
+    -- opened nothing went out
+    abbrev pub ServesLoggedPath : {D : Type 0} → (g : disk.Ghosts D) → Opening M D → Shutting M
+        → Ending M D → List ℕ → List ℕ → Done → M → M → Type 0
+    ServesLoggedPath g opens shuts ends journal path = Comes g opens
+        (λ old path fault new. shuts old path fault new × (output' ≡ output) × (errors' ≡ errors))
+        ends path (ServesWithJournal over_files journal)
 
-  -- with a journal or without one
-  abbrev pub ServesKept : {X D : Type 0} → (g : disk.Ghosts D) → Opening M D → Shutting M → Ending M D
-      → Option X → List ℕ → Done → M → M → Type 0
-  ServesKept g opens shuts ends None path = ServesPath g opens shuts ends path
-  ServesKept g opens shuts ends (Some journal) path = ServesLoggedPath g opens shuts ends path
+    abbrev pub ServesKept : {D : Type 0} → (g : disk.Ghosts D) → Opening M D → Shutting M
+        → Ending M D → Option (Bor (List ℕ)) → List ℕ → Done → M → M → Type 0
+    ServesKept g opens shuts ends None path =
+        ServesPath net seen args logins output output' errors errors' g opens shuts ends path
+    ServesKept g opens shuts ends (Some journal) path =
+        ServesLoggedPath g opens shuts ends journal.now path
 
 -- WHAT `serve` DOES: it reads the file of logins, if one is named, before it opens the database, and
 -- opens none where that file has a fault
-module _ {M D L R W : Type 0} (net : loopback.Ghosts M L R W) (seen : Seen R W) (at : AtPaths)
-    (args : ServeArgs) (output output' errors errors' : Stream) (g : disk.Ghosts D)
-    (opens : Opening M D) (shuts : Shutting M) (ends : Ending M D) where
+module _ {M D L R W J C : Type 0} (logs : Logs M J C) (net : loopback.Ghosts M L R W)
+    (seen : Seen R W) (at : AtPaths) (args : ServeArgs) (output output' errors errors' : Stream)
+    (g : disk.Ghosts D) (opens : Opening M D) (shuts : Shutting M) (ends : Ending M D) where
   abbrev pub ServesRead : Result (Option (List LoginRow)) Fault → Done → M → M → Type 0
-  ServesRead (Ok logins) served old new = ServesKept net seen args logins output output' errors
-      errors' g opens shuts ends args.journal args.database.now served old new
+  ServesRead (Ok logins) served old new = ServesKept logs net seen args logins output output'
+      errors errors' g opens shuts ends args.journal args.database.now served old new
   ServesRead (Err fault) served old new =
       IsUnserved net seen output output' errors errors' fault served old new
 

@@ -12,6 +12,7 @@ ghost use Rattle.clr_commands.specs.Run.{IsInput, IsOfInput, IsOpeningOf, ReadsI
 ghost use Rattle.clr_commands.specs.Run.{RunsAt, RunsFrom, RunsKept, RunsLogged, RunsLoggedFrom};
 ghost use Rattle.clr_commands.specs.Run.{RunsOnDesk, RunsStored};
 ghost use Rattle.clr_commands.specs.Run.{ended_by, printed_after, rows_fault};
+ghost use Rattle.clr_edge.specs.TakenUp.{logs};
 ghost use Rattle.clr_edge.specs.Visit.{Alone, Comes};
 
 use crate::import::{Rows, rows_at};
@@ -20,8 +21,9 @@ use clr_args::asked::{Files, RunArgs, StoredArgs};
 use clr_desk::{Commit, Desk, Unkept};
 use clr_edge::database::{Databases, close, desk_over};
 use clr_edge::fault::{Fault, InputFault};
-use clr_edge::journals::{Journals, journaled_desk};
+use clr_edge::journals::Journals;
 use clr_edge::paths::Opens;
+use clr_edge::taking_up::journaled_desk;
 use clr_net::Network;
 use clr_staff::Staff;
 use clr_stream::{CountedRead, read_whole};
@@ -41,8 +43,8 @@ pub fn run<'a, R: Databases + Journals, O: Opens<'a>, I: CountedRead>(
 ) -> Result<Printed, Fault>
     ensures visit { RunsAsked
         (at_paths O.File.remaining O.File.failure_count (O.bytes_at paths.now))
-        (RunsKept R.Medium.Disk R.opens R.shuts R.ends (I.remaining input.old)) args.now
-        (I.remaining input.old) result rt.old rt.new }
+        (RunsKept (logs R.Journals R.Log.Journal) R.Medium.Disk R.opens R.shuts R.ends
+        (I.remaining input.old)) args.now (I.remaining input.old) result rt.old rt.new }
     ensures input { ReadsInput (I.remaining input.old) (I.failure_count input.old)
         (I.failure_count input.new) input.old input.new result }
     ensures faults { FailsAsSubcommand result }
@@ -61,8 +63,8 @@ fn run_stored<R: Databases + Journals, I: CountedRead>(
     args: &StoredArgs<'_>,
     input: &mut I,
 ) -> Result<Printed, Fault>
-    ensures visit { RunsKept R.Medium.Disk R.opens R.shuts R.ends (I.remaining input.old) args.now
-        result rt.old rt.new }
+    ensures visit { RunsKept (logs R.Journals R.Log.Journal) R.Medium.Disk R.opens R.shuts R.ends
+        (I.remaining input.old) args.now result rt.old rt.new }
     ensures input { ReadsInput (I.remaining input.old) (I.failure_count input.old)
         (I.failure_count input.new) input.old input.new result }
     ensures faults { FailsAsSubcommand result }
@@ -84,7 +86,8 @@ pub fn run_with_journal<R: Databases + Journals, I: CountedRead>(
     input: &mut I,
 ) -> Result<Printed, Fault>
     ensures visit { Comes R.Medium.Disk R.opens R.shuts R.ends path.now
-        (RunsLogged over_files (I.remaining input.old)) result rt.old rt.new }
+        (RunsLogged (logs R.Journals R.Log.Journal) journal.now over_files
+        (I.remaining input.old)) result rt.old rt.new }
     ensures input { ReadsInput (I.remaining input.old) (I.failure_count input.old)
         (I.failure_count input.new) input.old input.new result }
     ensures faults { FailsAsSubcommand result }
@@ -104,7 +107,8 @@ fn run_logged<S: Alter + Drop, L: Journals, I: CountedRead>(
     journal: &str,
     input: &mut I,
 ) -> (Result<Printed, Fault>, Connection<S>)
-    ensures runs { RunsLoggedFrom S.Store (I.remaining input.old) result.0 connection result.1 }
+    ensures runs { RunsLoggedFrom (logs L.Journals L.Log.Journal) journal.now S.Store
+        (I.remaining input.old) result.0 rt.old connection result.1 rt.new }
     ensures input { ReadsInput (I.remaining input.old) (I.failure_count input.old)
         (I.failure_count input.new) input.old input.new result.0 }
 {

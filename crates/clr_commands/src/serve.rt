@@ -1,6 +1,7 @@
 //! The subcommand `serve`: the register of a database, answered over HTTP.
 ghost use Rattle.std.specs.Prelude.{◌≡◌, OnErr};
 ghost use Rattle.std.specs.IoError.{error_kind};
+ghost use Rattle.clr_edge.specs.TakenUp.{logs};
 ghost use Rattle.clr_edge.specs.Visit.{both};
 ghost use Rattle.clr_rules.specs.Good.{IsGood};
 ghost use Rattle.clr_commands.specs.Connections.{ReportsConnection, Serves, TakesFirst, TakesNext};
@@ -16,11 +17,12 @@ use clr_args::asked::ServeArgs;
 use clr_edge::database::{Databases, close, desk_over};
 use clr_edge::fault::Fault;
 use clr_edge::files::logins_from;
-use clr_edge::journals::{Journals, journaled_desk};
+use clr_edge::journals::Journals;
 use clr_edge::logins::known_logins;
 use clr_edge::loopback::{Connection, Loopback, listen};
 use clr_edge::output::write_out;
 use clr_edge::paths::Opens;
+use clr_edge::taking_up::journaled_desk;
 use clr_http::{HttpFault, Registrar, Served, Service, serve_request};
 use clr_logins::Logins;
 use clr_rules::laws::run_headline::headline_holds_of_runs;
@@ -64,7 +66,7 @@ pub fn serve<
     output: &mut W,
     errors: &mut E,
 ) -> Result<(), Fault>
-    ensures visit { ServesAt R.Loopback
+    ensures visit { ServesAt (logs R.Journals R.Log.Journal) R.Loopback
         (seen R.Reader.remaining R.Reader.failure_count R.Writer.stream)
         (at_paths O.File.remaining O.File.failure_count (O.bytes_at paths.now)) args.now
         (W.stream output.old) (W.stream output.new) (E.stream errors.old) (E.stream errors.new)
@@ -83,7 +85,7 @@ fn serve_kept<R: Databases + Journals + Loopback, W: CountedFlush, E: CountedFlu
     output: &mut W,
     errors: &mut E,
 ) -> Result<(), Fault>
-    ensures visit { ServesKept R.Loopback
+    ensures visit { ServesKept (logs R.Journals R.Log.Journal) R.Loopback
         (seen R.Reader.remaining R.Reader.failure_count R.Writer.stream) args.now logins
         (W.stream output.old) (W.stream output.new) (E.stream errors.old) (E.stream errors.new)
         R.Medium.Disk R.opens R.shuts R.ends args.now.journal args.now.database.now result
@@ -106,10 +108,11 @@ fn serve_with_journal<R: Databases + Journals + Loopback, W: CountedFlush, E: Co
     output: &mut W,
     errors: &mut E,
 ) -> Result<(), Fault>
-    ensures visit { ServesLoggedPath R.Loopback
+    ensures visit { ServesLoggedPath (logs R.Journals R.Log.Journal) R.Loopback
         (seen R.Reader.remaining R.Reader.failure_count R.Writer.stream) args.now logins
         (W.stream output.old) (W.stream output.new) (E.stream errors.old) (E.stream errors.new)
-        R.Medium.Disk R.opens R.shuts R.ends args.now.database.now result rt.old rt.new }
+        R.Medium.Disk R.opens R.shuts R.ends journal.now args.now.database.now result
+        rt.old rt.new }
 {
     let found = rt.stored(args.database)?;
     let (served, connection) = serve_logged(
@@ -130,10 +133,10 @@ fn serve_logged<S: Alter + Drop, L: Loopback + Journals, W: CountedFlush, E: Cou
     output: &mut W,
     errors: &mut E,
 ) -> (Result<(), Fault>, sqlite::Connection<S>)
-    ensures served { ServesLogged L.Loopback
+    ensures served { ServesLogged (logs L.Journals L.Log.Journal) L.Loopback
         (seen L.Reader.remaining L.Reader.failure_count L.Writer.stream) args.now logins
         (W.stream output.old) (W.stream output.new) (E.stream errors.old) (E.stream errors.new)
-        S.Store result.0 net.new connection result.1 }
+        S.Store journal.now result.0 net.old net.new connection result.1 }
 {
     match journaled_desk(alloc, net, connection, journal) {
         Ok(mut desk) => {

@@ -2,6 +2,7 @@ use Rattle.std.proofs.Common.{◌≡◌, inl, refl}
 use Rattle.sqlite.specs.Held.{Held}
 use Rattle.clr_desk.specs.declared.desk.Desk.{Desk}
 use Rattle.clr_journaled.specs.declared.journaled.Journaled.{Journaled}
+use Rattle.clr_edge.specs.TakenUp.{logs}
 use Rattle.clr_commands.proofs.RunAnswers.{ReadsInput-desk, RunsLoggedFrom-run, not_taken-no_input}
 use Rattle.clr_commands.proofs.run.run_logged.Goals as goal
 
@@ -9,9 +10,11 @@ use Rattle.clr_commands.proofs.run.run_logged.Goals as goal
 pub returns-in-Ok-clause-runs : goal.returns-in-Ok-clause-runs
 returns-in-Ok-clause-runs g c =
     let same : c.end-in-Ok-2.result ≡ c.run_over-printed.new.desk.store.keeper = cc in
-    RunsLoggedFrom-run g.S.Store (λ (desk : Desk (Journaled (Held g.row.S.Denot) _ _)). desk.store.keeper) c.args.connection c.end-in-Ok-2.result c.in-Ok.desk
+    RunsLoggedFrom-run (logs g.L.Journals g.L.Log.Journal) c.args.journal.now g.S.Store (λ (desk : Desk (Journaled (Held g.row.S.Denot) _ _)). desk.store)
+    c.args.rt.now c.journaled_desk.new.rt c.args.connection c.end-in-Ok-2.result c.in-Ok.desk
     c.run_over-printed.new.desk c.in-Ok.desk.book.register c.run_over-printed.new.desk.book.register _ c.run_over-printed.result c.in-Ok.ensures.good
-    c.in-Ok.ensures.taken_up same c.run_over-printed.ensures.answer c.run_over-printed.ensures.none
+    c.in-Ok.ensures.taken_up same (c.run_over-printed.ensures.led.given, c.run_over-printed.ensures.led.are_given)
+    c.run_over-printed.ensures.answer c.run_over-printed.ensures.none
 
 pub returns-in-Ok-clause-input : goal.returns-in-Ok-clause-input
 returns-in-Ok-clause-input g c =
@@ -24,6 +27,6 @@ returns-in-Err-clause-runs g c = inl c.in-Err.ensures.not
 -- the input is not read then
 pub returns-in-Err-clause-input : goal.returns-in-Err-clause-input
 returns-in-Err-clause-input g c = record {
-  cause = λ is. absurd (not_taken-no_input g.S.Store c.args.connection c.in-Err.connection c.in-Err.fault c.in-Err.ensures.not (cc is));
+  cause = λ is. absurd (not_taken-no_input g.S.Store g.L.Journals c.args.journal.now c.args.rt.now c.journaled_desk.new.rt c.args.connection c.in-Err.connection c.in-Err.fault c.in-Err.ensures.not (cc is));
   waits = inl refl;
 }

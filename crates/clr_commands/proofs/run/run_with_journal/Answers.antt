@@ -1,4 +1,6 @@
 use Rattle.std.proofs.Common.{inr, refl}
+use Rattle.sqlite.specs.Files.{over_files}
+use Rattle.clr_edge.specs.TakenUp.{logs}
 use Rattle.clr_commands.proofs.Faults.{line_plain}
 use Rattle.clr_commands.proofs.RunAnswers.{FailsAsSubcommand-logged, FailsAsSubcommand-passed, ReadsInput-closed, ReadsInput-other, line-no_input}
 use Rattle.clr_commands.proofs.run.run_with_journal.Goals as goal
@@ -27,7 +29,8 @@ returns-clause-input g c =
 
 pub returns-clause-faults : goal.returns-clause-faults
 returns-clause-faults g c =
-    FailsAsSubcommand-logged _ _ _ _ c.run_logged-printed.result.0 c.close-closed.result _ c.printed_after.ensures c.close-closed.ensures.fault
+    FailsAsSubcommand-logged (logs g.R.Journals g.R.Log.Journal) c.args.journal.now over_files _ _ _ _ _ c.run_logged-printed.result.0 c.close-closed.result _
+    c.printed_after.ensures c.close-closed.ensures.fault
     c.run_logged-printed.ensures.runs
 
 -- the database was not opened

@@ -27,20 +27,23 @@ returns-in-Ok g c =
     t first last c.serve_on-served.result c.journaled_desk.new.rt c.serve_on-served.new.net) terms c.serve_on-served.ensures.served in
     record {
       served = inr (record {
-        taken = c.in-Ok.desk.store.keeper;
+        taken = c.in-Ok.desk.store;
         between = c.journaled_desk.new.rt;
         keeper = first;
         good = c.in-Ok.ensures.good;
         taken_up = c.in-Ok.ensures.taken_up;
         left = last;
+        ended = c.serve_on-served.new.desk.store;
         serves = serves;
+        went = (c.serve_on-served.ensures.led.given, c.serve_on-served.ensures.led.are_given);
+        after_is = same;
         goes_on = asked_within g.L.Loopback (seen g.L.Reader.Read.remaining g.L.Reader.CountedRead.failure_count g.L.Writer.CountedWrite.stream)
             c.args.args.now c.args.logins (g.W.CountedWrite.stream c.args.output.now) (g.W.CountedWrite.stream c.serve_on-served.new.output)
             (g.E.CountedWrite.stream c.args.errors.now) (g.E.CountedWrite.stream c.serve_on-served.new.errors) first last c.serve_on-served.result
             c.journaled_desk.new.rt c.serve_on-served.new.net serves c.in-Ok.ensures.good;
         keeps = subst (λ (h : Held g.row.S.Denot). Keeps (state g.S.Store c.in-Ok.desk.store.keeper) c.in-Ok.desk.book.register (state g.S.Store h) c.serve_on-served.new.desk.book.register)
             (sym same) c.serve_on-served.ensures.led.keeps;
-        unserved = unserved_as c.serve_on-served.result (λ (d : Desk (Journaled (Held g.row.S.Denot) _ _)). d.store.keeper) _ _ _ same c.serve_on-served.ensures.unserved;
+        unserved = unserved_as c.serve_on-served.result (λ (d : Desk (Journaled (Held g.row.S.Denot) _ _)). d.store) _ _ _ refl c.serve_on-served.ensures.unserved;
       });
     }
 
