@@ -2,7 +2,7 @@
 //! byte for byte.
 use crate::at_desk::{AtDesk, at_new_desk};
 use clr_desk::Desk;
-use clr_http::{Registrar, Service, serve_request};
+use clr_http::{HttpFault, Registrar, Service, serve_request};
 use clr_logins::{Login, LoginRow, Logins};
 use clr_net::Name;
 use clr_store::Store;
@@ -39,6 +39,19 @@ macro_rules! shows {
             "GET /clearance/",
             $caller,
             "/JONES/1 HTTP/1.1\r\nHost: localhost",
+            $fields,
+            "\r\n\r\n"
+        )
+    };
+}
+
+/// The way back of a clearance, over a head with these fields.
+macro_rules! wayback {
+    ($clearance:literal, $fields:literal) => {
+        concat!(
+            "GET /wayback/",
+            $clearance,
+            " HTTP/1.1",
             $fields,
             "\r\n\r\n"
         )
@@ -88,6 +101,14 @@ const SHOWN: &str = concat!(
     r#"{"reply":"shown","view":{"card":{"clearance":"JONES/1","done":0,"holder":"JONES","phase":"Requested","round":0,"steps":0},"crews":[],"fence":[],"holds":[],"points":[],"steps":[],"work":"L2"}}"#
 );
 
+/// The one command that gives JONES/1 back before its order.
+const CANCELLED: &str = concat!(
+    "HTTP/1.1 200 OK\r\nContent-Type: text/plain\r\nContent-Length: 60\r\n\
+    Connection: close\r\n\r\n",
+    r#"{"at":100,"by":"JONES","clearance":"JONES/1","do":"cancel"}"#,
+    "\n"
+);
+
 /// The network before the first command: all is fed, L2 by both ends.
 const NETWORK: &str = concat!(
     "HTTP/1.1 200 OK\r\nContent-Type: application/json\r\nContent-Length: 1257\r\n\
@@ -114,8 +135,8 @@ const NETWORK: &str = concat!(
 );
 
 /// What a page of elsewhere may have sent and what none sends; then JONES asks for L2, and JONES/1
-/// is shown.
-const EXCHANGES: [(&str, &str); 29] = [
+/// is shown, and may be given back.
+const EXCHANGES: [(&str, &str); 33] = [
     (board!("\r\nHost: 127.0.0.1:8080"), EMPTY_BOARD),
     (board!("\r\nHOST: LocalHost"), EMPTY_BOARD),
     (board!("\r\nhost: [::1]:1"), EMPTY_BOARD),
@@ -138,6 +159,8 @@ const EXCHANGES: [(&str, &str); 29] = [
     ("GET /nothing HTTP/1.1\r\n\r\n", NO_ROUTE),
     ("GET /network HTTP/1.1\r\n\r\n", FOREIGN),
     ("GET /network HTTP/1.1\r\nHost: localhost\r\n\r\n", NETWORK),
+    (wayback!("JONES/1", "\r\nHost: localhost.example"), FOREIGN),
+    (wayback!("JONES/1", "\r\nHost: localhost"), NO_SUCH),
     (asks!("\r\nHost: localhost"), NOT_CALLER),
     (
         asks!("\r\nHost: localhost\r\nX-Forwarded-User:"),
@@ -169,6 +192,8 @@ const EXCHANGES: [(&str, &str); 29] = [
     (shows!("REED", "\r\nX-Forwarded-User: ops"), SHOWN),
     (shows!("REED", ""), NOT_CALLER),
     (shows!("reed", ""), NO_SUCH),
+    (wayback!("JONES/1", "\r\nHost: localhost"), CANCELLED),
+    (wayback!("jones/1", "\r\nHost: localhost"), NO_SUCH),
 ];
 
 /// To each request of a service at a desk its response goes out, up to a 503, which is sent when out
@@ -197,13 +222,28 @@ impl AtDesk for AtService {
     }
 }
 
-/// What goes out to a request.
+/// What goes out to a request. One that only reads is made again where memory ran out: it is answered
+/// then.
 fn sent_to<D: Registrar>(
     alloc: Global,
     service: &Service,
     desk: &mut D,
     request: &str,
 ) -> Result<Vec<u8>, Fail> {
+    let mut sent = sent_once(alloc, service, desk, request);
+    if sent.is_err() && request.starts_with("GET ") {
+        sent = sent_once(alloc, service, desk, request);
+    }
+    Ok(sent?)
+}
+
+/// What goes out to a request, if it is answered.
+fn sent_once<D: Registrar>(
+    alloc: Global,
+    service: &Service,
+    desk: &mut D,
+    request: &str,
+) -> Result<Vec<u8>, HttpFault> {
     let mut reader = Counted::new(request.as_bytes());
     let mut writer = Counted::new(Vec::new(alloc));
     serve_request(alloc, service, desk, &mut reader, &mut writer)?;

@@ -10,6 +10,7 @@ use clr_load::Rows;
 use clr_rules::{ClearanceId, Command, Reply, Text};
 use clr_store::Store;
 use clr_stream::{Counted, CountedRead, CountedWrite};
+use clr_wayback::WayBack;
 use clr_worked::{are_same, network};
 use sqlite::Alter;
 use std::alloc::{AllocError, Global};
@@ -437,6 +438,10 @@ impl<D: Registrar + Drop> Registrar for Unanswering<D> {
 
     fn network(&self, alloc: Global) -> Result<String, AllocError> {
         self.desk.network(alloc)
+    }
+
+    fn way_back(&self, alloc: Global, id: &ClearanceId) -> Result<WayBack, AllocError> {
+        self.desk.way_back(alloc, id)
     }
 }
 
