@@ -8,7 +8,7 @@ use clr_commands::serve::{Terms, serve_connections};
 use clr_disk::{Host, System};
 use clr_edge::loopback::{Connection, Loopback, listen, local_address};
 use clr_edge::machine::{AnyFiles, Machine};
-use clr_http::Service;
+use clr_http::{Registrar, Service};
 use clr_stream::Counted;
 use clr_worked::{network, new_desk};
 use std::alloc::Global;
@@ -35,8 +35,19 @@ fn failures<L: Loopback>(
     listener: &L::Listener,
     terms: &Terms,
 ) -> Result<String, Fail> {
+    let desk = new_desk(alloc, network(alloc)?)?;
+    failures_at(alloc, desk, net, listener, terms)
+}
+
+/// The same from any desk.
+fn failures_at<D: Registrar + Drop, L: Loopback>(
+    alloc: Global,
+    mut desk: D,
+    net: &mut L,
+    listener: &L::Listener,
+    terms: &Terms,
+) -> Result<String, Fail> {
     let mut errors = Counted::new(Vec::with_capacity(alloc, 256)?);
-    let mut desk = new_desk(alloc, network(alloc)?)?;
     serve_connections(alloc, net, listener, &mut desk, terms, &mut errors);
     let lines = String::from_utf8(errors.into_inner())?;
     if lines.as_str().contains("NoMemory") {

@@ -71,12 +71,13 @@ fn carry_on<S: Alter + Drop>(
     replies: &mut String,
 ) -> Result<Option<DeskFault>, Fail> {
     let answered = replies.as_str().lines().count();
-    let run = desk.run(commands_behind(alloc, commands, answered)?);
+    let run = desk.run(commands_after(alloc, commands, answered)?);
     add_lines(alloc, &run.replies, replies)?;
     Ok(run.fault)
 }
 
-fn commands_behind(alloc: Global, lines: &str, answered: usize) -> Result<Vec<Command>, Fail> {
+/// The commands of these lines, but for the first few, which are answered.
+pub fn commands_after(alloc: Global, lines: &str, answered: usize) -> Result<Vec<Command>, Fail> {
     let mut commands = Vec::new(alloc);
     for line in lines.lines().skip(answered) {
         commands.push(command_of(alloc, line.as_bytes())?)?;
@@ -84,7 +85,8 @@ fn commands_behind(alloc: Global, lines: &str, answered: usize) -> Result<Vec<Co
     Ok(commands)
 }
 
-fn add_lines(alloc: Global, replies: &[Reply], lines: &mut String) -> Result<(), Fail> {
+/// Adds these replies, each on a line.
+pub fn add_lines(alloc: Global, replies: &[Reply], lines: &mut String) -> Result<(), Fail> {
     for reply in replies {
         let text = reply_text(alloc, reply)?;
         writeln!(lines, "{text}")?;

@@ -11,6 +11,7 @@ use clr_text::{command_of, reply_text};
 use clr_worked::{network, staff};
 use std::alloc::Global;
 use std::fmt::Write;
+use std::process::Abort;
 use std::test::Fail;
 
 /// Commands of the worked network, and for each what is near it, what it changes, and its reply.
@@ -83,9 +84,9 @@ fn asked<P: Shelf<PointState>, C: Shelf<Record>, T: Shelf<StepRow>, H: Shelf<Hol
     command: &Command,
 ) -> Result<Given, Fail> {
     let (near, decision) = decided(alloc, book, command)?;
+    book.reserve(&decision.change)?;
     let edits = edit_words(alloc, &decision.change.edits)?;
     let reply = reply_text(alloc, &decision.reply)?;
-    book.reserve(&decision.change)?;
     book.apply(decision.change);
     Ok(Given { near, edits, reply })
 }
@@ -175,17 +176,12 @@ fn add_edit(edit: &Edit, words: &mut String) -> Result<(), Fail> {
     Ok(())
 }
 
-#[test]
-fn a_book_is_asked_what_is_near_and_decides_of_that(rt: HostRuntime) -> Result<(), Fail> {
-    let alloc = rt.alloc();
-    let network = network(alloc)?;
-    let staff = staff(alloc)?;
-    let mut book: Book<
-        ListShelf<PointState>,
-        ListShelf<Record>,
-        ListShelf<StepRow>,
-        ListShelf<Hold>,
-    > = Book::opening(alloc, network, staff)?;
+/// Asks a book of the worked network all of these.
+fn all_asked<A: Abort, P: Shelf<PointState>, C: Shelf<Record>, T: Shelf<StepRow>, H: Shelf<Hold>>(
+    rt: &A,
+    alloc: Global,
+    mut book: Book<P, C, T, H>,
+) -> Result<(), Fail> {
     for (line, near, edits, reply) in ASKED {
         let command = command_of(alloc, line.as_bytes())?;
         let given = asked(alloc, &mut book, &command)?;
@@ -194,4 +190,14 @@ fn a_book_is_asked_what_is_near_and_decides_of_that(rt: HostRuntime) -> Result<(
         assert_eq!(rt; given.reply.as_str(), reply, "{line}");
     }
     Ok(())
+}
+
+#[test]
+fn a_book_is_asked_what_is_near_and_decides_of_that(rt: HostRuntime) -> Result<(), Fail> {
+    let alloc = rt.alloc();
+    let network = network(alloc)?;
+    let staff = staff(alloc)?;
+    let book: Book<ListShelf<PointState>, ListShelf<Record>, ListShelf<StepRow>, ListShelf<Hold>> =
+        Book::opening(alloc, network, staff)?;
+    all_asked(&rt, alloc, book)
 }

@@ -19,10 +19,9 @@ fn closed(point: Name) -> PointState {
 
 // With the first allocation of the second `reserve` refused, it shows that a refusal leaves all
 // rows.
-#[test]
-fn refused_room_leaves_the_rows(rt: HostRuntime) -> Result<(), Fail> {
+fn refuse_room<S: Shelf<PointState>, R: Abort>(rt: &R, alloc: Global) -> Result<(), Fail> {
     let kept = closed(Name::read("S1")?);
-    let mut shelf: SortedShelf<PointState> = Shelf::empty(rt.alloc());
+    let mut shelf = S::empty(alloc);
     shelf.reserve(1)?;
     shelf.put(kept);
     let reserved = shelf.reserve(1000).is_ok();
@@ -33,6 +32,11 @@ fn refused_room_leaves_the_rows(rt: HostRuntime) -> Result<(), Fail> {
     );
     assert_eq!(rt; shelf.len(), 1, "reserved: {reserved}");
     Ok(())
+}
+
+#[test]
+fn refused_room_leaves_the_rows(rt: HostRuntime) -> Result<(), Fail> {
+    refuse_room::<SortedShelf<PointState>, HostRuntime>(&rt, rt.alloc())
 }
 
 const MANY: u32 = 2000;

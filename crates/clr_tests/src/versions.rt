@@ -1,13 +1,12 @@
 //! Tables of version 1, which somebody else has made by their statements, and their move to version
 //! 2.
-use clr_desk::DeskFault;
+use crate::desk::{add_lines, commands_after};
+use clr_desk::{DeskFault, Run};
 use clr_load::StoreFault;
 use clr_rules::Command;
 use clr_tables::TableName;
-use clr_text::{command_of, reply_text};
 use clr_worked::{Held, Part, are_same, move_over, old_register, read_over, run_over, written};
 use std::alloc::{AllocError, Global};
-use std::fmt::Write;
 use std::process::Abort;
 use std::test::Fail;
 
@@ -64,24 +63,21 @@ fn moved(alloc: Global, held: &Held) -> Result<Held, Fail> {
 
 /// The replies to commands over the register in two files, each on a line.
 fn replies(alloc: Global, held: &Held, lines: &str) -> Result<String, Fail> {
-    let mut commands: Vec<Command> = Vec::new(alloc);
-    for line in lines.lines() {
-        commands.push(command_of(alloc, line.as_bytes())?)?;
-    }
-    let (run, _behind) = run_over(alloc, held, Part::Log, u64::MAX, commands)?;
-    let run = run?;
-    match run.fault {
-        None => {}
-        // these files are refused a growth
-        Some(DeskFault::Store(StoreFault::Sql)) => return Err(AllocError.into()),
-        Some(fault) => return Err(fault.into()),
-    }
+    let run = whole_run(alloc, held, commands_after(alloc, lines, 0)?)?;
     let mut texts = String::new(alloc);
-    for reply in &run.replies {
-        let text = reply_text(alloc, reply)?;
-        writeln!(texts, "{text}")?;
-    }
+    add_lines(alloc, &run.replies, &mut texts)?;
     Ok(texts)
+}
+
+/// A run of commands over the register in two files. Where these files are refused a growth, that
+/// is reported as `Sql`.
+fn whole_run(alloc: Global, held: &Held, commands: Vec<Command>) -> Result<Run, Fail> {
+    let run = run_over(alloc, held, Part::Log, u64::MAX, commands)?.0?;
+    match run.fault {
+        None => Ok(run),
+        Some(DeskFault::Store(StoreFault::Sql)) => Err(AllocError.into()),
+        Some(fault) => Err(fault.into()),
+    }
 }
 
 /// A fault is this one. Out of memory ends the test.

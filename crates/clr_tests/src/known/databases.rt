@@ -1,7 +1,7 @@
 //! A database whose register is known: that of JONES/1 with its first step done.
 ghost use Rattle.std.specs.Prelude.{◌≡◌, ◌++◌, ◌∷◌, [], IfErr, IfOk, Ok, OnOk, codes};
-ghost use Rattle.sqlite.specs.Files.{file_state, over_files};
-ghost use Rattle.sqlite.specs.Held.{IsNew};
+ghost use Rattle.sqlite.specs.Files.{over_files};
+ghost use Rattle.sqlite.specs.Held.{state};
 ghost use Rattle.sqlite.specs.State.{HasCleanDisk};
 ghost use Rattle.clr_rules.specs.Good.{IsGood};
 ghost use Rattle.clr_examples.specs.Worked.{worked_net, worked_opening, worked_staff};
@@ -29,7 +29,7 @@ use clr_staff::Staff;
 use clr_store::Store;
 use clr_stream::Counted;
 use clr_text::{TextFault, command_of};
-use sqlite::{Connection, FileStore, Options};
+use sqlite::{Alter, Connection, FileStore, Options};
 use sqlite_disk::{Files, Memory};
 use std::alloc::Global;
 
@@ -162,21 +162,39 @@ fn jones_database(alloc: Global) -> Result<Connection<FileStore<Memory>>, Fault>
         HasRegister over_files jones_register connection) }
     ensures fault { IfErr result IsOfLine }
 {
-    match jones_desk(alloc) {
-        Ok(desk) => Ok(desk.end().end()),
+    let connection = empty_database(alloc)?;
+    match jones_made(alloc, connection) {
+        Ok(connection) => Ok(connection),
         Err(fault) => Err(of_line(fault)),
     }
 }
 
+/// An empty database, once it has that register.
+fn jones_made<S: Alter + Drop>(
+    alloc: Global,
+    connection: Connection<S>,
+) -> Result<Connection<S>, Fault>
+    ensures { IfOk result (λ made. HasCleanDisk (state S.Store made)
+        → HasRegister S.Store jones_register made) }
+{
+    match jones_desk(alloc, connection) {
+        Ok(desk) => Ok(desk.end().end()),
+        Err(fault) => Err(fault),
+    }
+}
+
 /// A desk over it.
-fn jones_desk(alloc: Global) -> Result<Desk<Store<FileStore<Memory>>>, Fault>
+fn jones_desk<S: Alter + Drop>(
+    alloc: Global,
+    connection: Connection<S>,
+) -> Result<Desk<Store<S>>, Fault>
     ensures good { OnOk result (IsGood jones_register) }
     ensures typed { OnOk result (IsTyped jones_register) }
-    ensures tables { IfOk result (λ desk. HasCleanDisk (file_state desk.store)
-        → HasTables (file_state desk.store).now (tables_of jones_register)) }
+    ensures tables { IfOk result (λ desk. HasCleanDisk (state S.Store desk.store)
+        → HasTables (state S.Store desk.store).now (tables_of jones_register)) }
 {
+    let mut desk = opening_desk(alloc, connection)?;
     let commands = jones_commands(alloc)?;
-    let mut desk = opening_desk(alloc)?;
     match desk.run(commands).fault {
         None => Ok(desk),
         Some(fault) => Err(Fault::from(fault)),
@@ -184,19 +202,21 @@ fn jones_desk(alloc: Global) -> Result<Desk<Store<FileStore<Memory>>>, Fault>
 }
 
 /// A desk over a new database with the opening register of the worked network.
-fn opening_desk(alloc: Global) -> Result<Desk<Store<FileStore<Memory>>>, Fault>
+fn opening_desk<S: Alter + Drop>(
+    alloc: Global,
+    connection: Connection<S>,
+) -> Result<Desk<Store<S>>, Fault>
     ensures register { IfOk result (λ desk. desk.book.register ≡ worked_opening) }
     ensures good { OnOk result (IsGood worked_opening) }
     ensures typed { OnOk result (IsTyped worked_opening) }
-    ensures made { IfOk result (λ desk. HasCleanDisk (file_state desk.store)
-        → IsSaved (file_state desk.store)
-        × HasTables (file_state desk.store).now (tables_of worked_opening)) }
+    ensures made { IfOk result (λ desk. HasCleanDisk (state S.Store desk.store)
+        → IsSaved (state S.Store desk.store)
+        × HasTables (state S.Store desk.store).now (tables_of worked_opening)) }
 {
     let network = worked_network(alloc)?;
     let staff = worked_staff(alloc)?;
     network.is_network();
     staff.is_staff();
-    let connection = empty_database(alloc)?;
     match Desk::create(alloc, connection, network, staff) {
         Ok(desk) => Ok(desk),
         Err((fault, _)) => Err(Fault::from(fault)),

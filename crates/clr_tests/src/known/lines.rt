@@ -3,6 +3,9 @@ use crate::known::Known;
 use crate::known::databases::{POINTS, SECTIONS, STAFF};
 use crate::known::files::{Bytes, File, KnownFiles};
 use clr_command_line::command_line::command_line;
+use clr_edge::database::Makes;
+use clr_edge::journals::Journals;
+use clr_edge::loopback::Loopback;
 use clr_stream::Counted;
 use std::alloc::Global;
 use std::io;
@@ -60,8 +63,8 @@ END
 #[derive(Drop)]
 struct Given {
     status: u8,
-    output: String,
-    errors: String,
+    output: Vec<u8>,
+    errors: Vec<u8>,
     /// What went out over the last connection.
     response: Vec<u8>,
     /// How many databases were opened, and of how many the files came back.
@@ -77,40 +80,65 @@ fn run_line(
     line: &str,
     input: Option<&[u8]>,
 ) -> Result<Given, Fail> {
-    let mut machine = Known::new(alloc, BOARD_REQUEST);
-    let paths = KnownFiles { all: files };
     let words: Vec<&str> = line.split_whitespace().collect(alloc)?;
-    let words: io::Result<Vec<&str>> = Ok(words);
-    let mut input = Counted::new(Bytes { left: input });
-    let mut output = Counted::new(Vec::new(alloc));
-    let mut errors = Counted::new(Vec::new(alloc));
-    let status = command_line(
-        &mut machine,
-        &paths,
-        &words,
-        &mut input,
-        &mut output,
-        &mut errors,
-    );
-    let output = String::from_utf8(output.into_inner())?;
-    let errors = String::from_utf8(errors.into_inner())?;
-    if errors.as_str().contains("NoMemory") {
+    let given = given_to(alloc, files, words, input);
+    if is_out_of_memory(given.errors.as_slice()) {
         return Err(Fail::new("out of memory"));
     }
+    Ok(given)
+}
+
+/// What these words give on a machine in memory.
+fn given_to(alloc: Global, files: &[File<'_>], words: Vec<&str>, input: Option<&[u8]>) -> Given {
+    let mut machine = Known::new(alloc, BOARD_REQUEST);
+    let (status, output, errors) = written_by(&mut machine, alloc, files, words, input);
     let Known {
         response,
         opened,
         given_back,
         ..
     } = machine;
-    Ok(Given {
+    Given {
         status,
         output,
         errors,
         response,
         opened,
         given_back,
-    })
+    }
+}
+
+/// The exit status, and what goes to standard output and to the errors. It is stated for any machine:
+/// what a check makes of the clauses of a command line is made once, for none in particular.
+fn written_by<M: Makes + Journals + Loopback + AllocGlobal>(
+    machine: &mut M,
+    alloc: Global,
+    files: &[File<'_>],
+    words: Vec<&str>,
+    input: Option<&[u8]>,
+) -> (u8, Vec<u8>, Vec<u8>) {
+    let paths = KnownFiles { all: files };
+    let words: io::Result<Vec<&str>> = Ok(words);
+    let mut input = Counted::new(Bytes { left: input });
+    let mut output = Counted::new(Vec::new(alloc));
+    let mut errors = Counted::new(Vec::new(alloc));
+    let status = command_line(
+        machine,
+        &paths,
+        &words,
+        &mut input,
+        &mut output,
+        &mut errors,
+    );
+    (status, output.into_inner(), errors.into_inner())
+}
+
+/// Whether these lines report that memory ran out.
+fn is_out_of_memory(errors: &[u8]) -> bool {
+    match str::from_utf8(errors) {
+        Ok(lines) => lines.contains("NoMemory"),
+        Err(_) => false,
+    }
 }
 
 /// This goes to standard output and nothing to the errors, or this is the fault. That many databases
@@ -128,8 +156,8 @@ fn expect<R: Abort>(
         Ok(output) => (0, output, ""),
         Err(fault) => (1, "", fault),
     };
-    assert_eq!(rt; given.output.as_str(), output, "{line}");
-    assert_eq!(rt; given.errors.as_str(), errors, "{line}");
+    assert_eq!(rt; given.output.as_slice(), output.as_bytes(), "{line}");
+    assert_eq!(rt; given.errors.as_slice(), errors.as_bytes(), "{line}");
     assert_eq!(rt; given.status, status, "{line}");
     assert_eq!(rt;
         (given.opened, given.given_back),
@@ -169,10 +197,22 @@ fn each_subcommand(rt: HostRuntime) -> Result<(), Fail> {
             0,
         ),
         ("gridclear run --db jones.db", SHOW, SHOWN, 1),
+        (
+            "gridclear run --db jones.db --journal journal",
+            SHOW,
+            SHOWN,
+            1,
+        ),
         ("gridclear order jones.db JONES/1 1", "", ORDER, 1),
         ("gridclear board jones.db", "", BOARD, 1),
         (
             "gridclear serve jones.db --port 8080 --count 2",
+            "",
+            "serving 127.0.0.1:8080\n",
+            1,
+        ),
+        (
+            "gridclear serve jones.db --port 8080 --count 2 --journal journal",
             "",
             "serving 127.0.0.1:8080\n",
             1,
@@ -238,7 +278,7 @@ fn each_subcommand_at_fault(rt: HostRuntime) -> Result<(), Fail> {
 fn the_board_goes_out_over_a_connection(rt: HostRuntime) -> Result<(), Fail> {
     let line = "gridclear serve jones.db --port 8080 --count 1";
     let given = run_line(rt.alloc(), &FILES, line, None)?;
-    assert_eq!(rt; given.errors.as_str(), "");
+    assert_eq!(rt; given.errors.as_slice(), "".as_bytes());
     if given.response.starts_with(b"HTTP/1.1 503 ") {
         return Err(Fail::new("out of memory"));
     }
@@ -246,25 +286,39 @@ fn the_board_goes_out_over_a_connection(rt: HostRuntime) -> Result<(), Fail> {
     Ok(())
 }
 
-#[test]
-fn inputs_that_are_not_read(rt: HostRuntime) -> Result<(), Fail> {
-    let run = "gridclear run --db jones.db";
-    let unread = run_line(rt.alloc(), &FILES, run, None)?;
-    assert_eq!(rt; unread.errors.as_str(), "fault: input ReadFailed\n");
-    assert_eq!(rt; unread.output.as_str(), "");
+/// Nothing goes to standard output, and this to the errors.
+fn expect_unread<R: Abort>(
+    rt: &R,
+    alloc: Global,
+    files: &[File<'_>],
+    line: &str,
+    input: Option<&[u8]>,
+    errors: &str,
+) -> Result<(), Fail> {
+    let given = run_line(alloc, files, line, input)?;
+    assert_eq!(rt; given.errors.as_slice(), errors.as_bytes(), "{line}");
+    assert_eq!(rt; given.output.as_slice(), "".as_bytes(), "{line}");
+    Ok(())
+}
 
-    let long = vec![in rt.alloc(); b'\n'; 16_777_217]?;
-    let too_long = run_line(rt.alloc(), &FILES, run, Some(long.as_slice()))?;
-    assert_eq!(rt; too_long.errors.as_str(), "fault: input TooLong\n");
-    assert_eq!(rt; too_long.output.as_str(), "");
-
-    let points = vec![in rt.alloc(); b'\n'; 4_194_305]?;
+/// A file of points that is too long.
+fn expect_long_file<R: Abort>(rt: &R, alloc: Global) -> Result<(), Fail> {
+    let points = vec![in alloc; b'\n'; 4_194_305]?;
     let files = [
         ("sections.csv", SECTIONS),
         ("points.csv", points.as_slice()),
     ];
     let fence = "gridclear fence sections.csv points.csv L2";
-    let too_long = run_line(rt.alloc(), &files, fence, None)?;
-    assert_eq!(rt; too_long.errors.as_str(), "fault: points TooLong\n");
-    Ok(())
+    expect_unread(rt, alloc, &files, fence, None, "fault: points TooLong\n")
+}
+
+#[test]
+fn inputs_that_are_not_read(rt: HostRuntime) -> Result<(), Fail> {
+    let alloc = rt.alloc();
+    let run = "gridclear run --db jones.db";
+    expect_unread(&rt, alloc, &FILES, run, None, "fault: input ReadFailed\n")?;
+    expect_long_file(&rt, alloc)?;
+    let long = vec![in alloc; b'\n'; 16_777_217]?;
+    let input = Some(long.as_slice());
+    expect_unread(&rt, alloc, &FILES, run, input, "fault: input TooLong\n")
 }

@@ -1,5 +1,4 @@
 use Rattle.std.proofs.Common.{◌≡◌, subst, List}
-use Rattle.sqlite.specs.Files.{over_files}
 use Rattle.sqlite.specs.Held.{state}
 use Rattle.clr_staff.specs.Staff.{IsStaff}
 use Rattle.clr_staff.specs.declared.employee.StaffRow.{StaffRow}
@@ -12,14 +11,14 @@ use Rattle.clr_tables.specs.Tables.{tables_of}
 use Rattle.clr_tests.proofs.known.databases.opening_desk.Goals as goal
 
 pub returns-in-Ok-clause-good : goal.returns-in-Ok-clause-good
-returns-in-Ok-clause-good c =
+returns-in-Ok-clause-good g c =
     opening_is_good worked_net worked_staff
     (subst (λ (g : Grid). IsNetwork g) c.in_ok-network.ensures c.is_network.ensures)
     (subst (λ (staff : List StaffRow). IsStaff staff) c.in_ok-staff.ensures c.is_staff.ensures)
 
 pub returns-in-Ok-clause-made : goal.returns-in-Ok-clause-made
-returns-in-Ok-clause-made c clean =
+returns-in-Ok-clause-made g c clean =
     let same : opening c.in_ok-network.network c.in_ok-staff.staff ≡ worked_opening =
     λ i. opening (c.in_ok-network.ensures i) (c.in_ok-staff.ensures i) in
     let (saved, has) = c.in-Ok.ensures.made clean in
-    (saved, subst (λ (R : Register). HasTables (state over_files c.in-Ok.desk.store).now (tables_of R)) same has)
+    (saved, subst (λ (R : Register). HasTables (state g.S.Store c.in-Ok.desk.store).now (tables_of R)) same has)
