@@ -1,7 +1,8 @@
 -- Files whose bytes are known, and a database whose register is known.
 use Rattle.std.specs.Prelude.{ℕ, ◌==◌, Bool, codes, find, if◌then◌else◌, List, [], ◌∷◌, Option}
 use Rattle.std.specs.Prelude.{None, Some, option_map}
-use Rattle.std.specs.Prelude.{◌≡◌, ◌⊎◌, IfSome, false, pos}
+use Rattle.std.specs.Prelude.{◌≡◌, ◌⊎◌, IfOk, IfSome, Result, Ok, Err, String, false, pos, string_bytes}
+use Rattle.std.specs.declared.alloc.Global.{Global}
 use Rattle.std.specs.Borrow.{Bor}
 use Rattle.std.specs.Cmp.Lexicographic.{pointwise}
 use Rattle.clr_rules.specs.Register.{Register}
@@ -24,10 +25,26 @@ use Rattle.clr_args.specs.declared.asked.ServeArgs.{ServeArgs}
 use Rattle.clr_commands.specs.Logins.{terms_with}
 use Rattle.clr_commands.specs.declared.serve.Terms.{Terms}
 use Rattle.clr_edge.specs.declared.loopback.Connection.{Connection}
+use Rattle.clr_edge.specs.declared.journals.Journals as journals
 use Rattle.clr_edge.specs.declared.loopback.Loopback as loopback
 use Rattle.sqlite_disk.specs.declared.Disk as disk
 use Rattle.clr_edge.specs.Database.{HasRegister}
-use Rattle.clr_edge.specs.Visit.{Ending, Opening, Over}
+use Rattle.clr_edge.specs.Database.{IsOfLine}
+use Rattle.clr_edge.specs.Visit.{Done, Ending, Opening, Over, Visits}
+use Rattle.clr_edge.specs.declared.fault.Fault.{Fault}
+use Rattle.clr_desk.specs.Faults.{FailsAsStore}
+use Rattle.clr_load.specs.Stored.{HasTables}
+use Rattle.clr_tables.specs.Tables.{tables_of}
+use Rattle.clr_rules.specs.IdText.{read_id}
+use Rattle.clr_rules.specs.declared.reply.Reply.{Reply}
+use Rattle.clr_commands.specs.Answers.{GivesText}
+use Rattle.clr_commands.specs.Init.{counts_line}
+use Rattle.clr_commands.specs.Migrate.{version_line}
+use Rattle.clr_commands.specs.Order.{order_told}
+use Rattle.clr_commands.specs.Replies.{AnswersInput}
+use Rattle.clr_commands.specs.Run.{IsOfInput}
+use Rattle.clr_commands.specs.WayBack.{way_back_to}
+use Rattle.clr_commands.specs.declared.replies.Printed.{Printed}
 
 abbrev pub same_path : List ℕ → List ℕ → Bool
 same_path = pointwise ◌==◌
@@ -76,10 +93,14 @@ KnowsJones {M} g opens = (old new : M) (c : Over g) → opens old jones_path g c
 abbrev pub IsAlwaysClean : {D : Type 0} → disk.Ghosts D → Type 0
 IsAlwaysClean g = (c : Over g) → HasCleanDisk (state over_files c)
 
--- A MACHINE OVER WHOSE CONNECTIONS THESE BYTES COME, and which keeps what went out over the last one
-pub record IsExchange {M D L R W : Type 0} (g : disk.Ghosts D) (opens : Opening M D) (ends : Ending M D)
-    (net : loopback.Ghosts M L R W) (seen : Seen R W) (asked response : M → List ℕ) : Type 0 where
+-- A MACHINE OVER WHOSE CONNECTIONS THESE BYTES COME, and which keeps what went out over the last one.
+-- Each journal that it opens is new
+pub record IsExchange {M D L R W J C : Type 0} (g : disk.Ghosts D) (opens : Opening M D)
+    (ends : Ending M D) (at : journals.Ghosts M J C) (net : loopback.Ghosts M L R W)
+    (seen : Seen R W) (asked response : M → List ℕ) : Type 0 where
   pub opened : (old new : M) (c : Over g) → opens old jones_path g c new → asked new ≡ asked old
+  pub logged : (old new : M) (path : List ℕ) (journal : J) (last : Option (List ℕ))
+      → at.opens_journal old path journal last new → (asked new ≡ asked old) × (last ≡ None)
   pub stands : (old new : M) (address : SocketAddr) (l : L) → net.stands old address l new
       → asked new ≡ asked old
   pub comes : (old new : M) (l : L) (deadline : Option ℕ) (c : Connection R W)
@@ -91,15 +112,14 @@ pub record IsExchange {M D L R W : Type 0} (g : disk.Ghosts D) (opens : Opening 
       → Stream.contents (seen.stream c.writer) ≡ Some (response new)
   pub ended : (old new : M) (files : Files D) → ends old files new → response new ≡ response old
 
--- the terms of a server of one connection at a port, without an option
+-- the terms of a server of one connection at a port, plainly
 abbrev pub once_at : ℕ → Terms
 once_at port = record { port = port; count = 1; deadline = None; service = plain }
 
--- such a server of the database at that path is asked for
+-- such a server of the database at that path is asked for, with a journal or without one
 pub record ServesOnce (args : ServeArgs) : Type 0 where
   pub path : args.database.now ≡ jones_path
   pub no_logins : args.logins ≡ None
-  pub no_journal : args.journal ≡ None
   pub terms : terms_with args None ≡ once_at args.port
 
 -- a writer to which nothing was written yet
@@ -132,3 +152,30 @@ pub record HasWorkedFiles (bytes_at : List ℕ → Option (List ℕ)) : Type 0 w
   pub sections : bytes_at (codes "sections.csv") ≡ Some section_file
   pub points : bytes_at (codes "points.csv") ≡ Some point_file
   pub staff : bytes_at (codes "staff.csv") ≡ Some staff_file
+
+-- ---- what the other subcommands answer
+
+-- what `migrate` prints of tables that are of the version that is read
+abbrev pub IsVersionTwo : Result (String Global) Fault → Type 0
+IsVersionTwo (Ok text) = string_bytes text ≡ version_line
+IsVersionTwo (Err fault) = IsOfLine fault
+
+-- WHAT A RUN PRINTS FOR AN INPUT over the register of JONES/1, also where its database was not closed
+abbrev pub IsRunOfJones : List ℕ → Result Printed Fault → Type 0
+IsRunOfJones input (Ok given) = (left : Register) × (told : List Reply) × (whole : Printed)
+    × AnswersInput FailsAsStore jones_register left input told whole
+    × (given.text ≡ whole.text)
+IsRunOfJones input (Err fault) = IsOfLine fault ⊎ IsOfInput (Some input) fault
+
+-- the line of counts of the worked files
+abbrev pub worked_counts : List ℕ
+worked_counts = counts_line 5 5 6
+
+-- the line of counts, once a database was made at that path that has the tables of the worked
+-- network before any command
+abbrev pub StoresWorked : {M D : Type 0} → (g : disk.Ghosts D) → Opening M D → Ending M D
+    → Result (String Global) Fault → M → M → Type 0
+StoresWorked {M} g makes ends result old new = IfOk result (λ text.
+    (string_bytes text ≡ worked_counts)
+    × Visits g makes ends (codes "new.db") (λ (middle : M) before after (closed : Done) (later : M).
+    HasTables (state over_files after).now (tables_of worked_opening)) old new)
