@@ -14,8 +14,7 @@ export const MOST_DRAWN = 1000;
 const MOVES = [["←", "To the left", -160, 0], ["→", "To the right", 160, 0], ["↑", "Up", 0, -160], ["↓", "Down", 0, 160]];
 const FLASH = "M5,-11L1.5,-4.5H4L2.5,1L7.5,-6.5H5L6.5,-11Z"; // at the left upper edge of a section's box
 const KEYS = "Plus and minus zoom, arrows move it, 0 shows all. The points are also listed under Points.";
-const PICKING = { point: "a point", section: "a section" };
-const BY_KEYS = (kind) => `By keys: Tab leads to ${PICKING[kind]} in the diagram, to the one that was found, arrows to the next, and Space picks it.`;
+const BY_KEYS = "By keys: Tab into the diagram, arrows from one to the next, Space picks.";
 
 function pointTitle(state) {
   const { point } = state;
@@ -175,7 +174,7 @@ export class Diagram {
     this.#picking = picking;
     this.#frame.classList.toggle("picking-points", picking?.kind === "point");
     this.#frame.classList.toggle("picking-sections", picking?.kind === "section");
-    this.#byKeys.textContent = picking ? BY_KEYS(picking.kind) : "";
+    this.#byKeys.textContent = picking ? BY_KEYS : "";
     this.#placeStop();
   }
 

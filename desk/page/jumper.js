@@ -64,7 +64,7 @@ export class JumperForm {
     const mark = (box, text) => el("label", { class: "radio" }, box, text);
     return el("form", { class: "offer", onsubmit: send },
       el("p", { class: "elsewhere" }, NO_SOURCE),
-      el("p", {}, "State a jumper before it is laid. Press its two ends on the diagram, or name them; the second may be a new section."),
+      el("p", {}, "Add a jumper here before it is laid. Press its two ends on the diagram, or name them; the second may be a new section."),
       this.#ends, Object.entries(PARTS).map(([part, text]) => field(text, this.#inputs[part])),
       el("p", {}, mark(this.#lockable, "lockable: it can be blocked open"), mark(this.#remote, "remote: it has a control to switch off")),
       this.#notes(),

@@ -62,7 +62,7 @@ class DiagramPage {
     panel(this.#fenced, [ids, chosen], () => {
       const pick = choice([["", "none"], ...ids.map((id) => [id, id])], {
         "data-name": "fence", onchange: () => { chosen = pick.value; update(); } }, chosen ?? "");
-      return field("The fence that is hatched", pick);
+      return field("Hatch the fence of", pick);
     });
   }
 }

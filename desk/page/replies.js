@@ -55,7 +55,7 @@ function item(reply) {
 function draw() {
   if (!node) return;
   panel(node, replies.map((reply) => [reply.number, reply.version]), () =>
-    replies.length ? replies.map(item) : [el("li", { class: "none" }, "Nothing was said yet.")]);
+    replies.length ? replies.map(item) : [el("li", { class: "none" }, "No replies yet.")]);
 }
 
 // Puts a reply on top; gives it back, so that it can be changed when more is known.

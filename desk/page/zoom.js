@@ -1,7 +1,7 @@
 // Zoom and pan of a drawing, by wheel, drag, buttons and keys. The drawing is as large as it is, and is moved and scaled
 // within its frame as one picture: while that goes on nothing is drawn again, and it is drawn sharply once it is still.
 
-const MOST = 3, LEAST = 0.05, READABLE = 0.62, FAR = 0.42, CLOSE = 0.8, LARGEST = 1.4, STEP = 1.25, PAN = 80, DRAG = 5;
+const MOST = 3, LEAST = 0.05, READABLE = 0.55, FAR = 0.42, CLOSE = 0.8, LARGEST = 1.4, STEP = 1.25, PAN = 80, DRAG = 5;
 const EDGE = 40;   // pixels from the edge of the frame, within which a place is not in view
 const STILL = 160; // milliseconds after which it is still
 
