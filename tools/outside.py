@@ -112,19 +112,15 @@ class Bench:
         expect(done.returncode == 0 and lines[:1] == ["ok"], f"sqlite3: {done.stdout[:200]}{done.stderr[:200]}")
         return tuple(sorted(line for line in lines[1:] if line.startswith(("CREATE", "INSERT"))))
 
-    def agrees(self, held, left_out=0):
-        """Whether the tables are those that the journal's commands make, where its last lines are left out."""
-        folder = self.new()
+    def verify(self, held, left_out=0):
+        """What `verify` ends with over a copy of the files, where the journal's last lines are left out."""
+        folder = self.new(held)
         with open(os.path.join(folder, "journal"), "w", encoding="ascii") as file:
             lines = whole_lines(held)
             file.writelines(lines[: len(lines) - left_out])
-        commands = self.run(folder, ["journal", "journal", "--commands"])
-        made = self.run(folder, ["init", *FILES, "--db", "room.db"])
-        expect(commands[::2] == made[::2] == (0, ""), f"journal --commands: {commands}, init: {made}")
-        self.run(folder, ["run", "--db", "room.db"], [commands.output])
-        is_so = self.tables(folder) == self.tables(held)
+        done = self.run(folder, ["verify", "room.db", "journal", *FILES])
         shutil.rmtree(folder)
-        return is_so
+        return done
 
 
 def whole_lines(folder):
@@ -166,13 +162,15 @@ class Shift:
         # a command that was answered 503 has a line too, and may be said again
         once = [command for place, command in enumerate(given) if command not in given[:place]]
         expect(once[: len(wanted)] == [json.loads(line) for line in wanted], f"{answered} answered, and the journal has {once[-2:]}")
-        expect(self.bench.agrees(folder) or (found and self.bench.agrees(folder, 1)), "the tables are not those of the journal")
+        done = self.bench.verify(folder)
+        expect(done.status == 0 or (found and self.bench.verify(folder, 1).status == 0), f"verify: {done}")
 
     def open_again(self, folder):
         """Opens register and journal: from then on the tables are those of the journal."""
         done = self.bench.run(folder, ["run", "--db", "room.db", *WITH_JOURNAL])
         expect(done == Ended(0, "", ""), f"opened with its journal: {done}")
-        expect(self.bench.agrees(folder), "opened again, the tables are not those of the journal")
+        done = self.bench.verify(folder)
+        expect(done.status == 0, f"verify, opened again: {done}")
 
     def go_on(self, folder, least, most, last, journal=()):
         """The numbers of commands after which the tables are those that are left; the others up to the last go on from there."""
@@ -191,7 +189,7 @@ class Shift:
         expect(rest == Ended(0, "".join(self.replies[place:last]), ""), f"from {place}: {rest}")
         expect(self.bench.tables(folder) == self.tables[last], "the tables at the end")
         if journal:
-            expect(self.bench.agrees(folder), "the journal at the end")
+            expect(self.bench.verify(folder).status == 0, "verify at the end")
         return places
 
 

@@ -12,6 +12,7 @@ each_reader() {
   "${command[@]}" order "$path" JONES/1 1
   "${command[@]}" board "$path"
   "${command[@]}" wayback "$path" JONES/1
+  "${command[@]}" verify "$path" "$work/journal" "${three[@]}"
   "${command[@]}" serve "$path" --port "$port" --count 1
   : >"$work/input"
 }

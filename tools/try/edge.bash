@@ -35,6 +35,7 @@ board=$(bounded board "$edge/room.db")
 leaves try 'the board of a closed register' 0 "$board$feed" '' board "$edge/room.db"
 leaves try 'an order of it' 0 '~ORDER JONES/1 ROUND 1' '' order "$edge/room.db" JONES/1 1
 leaves try 'a way back' 0 '~"do":' '' wayback "$edge/room.db" JONES/1
+leaves try 'a comparison with its journal' 0 "verified 2 commands$feed" '' verify "$edge/room.db" "$work/journal" "${three[@]}"
 leaves try 'an order of a round that is not there' 1 '' "fault: clearance NoSuch$feed" \
   order "$edge/room.db" JONES/1 2
 printf '%s\n' '{"by":"JONES","clearance":"JONES/1","do":"show"}' '{' >"$work/asks"
@@ -141,6 +142,7 @@ else
   opens 'an order of nothing' "${register[@]}" -- order "$edge/room.db" JONES/9 1
   opens 'a way back' "${register[@]}" -- wayback "$edge/room.db" JONES/1
   opens 'a log' "$work/journal" -- journal "$work/journal"
+  opens 'a comparison' "${three[@]}" "$work/journal" "${register[@]}" -- verify "$edge/room.db" "$work/journal" "${three[@]}"
   opens 'a move' "${register[@]}" -- migrate "$edge/room.db"
   with_input "$work/asks" opens 'a run over a database' "${register[@]}" -- run --db "$edge/room.db"
   opens 'a fence' "${three[@]:0:2}" -- fence "${three[@]:0:2}" L2 S2 S3

@@ -8,7 +8,7 @@ import re
 import shutil
 import time
 
-from looks import ALLOWED, FILES, REQUEST, Server, copied, fault, get, look, main, post, register, replied, rows, run, same, shift
+from looks import ALLOWED, FILES, REQUEST, Server, copied, fault, get, look, main, post, register, replied, run, same, shift
 
 OPEN_FAILED = "fault: journal OpenFailed\n"
 OWN = "Host: localhost"
@@ -36,11 +36,9 @@ def look_at_lines(title, path, wanted, since):
         look(f"{title}: line {number} has this machine's clock", since <= received <= time.time(), received)
 
 
-def agrees(title, path, journal):
-    """The rows of a register are those that the journal's commands make."""
-    made = path.with_name("made.db")
-    register(made, run("journal", journal, "--commands")[1].splitlines())
-    same(f"{title}: the register is what its journal says", rows(path), rows(made))
+def verified(title, path, journal, files=FILES):
+    count = sum('"reply":"accepted"' in text or '"reply":"added"' in text for text in lines_of(journal))
+    same(f"{title}: verify", run("verify", path, journal, *files), (0, f"verified {count} commands\n", ""))
 
 
 def of_run(folder):
@@ -56,7 +54,7 @@ def of_run(folder):
               if '"reply":"shown"' not in reply and '"fault"' not in reply]
     same("four accepted and three refused commands", len(wanted), 7)
     look_at_lines("run", journal, wanted, since)
-    agrees("run", path, journal)
+    verified("run", path, journal)
     same("the same board", run("board", path), run("board", folder / "plain.db"))
     # the numbers go on, in `run` and in `serve`
     more = shift(6)[3:]
@@ -68,7 +66,10 @@ def of_run(folder):
         for asked in (get("/board"), get("/clearance/JONES/JONES/1"), get("/order/JONES/1/1"), post('{"by":"JONES","clearance":"JONES/1","do":"show"}'), post("{")):
             server.ask(asked)
     look_at_lines("after restarts", journal, wanted, since)
-    agrees("after restarts", path, journal)
+    verified("after restarts", path, journal)
+    run("run", "--db", path, lines=shift(8)[6:])
+    status, output, errors = run("verify", path, journal, *FILES)
+    same("verify finds commands that the journal lacks", (status, output, errors), (1, "", "fault: verify Differs network_point S3\n"))
 
 
 def of_serve(folder):
@@ -87,7 +88,7 @@ def of_serve(folder):
             same("what is NotCaller has no line", server.ask(post(command, OWN, "X-Forwarded-User: KIM")), fault(403, "NotCaller"))
     same("nine commands reached the register", len(wanted), 9)
     look_at_lines("serve", journal, wanted, since)
-    agrees("serve", path, journal)
+    verified("serve", path, journal)
     log = run("journal", journal, "JONES/1")[1].splitlines()
     same("the log names a login where it is another", [text.split("  ")[3] for text in log[:4]], ["JONES (jones@grid.example)", "OPS", "OPS", "REED (OPS)"])
 
@@ -120,6 +121,7 @@ def log(folder):
                                 ("a number twice", [*text[:4], text[3]], "BadLine 5"), ("a command withdrawn that was refused", [*text[:6], '{"number":6,"withdrawn":true}\n'], "BadLine 7")):
         other.write_text("".join(lines), encoding="ascii")
         same(f"journal, {title}", run("journal", other), (1, "", f"fault: journal {fault}\n"))
+        same(f"verify, {title}", run("verify", path, other, *FILES), (1, "", f"fault: journal {fault}\n"))
     same("journal, no file", run("journal", folder / "none"), (1, "", OPEN_FAILED))
     same("journal, a folder", run("journal", folder), (1, "", "fault: journal ReadFailed\n"))
     same("journal, a clearance that does not read", run("journal", journal, "JONES/01"), (1, "", "fault: clearance NoSuch\n"))
@@ -146,7 +148,7 @@ def redone(folder):
             found = run("run", "--db", path, "--journal", journal, lines=())
             same(f"opened after {count} lines, {behind} not committed", found, (0, "", ""))
             same(f"its journal is unchanged, {count} lines", journal.read_bytes(), lines)
-            agrees(f"opened after {count} lines, {behind} not committed", path, journal)
+            verified(f"opened after {count} lines, {behind} not committed", path, journal)
 
 
 def unfinished(folder):
@@ -167,7 +169,7 @@ def unfinished(folder):
     found = run("run", "--db", path, "--journal", journal, lines=[shift(3)[2]])
     same("the next command", found[0], 0)
     same("the next line has number 3", [json.loads(text)["number"] for text in lines_of(journal)], [1, 2, 3])
-    agrees("after an unfinished line", path, journal)
+    verified("after an unfinished line", path, journal)
 
 
 def refused(folder):
@@ -219,7 +221,7 @@ def commands(folder):
     accepted = [command for command in given if command not in BAD and '"show"' not in command]
     same("the accepted commands, in their order", (status, text.splitlines(), errors), (0, accepted, ""))
     again = register(folder / "again.db", text.splitlines())
-    agrees("a register from the files and the journal's commands", again, journal)
+    verified("a register from the files and the journal's commands", again, journal)
     same("its board", run("board", again), run("board", path))
     one = run("journal", journal, "OPS/1", "--commands")[1].splitlines()
     same("the commands of one clearance", one, [command for command in accepted if '"clearance":"OPS/1"' in command or '"do":"switch"' in command])

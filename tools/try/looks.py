@@ -7,7 +7,6 @@ import os
 import pathlib
 import shutil
 import socket
-import sqlite3
 import subprocess
 import sys
 import tempfile
@@ -70,17 +69,6 @@ def copied(path, to):
     if log.exists():
         shutil.copy(log, to.with_name(to.name + "-wal"))
     return to
-
-
-TABLES = ("section", "network_point", "staff", "clearance", "step", "hold")
-
-
-def rows(path):
-    """The rows of a copy of a register, as SQLite reads them."""
-    with tempfile.TemporaryDirectory(prefix="look-") as folder:
-        copy = copied(path, pathlib.Path(folder) / "room.db")
-        with contextlib.closing(sqlite3.connect(copy)) as found:
-            return {table: sorted(found.execute(f"SELECT * FROM {table}").fetchall(), key=repr) for table in TABLES}
 
 
 def free_port():

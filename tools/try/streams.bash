@@ -16,6 +16,7 @@ each_subcommand() {
   "$@" 'order' order "$work/ordered.db" JONES/1 1
   "$@" 'board' board "$work/ordered.db"
   "$@" 'journal' journal "$work/journal"
+  "$@" 'verify' verify "$work/kept.db" "$work/journal" "${three[@]}"
   "$@" 'serve' serve "$work/ordered.db" --port "$port" --count 1
   : >"$work/input"
 }
