@@ -65,8 +65,8 @@ function pointRow(row, view) {
   const holds = view.holds.filter((hold) => hold.place === row.point && !["Tested", "Ground"].includes(hold.kind));
   const owners = [...new Set(holds.map((hold) => hold.by))];
   return el("tr", {}, el("th", { scope: "row" }, el("a", { href: `#/points/${row.point}` }, row.point)),
-    el("td", {}, row.position), el("td", {}, row.hand ?? "–"),
-    el("td", {}, owners.length ? owners.map((owner) => el("p", {}, `${owner}: `,
+    el("td", {}, row.position), el("td", { class: row.hand ? null : "none", "data-head": "in hand of" }, row.hand ?? "–"),
+    el("td", { class: owners.length ? null : "none" }, owners.length ? owners.map((owner) => el("p", {}, `${owner}: `,
       holds.filter((hold) => hold.by === owner).map((hold) => holdWord(hold.kind)).join(", "))) : "–"));
 }
 
@@ -74,7 +74,7 @@ function sectionRow(name, view) {
   const holds = view.holds.filter((hold) => hold.place === name && ["Tested", "Ground"].includes(hold.kind) && hold.by !== view.card.clearance);
   return el("tr", {}, el("th", { scope: "row" }, name, name === view.work ? el("span", { class: "chip" }, "work section") : null),
     el("td", {}, view.card.phase === "Granted" ? el("p", {}, sectionState(view, name)) : null,
-      holds.map((hold) => el("p", {}, `${holdWord(hold.kind)} by ${hold.by}`))));
+      holds.map((hold) => el("p", {}, `${holdWord(hold.kind)} by ${hold.by}`)), view.card.phase !== "Granted" && !holds.length ? "–" : null));
 }
 
 function facts(view) {

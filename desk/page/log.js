@@ -15,6 +15,7 @@ const OTHER_WORDS = {
   test: (c) => `${c.section} tested ${c.dead ? "dead" : "live"}`,
   ground: (c) => `ground on at ${c.section}`, unground: (c) => `ground off at ${c.section}`,
   sign_on: (c) => `crew ${c.crew} on`, sign_off: (c) => `crew ${c.crew} off`,
+  show: () => "looked at",
   transfer: (c) => `transferred to ${c.to}${c.emergency ? " in an emergency" : ""}`,
 };
 

@@ -52,7 +52,7 @@ export class ShiftPage {
     const alarmed = alarms().map(({ id, section }) => `${section} under ${id}`), records = recordRows();
     panel(this.#sheet, [this.#leaves.value, this.#comes.value, this.#notes.value, moved, jumpers, dead, alarmed, records, room.read], () => [
       el("h2", {}, "Hand-over of a shift"),
-      el("p", {}, `Leaves: ${this.#leaves.value || "…"}. Comes: ${this.#comes.value || "…"}. The board of ${wholeTime(room.read)}; the network of ${shortTime(room.network)}.`),
+      el("p", {}, `Leaves: ${this.#leaves.value || "not chosen"}. Comes: ${this.#comes.value || "not chosen"}. The board of ${wholeTime(room.read)}; the network of ${shortTime(room.network)}.`),
       alarmed.length ? list("TESTED LIVE", alarmed) : null,
       el("h3", {}, `Open: ${room.board.length} ${room.board.length === 1 ? "record" : "records"}`),
       this.#desk.caller ? null : el("p", {}, "No name is chosen: steps, work and crews are not read."),

@@ -24,7 +24,7 @@ export function stepsTable(view, found) {
     el("tr", { class: `step ${step.state}`, "aria-current": place + 1 === present ? "step" : null },
       el("td", { class: "number" }, String(place + 1)),
       el("td", {}, el("span", { class: "text" }, step.text), findingsList(found[place])),
-      el("td", {}, el("span", { class: "sign", "aria-hidden": "true" }, SIGNS[step.state]), ` ${stateWord(step.state)}`),
+      el("td", {}, el("span", { class: "sign", "aria-hidden": "true" }, SIGNS[step.state]), `\u00a0${stateWord(step.state)}`),
       el("td", {}, step.reader ?? "–")));
   return table(["No", "Step", "State", "Reader"], rows, { class: "steps" });
 }

@@ -1,9 +1,14 @@
 // Zoom and pan of a drawing, by wheel, drag, buttons and keys. The drawing is as large as it is, and is moved and scaled
 // within its frame as one picture: while that goes on nothing is drawn again, and it is drawn sharply once it is still.
 
-const MOST = 3, LEAST = 0.05, READABLE = 0.55, FAR = 0.42, CLOSE = 0.8, LARGEST = 1.4, STEP = 1.25, PAN = 80, DRAG = 5;
+const MOST = 3, LEAST = 0.05, READABLE = 0.6, FAR = 0.42, CLOSE = 0.8, LARGEST = 1.4, STEP = 1.25, PAN = 80, DRAG = 5;
 const EDGE = 40;   // pixels from the edge of the frame, within which a place is not in view
 const STILL = 160; // milliseconds after which it is still
+
+// Where a view of this length begins so that it shows no more beyond the drawing than it has to.
+function within(begin, length, size) {
+  return size < length ? (size - length) / 2 : Math.min(Math.max(begin, 0), size - length);
+}
 
 export class Zoom {
   #frame; #drawing; #size; #changed;
@@ -63,8 +68,8 @@ export class Zoom {
   #centre(x, y, scale) {
     const { width, height } = this.#box();
     this.#scale = scale;
-    this.#x = x - width / scale / 2;
-    this.#y = y - height / scale / 2;
+    this.#x = within(x - width / scale / 2, width / scale, this.#size.width);
+    this.#y = within(y - height / scale / 2, height / scale, this.#size.height);
     this.#show();
   }
 

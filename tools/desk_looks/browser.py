@@ -81,7 +81,7 @@ class Browser:
         data = None if body is None else json.dumps(body).encode()
         request = urllib.request.Request(self.base + path, data, {"Content-Type": "application/json"}, method=method)
         try:
-            with direct.open(request, timeout=60) as answer:
+            with direct.open(request, timeout=180) as answer:
                 return json.load(answer)["value"]
         except urllib.error.HTTPError as fault:
             raise Differs(f"the browser: {json.load(fault)['value']['message'].splitlines()[0]}") from None

@@ -28,12 +28,13 @@ const go = (now) => {
   times.push(now);
   acts[kind]();
   turn += 1;
-  if (now - begun < seconds * 1000) requestAnimationFrame(go);
-  else {
-    net.dispatchEvent(new PointerEvent('pointerup', { pointerId: 1, bubbles: true }));
-    const gaps = times.slice(1).map((time, place) => time - times[place]).sort((a, b) => a - b);
-    done([gaps.length / ((times.at(-1) - times[0]) / 1000), gaps[Math.floor(gaps.length / 2)], gaps[Math.floor(gaps.length * 0.95)]]);
+  if (now - begun < seconds * 1000) {
+    requestAnimationFrame(go);
+    return;
   }
+  net.dispatchEvent(new PointerEvent('pointerup', { pointerId: 1, bubbles: true }));
+  const gaps = times.slice(1).map((time, place) => time - times[place]).sort((a, b) => a - b);
+  done([gaps.length / ((times.at(-1) - times[0]) / 1000), gaps[Math.floor(gaps.length / 2)], gaps[Math.floor(gaps.length * 0.95)]]);
 };
 requestAnimationFrame(go);
 """
