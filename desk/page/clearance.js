@@ -154,7 +154,7 @@ export class ClearancePage {
     this.#drawNext(view);
     const found = stepsFindings(view, this.#desk);
     panel(this.#steps, [view.steps, found], () => (view.steps.length ? [el("h3", {}, `Steps of round ${view.card.round}`), stepsTable(view, found)] : []));
-    panel(this.#way, view.card.phase === "Closed", () => (view.card.phase === "Closed" ? [] : [wayBackOf(this.#id, this.#desk)]));
+    panel(this.#way, view.card.phase === "Closed", () => (view.card.phase === "Closed" ? [] : [wayBackOf(this.#id)]));
     this.#story.draw();
     panel(this.#facts, [view.points, view.holds, view.fence, view.crews, view.card, liveIn(view.fence)], () => facts(view));
   }

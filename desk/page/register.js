@@ -114,6 +114,10 @@ export function getOrder(clearance, round) {
   return inTurn("GET", `order/${clearance}/${round}`);
 }
 
+export function getWayBack(clearance) {
+  return inTurn("GET", `wayback/${clearance}`);
+}
+
 export function postCommand(command) {
   return inTurn("POST", "command", JSON.stringify(command));
 }

@@ -1,4 +1,4 @@
-"""The way back of a record: the page reckons what the program prints of the same register, in each phase; nothing is sent."""
+"""The way back of a record: the page shows what the register answers, which is what the program prints; nothing is sent."""
 
 import json
 import os
@@ -24,12 +24,15 @@ def printed(stage, clearance):
             os.remove(copy + end)
         if os.path.exists(stage.desk.base + end):
             shutil.copy(stage.desk.base + end, copy + end)
-    commands = [json.loads(line) for line in gridclear("wayback", copy, clearance).splitlines()]
-    return [{key: value for key, value in one.items() if key != "at"} for one in commands]
+    return timeless(gridclear("wayback", copy, clearance).splitlines())
 
 
-def reckoned(hand):
-    return [json.loads(one) for one in hand.browser.script(LINE)]
+def timeless(lines):
+    return [{key: value for key, value in json.loads(line).items() if key != "at"} for line in lines]
+
+
+def shown(hand):
+    return timeless(hand.browser.script(LINE))
 
 
 def compare(stage, hand, clearance):
@@ -37,8 +40,8 @@ def compare(stage, hand, clearance):
     hand.browser.find(f'main [data-id="{clearance}"] .way-back-place')
     hand.browser.script("document.querySelector('main .way-back-place').open = true")
     wanted = printed(stage, clearance)
-    wait_until(lambda: len(reckoned(hand)) == len(wanted), f"{len(wanted)} commands of the way back of {clearance}, not {len(reckoned(hand))}")
-    for place, (own, other) in enumerate(zip(reckoned(hand), wanted)):
+    wait_until(lambda: len(shown(hand)) == len(wanted), f"{len(wanted)} commands of the way back of {clearance}, not {len(shown(hand))}")
+    for place, (own, other) in enumerate(zip(shown(hand), wanted)):
         if own != other:
             raise Differs(f"the way back of {clearance}, command {place + 1}: the page has {own}, the program {other}")
 
@@ -58,7 +61,7 @@ def way_back(stage):
         compare(stage, hand, clearance)
     hand.turn("clearance/JONES/1")
     hand.browser.script("document.querySelector('main .way-back-place').open = true")
-    for text in ("JONES: sign crew C1 off from JONES/1", "JONES: release JONES/1", "DISP1: restore JONES/1", "nothing here is sent"):
+    for text in ("JONES: sign crew C1 off from JONES/1", "JONES: release JONES/1", "DISP1: restore JONES/1", "Nothing here is sent"):
         hand.shows(text, SAID)
     hand.picture("way-back")
     hand.nothing_sent(0)
