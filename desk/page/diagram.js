@@ -130,7 +130,7 @@ export class Diagram {
     const sections = [...this.#plan.spots.values()].map((spot) => this.#group("section", spot.name, spot.x, spot.y, this.#sections));
     const points = this.#plan.edges.map((edge) => this.#group("point", edge.point.name, edge.x, edge.y, this.#points));
     const { width, height } = this.#plan;
-    return svg("svg", { class: "drawing", width, height, viewBox: `0 0 ${width} ${height}` },
+    return svg("svg", { class: "drawing", role: "presentation", width, height, viewBox: `0 0 ${width} ${height}` },
       hatch(), svg("g", {}, base, dots), svg("g", {}, sections), svg("g", {}, points), this.#writing.node);
   }
 

@@ -5,7 +5,7 @@
 const WHAT = arguments[0];
 const CONTROLS = "button, a[href], input, select, textarea, summary, [tabindex]:not([tabindex='-1']), [role=checkbox]";
 const TEXT = 4.5, LARGE = 3, SIGN = 3, SMALLEST = 24;
-const ROLES = new Set("alert checkbox group status dialog".split(" "));
+const ROLES = new Set("alert checkbox group status dialog presentation".split(" "));
 const ARIA = new Set("label labelledby describedby live hidden checked current controls expanded required invalid".split(" "));
 const faults = [];
 

@@ -1,6 +1,6 @@
 """Every act of the page by the keys alone: no pointer is used, and no script presses anything."""
 
-from desk_looks.browser import ENTER, LONG, TAB, Differs, free_ports, say, wait_until
+from desk_looks.browser import ENTER, TAB, Differs, free_ports, say, wait_until
 from desk_looks.desk import Desk
 from desk_looks.network import needed, steps, write_files
 

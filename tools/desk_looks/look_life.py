@@ -5,9 +5,9 @@ import os
 import signal
 import time
 
-from desk_looks.browser import ENTER, Differs, free_ports, say, wait_until
+from desk_looks.access import Access
+from desk_looks.browser import ENTER, free_ports, say, wait_until
 from desk_looks.desk import EXAMPLES, Desk, same_as_run
-from desk_looks.labels import look_at_labels
 
 
 def ask_and_order(hand):
@@ -276,8 +276,20 @@ def look_around(hand):
     hand.picture("diagram")
 
 
+def look_at_access(hand):
+    say("names, roles, contrast and sizes on each page, once all of it was used")
+    access = Access(hand)
+    for page in ("board", "points", "mine", "switch", "jumper", "log", "shift", "clearance/JONES/1"):
+        for name in ("OPS", "JONES"):
+            hand.turn(page)
+            hand.speak(name)
+            time.sleep(0.8)
+            access.look(f"{page} as {name}")
+    access.verdict()
+
+
 PARTS = (ask_and_order, isolate, switch, lose_a_reply, stop_and_start, work_part, hand_over, moments, give_back, look_around,
-         look_at_labels)
+         look_at_access)
 
 
 def whole_life(stage):

@@ -2,7 +2,7 @@
 
 import time
 
-from desk_looks.browser import ENTER, Differs
+from desk_looks.browser import ENTER
 from desk_looks.network import granted, ordered
 
 CUT = ["N13-Q11", "N13-B1", "N13-Q13"]
