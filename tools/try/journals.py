@@ -194,7 +194,7 @@ def no_journal(folder):
     """A file that is no journal is refused, and not one byte of it is changed."""
     path, other = register(folder / "room.db", shift(2)), register(folder / "other.db", shift(3))
     journal = folder / "journal"
-    run("run", "--db", path, "--journal", journal, lines=[shift(3)[2]])
+    run("run", "--db", path, "--journal", journal, lines=shift(4)[2:])
     whole = journal.read_bytes()
     texts = {"another register": other.read_bytes(), "a line without its line feed": b"a word", "a line of words": b"a word\n", "an empty line": b"\n",
              "a file of commands": "\n".join(shift(5)).encode(), "a last line that does not read": whole + b"{}\n" + whole[:40], "a journal without its line feeds": whole.replace(b"\n", b" ") + b"\n"}
@@ -202,11 +202,11 @@ def no_journal(folder):
         file = folder / "file"
         file.write_bytes(text)
         before = path.read_bytes()
-        same(f"run with {title} for a journal", run("run", "--db", path, "--journal", file, lines=[shift(4)[3]]), (1, "", OPEN_FAILED))
+        same(f"run with {title} for a journal", run("run", "--db", path, "--journal", file, lines=[shift(5)[4]]), (1, "", OPEN_FAILED))
         same(f"serve with {title} for a journal", run("serve", path, "--port", 18082, "--count", 1, "--journal", file), (1, "", OPEN_FAILED))
         same(f"{title}: no byte of it is changed", file.read_bytes() == text, True)
         same(f"{title}: nor is the register", path.read_bytes(), before)
-    for title, text in {"the front of a first line": b'{"comm', "a first line without its line feed": whole[:-1]}.items():
+    for title, text in {"the front of a first line": b'{"comm', "a first line without its line feed": whole[:whole.index(b"\n")]}.items():
         journal.write_bytes(text)
         same(f"{title}: opened", run("run", "--db", path, "--journal", journal, lines=()), (0, "", ""))
         same(f"{title}: it is cut off", journal.read_bytes(), b"")
