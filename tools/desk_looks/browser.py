@@ -13,7 +13,7 @@ import urllib.request
 NEEDED = {"chromium": "chromium", "chromedriver": "chromium-driver", "nginx": "nginx"}
 TAB, ENTER, ALT, SHIFT = "\ue004", "\ue007", "\ue00a", "\ue008"
 REBOUND = "rebound.example"  # a foreign name that leads to this machine
-LONG = 30  # seconds that anything is waited for
+LONG = 30 * max(1, int(os.getloadavg()[0] / os.cpu_count()))  # seconds that anything is waited for; more on a busy machine
 
 direct = urllib.request.build_opener(urllib.request.ProxyHandler({}))
 
