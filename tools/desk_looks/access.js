@@ -11,7 +11,12 @@ const faults = [];
 
 const all = (css, root = document) => [...root.querySelectorAll(css)];
 const isSeen = (node) => node.checkVisibility({ opacityProperty: true, visibilityProperty: true, contentVisibilityAuto: true });
-const isUnseen = (node) => node.closest(".unseen, #skip:not(:focus)") !== null;
+// For screen readers alone: a page clips that away.
+function isUnseen(node) {
+  for (let up = node; up; up = up.parentElement) if (getComputedStyle(up).clipPath === "inset(50%)") return true;
+  return false;
+}
+
 const top = document.querySelector("dialog[open]") ?? document.body; // what may be used now
 const squeezed = (text) => (text ?? "").replace(/\s+/g, " ").trim();
 
