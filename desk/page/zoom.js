@@ -3,7 +3,7 @@
 
 const MOST = 3, LEAST = 0.05, READABLE = 0.6, FAR = 0.42, CLOSE = 0.8, LARGEST = 1.4, STEP = 1.25, PAN = 80, DRAG = 5;
 const EDGE = 40;   // pixels from the edge of the frame, within which a place is not in view
-const STILL = 160; // milliseconds after which it is still
+const STILL = 10;  // frames without a move, after which it is still: on a slow machine they take longer
 
 // Where a view of this length begins so that it shows no more beyond the drawing than it has to.
 function within(begin, length, size) {
@@ -15,7 +15,8 @@ export class Zoom {
   #x = 0; #y = 0; #scale = 1;
   #byHand = false; // whether the operator has zoomed or moved it
   #middle = null;  // what is to be in the middle where not all can be read
-  #later = null;
+  #later = null;   // the next look at whether it is still
+  #quiet = 0;      // frames since it was moved
 
   // `changed(scale)` is called whenever the drawing is shown at a scale.
   constructor(frame, drawing, size, changed) {
@@ -36,7 +37,8 @@ export class Zoom {
   }
 
   #show() {
-    clearTimeout(this.#later);
+    cancelAnimationFrame(this.#later);
+    this.#later = null;
     this.#place();
     this.#drawing.classList.remove("moving");
     this.#frame.classList.toggle("far", this.#scale < FAR);
@@ -47,8 +49,14 @@ export class Zoom {
     this.#byHand = true;
     this.#drawing.classList.add("moving");
     this.#place();
-    clearTimeout(this.#later);
-    this.#later = setTimeout(() => this.#show(), STILL);
+    this.#quiet = 0;
+    this.#later ??= requestAnimationFrame(() => this.#wait());
+  }
+
+  #wait() {
+    this.#quiet += 1;
+    if (this.#quiet < STILL) this.#later = requestAnimationFrame(() => this.#wait());
+    else this.#show();
   }
 
   #zoomAt(factor, left, top) {
