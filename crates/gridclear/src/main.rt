@@ -32,7 +32,10 @@ fn program(rt: &HostRuntime) -> ExitCode
     let stdin = StandardInput::new(stdin, &second);
     drop(second);
     let watch = Watch::new(*rt, rt.stderr());
-    let words = words_of(rt);
+    let words = match env::args(rt) {
+        Ok(words) => words.collect(rt.alloc()).map_err(io::Error::from),
+        Err(fault) => Err(fault),
+    };
     let mut input = Behind::new(Counted::new(stdin), &watch);
     let mut output = Behind::new(Counted::new(rt.stdout()), &watch);
     let mut errors = Behind::new(Counted::new(rt.stderr()), &watch);
@@ -73,10 +76,4 @@ fn exit_code(status: u8) -> ExitCode
     ensures { exit_status result ≡ status }
 {
     ExitCode::from(status)
-}
-
-/// The words of the command line, of which the first is the program's name.
-fn words_of(rt: &HostRuntime) -> io::Result<Vec<String>> {
-    let words = env::args(rt)?.collect(rt.alloc())?;
-    Ok(words)
 }
