@@ -19,13 +19,13 @@ use Rattle.clr_rules.specs.declared.record.Record.{Record}
 use Rattle.clr_rules.specs.declared.step_row.StepRow.{StepRow}
 use Rattle.clr_verify.specs.declared.table_row.PointNow.{PointNow}
 
--- a test of two values tells whether they are the same
+-- a test of two values decides whether they are the same
 pub record IsExact {X : Type 0} (test : X → X → Bool) : Type 0 where
   pub same : (a b : X) → test a b ≡ true → a ≡ b
   pub itself : (a : X) → test a a ≡ true
 
-pub tells : {X : Type 0} {test : X → X → Bool} → IsExact test → (a b : X) (told : Bool) → told ≡ test a b → (told ≡ true) ↔ (a ≡ b)
-tells {X} {test} exact a b told is =
+pub decides : {X : Type 0} {test : X → X → Bool} → IsExact test → (a b : X) (found : Bool) → found ≡ test a b → (found ≡ true) ↔ (a ≡ b)
+decides {X} {test} exact a b found is =
     ((λ yes. exact.same a b (sym is ∙ yes)), (λ same. is ∙ ap (λ x. test x b) same ∙ exact.itself b))
 
 flag_same : (a b : Bool) → beq a b ≡ true → a ≡ b

@@ -14,10 +14,10 @@ longer n xs ys before here =
     let next : n + 1 ≡ suc n = omega arith in
     rw next (one_more n xs ∙ (λ i. before i ++ option_to_list (here i)) ∙ sym (one_more n ys))
 
--- the same of rows that are lent
-pub longer_lent : {X : Type 0} (n : ℕ) (xs ys : List (Bor X)) → take n (map (λ row. row.now) xs) ≡ take n (map (λ row. row.now) ys)
+-- the same of references to rows
+pub longer_references : {X : Type 0} (n : ℕ) (xs ys : List (Bor X)) → take n (map (λ row. row.now) xs) ≡ take n (map (λ row. row.now) ys)
     → option_map (λ row. row.now) (slice_get xs n) ≡ option_map (λ row. row.now) (slice_get ys n) → take (n + 1) (map (λ row. row.now) xs) ≡ take (n + 1) (map (λ row. row.now) ys)
-longer_lent n xs ys before here =
+longer_references n xs ys before here =
     longer n (map (λ row. row.now) xs) (map (λ row. row.now) ys) before (slice_get-map (λ row. row.now) xs n ∙ here ∙ sym (slice_get-map (λ row. row.now) ys n))
 
 -- what `get` finds

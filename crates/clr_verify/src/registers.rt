@@ -84,8 +84,8 @@ fn row_apart<R: Row + TableRow, S: Shelf<R>>(
 fn section_apart(alloc: Global, left: &Network, right: &Network) -> Result<Option<Name>, AllocError>
     ensures { IfOk result (Differ (λ row. row.name) name_cmp left.now.sections right.now.sections) }
 {
-    let rows = lent(alloc, left.sections())?;
-    let others = lent(alloc, right.sections())?;
+    let rows = references(alloc, left.sections())?;
+    let others = references(alloc, right.sections())?;
     Ok(first_difference(&rows, &others))
 }
 
@@ -93,8 +93,8 @@ fn section_apart(alloc: Global, left: &Network, right: &Network) -> Result<Optio
 fn employee_apart(alloc: Global, left: &Staff, right: &Staff) -> Result<Option<Name>, AllocError>
     ensures { IfOk result (Differ (λ row. row.name) name_cmp left.now right.now) }
 {
-    let rows = lent(alloc, left.rows())?;
-    let others = lent(alloc, right.rows())?;
+    let rows = references(alloc, left.rows())?;
+    let others = references(alloc, right.rows())?;
     Ok(first_difference(&rows, &others))
 }
 
@@ -114,8 +114,8 @@ where
 {
     let points = points_now(alloc, left)?;
     let others = points_now(alloc, right)?;
-    let rows = lent(alloc, &points)?;
-    let other_rows = lent(alloc, &others)?;
+    let rows = references(alloc, &points)?;
+    let other_rows = references(alloc, &others)?;
     Ok(first_difference(&rows, &other_rows))
 }
 
@@ -169,8 +169,8 @@ where
     }
 }
 
-/// Rows, each lent.
-fn lent<T>(alloc: Global, rows: &[T]) -> Result<Vec<&T>, AllocError>
+/// A reference to each row.
+fn references<T>(alloc: Global, rows: &[T]) -> Result<Vec<&T>, AllocError>
     ensures { IfOk result (λ found. map (λ row. row.now) found.items ≡ rows.now) }
 {
     let mut found = Vec::new(alloc);

@@ -1,6 +1,6 @@
 use Rattle.std.proofs.Common.{◌≡◌, map, take}
-use Rattle.clr_verify.proofs.registers.lent.Given as goal
+use Rattle.clr_verify.proofs.registers.references.Given as goal
 
--- the rows before the place are lent
+-- each row before the place has its reference
 abbrev pub invariant-loop-row : goal.invariant-loop-row
 invariant-loop-row g l = map (λ row. row.now) l.found.items ≡ take l.row-index l.rows
