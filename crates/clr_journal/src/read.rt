@@ -20,7 +20,7 @@ pub fn read_line(alloc: Global, bytes: &[u8]) -> Result<Option<Line>, AllocError
     ensures { IfOk result (λ line. option_map entry_of line ≡ read_line bytes.now) }
 {
     match value_of(alloc, bytes)? {
-        Some(value) => line_in(alloc, &value),
+        Some(mut value) => line_in(alloc, &mut value),
         None => Ok(None),
     }
 }
@@ -41,9 +41,9 @@ fn value_of(alloc: Global, bytes: &[u8]) -> Result<Option<Value>, AllocError>
     }
 }
 
-/// The line of a JSON value.
-fn line_in(alloc: Global, value: &Value) -> Result<Option<Line>, AllocError>
-    ensures { IfOk result (λ line. option_map entry_of line ≡ line_in (view value.now)) }
+/// The line of a JSON value, out of which the reply is taken.
+fn line_in(alloc: Global, value: &mut Value) -> Result<Option<Line>, AllocError>
+    ensures { IfOk result (λ line. option_map entry_of line ≡ line_in (view value.old)) }
 {
     if value.get("withdrawn").is_some() {
         Ok(withdrawn_in(value))
@@ -65,9 +65,9 @@ fn withdrawn_in(value: &Value) -> Option<Line>
     }
 }
 
-/// A line with a command and its reply.
-fn carried_in(alloc: Global, value: &Value) -> Result<Option<Line>, AllocError>
-    ensures { IfOk result (λ line. option_map entry_of line ≡ carried_in (view value.now)) }
+/// A line with a command and its reply, which is taken out of the value.
+fn carried_in(alloc: Global, value: &mut Value) -> Result<Option<Line>, AllocError>
+    ensures { IfOk result (λ line. option_map entry_of line ≡ carried_in (view value.old)) }
 {
     let Some(receipt) = receipt_in(alloc, value)? else {
         return Ok(None);
@@ -75,7 +75,7 @@ fn carried_in(alloc: Global, value: &Value) -> Result<Option<Line>, AllocError>
     let Some(command) = command_at(alloc, value)? else {
         return Ok(None);
     };
-    let Some(reply) = reply_at(value)? else {
+    let Some(reply) = reply_at(value) else {
         return Ok(None);
     };
     Ok(Some(Line::Carried(Carried {
@@ -140,16 +140,12 @@ fn command_at(alloc: Global, value: &Value) -> Result<Option<Command>, AllocErro
     }
 }
 
-/// The reply at `reply`.
-fn reply_at(value: &Value) -> Result<Option<Value>, AllocError>
-    ensures { IfOk result (λ reply. option_map view reply
-        ≡ get (codes "reply") (view value.now)) }
+/// The reply at `reply`, taken out of the value.
+fn reply_at(value: &mut Value) -> Option<Value>
+    ensures { option_map view result ≡ get (codes "reply") (view value.old) }
 {
-    match value.get("reply") {
-        Some(found) => {
-            let copy = found.clone()?;
-            Ok(Some(copy))
-        }
-        None => Ok(None),
+    match value.get_mut("reply") {
+        Some(found) => Some(found.take()),
+        None => None,
     }
 }
