@@ -1,8 +1,8 @@
 //! A stream that ends at a time.
-ghost use Rattle.std.specs.Prelude.{◌≡◌, ◌-◌, ◌≤◌, ◌↔◌, IfOk, IfSome, IsErr, IsSomeAnd};
-ghost use Rattle.std.specs.Prelude.{OnErr, OnOk, ⊤};
+ghost use Rattle.std.specs.Prelude.{◌≡◌, ◌+◌, ◌-◌, ◌≤◌, ◌↔◌, IfOk, IfSome, IsErr, IsOk};
+ghost use Rattle.std.specs.Prelude.{IsSomeAnd, OnErr, OnOk, ⊤};
 ghost use Rattle.std.specs.Duration.{as_nanos};
-ghost use Rattle.std.specs.Time.{instant_nanos};
+ghost use Rattle.std.specs.Time.{FitsClock, instant_nanos};
 ghost use Rattle.clr_disk.specs.Timed.{EndsAfter, IsPassedOn};
 ghost use Rattle.clr_disk.specs.declared.timed.Call.{Call as AnyCall};
 ghost use Rattle.clr_disk.specs.declared.timed.Limit.{Limit as AnyLimit};
@@ -64,12 +64,13 @@ pub struct Limit<K> {
 }
 
 impl<K: Drop> Limit<K> {
-    /// The end of this number of seconds from a moment of a clock. There is none after the last
-    /// moment that the clock can show.
-    pub fn after(clock: K, now: Instant, seconds: u16) -> io::Result<Limit<K>>
-        ensures { IfOk result (EndsAfter clock now seconds) }
+    /// The end of a time that begins at a moment of a clock. There is none after the last moment
+    /// that the clock can show.
+    pub fn after(clock: K, now: Instant, time: Duration) -> io::Result<Limit<K>>
+        ensures ends { IfOk result (EndsAfter clock now (as_nanos time)) }
+        ensures is_ok { IsOk result ↔ FitsClock (instant_nanos now + as_nanos time) }
     {
-        match now.checked_add(Duration::from_secs(u64::from(seconds))) {
+        match now.checked_add(time) {
             Some(end) => Ok(Limit { clock, end }),
             None => Err(io::Error::from(io::ErrorKind::TimedOut)),
         }
