@@ -1,3 +1,2 @@
 pub mod Databases
-pub mod Ending
 pub mod TakenUp

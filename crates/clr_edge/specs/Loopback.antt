@@ -1,5 +1,5 @@
 -- Ports of the machine itself.
-use Rattle.std.specs.Prelude.{◌≡◌, ◌∷◌, ℕ, [], None, Option, Some}
+use Rattle.std.specs.Prelude.{◌≡◌, ◌*◌, ◌∷◌, ℕ, [], IsSomeAnd, None, Option, Some}
 use Rattle.std.specs.Net.Addr.{IsV4And, ipv4_octets}
 use Rattle.std.specs.Net.Socket.{socket_ip, socket_port}
 use Rattle.std.specs.declared.io.ErrorKind.{ErrorKind}
@@ -11,14 +11,16 @@ use Rattle.clr_disk.specs.declared.timed.Limit.{Limit}
 use Rattle.clr_edge.specs.declared.fault.Fault.{Fault}
 use Rattle.clr_edge.specs.declared.fault.Fault.TheVariants.{Listen, Memory}
 
--- the two handles of a connection end together: this number of seconds after a moment of the clock,
--- where a number is given, and otherwise not at all
-abbrev pub EndTogether : {K : Type 0} → (K → Type 0) → Option ℕ → Option (Limit K)
+-- TWO LIMITS KEEP A DEADLINE of this number of seconds: by the clock and from one moment on, a
+-- request has a quarter of it to be read, and its response the whole to be written. Without a number
+-- there is no limit.
+abbrev pub KeepDeadline : {K : Type 0} → (K → Type 0) → Option ℕ → Option (Limit K)
     → Option (Limit K) → Type 0
-EndTogether is_clock None reader writer = (reader ≡ None) × (writer ≡ None)
-EndTogether {K} is_clock (Some seconds) reader writer = (clock : K) × (now : Instant)
-    × (limit : Limit K) × is_clock clock × EndsAfter clock now seconds limit
-    × (reader ≡ Some limit) × (writer ≡ Some limit)
+KeepDeadline is_clock None reader writer = (reader ≡ None) × (writer ≡ None)
+KeepDeadline {K} is_clock (Some seconds) reader writer = (clock : K) × (now : Instant)
+    × is_clock clock
+    × IsSomeAnd reader (EndsAfter clock now (seconds * 250_000_000))
+    × IsSomeAnd writer (EndsAfter clock now (seconds * 1_000_000_000))
 
 -- the address of a port of 127.0.0.1
 pub record IsLocal (address : SocketAddr) (port : ℕ) : Type 0 where

@@ -3,7 +3,7 @@ ghost use Rattle.std.specs.Prelude.{◌≡◌, ℕ, IfErr, IfOk, Option};
 ghost use Rattle.std.specs.IoError.{error_kind};
 ghost use Rattle.std.specs.declared.io.ErrorKind.{ErrorKind};
 ghost use Rattle.std.specs.declared.net.socket_addr.SocketAddr.{SocketAddr as AnySocketAddr};
-ghost use Rattle.clr_edge.specs.Loopback.{EndTogether, IsLocal, RefusesOn, StandsOn, listen_fault};
+ghost use Rattle.clr_edge.specs.Loopback.{IsLocal, KeepDeadline, RefusesOn, StandsOn, listen_fault};
 ghost use Rattle.clr_stream.specs.Counted.{counted_inner};
 ghost use Rattle.clr_edge.specs.declared.loopback.Connection.{Connection as AnyConnection};
 
@@ -14,7 +14,7 @@ use clr_stream::{Counted, CountedFlush, CountedRead};
 use std::io;
 use std::net::{IpAddr, Ipv4Addr, SocketAddr, TcpListener, TcpStream};
 use std::rt::Clock;
-use std::time::Instant;
+use std::time::{Duration, Instant};
 
 /// What takes connections. Each step leads from one state of it to the next, and each connection
 /// that came is let go by `hang_up`.
@@ -34,7 +34,7 @@ pub trait Loopback {
     /// That a listener was had on an address. Only `bind` says so.
     ghost stands: { Self → AnySocketAddr → Self.Listener → Self → Type 0 };
 
-    /// That a connection came to a listener, which has this number of seconds, if one is given. Only
+    /// That a connection came to a listener, and has this number of seconds, if one is given. Only
     /// `accept` says so.
     ghost comes: { Self → Self.Listener → Option ℕ → AnyConnection Self.Reader Self.Writer
         → Self → Type 0 };
@@ -51,8 +51,9 @@ pub trait Loopback {
         ensures refuses { IfErr result (λ error.
             refuses self.old address (error_kind error) self.new) };
 
-    /// Waits for the next connection to a listener. One that is not over this number of seconds
-    /// later, if a number is given, is ended: from then on each read and write of it fails.
+    /// Waits for the next connection to a listener. Where a deadline is given, each read of it fails
+    /// once a quarter of that number of seconds has passed since it came, and each write once all
+    /// have. So a client that sends nothing holds up the next ones for a quarter alone.
     fn accept(
         &mut self,
         listener: &Self::Listener,
@@ -80,6 +81,32 @@ pub struct Connection<R, W> {
 /// One of the two handles of a connection to the machine.
 type Handle<K> = Counted<Timed<TcpStream, K>>;
 
+/// The limits of the two handles of a connection, if it has them.
+#[derive(Clone, Copy)]
+struct Limits<K> {
+    reader: Option<Limit<K>>,
+    writer: Option<Limit<K>>,
+}
+
+/// The limits of a connection that comes now. Its request has a quarter of the deadline, if there
+/// is one, and all is over at the deadline.
+fn limits_now<Y: System>(system: &Y, deadline: Option<u16>) -> io::Result<Limits<Y::Clock>>
+    ensures { IfOk result (λ limits.
+        KeepDeadline (Y.has_clock system.now) deadline limits.reader limits.writer) }
+{
+    let Some(seconds) = deadline else {
+        return Ok(Limits { reader: None, writer: None });
+    };
+    let clock = system.clock();
+    let now = Instant::now(&clock)?;
+    let quarter = Duration::from_millis(u64::from(seconds) * 250);
+    let whole = Duration::from_secs(u64::from(seconds));
+    Ok(Limits {
+        reader: Some(Limit::after(clock, now, quarter)?),
+        writer: Some(Limit::after(clock, now, whole)?),
+    })
+}
+
 impl<'a, Y: System, K: Clock> Loopback for Machine<'a, Y, K> {
     type Listener = TcpListener;
 
@@ -94,7 +121,7 @@ impl<'a, Y: System, K: Clock> Loopback for Machine<'a, Y, K> {
         Y.listens old.system address listener new.system };
 
     ghost comes = { λ old _ deadline connection new. (new ≡ old)
-        × EndTogether (Y.has_clock old.system) deadline
+        × KeepDeadline (Y.has_clock old.system) deadline
         (counted_inner connection.reader).limit (counted_inner connection.writer).limit };
 
     ghost misses = { λ old _ _ new. new ≡ old };
@@ -119,23 +146,16 @@ impl<'a, Y: System, K: Clock> Loopback for Machine<'a, Y, K> {
         deadline: Option<u16>,
     ) -> io::Result<Connection<Handle<Y::Clock>, Handle<Y::Clock>>>
         ensures comes { IfOk result (λ connection. (self.new ≡ self.old)
-            × EndTogether (Y.has_clock self.old.system) deadline
+            × KeepDeadline (Y.has_clock self.old.system) deadline
             (counted_inner connection.reader).limit (counted_inner connection.writer).limit) }
         ensures misses { IfErr result (λ _. self.new ≡ self.old) }
     {
         let (reader, _) = listener.accept()?;
-        let limit = match deadline {
-            Some(seconds) => {
-                let clock = self.system.clock();
-                let now = Instant::now(&clock)?;
-                Some(Limit::after(clock, now, seconds)?)
-            }
-            None => None,
-        };
+        let limits = limits_now(&self.system, deadline)?;
         let writer = reader.try_clone()?;
         Ok(Connection {
-            reader: Counted::new(Timed::new(reader, limit)),
-            writer: Counted::new(Timed::new(writer, limit)),
+            reader: Counted::new(Timed::new(reader, limits.reader)),
+            writer: Counted::new(Timed::new(writer, limits.writer)),
         })
     }
 
