@@ -9,11 +9,10 @@ from desk_looks.browser import REBOUND, Differs, say, wait_until
 from desk_looks.desk import tables
 from desk_looks.network import switch
 
-DEADLINE = 2  # seconds after which tools/desk has the register end a connection
-IDLE = 2      # connections that a page may leave open here and say nothing on; each may cost a deadline
+DEADLINE = 2  # seconds that tools/desk gives a connection to the register; an idle one costs a quarter of them
 COMMAND = {"at": 1, "by": "DISP4", "do": "switch", "steps": ["OPEN N14-Q21"]}
 
-# What a page may try at an address without being asked; each says when it has done so.
+# What a page may try at an address without being asked. It says when it has done so, and leaves two idle connections then.
 PAGE = """<!doctype html><title>another page</title><link rel="preconnect" href="%(at)s" crossorigin><link rel="preconnect" href="%(at)s">
 <iframe name="sink"></iframe><form id="form" method="post" target="sink" enctype="text/plain" action="%(at)s/command"><input name='%(begin)s' value='%(end)s'></form>
 <script>
@@ -26,7 +25,8 @@ const tries = [
   Promise.resolve(navigator.sendBeacon("%(at)s/command", body)),
 ];
 document.getElementById("form").submit();
-Promise.allSettled(tries).then(() => setTimeout(() => { document.title = "tried"; }, 500));
+const preconnect = (anonymous) => { const link = document.createElement("link"); link.rel = "preconnect"; link.href = "%(at)s"; if (anonymous) link.crossOrigin = ""; document.head.append(link); };
+Promise.allSettled(tries).then(() => setTimeout(() => { preconnect(false); preconnect(true); setTimeout(() => { document.title = "tried"; }, 200); }, 500));
 </script>"""
 
 
@@ -61,7 +61,7 @@ class Foreign:
 
 
 def answered(hand, number):
-    """A desk's command beside it is answered in time."""
+    """How long a desk's command takes beside it."""
     begun = time.monotonic()
     hand.post(switch([f"OPEN N15-Q{number % 3 + 1}1"]))
     return time.monotonic() - begun
@@ -89,8 +89,8 @@ def foreign(stage):
         other.complaints()
         site.end()
     say(f"  nothing was carried out; the slowest of {own} commands beside it took {worst:.1f} seconds")
-    if worst > IDLE * DEADLINE + 1:
-        raise Differs(f"a desk's command waited {worst:.1f} seconds")
+    if worst > DEADLINE:
+        raise Differs(f"a desk's command waited {worst:.1f} seconds, and the deadline is {DEADLINE}")
 
 
 def rebound(stage, browser):

@@ -1,12 +1,13 @@
 #!/usr/bin/env python3
 """`serve --deadline S`: connections that send nothing, half a head, half a body, a byte a second, or do not read, and a
-desk's command beside them.
+desk's command after them.
 
-    tools/try/deadlines.py [CONNECTIONS]
+    tools/try/deadlines.py [CONNECTIONS [SECONDS]]
 
-A server answers one connection after another, so a command that comes after n silent ones waits n deadlines. 20 connections
-are tried where no number is given, a quarter of each of the first four kinds, each kind at a server of its own. GRIDCLEAR
-names another program than tools/gridclear."""
+A server answers one connection after another. A request has a quarter of the deadline, so a command that comes after n
+silent connections waits n quarters: after three it is answered within the deadline. One that does not read has a whole
+deadline. 3 connections of each kind and a deadline of 2 seconds are tried where no number is given, each kind at a server
+of its own; of those that do not read 1, or as many as are given. GRIDCLEAR names another program than tools/gridclear."""
 
 import contextlib
 import pathlib
@@ -18,66 +19,71 @@ from concurrent.futures import ThreadPoolExecutor
 
 from looks import REQUEST, Server, get, look, main, post, register, replied, run, same, shift
 
-COUNT = int(sys.argv[1]) if sys.argv[1:] else 20
-KINDS = ("nothing", "half a head", "half a body", "a byte a second", "nothing read")
+COUNT = int(sys.argv[1]) if sys.argv[1:] else 3
+DEADLINE = int(sys.argv[2]) if sys.argv[2:] else 2
+KINDS = ("nothing", "half a head", "half a body", "a byte a second")
 SLACK = 1.5  # seconds that a machine with other work may add
+BODY = post(REQUEST.replace("JONES", "KIM"), "Host: localhost")
 
 
-def silent(server, kind, ended):
-    """A connection that is never over by itself. Notes what it received in the end."""
+def silent(server, kind):
+    """A connection that is never over by itself. Returns what it received in the end."""
     found = b""
     with socket.socket() as one:
-        if kind == "nothing read":
-            one.setsockopt(socket.SOL_SOCKET, socket.SO_RCVBUF, 2048)
         one.connect(("127.0.0.1", server.port))
-        one.settimeout(300)
-        body = post(REQUEST.replace("JONES", "KIM"), "Host: localhost")
+        one.settimeout(1200)
         with contextlib.suppress(ConnectionError, TimeoutError):
             if kind == "half a head":
-                one.sendall(body[:30])
+                one.sendall(BODY[:30])
             elif kind == "half a body":
-                one.sendall(body[:-20])
-            elif kind == "nothing read":
-                one.sendall(get("/network", "Host: localhost"))
+                one.sendall(BODY[:-20])
             elif kind == "a byte a second":
-                for place in range(len(body)):
-                    one.sendall(body[place:place + 1])
+                for place in range(len(BODY) - 1):
+                    one.sendall(BODY[place:place + 1])
                     time.sleep(1)
-            if kind != "nothing read":
-                while piece := one.recv(4096):
-                    found += piece
-            else:
-                ended.wait()
+            while piece := one.recv(4096):
+                found += piece
     return found
 
 
 def of_kind(folder, kind):
-    """Silent connections of one kind, each of which is ended, and a command after them."""
-    path, count = register(folder / f"{kind}.db"), max(COUNT // 4, 1)
-    with Server(path, "--desk", "--deadline", 1, count=count + 1) as server:
-        ended, found = threading.Event(), []
-        threads = [threading.Thread(target=lambda: found.append(silent(server, kind, ended))) for _ in range(count)]
+    """Silent connections of one kind, each of which is ended, and a command after them. How long it took."""
+    path, found = register(folder / f"{kind}.db"), []
+    with Server(path, "--desk", "--deadline", DEADLINE, count=COUNT + 1) as server:
+        threads = [threading.Thread(target=lambda: found.append(silent(server, kind))) for _ in range(COUNT)]
         for one in threads:
             one.start()
         time.sleep(0.3)
-        begun = time.monotonic()
-        status, _ = replied(server.ask(post(REQUEST, "Host: localhost")))
-        took = time.monotonic() - begun
+        took = answered(server, post(REQUEST, "Host: localhost"), f"{kind}: a command after {COUNT}")
         for one in threads:
             one.join()
-        same(f"{kind}: a command after {count} is accepted", status, 200)
-        look(f"{kind}: it is answered {count} deadlines later", took < count + SLACK, took)
+        waits(f"{kind}: it waits {COUNT} quarters of a deadline", took, COUNT * DEADLINE / 4)
+        if COUNT < 4:
+            look(f"{kind}: it is answered within the deadline", took < DEADLINE, took)
         same(f"{kind}: none of them has a response", set(found), {b""})
-        wanted = "".join(f"connection {number} ReadFailed\n" for number in range(1, count + 1))
+        wanted = "".join(f"connection {number} ReadFailed\n" for number in range(1, COUNT + 1))
         same(f"{kind}: each is reported", server.ended(), (0, wanted))
     same(f"{kind}: no late command was carried out", run("board", path)[1].count("KIM"), 0)
     return took
 
 
+def answered(server, request, title):
+    """How long it takes until this request is answered."""
+    begun = time.monotonic()
+    status, _ = replied(server.ask(request))
+    took = time.monotonic() - begun
+    same(f"{title} is answered", status, 200)
+    return took
+
+
+def waits(title, took, seconds):
+    look(title, seconds - 1 < took < seconds + SLACK, took)
+
+
 def beside(folder):
     with ThreadPoolExecutor(4) as pool:
-        slowest = max(pool.map(lambda kind: of_kind(folder, kind), KINDS[:4]))
-    print(f"a command after {max(COUNT // 4, 1)} silent connections, at a deadline of 1 second: answered after {slowest:.1f} s at most", flush=True)
+        slowest = max(pool.map(lambda kind: of_kind(folder, kind), KINDS))
+    print(f"a command after {COUNT} silent connections, at a deadline of {DEADLINE} seconds: answered after {slowest:.1f} s at most", flush=True)
 
 
 def large(folder):
@@ -91,45 +97,70 @@ def large(folder):
     return [str(sections), str(points), str(staff)]
 
 
+def asking(server):
+    """A connection that asks for that picture, with little room for what comes."""
+    one = socket.socket()
+    one.setsockopt(socket.SOL_SOCKET, socket.SO_RCVBUF, 2048)
+    one.connect(("127.0.0.1", server.port))
+    one.settimeout(60)
+    one.sendall(get("/network", "Host: localhost"))
+    return one
+
+
+def received(one):
+    """All that comes to a connection."""
+    found = b""
+    with contextlib.suppress(ConnectionError):
+        while piece := one.recv(65536):
+            found += piece
+    return found
+
+
 def unread(folder):
-    """One that does not read is ended at its deadline, as one whose writing failed."""
+    """Connections that do not read are each ended at their deadline, as one whose writing failed."""
     if int(pathlib.Path("/proc/sys/net/ipv4/tcp_wmem").read_text(encoding="ascii").split()[2]) > 4_194_304:
         print("left out: a client that does not read: this system takes a whole response of 3 MB from its server", flush=True)
         return
-    path = register(folder / "room.db", files=large(folder))
-    with Server(path, "--desk", "--deadline", 1, count=2) as server:
-        ended = threading.Event()
-        one = threading.Thread(target=silent, args=(server, "nothing read", ended))
-        one.start()
+    path, count = register(folder / "room.db", files=large(folder)), COUNT if sys.argv[1:] else 1
+    with Server(path, "--desk", "--deadline", DEADLINE, count=count + 1) as server:
+        left = [asking(server) for _ in range(count)]
         time.sleep(0.3)
-        begun = time.monotonic()
-        status, _ = replied(server.ask(get("/board", "Host: localhost")))
-        took = time.monotonic() - begun
-        ended.set()
-        one.join()
-        same("nothing read: the next is answered", status, 200)
-        look("nothing read: it waits one deadline", took < 1 + SLACK, took)
-        same("nothing read: it is reported", server.ended(), (0, "connection 1 WriteFailed\n"))
+        took = answered(server, get("/board", "Host: localhost"), f"nothing read: the board after {count}")
+        for one in left:
+            one.close()
+        waits(f"nothing read: it waits {count} deadlines", took, count * DEADLINE)
+        wanted = "".join(f"connection {number} WriteFailed\n" for number in range(1, count + 1))
+        same("nothing read: each is reported", server.ended(), (0, wanted))
+    print(f"the board after {count} connections that do not read, at a deadline of {DEADLINE} seconds: answered after {took:.1f} s", flush=True)
+    late(path)
+
+
+def late(path):
+    """A response may be read until the deadline, which is later than the end of its request's quarter."""
+    with Server(path, "--desk", "--deadline", 8, count=1) as server, asking(server) as one:
+        time.sleep(4)
+        status, body = replied(received(one))
+        same("a response that is read once half the deadline has passed", (status, len(body["sections"])), (200, 5000))
+        same("it is no failure", server.ended(), (0, ""))
 
 
 def in_time(folder):
-    """A slow connection that is over in time is answered; the deadline is from its acceptance on."""
+    """A slow request that is there within the quarter is answered; the quarter is from its acceptance on."""
     path = register(folder / "room.db")
-    body = post(REQUEST, "Host: localhost")
-    with Server(path, "--desk", "--deadline", 3, count=2) as server:
+    with Server(path, "--desk", "--deadline", 8, count=2) as server:
         with server.connect() as one:
-            for piece in (body[:20], body[20:90], body[90:]):
+            for piece in (BODY[:20], BODY[20:90], BODY[90:]):
                 one.sendall(piece)
                 time.sleep(0.5)
-            found = b"".join(iter(lambda: one.recv(4096), b""))
-        same("half a second between its parts", replied(found)[0], 200)
+            same("half a second between its parts", replied(received(one))[0], 200)
         with server.connect() as one:
             begun = time.monotonic()
             with contextlib.suppress(ConnectionError):
                 for place in range(20):
-                    one.sendall(body[place:place + 1])
+                    one.sendall(BODY[place:place + 1])
                     time.sleep(0.4)
-            look("a byte in less than a deadline does not put it off", 2.5 < time.monotonic() - begun < 5, time.monotonic() - begun)
+            took = time.monotonic() - begun
+            look("a byte in less than a quarter does not put it off", 1.5 < took < 2 + SLACK, took)
         same("only the second is reported", server.ended(), (0, "connection 2 ReadFailed\n"))
 
 
