@@ -1,5 +1,5 @@
 -- THE COMMANDS OF A JOURNAL THAT WERE CARRIED OUT, each with the number and the reply of its line.
-use Rattle.std.specs.Prelude.{◌≡◌, ℕ, true, ◌&&◌, not, List, [], ◌∷◌, Option, None, Some}
+use Rattle.std.specs.Prelude.{◌≡◌, ℕ, true, ◌&&◌, not, List, [], ◌∷◌, Option, None, Some, map}
 use Rattle.std.specs.Prelude.{if◌then◌else◌}
 use Rattle.serde_json.specs.Data.{Data}
 use Rattle.serde_json.specs.View.{view}
@@ -7,7 +7,6 @@ use Rattle.clr_journal.specs.Journals.{onto_some, withdraws}
 use Rattle.clr_journal.specs.Line.{Entry, carried, withdrawn, is_accepted}
 use Rattle.clr_journal.specs.declared.line.Carried.{Carried}
 use Rattle.clr_rules.specs.declared.command.Command.{Command}
-use Rattle.clr_replay.specs.declared.replay.Due.{Due}
 
 -- a line's number, its command and its reply
 pub record Answered : Type 0 where
@@ -26,11 +25,12 @@ answered_in [] = []
 answered_in (entry ∷ rest) = onto_some (own_answered entry rest) (answered_in rest)
 
 -- what a line says of a reply: the number of its command, and the reply
-abbrev pub due_of : Due → ℕ × Data
-due_of due = (due.number, view due.reply)
-
 abbrev pub due_answered : Answered → ℕ × Data
 due_answered answered = (answered.number, answered.reply)
+
+-- the commands of lines
+abbrev pub asked_in : List Answered → List Command
+asked_in lines = map (λ line. line.command) lines
 
 -- ---- a command that was accepted, before it is known whether the next line withdraws it
 

@@ -31,8 +31,3 @@ pub record DiffersAt (lines : List (ℕ × Data)) (replies : List Reply) (number
   pub place : ℕ
   pub before : AreReplies (take place lines) (take place replies)
   pub here : IsAnother number (slice_get lines place) (slice_get replies place)
-
--- all replies are the lines', or this is the number of the first line whose reply is another
-abbrev pub RepliesDiffer : List (ℕ × Data) → List Reply → Option ℕ → Type 0
-RepliesDiffer lines replies None = AreReplies lines replies
-RepliesDiffer lines replies (Some number) = DiffersAt lines replies number

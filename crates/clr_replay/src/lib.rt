@@ -5,5 +5,5 @@ mod compare;
 pub mod laws;
 mod replay;
 
-pub use compare::reply_apart;
-pub use replay::{Due, Replay, replay_of};
+pub use compare::is_reply;
+pub use replay::after_line;

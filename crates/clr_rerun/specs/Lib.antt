@@ -1,1 +1,2 @@
 pub mod Rerun
+pub mod Running

@@ -2,5 +2,6 @@
 #![tactic(auto)]
 
 mod rerun;
+mod running;
 
 pub use rerun::{Rerun, RerunFault, compare_with, run_again};

@@ -1,16 +1,12 @@
 //! A journal that is run again over the opening register of its files.
-ghost use Rattle.std.specs.Prelude.{◌≡◌, IfErr, IfOk, length, map};
+ghost use Rattle.std.specs.Prelude.{◌≡◌, IfOk};
 ghost use Rattle.clr_rules.specs.Good.{IsGood};
-ghost use Rattle.clr_rules.specs.Run.{after_all, replies};
-ghost use Rattle.clr_journal.specs.Journals.{commands_of};
-ghost use Rattle.clr_journal.specs.Line.{entry_of};
-ghost use Rattle.clr_replay.specs.Replay.{due_answered, answered_in};
+ghost use Rattle.clr_journal.specs.Journals.{read_journal};
 ghost use Rattle.clr_verify.specs.Registers.{IsFirstDifference};
-ghost use Rattle.clr_rerun.specs.Rerun.{FailsToRerun, IsRerun};
+ghost use Rattle.clr_rerun.specs.Rerun.{Reruns};
 
+use crate::running::run_lines;
 use clr_desk::{Desk, DeskBook, Unkept};
-use clr_journal::Line;
-use clr_replay::{Replay, replay_of, reply_apart};
 use clr_verify::{Difference, compare};
 use std::alloc::{AllocError, Global};
 
@@ -26,6 +22,8 @@ pub struct Rerun {
 /// Why a journal is not run again to its end.
 #[derive(Clone, Copy, Debug, PartialEq, Eq)]
 pub enum RerunFault {
+    /// The line at this place, counted from 1, does not read, or is not the next.
+    BadLine(u64),
     /// The command of this number has another reply in the run than in its line.
     Reply(u64),
     /// Memory ran out.
@@ -42,28 +40,21 @@ impl From<AllocError> for RerunFault {
     }
 }
 
-/// Runs a journal's commands over a good register, which is kept nowhere: those that were accepted
-/// and not withdrawn. Each has to have the reply that its line has.
-pub fn run_again(
-    alloc: Global,
-    mut desk: Desk<Unkept>,
-    lines: Vec<Line>,
-) -> Result<Rerun, RerunFault>
+/// Runs the commands of a journal over a good register, which is kept nowhere: those that were
+/// accepted and not withdrawn. Each has to have the reply that its line has. The journal is given by
+/// its bytes; what comes after the last line feed is passed over.
+///
+/// `BadLine` where a line does not read, whatever the replies before it are.
+pub fn run_again(alloc: Global, desk: Desk<Unkept>, bytes: &[u8]) -> Result<Rerun, RerunFault>
     requires { IsGood desk.book.register }
-    ensures run { IfOk result (IsRerun desk.book.register (map entry_of lines.items)) }
-    ensures fault { IfErr result
-        (FailsToRerun desk.book.register (map entry_of lines.items)) }
+    ensures { Reruns desk.book.register (read_journal bytes.now) result }
 {
-    let Replay { commands, due } = replay_of(alloc, lines)?;
-    let count = commands.len();
-    let run = desk.run(commands);
-    if run.fault.is_some() {
-        return Err(RerunFault::NoMemory);
-    }
-    if let Some(number) = reply_apart(alloc, &due, &run.replies)? {
+    let running = run_lines(alloc, desk, bytes)?;
+    if let Some(number) = running.apart {
         return Err(RerunFault::Reply(number));
     }
-    let (book, _kept) = desk.parted();
+    let count = running.count;
+    let (book, _kept) = running.desk.parted();
     Ok(Rerun { book, count })
 }
 

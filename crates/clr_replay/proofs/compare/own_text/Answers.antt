@@ -11,11 +11,11 @@ pub returns-clause-text : goal.returns-clause-text
 returns-clause-text c =
     let e = c.in_ok-value.ensures in
     let none : has_float (view c.in_ok-value.value) ≡ false = rw e (in_reply c.args.reply.now) in
-    IfOk-weaker c.to_string.result _ _ (λ text h. h none ∙ ap compact_text e) c.to_string.ensures.text
+    IfOk-weaker c.to_vec.result _ _ (λ text h. h none ∙ ap compact_text e) c.to_vec.ensures.text
 
 pub returns-clause-reads : goal.returns-clause-reads
 returns-clause-reads c =
     let e = c.in_ok-value.ensures in
     let small = reply_is_flat c.args.reply.now in
     let flat : depth (view c.in_ok-value.value) ≤ 127 = rw e (omega (arith, small)) in
-    IfOk-weaker c.to_string.result _ _ (λ text h. h flat ∙ ap Some e) c.to_string.ensures.reads_back
+    IfOk-weaker c.to_vec.result _ _ (λ text h. h flat ∙ ap Some e) c.to_vec.ensures.reads_back

@@ -1,12 +1,27 @@
-use Rattle.std.proofs.Common.{◌≡◌, ◌∙◌, length, map, ap, sym, rules, is_some, false}
-use Rattle.clr_journal.specs.Line.{entry_of}
-use Rattle.clr_replay.specs.Replay.{due_of}
-use Rattle.clr_rerun.proofs.Lengths.{as_many, ended}
+use Rattle.std.proofs.Common.{ℕ, [], Option, rules, subst}
+use Rattle.clr_replay.specs.Replay.{answered_in}
+use Rattle.clr_rerun.proofs.Carried.{differs_in, ran_all}
+use Rattle.clr_rerun.specs.Running.{WentTo}
 use Rattle.clr_rerun.proofs.rerun.run_again.Goals as goal
 
-pub reply_apart-requires : goal.reply_apart-requires
-reply_apart-requires c =
-    let none : is_some c.run-run.result.fault ≡ false = search rules in
-    let many = as_many due_of c.in_ok-commands.field-0.due.items (map entry_of c.args.lines.items) c.in_ok-commands.field-0.commands.items c.in_ok-commands.ensures.due c.in_ok-commands.ensures.commands in
-    let each = ended c.run-run.result.fault _ none c.run-run.ensures.ends in
-    ap length c.deref.ensures.value ∙ many ∙ sym each ∙ sym (ap length c.deref-2.ensures.value)
+pub returns-in-Some : goal.returns-in-Some
+returns-in-Some c =
+    let run = c.in_ok-running.ensures in
+    let running = c.in_ok-running.running in
+    let R = c.args.desk.book.register in (
+      run.0,
+      run.1,
+      differs_in R run.0 c.in-Some.number
+          (subst (λ (apart : Option ℕ). WentTo apart R (answered_in run.0) running.desk.book.register running.count []) c.in-Some.is run.2),
+    )
+
+pub returns : goal.returns
+returns c =
+    let run = c.in_ok-running.ensures in
+    let running = c.in_ok-running.running in
+    let R = c.args.desk.book.register in (
+      run.0,
+      run.1,
+      ran_all R run.0 _ running.desk.book.register running.count
+          (subst (λ (apart : Option ℕ). WentTo apart R (answered_in run.0) running.desk.book.register running.count []) c.in_default.is run.2) (search rules) (search rules),
+    )
