@@ -6,6 +6,7 @@ pub mod Requests
 pub mod Turns
 pub mod Connections
 pub mod RequestRuns
+pub mod Puttings
 pub mod Answers
 pub mod Exchanges
 pub mod Posts

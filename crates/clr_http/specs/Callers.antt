@@ -31,6 +31,10 @@ abbrev pub may_ask : Option (List LoginRow) → Option (List ℕ) → Option Com
 may_ask logins login None = true
 may_ask logins login (Some q) = may_speak_as logins login q.caller
 
+-- what a login may ask of what is asked
+abbrev pub permitted : Option (List LoginRow) → Option (List ℕ) → Option Command → Option Command
+permitted logins login asked = if may_ask logins login asked then asked else None
+
 -- A READING ONCE ITS CALLER IS CHECKED: a command in a name that the login may not use is refused
 abbrev pub caller_checked : Option (List LoginRow) → Option (List ℕ) → Reading → Reading
 caller_checked logins login reading = if may_ask logins login (reading_asks reading) then reading

@@ -17,4 +17,6 @@ pub mod Answered
 pub mod Service
 pub mod RequestLaws
 pub mod Posted
+pub mod Puts
+pub mod Desks
 pub mod CallerLaws

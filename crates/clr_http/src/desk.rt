@@ -2,6 +2,7 @@
 ghost use Rattle.std.specs.Prelude.{◌≡◌};
 ghost use Rattle.clr_desk.specs.Given.{LeadsTo};
 ghost use Rattle.clr_desk.proofs.Givings.{leads_itself, leads_on};
+ghost use Rattle.clr_http.specs.Desks.{DeskHears, DeskTakes};
 
 use crate::registrar::Registrar;
 use clr_desk::{Commit, Desk, copy_of};
@@ -15,6 +16,10 @@ impl<K: Commit> Registrar for Desk<K> {
     ghost keeper = { λ d. record { register = d.book.register; faults = d.faults } };
 
     ghost leads_to = { λ before behind. LeadsTo K.kept K.takes K.hears before behind };
+
+    ghost hears = { DeskHears K.takes K.hears };
+
+    ghost takes = { DeskTakes K.takes K.hears };
 
     ghost stays = { λ one. leads_itself K.kept K.takes K.hears one };
 

@@ -1,11 +1,14 @@
 //! Who keeps the register that is served.
-ghost use Rattle.std.specs.Prelude.{◌≡◌, IfOk, IfSome, None, OnSome, option_map, pos};
+ghost use Rattle.std.specs.Prelude.{◌≡◌, ℕ, IfOk, IfSome, List, None, OnSome, Option};
+ghost use Rattle.std.specs.Prelude.{option_map, pos};
 ghost use Rattle.std.specs.Prelude.{string_bytes};
 ghost use Rattle.clr_rules.specs.Answer.{Answer, answer};
 ghost use Rattle.clr_rules.specs.Good.{IsGood};
 ghost use Rattle.clr_rules.specs.Records.{record_of};
 ghost use Rattle.clr_rules.specs.Run.{after};
 ghost use Rattle.clr_rules.specs.Steps.{steps_of};
+ghost use Rattle.clr_rules.specs.declared.command.Command.{Command};
+ghost use Rattle.clr_rules.specs.declared.reply.Reply.{Reply};
 ghost use Rattle.clr_print.specs.Printed.{board_text, order_text};
 ghost use Rattle.clr_view.specs.View.{network_text};
 ghost use Rattle.clr_wayback.specs.Answer.{way_back_answer};
@@ -24,6 +27,12 @@ pub trait Registrar {
     /// what is kept.
     ghost leads_to: { Self → Self → Type 0 };
 
+    /// What it is to hear at which login the next command is given.
+    ghost hears: { Self → Option (List ℕ) → Self → Type 0 };
+
+    /// What it is to take a command, with its reply, if it got one.
+    ghost takes: { Self → Command → Option Reply → Self → Type 0 };
+
     /// How many commands were not answered, since the store or memory refused. The count stays at
     /// 2^64 - 1.
     fn faults(&self) -> u64
@@ -32,6 +41,7 @@ pub trait Registrar {
     /// Says at which login the next command is given, if at one.
     fn hear(&mut self, login: Option<Text>)
         ensures same { keeper self.new ≡ keeper self.old }
+        ensures heard { hears self.old login self.new }
         ensures led { leads_to self.old self.new };
 
     /// Answers a command and makes its change. `None`, and one more in `faults`, where the store or
@@ -44,6 +54,7 @@ pub trait Registrar {
         ensures refused { result ≡ None → (keeper self.new).register ≡ (keeper self.old).register }
         ensures faults { (keeper self.new).faults
             ≡ faults_after result (keeper self.old).faults }
+        ensures taken { takes self.old command result self.new }
         ensures led { leads_to self.old self.new };
 
     /// A round of an order as it is printed, by a clock at offset 0. `None` where it is not there.

@@ -8,7 +8,9 @@ ghost use Rattle.httparse.specs.Grammar.{RequestHead};
 ghost use Rattle.httparse.specs.Spans.{IsHeaderWithin, IsRequestAt, IsRequestWithin, header_bytes};
 ghost use Rattle.httparse.specs.Spans.{span_bytes};
 ghost use Rattle.clr_stream.specs.Failures.{Rose};
-ghost use Rattle.clr_http.specs.Head.{IsOutside};
+ghost use Rattle.clr_http.specs.Callers.{login_of};
+ghost use Rattle.clr_http.specs.Fields.{fields_of};
+ghost use Rattle.clr_http.specs.Head.{BeginsWith, IsOutside};
 ghost use Rattle.clr_http.specs.Foreign.{is_foreign};
 ghost use Rattle.clr_http.specs.Length.{body_length};
 ghost use Rattle.clr_http.specs.Request.{IsNo503, IsReadAs, command_read};
@@ -264,6 +266,9 @@ pub(crate) fn read_request<R: CountedRead>(
 ) -> Result<Option<Heard>, ReadFault>
     ensures known { (input : List ℕ) → R.remaining reader.old ≡ Some input
         → IfOk result (IsReadAs service.now input (R.remaining reader.new)) }
+    ensures login { (input rest : List ℕ) (head : RequestHead)
+        → R.remaining reader.old ≡ Some input → BeginsWith input head rest
+        → IfOk result (λ o. IfSome o (λ h. h.login ≡ login_of (fields_of head))) }
     ensures nothing { result ≡ Ok None → IsAtEnd (R.remaining reader.old) }
     ensures empty { R.remaining reader.old ≡ Some [] → IfOk result (λ o. o ≡ None) }
     ensures plain { IfOk result (λ o. IfSome o (λ h. IsNo503 (reading h.request))) }

@@ -1,7 +1,8 @@
 //! What a request asks for, put to the register, and the response to it.
-ghost use Rattle.std.specs.Prelude.{◌≡◌, ℕ, IfOk, List, Some, false};
+ghost use Rattle.std.specs.Prelude.{◌≡◌, ℕ, IfOk, IsErr, List, Option, Some};
 ghost use Rattle.clr_rules.specs.Good.{IsGood};
-ghost use Rattle.clr_http.specs.Callers.{may_ask};
+ghost use Rattle.clr_rules.specs.declared.reply.Reply.{Reply};
+ghost use Rattle.clr_http.specs.Puts.{IsPutOnce, PutsSpoken};
 ghost use Rattle.clr_http.specs.Registrar.{AccountsFor, IsTurned};
 ghost use Rattle.clr_http.specs.Respond.{checked_outcome, command_outcome, order_outcome};
 ghost use Rattle.clr_http.specs.Respond.{reply_status, show_of, spoken_outcome, target_asks};
@@ -33,9 +34,8 @@ pub(crate) fn response_to<D: Registrar>(
         (checked_outcome s.logins.now s.login (D.keeper desk.old).register asked body.now)
         (D.keeper desk.old) (D.keeper desk.new) result }
     ensures accounts { AccountsFor (D.keeper desk.old) (D.keeper desk.new) result }
-    ensures unasked { let s = speaker.now in
-        may_ask s.logins.now s.login (target_asks asked body.now) ≡ false
-        → desk.new ≡ desk.old }
+    ensures put { PutsSpoken D.hears D.takes speaker.now (target_asks asked body.now)
+        (IsErr result) desk.old desk.new }
     ensures led { D.leads_to desk.old desk.new }
 {
     match asked {
@@ -65,9 +65,8 @@ fn body_response<D: Registrar>(
         (checked_outcome s.logins.now s.login (D.keeper desk.old).register asked_for.Command body.now)
         (D.keeper desk.old) (D.keeper desk.new) result }
     ensures accounts { AccountsFor (D.keeper desk.old) (D.keeper desk.new) result }
-    ensures unasked { let s = speaker.now in
-        may_ask s.logins.now s.login (target_asks asked_for.Command body.now) ≡ false
-        → desk.new ≡ desk.old }
+    ensures put { PutsSpoken D.hears D.takes speaker.now
+        (target_asks asked_for.Command body.now) (IsErr result) desk.old desk.new }
     ensures led { D.leads_to desk.old desk.new }
 {
     match command_of(alloc, body) {
@@ -92,9 +91,8 @@ fn view_response<D: Registrar>(
         (checked_outcome s.logins.now s.login (D.keeper desk.old).register (Clearance viewing) body)
         (D.keeper desk.old) (D.keeper desk.new) result }
     ensures accounts { AccountsFor (D.keeper desk.old) (D.keeper desk.new) result }
-    ensures unasked { let s = speaker.now in (body : List ℕ)
-        → may_ask s.logins.now s.login (target_asks (Clearance viewing) body) ≡ false
-        → desk.new ≡ desk.old }
+    ensures put { (body : List ℕ) → PutsSpoken D.hears D.takes speaker.now
+        (target_asks (Clearance viewing) body) (IsErr result) desk.old desk.new }
     ensures led { D.leads_to desk.old desk.new }
 {
     match viewing {
@@ -114,8 +112,8 @@ fn spoken_response<D: Registrar>(
         (spoken_outcome s.logins.now s.login (D.keeper desk.old).register command)
         (D.keeper desk.old) (D.keeper desk.new) result }
     ensures accounts { AccountsFor (D.keeper desk.old) (D.keeper desk.new) result }
-    ensures unasked { let s = speaker.now in
-        may_ask s.logins.now s.login (Some command) ≡ false → desk.new ≡ desk.old }
+    ensures put { PutsSpoken D.hears D.takes speaker.now (Some command) (IsErr result)
+        desk.old desk.new }
     ensures led { D.leads_to desk.old desk.new }
 {
     if !speaker.may_ask(&command) {
@@ -136,6 +134,7 @@ fn heard_response<D: Registrar>(
         → IsTurned (command_outcome (D.keeper desk.old).register command)
         (D.keeper desk.old) (D.keeper desk.new) result }
     ensures accounts { AccountsFor (D.keeper desk.old) (D.keeper desk.new) result }
+    ensures put { IsPutOnce D.hears D.takes login command desk.old desk.new }
     ensures led { D.leads_to desk.old desk.new }
 {
     desk.hear(login);
@@ -165,6 +164,7 @@ fn order_response<D: Registrar>(
         → IsTurned (order_outcome (D.keeper desk.old).register printing)
         (D.keeper desk.old) (D.keeper desk.new) result }
     ensures accounts { AccountsFor (D.keeper desk.old) (D.keeper desk.new) result }
+    ensures put { desk.new ≡ desk.old }
     ensures led { D.leads_to desk.old desk.new }
 {
     let Some(printing) = printing else {
@@ -186,6 +186,7 @@ fn way_back_response<D: Registrar>(
         → IsTurned (way_back_outcome (D.keeper desk.old).register id)
         (D.keeper desk.old) (D.keeper desk.new) result }
     ensures accounts { AccountsFor (D.keeper desk.old) (D.keeper desk.new) result }
+    ensures put { desk.new ≡ desk.old }
     ensures led { D.leads_to desk.old desk.new }
 {
     let Some(id) = id else {
@@ -219,6 +220,7 @@ fn command_response<D: Registrar>(
         → IsTurned (command_outcome (D.keeper desk.old).register command)
         (D.keeper desk.old) (D.keeper desk.new) result }
     ensures accounts { AccountsFor (D.keeper desk.old) (D.keeper desk.new) result }
+    ensures put { (reply : Option Reply) × D.takes desk.old command reply desk.new }
     ensures led { D.leads_to desk.old desk.new }
 {
     let Some(reply) = desk.answer(command) else {

@@ -3,6 +3,8 @@ ghost use Rattle.std.specs.Prelude.{◌≡◌, ◌≢◌, ℕ, List, Some, Ok, E
 ghost use Rattle.httparse.specs.Grammar.{RequestHead};
 ghost use Rattle.clr_http.specs.Answered.{IsAnswered, IsAnsweredAt};
 ghost use Rattle.clr_http.specs.Head.{BeginsWith, HasHead};
+ghost use Rattle.clr_http.specs.Options.{plain};
+ghost use Rattle.clr_http.specs.Puts.{PutsAt};
 ghost use Rattle.clr_http.specs.Request.{refused, request_read_at};
 ghost use Rattle.clr_http.specs.Response.{Content, content_of, response_bytes};
 ghost use Rattle.clr_http.specs.Served.{IsWritten, http_fault_of};
@@ -95,6 +97,7 @@ pub fn serve_one<D: Registrar, R: CountedRead, W: CountedWrite>(
     ensures unread { result ≡ Err HttpFault.ReadFailed
         → (writer.new ≡ writer.old) × (desk.new ≡ desk.old) }
     ensures unmade { result ≡ Err HttpFault.NoMemory → writer.new ≡ writer.old }
+    ensures put { PutsAt D.hears D.takes plain (R.remaining reader.old) result desk.old desk.new }
     ensures led { D.leads_to desk.old desk.new }
 {
     let service = Service::plain();
@@ -128,6 +131,8 @@ pub fn serve_request<D: Registrar, R: CountedRead, W: CountedWrite>(
     ensures unread { result ≡ Err HttpFault.ReadFailed
         → (writer.new ≡ writer.old) × (desk.new ≡ desk.old) }
     ensures unmade { result ≡ Err HttpFault.NoMemory → writer.new ≡ writer.old }
+    ensures put { PutsAt D.hears D.takes service.now (R.remaining reader.old) result
+        desk.old desk.new }
     ensures led { D.leads_to desk.old desk.new }
 {
     let Some(heard) = read_request(alloc, service, reader)? else {

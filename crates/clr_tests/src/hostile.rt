@@ -408,6 +408,10 @@ impl<D: Registrar + Drop> Registrar for Unanswering<D> {
 
     ghost leads_to = { λ _ _. Unit {0} };
 
+    ghost hears = { λ _ _ _. Unit {0} };
+
+    ghost takes = { λ _ _ _ _. Unit {0} };
+
     ghost stays = { λ _. tt };
 
     ghost goes_on = { λ _ _ _ _ _. tt };

@@ -36,6 +36,18 @@ returns-in-Ok-Some-clause-known g c input e =
     ∙ ap login_of fields in
     inl (head, rest, b, heard_is c.args.service.now _ _ head rest login (subst (λ x. reading c.in_ok-request-in-Ok-Some.request ≡ head_read c.args.service.now head x) front found))
 
+pub returns-in-Ok-Some-clause-login : goal.returns-in-Ok-Some-clause-login
+returns-in-Ok-Some-clause-login g c input rest head e begins =
+    let left = g.R.Read.remaining c.read_head.new.reader in
+    let bytes = c.read_head.new.buffer.items in
+    let taken : Consumes (Some input) left bytes = subst (λ k. Consumes k left bytes) e c.read_head.ensures.taken in
+    let (h, at) = subst (λ o. IfSome o (IsRequestOf bytes c.read_head.new.headers)) c.in-Ok-Some.field-0-is c.in-Ok-Some.ensures.head in
+    let (one, front) = only_head input rest left bytes _ _ h head taken at begins.reads in
+    let fields = IsRequestAt.fields (subst (IsRequestAt bytes c.read_head.new.headers c.in-Ok-Some.spans) one at) in
+    c.login_of-login.ensures
+    ∙ ap (λ (b : List ℕ). login_of (map (header_bytes b) (take c.in-Ok-Some.spans.headers c.read_head.new.headers))) c.as_slice.ensures.value
+    ∙ ap login_of fields
+
 pub returns-clause-known : goal.returns-clause-known
 returns-clause-known g c input e =
     let left = g.R.Read.remaining c.read_head.new.reader in

@@ -15,3 +15,8 @@ returns-clause-accounts g c = rw c.hear.ensures.same at c.command_response.ensur
 
 pub returns-clause-led : goal.returns-clause-led
 returns-clause-led g c = g.met.D.Registrar.goes_on _ _ _ c.hear.ensures.led c.command_response.ensures.led
+
+pub returns-clause-put : goal.returns-clause-put
+returns-clause-put g c =
+    let (reply, taken) = c.command_response.ensures.put in
+    (c.hear.new.self, reply, c.hear.ensures.heard, taken)

@@ -1,4 +1,17 @@
+use Rattle.std.proofs.Common.{sym}
 use Rattle.clr_http.proofs.desk.DeskRegistrar.answer.Goals as goal
+
+pub returns-clause-taken : goal.returns-clause-taken
+returns-clause-taken g c = (
+  c.one.result,
+  sym c.ok.ensures.value,
+  record {
+    reply = c.one.ensures.carried.near;
+    register = c.one.ensures.carried.changed;
+    unchanged = c.one.ensures.carried.unchanged;
+    taken = c.one.ensures.taken;
+  },
+)
 
 pub returns-clause-led : goal.returns-clause-led
 returns-clause-led g c = c.one.ensures.led
