@@ -95,7 +95,10 @@ fn limits_now<Y: System>(system: &Y, deadline: Option<u16>) -> io::Result<Limits
         KeepDeadline (Y.has_clock system.now) deadline limits.reader limits.writer) }
 {
     let Some(seconds) = deadline else {
-        return Ok(Limits { reader: None, writer: None });
+        return Ok(Limits {
+            reader: None,
+            writer: None,
+        });
     };
     let clock = system.clock();
     let now = Instant::now(&clock)?;
