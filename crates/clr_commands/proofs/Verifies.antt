@@ -1,24 +1,27 @@
 -- What comes of a journal that is run again over the opening register of rows.
-use Rattle.std.proofs.Common.{◌≡◌, ◌≢◌, ◌∙◌, ◌⊎◌, ap, inl, inr, length, nat_lt, subst, sym, ℕ, Bool, true, false, List, Result, Ok, Err, if◌then◌else◌}
+use Rattle.std.proofs.Common.{◌≡◌, ◌≢◌, ◌∙◌, ◌⊎◌, ap, refl, inl, inr, length, nat_lt, subst, sym, ℕ, Bool, true, false, List, Result, Ok, Err, if◌then◌else◌}
 use Rattle.std.specs.Prelude.{IfSome, IsErrAnd, IsErrOf, None, Option, Some, Vec}
 use Rattle.std.specs.declared.alloc.Global.{Global}
 use Rattle.clr_edge.specs.declared.fault.Fault.{Fault}
-use Rattle.clr_edge.specs.declared.fault.Fault.TheVariants.{Journal, Memory}
+use Rattle.clr_edge.specs.declared.fault.Fault.TheVariants.{Journal, Memory, Verify}
+use Rattle.clr_edge.specs.declared.fault.JournalFault.TheVariants as edge
+use Rattle.clr_edge.specs.declared.fault.VerifyFault.TheVariants.{Reply}
 use Rattle.clr_edge.specs.declared.fault.JournalFault.TheVariants.{OpenFailed, ReadFailed, TooLong}
-use Rattle.clr_history.specs.Files.{GivesLines, lines_of, lines_or_fault}
+use Rattle.clr_history.specs.Files.{GivesBytes, lines_of, lines_or_fault}
 use Rattle.clr_journal.specs.Journals.{read_journal}
 use Rattle.clr_journal.specs.Line.{Entry}
 use Rattle.clr_journal.specs.declared.fault.JournalFault.{JournalFault}
 use Rattle.clr_journal.specs.declared.fault.JournalFault.TheVariants.{BadLine, NoMemory}
-use Rattle.clr_journal.specs.declared.line.Line.{Line}
 use Rattle.clr_replay.proofs.Flat.{exact}
 use Rattle.clr_rules.specs.Register.{Register}
 use Rattle.clr_tables.specs.Tables.{tables_of}
+use Rattle.clr_rerun.specs.Rerun.{Reruns}
 use Rattle.clr_rerun.specs.declared.rerun.Rerun.{Rerun}
+use Rattle.clr_rerun.specs.declared.rerun.RerunFault.TheVariants as rerun
 use Rattle.clr_commands.specs.Answers.{Answers}
 use Rattle.clr_commands.specs.Import.{FileRows}
 use Rattle.clr_commands.specs.Paths.{AtPaths}
-use Rattle.clr_commands.specs.Run.{rows_fault}
+use Rattle.clr_commands.specs.Run.{IsOpeningOf, rows_fault}
 use Rattle.clr_commands.specs.Verify.{GoesUnread, IsOfJournal, IsRunOfJournal, IsVerified, RunsAgain, verified_text}
 
 -- the rows are no network and no staff
@@ -28,29 +31,75 @@ of_rows at path rows (Ok run) fault is answer = absurd is
 of_rows at path rows (Err cause) fault is answer =
     λ other. inl (subst (λ (f : Fault). rows_fault rows ≡ Err f) (sym is) (answer (λ memory. other (inl (is ∙ memory)))))
 
-bad_lines : (file : Option (List ℕ)) (fault : Fault) → IfSome file (λ bytes. GivesLines bytes (Err fault))
+-- too many bytes
+too_long : (file : Option (List ℕ)) (fault : Fault) → IfSome file (λ bytes. GivesBytes bytes (Err fault))
     → ((fault ≡ Memory) → ⊥) → ((fault ≡ Journal OpenFailed) → ⊥) → ((fault ≡ Journal ReadFailed) → ⊥) → IfSome file (λ bytes. lines_of bytes ≡ Err fault)
-bad_lines None fault gives memory unopened unread = tt
-bad_lines (Some bytes) fault gives memory unopened unread = gives (λ is. by is)
+too_long None fault gives memory unopened unread = tt
+too_long (Some bytes) fault gives memory unopened unread =
+    let long = gives (λ is. by is) in
+    ap (λ (b : Bool). if b then Err (Journal TooLong) else lines_or_fault (read_journal bytes)) long.1 ∙ ap Err (sym long.0)
   where
     by : (fault ≡ Memory) ⊎ (fault ≡ Journal OpenFailed) ⊎ (fault ≡ Journal ReadFailed) → ⊥
     by (inl is) = memory is
     by (inr (inl is)) = unopened is
     by (inr (inr is)) = unread is
 
--- the file of the journal goes unread, or a line of it is bad
-pub of_lines : (at : AtPaths) (path : List ℕ) (rows : FileRows) (result : Result Rerun Fault) (fault : Fault) → IsErrAnd result (λ cause. cause ≡ fault)
-    → rows_fault rows ≡ Ok tt → IfSome (at.bytes path) (λ bytes. GivesLines bytes (Err fault))
-    → (IsErrOf {T = Vec Line Global} (Err fault) (Journal OpenFailed) → at.fails path) → (IsErrOf {T = Vec Line Global} (Err fault) (Journal ReadFailed) → at.fails path)
+-- the file of the journal goes unread, or is too long
+pub of_bytes : (at : AtPaths) (path : List ℕ) (rows : FileRows) (result : Result Rerun Fault) (fault : Fault) → IsErrAnd result (λ cause. cause ≡ fault)
+    → rows_fault rows ≡ Ok tt → IfSome (at.bytes path) (λ bytes. GivesBytes bytes (Err fault))
+    → (IsErrOf {T = Vec ℕ Global} (Err fault) (Journal OpenFailed) → at.fails path) → (IsErrOf {T = Vec ℕ Global} (Err fault) (Journal ReadFailed) → at.fails path)
     → Answers (GoesUnread at path) (λ run. run) (IsRunOfJournal (at.bytes path) rows) result
-of_lines at path rows (Ok run) fault is fits gives unopened unread = absurd is
-of_lines at path rows (Err cause) fault is fits gives unopened unread =
+of_bytes at path rows (Ok run) fault is fits gives unopened unread = absurd is
+of_bytes at path rows (Err cause) fault is fits gives unopened unread =
     λ other. inr (inl (
       fits,
       subst (λ (f : Fault). IfSome (at.bytes path) (λ bytes. lines_of bytes ≡ Err f)) (sym is)
-          (bad_lines (at.bytes path) fault gives (λ e. other (inl (is ∙ e))) (λ e. other (inr (inl (is ∙ e), unopened (ap Err e))))
+          (too_long (at.bytes path) fault gives (λ e. other (inl (is ∙ e))) (λ e. other (inr (inl (is ∙ e), unopened (ap Err e))))
           (λ e. other (inr (inr (is ∙ e), unread (ap Err e))))),
     ))
+
+-- the lines of bytes that are not too many
+lines_are : (bytes : List ℕ) → nat_lt 1073741824 (length bytes) ≡ false → lines_of bytes ≡ lines_or_fault (read_journal bytes)
+lines_are bytes short = ap (λ (b : Bool). if b then Err (Journal TooLong) else lines_or_fault (read_journal bytes)) short
+
+lines_come : (file : Option (List ℕ)) (read : Vec ℕ Global) (found : Result (List Entry) JournalFault) → IfSome file (λ bytes. GivesBytes bytes (Ok read)) → read_journal read.items ≡ found
+    → IfSome file (λ bytes. lines_of bytes ≡ lines_or_fault found)
+lines_come None read found gives is = tt
+lines_come (Some bytes) read found gives is = lines_are bytes gives.1 ∙ ap (λ items. lines_or_fault (read_journal items)) (sym gives.0) ∙ ap lines_or_fault is
+
+-- the lines are run again
+pub of_run : (at : AtPaths) (path : List ℕ) (rows : FileRows) (read : Vec ℕ Global) (began : Register) (run : Rerun) → rows_fault rows ≡ Ok tt → IsOpeningOf rows began
+    → IfSome (at.bytes path) (λ bytes. GivesBytes bytes (Ok read)) → Reruns began (read_journal read.items) (Ok run)
+    → Answers (GoesUnread at path) (λ run. run) (IsRunOfJournal (at.bytes path) rows) (Ok run)
+of_run at path rows read began run fits is_opening gives ran = record {
+  fits = fits;
+  began = began;
+  is_opening = is_opening;
+  entries = ran.0;
+  has_lines = lines_come (at.bytes path) read (Ok ran.0) gives ran.1;
+  runs = ran.2;
+}
+
+pub of_bad_line : (at : AtPaths) (path : List ℕ) (rows : FileRows) (read : Vec ℕ Global) (began : Register) (place : ℕ) → rows_fault rows ≡ Ok tt
+    → IfSome (at.bytes path) (λ bytes. GivesBytes bytes (Ok read)) → Reruns began (read_journal read.items) (Err (rerun.BadLine place))
+    → Answers {T = Rerun} (GoesUnread at path) (λ run. run) (IsRunOfJournal (at.bytes path) rows) (Err (Journal (edge.BadLine place)))
+of_bad_line at path rows read began place fits gives bad = λ other. inr (inl (fits, lines_come (at.bytes path) read (Err (BadLine place)) gives bad))
+
+pub of_reply : (at : AtPaths) (path : List ℕ) (rows : FileRows) (read : Vec ℕ Global) (began : Register) (number : ℕ) → rows_fault rows ≡ Ok tt → IsOpeningOf rows began
+    → IfSome (at.bytes path) (λ bytes. GivesBytes bytes (Ok read)) → Reruns began (read_journal read.items) (Err (rerun.Reply number))
+    → Answers {T = Rerun} (GoesUnread at path) (λ run. run) (IsRunOfJournal (at.bytes path) rows) (Err (Verify (Reply number)))
+of_reply at path rows read began number fits is_opening gives differs = λ other. inr (inr (
+  number,
+  refl,
+  record {
+    fits = fits;
+    began = began;
+    is_opening = is_opening;
+    entries = differs.0;
+    has_lines = lines_come (at.bytes path) read (Ok differs.0) gives differs.1;
+    differs = differs.2;
+  },
+))
 
 lines_read : (bytes : List ℕ) (entries : List Entry) → lines_of bytes ≡ Ok entries → read_journal bytes ≡ Ok entries
 lines_read bytes entries is = by (nat_lt 1073741824 (length bytes)) (read_journal bytes) is

@@ -13,9 +13,9 @@ use crate::run::desk_of_rows;
 use clr_args::asked::VerifyArgs;
 use clr_desk::DeskBook;
 use clr_edge::database::{Databases, close, desk_over};
-use clr_edge::fault::{Fault, VerifyFault};
+use clr_edge::fault::{Fault, JournalFault, VerifyFault};
 use clr_edge::paths::Opens;
-use clr_history::file::lines_at;
+use clr_history::file::bytes_at;
 use clr_rerun::{Rerun, RerunFault, compare_with, run_again};
 use sqlite::{Alter, Connection};
 use std::alloc::Global;
@@ -58,9 +58,10 @@ fn run_of_journal<'a, O: Opens<'a>>(
 {
     let rows = rows_at(alloc, paths, &args.files)?;
     let desk = desk_of_rows(alloc, rows)?;
-    let lines = lines_at(alloc, paths, args.journal)?;
-    match run_again(alloc, desk, lines) {
+    let bytes = bytes_at(alloc, paths, args.journal)?;
+    match run_again(alloc, desk, &bytes) {
         Ok(rerun) => Ok(rerun),
+        Err(RerunFault::BadLine(place)) => Err(Fault::Journal(JournalFault::BadLine(place))),
         Err(RerunFault::Reply(number)) => Err(Fault::Verify(VerifyFault::Reply(number))),
         Err(RerunFault::NoMemory) => Err(Fault::Memory),
     }

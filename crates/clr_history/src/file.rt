@@ -37,6 +37,22 @@ pub fn lines_at<'a, O: Opens<'a>>(
     lines_from(alloc, &mut source)
 }
 
+/// The bytes of the journal at a path.
+///
+/// `OpenFailed`, `ReadFailed` and `TooLong` as above.
+pub fn bytes_at<'a, O: Opens<'a>>(alloc: Global, paths: &O, path: &'a str) -> Result<Vec<u8>, Fault>
+    ensures bytes { IfSome (O.bytes_at paths.now path.entry.now) (λ bytes.
+        GivesBytes bytes result) }
+    ensures unopened { IsErrOf result (Fault.Journal JournalFault.OpenFailed) → FailsToRead
+        O.File.remaining O.File.failure_count (O.bytes_at paths.now path.entry.now) }
+    ensures unread { IsErrOf result (Fault.Journal JournalFault.ReadFailed) → FailsToRead
+        O.File.remaining O.File.failure_count (O.bytes_at paths.now path.entry.now) }
+    ensures fault { IfErr result IsOfFile }
+{
+    let mut source = paths.at(path);
+    bytes_from(alloc, &mut source)
+}
+
 /// The lines of a journal.
 fn lines_from<S: Source>(alloc: Global, source: &mut S) -> Result<Vec<Line>, Fault>
     ensures lines { IfSome (S.remaining source.old) (λ bytes. GivesLines bytes result) }

@@ -3,7 +3,7 @@ use Rattle.clr_commands.specs.Import.{lists_of}
 use Rattle.clr_commands.specs.Paths.{at_paths}
 use Rattle.clr_commands.proofs.Faults.{any_file_plain, history_plain, passed}
 use Rattle.clr_commands.proofs.MadeRegisters.{AnswersFiles-fault, AnswersFiles-rows}
-use Rattle.clr_commands.proofs.Verifies.{of_lines, of_rows}
+use Rattle.clr_commands.proofs.Verifies.{of_bytes, of_rows}
 use Rattle.clr_commands.proofs.verify.run_of_journal.Goals as goal
 
 -- a file has a fault
@@ -23,15 +23,15 @@ returns-in_err-desk-clause-runs g c =
 pub returns-in_err-desk-clause-faults : goal.returns-in_err-desk-clause-faults
 returns-in_err-desk-clause-faults g c = passed _ _ c.from_residual-in_err-desk.ensures.1 c.in_err-desk.ensures.faults
 
--- the journal has no lines
-pub returns-in_err-lines-clause-runs : goal.returns-in_err-lines-clause-runs
-returns-in_err-lines-clause-runs g c =
+-- the journal goes unread
+pub returns-in_err-bytes-clause-runs : goal.returns-in_err-bytes-clause-runs
+returns-in_err-bytes-clause-runs g c =
     AnswersFiles-rows _ _ _ _ _ c.in_ok-rows.rows c.in_ok-rows.ensures.rows
-    (of_lines (at_paths g.O.File.Read.remaining g.O.File.CountedRead.failure_count (g.O.Opens.bytes_at c.args.paths.now)) c.args.args.now.journal.now (lists_of c.in_ok-rows.rows) c.from_residual-in_err-lines.result c.in_err-lines.field-0.0
-    c.from_residual-in_err-lines.ensures.1 c.in_ok-desk.ensures.faultless c.in_err-lines.ensures.lines c.in_err-lines.ensures.unopened c.in_err-lines.ensures.unread)
+    (of_bytes (at_paths g.O.File.Read.remaining g.O.File.CountedRead.failure_count (g.O.Opens.bytes_at c.args.paths.now)) c.args.args.now.journal.now (lists_of c.in_ok-rows.rows) c.from_residual-in_err-bytes.result c.in_err-bytes.field-0.0
+    c.from_residual-in_err-bytes.ensures.1 c.in_ok-desk.ensures.faultless c.in_err-bytes.ensures.bytes c.in_err-bytes.ensures.unopened c.in_err-bytes.ensures.unread)
 
-pub returns-in_err-lines-clause-faults : goal.returns-in_err-lines-clause-faults
-returns-in_err-lines-clause-faults g c = passed _ _ c.from_residual-in_err-lines.ensures.1 (history_plain _ c.in_err-lines.ensures.fault)
+pub returns-in_err-bytes-clause-faults : goal.returns-in_err-bytes-clause-faults
+returns-in_err-bytes-clause-faults g c = passed _ _ c.from_residual-in_err-bytes.ensures.1 (history_plain _ c.in_err-bytes.ensures.fault)
 
 -- it begins with a reached register, which is good
 pub run_again-requires : goal.run_again-requires
