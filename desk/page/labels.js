@@ -6,6 +6,7 @@ const GAP = 3, PAD = 1; // between a box and its text; around each text
 const RINGS = 5, RING = 13;
 const LINE = 1.18;      // height of a line of text, in sizes
 const ACROSS = 24, ALONG = 2, FARTHER = 4; // what a text costs over a line that lies, over one that rises, one ring farther out
+const BEYOND = 60;      // what it costs beyond the drawing, where it is cut off while the whole network is shown
 
 const fonts = document.createElement("canvas").getContext("2d");
 const widths = { true: new Map(), false: new Map() }; // of texts in the size 20, bold and plain
@@ -85,16 +86,18 @@ function inside({ inside: size, bold, box: [left, top, right, bottom] }, form) {
 }
 
 export class Labels {
-  #solid = new Places(); #lines = new Places();
+  #solid = new Places(); #lines = new Places(); #size;
 
-  // Boxes are what no text may lie on; paths are lines, which it had better not.
-  constructor(boxes, paths) {
+  // Boxes are what no text may lie on; paths are lines, which it had better not; the size is that of the drawing.
+  constructor(boxes, paths, size) {
+    this.#size = size;
     for (const box of boxes) this.#solid.add(box);
     for (const part of paths.flatMap(partsOf)) this.#lines.add(part);
   }
 
   #cost(rect) {
-    let cost = 0;
+    const isWithin = rect[0] >= 0 && rect[1] >= 0 && rect[2] <= this.#size.width && rect[3] <= this.#size.height;
+    let cost = isWithin ? 0 : BEYOND;
     for (const [left, , right] of this.#lines.over([rect[0], rect[1] - 0.1, rect[2], rect[3] + 0.1])) cost += right > left ? ACROSS : ALONG;
     return cost;
   }

@@ -6,6 +6,7 @@ const ROW = 56, LANE = 24;    // from row to row; what each lane between them ad
 const BELOW = 18;             // where a point lies under a row on an upright line
 const LETTER = 7.4, SMALL = 6.4;
 const MARGIN = 44, TRACK = 16, MOST_WIDE = 8;
+const ASIDE = 60;             // beside the last column, where its texts may be longer than its sections
 const WIDE = 16 / 10, COLUMN = 130, MOST_STRIPS = 12;
 
 // A tree over all sections: first over the points that are normally closed, or, where that is not known, were closed when
@@ -227,5 +228,5 @@ export function layOut(network) {
     return treeEdge(spot, up, spots.get(up.from), ends, measures);
   });
   edges.push(...ties.map((tie) => tieEdge(tie, entries, leads, measures, level)));
-  return { spots, edges, width: measures.at(-1).next + 20, height: level.heights[rows] };
+  return { spots, edges, width: measures.at(-1).next + ASIDE, height: level.heights[rows] };
 }

@@ -25,7 +25,7 @@ export class Writing {
     const sections = [...plan.spots.values()].map((spot) => this.#boxOf(spot));
     const feeds = [...plan.spots.values()].filter((spot) => network.sections.get(spot.name).source)
       .map(({ x, y }) => [x - FEED, y - BOX / 2, x, y + BOX / 2]);
-    this.#labels = new Labels([...sections, ...feeds, ...plan.edges.map((edge) => this.#pointBox(edge))], plan.edges.map((edge) => edge.path));
+    this.#labels = new Labels([...sections, ...feeds, ...plan.edges.map((edge) => this.#pointBox(edge))], plan.edges.map((edge) => edge.path), plan);
   }
 
   #boxOf({ x, y, width }) {
@@ -56,7 +56,9 @@ export class Writing {
     this.#key = key;
     labels.sort((a, b) => a.rank - b.rank);
     const places = this.#labels.place(labels);
-    this.node.replaceChildren(...labels.flatMap((label, place) => (places[place] ? this.#drawn(label, places[place]) : [])));
+    const drawn = labels.flatMap((label, place) => (places[place] ? this.#drawn(label, places[place]) : []));
+    const isText = (node) => node.localName === "text";
+    this.node.replaceChildren(...drawn.filter((node) => !isText(node)), ...drawn.filter(isText)); // no leader over a text
   }
 
   // Ranks: from near by names come first, so that they do not move; from far off what is being worked on.
