@@ -12,7 +12,7 @@ function row(view) {
   const line = boardLine(clearance);
   return el("tr", { "data-id": clearance }, el("th", { scope: "row" }, el("a", { href: `#/clearance/${clearance}` }, clearance)),
     el("td", {}, el("span", { class: `phase ${phase}` }, phase)), el("td", {}, view.work ?? "switch order"),
-    el("td", {}, stepsWords(view)), el("td", {}, holder), el("td", {}, line ? shortTime(line.last) : "–"));
+    el("td", {}, stepsWords(view)), el("td", { "data-head": "holder" }, holder), el("td", { "data-head": "last moment" }, line ? shortTime(line.last) : "–"));
 }
 
 export class MinePage {

@@ -23,22 +23,26 @@ function links(ids) {
 function holdsCell(state) {
   const owners = [...new Set(state.holds.map((hold) => hold.by))];
   return owners.length ? owners.map((owner) => el("p", {}, ...links([owner]),
-    `: ${state.holds.filter((hold) => hold.by === owner).map((hold) => holdWord(hold.kind)).join(", ")}`)) : "–";
+    `: ${state.holds.filter((hold) => hold.by === owner).map((hold) => holdWord(hold.kind)).join(", ")}`)) : null;
 }
 
 function stepsCell(state) {
   const left = state.steps.filter((step) => step.state !== "Done");
   return left.length ? left.map((step) => el("p", {}, ...links([step.id]),
-    ` step ${step.number} ${step.text}: ${stateWord(step.state)}${step.reader ? `, ${step.reader}` : ""}`)) : "–";
+    ` step ${step.number} ${step.text}: ${stateWord(step.state)}${step.reader ? `, ${step.reader}` : ""}`)) : null;
+}
+
+function cell(content, head = null) {
+  return el("td", { class: content ? null : "none", "data-head": head }, content ?? "–");
 }
 
 function row(state) {
   const { point } = state;
   return el("tr", { "data-point": point.name },
-    el("th", { scope: "row" }, point.name), el("td", {}, `${point.from} – ${point.to}`), el("td", {}, marksOf(point)),
-    el("td", {}, el("strong", {}, state.position), isOffNormal(state) ? " ≠" : ""),
-    el("td", {}, point.normal ?? "not known"), el("td", {}, state.hand ? links([state.hand]) : "–"),
-    el("td", {}, holdsCell(state)), el("td", {}, stepsCell(state)));
+    el("th", { scope: "row" }, point.name), el("td", {}, `${point.from} – ${point.to}`), el("td", { "data-head": "marks" }, marksOf(point)),
+    el("td", { "data-head": "now" }, el("strong", {}, state.position), isOffNormal(state) ? " ≠" : ""),
+    el("td", { "data-head": "normally" }, point.normal ?? "not known"), cell(state.hand ? links([state.hand]) : null, "in hand of"),
+    cell(holdsCell(state)), cell(stepsCell(state)));
 }
 
 export class PointsPage {

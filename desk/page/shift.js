@@ -10,6 +10,7 @@ import { recordRows } from "./board.js";
 import { namesOfRole, network } from "./network.js";
 import { room } from "./watch.js";
 
+const HEADS = ["Name", "Phase", "Section", "Steps", "Work", "Holder", "Last moment"];
 const CHECKED = "Both have gone through the records above, point by point and crew by crew.";
 
 function nameChoice(part) {
@@ -25,6 +26,11 @@ function pointWords({ point, position, hand, holds }) {
   const owners = [...new Set(holds.map(({ by }) => by))];
   return `${point.name}, ${position}${point.normal && position !== point.normal ? `, normally ${point.normal}` : ""}`
     + `${owners.length ? `; held by ${owners.join(", ")}` : ""}${hand ? `; in hand of ${hand}` : ""}`;
+}
+
+// On a phone, where there are no heads, the holder and the last moment have theirs.
+function recordRow(row) {
+  return el("tr", {}, row.map((text, place) => el("td", { "data-head": place > 4 ? HEADS[place].toLowerCase() : null }, text)));
 }
 
 export class ShiftPage {
@@ -56,7 +62,7 @@ export class ShiftPage {
       alarmed.length ? list("TESTED LIVE", alarmed) : null,
       el("h3", {}, `Open: ${room.board.length} ${room.board.length === 1 ? "record" : "records"}`),
       this.#desk.caller ? null : el("p", {}, "No name is chosen: steps, work and crews are not read."),
-      records.length ? table(["Name", "Phase", "Section", "Steps", "Work", "Holder", "Last moment"], records.map((row) => el("tr", {}, row.map((text) => el("td", {}, text))))) : el("p", {}, "None."),
+      records.length ? table(HEADS, records.map(recordRow)) : el("p", {}, "None."),
       list("Points held, in hand, or not normal", moved), list("Jumpers", jumpers),
       list("Dead by the register's positions", dead.length ? [sectionWords(dead, dead.length)] : []),
       this.#notes.value ? [el("h3", {}, "Further"), el("p", { class: "notes" }, this.#notes.value)] : null,
