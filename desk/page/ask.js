@@ -1,6 +1,6 @@
 // A question that the operator has to answer before anything goes on.
 
-import { el, button } from "./elements.js";
+import { el, button, unbroken } from "./elements.js";
 
 // Shows the lines and a button for each answer, as [value, text]; gives the value of the one that was taken, null where
 // the question was left by Escape. The last answer, which does nothing, has the focus.
@@ -12,7 +12,7 @@ export function ask(title, lines, answers) {
       button(text, () => close(value), { "data-answer": String(value), autofocus: place === answers.length - 1 }));
     const dialog = el("dialog", { class: "ask", "aria-labelledby": "ask-title" },
       el("h2", { id: "ask-title" }, title),
-      lines.map((line) => el("p", {}, line)),
+      lines.map((line) => el("p", {}, unbroken(line))),
       el("div", { class: "answers" }, buttons));
     dialog.addEventListener("close", () => {
       dialog.remove();

@@ -1,7 +1,7 @@
 // The board: every clearance and switch order that is not closed, and the jumpers.
 
 import { liveUnder, untested } from "./alarm.js";
-import { el, panel, table } from "./elements.js";
+import { el, panel, table, unbroken } from "./elements.js";
 import { shortTime, wholeTime } from "./moments.js";
 import { holdWord, phaseWord, stateWord } from "./words.js";
 import { presentStep } from "./who.js";
@@ -13,7 +13,7 @@ const MOST_NAMED = 3;
 export function holderCell(holder, work, staff) {
   const alone = work && work !== "-" && !staff.get(holder)?.supervisor;
   return el("span", {}, holder,
-    alone ? el("span", { class: "chip warn", title: "In an emergency nobody can transfer this clearance" }, "no supervisor") : null);
+    alone ? [" ", el("span", { class: "chip warn", title: "In an emergency nobody can transfer this clearance" }, "no supervisor")] : null);
 }
 
 export function stepsWords(view) {
@@ -53,11 +53,11 @@ function boardRow(row, staff, chosen) {
   return el("tr", { "data-id": row.id, class: liveUnder(row.id).length ? "live" : null },
     el("th", { scope: "row" }, el("a", { href: `#/clearance/${row.id}`, "data-name": row.id }, row.id)),
     el("td", {}, el("span", { class: `phase ${row.phase}`, title: phaseWord(row.phase) }, row.phase)),
-    el("td", {}, row.work === "-" ? "switch order" : row.work, hatched ? el("span", { class: "chip" }, "fence hatched") : null),
-    el("td", { class: "steps-so-far" }, stepsWords(view)),
-    el("td", {}, workWords(view).map(([kind, text], place) => [place ? "; " : "", el("span", { class: kind || null }, text)]).flat()),
-    el("td", {}, holderCell(row.holder, row.work, staff)),
-    el("td", { class: "moment", title: wholeTime(row.last) }, shortTime(row.last)));
+    el("td", {}, row.work === "-" ? "switch order" : row.work, hatched ? [" ", el("span", { class: "chip" }, "fence hatched")] : null),
+    el("td", { class: "steps-so-far" }, unbroken(stepsWords(view))),
+    el("td", {}, workWords(view).map(([kind, text], place) => [place ? "; " : "", el("span", { class: kind || null }, unbroken(text))]).flat()),
+    el("td", { "data-head": "holder" }, holderCell(row.holder, row.work, staff)),
+    el("td", { class: "moment", "data-head": "last moment", title: wholeTime(row.last) }, shortTime(row.last)));
 }
 
 function jumperRow({ point, from, to, position }) {

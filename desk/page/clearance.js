@@ -72,7 +72,7 @@ function pointRow(row, view) {
 
 function sectionRow(name, view) {
   const holds = view.holds.filter((hold) => hold.place === name && ["Tested", "Ground"].includes(hold.kind) && hold.by !== view.card.clearance);
-  return el("tr", {}, el("th", { scope: "row" }, name, name === view.work ? el("span", { class: "chip" }, "work section") : null),
+  return el("tr", {}, el("th", { scope: "row" }, name, name === view.work ? [" ", el("span", { class: "chip" }, "work section")] : null),
     el("td", {}, view.card.phase === "Granted" ? el("p", {}, sectionState(view, name)) : null,
       holds.map((hold) => el("p", {}, `${holdWord(hold.kind)} by ${hold.by}`)), view.card.phase !== "Granted" && !holds.length ? "–" : null));
 }

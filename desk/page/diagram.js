@@ -1,6 +1,6 @@
 // The one-line diagram: sections, the points between them, and what the register says of both.
 
-import { el, svg, button } from "./elements.js";
+import { el, svg, button, unbroken } from "./elements.js";
 import { sectionWords } from "./findings.js";
 import { BOX, layOut } from "./layout.js";
 import { sectionMarks } from "./marks.js";
@@ -207,7 +207,7 @@ export class Diagram {
   #sayDead() {
     const all = [...this.#network.sections.values()], dead = all.filter(({ live }) => !live).map(({ name }) => name);
     const text = dead.length ? `${dead.length} of ${all.length} sections ${dead.length === 1 ? "is" : "are"} dead by the register's positions: ${sectionWords(dead)}` : `all ${all.length} sections are live by the register's positions`;
-    if (this.#dead.textContent !== text) this.#dead.textContent = text;
+    if (this.#dead.textContent !== text) this.#dead.replaceChildren(...unbroken(text));
   }
 
   // The way to a source that the picked points leave open: section, point, section and so on.

@@ -22,6 +22,13 @@ export function svg(tag, attributes = {}, ...children) {
   return dress(document.createElementNS(SVG, tag), attributes, children);
 }
 
+const NAME = /([(“]*[A-Z0-9]+(?:-[A-Z0-9]+)+[.,:;)”]*)/; // with the signs that belong to it
+
+// A text in which no name goes on in the next line after a hyphen, as long as it fits into one.
+export function unbroken(text) {
+  return text.split(NAME).map((part, place) => (place % 2 ? el("span", { class: "unbroken" }, part) : part));
+}
+
 export function button(text, does, attributes = {}) {
   return el("button", { type: "button", onclick: does, ...attributes }, text);
 }

@@ -1,6 +1,6 @@
 // The fence of the points that are picked for an isolating order: what it reaches, and what it would be refused for.
 
-import { el, panel } from "./elements.js";
+import { el, panel, unbroken } from "./elements.js";
 import { living } from "./notes.js";
 import { wayWords } from "./grid.js";
 
@@ -23,10 +23,10 @@ function sectionWords(names) {
 function sourceWords([first, ...others]) {
   return [
     el("ul", { class: "findings" },
-      el("li", { class: "asks" }, `⚠ the source ${first.source} is still reached: ${wayWords(first.way)}`),
+      el("li", { class: "asks" }, unbroken(`⚠ the source ${first.source} is still reached: ${wayWords(first.way)}`)),
       el("li", {}, "By this the order would be refused (SOURCE_INSIDE): pick a point on the way.")),
     others.length ? el("details", {}, el("summary", {}, `${others.map(({ source }) => source).join(", ")} too`),
-      others.map(({ way }) => el("p", {}, wayWords(way)))) : null,
+      others.map(({ way }) => el("p", {}, unbroken(wayWords(way))))) : null,
   ];
 }
 
@@ -37,7 +37,7 @@ export function fenceNotes(picked, fence) {
     const { sections, sources } = fence();
     const names = [...sections].sort();
     panel(node, [picked().size, names, sources], () => (picked().size ? [
-      el("p", {}, `The fence of these points, hatched: ${sectionWords(names)}.`),
+      el("p", {}, unbroken(`The fence of these points, hatched: ${sectionWords(names)}.`)),
       ...(sources.length ? sourceWords(sources) : [el("p", { class: "good" }, "✓ No source is reached.")]),
     ] : el("p", { class: "hint" }, "Pick a point, and the fence is hatched.")));
   });

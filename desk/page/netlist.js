@@ -14,7 +14,7 @@ export class NetList {
     this.#filter = el("input", { type: "search", size: 16, "data-name": "filter", oninput: () => this.update(this.#last) });
     this.node = el("div", { class: "diagram" },
       el("p", {}, `The network has ${network.sections.size} sections; it is listed here, since it is too large to be drawn.`),
-      field("Section or point", this.#filter), this.#rows);
+      el("div", { class: "line" }, field("Section or point", this.#filter)), this.#rows);
   }
 
   pick() {}

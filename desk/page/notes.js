@@ -1,7 +1,7 @@
 // Findings on the page: under a picked point, under the steps of an order, and in the question before something is sent.
 
 import { ask } from "./ask.js";
-import { el, panel } from "./elements.js";
+import { el, panel, unbroken } from "./elements.js";
 import { findingsAt, findingsOfSteps, sectionWords, turnedBySteps } from "./findings.js";
 
 const MOST_ASKED = 10;
@@ -10,7 +10,7 @@ const OWN = "This is the page's own reckoning, by what the register last answere
 // A list of findings; nothing where there are none.
 export function findingsList(found) {
   if (!found.length) return null;
-  return el("ul", { class: "findings" }, found.map(({ text, asks }) => el("li", { class: asks ? "asks" : null }, asks ? `⚠ ${text}` : text)));
+  return el("ul", { class: "findings" }, found.map(({ text, asks }) => el("li", { class: asks ? "asks" : null }, unbroken(asks ? `⚠ ${text}` : text))));
 }
 
 // A part of the page that is looked at again whenever the page learns something.
@@ -62,7 +62,7 @@ export function turnNotes(desk, steps) {
   return living(node, () => {
     const { live, dead } = turnedBySteps(desk, steps());
     panel(node, [live, dead, steps().length > 0], () => (steps().length ? el("p", {}, "Once all these steps are done, by this page's reckoning: ",
-      live.length || dead.length ? [live.length ? `live will be ${sectionWords(live)}` : "", dead.length ? `dead will be ${sectionWords(dead)}` : ""].filter(Boolean).join("; ")
+      live.length || dead.length ? unbroken([live.length ? `live will be ${sectionWords(live)}` : "", dead.length ? `dead will be ${sectionWords(dead)}` : ""].filter(Boolean).join("; "))
         : "no section turns live or dead", ".") : []));
   });
 }

@@ -2,7 +2,7 @@
 
 import { ask } from "./ask.js";
 import { drafted, draftName } from "./drafts.js";
-import { el, button, field, table } from "./elements.js";
+import { el, button, field, table, unbroken } from "./elements.js";
 import { findingsOfSteps } from "./findings.js";
 import { exampleStep } from "./network.js";
 import { findingsList } from "./notes.js";
@@ -23,7 +23,7 @@ export function stepsTable(view, found) {
   const rows = view.steps.map((step, place) =>
     el("tr", { class: `step ${step.state}`, "aria-current": place + 1 === present ? "step" : null },
       el("td", { class: "number" }, String(place + 1)),
-      el("td", {}, el("span", { class: "text" }, step.text), findingsList(found[place])),
+      el("td", {}, el("span", { class: "text" }, unbroken(step.text)), findingsList(found[place])),
       el("td", {}, el("span", { class: "sign", "aria-hidden": "true" }, SIGNS[step.state]), `\u00a0${stateWord(step.state)}`),
       el("td", {}, step.reader ?? "–")));
   return table(["No", "Step", "State", "Reader"], rows, { class: "steps" });

@@ -48,7 +48,7 @@ function liveWords({ card }, live, tested) {
 function sectionRow(view, section, act) {
   const give = (parts) => act({ clearance: view.card.clearance, section, ...parts });
   return el("tr", { class: liveIn([section]).length ? "live" : null },
-    el("th", { scope: "row" }, section, section === view.work ? el("span", { class: "chip" }, "work section") : null),
+    el("th", { scope: "row" }, section, section === view.work ? [" ", el("span", { class: "chip" }, "work section")] : null),
     el("td", {}, sectionState(view, section)),
     el("td", { class: "say" },
       button("Tested dead", () => give({ do: "test", dead: true }), { "data-name": `dead ${section}`, "aria-label": `${section} tested dead` }),
