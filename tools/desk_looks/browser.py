@@ -12,6 +12,7 @@ import urllib.request
 
 NEEDED = {"chromium": "chromium", "chromedriver": "chromium-driver", "nginx": "nginx"}
 TAB, ENTER, ALT, SHIFT = "\ue004", "\ue007", "\ue00a", "\ue008"
+ALL = "\ue009a\ue000"  # what is in a field, chosen, so that the next sign takes its place
 REBOUND = "rebound.example"  # a foreign name that leads to this machine
 LONG = 30 * max(1, int(os.getloadavg()[0] / os.cpu_count()))  # seconds that anything is waited for; more on a busy machine
 
@@ -177,6 +178,14 @@ class Browser:
     def picture(self, path):
         with open(path, "wb") as file:
             file.write(base64.b64decode(self.own("GET", "/screenshot")))
+
+    def whole_picture(self, path):
+        """All of the page, what is below the window too."""
+        wide, high = self.script("const { scrollWidth, scrollHeight } = document.documentElement; return [scrollWidth, scrollHeight]")
+        words = {"captureBeyondViewport": True, "clip": {"x": 0, "y": 0, "width": wide, "height": high, "scale": 1}}
+        found = self.own("POST", "/goog/cdp/execute", {"cmd": "Page.captureScreenshot", "params": words})
+        with open(path, "wb") as file:
+            file.write(base64.b64decode(found["data"]))
 
     def on_paper(self, path):
         """The page as it is printed."""

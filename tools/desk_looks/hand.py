@@ -6,7 +6,7 @@ import time
 import urllib.error
 import urllib.request
 
-from desk_looks.browser import ENTER, LONG, TAB, Differs, direct, say, wait_until
+from desk_looks.browser import ALL, ENTER, LONG, TAB, Differs, direct, say, wait_until
 
 
 class Hand:
@@ -27,6 +27,12 @@ class Hand:
         wait_until(lambda: self.browser.script("return document.body.dataset.ready === 'yes'"), "the page")
         self.number = 0
 
+    def reload(self):
+        """The page, loaded again."""
+        self.browser.own("POST", "/refresh", {})
+        wait_until(lambda: self.browser.script("return document.body.dataset.ready === 'yes'"), "the page again")
+        self.number = 0
+
     def speak(self, name):
         self.browser.click(f'#caller option[value="{name}"]')
         wait_until(lambda: self.browser.script("return document.getElementById('caller').value") == name, f"speaking as {name}")
@@ -40,6 +46,32 @@ class Hand:
 
     def answer(self, value):
         self.browser.click(f'dialog [data-answer="{value}"]')
+
+    def write(self, name, text):
+        """Types into the field of this name."""
+        self.browser.type(f'main [data-name="{name}"]', text)
+
+    def carry_out(self, name, *texts, asked=(), answers=()):
+        """A press that is accepted, after these answers to what is asked; its reply has these texts."""
+        self.consent(name, asked, answers)
+        self.reply("accepted", *texts)
+
+    def refused(self, name, *texts, asked=(), answers=()):
+        self.consent(name, asked, answers)
+        self.reply("refused", *texts)
+
+    def consent(self, name, asked, answers):
+        """A press; the question says this, and is answered so."""
+        self.press(name)
+        for text in asked:
+            self.shows(text, "dialog")
+        for one in answers:
+            self.answer(one)
+
+    def repeat(self, text):
+        """The step, as it is heard, and its button."""
+        self.write("repeat-text", text)
+        self.carry_out("repeat", "repeat", text.removeprefix(ALL))
 
     def declined(self, name, *texts, sent=0):
         """A press that asks a question with these texts; a no to it sends nothing."""
@@ -104,9 +136,9 @@ class Hand:
         for point in points:
             self.browser.find('main [data-name="filter"]')
             self.browser.script("document.querySelector('main [data-name=filter]').value = ''")
-            self.browser.type('main [data-name="filter"]', point)
+            self.write("filter", point)
             self.press(f"pick {point}")
-        self.browser.type('main [data-name="filter"]', " ")
+        self.write("filter", " ")
 
     def nothing_sent(self, since):
         """The desk's log has no command more than it had."""
@@ -118,14 +150,10 @@ class Hand:
         """A step's three commands by REED, with the mouse."""
         self.turn(f"clearance/{clearance}")
         self.speak("OPS")
-        self.press("instruct")
-        self.reply("accepted", "instruct", clearance)
+        self.carry_out("instruct", "instruct", clearance)
         self.press("as REED")
-        self.browser.type('main [data-name="repeat-text"]', text)
-        self.press("repeat")
-        self.reply("accepted", "repeat", text)
-        self.press("done")
-        self.reply("accepted", "done")
+        self.repeat(text)
+        self.carry_out("done", "done")
 
     def tab_to(self, name):
         self.browser.settled(f'main [data-name="{name}"]')

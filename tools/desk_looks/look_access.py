@@ -37,11 +37,11 @@ PAGES = [("DISP1", "board"), ("DISP1", "diagram"), ("DISP1", "points"), ("JONES"
 KNOWN = {"board": "Granted", "mine": "JONES/1", "log": "no log", "request": "Ask for the clearance", "switch": "Give the switch order", "jumper": "J1"}
 
 
-def turn(hand, page):
+def turn(hand, page, known=KNOWN):
     hand.turn(page)
     if page.startswith("clearance/"):
         hand.browser.find(f'main [data-id="{page[10:]}"] .card')
-    hand.shows(KNOWN.get(page, ""))
+    hand.shows(known.get(page, ""))
     time.sleep(0.8)  # controls that have just come have another cursor, and lists settle
 
 
@@ -121,9 +121,7 @@ def questions(hand, access):
 
 
 def replies(hand, access):
-    hand.press("instruct")
-    hand.answer("send")
-    hand.reply("refused", "HELD")
+    hand.refused("instruct", "HELD", answers=["send"])
     hand.turn("clearance/KIM/1")
     with hanging(hand.desk.register()):
         hand.press("instruct")

@@ -120,13 +120,12 @@ def new_control(stage):
     text = "OPEN N11-Q13"
     hand = stage.network([*ordered("LEE", "N11-F13", ["N11-Q13", "TIE1-N11-N12"]), *step("LEE/1", 1, text, "instruct")], "clearance/LEE/1", speaker="REED")
     hand.browser.script(SOON)
-    hand.browser.type('main [data-name="repeat-text"]', text + ENTER)
+    hand.write("repeat-text", text + ENTER)
     hand.reply("accepted", "repeat step 1")
     wait_until(lambda: hand.browser.script("return window.over"), "presses")
     say(f"  {hand.browser.script('return window.presses')} presses in half a second")
     hand.nothing_sent(1)
-    hand.press("done")
-    hand.reply("accepted", "done")
+    hand.carry_out("done", "done")
 
 
 def waiting(stage):
@@ -191,7 +190,7 @@ def focused(stage):
 def field(stage):
     """Nor under a field that has the focus; and the board does so too."""
     hand = stage.network(granted("KIM", "N13-F12", CUT, ["C2"]), "clearance/KIM/1", speaker="KIM")
-    hand.browser.type('main [data-name="crew"]', "C9")
+    hand.write("crew", "C9")
     hand.browser.point(1, 1)
     hand.post({"by": "KIM", "do": "sign_on", "clearance": "KIM/1", "crew": "C1"})
     hand.browser.find("main .next [data-changed]")
@@ -215,20 +214,12 @@ def questions(stage):
     hand.press("grant")
     hand.shows("nobody takes a grant back", "dialog")
     hand.answer("null")
-    hand.press("grant")
-    hand.answer("yes")
-    hand.reply("accepted", "Granted")
+    hand.carry_out("grant", "Granted", answers=["yes"])
     for commands in ({"do": "test", "section": "N13-F12", "dead": True}, {"do": "ground", "section": "N13-F12"}, {"do": "sign_on", "crew": "C1"}):
         hand.post({"by": "KIM", "clearance": "KIM/1", **commands})
     hand.speak("KIM")
-    hand.press("off C1")
-    hand.shows("have left the work", "dialog")
-    hand.answer("yes")
-    hand.reply("accepted", "off")
-    hand.press("ground N13-F12")
-    hand.shows("no longer grounded", "dialog")
-    hand.answer("yes")
-    hand.reply("accepted", "take the ground off")
+    hand.carry_out("off C1", "off", asked=["have left the work"], answers=["yes"])
+    hand.carry_out("ground N13-F12", "take the ground off", asked=["no longer grounded"], answers=["yes"])
     hand.press("release")
     hand.shows("gives the line back", "dialog")
     hand.answer("null")

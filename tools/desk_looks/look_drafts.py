@@ -7,12 +7,6 @@ from desk_looks.network import granted, ordered, points, released, step
 CUT = ["N13-Q11", "N13-B1", "N13-Q13"]
 
 
-def reload(hand):
-    hand.browser.own("POST", "/refresh", {})
-    wait_until(lambda: hand.browser.script("return document.body.dataset.ready === 'yes'"), "the page again")
-    hand.number = 0
-
-
 def has(hand, name, value):
     wait_until(lambda: hand.browser.script("return document.querySelector(arguments[0])?.value", f'main [data-name="{name}"]') == value, f"{name} to have {value}")
 
@@ -30,7 +24,7 @@ def orders(stage):
     hand.press("OPEN N15-Q21")
     hand.turn("clearance/JONES/1")
     hand.press("LEAVE TIE1-N11-N12")
-    for again in (lambda: hand.turn("board"), lambda: reload(hand)):
+    for again in (lambda: hand.turn("board"), hand.reload):
         again()
         hand.turn("clearance/KIM/1")
         hand.shows("TAG N13-B1", "main .steplist")
@@ -40,8 +34,7 @@ def orders(stage):
         hand.shows("LEAVE TIE1-N11-N12", "main .steplist")
         hand.turn("switch")
         hand.shows("OPEN N15-Q21", "main .steplist")
-    hand.press("switch")
-    hand.reply("accepted", "DISP1/1")
+    hand.carry_out("switch", "DISP1/1")
     hand.shows("DISP1/1", "main h2")
     hand.turn("switch")
     hand.shows("no steps yet", "main .steplist")
@@ -55,7 +48,7 @@ def fields(stage):
     """A crew's name and a repeat, while another desk touches the clearances."""
     start = [*granted("KIM", "N13-F12", CUT, ["C1"]), *ordered("LEE", "N11-F13", ["N11-Q13", "TIE1-N11-N12"]), *step("LEE/1", 1, "OPEN N11-Q13", "instruct")]
     hand = stage.network(start, "clearance/KIM/1", speaker="KIM")
-    hand.browser.type('main [data-name="crew"]', "C2")
+    hand.write("crew", "C2")
     hand.post({"by": "KIM", "do": "sign_on", "clearance": "KIM/1", "crew": "C3"})
     hand.shows("C3 is on")
     has(hand, "crew", "C2")
@@ -64,11 +57,11 @@ def fields(stage):
     has(hand, "crew", "C2")
     hand.turn("clearance/LEE/1")
     hand.speak("REED")
-    hand.browser.type('main [data-name="repeat-text"]', "open n11")
+    hand.write("repeat-text", "open n11")
     hand.post({"by": "DALE", "do": "repeat", "clearance": "LEE/1", "step": 1, "text": "OPEN N11-Q13"})
     hand.shows("repeated, not yet reported")
     has(hand, "repeat-text", "OPEN N11")
-    reload(hand)
+    hand.reload()
     has(hand, "repeat-text", "OPEN N11")
 
 
@@ -76,7 +69,7 @@ def given_again(stage):
     """What was typed of a step is gone where it came back meanwhile and is given out once more."""
     instruct, repeat = step("LEE/1", 1, "OPEN N11-Q13", "repeat")
     hand = stage.network([*ordered("LEE", "N11-F13", ["N11-Q13", "TIE1-N11-N12"]), instruct], "clearance/LEE/1", speaker="REED")
-    hand.browser.type('main [data-name="repeat-text"]', "open n11-q13")
+    hand.write("repeat-text", "open n11-q13")
     hand.post(dict(repeat, by="DALE"))
     hand.post({"by": "DALE", "do": "report", "clearance": "LEE/1", "step": 1, "done": False})
     hand.browser.script("document.activeElement.blur()")
@@ -92,7 +85,7 @@ def over(stage):
     hand.press("pick N13-Q11")
     hand.turn("request")
     hand.speak("LEE")
-    hand.browser.type('main [data-name="section"]', "N11")
+    hand.write("section", "N11")
     hand.browser.script("sessionStorage.setItem('gridclear-draft LEE/7 sign_on', '\"C1\"')")
     wait_until(lambda: hand.browser.script(names) == ["gridclear-draft  request", "gridclear-draft KIM/1 order"], "two drafts")
     hand.post({"by": "KIM", "do": "cancel", "clearance": "KIM/1"})

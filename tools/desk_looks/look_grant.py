@@ -32,18 +32,16 @@ def elsewhere(stage):
     for width in WIDTHS:
         hand.browser.size(width)
         places[width] = [hand.rect('main [data-name="instruct"]')]
-    hand.press("instruct")
-    hand.reply("accepted")
+    hand.carry_out("instruct")
     if hand.there('main [data-name="grant"]'):
         raise Differs("a grant is offered while the last step is out")
     hand.speak("REED")
-    hand.browser.type('main [data-name="repeat-text"]', texts[-1] + ENTER)
+    hand.write("repeat-text", texts[-1] + ENTER)
     hand.reply("accepted")
     for width in WIDTHS:
         hand.browser.size(width)
         places[width].append(hand.rect('main [data-name="done"]'))
-    hand.press("done")
-    hand.reply("accepted")
+    hand.carry_out("done")
     hand.speak("DISP1")
     for width in WIDTHS:
         hand.browser.size(width)
@@ -61,14 +59,12 @@ def after_a_row(stage):
     hand = stage.network([*ordered("KIM", "N11-F12", CUT), *steps("KIM/1", texts[:-1])], "clearance/KIM/1", speaker="DISP1")
     hand.browser.click("#several")
     hand.browser.click('main [data-name="hearer"] option[value="REED"]')
-    hand.press("instruct")
-    hand.reply("accepted")
-    hand.browser.type('main [data-name="repeat-text"]', texts[-1] + ENTER)
+    hand.carry_out("instruct")
+    hand.write("repeat-text", texts[-1] + ENTER)
     hand.reply("accepted")
     hand.browser.settled('main [data-name="done"]')
     places = [hand.rect(f'main [data-name="{name}"]') for name in ("instruct", "repeat", "done", "not-done")]
-    hand.press("done")
-    hand.reply("accepted")
+    hand.carry_out("done")
     grant = hand.rect('main [data-name="grant"]')
     if any(lies_over(grant, place) for place in places):
         raise Differs(f"the grant at {grant} lies over one of {places}")

@@ -68,7 +68,7 @@ def huge(stage):
     one = stage.begin(desk, "board")
     two = stage.window("diagram")
     took = first_drawing(two)
-    two.browser.type('main [data-name="filter"]', "S00-F0-01")
+    two.write("filter", "S00-F0-01")
     two.shows("Q-S00-F0-01 to S00-F0-00: closed", "main .diagram")
     changed = change(one, two, "Q-S00-F0-01", 1)
     say(f"  a change is shown at a second desk after {changed:.1f} seconds")

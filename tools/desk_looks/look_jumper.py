@@ -19,7 +19,7 @@ def value(hand, name):
 def jumper(stage):
     hand = stage.network(JONES, "jumper", speaker="DISP1")
     hand.shows("A jumper makes no source")
-    hand.browser.type('main [data-name="point"]', "j1")
+    hand.write("point", "j1")
     for name in ("N13-F13", "N14-F13"):
         press_section(hand, name)
     if (value(hand, "from"), value(hand, "to")) != ("N13-F13", "N14-F13"):
@@ -30,12 +30,10 @@ def jumper(stage):
     press_section(hand, "N11-F33")
     hand.shows("closed, it would join the sources GRID-1 and GRID-2", ".picked-notes")
     press_section(hand, "N14-F13")
-    hand.browser.type('main [data-name="to"]', "gen-3")
+    hand.write("to", "gen-3")
     hand.shows("GEN-3 is a new section, which comes with it, and no source", ".picked-notes")
     hand.declined("jumper", "Nobody can take it out of the register again")
-    hand.press("jumper")
-    hand.answer("yes")
-    hand.reply("accepted", "J1 is in the register, open")
+    hand.carry_out("jumper", "J1 is in the register, open", answers=["yes"])
     wait_until(lambda: drawn(hand, "point", "open", "closed").get("J1") == "open", "the jumper on the diagram")
     wait_until(lambda: drawn(hand, "section", "dead").get("GEN-3") == "dead", "its new section on the diagram")
     hand.picture("jumper")
@@ -47,8 +45,7 @@ def lay(hand, base):
     hand.press("write CLOSE J1")
     hand.shows("CLOSE J1", "main .steplist")
     hand.shows("live will be GEN-3", ".turn-notes")
-    hand.press("switch")
-    hand.reply("accepted", "DISP1/1")
+    hand.carry_out("switch", "DISP1/1")
     for command in steps("DISP1/1", ["CLOSE J1"]):
         hand.post(command)
     wait_until(lambda: drawn(hand, "point", "closed").get("J1") == "closed", "the jumper drawn closed")

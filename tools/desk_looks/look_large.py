@@ -65,13 +65,19 @@ def time_drawn(hand):
     return hand.browser.script("return performance.getEntriesByName('drawn')[0].duration")
 
 
-def draw_large(stage):
+def large(stage):
+    """The first window, with its diagram."""
     files, count = large_files(stage.work)
     say(f"a network of {count} sections")
     desk = Desk(stage.work, "large-desk", files, free_ports(2))
     large_life(desk.base, files[1])
     hand = stage.begin(desk, "diagram")
     hand.speak("OPS")
+    return hand
+
+
+def draw_large(stage):
+    hand = large(stage)
     drawn = time_drawn(hand)
     for _ in range(2):
         if drawn >= 1000:  # a busy machine: the page is loaded again

@@ -6,7 +6,7 @@ import signal
 import time
 
 from desk_looks.access import Access
-from desk_looks.browser import ENTER, free_ports, say, wait_until
+from desk_looks.browser import ALL, ENTER, free_ports, say, wait_until
 from desk_looks.desk import EXAMPLES, Desk, same_as_run
 
 
@@ -14,39 +14,28 @@ def ask_and_order(hand):
     say("the request, and the isolating order by list and diagram")
     hand.speak("JONES")
     hand.turn("request")
-    hand.browser.type('main [data-name="section"]', "l2")
-    hand.press("request")
-    hand.reply("accepted", "JONES/1", "Requested")
+    hand.write("section", "l2")
+    hand.carry_out("request", "JONES/1", "Requested")
     hand.press("as OPS")
     hand.press("pick S2")
     hand.browser.script("""document.querySelector('.net .point[data-name="S3"]').dispatchEvent(new MouseEvent('click'))""")
     hand.shows("TAG S3", "main .steplist")
     hand.picture("order")
-    hand.press("order")
-    hand.reply("accepted", "order JONES/1: points S2, S3, 6 steps", "Ordered")
+    hand.carry_out("order", "order JONES/1: points S2, S3, 6 steps", "Ordered")
 
 
 def isolate(hand):
     say("the steps, a reload in the middle")
     hand.step_by_keys("OPEN S2")
     hand.press("as OPS")
-    hand.press("instruct")
-    hand.reply("accepted", "instruct step 2")
-    hand.browser.own("POST", "/refresh", {})
-    wait_until(lambda: hand.browser.script("return document.body.dataset.ready === 'yes'"), "the page again")
-    hand.number = 0
+    hand.carry_out("instruct", "instruct step 2")
+    hand.reload()
     hand.shows("given out, not yet repeated")
     hand.press("as REED")
-    hand.browser.type('main [data-name="repeat-text"]', "OPEN S2")
-    hand.press("repeat")
-    hand.shows("The repeat differs", "dialog")
-    hand.answer("send")
-    hand.reply("refused", "REPEAT_DIFFERS")
-    hand.browser.type('main [data-name="repeat-text"]', "\ue009a\ue000OPEN S3")
-    hand.press("repeat")
-    hand.reply("accepted", "repeat")
-    hand.press("done")
-    hand.reply("accepted", "done")
+    hand.write("repeat-text", "OPEN S2")
+    hand.refused("repeat", "REPEAT_DIFFERS", asked=["The repeat differs"], answers=["send"])
+    hand.repeat(ALL + "OPEN S3")
+    hand.carry_out("done", "done")
     not_done(hand, "BLOCK S2")
     for text in ("BLOCK S2", "BLOCK S3"):
         hand.step("JONES/1", text)
@@ -54,13 +43,11 @@ def isolate(hand):
 
 def not_done(hand, text):
     hand.press("as OPS")
-    hand.press("instruct")
-    hand.reply("accepted", "instruct")
+    hand.carry_out("instruct", "instruct")
     hand.press("as DALE")
-    hand.browser.type('main [data-name="repeat-text"]', text + ENTER)
+    hand.write("repeat-text", text + ENTER)
     hand.reply("accepted", "DALE", text)
-    hand.press("not-done")
-    hand.reply("accepted", "not done")
+    hand.carry_out("not-done", "not done")
 
 
 def switch(hand):
@@ -69,27 +56,18 @@ def switch(hand):
     hand.turn("switch")
     hand.press("pick S2")
     hand.press("CLOSE S2")
-    hand.press("switch")
-    hand.shows("would be refused (HELD) for JONES/1", "dialog")
-    hand.answer("send")
-    hand.reply("accepted", "OPS/1")
-    hand.press("instruct")
-    hand.shows("would be refused (HELD) for JONES/1", "dialog")
-    hand.answer("send")
-    hand.reply("refused", "HELD, number 20", "in the way: JONES/1")
+    hand.carry_out("switch", "OPS/1", asked=["would be refused (HELD) for JONES/1"], answers=["send"])
+    hand.refused("instruct", "HELD, number 20", "in the way: JONES/1", asked=["would be refused (HELD) for JONES/1"], answers=["send"])
     hand.turn("clearance/JONES/1")
     hand.shows("TAG S2", "main .step-place")
     time.sleep(0.5)
     hand.picture("step")
     hand.turn("clearance/OPS/1")
-    hand.press("cancel")
-    hand.answer("yes")
-    hand.reply("accepted", "OPS/1 is Closed")
+    hand.carry_out("cancel", "OPS/1 is Closed", answers=["yes"])
     hand.turn("switch")
     hand.press("pick S4")
     hand.press("OPEN S4")
-    hand.press("switch")
-    hand.reply("accepted", "OPS/2")
+    hand.carry_out("switch", "OPS/2")
     hand.step("OPS/2", "OPEN S4")
 
 
@@ -108,10 +86,9 @@ def lose_a_reply(hand):
     hand.browser.click('#replies [data-name$="Give it again"]')
     hand.reply("accepted", "instruct step 5")
     hand.press("as REED")
-    hand.browser.type('main [data-name="repeat-text"]', "TAG S2" + ENTER)
+    hand.write("repeat-text", "TAG S2" + ENTER)
     hand.reply("accepted", "repeat")
-    hand.press("done")
-    hand.reply("accepted", "done")
+    hand.carry_out("done", "done")
     hand.step("JONES/1", "TAG S3")
 
 
@@ -123,57 +100,44 @@ def stop_and_start(hand):
     hand.shows("The register answers", "#contact")
     hand.turn("clearance/JONES/1")
     hand.speak("OPS")
-    hand.press("grant")
-    hand.answer("yes")
-    hand.reply("accepted", "JONES/1 is Granted")
+    hand.carry_out("grant", "JONES/1 is Granted", answers=["yes"])
 
 
 def work_part(hand):
     say("work, and a register that hangs while a crew is signed on")
     hand.press("as JONES")
-    hand.press("ground L2")
-    hand.reply("refused", "NOT_TESTED")
-    hand.press("dead L2")
-    hand.reply("accepted", "dead")
-    hand.press("ground L2")
-    hand.reply("accepted", "ground L2")
+    hand.refused("ground L2", "NOT_TESTED")
+    hand.carry_out("dead L2", "dead")
+    hand.carry_out("ground L2", "ground L2")
     with hanging(hand.desk.register()):
-        hand.browser.type('main [data-name="crew"]', "C1" + ENTER)
+        hand.write("crew", "C1" + ENTER)
         hand.reply("lost", "504")
     hand.found("Crew C1 is on", "it was carried out")
     hand.shows("C1 is on")
     with hanging(hand.desk.register()):
-        hand.browser.type('main [data-name="crew"]', "C2" + ENTER)
+        hand.write("crew", "C2" + ENTER)
         time.sleep(0.5)
         hand.browser.own("POST", "/refresh", {})
         hand.number = 0
     hand.found("the page was loaded again", "it was carried out")
-    hand.press("off C2")
-    hand.answer("yes")
-    hand.reply("accepted", "sign crew C2 off")
+    hand.carry_out("off C2", "sign crew C2 off", answers=["yes"])
 
 
 def hand_over(hand):
     say("the clearance handed over, and taken in an emergency")
-    hand.browser.click('main [data-name="to false"] option[value="BOSS"]')
-    hand.press("transfer false")
-    hand.answer("yes")
-    hand.reply("accepted", "holder BOSS")
+    transfer(hand, "BOSS")
     hand.press("as BOSS")
-    hand.browser.click('main [data-name="to false"] option[value="JONES"]')
-    hand.press("transfer false")
-    hand.answer("yes")
-    hand.reply("accepted", "holder JONES")
-    hand.browser.click('main [data-name="to true"] option[value="KIM"]')
-    hand.press("transfer true")
-    hand.answer("yes")
-    hand.reply("accepted", "emergency", "holder KIM")
+    transfer(hand, "JONES")
+    transfer(hand, "KIM", "emergency")
     hand.press("as KIM")
-    hand.browser.click('main [data-name="to false"] option[value="JONES"]')
-    hand.press("transfer false")
-    hand.answer("yes")
-    hand.reply("accepted", "holder JONES")
+    transfer(hand, "JONES")
     hand.press("as JONES")
+
+
+def transfer(hand, name, emergency=""):
+    kind = "true" if emergency else "false"
+    hand.browser.click(f'main [data-name="to {kind}"] option[value="{name}"]')
+    hand.carry_out(f"transfer {kind}", emergency, f"holder {name}", answers=["yes"])
 
 
 @contextlib.contextmanager
@@ -190,7 +154,7 @@ def moments(hand):
     say("moments that are off, and a holder without a supervisor")
     hand.turn("request")
     hand.speak("KIM")
-    hand.browser.type('main [data-name="section"]', "L3")
+    hand.write("section", "L3")
     set_moment(hand, 600)
     hand.press("request")
     hand.shows("after this desk's clock", "dialog")
@@ -198,8 +162,7 @@ def moments(hand):
     hand.reply("unsent", "did not let it be sent")
     hand.browser.click("#moment-now")
     set_moment(hand, 90)
-    hand.press("request")
-    hand.reply("accepted", "KIM/1")
+    hand.carry_out("request", "KIM/1")
     hand.turn("diagram")
     hand.browser.click('main [data-name="fence"] option[value="JONES/1"]')
     hand.turn("board")
@@ -230,22 +193,15 @@ def give_back(hand):
     hand.picture("clearance")
     release(hand)
     hand.reply("refused", "CREWS_ON")
-    hand.press("off C1")
-    hand.answer("yes")
-    hand.reply("accepted", "sign crew C1 off")
-    hand.press("ground L2")
-    hand.answer("yes")
-    hand.reply("accepted", "take the ground off L2")
+    hand.carry_out("off C1", "sign crew C1 off", answers=["yes"])
+    hand.carry_out("ground L2", "take the ground off L2", answers=["yes"])
     release(hand)
     hand.reply("accepted", "JONES/1 is Released")
     hand.press("as OPS")
     for point in ("S2", "S3"):
         hand.press(f"CLOSE {point}")
-    hand.press("restore")
-    hand.reply("accepted", "Restoring")
-    hand.press("amend 6")
-    hand.answer("yes")
-    hand.reply("accepted", "amend step 6")
+    hand.carry_out("restore", "Restoring")
+    hand.carry_out("amend 6", "amend step 6", answers=["yes"])
     for text in ("UNTAG S2", "UNBLOCK S2", "CLOSE S2", "UNTAG S3", "UNBLOCK S3", "LEAVE S3"):
         hand.step("JONES/1", text)
     hand.shows("It is over; its record stays")

@@ -13,11 +13,7 @@ def without(hand, text, css):
 
 
 def say_live(hand, section):
-    hand.press(f"live {section}")
-    hand.shows(f"{section}: tested live?", "dialog")
-    hand.shows("On now: C1", "dialog")
-    hand.answer("yes")
-    hand.reply("accepted", "live")
+    hand.carry_out(f"live {section}", "live", asked=[f"{section}: tested live?", "On now: C1"], answers=["yes"])
 
 
 def alarmed(hand, section):
@@ -56,15 +52,14 @@ def alarm(stage):
     reloads(one, two)
     for hand in (one, two):
         hand.turn("clearance/KIM/1")
-    one.press("dead N13-F11")
-    one.reply("accepted", "dead")
+    one.carry_out("dead N13-F11", "dead")
     for hand in (one, two):
         without(hand, "TESTED LIVE", "#alarms")
         without(hand, "TESTED LIVE", "main")
 
 
 def sign_on_asks(hand):
-    hand.browser.type('main [data-name="crew"]', "C2" + ENTER)
+    hand.write("crew", "C2" + ENTER)
     hand.shows("Tested live under KIM/1: N13-F11", "dialog")
     hand.answer("null")
     if hand.newest()[0] != hand.number:
@@ -92,18 +87,10 @@ def grounded(stage):
     two.speak("DISP2")
     two.shows("TESTED LIVE: N13-F12", "#alarms")
     one.turn("clearance/KIM/1")
-    one.press("off C1")
-    one.answer("yes")
-    one.reply("accepted", "off")
-    one.press("ground N13-F12")
-    one.shows("no longer grounded", "dialog")
-    one.answer("yes")
-    one.reply("accepted", "take the ground off")
+    one.carry_out("off C1", "off", answers=["yes"])
+    one.carry_out("ground N13-F12", "take the ground off", asked=["no longer grounded"], answers=["yes"])
     one.shows("TESTED LIVE: N13-F12", "#alarms")
-    one.press("release")
-    one.answer("yes")
-    one.answer("yes")
-    one.reply("accepted", "Released")
+    one.carry_out("release", "Released", answers=["yes", "yes"])
     for hand in (one, two):
         without(hand, "TESTED LIVE", "#alarms")
 
@@ -117,7 +104,7 @@ def other_clearance(stage):
     for place in ("main .work tr.live", "main .facts-place .live"):
         hand.shows("TESTED LIVE", place)
     hand.shows("under KIM/1, tested dead here, grounded", "main .work tr.live")
-    hand.browser.type('main [data-name="crew"]', "C6" + ENTER)
+    hand.write("crew", "C6" + ENTER)
     hand.shows("Tested live under KIM/1: N13-F12", "dialog")
     hand.answer("null")
 
@@ -152,8 +139,7 @@ def without_reply(stage):
     hand.browser.click('#replies [data-name$="Give it again"]')
     hand.reply("accepted", "live")
     hand.shows("TESTED LIVE: N13-F12", "#alarms")
-    hand.press("dead N13-F12")
-    hand.reply("accepted", "dead")
+    hand.carry_out("dead N13-F12", "dead")
     without(hand, "TESTED LIVE", "#alarms")
 
 

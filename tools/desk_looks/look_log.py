@@ -82,8 +82,7 @@ def goes_on(hand):
     hand.turn("log")
     search(hand)
     hand.turn("clearance/DISP2/1")
-    hand.press("instruct")
-    hand.reply("accepted", "instruct step 1 of DISP2/1")
+    hand.carry_out("instruct", "instruct step 1 of DISP2/1")
     hand.turn("log")
     hand.shows("step 1, OPEN N14-Q21: given out")
 

@@ -2,7 +2,7 @@
 
 import time
 
-from desk_looks.browser import ENTER
+from desk_looks.browser import ALL, ENTER
 from desk_looks.network import granted, ordered
 
 CUT = ["N13-Q11", "N13-B1", "N13-Q13"]
@@ -83,7 +83,7 @@ def steps(stage):
     lose(hand, lambda: hand.press("instruct"), True, [])
     hand.found("is given out", "it was carried out")
     hand.speak("REED")
-    lose(hand, lambda: hand.browser.type('main [data-name="repeat-text"]', "OPEN N13-Q11" + ENTER), False,
+    lose(hand, lambda: hand.write("repeat-text", "OPEN N13-Q11" + ENTER), False,
          [({"by": "DALE", "do": "repeat", "clearance": "KIM/1", "step": 1, "text": "OPEN N13-Q11"}, 0)])
     hand.found("repeated, not yet reported", "not carried out")
     leave(hand)
@@ -92,7 +92,7 @@ def steps(stage):
 def records(stage):
     """A request has no name before its reply: another section's record is not it."""
     hand = stage.network((), "request", speaker="KIM")
-    ask = lambda: hand.browser.type('main [data-name="section"]', "\ue009a\ue000N13-F12" + ENTER)
+    ask = lambda: hand.write("section", ALL + "N13-F12" + ENTER)
     lose(hand, ask, False, [({"by": "KIM", "do": "request", "section": "N11-F11"}, 0)])
     hand.found("for something else: KIM/1", "So far it was not carried out")
     leave(hand)

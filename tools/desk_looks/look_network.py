@@ -13,8 +13,7 @@ def two_windows(stage):
     one.shows("JONES/1")
     two.speak("DISP2")
     one.turn("clearance/KIM/1")
-    one.press("instruct")
-    one.reply("accepted", "instruct step 1 of KIM/1")
+    one.carry_out("instruct", "instruct step 1 of KIM/1")
     two.shows("given out, not yet repeated")
 
 

@@ -53,9 +53,8 @@ def row(stage):
         fits(hand, f"the row at {name}", WIDE)
         hand.picture(f"phone-row-{name}")
         if text:
-            hand.browser.type('main [data-name="repeat-text"]', text)
-        hand.press(name)
-        hand.reply("accepted")
+            hand.write("repeat-text", text)
+        hand.carry_out(name)
 
 
 LONGEST = {"N13-F12": "N13-F12-OLD-STATION-ROAD", "N13-Q11": "N13-Q11-NORTH-BUS-SWITCH", "KIM": "KIMBERLEY-VANDERBILT-LEE"}

@@ -59,8 +59,7 @@ def restoring_joins(stage):
     hand.shows("joins the sources GRID-1 and GRID-2", ".order-notes")
     hand.declined("restore", "joins the sources GRID-1 and GRID-2")
     hand.press(f"LEAVE {TIE}")
-    hand.press("restore")
-    hand.reply("accepted", "Restoring")
+    hand.carry_out("restore", "Restoring")
 
 
 def switching_joins(stage):

@@ -31,14 +31,10 @@ class Shift:
             if hand.browser.script("return location.hash") != f"#/clearance/{clearance}":
                 hand.turn(f"clearance/{clearance}")
         self.room.speak(operator)
-        self.room.press("instruct")
-        self.room.reply("accepted", f"instruct step {number} of {clearance}")
+        self.room.carry_out("instruct", f"instruct step {number} of {clearance}")
         self.room.shows(text, "main .read-out")
-        self.field.browser.type('main [data-name="repeat-text"]', text)
-        self.field.press("repeat")
-        self.field.reply("accepted", "repeat", text)
-        self.field.press("done")
-        self.field.reply("accepted", "done")
+        self.field.repeat(text)
+        self.field.carry_out("done", "done")
 
     def steps(self, clearance, texts, operator):
         for number, text in enumerate(texts, 1):
@@ -48,27 +44,22 @@ class Shift:
         clearance = f"{name}/1"
         self.line.speak(name)
         self.line.turn("request")
-        self.line.browser.type('main [data-name="section"]', section)
-        self.line.press("request")
-        self.line.reply("accepted", clearance)
+        self.line.write("section", section)
+        self.line.carry_out("request", clearance)
         self.room.speak(operator)
         self.room.turn(f"clearance/{clearance}")
         self.room.pick(*cut)
-        self.room.press("order")
-        self.room.reply("accepted", f"order {clearance}")
+        self.room.carry_out("order", f"order {clearance}")
         self.steps(clearance, needed(cut), operator)
-        self.room.press("grant")
-        self.room.answer("yes")
-        self.room.reply("accepted", f"grant {clearance}")
+        self.room.carry_out("grant", f"grant {clearance}", answers=["yes"])
 
     def work(self, name, section):
         hand = self.line
         hand.speak(name)
         hand.turn(f"clearance/{name}/1")
         for act, words in ((f"dead {section}", "dead"), (f"ground {section}", "ground")):
-            hand.press(act)
-            hand.reply("accepted", words)
-        hand.browser.type('main [data-name="crew"]', "C1\ue007")
+            hand.carry_out(act, words)
+        hand.write("crew", "C1\ue007")
         hand.reply("accepted", "sign crew C1 on")
 
     def give_back(self, name, section, cut, operator):
@@ -76,32 +67,23 @@ class Shift:
         hand.speak(name)
         hand.turn(f"clearance/{clearance}")
         for act, words in (("off C1", "sign crew C1 off"), (f"ground {section}", "take the ground off")):
-            hand.press(act)
-            hand.answer("yes")
-            hand.reply("accepted", words)
-        hand.press("release")
-        hand.answer("yes")
-        hand.answer("yes")
-        hand.reply("accepted", "Released")
+            hand.carry_out(act, words, answers=["yes"])
+        hand.carry_out("release", "Released", answers=["yes", "yes"])
         self.room.speak(operator)
         self.room.turn(f"clearance/{clearance}")
         for point, end in zip(cut, ends):
             self.room.press(f"{end} {point}")
-        self.room.press("restore")
-        self.room.reply("accepted", "Restoring")
+        self.room.carry_out("restore", "Restoring")
         self.steps(clearance, undoing(cut, ends), operator)
 
     def lay_jumper(self):
         self.room.speak("DISP2")
         self.room.turn("jumper")
         for part, text in (("point", "J1"), ("from", "N12-F23"), ("to", "PUMP")):
-            self.room.browser.type(f'main [data-name="{part}"]', text)
-        self.room.press("jumper")
-        self.room.answer("yes")
-        self.room.reply("accepted", "J1 is in the register")
+            self.room.write(part, text)
+        self.room.carry_out("jumper", "J1 is in the register", answers=["yes"])
         self.room.press("write CLOSE J1")
-        self.room.press("switch")
-        self.room.reply("accepted", "DISP2/1")
+        self.room.carry_out("switch", "DISP2/1")
         self.steps("DISP2/1", ["CLOSE J1"], "DISP2")
 
     def kill_register(self):

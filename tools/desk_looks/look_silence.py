@@ -54,12 +54,9 @@ def clock(stage):
         hand.speak("DISP1")
         hand.shows("ahead of the server's", "#clocks")
         hand.picture("clocks")
-        hand.press("instruct")
-        hand.shows("which is meant?", "dialog")
-        hand.answer("server")
-        hand.reply("accepted", "instruct step 1")
+        hand.carry_out("instruct", "instruct step 1", asked=["which is meant?"], answers=["server"])
         hand.speak("REED")
-        hand.browser.type('main [data-name="repeat-text"]', "OPEN N13-Q11" + ENTER)
+        hand.write("repeat-text", "OPEN N13-Q11" + ENTER)
         hand.reply("accepted", "repeat step 1")
         shown = hand.browser.script("return new Date(document.getElementById('clock').textContent.replace(' ', 'T').replace(' ', '')).getTime() / 1000")
         if abs(shown - time.time()) > 60:
@@ -82,8 +79,7 @@ def small(stage):
     try:
         hand.open("clearance/KIM/1")
         hand.speak("DISP1")
-        hand.press("instruct")
-        hand.reply("accepted", "instruct step 1")
+        hand.carry_out("instruct", "instruct step 1")
         if not hand.browser.script("return document.getElementById('clocks').hidden"):
             raise Differs("a clock that is 20 seconds off is shown")
     finally:

@@ -61,19 +61,15 @@ def one_desk(stage):
 def until_repeated(stage):
     """It stays through a reload and another page, and goes when it is repeated."""
     hand = stage.network(KIM_ORDER, "clearance/KIM/1", speaker="DISP1")
-    hand.press("instruct")
-    hand.reply("accepted")
-    hand.browser.own("POST", "/refresh", {})
-    hand.number = 0
+    hand.carry_out("instruct")
+    hand.reload()
     hand.shows("Read this out", "main .next")
     hand.turn("board")
     hand.shows("given out, not yet repeated")
     hand.turn("clearance/KIM/1")
     hand.speak("REED")
     hand.shows("Read this out", "main .next")
-    hand.browser.type('main [data-name="repeat-text"]', "OPEN N11-Q12")
-    hand.press("repeat")
-    hand.reply("accepted", "repeat")
+    hand.repeat("OPEN N11-Q12")
     wait_until(lambda: "read this out" not in hand.text().lower(), "no text to be read out any more")
 
 
@@ -81,19 +77,14 @@ def given_again(stage):
     """A step that came back and that another desk gave out again is not read out where it was given first."""
     one, two = stage.network(KIM_ORDER, "clearance/KIM/1"), stage.window("clearance/KIM/1")
     one.speak("DISP1")
-    one.press("instruct")
-    one.reply("accepted")
+    one.carry_out("instruct")
     one.shows("Read this out", "main .next")
     one.turn("board")
     two.speak("REED")
-    two.browser.type('main [data-name="repeat-text"]', "OPEN N11-Q12")
-    two.press("repeat")
-    two.reply("accepted", "repeat")
-    two.press("not-done")
-    two.reply("accepted", "not done")
+    two.repeat("OPEN N11-Q12")
+    two.carry_out("not-done", "not done")
     two.speak("DISP2")
-    two.press("instruct")
-    two.reply("accepted", "instruct step 1")
+    two.carry_out("instruct", "instruct step 1")
     two.shows("Read this out", "main .next")
     one.shows("given out, not yet repeated")
     one.turn("clearance/KIM/1")
@@ -123,9 +114,7 @@ def far_moment(stage):
     for command in (*step("KIM/1", 1, "OPEN N11-Q12", "repeat"), {"by": "REED", "do": "report", "clearance": "KIM/1", "step": 1, "done": False}):
         hand.post(command, int(time.time()) + 3600)
     hand.speak("DISP1")
-    hand.press("instruct")
-    hand.answer("last")
-    hand.reply("accepted", "instruct step 1")
+    hand.carry_out("instruct", "instruct step 1", answers=["last"])
     hand.shows("Ask the other desks", "main .next")
     silent(hand)
 
@@ -135,14 +124,14 @@ LONG_AGO = """
 const given = JSON.parse(sessionStorage.getItem('gridclear-given'));
 for (const [, own] of given) own.looked -= 120;
 sessionStorage.setItem('gridclear-given', JSON.stringify(given));
+Storage.prototype.setItem = () => {}; // until it is loaded again the page would write what it knows over this
 """
 
 
 def gap(stage):
     """Another desk may have given it again while this one did not look."""
     hand = stage.network(KIM_ORDER, "clearance/KIM/1", speaker="DISP1")
-    hand.press("instruct")
-    hand.reply("accepted", "instruct step 1")
+    hand.carry_out("instruct", "instruct step 1")
     hand.shows("Read this out", "main .next")
     hand.turn("board")
     hand.browser.script(LONG_AGO + "location.reload()")

@@ -24,7 +24,7 @@ def standard(stage):
     for step in ("CLOSE TIE1-N11-N12", "OPEN N11-Q12"):
         hand.press(step)
     unfold(hand)
-    hand.browser.type('main [data-name="standard-name"]', "feeder 1 over the tie")
+    hand.write("standard-name", "feeder 1 over the tie")
     hand.press("keep")
     hand.shows("is kept in this browser")
     hand.press("out OPEN N11-Q12")
@@ -72,7 +72,7 @@ def hand_over(stage):
     hand = stage.network([*JONES, *ordered("KIM", "N11-F12", ["N11-Q12", "TIE1-N11-N12"]), switch(["OPEN N14-Q21"], "DISP2")], "shift", speaker="DISP1")
     hand.browser.click('main [data-name="leaves"] option[value="DISP1"]')
     hand.browser.click('main [data-name="comes"] option[value="DISP3"]')
-    hand.browser.type('main [data-name="notes"]', "the key of N11 is at the gate")
+    hand.write("notes", "the key of N11 is at the gate")
     for text in ("Leaves: DISP1. Comes: DISP3.", "Open: 3 records", "crews C1", "N13-Q11, open, normally closed; held by JONES/1", "the key of N11 is at the gate", "N13-F11, N13-F12, N13-F13"):
         hand.shows(text, "main .paper")
     hand.browser.on_paper(hand.path("shift-paper"))

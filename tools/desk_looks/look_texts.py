@@ -2,7 +2,7 @@
 
 import time
 
-from desk_looks.browser import ENTER, Differs, say
+from desk_looks.browser import ALL, ENTER, Differs, say
 from desk_looks.network import granted, ordered, released, step, switch
 
 # Texts of the diagram that lie on another, or on a section or point that is not their own.
@@ -76,9 +76,9 @@ def find(stage):
     if marked != ["N15-Q22"]:
         raise Differs(f"marked is {marked}")
     hand.picture("texts-found")
-    hand.browser.type(".tools input", "\ue009a\ue000TIE3" + ENTER)
+    hand.browser.type(".tools input", ALL + "TIE3" + ENTER)
     hand.shows("5 found", ".tools")
-    hand.browser.type(".tools input", "\ue009a\ue000NOWHERE" + ENTER)
+    hand.browser.type(".tools input", ALL + "NOWHERE" + ENTER)
     hand.shows("nothing has NOWHERE in its name", ".tools")
 
 

@@ -16,7 +16,7 @@ def held_close(stage):
     hand.pick(HELD)
     for name, crew in (("JONES/1", "C1"), ("KIM/1", "C2")):
         hand.shows(f"{name} (Granted, crew {crew} on) has it held open, blocked, tagged; a CLOSE would be refused for it", ".picked-notes")
-    other.browser.type('main [data-name="crew"]', "C9" + ENTER)
+    other.write("crew", "C9" + ENTER)
     other.reply("accepted", "sign crew C9 on")
     hand.shows("JONES/1 (Granted, crews C1, C9 on)", ".picked-notes")
     hand.press(f"CLOSE {HELD}")
@@ -36,9 +36,7 @@ def others_fence(stage):
     hand.shows("inside the fence of OWENS/1 (Granted, crew C7 on)", ".picked-notes")
     hand.press(f"OPEN {INSIDE}")
     hand.declined("switch", "inside the fence of OWENS/1 (Granted, crew C7 on)")
-    hand.press("switch")
-    hand.answer("send")
-    hand.reply("accepted", "DISP4/1")
+    hand.carry_out("switch", "DISP4/1", answers=["send"])
     hand.shows("inside the fence of OWENS/1", "main .step-place")
     hand.declined("instruct", "inside the fence of OWENS/1", sent=1)
 
@@ -58,7 +56,7 @@ def not_normal(stage):
     """A point that was moved, and the holds of another clearance, while an isolating order is written."""
     moved = [switch(["OPEN N14-Q12"]), *steps("DISP1/1", ["OPEN N14-Q12"]), *JONES, {"by": "LEE", "do": "request", "section": "N14-F13"}]
     hand = stage.network(moved, "clearance/LEE/1", speaker="DISP2")
-    hand.browser.type('main [data-name="filter"]', "N14-")
+    hand.write("filter", "N14-")
     for words in ("N14-Q12 N14-F11 – N14-F12 marks: lockable open, normally closed", "TIE1-N13-N14 N13-F13 – N14-F13 marks: lockable held by JONES/1"):
         wait_until(lambda: words in " ".join(hand.text(".picks").split()), f"in the list: {words}")
     hand.pick("TIE1-N13-N14", "N14-Q12")

@@ -63,6 +63,7 @@ def way_back(stage):
     hand.browser.script("document.querySelector('main .way-back-place').open = true")
     for text in ("JONES: sign crew C1 off from JONES/1", "JONES: release JONES/1", "DISP1: restore JONES/1", "Nothing here is sent"):
         hand.shows(text, SAID)
+    hand.browser.script("document.querySelector('main .way-back-place').scrollIntoView({block: 'center'})")
     hand.picture("way-back")
     hand.nothing_sent(0)
     hand.turn("clearance/OWENS/1")

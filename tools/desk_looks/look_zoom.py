@@ -1,10 +1,9 @@
-"""How many frames a second are drawn while a network of 300 sections is zoomed and moved."""
+"""How many frames a second are drawn, by software, while a network of 300 sections is zoomed and moved."""
 
 import time
 
-from desk_looks.browser import Differs, free_ports, say
-from desk_looks.desk import Desk
-from desk_looks.look_large import large_files, large_life
+from desk_looks.browser import Differs, say
+from desk_looks.look_large import large
 
 SECONDS, LEAST = 4, 30
 
@@ -47,12 +46,7 @@ def measured(hand, kind):
 
 
 def zoom(stage):
-    files, count = large_files(stage.work)
-    say(f"a network of {count} sections, drawn by software without a graphics card")
-    desk = Desk(stage.work, "desk", files, free_ports(2))
-    large_life(desk.base, files[1])
-    hand = stage.begin(desk, "diagram")
-    hand.speak("OPS")
+    hand = large(stage)
     hand.shows("KIM/1", "main .drawing")
     hand.browser.click(".tools button:first-child")
     time.sleep(1)
