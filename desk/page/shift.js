@@ -2,7 +2,7 @@
 
 import { alarms } from "./alarm.js";
 import { drafted, draftName } from "./drafts.js";
-import { el, button, choice, field, panel, table } from "./elements.js";
+import { el, button, choice, field, panel, table, unbroken } from "./elements.js";
 import { sectionWords } from "./findings.js";
 import { shortTime, wholeTime } from "./moments.js";
 import { isOffNormal } from "./positions.js";
@@ -19,7 +19,7 @@ function nameChoice(part) {
 }
 
 function list(title, rows) {
-  return [el("h3", {}, title), rows.length ? el("ul", {}, rows.map((row) => el("li", {}, row))) : el("p", {}, "None.")];
+  return [el("h3", {}, title), rows.length ? el("ul", {}, rows.map((row) => el("li", {}, unbroken(row)))) : el("p", {}, "None.")];
 }
 
 function pointWords({ point, position, hand, holds }) {
