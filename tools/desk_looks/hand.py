@@ -68,6 +68,11 @@ class Hand:
         for one in answers:
             self.answer(one)
 
+    def rest(self):
+        """Pointer and focus leave the lists, so that what another desk does is shown at once."""
+        self.browser.point(1, 1)
+        self.browser.script("document.activeElement.blur()")
+
     def repeat(self, text):
         """The step, as it is heard, and its button."""
         self.write("repeat-text", text)

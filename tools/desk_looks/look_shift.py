@@ -33,8 +33,10 @@ class Shift:
         self.room.speak(operator)
         self.room.carry_out("instruct", f"instruct step {number} of {clearance}")
         self.room.shows(text, "main .read-out")
+        self.room.rest()
         self.field.repeat(text)
         self.field.carry_out("done", "done")
+        self.field.rest()
 
     def steps(self, clearance, texts, operator):
         for number, text in enumerate(texts, 1):
