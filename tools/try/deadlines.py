@@ -7,7 +7,8 @@ desk's command after them.
 A server answers one connection after another. A request has a quarter of the deadline, so a command that comes after n
 silent connections waits n quarters: after three it is answered within the deadline. One that does not read has a whole
 deadline. 3 connections of each kind and a deadline of 2 seconds are tried where no number is given, each kind at a server
-of its own; of those that do not read 1, or as many as are given. GRIDCLEAR names another program than tools/gridclear."""
+of its own; of those that do not read 1, or as many as are given. At most 128 may be given: the system does not let more
+wait in the order in which they came. GRIDCLEAR names another program than tools/gridclear."""
 
 import contextlib
 import pathlib
