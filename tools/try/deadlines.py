@@ -6,7 +6,7 @@ desk's command after them.
 
 A server answers one connection after another. A request has a quarter of the deadline, so a command that comes after n
 silent connections waits n quarters: after three it is answered within the deadline. One that does not read has a whole
-deadline. 3 connections of each kind and a deadline of 2 seconds are tried where no number is given, each kind at a server
+deadline. 3 connections of each kind and a deadline of 4 seconds are tried where no number is given, each kind at a server
 of its own; of those that do not read 1, or as many as are given. At most 128 may be given: the system does not let more
 wait in the order in which they came. GRIDCLEAR names another program than tools/gridclear."""
 
@@ -21,7 +21,7 @@ from concurrent.futures import ThreadPoolExecutor
 from looks import REQUEST, Server, get, look, main, post, register, replied, run, same, shift
 
 COUNT = int(sys.argv[1]) if sys.argv[1:] else 3
-DEADLINE = int(sys.argv[2]) if sys.argv[2:] else 2
+DEADLINE = int(sys.argv[2]) if sys.argv[2:] else 4
 KINDS = ("nothing", "half a head", "half a body", "a byte a second")
 SLACK = 1.5  # seconds that a machine with other work may add
 BODY = post(REQUEST.replace("JONES", "KIM"), "Host: localhost")
