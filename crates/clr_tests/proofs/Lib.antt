@@ -1,4 +1,3 @@
-pub mod Additions
 pub mod Clean
 pub mod OneList
 pub mod WorkedRows

@@ -1,20 +1,16 @@
-//! Connections that are served: one over loopback in one process, where the client connects, writes
-//! and ends its writing before it is served; and some on which nothing comes through.
+//! Connections on which nothing comes through: each is reported.
 ghost use Rattle.std.specs.Prelude.{◌≡◌, IfErr, IfOk};
 ghost use Rattle.clr_stream.specs.Failures.{one_more};
 
-use crate::worked::{REQUEST, RESPONSE};
 use clr_commands::serve::{Terms, serve_connections};
-use clr_disk::{Host, System};
-use clr_edge::loopback::{Connection, Loopback, listen, local_address};
-use clr_edge::machine::{AnyFiles, Machine};
+use clr_edge::loopback::{Connection, Loopback};
 use clr_http::{Registrar, Service};
 use clr_stream::Counted;
 use clr_worked::{network, new_desk};
 use std::alloc::Global;
 use std::io;
 use std::io::{Read, Write};
-use std::net::{Shutdown, SocketAddr, TcpStream};
+use std::net::SocketAddr;
 use std::test::Fail;
 
 /// The terms of a plain service of n connections.
@@ -54,43 +50,6 @@ fn failures_at<D: Registrar + Drop, L: Loopback>(
         return Err(Fail::new("out of memory"));
     }
     Ok(lines)
-}
-
-/// A client that wrote the request to a port of the machine itself, and then ended its writing.
-fn client(rt: &HostRuntime, port: u16) -> io::Result<TcpStream> {
-    let mut client = TcpStream::connect(rt, local_address(port))?;
-    client.write_all(REQUEST.as_bytes())?;
-    client.shutdown(Shutdown::Write)?;
-    Ok(client)
-}
-
-/// All that a client reads. A 503, which is sent when out of memory, ends the test.
-fn response(alloc: Global, mut client: TcpStream) -> Result<String, Fail> {
-    let mut response = Vec::new(alloc);
-    client.read_to_end(&mut response)?;
-    let response = String::from_utf8(response)?;
-    if response.as_str().starts_with("HTTP/1.1 503 ") {
-        return Err(Fail::new("out of memory"));
-    }
-    Ok(response)
-}
-
-#[test]
-fn a_request_and_its_response_byte_for_byte(rt: HostRuntime) -> Result<(), Fail> {
-    let (failures, response) = served(&rt, Host::new(&rt, AnyFiles))?;
-    assert_eq!(rt; failures.as_str(), "");
-    assert_eq!(rt; response.as_str(), RESPONSE);
-    Ok(())
-}
-
-/// What one connection of a system gives: what is reported of it, and what its client reads.
-fn served<Y: System + Drop>(rt: &HostRuntime, system: Y) -> Result<(String, String), Fail> {
-    let mut machine = Machine::new(rt.alloc(), system);
-    let listener = listen(&mut machine, 0)?;
-    let client = client(rt, listener.local_addr()?.port())?;
-    let failures = failures(rt.alloc(), &mut machine, &listener, &plain(1))?;
-    let response = response(rt.alloc(), client)?;
-    Ok((failures, response))
 }
 
 /// Connections on which nothing comes through: by turns one is not accepted, one cannot be read and

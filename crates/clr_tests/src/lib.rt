@@ -10,15 +10,11 @@ mod csv_files;
 #[cfg(test)]
 mod desk;
 #[cfg(test)]
-mod desk_service;
-#[cfg(test)]
 mod driver;
 #[cfg(test)]
 mod fakes;
 #[cfg(test)]
 mod frozen;
-#[cfg(test)]
-mod growing;
 #[cfg(test)]
 mod hostile;
 #[cfg(test)]
@@ -28,15 +24,9 @@ mod known;
 #[cfg(test)]
 mod limits;
 #[cfg(test)]
-mod shelves;
-#[cfg(test)]
 mod stops;
 #[cfg(test)]
 mod store;
-#[cfg(test)]
-mod versions;
-#[cfg(test)]
-mod view;
 #[cfg(test)]
 mod worked;
 #[cfg(test)]

@@ -225,55 +225,6 @@ fn each_subcommand(rt: HostRuntime) -> Result<(), Fail> {
     Ok(())
 }
 
-/// Only the database at `jones.db` has a register, so there is nothing to make there, and nothing to
-/// open elsewhere. A database is closed also after a fault.
-#[test]
-fn each_subcommand_at_fault(rt: HostRuntime) -> Result<(), Fail> {
-    let cases = [
-        (
-            "gridclear init sections.csv points.csv staff.csv --db jones.db",
-            "fault: store Sql\n",
-            1,
-        ),
-        (
-            "gridclear order none.db JONES/01 9",
-            "fault: store Sql\n",
-            0,
-        ),
-        (
-            "gridclear order jones.db JONES/01 1",
-            "fault: clearance NoSuch\n",
-            1,
-        ),
-        (
-            "gridclear order jones.db JONES/1 3",
-            "fault: clearance NoSuch\n",
-            1,
-        ),
-        ("gridclear board none.db", "fault: store Sql\n", 0),
-        ("gridclear migrate none.db", "fault: store Sql\n", 0),
-        (
-            "gridclear serve jones.db --port 1 --count 1",
-            "fault: listen BindFailed\n",
-            1,
-        ),
-        (
-            "gridclear fence sections.csv none.csv L2",
-            "fault: points ReadFailed\n",
-            0,
-        ),
-        (
-            "gridclear fence sections.csv points.csv ABCDEFGHIJKLMNOPQRSTUVWXY",
-            "fault: name TooLong\n",
-            0,
-        ),
-    ];
-    for (line, errors, visits) in cases {
-        expect(&rt, rt.alloc(), line, "", Err(errors), visits)?;
-    }
-    Ok(())
-}
-
 #[test]
 fn the_board_goes_out_over_a_connection(rt: HostRuntime) -> Result<(), Fail> {
     let line = "gridclear serve jones.db --port 8080 --count 1";
@@ -284,41 +235,4 @@ fn the_board_goes_out_over_a_connection(rt: HostRuntime) -> Result<(), Fail> {
     }
     assert_eq!(rt; given.response.as_slice(), BOARD_RESPONSE);
     Ok(())
-}
-
-/// Nothing goes to standard output, and this to the errors.
-fn expect_unread<R: Abort>(
-    rt: &R,
-    alloc: Global,
-    files: &[File<'_>],
-    line: &str,
-    input: Option<&[u8]>,
-    errors: &str,
-) -> Result<(), Fail> {
-    let given = run_line(alloc, files, line, input)?;
-    assert_eq!(rt; given.errors.as_slice(), errors.as_bytes(), "{line}");
-    assert_eq!(rt; given.output.as_slice(), "".as_bytes(), "{line}");
-    Ok(())
-}
-
-/// A file of points that is too long.
-fn expect_long_file<R: Abort>(rt: &R, alloc: Global) -> Result<(), Fail> {
-    let points = vec![in alloc; b'\n'; 4_194_305]?;
-    let files = [
-        ("sections.csv", SECTIONS),
-        ("points.csv", points.as_slice()),
-    ];
-    let fence = "gridclear fence sections.csv points.csv L2";
-    expect_unread(rt, alloc, &files, fence, None, "fault: points TooLong\n")
-}
-
-#[test]
-fn inputs_that_are_not_read(rt: HostRuntime) -> Result<(), Fail> {
-    let alloc = rt.alloc();
-    let run = "gridclear run --db jones.db";
-    expect_unread(&rt, alloc, &FILES, run, None, "fault: input ReadFailed\n")?;
-    expect_long_file(&rt, alloc)?;
-    let long = vec![in alloc; b'\n'; 16_777_217]?;
-    let input = Some(long.as_slice());
-    expect_unread(&rt, alloc, &FILES, run, input, "fault: input TooLong\n")
 }
