@@ -1,7 +1,7 @@
 # One clearance over HTTP in two registers, alone in a small network and beside others in the worked one: the responses
 # to its own requests are the same bytes. The commands are those of the worked sessions. Read by tools/try-program.
 
-sessions=$tools/../crates/clr_sessions/data
+sessions=$files/sessions
 
 # merged SESSION..: the commands of sessions that have the same own ones, in their order: a line each, that begins with
 # `=` where it is an own one of the first session's clearance, and with `>` where it is another's.

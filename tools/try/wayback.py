@@ -23,7 +23,7 @@ import tempfile
 
 TOP = pathlib.Path(__file__).resolve().parent.parent.parent
 GRIDCLEAR = os.environ.get("GRIDCLEAR", str(TOP / "tools" / "gridclear"))
-SESSIONS = TOP / "crates" / "clr_sessions" / "data"
+SESSIONS = TOP / "examples" / "sessions"
 LAST = 4102444799  # the greatest moment
 NOWHERE = "fault: clearance NoSuch\n"
 NO_WAY = "fault: clearance NoWay\n"
