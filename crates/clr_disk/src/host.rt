@@ -56,6 +56,8 @@ impl<S: Start + Copy> System for Host<S> {
 
     ghost lacks_files = { λ old _ new. new ≡ old };
 
+    ghost lets_go = { λ old _ new. new ≡ old };
+
     ghost listens = { λ old _ _ new. new ≡ old };
 
     ghost refuses = { λ old _ _ new. new ≡ old };
@@ -92,6 +94,12 @@ impl<S: Start + Copy> System for Host<S> {
         ensures lacks { IfErr result (λ _. self.new ≡ self.old) }
     {
         sqlite_std_file::open(&self.rt, path, self.files)
+    }
+
+    fn let_go(&mut self, file: FileFrom<S>)
+        ensures { self.new ≡ self.old }
+    {
+        drop(file);
     }
 
     fn listener(&mut self, address: SocketAddr) -> io::Result<TcpListener>

@@ -18,4 +18,4 @@ pub use system::System;
 pub use timed::{Call, Limit, Timed, Waits};
 pub use watch::{Event, Watch};
 pub use watched::Watched;
-pub use watched_database::{WatchedDatabase, open_watched};
+pub use watched_database::{WatchedDatabase, let_go, open_watched};

@@ -40,6 +40,9 @@ pub trait System {
     /// That they could not be opened. Only `files` says so.
     ghost lacks_files: { Self → List ℕ → Self → Type 0 };
 
+    /// That a file of a database was let go as it was then. Only `let_go` says so.
+    ghost lets_go: { Self → Self.Medium → Self → Type 0 };
+
     /// That a listener was had on an address. Only `listener` says so.
     ghost listens: { Self → AnySocketAddr → AnyListener → Self → Type 0 };
 
@@ -67,6 +70,10 @@ pub trait System {
         ensures db { IfOk result (λ files. IsTrue (Self.Medium.Disk.is_usable files.db)) }
         ensures has { IfOk result (λ files. has_files self.old path.now files self.new) }
         ensures lacks { IfErr result (λ _. lacks_files self.old path.now self.new) };
+
+    /// Lets a file of a database go.
+    fn let_go(&mut self, file: Self::Medium)
+        ensures { lets_go self.old file self.new };
 
     /// Listens on an address.
     fn listener(&mut self, address: SocketAddr) -> io::Result<TcpListener>

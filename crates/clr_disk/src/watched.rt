@@ -21,6 +21,13 @@ impl<'a, D: Disk, K: Clock> Watched<'a, D, K> {
         Watched { disk, watch }
     }
 
+    /// The disk itself.
+    pub fn end(self) -> D
+        ensures { result ≡ self.entry.disk }
+    {
+        self.disk
+    }
+
     /// Lets the watch see a read.
     fn see(&self, bytes: usize) {
         if let Some(watch) = self.watch {

@@ -2,12 +2,12 @@
 ghost use Rattle.std.specs.Prelude.{◌≡◌, ◌⊎◌, IfErr, IfOk, IsTrue};
 ghost use Rattle.sqlite.specs.Files.{image_of};
 ghost use Rattle.sqlite.specs.Opening.{is_open_error};
-ghost use Rattle.clr_disk.specs.Opened.{IsOpenedAt, IsOpenedOver, IsShutAt};
+ghost use Rattle.clr_disk.specs.Opened.{AreLetGo, IsOpenedAt, IsOpenedOver, IsShutAt, IsUnharmed};
 
 use crate::system::System;
 use crate::watch::Watch;
 use crate::watched::Watched;
-use sqlite::{Connection, Error, ErrorCode, FileStore, Options};
+use sqlite::{Connection, Error, ErrorCode, FileStore, Leftover, Options};
 use sqlite_disk::{Disk, Files};
 use sqlite_std_file::OpenError;
 use std::alloc::Global;
@@ -28,13 +28,29 @@ pub fn open_watched<'a, Y: System, K: Clock>(
 ) -> Result<WatchedDatabase<'a, Y::Medium, K>, Error>
     ensures opened { IfOk result (λ connection.
         IsOpenedAt Y.has_files Y.Medium.Disk system.old path.now connection system.new) }
-    ensures refused { IfErr result (λ _.
-        IsShutAt Y.has_files Y.lacks_files system.old path.now system.new) }
+    ensures refused { IfErr result (λ _. IsShutAt Y.has_files Y.lacks_files Y.lets_go
+        ⟦<Watched<'a, Y::Medium, K> as Disk>⟧ (λ it. it.disk) system.old path.now system.new) }
     ensures fault { IfErr result (λ error. IsTrue (is_open_error error)) }
 {
     let options = options(system)?;
     let files = files_at(system, path)?;
-    over_watched(alloc, files, options, watch)
+    match over_watched(alloc, files, options, watch) {
+        Ok(connection) => Ok(connection),
+        Err((error, left)) => {
+            let_go(system, left.into_files());
+            Err(error)
+        }
+    }
+}
+
+/// Lets the files of a database go.
+pub fn let_go<'a, Y: System, K: Clock>(system: &mut Y, files: Files<Watched<'a, Y::Medium, K>>)
+    ensures { AreLetGo Y.lets_go system.old files.entry.log.disk files.entry.db.disk
+        system.new }
+{
+    let Files { log, db } = files;
+    system.let_go(log.end());
+    system.let_go(db.end());
 }
 
 /// How the database is kept in its pages, with a seed of its own.
@@ -78,17 +94,19 @@ fn code_of(error: OpenError) -> ErrorCode
     }
 }
 
-/// Opens the database in its files, whose reads the watch sees.
+/// Opens the database in its files, whose reads the watch sees, or gives back what is left of them.
 fn over_watched<'a, D: Disk + Drop, K: Clock>(
     alloc: Global,
     files: Files<D>,
     options: Options,
     watch: Option<&'a Watch<K>>,
-) -> Result<WatchedDatabase<'a, D, K>, Error>
+) -> Result<WatchedDatabase<'a, D, K>, (Error, Leftover<Watched<'a, D, K>>)>
     requires log { IsTrue (D.Disk.is_usable files.log) }
     requires db { IsTrue (D.Disk.is_usable files.db) }
     ensures over { IfOk result (λ connection. IsOpenedOver (image_of D.Disk files) connection) }
-    ensures fault { IfErr result (λ error. IsTrue (is_open_error error)) }
+    ensures unharmed { IfErr result (λ back.
+        IsUnharmed (λ it. it.disk) files.log files.db back.1) }
+    ensures fault { IfErr result (λ back. IsTrue (is_open_error back.0)) }
 {
     let files = Files {
         log: Watched::new(files.log, watch),
@@ -96,6 +114,6 @@ fn over_watched<'a, D: Disk + Drop, K: Clock>(
     };
     match Connection::open_files(alloc, files, options) {
         Ok(connection) => Ok(connection),
-        Err((error, _)) => Err(error),
+        Err((error, left)) => Err((error, left)),
     }
 }

@@ -15,6 +15,7 @@ use Rattle.clr_rules.specs.Register.{Register}
 use Rattle.clr_journal.specs.Line.{Entry, read_line}
 use Rattle.clr_journal.specs.Opening.{FailedToCut, Unchanged, is_journal_text}
 use Rattle.clr_desk.specs.Kept.{Keeps}
+use Rattle.clr_disk.specs.Opened.{AreLetGo}
 use Rattle.clr_desk.specs.declared.desk_fault.DeskFault.{DeskFault}
 use Rattle.clr_journaled.specs.Redo.{IsRead, redone_by, turn_by}
 use Rattle.clr_journaled.specs.declared.fault.OpeningFault.{OpeningFault}
@@ -55,12 +56,14 @@ pub record GoesOnFrom {K J C : Type 0} (last : Option (List ℕ)) (entry : Optio
   pub unheard : it.login ≡ None
 
 -- a journal over the file at a path: what that held up to its last line feed, with its last line. A
--- crash leaves what it left before, or that text
-pub record IsBegunAt {Y D J : Type 0} (has : Y → List ℕ → Files D → Y → Type 0) (g : disk.Ghosts D)
-    (log : append.Ghosts J) (disk_of : J → D) (old : Y) (path : List ℕ) (journal : J)
-    (last : Option (List ℕ)) (new : Y) : Type 0 where
+-- crash leaves what it left before, or that text. The log of that file is let go as it was had
+pub record IsBegunAt {Y D J : Type 0} (has : Y → List ℕ → Files D → Y → Type 0)
+    (lets_go : Y → D → Y → Type 0) (g : disk.Ghosts D) (log : append.Ghosts J) (disk_of : J → D)
+    (old : Y) (path : List ℕ) (journal : J) (last : Option (List ℕ)) (new : Y) : Type 0 where
   pub files : Files D
-  pub had : has old path files new
+  pub middle : Y
+  pub had : has old path files middle
+  pub gone : lets_go middle files.log new
   pub is_journal : IsTrue (g.is_clean (disk_of journal)) → is_journal_text (g.seen files.db) ≡ true
   pub text : IsTrue (g.is_clean (disk_of journal)) → log.text journal ≡ ended_text (g.seen files.db)
   pub last_is : IsTrue (g.is_clean (disk_of journal)) → last ≡ last_line (g.seen files.db)
@@ -69,12 +72,16 @@ pub record IsBegunAt {Y D J : Type 0} (has : Y → List ℕ → Files D → Y �
       (log.may_leave journal)
 
 -- there is none over the file at a path: it holds none, memory ran out, or the disk failed. Its bytes
--- are as they were, unless the disk failed to cut off what comes after its last line feed
+-- are as they were, unless the disk failed to cut off what comes after its last line feed, and so
+-- they are let go
 pub record IsUnbegunOver {Y D : Type 0} (has : Y → List ℕ → Files D → Y → Type 0)
-    (g : disk.Ghosts D) (old : Y) (path : List ℕ) (fault : Fault) (new : Y) : Type 0 where
+    (lets_go : Y → D → Y → Type 0) (g : disk.Ghosts D) (old : Y) (path : List ℕ) (fault : Fault)
+    (new : Y) : Type 0 where
   pub files : Files D
-  pub had : has old path files new
+  pub middle : Y
+  pub had : has old path files middle
   pub left : D
+  pub gone : AreLetGo lets_go middle files.log left new
   pub bytes : IsTrue (g.is_clean left) → Unchanged g.seen g.may_leave files.db left
       ⊎ FailedToCut g.seen g.may_leave g.faults (length (ended_text (g.seen files.db))) files.db left
   pub spared : fault ≡ Memory → Unchanged g.seen g.may_leave files.db left
@@ -83,9 +90,10 @@ pub record IsUnbegunOver {Y D : Type 0} (has : Y → List ℕ → Files D → Y 
 
 -- the same, or the files at the path were not had
 abbrev pub IsUnbegunAt : {Y D : Type 0} → (Y → List ℕ → Files D → Y → Type 0)
-    → (Y → List ℕ → Y → Type 0) → disk.Ghosts D → Y → List ℕ → Fault → Y → Type 0
-IsUnbegunAt has lacks g old path fault new =
-    lacks old path new ⊎ IsUnbegunOver has g old path fault new
+    → (Y → List ℕ → Y → Type 0) → (Y → D → Y → Type 0) → disk.Ghosts D → Y → List ℕ → Fault → Y
+    → Type 0
+IsUnbegunAt has lacks lets_go g old path fault new =
+    lacks old path new ⊎ IsUnbegunOver has lets_go g old path fault new
 
 -- a journal that was opened is refused as one that was not only where its last line is none of a
 -- journal

@@ -5,7 +5,7 @@ ghost use Rattle.sqlite.specs.Held.{state};
 ghost use Rattle.sqlite.specs.State.{HasCleanDisk, Survives};
 ghost use Rattle.sqlite_disk.specs.declared.Disk as disk;
 ghost use Rattle.sqlite_disk.specs.declared.Files.{Files as DiskFiles};
-ghost use Rattle.clr_disk.specs.Opened.{HasBytes, IsOpenedAt, IsShutAt};
+ghost use Rattle.clr_disk.specs.Opened.{AreLetGo, HasBytes, IsOpenedAt, IsShutAt};
 ghost use Rattle.clr_load.specs.Cause.{fault_of};
 ghost use Rattle.clr_rules.specs.Good.{IsGood};
 ghost use Rattle.clr_rules.specs.Register.{Register, opening};
@@ -19,7 +19,7 @@ ghost use Rattle.clr_edge.specs.declared.fault.Fault.{Fault as AnyFault};
 use crate::fault::Fault;
 use crate::machine::Machine;
 use clr_desk::Desk;
-use clr_disk::{Event, System, Watched, WatchedDatabase, open_watched};
+use clr_disk::{Event, System, Watched, WatchedDatabase, let_go, open_watched};
 use clr_load::StoreFault;
 use clr_net::Network;
 use clr_staff::Staff;
@@ -79,17 +79,19 @@ impl<'a, Y: System, K: Clock> Databases for Machine<'a, Y, K> {
     ghost opens = { λ old path _ connection new. HasBytes Y.has_size path
         × IsOpenedAt Y.has_files Y.Medium.Disk old.system path connection new.system };
 
-    ghost shuts = { λ old path _ new.
-        IsShutAt Y.has_files Y.lacks_files old.system path new.system };
+    ghost shuts = { λ old path _ new. IsShutAt Y.has_files Y.lacks_files Y.lets_go
+        ⟦<Watched<'a, Y::Medium, K> as Disk>⟧ (λ it. it.disk) old.system path new.system };
 
-    ghost ends = { λ old _ new. new.system ≡ old.system };
+    ghost ends = { λ old files new.
+        AreLetGo Y.lets_go old.system files.log.disk files.db.disk new.system };
 
     fn stored(&mut self, path: &str) -> Result<WatchedDatabase<'a, Y::Medium, K>, Fault>
         ensures opens { IfOk result (λ connection. HasBytes Y.has_size path.now
             × IsOpenedAt Y.has_files Y.Medium.Disk self.old.system path.now
             connection self.new.system) }
-        ensures shuts { IfErr result (λ _.
-            IsShutAt Y.has_files Y.lacks_files self.old.system path.now self.new.system) }
+        ensures shuts { IfErr result (λ _. IsShutAt Y.has_files Y.lacks_files Y.lets_go
+            ⟦<Watched<'a, Y::Medium, K> as Disk>⟧ (λ it. it.disk)
+            self.old.system path.now self.new.system) }
         ensures fault { IfErr result IsOfLine }
     {
         let size = expect_bytes(&self.system, path)?;
@@ -100,9 +102,10 @@ impl<'a, Y: System, K: Clock> Databases for Machine<'a, Y, K> {
     }
 
     fn give_back(&mut self, files: Files<Watched<'a, Y::Medium, K>>)
-        ensures { self.new.system ≡ self.old.system }
+        ensures { AreLetGo Y.lets_go self.old.system files.entry.log.disk files.entry.db.disk
+            self.new.system }
     {
-        drop(files);
+        let_go(&mut self.system, files);
     }
 }
 
@@ -114,8 +117,9 @@ impl<'a, Y: System, K: Clock> Makes for Machine<'a, Y, K> {
         ensures makes { IfOk result (λ connection.
             IsOpenedAt Y.has_files Y.Medium.Disk self.old.system path.now
             connection self.new.system) }
-        ensures shuts { IfErr result (λ _.
-            IsShutAt Y.has_files Y.lacks_files self.old.system path.now self.new.system) }
+        ensures shuts { IfErr result (λ _. IsShutAt Y.has_files Y.lacks_files Y.lets_go
+            ⟦<Watched<'a, Y::Medium, K> as Disk>⟧ (λ it. it.disk)
+            self.old.system path.now self.new.system) }
         ensures fault { IfErr result IsOfLine }
     {
         self.opened(path)
@@ -128,8 +132,9 @@ impl<'a, Y: System, K: Clock> Machine<'a, Y, K> {
         ensures opened { IfOk result (λ connection.
             IsOpenedAt Y.has_files Y.Medium.Disk self.old.system path.now
             connection self.new.system) }
-        ensures refused { IfErr result (λ _.
-            IsShutAt Y.has_files Y.lacks_files self.old.system path.now self.new.system) }
+        ensures refused { IfErr result (λ _. IsShutAt Y.has_files Y.lacks_files Y.lets_go
+            ⟦<Watched<'a, Y::Medium, K> as Disk>⟧ (λ it. it.disk)
+            self.old.system path.now self.new.system) }
         ensures fault { IfErr result IsOfLine }
     {
         match open_watched(self.alloc, &mut self.system, path, self.watch) {

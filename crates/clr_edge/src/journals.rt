@@ -60,21 +60,21 @@ impl<'a, Y: System, K: rt::Clock> Journals for Machine<'a, Y, K> {
 
     type Time = Seconds<Y::Clock>;
 
-    ghost opens_journal = { λ old path journal last new. IsBegunAt Y.has_files Y.Medium.Disk
+    ghost opens_journal = { λ old path journal last new. IsBegunAt Y.has_files Y.lets_go Y.Medium.Disk
         ⟦<OnDisk<Y::Medium> as Journal>⟧ (λ it. it.disk)
         old.system path journal last new.system };
 
-    ghost shuts_journal = { λ old path fault new. IsUnbegunAt Y.has_files Y.lacks_files
+    ghost shuts_journal = { λ old path fault new. IsUnbegunAt Y.has_files Y.lacks_files Y.lets_go
         Y.Medium.Disk old.system path fault new.system };
 
     ghost has_time = { λ machine time. Y.has_clock machine.system time.clock };
 
     fn journal(&mut self, path: &str) -> Result<OpenedJournal<OnDisk<Y::Medium>>, Fault>
-        ensures opens_journal { IfOk result (λ opened. IsBegunAt Y.has_files Y.Medium.Disk
+        ensures opens_journal { IfOk result (λ opened. IsBegunAt Y.has_files Y.lets_go Y.Medium.Disk
             ⟦<OnDisk<Y::Medium> as Journal>⟧ (λ it. it.disk) self.old.system path.now
             opened.journal (option_map (λ line. line.items) opened.last) self.new.system) }
         ensures shuts_journal { IfErr result (λ fault. IsUnbegunAt Y.has_files Y.lacks_files
-            Y.Medium.Disk self.old.system path.now fault self.new.system) }
+            Y.lets_go Y.Medium.Disk self.old.system path.now fault self.new.system) }
         ensures fault { IfErr result IsOfOpening }
     {
         let files = match self.system.files(path) {
@@ -83,14 +83,14 @@ impl<'a, Y: System, K: rt::Clock> Journals for Machine<'a, Y, K> {
             Err(_) => return Err(Fault::Journal(JournalFault::OpenFailed)),
         };
         let Files { log, db } = files;
-        drop(log);
+        self.system.let_go(log);
         match open_journal(self.alloc, db) {
             Ok(opened) => Ok(OpenedJournal {
                 journal: opened.journal,
                 last: opened.last,
             }),
             Err((fault, disk)) => {
-                drop(disk);
+                self.system.let_go(disk);
                 Err(of_open(fault))
             }
         }

@@ -18,3 +18,11 @@ returns-in-Ok-clause-over g c = record {
       subst (λ i. FindsIn i (file_state c.in-Ok.connection)) same (record { holds = found.holds; reads = found.reads });
   guarded = c.in-Ok.ensures.guarded;
 }
+
+pub returns-in-Err-clause-unharmed : goal.returns-in-Err-clause-unharmed
+returns-in-Err-clause-unharmed g c = record {
+  files = record { log = c.new.result; db = c.new-2.result };
+  log_is = c.new.ensures;
+  db_is = c.new-2.ensures;
+  unharmed = c.in-Err.ensures.unharmed;
+}
