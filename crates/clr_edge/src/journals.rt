@@ -60,8 +60,8 @@ impl<'a, Y: System, K: rt::Clock> Journals for Machine<'a, Y, K> {
 
     type Time = Seconds<Y::Clock>;
 
-    ghost opens_journal = { λ old path journal last new. IsBegunAt Y.has_files Y.lets_go Y.Medium.Disk
-        ⟦<OnDisk<Y::Medium> as Journal>⟧ (λ it. it.disk)
+    ghost opens_journal = { λ old path journal last new. IsBegunAt Y.has_files Y.lets_go
+        Y.Medium.Disk ⟦<OnDisk<Y::Medium> as Journal>⟧ (λ it. it.disk)
         old.system path journal last new.system };
 
     ghost shuts_journal = { λ old path fault new. IsUnbegunAt Y.has_files Y.lacks_files Y.lets_go
