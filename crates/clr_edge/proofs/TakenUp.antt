@@ -1,6 +1,5 @@
 -- A register taken up with its journal.
-use Rattle.std.proofs.Common.{◌≡◌, ℕ, inl, inr, refl, subst, sym, List, Option, Result, Ok, Err}
-use Rattle.std.specs.Prelude.{IfErr, IfOk}
+use Rattle.std.proofs.Common.{◌≡◌, ℕ, inl, inr, refl, subst, sym, List, Option}
 use Rattle.sqlite.specs.Held.{Held, state}
 use Rattle.sqlite.specs.State.{HasCleanDisk}
 use Rattle.sqlite_trees.specs.declared.store.Store.{Ghosts}
@@ -20,12 +19,11 @@ module _ {M J C T : Type 0} (g : Ghosts T) (at : journals.Ghosts M J C) (path : 
   abbrev kept : (after : Held T) (S : Register) → Keeps (state g opened) R (state g after) S → IsKept g before after S
   kept after S keeps = record { opened = opened; read = read; first = R; good = good; is_register = is_register; keeps = keeps }
 
-  pub takes_up : {X Y : Type 0} (keeper_of : X → Journaled (Held T) J C) (register_of : X → Register) (journal : J) (last : Option (List ℕ)) (clock : C)
-      (result : Result X Y) → at.opens_journal old path journal last new → at.has_time new clock
-      → IfOk result (λ x. IsRedoneOver g journal last clock opened R (keeper_of x) (register_of x))
-      → IfOk result (λ x. IsTakenUp g at path old new before (keeper_of x) (register_of x))
-  takes_up keeper_of register_of journal last clock (Ok x) opens time redone = record {
-    kept = kept (keeper_of x).keeper (register_of x) redone.keeps;
+  pub takes_up : (journal : J) (last : Option (List ℕ)) (clock : C) (it : Journaled (Held T) J C) (S : Register)
+      → at.opens_journal old path journal last new → at.has_time new clock → IsRedoneOver g journal last clock opened R it S
+      → IsTakenUp g at path old new before it S
+  takes_up journal last clock it S opens time redone = record {
+    kept = kept it.keeper S redone.keeps;
     entry = redone.entry;
     register = redone.register good;
     journal = record {
@@ -35,16 +33,17 @@ module _ {M J C T : Type 0} (g : Ghosts T) (at : journals.Ghosts M J C) (path : 
       goes_on = redone.goes_on;
     };
   }
-  takes_up keeper_of register_of journal last clock (Err y) opens time redone = tt
 
-  pub not_up : {X : Type 0} (journal : J) (last : Option (List ℕ)) (result : Result X (Fault × Held T)) → at.opens_journal old path journal last new
-      → IfErr result (λ back. IsOfTakingUp back.0) → IfErr result (λ back. IsOfBadLine last back.0)
-      → IfErr result (λ back. Keeps (state g opened) R (state g back.1) R) → IfErr result (λ back. IsNotTakenUp g at path before back.0 back.1 old new)
-  not_up journal last (Ok x) opens of bad keeps = tt
-  not_up journal last (Err (fault, after)) opens of bad keeps = inr (inr (record {
+  pub not_up : (middle : M) (journal back : J) (last : Option (List ℕ)) (fault : Fault) (after : Held T)
+      → at.opens_journal old path journal last middle → back ≡ journal → at.lets_journal_go middle back new
+      → IsOfTakingUp fault → IsOfBadLine last fault → Keeps (state g opened) R (state g after) R
+      → IsNotTakenUp g at path before fault after old new
+  not_up middle journal back last fault after opens same gone of bad keeps = inr (inr (record {
     journal = journal;
     last = last;
+    middle = middle;
     opened = opens;
+    gone = subst (λ (j : J). at.lets_journal_go middle j new) same gone;
     register = R;
     kept = kept after R keeps;
     same = refl;

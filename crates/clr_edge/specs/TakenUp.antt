@@ -42,12 +42,15 @@ pub record IsTakenUp {M J C T : Type 0} (g : Ghosts T) (at : journals.Ghosts M J
   pub register : S ≡ redone_by entry (IsKept.first kept)
   pub journal : HasJournal at path old new entry it
 
--- its journal was opened at a path, and refused: the register is as it was
+-- its journal was opened at a path, and refused: the register is as it was, and so is the journal,
+-- which was let go
 pub record IsRefusedItsJournal {M J C T : Type 0} (g : Ghosts T) (at : journals.Ghosts M J C)
     (path : List ℕ) (old new : M) (before : Held T) (fault : Fault) (after : Held T) : Type 0 where
   pub journal : J
   pub last : Option (List ℕ)
-  pub opened : at.opens_journal old path journal last new
+  pub middle : M
+  pub opened : at.opens_journal old path journal last middle
+  pub gone : at.lets_journal_go middle journal new
   pub register : Register
   pub kept : IsKept g before after register
   pub same : register ≡ IsKept.first kept

@@ -38,6 +38,9 @@ pub trait Journals {
     /// That it could not be opened. Only `journal` says so.
     ghost shuts_journal: { Self → List ℕ → AnyFault → Self → Type 0 };
 
+    /// That a journal was let go as it was then. Only `let_journal_go` says so.
+    ghost lets_journal_go: { Self → Self.Log → Self → Type 0 };
+
     /// That this is its clock. Only `time` says so.
     ghost has_time: { Self → Self.Time → Type 0 };
 
@@ -48,6 +51,10 @@ pub trait Journals {
         ensures shuts_journal { IfErr result (λ fault.
             shuts_journal self.old path.now fault self.new) }
         ensures fault { IfErr result IsOfOpening };
+
+    /// Lets a journal go.
+    fn let_journal_go(&mut self, journal: Self::Log)
+        ensures { lets_journal_go self.old journal self.new };
 
     /// The clock of a journal.
     fn time(&self) -> Self::Time
@@ -66,6 +73,8 @@ impl<'a, Y: System, K: rt::Clock> Journals for Machine<'a, Y, K> {
 
     ghost shuts_journal = { λ old path fault new. IsUnbegunAt Y.has_files Y.lacks_files Y.lets_go
         Y.Medium.Disk old.system path fault new.system };
+
+    ghost lets_journal_go = { λ old journal new. Y.lets_go old.system journal.disk new.system };
 
     ghost has_time = { λ machine time. Y.has_clock machine.system time.clock };
 
@@ -94,6 +103,12 @@ impl<'a, Y: System, K: rt::Clock> Journals for Machine<'a, Y, K> {
                 Err(of_open(fault))
             }
         }
+    }
+
+    fn let_journal_go(&mut self, journal: OnDisk<Y::Medium>)
+        ensures { Y.lets_go self.old.system journal.disk self.new.system }
+    {
+        self.system.let_go(journal.into_disk());
     }
 
     fn time(&self) -> Seconds<Y::Clock>

@@ -17,7 +17,7 @@ use sqlite::{Alter, Connection};
 use std::alloc::Global;
 
 /// Opens a desk over the register that a database has, with the journal in a file, whose last line
-/// is redone. A fault gives the database back.
+/// is redone. A fault gives the database back, and the journal is let go as it was opened.
 ///
 /// The journal is opened after the database. `Journal(OpenFailed)` also where the last line is no
 /// line of a journal.
@@ -38,18 +38,24 @@ pub fn journaled_desk<S: Alter + Drop, L: Journals>(
         Err(back) => return Err(back),
     };
     match rt.journal(path) {
-        Ok(opened) => taken_up(alloc, desk, opened, rt.time()),
+        Ok(opened) => match taken_up(alloc, desk, opened, rt.time()) {
+            Ok(desk) => Ok(desk),
+            Err((fault, connection, journal)) => {
+                rt.let_journal_go(journal);
+                Err((fault, connection))
+            }
+        },
         Err(fault) => Err((fault, desk.end().end())),
     }
 }
 
-/// Gives a desk a journal that was opened.
+/// Gives a desk a journal that was opened. A fault gives back the database and the journal.
 fn taken_up<S: Alter + Drop, J: Journal + Drop, C: Clock>(
     alloc: Global,
     desk: Desk<Store<S>>,
     opened: OpenedJournal<J>,
     clock: C,
-) -> Result<Desk<Journaled<Store<S>, J, C>>, (Fault, Connection<S>)>
+) -> Result<Desk<Journaled<Store<S>, J, C>>, (Fault, Connection<S>, J)>
     ensures redone { IfOk result (λ taken. IsRedoneOver S.Store opened.journal
         (option_map (λ line. line.items) opened.last) clock desk.store desk.book.register
         taken.store taken.book.register) }
@@ -58,11 +64,12 @@ fn taken_up<S: Alter + Drop, J: Journal + Drop, C: Clock>(
         IsOfBadLine (option_map (λ line. line.items) opened.last) back.0) }
     ensures kept { IfErr result (λ back. Keeps (state S.Store desk.store) desk.book.register
         (state S.Store back.1) desk.book.register) }
+    ensures unwritten { IfErr result (λ back. back.2 ≡ opened.journal) }
 {
     let OpenedJournal { journal, last } = opened;
     match with_journal(alloc, desk, journal, last, clock) {
         Ok(desk) => Ok(desk),
-        Err((fault, desk)) => Err((of_opening(fault), desk.end().end())),
+        Err((fault, desk, journal)) => Err((of_opening(fault), desk.end().end(), journal)),
     }
 }
 

@@ -58,11 +58,12 @@ impl<K: Commit, J: Journal + Drop, C: Clock> Journaled<K, J, C> {
         }
     }
 
-    /// Ends the journal, and hands back the keeper.
-    pub fn end(self) -> K
-        ensures { result ≡ self.keeper }
+    /// Hands back the keeper, and the journal as its last line left it.
+    pub fn end(self) -> (K, J)
+        ensures keeper { result.0 ≡ self.keeper }
+        ensures journal { result.1 ≡ self.journal }
     {
-        self.keeper
+        (self.keeper, self.journal)
     }
 
     /// Adds the line of a command and its reply, after the withdrawal that is owed.

@@ -29,14 +29,15 @@ use std::alloc::Global;
 /// Its change may be missing, since a line is written before its change. So the command of the last
 /// line, where that accepts it, is answered; where the answer is the line's, it is carried out.
 /// `BadLine` where there is a last line and it is no line of a journal; `Desk` where the command is
-/// not carried out, or memory runs out. A fault gives the desk back, with its register as it was.
+/// not carried out, or memory runs out. A fault gives the desk back, with its register as it was, and
+/// the journal, in which nothing was written.
 pub fn with_journal<K: Commit, J: Journal + Drop, C: Clock>(
     alloc: Global,
     desk: Desk<K>,
     journal: J,
     last: Option<Vec<u8>>,
     clock: C,
-) -> Result<Desk<Journaled<K, J, C>>, (OpeningFault, Desk<K>)>
+) -> Result<Desk<Journaled<K, J, C>>, (OpeningFault, Desk<K>, J)>
     ensures redone { IfOk result (λ opened. IsRedone (option_map (λ text. text.items) last)
         opened.store.turn desk.book.register opened.book.register) }
     ensures journal { IfOk result (λ opened. opened.store.journal ≡ journal) }
@@ -50,6 +51,7 @@ pub fn with_journal<K: Commit, J: Journal + Drop, C: Clock>(
         → Says J.text first opened.book.register opened.store) }
     ensures back { IfErr result (λ back. LeadsTo K.kept K.takes K.hears desk back.1) }
     ensures same { IfErr result (λ back. back.1.book.register ≡ desk.book.register) }
+    ensures unwritten { IfErr result (λ back. back.2 ≡ journal) }
     ensures bad { IfErr result (λ back. back.0 ≡ OpeningFault.BadLine
         → IsSomeAnd last (λ text. read_line text.items ≡ None)) }
     ensures cause { IfErr result (λ back. (cause : DeskFault) → back.0 ≡ OpeningFault.Desk cause
@@ -63,7 +65,7 @@ pub fn with_journal<K: Commit, J: Journal + Drop, C: Clock>(
             let keeper = Journaled::new(alloc, keeper, journal, clock, turn);
             Ok(Desk::of(book, keeper, faults))
         }
-        Err(fault) => Err((fault, desk)),
+        Err(fault) => Err((fault, desk, journal)),
     }
 }
 

@@ -2,19 +2,20 @@ use Rattle.std.proofs.Common.{◌≡◌}
 use Rattle.clr_edge.proofs.TakenUp.{not_opened, not_up, takes_up}
 use Rattle.clr_edge.proofs.taking_up.journaled_desk.Goals as goal
 
-pub returns-in-Ok-journal-clause-taken_up : goal.returns-in-Ok-journal-clause-taken_up
-returns-in-Ok-journal-clause-taken_up g c =
+pub returns-in-Ok-taken_up-clause-taken_up : goal.returns-in-Ok-taken_up-clause-taken_up
+returns-in-Ok-taken_up-clause-taken_up g c =
     takes_up g.S.Store g.L.Journals c.args.path.now c.args.rt.now c.journal.new.self c.args.connection c.in-Ok.desk.store c.in-Ok.desk.book.register
     c.in-Ok.ensures.read c.in-Ok.ensures.good c.in-Ok.ensures.register
-    (λ desk. desk.store) (λ desk. desk.book.register) c.in-Ok-journal.opened.journal _ c.time.result c.taken_up.result
-    c.in-Ok-journal.ensures.opens_journal c.time.ensures c.taken_up.ensures.redone
+    c.in-Ok-journal.opened.journal _ c.time.result c.in-Ok-taken_up.desk.store c.in-Ok-taken_up.desk.book.register
+    c.in-Ok-journal.ensures.opens_journal c.time.ensures c.in-Ok-taken_up.ensures.redone
 
-pub returns-in-Ok-journal-clause-not : goal.returns-in-Ok-journal-clause-not
-returns-in-Ok-journal-clause-not g c =
-    not_up g.S.Store g.L.Journals c.args.path.now c.args.rt.now c.journal.new.self c.args.connection c.in-Ok.desk.store c.in-Ok.desk.book.register
+pub returns-in-Err-taken_up-clause-not : goal.returns-in-Err-taken_up-clause-not
+returns-in-Err-taken_up-clause-not g c =
+    not_up g.S.Store g.L.Journals c.args.path.now c.args.rt.now c.let_journal_go.new.self c.args.connection c.in-Ok.desk.store c.in-Ok.desk.book.register
     c.in-Ok.ensures.read c.in-Ok.ensures.good c.in-Ok.ensures.register
-    c.in-Ok-journal.opened.journal _ c.taken_up.result c.in-Ok-journal.ensures.opens_journal c.taken_up.ensures.fault
-    c.taken_up.ensures.bad c.taken_up.ensures.kept
+    c.journal.new.self c.in-Ok-journal.opened.journal c.in-Err-taken_up.journal _ c.in-Err-taken_up.fault c.in-Err-taken_up.connection
+    c.in-Ok-journal.ensures.opens_journal c.in-Err-taken_up.ensures.unwritten c.let_journal_go.ensures
+    c.in-Err-taken_up.ensures.fault c.in-Err-taken_up.ensures.bad c.in-Err-taken_up.ensures.kept
 
 pub returns-in-Err-journal-clause-not : goal.returns-in-Err-journal-clause-not
 returns-in-Err-journal-clause-not g c =
