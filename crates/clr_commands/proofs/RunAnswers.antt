@@ -124,15 +124,17 @@ RunsFrom-run {T} {X} g store_of before after opened last R S input (Err fault) r
 }
 
 -- what a run over a desk with a journal leaves in the database
-pub RunsLoggedFrom-run : {M J C T X : Type 0} (logs : Logs M J C) (journal : List ℕ) (g : Ghosts T) (store_of : X → Journaled (Held T) J C) (old new : M)
-    (before after : Held T) (opened last : X) (R S : Register) (input : Option (List ℕ)) (result : Result Printed Fault) → IsGood R
-    → IsTakenUp g logs.steps journal old new before (store_of opened) R → after ≡ (store_of last).keeper
+pub RunsLoggedFrom-run : {M J C T X : Type 0} (logs : Logs M J C) (journal : List ℕ) (g : Ghosts T) (store_of : X → Journaled (Held T) J C) (old between new : M)
+    (before after : Held T) (log : J) (opened last : X) (R S : Register) (input : Option (List ℕ)) (result : Result Printed Fault) → IsGood R
+    → IsTakenUp g logs.steps journal old between before (store_of opened) R → after ≡ (store_of last).keeper
+    → log ≡ (store_of last).journal → logs.steps.lets_journal_go between log new
     → GoThrough logs.log R (store_of opened) S (store_of last)
     → RunsOnDesk (FailsToo FailsAsStore) (state g (store_of opened).keeper) (state g (store_of last).keeper) R S input result
     → OnErr result (last ≡ opened) → RunsLoggedFrom logs journal g input result old before after new
-RunsLoggedFrom-run {M} {J} {C} {T} {X} logs journal g store_of old new before after opened last R S input (Ok printed) good taken same went
+RunsLoggedFrom-run {M} {J} {C} {T} {X} logs journal g store_of old between new before after log opened last R S input (Ok printed) good taken same kept gone went
     (bytes, is_input, answers) none = record {
       taken = store_of opened;
+      between = between;
       register = R;
       good = good;
       taken_up = taken;
@@ -140,12 +142,14 @@ RunsLoggedFrom-run {M} {J} {C} {T} {X} logs journal g store_of old new before af
       ended = store_of last;
       went = went;
       after_is = same;
+      gone = subst (λ (j : J). logs.steps.lets_journal_go between j new) kept gone;
       bytes = bytes;
       is_input = is_input;
       answers = subst (λ (h : Held T). AnswersOver (FailsToo FailsAsStore) (state g (store_of opened).keeper) (state g h) R S bytes printed) (sym same) answers;
     }
-RunsLoggedFrom-run {M} {J} {C} {T} {X} logs journal g store_of old new before after opened last R S input (Err fault) good taken same went of none =
-    inr (of, R, store_of opened, taken, same ∙ ap (λ (x : X). (store_of x).keeper) none)
+RunsLoggedFrom-run {M} {J} {C} {T} {X} logs journal g store_of old between new before after log opened last R S input (Err fault) good taken same kept gone went of none =
+    inr (of, R, store_of opened, between, taken, same ∙ ap (λ (x : X). (store_of x).keeper) none,
+    subst (λ (j : J). logs.steps.lets_journal_go between j new) (kept ∙ ap (λ (x : X). (store_of x).journal) none) gone)
 
 -- over a desk whose changes are kept nowhere, no fault but want of memory ends it
 ended_memory : (ended : Option DeskFault) → IfSome ended (IsOfKeeper (λ _. ⊥)) → IfSome (option_map of_desk ended) IsMemory
@@ -227,7 +231,7 @@ module _ {M J C T : Type 0} (logs : Logs M J C) (journal : List ℕ) (g : Ghosts
           → FailsAsSubcommand (printed_after printed closed)
       by (Ok run) runs = ended_plain run.fault closed (answers_plain runs.answers.run) line
       by (Err fault) (inl not) = not_taken_plain g logs.steps journal old new before after fault not
-      by (Err fault) (inr (of, S, it, taken, same)) = input_plain input fault of
+      by (Err fault) (inr (of, S, it, between, taken, same, gone)) = input_plain input fault of
 
   pub FailsAsSubcommand-logged : (result : Result Printed Fault) → result ≡ printed_after printed closed → IfErr closed IsOfLine
       → RunsLoggedFrom logs journal g input printed old before after new → FailsAsSubcommand result

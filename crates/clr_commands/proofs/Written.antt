@@ -186,7 +186,7 @@ module _ {M L R W J C : Type 0} (logs : Logs M J C) (net : loopback.Ghosts M L R
   logged_written args logins g journal (Err fault) closed old new before after (inl (not, same, quiet)) other =
       inl (not_taken_other g logs.steps journal old new before after fault not, same, quiet)
   logged_written args logins g journal served closed old new before after (inr taken) other =
-      asked_written net seen output output' errors errors' args taken.keeper.register.staff logins taken.keeper taken.left served closed taken.between new
+      asked_written net seen output output' errors errors' args taken.keeper.register.staff logins taken.keeper taken.left served closed taken.between taken.later
       taken.serves other
 
   logged_path_written : {D : Type 0} (args : ServeArgs) (logins : Option (List LoginRow)) (g : disk.Ghosts D) (opens : Opening M D) (shuts : Shutting M)

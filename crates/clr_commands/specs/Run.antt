@@ -158,29 +158,33 @@ pub record RunsStored {T : Type 0} (g : Ghosts T) (input : Option (List ℕ))
 -- a machine that opens journals, and the path of one
 module _ {M J C : Type 0} (logs : Logs M J C) (journal : List ℕ) where
   -- WHAT A RUN WITH A JOURNAL LEAVES IN A DATABASE: its register was taken up with the journal at the
-  -- path, and the input was answered over it, through the journal
+  -- path, and the input was answered over it, through the journal, which is let go as that left it
   pub record RunsWithin {T : Type 0} (g : Ghosts T) (old new : M) (before after : Held T)
       (input : Option (List ℕ)) (printed : Printed) : Type 0 where
     pub taken : Journaled (Held T) J C
+    pub between : M
     pub register : Register
     pub good : IsGood register
-    pub taken_up : IsTakenUp g logs.steps journal old new before taken register
+    pub taken_up : IsTakenUp g logs.steps journal old between before taken register
     pub left : Register
     pub ended : Journaled (Held T) J C
     pub went : GoThrough logs.log register taken left ended
     pub after_is : after ≡ ended.keeper
+    pub gone : logs.steps.lets_journal_go between ended.journal new
     pub bytes : List ℕ
     pub is_input : IsInput input bytes
     pub answers : AnswersOver (FailsToo FailsAsStore) (state g taken.keeper) (state g after)
         register left bytes printed
 
-  -- a run that answers nothing: the register was not taken up, or the input was not read
+  -- a run that answers nothing: the register was not taken up, or the input was not read, and then
+  -- the journal is let go as it was taken up
   abbrev pub RunsUnlogged : {T : Type 0} → Ghosts T → M → M → Held T → Held T → Option (List ℕ)
       → Fault → Type 0
   RunsUnlogged {T} g old new before after input fault =
       IsNotTakenUp g logs.steps journal before fault after old new
-      ⊎ (IsOfInput input fault × (S : Register) × (it : Journaled (Held T) J C)
-      × IsTakenUp g logs.steps journal old new before it S × (after ≡ it.keeper))
+      ⊎ (IsOfInput input fault × (S : Register) × (it : Journaled (Held T) J C) × (between : M)
+      × IsTakenUp g logs.steps journal old between before it S × (after ≡ it.keeper)
+      × logs.steps.lets_journal_go between it.journal new)
 
   abbrev pub RunsLoggedFrom : {T : Type 0} → Ghosts T → Option (List ℕ) → Result Printed Fault
       → M → Held T → Held T → M → Type 0

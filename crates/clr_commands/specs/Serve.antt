@@ -112,21 +112,23 @@ module _ {M L R W J C : Type 0} (logs : Logs M J C) (net : loopback.Ghosts M L R
     (args : ServeArgs) (logins : Option (List LoginRow)) (output output' errors errors' : Stream)
   where
     -- THE REGISTER OF A DATABASE WAS TAKEN UP WITH THE JOURNAL AT A PATH, and served in the same way.
-    -- Its commands went through the journal
+    -- Its commands went through the journal, which is let go as they left it
     pub record ServesTaken {D : Type 0} (g : Ghosts D) (journal : List ℕ) (served : Done) (old new : M)
         (before after : Held D) : Type 0 where
       pub taken : Journaled (Held D) J C
       pub between : M
+      pub later : M
       pub keeper : Keeper
       pub good : IsGood keeper.register
       pub taken_up : IsTakenUp g logs.steps journal old between before taken keeper.register
       pub left : Keeper
       pub ended : Journaled (Held D) J C
       pub serves : ServesOn net seen output output' errors errors'
-          (terms_of args keeper.register.staff logins) keeper left served between new
+          (terms_of args keeper.register.staff logins) keeper left served between later
       pub goes_on : ComesWithin args.count keeper.register left.register
       pub went : GoThrough logs.log keeper.register taken left.register ended
       pub after_is : after ≡ ended.keeper
+      pub gone : logs.steps.lets_journal_go later ended.journal new
       pub keeps : Keeps (state g taken.keeper) keeper.register (state g after) left.register
       pub unserved : OnErr served (ended ≡ taken)
 

@@ -115,7 +115,9 @@ fn run_logged<S: Alter + Drop, L: Journals, I: CountedRead>(
     match journaled_desk(alloc, rt, connection, journal) {
         Ok(mut desk) => {
             let printed = run_over(alloc, &mut desk, input);
-            (printed, desk.end().end().end())
+            let (store, log) = desk.end().end();
+            rt.let_journal_go(log);
+            (printed, store.end())
         }
         Err((fault, connection)) => (Err(fault), connection),
     }

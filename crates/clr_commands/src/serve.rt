@@ -142,7 +142,9 @@ fn serve_logged<S: Alter + Drop, L: Loopback + Journals, W: CountedFlush, E: Cou
         Ok(mut desk) => {
             let asked = terms_of(args, desk.book().staff(), logins);
             let served = serve_on(alloc, net, &mut desk, asked, output, errors);
-            (served, desk.end().end().end())
+            let (store, log) = desk.end().end();
+            net.let_journal_go(log);
+            (served, store.end())
         }
         Err((fault, connection)) => (Err(fault), connection),
     }

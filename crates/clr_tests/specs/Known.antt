@@ -101,6 +101,8 @@ pub record IsExchange {M D L R W J C : Type 0} (g : disk.Ghosts D) (opens : Open
   pub opened : (old new : M) (c : Over g) → opens old jones_path g c new → asked new ≡ asked old
   pub logged : (old new : M) (path : List ℕ) (journal : J) (last : Option (List ℕ))
       → at.opens_journal old path journal last new → (asked new ≡ asked old) × (last ≡ None)
+  pub gone : (old new : M) (journal : J) → at.lets_journal_go old journal new
+      → response new ≡ response old
   pub stands : (old new : M) (address : SocketAddr) (l : L) → net.stands old address l new
       → asked new ≡ asked old
   pub comes : (old new : M) (l : L) (deadline : Option ℕ) (c : Connection R W)

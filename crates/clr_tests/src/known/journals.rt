@@ -23,6 +23,8 @@ impl<'f> Journals for Known<'f> {
 
     ghost shuts_journal = { λ old _ _ new. new ≡ old };
 
+    ghost lets_journal_go = { λ old _ new. new ≡ old };
+
     ghost has_time = { λ _ _. Unit {0} };
 
     fn journal(&mut self, _path: &str) -> Result<OpenedJournal<OnDisk<Memory>>, Fault>
@@ -33,6 +35,10 @@ impl<'f> Journals for Known<'f> {
     {
         new_journal(self.alloc)
     }
+
+    fn let_journal_go(&mut self, _journal: OnDisk<Memory>)
+        ensures { self.new ≡ self.old }
+    {}
 
     fn time(&self) -> NoTime {
         NoTime

@@ -9,11 +9,12 @@ use Rattle.clr_commands.proofs.run.run_logged.Goals as goal
 -- the register that was taken up is answered over
 pub returns-in-Ok-clause-runs : goal.returns-in-Ok-clause-runs
 returns-in-Ok-clause-runs g c =
-    let same : c.end-in-Ok-2.result ≡ c.run_over-printed.new.desk.store.keeper = cc in
+    let same : c.end-in-Ok.result ≡ c.run_over-printed.new.desk.store.keeper = cc in
+    let kept : c.end-store.result.1 ≡ c.run_over-printed.new.desk.store.journal = cc in
     RunsLoggedFrom-run (logs g.L.Journals g.L.Log.Journal) c.args.journal.now g.S.Store (λ (desk : Desk (Journaled (Held g.row.S.Denot) _ _)). desk.store)
-    c.args.rt.now c.journaled_desk.new.rt c.args.connection c.end-in-Ok-2.result c.in-Ok.desk
+    c.args.rt.now c.journaled_desk.new.rt c.let_journal_go.new.self c.args.connection c.end-in-Ok.result c.end-store.result.1 c.in-Ok.desk
     c.run_over-printed.new.desk c.in-Ok.desk.book.register c.run_over-printed.new.desk.book.register _ c.run_over-printed.result c.in-Ok.ensures.good
-    c.in-Ok.ensures.taken_up same (c.run_over-printed.ensures.led.given, c.run_over-printed.ensures.led.are_given)
+    c.in-Ok.ensures.taken_up same kept c.let_journal_go.ensures (c.run_over-printed.ensures.led.given, c.run_over-printed.ensures.led.are_given)
     c.run_over-printed.ensures.answer c.run_over-printed.ensures.none
 
 pub returns-in-Ok-clause-input : goal.returns-in-Ok-clause-input

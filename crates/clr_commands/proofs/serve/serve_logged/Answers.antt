@@ -16,7 +16,8 @@ use Rattle.clr_commands.proofs.serve.serve_logged.Goals as goal
 -- the desk went on from the register that was taken up, and its store is given back
 pub returns-in-Ok : goal.returns-in-Ok
 returns-in-Ok g c =
-    let same : c.end-in-Ok-2.result ≡ c.serve_on-served.new.desk.store.keeper = cc in
+    let same : c.end-in-Ok.result ≡ c.serve_on-served.new.desk.store.keeper = cc in
+    let kept : c.end-store.result.1 ≡ c.serve_on-served.new.desk.store.journal = cc in
     let first : Keeper = record { register = c.in-Ok.desk.book.register; faults = c.in-Ok.desk.faults } in
     let last : Keeper = record { register = c.serve_on-served.new.desk.book.register; faults = c.serve_on-served.new.desk.faults } in
     let terms : c.terms_of-asked.result ≡ terms_of c.args.args.now first.register.staff c.args.logins = search rules in
@@ -29,6 +30,7 @@ returns-in-Ok g c =
       served = inr (record {
         taken = c.in-Ok.desk.store;
         between = c.journaled_desk.new.rt;
+        later = c.serve_on-served.new.net;
         keeper = first;
         good = c.in-Ok.ensures.good;
         taken_up = c.in-Ok.ensures.taken_up;
@@ -37,6 +39,7 @@ returns-in-Ok g c =
         serves = serves;
         went = (c.serve_on-served.ensures.led.given, c.serve_on-served.ensures.led.are_given);
         after_is = same;
+        gone = subst (λ (j : _). g.L.Journals.lets_journal_go c.serve_on-served.new.net j c.let_journal_go.new.self) kept c.let_journal_go.ensures;
         goes_on = asked_within g.L.Loopback (seen g.L.Reader.Read.remaining g.L.Reader.CountedRead.failure_count g.L.Writer.CountedWrite.stream)
             c.args.args.now c.args.logins (g.W.CountedWrite.stream c.args.output.now) (g.W.CountedWrite.stream c.serve_on-served.new.output)
             (g.E.CountedWrite.stream c.args.errors.now) (g.E.CountedWrite.stream c.serve_on-served.new.errors) first last c.serve_on-served.result
