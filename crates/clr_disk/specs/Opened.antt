@@ -1,11 +1,14 @@
 -- A database that was opened over the files at a path.
-use Rattle.std.specs.Prelude.{◌≡◌, ◌<◌, ◌⊎◌, ℕ, List}
+use Rattle.std.specs.Prelude.{◌≡◌, ◌<◌, ◌⊎◌, ℕ, List, codes}
+use Rattle.std.specs.Io.{StartsWith}
 use Rattle.sqlite.specs.Closing.{files_left}
-use Rattle.sqlite.specs.Files.{IsCleanLeft, IsOpened, LeavesFiles, file_state, image_of}
+use Rattle.sqlite.specs.Files.{FailsToOpenFiles, IsCleanLeft, IsOpened, LeavesFiles, file_state}
+use Rattle.sqlite.specs.Files.{image_of}
 use Rattle.sqlite.specs.Held.{Held, IsNew}
 use Rattle.sqlite.specs.Start.{FindsIn}
 use Rattle.sqlite.specs.State.{HasCleanDisk}
 use Rattle.sqlite.specs.declared.file.Leftover.{Leftover}
+use Rattle.sqlite.specs.declared.error.Error.{Error}
 use Rattle.sqlite_disk.specs.declared.Disk as disk
 use Rattle.sqlite_disk.specs.declared.Files.{Files}
 use Rattle.sqlite_store.specs.declared.store.FileStore.{FileStore}
@@ -34,31 +37,40 @@ abbrev pub AreLetGo : {Y D : Type 0} → (Y → D → Y → Type 0) → Y → D 
 AreLetGo {Y} lets_go old log db new = (middle : Y) × lets_go old log middle × lets_go middle db new
 
 -- AN OPENING THAT FAILED WROTE OVER NO DATABASE: what is left of these files has what they had, or
--- what the opening made of a file that was empty, if the disk gave back what was written
+-- what the opening made of a file that was empty, if the disk gave back what was written. And the
+-- files are the cause of its error
 pub record IsUnharmed {D W : Type 0} {w : disk.Ghosts W} (disk_of : W → D) (log db : D)
-    (left : Leftover W w) : Type 0 where
+    (left : Leftover W w) (error : Error) : Type 0 where
   pub files : Files W
   pub log_is : disk_of files.log ≡ log
   pub db_is : disk_of files.db ≡ db
   pub unharmed : IsCleanLeft left → LeavesFiles files left
+  pub cause : IsCleanLeft left → FailsToOpenFiles files left error
 
 -- files were had at a path, and no database was opened in them: what is left of them was let go
 pub record IsRefusedAt {Y D W : Type 0} (has : Y → List ℕ → Files D → Y → Type 0)
     (lets_go : Y → D → Y → Type 0) (w : disk.Ghosts W) (disk_of : W → D) (old : Y) (path : List ℕ)
-    (new : Y) : Type 0 where
+    (error : Error) (new : Y) : Type 0 where
   pub files : Files D
   pub middle : Y
   pub had : has old path files middle
   pub left : Leftover W w
-  pub unharmed : IsUnharmed disk_of files.log files.db left
+  pub unharmed : IsUnharmed disk_of files.log files.db left error
   pub gone : AreLetGo lets_go middle (disk_of (files_left left).0) (disk_of (files_left left).1) new
 
--- NONE WAS OPENED: no file was had but those at that path, if they were
+-- SQLite would not take this for the path of a file
+abbrev pub IsNoFile : List ℕ → Type 0
+IsNoFile path = (path ≡ codes ":memory:") ⊎ StartsWith path (codes "file:")
+
+-- NONE WAS OPENED: no file was had but those at that path, if they were. They are not asked for only
+-- where the system lacked a seed, or the path is that of no file
 abbrev pub IsShutAt : {Y D W : Type 0} → (Y → List ℕ → Files D → Y → Type 0)
-    → (Y → List ℕ → Y → Type 0) → (Y → D → Y → Type 0) → disk.Ghosts W → (W → D) → Y → List ℕ → Y
-    → Type 0
-IsShutAt has lacks lets_go w disk_of old path new = (new ≡ old) ⊎ lacks old path new
-    ⊎ IsRefusedAt has lets_go w disk_of old path new
+    → (Y → List ℕ → Y → Type 0) → (Y → D → Y → Type 0) → (Y → Type 0) → disk.Ghosts W → (W → D) → Y
+    → List ℕ → Error → Y → Type 0
+IsShutAt has lacks lets_go lacks_seed w disk_of old path error new =
+    ((new ≡ old) × (lacks_seed old ⊎ IsNoFile path))
+    ⊎ lacks old path new
+    ⊎ IsRefusedAt has lets_go w disk_of old path error new
 
 -- a file is at a path, and it is not empty
 abbrev pub HasBytes : (List ℕ → ℕ → Type 0) → List ℕ → Type 0

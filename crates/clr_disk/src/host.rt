@@ -47,7 +47,13 @@ impl<S: Start + Copy> System for Host<S> {
 
     ghost is_file = { λ _ _. ⊤ };
 
+    ghost lacks_file = { λ _ _. ⊤ };
+
     ghost has_size = { λ _ _. ⊤ };
+
+    ghost lacks_size = { λ _ _. ⊤ };
+
+    ghost lacks_seed = { λ _. ⊤ };
 
     ghost has_clock = { λ host clock. clock ≡ host.rt };
 
@@ -63,19 +69,23 @@ impl<S: Start + Copy> System for Host<S> {
     ghost refuses = { λ old _ _ new. new ≡ old };
 
     fn file(&self, path: &str) -> io::Result<fs::File>
-        ensures { IfOk result (λ _. ⊤) }
+        ensures is { IfOk result (λ _. ⊤) }
+        ensures lacks { IfErr result (λ _. ⊤) }
     {
         fs::open(&self.rt, path)
     }
 
     fn size(&self, path: &str) -> io::Result<u64>
-        ensures { IfOk result (λ _. ⊤) }
+        ensures has { IfOk result (λ _. ⊤) }
+        ensures lacks { IfErr result (λ _. ⊤) }
     {
         let metadata = fs::metadata(&self.rt, path)?;
         Ok(metadata.len())
     }
 
-    fn seed(&self) -> io::Result<u64> {
+    fn seed(&self) -> io::Result<u64>
+        ensures { IfErr result (λ _. ⊤) }
+    {
         let state = RandomState::new(&self.rt)?;
         Ok(state.hash_one(&0u8))
     }

@@ -28,8 +28,17 @@ pub trait System {
     /// That a file was opened at a path. Only `file` says so.
     ghost is_file: { List ℕ → Self.File → Type 0 };
 
+    /// That none was, for this reason. Only `file` says so.
+    ghost lacks_file: { List ℕ → ErrorKind → Type 0 };
+
     /// That the file at a path has this number of bytes. Only `size` says so.
     ghost has_size: { List ℕ → ℕ → Type 0 };
+
+    /// That this number was not had, for this reason. Only `size` says so.
+    ghost lacks_size: { List ℕ → ErrorKind → Type 0 };
+
+    /// That no number was had that cannot be guessed. Only `seed` says so.
+    ghost lacks_seed: { Self → Type 0 };
 
     /// That this clock is the system's. Only `clock` says so.
     ghost has_clock: { Self → Self.Clock → Type 0 };
@@ -51,14 +60,17 @@ pub trait System {
 
     /// Opens the file at a path to be read.
     fn file(&self, path: &str) -> io::Result<Self::File>
-        ensures { IfOk result (is_file path.now) };
+        ensures is { IfOk result (is_file path.now) }
+        ensures lacks { IfErr result (λ error. lacks_file path.now (error_kind error)) };
 
     /// How many bytes the file at a path has.
     fn size(&self, path: &str) -> io::Result<u64>
-        ensures { IfOk result (has_size path.now) };
+        ensures has { IfOk result (has_size path.now) }
+        ensures lacks { IfErr result (λ error. lacks_size path.now (error_kind error)) };
 
     /// A number that cannot be guessed.
-    fn seed(&self) -> io::Result<u64>;
+    fn seed(&self) -> io::Result<u64>
+        ensures { IfErr result (λ _. lacks_seed self.now) };
 
     /// What shows the time.
     fn clock(&self) -> Self::Clock

@@ -2,7 +2,8 @@
 ghost use Rattle.std.specs.Prelude.{◌≡◌, ◌⊎◌, IfErr, IfOk, IsTrue};
 ghost use Rattle.sqlite.specs.Files.{image_of};
 ghost use Rattle.sqlite.specs.Opening.{is_open_error};
-ghost use Rattle.clr_disk.specs.Opened.{AreLetGo, IsOpenedAt, IsOpenedOver, IsShutAt, IsUnharmed};
+ghost use Rattle.clr_disk.specs.Opened.{AreLetGo, IsNoFile, IsOpenedAt, IsOpenedOver, IsShutAt};
+ghost use Rattle.clr_disk.specs.Opened.{IsUnharmed};
 
 use crate::system::System;
 use crate::watch::Watch;
@@ -28,8 +29,9 @@ pub fn open_watched<'a, Y: System, K: Clock>(
 ) -> Result<WatchedDatabase<'a, Y::Medium, K>, Error>
     ensures opened { IfOk result (λ connection.
         IsOpenedAt Y.has_files Y.Medium.Disk system.old path.now connection system.new) }
-    ensures refused { IfErr result (λ _. IsShutAt Y.has_files Y.lacks_files Y.lets_go
-        ⟦<Watched<'a, Y::Medium, K> as Disk>⟧ (λ it. it.disk) system.old path.now system.new) }
+    ensures refused { IfErr result (λ error. IsShutAt Y.has_files Y.lacks_files Y.lets_go
+        Y.lacks_seed ⟦<Watched<'a, Y::Medium, K> as Disk>⟧ (λ it. it.disk)
+        system.old path.now error system.new) }
     ensures fault { IfErr result (λ error. IsTrue (is_open_error error)) }
 {
     let options = options(system)?;
@@ -55,7 +57,8 @@ pub fn let_go<'a, Y: System, K: Clock>(system: &mut Y, files: Files<Watched<'a, 
 
 /// How the database is kept in its pages, with a seed of its own.
 fn options<Y: System>(system: &Y) -> Result<Options, Error>
-    ensures { IfErr result (λ error. IsTrue (is_open_error error)) }
+    ensures fault { IfErr result (λ error. IsTrue (is_open_error error)) }
+    ensures unseeded { IfErr result (λ _. Y.lacks_seed system.now) }
 {
     match system.seed() {
         Ok(seed) => Ok(Options::new(seed)),
@@ -69,8 +72,8 @@ fn files_at<Y: System>(system: &mut Y, path: &str) -> Result<Files<Y::Medium>, E
     ensures log { IfOk result (λ files. IsTrue (Y.Medium.Disk.is_usable files.log)) }
     ensures db { IfOk result (λ files. IsTrue (Y.Medium.Disk.is_usable files.db)) }
     ensures has { IfOk result (λ files. Y.has_files system.old path.now files system.new) }
-    ensures lacks { IfErr result (λ _.
-        (system.new ≡ system.old) ⊎ Y.lacks_files system.old path.now system.new) }
+    ensures lacks { IfErr result (λ _. ((system.new ≡ system.old) × IsNoFile path.now)
+        ⊎ Y.lacks_files system.old path.now system.new) }
     ensures fault { IfErr result (λ error. IsTrue (is_open_error error)) }
 {
     if path == ":memory:" || path.starts_with("file:") {
@@ -105,7 +108,7 @@ fn over_watched<'a, D: Disk + Drop, K: Clock>(
     requires db { IsTrue (D.Disk.is_usable files.db) }
     ensures over { IfOk result (λ connection. IsOpenedOver (image_of D.Disk files) connection) }
     ensures unharmed { IfErr result (λ back.
-        IsUnharmed (λ it. it.disk) files.log files.db back.1) }
+        IsUnharmed (λ it. it.disk) files.log files.db back.1 back.0) }
     ensures fault { IfErr result (λ back. IsTrue (is_open_error back.0)) }
 {
     let files = Files {

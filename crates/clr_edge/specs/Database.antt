@@ -1,12 +1,15 @@
 -- Registers that databases have, and faults of the databases themselves.
-use Rattle.std.specs.Prelude.{◌≡◌, ◌≢◌, ◌⊎◌, false, is_ok, IsTrue, List, Some, Ok, Err, pos}
+use Rattle.std.specs.Prelude.{◌≡◌, ◌≢◌, ◌⊎◌, ℕ, false, is_ok, IsTrue, List, Some, Ok, Err, pos}
+use Rattle.std.specs.declared.io.ErrorKind.{ErrorKind}
+use Rattle.std.specs.declared.io.ErrorKind.TheVariants.{OutOfMemory}
 use Rattle.sqlite.specs.Held.{Held, state}
 use Rattle.sqlite.specs.Order.{Row}
 use Rattle.sqlite.specs.State.{HasCleanDisk, Survives}
+use Rattle.sqlite.specs.declared.error.Error.{Error}
 use Rattle.sqlite_trees.specs.declared.store.Store.{Ghosts}
 use Rattle.clr_rules.specs.Good.{IsGood}
 use Rattle.clr_rules.specs.Register.{Register}
-use Rattle.clr_load.specs.Cause.{SqlHasCause}
+use Rattle.clr_load.specs.Cause.{SqlHasCause, fault_of}
 use Rattle.clr_load.specs.Contract.{IsSaved, old_points}
 use Rattle.clr_load.specs.Stored.{AreTables, HasMeta, HasOldTables, HasTables}
 use Rattle.clr_load.specs.declared.fault.StoreFault.{StoreFault}
@@ -33,6 +36,21 @@ IsOfLine fault = (fault ≡ Memory) ⊎ (fault ≡ Store Sql)
 -- memory ran out, or the database is at fault, or what it has
 abbrev pub IsOfStore : Fault → Type 0
 IsOfStore fault = (fault ≡ Memory) ⊎ ((cause : StoreFault) × (fault ≡ Store cause))
+
+-- what is reported where the size of a file was not had, for this reason
+abbrev pub size_fault : ErrorKind → Fault
+size_fault OutOfMemory = Memory
+size_fault _ = Store Sql
+
+-- there is no database in the file at a path: it is empty, or its size was not had
+abbrev pub HasNoBytes : (List ℕ → ℕ → Type 0) → (List ℕ → ErrorKind → Type 0) → List ℕ → Fault
+    → Type 0
+HasNoBytes has_size lacks_size path fault = (has_size path 0 × (fault ≡ Store Sql))
+    ⊎ ((kind : ErrorKind) × lacks_size path kind × (fault ≡ size_fault kind))
+
+-- a database was not opened, for the error that is reported
+abbrev pub IsShutBy : (Error → Type 0) → Fault → Type 0
+IsShutBy shut fault = (error : Error) × (fault ≡ of_store (fault_of error)) × shut error
 
 -- What is known of a database: it has the tables of a good register, whose values are of their
 -- types.

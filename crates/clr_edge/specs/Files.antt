@@ -2,9 +2,11 @@
 use Rattle.std.specs.Prelude.{◌≡◌, ◌≢◌, ◌⊎◌, ℕ, List, None, Option, Some, Result, Ok, Err, IfSome}
 use Rattle.std.specs.Prelude.{IsErr, IsErrOf, OnErr}
 use Rattle.std.specs.Io.KnownBytes.{ReadConsumes}
+use Rattle.std.specs.declared.io.ErrorKind.{ErrorKind}
+use Rattle.std.specs.declared.io.ErrorKind.TheVariants.{OutOfMemory}
 use Rattle.clr_stream.specs.Failures.{Rose}
 use Rattle.clr_csv.specs.declared.fault.CsvFault.{CsvFault}
-use Rattle.clr_csv.specs.declared.fault.CsvFault.TheVariants.{ReadFailed}
+use Rattle.clr_csv.specs.declared.fault.CsvFault.TheVariants.{NoMemory, ReadFailed}
 use Rattle.clr_edge.specs.declared.fault.ImportFile.{ImportFile}
 use Rattle.clr_edge.specs.declared.fault.Fault.{Fault}
 use Rattle.clr_edge.specs.declared.fault.Fault.TheVariants.{Memory, File}
@@ -18,6 +20,11 @@ told_of file (Err cause) = Err (of_file file cause)
 -- the file's device failed, or memory ran out
 abbrev pub IsUnread : ImportFile → Fault → Type 0
 IsUnread file fault = (fault ≡ Memory) ⊎ (fault ≡ File file ReadFailed)
+
+-- what is reported of a file that was not opened, for this reason
+abbrev pub open_fault : ErrorKind → CsvFault
+open_fault OutOfMemory = NoMemory
+open_fault _ = ReadFailed
 
 -- a read of a file is one of the file that was opened; where none was, it fails
 abbrev pub ReadsOpened : {F E : Type 0} → (F → Option (List ℕ)) → Option F → Option F → Result ℕ E

@@ -1,5 +1,6 @@
 //! The databases that registers are stored in, each opened when its turn comes, and closed.
 ghost use Rattle.std.specs.Prelude.{◌≡◌, ◌⊎◌, ◌<◌, ℕ, List, IfErr, IfOk, OnErr, OnOk};
+ghost use Rattle.std.specs.IoError.{error_kind};
 ghost use Rattle.sqlite.specs.Files.{over_files};
 ghost use Rattle.sqlite.specs.Held.{state};
 ghost use Rattle.sqlite.specs.State.{HasCleanDisk, Survives};
@@ -9,8 +10,9 @@ ghost use Rattle.clr_disk.specs.Opened.{AreLetGo, HasBytes, IsOpenedAt, IsShutAt
 ghost use Rattle.clr_load.specs.Cause.{fault_of};
 ghost use Rattle.clr_rules.specs.Good.{IsGood};
 ghost use Rattle.clr_rules.specs.Register.{Register, opening};
-ghost use Rattle.clr_edge.specs.Database.{HasRegister, IsMade, IsMoved, IsOfLine, IsOfUnfit};
-ghost use Rattle.clr_edge.specs.Database.{IsOfStore, IsOnlyRead, IsRefused, IsUnmade, IsUnmoved};
+ghost use Rattle.clr_edge.specs.Database.{HasNoBytes, HasRegister, IsMade, IsMoved, IsOfLine};
+ghost use Rattle.clr_edge.specs.Database.{IsOfStore, IsOfUnfit, IsOnlyRead, IsRefused, IsShutBy};
+ghost use Rattle.clr_edge.specs.Database.{IsUnmade, IsUnmoved, size_fault};
 ghost use Rattle.clr_edge.specs.Fault.{of_store};
 ghost use Rattle.clr_edge.specs.Visit.{Alone, Comes, Ends, IsLeft};
 ghost use Rattle.clr_edge.specs.Visit.{MakesRegister, MovesRegister, Over, both};
@@ -79,8 +81,11 @@ impl<'a, Y: System, K: Clock> Databases for Machine<'a, Y, K> {
     ghost opens = { λ old path _ connection new. HasBytes Y.has_size path
         × IsOpenedAt Y.has_files Y.Medium.Disk old.system path connection new.system };
 
-    ghost shuts = { λ old path _ new. IsShutAt Y.has_files Y.lacks_files Y.lets_go
-        ⟦<Watched<'a, Y::Medium, K> as Disk>⟧ (λ it. it.disk) old.system path new.system };
+    ghost shuts = { λ old path fault new.
+        ((new.system ≡ old.system) × HasNoBytes Y.has_size Y.lacks_size path fault)
+        ⊎ IsShutBy (λ error. IsShutAt Y.has_files Y.lacks_files Y.lets_go Y.lacks_seed
+        ⟦<Watched<'a, Y::Medium, K> as Disk>⟧ (λ it. it.disk)
+        old.system path error new.system) fault };
 
     ghost ends = { λ old files new.
         AreLetGo Y.lets_go old.system files.log.disk files.db.disk new.system };
@@ -89,9 +94,12 @@ impl<'a, Y: System, K: Clock> Databases for Machine<'a, Y, K> {
         ensures opens { IfOk result (λ connection. HasBytes Y.has_size path.now
             × IsOpenedAt Y.has_files Y.Medium.Disk self.old.system path.now
             connection self.new.system) }
-        ensures shuts { IfErr result (λ _. IsShutAt Y.has_files Y.lacks_files Y.lets_go
+        ensures shuts { IfErr result (λ fault.
+            ((self.new.system ≡ self.old.system)
+            × HasNoBytes Y.has_size Y.lacks_size path.now fault)
+            ⊎ IsShutBy (λ error. IsShutAt Y.has_files Y.lacks_files Y.lets_go Y.lacks_seed
             ⟦<Watched<'a, Y::Medium, K> as Disk>⟧ (λ it. it.disk)
-            self.old.system path.now self.new.system) }
+            self.old.system path.now error self.new.system) fault) }
         ensures fault { IfErr result IsOfLine }
     {
         let size = expect_bytes(&self.system, path)?;
@@ -117,9 +125,12 @@ impl<'a, Y: System, K: Clock> Makes for Machine<'a, Y, K> {
         ensures makes { IfOk result (λ connection.
             IsOpenedAt Y.has_files Y.Medium.Disk self.old.system path.now
             connection self.new.system) }
-        ensures shuts { IfErr result (λ _. IsShutAt Y.has_files Y.lacks_files Y.lets_go
+        ensures shuts { IfErr result (λ fault.
+            ((self.new.system ≡ self.old.system)
+            × HasNoBytes Y.has_size Y.lacks_size path.now fault)
+            ⊎ IsShutBy (λ error. IsShutAt Y.has_files Y.lacks_files Y.lets_go Y.lacks_seed
             ⟦<Watched<'a, Y::Medium, K> as Disk>⟧ (λ it. it.disk)
-            self.old.system path.now self.new.system) }
+            self.old.system path.now error self.new.system) fault) }
         ensures fault { IfErr result IsOfLine }
     {
         self.opened(path)
@@ -132,9 +143,10 @@ impl<'a, Y: System, K: Clock> Machine<'a, Y, K> {
         ensures opened { IfOk result (λ connection.
             IsOpenedAt Y.has_files Y.Medium.Disk self.old.system path.now
             connection self.new.system) }
-        ensures refused { IfErr result (λ _. IsShutAt Y.has_files Y.lacks_files Y.lets_go
+        ensures refused { IfErr result (λ fault. IsShutBy (λ error. IsShutAt Y.has_files
+            Y.lacks_files Y.lets_go Y.lacks_seed
             ⟦<Watched<'a, Y::Medium, K> as Disk>⟧ (λ it. it.disk)
-            self.old.system path.now self.new.system) }
+            self.old.system path.now error self.new.system) fault) }
         ensures fault { IfErr result IsOfLine }
     {
         match open_watched(self.alloc, &mut self.system, path, self.watch) {
@@ -156,12 +168,24 @@ fn fault_of(error: Error) -> Fault
 /// empty: it has no database.
 fn expect_bytes<Y: System>(system: &Y, path: &str) -> Result<u64, Fault>
     ensures size { IfOk result (λ size. Y.has_size path.now size × (0 < size)) }
+    ensures none { IfErr result (HasNoBytes Y.has_size Y.lacks_size path.now) }
     ensures fault { IfErr result IsOfLine }
 {
     match system.size(path) {
         Ok(size) if size > 0 => Ok(size),
-        Err(error) if error.kind() == io::ErrorKind::OutOfMemory => Err(Fault::Memory),
-        _ => Err(Fault::Store(StoreFault::Sql)),
+        Ok(_) => Err(Fault::Store(StoreFault::Sql)),
+        Err(error) => Err(size_fault(&error)),
+    }
+}
+
+/// What is reported where the size of a file was not had.
+fn size_fault(error: &io::Error) -> Fault
+    ensures value { result ≡ size_fault (error_kind error.now) }
+    ensures line { IsOfLine result }
+{
+    match error.kind() {
+        io::ErrorKind::OutOfMemory => Fault::Memory,
+        _ => Fault::Store(StoreFault::Sql),
     }
 }
 

@@ -137,7 +137,9 @@ impl<'a, Y: System> CountedRead for AtPath<'a, Y> {
 
 impl<'a, Y: System> Source for AtPath<'a, Y> {
     ghost use Rattle.std.specs.Prelude.{◌≢◌, IfErr, IsErrOf, IsSomeAnd, OnOk, ⊤};
+    ghost use Rattle.std.specs.declared.io.ErrorKind.{ErrorKind};
     ghost use Rattle.clr_stream.specs.Failures.{Rose};
+    ghost use Rattle.clr_edge.specs.Files.{open_fault};
 
     fn open(&mut self) -> Result<(), CsvFault>
         ensures bytes { ⊤ }
@@ -151,6 +153,10 @@ impl<'a, Y: System> Source for AtPath<'a, Y> {
         // So one that could not be opened is never taken for an empty file, and none for another.
         ensures opened { OnOk result (IsSomeAnd self.new.file (λ file.
             Y.is_file self.old.path.now file)) }
+
+        // And one is reported so only where the system could not open it.
+        ensures unopened { IfErr result (λ fault. (kind : ErrorKind)
+            × Y.lacks_file self.old.path.now kind × (fault ≡ open_fault kind)) }
     {
         match self.system.file(self.path) {
             Ok(file) => {

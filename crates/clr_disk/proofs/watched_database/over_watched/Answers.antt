@@ -25,4 +25,5 @@ returns-in-Err-clause-unharmed g c = record {
   log_is = c.new.ensures;
   db_is = c.new-2.ensures;
   unharmed = c.in-Err.ensures.unharmed;
+  cause = c.in-Err.ensures.cause;
 }
