@@ -148,8 +148,15 @@ RunsLoggedFrom-run {M} {J} {C} {T} {X} logs journal g store_of old between new b
       answers = subst (λ (h : Held T). AnswersOver (FailsToo FailsAsStore) (state g (store_of opened).keeper) (state g h) R S bytes printed) (sym same) answers;
     }
 RunsLoggedFrom-run {M} {J} {C} {T} {X} logs journal g store_of old between new before after log opened last R S input (Err fault) good taken same kept gone went of none =
-    inr (of, R, store_of opened, between, taken, same ∙ ap (λ (x : X). (store_of x).keeper) none,
-    subst (λ (j : J). logs.steps.lets_journal_go between j new) (kept ∙ ap (λ (x : X). (store_of x).journal) none) gone)
+    inr (
+      of,
+      R,
+      store_of opened,
+      between,
+      taken,
+      same ∙ ap (λ (x : X). (store_of x).keeper) none,
+      subst (λ (j : J). logs.steps.lets_journal_go between j new) (kept ∙ ap (λ (x : X). (store_of x).journal) none) gone,
+    )
 
 -- over a desk whose changes are kept nowhere, no fault but want of memory ends it
 ended_memory : (ended : Option DeskFault) → IfSome ended (IsOfKeeper (λ _. ⊥)) → IfSome (option_map of_desk ended) IsMemory
