@@ -5,8 +5,9 @@ use Rattle.std.specs.declared.alloc.Global.{Global}
 use Rattle.sqlite.specs.Held.{Held, state}
 use Rattle.sqlite.specs.State.{HasCleanDisk, Survives}
 use Rattle.sqlite_trees.specs.declared.store.Store.{Ghosts}
+use Rattle.clr_rules.specs.Good.{IsGood}
 use Rattle.clr_rules.specs.Register.{Register}
-use Rattle.clr_edge.specs.Database.{HasRegister, IsOfLine, IsOnlyRead, IsRefused}
+use Rattle.clr_edge.specs.Database.{HasRegister, IsOfLine, IsOnlyRead, IsRefused, ReadsAs}
 use Rattle.clr_edge.specs.declared.fault.Fault.{Fault}
 use Rattle.clr_edge.specs.declared.fault.Fault.TheVariants.{Memory}
 use Rattle.clr_edge.proofs.Databases.{OnOk-any}
@@ -31,18 +32,27 @@ gives_line Is IsToo (Ok value) same gives = same (Ok (string_bytes value)) gives
 gives_line Is IsToo (Err fault) same gives = λ other. same (Err fault) (gives (λ memory. other (inl memory)))
 
 unanswered : {T S : Type 0} (g : Ghosts S) (IsOwn : Fault → Type 0) (before after : Held S) (result : Result T Fault) → IfErr result IsOwn
-    → Survives (state g before) (state g after) (λ _. ⊥) → IfErr result (IsUnanswered g before after IsOwn)
-unanswered g IsOwn before after (Ok value) own survives = tt
-unanswered g IsOwn before after (Err fault) own survives = record { cause = inl own; survives = survives }
+    → IsOnlyRead g before after → IfErr result (IsUnanswered g before after IsOwn)
+unanswered g IsOwn before after (Ok value) own read = tt
+unanswered g IsOwn before after (Err fault) own read = record { cause = inl (own, read); survives = read.survives }
+
+-- what is printed is of that register
+printed_of : {S : Type 0} (g : Ghosts S) (Is : Register → Result (List ℕ) Fault → Type 0) (result : Result (String Global) Fault) (before after : Held S) (Q : Register)
+    → IsGood Q → ReadsAs g before after Q → Prints IsMemory (Is Q) result
+    → IfOk result (λ text. (R : Register) × IsGood R × ReadsAs g before after R × Is R (Ok (string_bytes text)))
+printed_of g Is (Ok text) before after Q good reads gives = (Q, good, reads, gives)
+printed_of g Is (Err fault) before after Q good reads gives = tt
 
 -- what is answered of the register Q that was read from a database
 pub AnswersOf-read : {S : Type 0} (g : Ghosts S) (IsOwn : Fault → Type 0) (Is : Register → Result (List ℕ) Fault → Type 0) (result : Result (String Global) Fault)
     (before after : Held S) (Q : Register) → ((R : Register) → HasRegister g R before → HasCleanDisk (state g after) → Q ≡ R)
-    → IsOnlyRead g before after → Prints IsMemory (Is Q) result → IfErr result IsOwn → AnswersOf g IsOwn Is result before after
-AnswersOf-read g IsOwn Is result before after Q is_register read gives own = record {
+    → IsGood Q → ReadsAs g before after Q → IsOnlyRead g before after → Prints IsMemory (Is Q) result → IfErr result IsOwn
+    → AnswersOf g IsOwn Is result before after
+AnswersOf-read g IsOwn Is result before after Q is_register good reads read gives own = record {
   known = λ R has clean. gives_line (Is Q) (Is R) result (λ known is. subst (λ (P : Register). Is P known) (is_register R has clean) is) gives;
+  printed = printed_of g Is result before after Q good reads gives;
   read = OnOk-any result (IsOnlyRead g before after) read;
-  refused = unanswered g IsOwn before after result own read.survives;
+  refused = unanswered g IsOwn before after result own read;
 }
 
 -- nothing is answered of one whose tables were refused
@@ -51,6 +61,7 @@ pub AnswersOf-refused : {S : Type 0} (g : Ghosts S) (IsOwn : Fault → Type 0) (
     → IsRefused g before fault after → Survives (state g before) (state g after) (λ _. ⊥) → AnswersOf g IsOwn Is (Err fault) before after
 AnswersOf-refused g IsOwn Is fault before after line refused survives = record {
   known = λ R has clean other. absurd (other (line R has clean));
+  printed = tt;
   read = tt;
   refused = record { cause = inr refused; survives = survives };
 }
@@ -58,9 +69,10 @@ AnswersOf-refused g IsOwn Is fault before after line refused survives = record {
 -- the same of an answer that is computed
 pub PrintsOf-read : {S : Type 0} (g : Ghosts S) (IsOwn : Fault → Type 0) (answer : Register → Result (List ℕ) Fault) (result : Result (String Global) Fault)
     (before after : Held S) (Q : Register) → ((R : Register) → HasRegister g R before → HasCleanDisk (state g after) → Q ≡ R)
-    → IsOnlyRead g before after → GivesText IsMemory (answer Q) result → IfErr result IsOwn → PrintsOf g IsOwn answer result before after
-PrintsOf-read g IsOwn answer result before after Q is_register read gives own =
-    AnswersOf-read g IsOwn (λ R known. answer R ≡ known) result before after Q is_register read gives own
+    → IsGood Q → ReadsAs g before after Q → IsOnlyRead g before after → GivesText IsMemory (answer Q) result → IfErr result IsOwn
+    → PrintsOf g IsOwn answer result before after
+PrintsOf-read g IsOwn answer result before after Q is_register good reads read gives own =
+    AnswersOf-read g IsOwn (λ R known. answer R ≡ known) result before after Q is_register good reads read gives own
 
 pub PrintsOf-refused : {S : Type 0} (g : Ghosts S) (IsOwn : Fault → Type 0) (answer : Register → Result (List ℕ) Fault) (fault : Fault)
     (before after : Held S) → ((R : Register) → HasRegister g R before → HasCleanDisk (state g after) → IsOfLine fault)

@@ -10,12 +10,12 @@ use Rattle.clr_journaled.specs.declared.journaled.Journaled.{Journaled}
 use Rattle.clr_load.specs.declared.fault.StoreFault.{StoreFault}
 use Rattle.clr_load.specs.declared.fault.StoreFault.TheVariants as store
 use Rattle.sqlite.specs.Held.{Held, state}
-use Rattle.sqlite.specs.State.{HasCleanDisk, State, Survives}
+use Rattle.sqlite.specs.State.{HasCleanDisk, State}
 use Rattle.sqlite_trees.specs.declared.store.Store.{Ghosts}
 use Rattle.clr_desk.specs.Faults.{IsOfKeeper}
 use Rattle.clr_desk.specs.declared.desk_fault.DeskFault.{DeskFault}
 use Rattle.clr_desk.specs.declared.desk_fault.DeskFault.TheVariants as desk
-use Rattle.clr_edge.specs.Database.{HasRegister, IsOfLine, IsOnlyRead, IsRefused}
+use Rattle.clr_edge.specs.Database.{HasRegister, IsOfLine, IsOnlyRead, IsRefused, ReadsAs}
 use Rattle.clr_edge.specs.Fault.{of_desk, of_store}
 use Rattle.clr_edge.specs.Journals.{IsOfTakingUp}
 use Rattle.clr_edge.specs.TakenUp.{GoThrough, IsNotTakenUp, IsTakenUp, Logs}
@@ -102,26 +102,25 @@ ReadsInput-closed input n n' before after printed closed result is reads =
 pub RunsFrom-run : {T X : Type 0} (g : Ghosts T) (store_of : X → Held T) (before after : Held T) (opened last : X) (R S : Register) (input : Option (List ℕ))
     (result : Result Printed Fault) → IsOnlyRead g before (store_of opened) → IsGood R
     → ((K : Register) → HasRegister g K before → HasCleanDisk (state g (store_of opened)) → R ≡ K)
-    → after ≡ store_of last → RunsOnDesk FailsAsStore (state g (store_of opened)) (state g (store_of last)) R S input result
+    → ReadsAs g before (store_of opened) R → after ≡ store_of last → RunsOnDesk FailsAsStore (state g (store_of opened)) (state g (store_of last)) R S input result
     → OnErr result (last ≡ opened) → RunsFrom g input result before after
-RunsFrom-run {T} {X} g store_of before after opened last R S input (Ok printed) read good is_register same (bytes, is_input, answers) none = record {
+RunsFrom-run {T} {X} g store_of before after opened last R S input (Ok printed) read good is_register reads same (bytes, is_input, answers) none = record {
   opened = store_of opened;
   read = read;
   register = R;
   good = good;
   is_register = is_register;
+  reads = reads;
   left = S;
   bytes = bytes;
   is_input = is_input;
   answers = subst (λ (h : Held T). AnswersOver FailsAsStore (state g (store_of opened)) (state g h) R S bytes printed) (sym same) answers;
 }
-RunsFrom-run {T} {X} g store_of before after opened last R S input (Err fault) read good is_register same of none = record {
-  unanswered = record {
-    cause = inl of;
-    survives = subst (λ (h : Held T). Survives (state g before) (state g h) (λ _. ⊥)) (sym (same ∙ ap store_of none)) read.survives;
-  };
-  known = λ K has clean. inr of;
-}
+RunsFrom-run {T} {X} g store_of before after opened last R S input (Err fault) read good is_register reads same of none =
+    let still = subst (λ (h : Held T). IsOnlyRead g before h) (sym (same ∙ ap store_of none)) read in record {
+      unanswered = record { cause = inl (of, still); survives = still.survives };
+      known = λ K has clean. inr of;
+    }
 
 -- what a run over a desk with a journal leaves in the database
 pub RunsLoggedFrom-run : {M J C T X : Type 0} (logs : Logs M J C) (journal : List ℕ) (g : Ghosts T) (store_of : X → Journaled (Held T) J C) (old between new : M)
@@ -212,8 +211,8 @@ runs_plain : {T : Type 0} (g : Ghosts T) (before after : Held T) (input : Option
 runs_plain g before after input (Ok run) closed line runs = ended_plain run.fault closed (answers_plain runs.answers.run) line
 runs_plain g before after input (Err fault) closed line runs = by runs.unanswered.cause
   where
-    by : IsOfInput input fault ⊎ IsRefused g before fault after → IsOfSubcommand fault
-    by (inl of) = input_plain input fault of
+    by : (IsOfInput input fault × IsOnlyRead g before after) ⊎ IsRefused g before fault after → IsOfSubcommand fault
+    by (inl (of, read)) = input_plain input fault of
     by (inr refused) = refused_plain g before after fault refused
 
 pub FailsAsSubcommand-closed : {T : Type 0} (g : Ghosts T) (before after : Held T) (input : Option (List ℕ)) (printed : Result Printed Fault)

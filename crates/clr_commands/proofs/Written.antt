@@ -22,7 +22,7 @@ use Rattle.clr_load.specs.declared.fault.StoreFault.{StoreFault}
 use Rattle.clr_load.specs.declared.fault.StoreFault.TheVariants as store
 use Rattle.clr_desk.specs.declared.desk_fault.DeskFault.{DeskFault}
 use Rattle.clr_desk.specs.declared.desk_fault.DeskFault.TheVariants as desk
-use Rattle.clr_edge.specs.Database.{IsOfLine, IsRefused}
+use Rattle.clr_edge.specs.Database.{IsOfLine, IsOnlyRead, IsRefused}
 use Rattle.clr_edge.specs.Fault.{of_desk, of_store}
 use Rattle.clr_edge.specs.Journals.{IsOfTakingUp}
 use Rattle.clr_edge.specs.TakenUp.{IsNotTakenUp, Logs}
@@ -159,8 +159,8 @@ module _ {M L R W : Type 0} (net : loopback.Ghosts M L R W) (seen : Seen R W) (o
   over_written args logins g (Err fault) closed old new before after (inl ((unanswered, known), same, quiet, rest)) other =
       inl (refused_other unanswered.cause, same, quiet)
     where
-      refused_other : ⊥ ⊎ IsRefused g before fault after → fault ≢ Output
-      refused_other (inl none) = absurd none
+      refused_other : (⊥ × IsOnlyRead g before after) ⊎ IsRefused g before fault after → fault ≢ Output
+      refused_other (inl (none, read)) = absurd none
       refused_other (inr refused) = other_as fault _ refused.told_is (store_other refused.fault)
   over_written args logins g served closed old new before after (inr opened) other =
       asked_written args opened.keeper.register.staff logins opened.keeper opened.left served closed old new opened.serves other

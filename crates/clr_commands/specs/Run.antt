@@ -24,7 +24,7 @@ use Rattle.clr_args.specs.declared.asked.RunArgs.{RunArgs}
 use Rattle.clr_args.specs.declared.asked.RunArgs.TheVariants as over
 use Rattle.clr_args.specs.declared.asked.StoredArgs.{StoredArgs}
 use Rattle.clr_edge.specs.Answers.{unless}
-use Rattle.clr_edge.specs.Database.{HasRegister, IsOfLine, IsOnlyRead}
+use Rattle.clr_edge.specs.Database.{HasRegister, IsOfLine, IsOnlyRead, ReadsAs}
 use Rattle.clr_edge.specs.TakenUp.{GoThrough, IsNotTakenUp, IsTakenUp, Logs}
 use Rattle.clr_edge.specs.Visit.{Alone, Comes, Done, Ending, Opening, Shutting}
 use Rattle.clr_edge.specs.Fault.{of_network, of_staff}
@@ -126,6 +126,7 @@ pub record RunsIn {T : Type 0} (g : Ghosts T) (before after : Held T) (input : O
   pub good : IsGood register
   pub is_register : (R : Register) → HasRegister g R before → HasCleanDisk (state g opened)
       → register ≡ R
+  pub reads : ReadsAs g before opened register
   pub left : Register
   pub bytes : List ℕ
   pub is_input : IsInput input bytes

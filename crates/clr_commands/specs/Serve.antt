@@ -17,7 +17,7 @@ use Rattle.clr_journaled.specs.declared.journaled.Journaled.{Journaled}
 use Rattle.clr_http.specs.Registrar.{Keeper}
 use Rattle.clr_http.specs.RequestLaws.{ComesWithin}
 use Rattle.clr_args.specs.declared.asked.ServeArgs.{ServeArgs}
-use Rattle.clr_edge.specs.Database.{HasRegister, IsOfLine, IsOnlyRead}
+use Rattle.clr_edge.specs.Database.{HasRegister, IsOfLine, IsOnlyRead, ReadsAs}
 use Rattle.clr_edge.specs.TakenUp.{GoThrough, IsNotTakenUp, IsTakenUp, Logs}
 use Rattle.clr_edge.specs.Loopback.{RefusesOn, StandsOn}
 use Rattle.clr_edge.specs.Visit.{Comes, Done, Ending, Opening, Shutting, both}
@@ -77,6 +77,7 @@ module _ {M L R W : Type 0} (net : loopback.Ghosts M L R W) (seen : Seen R W) (a
     pub good : IsGood keeper.register
     pub is_register : (R : Register) → HasRegister g R before → HasCleanDisk (state g opened)
         → keeper.register ≡ R
+    pub reads : ReadsAs g before opened keeper.register
     pub left : Keeper
     pub serves : ServesOn net seen output output' errors errors'
         (terms_of args keeper.register.staff logins) keeper left served old new

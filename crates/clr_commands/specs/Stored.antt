@@ -1,16 +1,18 @@
 -- What `board` and `order` print of registers that databases have, and why nothing is printed.
-use Rattle.std.specs.Prelude.{◌≡◌, ◌⊎◌, ℕ, IfErr, List, Ok, OnOk, Result, String}
+use Rattle.std.specs.Prelude.{◌≡◌, ◌⊎◌, ℕ, IfErr, IfOk, List, Ok, OnOk, Result, String}
+use Rattle.std.specs.Prelude.{string_bytes}
 use Rattle.std.specs.declared.alloc.Global.{Global}
 use Rattle.sqlite.specs.Files.{over_files}
 use Rattle.sqlite.specs.Held.{Held, state}
 use Rattle.sqlite.specs.State.{HasCleanDisk, Survives}
 use Rattle.sqlite_disk.specs.declared.Disk as disk
 use Rattle.sqlite_trees.specs.declared.store.Store.{Ghosts}
+use Rattle.clr_rules.specs.Good.{IsGood}
 use Rattle.clr_rules.specs.Register.{Register}
 use Rattle.clr_print.specs.Printed.{board_text}
 use Rattle.clr_args.specs.declared.asked.BoardArgs.{BoardArgs}
 use Rattle.clr_args.specs.declared.asked.OrderArgs.{OrderArgs}
-use Rattle.clr_edge.specs.Database.{HasRegister, IsOfLine, IsOnlyRead, IsRefused}
+use Rattle.clr_edge.specs.Database.{HasRegister, IsOfLine, IsOnlyRead, IsRefused, ReadsAs}
 use Rattle.clr_edge.specs.Visit.{Alone, Done, Over}
 use Rattle.clr_edge.specs.declared.fault.Fault.{Fault}
 use Rattle.clr_edge.specs.declared.fault.Fault.TheVariants.{Memory, NoSuch}
@@ -21,20 +23,24 @@ use Rattle.clr_commands.specs.Order.{order_asked_for}
 abbrev pub IsOfOrder : Fault → Type 0
 IsOfOrder fault = (fault ≡ Memory) ⊎ (fault ≡ NoSuch)
 
--- WHY NOTHING CAME OF A DATABASE that was opened: a fault of the subcommand's own, or the one with
--- which the tables were refused. The database was not changed: a crash leaves what it left before.
+-- WHY NOTHING CAME OF A DATABASE that was opened: a fault of the subcommand's own, once its register
+-- was read, or the one with which the tables were refused. The database was not changed: a crash
+-- leaves what it left before.
 pub record IsUnanswered {S : Type 0} (g : Ghosts S) (before after : Held S)
     (IsOwn : Fault → Type 0) (fault : Fault) : Type 0 where
-  pub cause : IsOwn fault ⊎ IsRefused g before fault after
+  pub cause : (IsOwn fault × IsOnlyRead g before after) ⊎ IsRefused g before fault after
   pub survives : Survives (state g before) (state g after) (λ _. ⊥)
 
 -- WHAT IS ANSWERED OF A DATABASE while it is open: of the register that it is known to have, unless
--- the database refuses or memory runs out. It was only read
+-- the database refuses or memory runs out. What is printed is of a good register that its tables
+-- read as, so nothing is printed of tables that read as none. It was only read
 pub record AnswersOf {S : Type 0} (g : Ghosts S) (IsOwn : Fault → Type 0)
     (Is : Register → Result (List ℕ) Fault → Type 0) (result : Result (String Global) Fault)
     (before after : Held S) : Type 0 where
   pub known : (R : Register) → HasRegister g R before → HasCleanDisk (state g after)
       → Prints IsOfLine (Is R) result
+  pub printed : IfOk result (λ text. (R : Register) × IsGood R × ReadsAs g before after R
+      × Is R (Ok (string_bytes text)))
   pub read : OnOk result (IsOnlyRead g before after)
   pub refused : IfErr result (IsUnanswered g before after IsOwn)
 

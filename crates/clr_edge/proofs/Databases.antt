@@ -8,7 +8,7 @@ use Rattle.clr_tables.specs.declared.table_name.TableName.{TableName}
 use Rattle.clr_tables.specs.declared.table_name.TableName.TheVariants as tables
 use Rattle.clr_book.specs.Book.{Shelved}
 use Rattle.clr_desk.specs.AtFault.{table_at_fault}
-use Rattle.clr_desk.specs.Opening.{OpensAs}
+use Rattle.clr_desk.specs.Opening.{IsRegisterOf, OpensAs}
 use Rattle.clr_desk.specs.Faults.{IsOfCommand, of_store as desk_of_store}
 use Rattle.clr_desk.specs.declared.desk_fault.DeskFault.{DeskFault}
 use Rattle.clr_desk.specs.declared.desk_fault.DeskFault.TheVariants as desk
@@ -22,12 +22,18 @@ use Rattle.clr_store.specs.Contract.{RefusesVersion}
 use Rattle.clr_store.specs.Moving.{RefusesToMove}
 use Rattle.clr_load.specs.declared.fault.StoreFault.{StoreFault}
 use Rattle.clr_load.specs.declared.fault.StoreFault.TheVariants as store
-use Rattle.clr_tables.specs.RowsRead.{read_version, rows_read}
+use Rattle.clr_tables.specs.RowsRead.{Rows, read_version, rows_read}
 use Rattle.clr_tables.specs.Tables.{Tables, tables_of}
 use Rattle.clr_edge.specs.Fault.{of_desk, of_store}
 use Rattle.clr_edge.specs.declared.fault.Fault.{Fault}
 use Rattle.clr_edge.specs.Database.{IsOfLine, IsOfStore, IsOfUnfit, RefusesTables}
 use Rattle.clr_edge.specs.Visit.{Done, both}
+
+-- tables that are opened read as rows
+pub rows_of-opened : (told : Result Rows TableName) (book : Shelved) → OpensAs (λ (b : Shelved). b.register) told (Ok book)
+    → (rows : Rows) × (told ≡ Ok rows) × IsRegisterOf rows book.register
+rows_of-opened (Ok rows) book opens = (rows, refl, opens.0)
+rows_of-opened (Err bad) book opens = absurd opens
 
 -- a fault of the desk's commands is reported as one of a line
 pub IsOfLine-of_command : (fault : DeskFault) → IsOfCommand fault → IsOfLine (of_desk fault)

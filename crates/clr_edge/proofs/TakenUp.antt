@@ -7,7 +7,7 @@ use Rattle.clr_rules.specs.Good.{IsGood}
 use Rattle.clr_rules.specs.Register.{Register}
 use Rattle.clr_desk.specs.Kept.{Keeps}
 use Rattle.clr_journaled.specs.declared.journaled.Journaled.{Journaled}
-use Rattle.clr_edge.specs.Database.{HasRegister, IsOnlyRead}
+use Rattle.clr_edge.specs.Database.{HasRegister, IsOnlyRead, ReadsAs}
 use Rattle.clr_edge.specs.Journals.{IsKept, IsOfBadLine, IsOfOpening, IsOfTakingUp, IsRedoneOver}
 use Rattle.clr_edge.specs.TakenUp.{IsNotTakenUp, IsTakenUp}
 use Rattle.clr_edge.specs.declared.fault.Fault.{Fault}
@@ -15,9 +15,9 @@ use Rattle.clr_edge.specs.declared.journals.Journals as journals
 
 module _ {M J C T : Type 0} (g : Ghosts T) (at : journals.Ghosts M J C) (path : List ℕ) (old new : M) (before opened : Held T) (R : Register)
     (read : IsOnlyRead g before opened) (good : IsGood R)
-    (is_register : (K : Register) → HasRegister g K before → HasCleanDisk (state g opened) → R ≡ K) where
+    (is_register : (K : Register) → HasRegister g K before → HasCleanDisk (state g opened) → R ≡ K) (reads : ReadsAs g before opened R) where
   abbrev kept : (after : Held T) (S : Register) → Keeps (state g opened) R (state g after) S → IsKept g before after S
-  kept after S keeps = record { opened = opened; read = read; first = R; good = good; is_register = is_register; keeps = keeps }
+  kept after S keeps = record { opened = opened; read = read; first = R; good = good; is_register = is_register; reads = reads; keeps = keeps }
 
   pub takes_up : (journal : J) (last : Option (List ℕ)) (clock : C) (it : Journaled (Held T) J C) (S : Register)
       → at.opens_journal old path journal last new → at.has_time new clock → IsRedoneOver g journal last clock opened R it S

@@ -16,7 +16,7 @@ use Rattle.clr_load.specs.declared.fault.StoreFault.{StoreFault}
 use Rattle.clr_load.specs.declared.fault.StoreFault.TheVariants.{BadRow, Sql}
 use Rattle.clr_store.specs.Contract.{RefusesVersion}
 use Rattle.clr_store.specs.Moving.{LeavesMoved, RefusesMove, RefusesToMove}
-use Rattle.clr_tables.specs.RowsRead.{read_version, rows_read}
+use Rattle.clr_tables.specs.RowsRead.{Rows, read_version, rows_read}
 use Rattle.clr_tables.specs.TableEdits.{tables_moved}
 use Rattle.clr_tables.specs.TableLaws.{HasNoJumper}
 use Rattle.clr_tables.specs.Tables.{Tables, tables_by, tables_of, version_one}
@@ -24,7 +24,7 @@ use Rattle.clr_tables.specs.TypedRows.{IsTyped}
 use Rattle.clr_tables.specs.declared.table_name.TableName.{TableName}
 use Rattle.clr_book.specs.Book.{Shelved}
 use Rattle.clr_desk.specs.AtFault.{table_at_fault}
-use Rattle.clr_desk.specs.Opening.{OpensAs}
+use Rattle.clr_desk.specs.Opening.{IsRegisterOf, OpensAs}
 use Rattle.clr_edge.specs.Fault.{of_store}
 use Rattle.clr_edge.specs.declared.fault.Fault.{Fault}
 use Rattle.clr_edge.specs.declared.fault.Fault.TheVariants.{Memory, Store}
@@ -68,6 +68,13 @@ pub record IsOnlyRead {S : Type 0} (g : Ghosts S) (before after : Held S) : Type
   pub same : HasCleanDisk (state g after) → IsTrue (state g after).is_open
       → (state g after).now ≡ (state g before).now
   pub survives : Survives (state g before) (state g after) (λ _. ⊥)
+
+-- A REGISTER IS READ FROM A DATABASE that has tables: these read as rows, and the rows give that
+-- register, where the disk is clean. So none is answered of in place of tables that give none
+abbrev pub ReadsAs : {S : Type 0} → Ghosts S → Held S → Held S → Register → Type 0
+ReadsAs g before after R = HasCleanDisk (state g after) → (t : Tables)
+    → HasTables (state g before).now t
+    → (rows : Rows) × (rows_read t ≡ Ok rows) × IsRegisterOf rows R
 
 -- the tables of a register were made in a database: where the disk is clean they are there and
 -- saved, and a crash leaves them, or what it left before

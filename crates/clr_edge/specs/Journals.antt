@@ -22,7 +22,7 @@ use Rattle.clr_journaled.specs.declared.fault.OpeningFault.{OpeningFault}
 use Rattle.clr_journaled.specs.declared.fault.OpeningFault.TheVariants as opening
 use Rattle.clr_journaled.specs.declared.journaled.Journaled.{Journaled}
 use Rattle.clr_journaled.specs.declared.last.Last.TheVariants.{Settled}
-use Rattle.clr_edge.specs.Database.{HasRegister, IsOnlyRead, IsRefused}
+use Rattle.clr_edge.specs.Database.{HasRegister, IsOnlyRead, IsRefused, ReadsAs}
 use Rattle.clr_edge.specs.Fault.{of_desk}
 use Rattle.clr_edge.specs.declared.fault.Fault.{Fault}
 use Rattle.clr_edge.specs.declared.fault.Fault.TheVariants.{Journal, Memory}
@@ -123,4 +123,5 @@ pub record IsKept {T : Type 0} (g : Ghosts T) (before after : Held T) (S : Regis
   pub good : IsGood first
   pub is_register : (R : Register) → HasRegister g R before → HasCleanDisk (state g opened)
       → first ≡ R
+  pub reads : ReadsAs g before opened first
   pub keeps : Keeps (state g opened) first (state g after) S

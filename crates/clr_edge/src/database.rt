@@ -12,7 +12,7 @@ ghost use Rattle.clr_rules.specs.Good.{IsGood};
 ghost use Rattle.clr_rules.specs.Register.{Register, opening};
 ghost use Rattle.clr_edge.specs.Database.{HasNoBytes, HasRegister, IsMade, IsMoved, IsOfLine};
 ghost use Rattle.clr_edge.specs.Database.{IsOfStore, IsOfUnfit, IsOnlyRead, IsRefused, IsShutBy};
-ghost use Rattle.clr_edge.specs.Database.{IsUnmade, IsUnmoved, size_fault};
+ghost use Rattle.clr_edge.specs.Database.{IsUnmade, IsUnmoved, ReadsAs, size_fault};
 ghost use Rattle.clr_edge.specs.Fault.{of_store};
 ghost use Rattle.clr_edge.specs.Visit.{Alone, Comes, Ends, IsLeft};
 ghost use Rattle.clr_edge.specs.Visit.{MakesRegister, MovesRegister, Over, both};
@@ -303,6 +303,8 @@ pub fn desk_over<S: Alter + Drop>(
     ensures good { IfOk result (λ desk. IsGood desk.book.register) }
     ensures register { (R : Register) → HasRegister S.Store R connection → IfOk result (λ desk.
         HasCleanDisk (state S.Store desk.store) → desk.book.register ≡ R) }
+    ensures reads { IfOk result (λ desk.
+        ReadsAs S.Store connection desk.store desk.book.register) }
     ensures read { IfOk result (λ desk. IsOnlyRead S.Store connection desk.store) }
     ensures fault { (R : Register) → HasRegister S.Store R connection → IfErr result (λ back.
         HasCleanDisk (state S.Store back.1) → IsOfLine back.0) }

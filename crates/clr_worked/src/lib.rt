@@ -14,4 +14,4 @@ pub use files::{POINTS, SECTIONS, network, staff};
 pub use register::{make_over, new_desk, new_register, opened, read_over, rows_over, run_over};
 pub use rows::are_same;
 pub use stopping::{Behind, Held, Left, Part, Work, over_files};
-pub use version_one::{move_over, old_register, written};
+pub use version_one::{move_over, old_register};

@@ -82,7 +82,7 @@ impl Work for Moving {
 
 /// What two files hold once somebody else has carried out these statements over them. The
 /// statements are right, so that any fault comes of refused memory.
-pub fn written(alloc: Global, held: &Held, statements: &str) -> Result<Held, Fail> {
+fn written(alloc: Global, held: &Held, statements: &str) -> Result<Held, Fail> {
     let writing = Writing { statements };
     let (told, behind) = over_files(alloc, held, Part::Log, u64::MAX, writing)?;
     match told {

@@ -10,7 +10,7 @@ returns-in-Ok-clause-runs g c =
     let same : c.end-in-Ok.result ≡ c.run_over-printed.new.desk.store = cc in
     RunsFrom-run g.S.Store (λ (desk : Desk (Held g.row.S.Denot)). desk.store) c.args.connection c.end-in-Ok.result c.in-Ok.desk c.run_over-printed.new.desk
     c.in-Ok.desk.book.register c.run_over-printed.new.desk.book.register _ c.run_over-printed.result c.in-Ok.ensures.read
-    c.in-Ok.ensures.good c.in-Ok.ensures.register same c.run_over-printed.ensures.answer c.run_over-printed.ensures.none
+    c.in-Ok.ensures.good c.in-Ok.ensures.register c.in-Ok.ensures.reads same c.run_over-printed.ensures.answer c.run_over-printed.ensures.none
 
 pub returns-in-Ok-clause-input : goal.returns-in-Ok-clause-input
 returns-in-Ok-clause-input g c =

@@ -31,6 +31,7 @@ returns-in-Ok g c =
         keeper = first;
         good = c.in-Ok.ensures.good;
         is_register = c.in-Ok.ensures.register;
+        reads = c.in-Ok.ensures.reads;
         left = last;
         serves = serves;
         goes_on = asked_within g.L.Loopback (seen g.L.Reader.Read.remaining g.L.Reader.CountedRead.failure_count g.L.Writer.CountedWrite.stream)

@@ -4,7 +4,7 @@ use Rattle.sqlite.specs.State.{HasCleanDisk}
 use Rattle.clr_book.specs.Book.{Shelved}
 use Rattle.clr_rules.specs.Register.{Register}
 use Rattle.clr_rules.specs.IdText.{read_id}
-use Rattle.clr_edge.specs.Database.{IsOnlyRead}
+use Rattle.clr_edge.specs.Database.{IsOnlyRead, ReadsAs}
 use Rattle.clr_commands.specs.Answers.{GivesText, IsMemory}
 use Rattle.clr_commands.specs.WayBack.{IsOfWayBack, way_back_asked_for}
 use Rattle.clr_commands.proofs.Databases.{PrintsOf-read, PrintsOf-refused}
@@ -20,6 +20,7 @@ returns-in-Ok-clause-printed g c =
     PrintsOf-read g.S.Store (λ fault. IsOfWayBack fault) (λ (Q : Register). way_back_asked_for Q c.args.args.now) c.wayback_of-printed.result
     c.args.connection c.end.result c.in-Ok.desk.book.register
     (λ R has clean. c.in-Ok.ensures.register R has (subst (λ (h : Held g.row.S.Denot). HasCleanDisk (state g.S.Store h)) same clean))
+    c.in-Ok.ensures.good (subst (λ (h : Held g.row.S.Denot). ReadsAs g.S.Store c.args.connection h c.in-Ok.desk.book.register) (sym same) c.in-Ok.ensures.reads)
     (subst (λ (h : Held g.row.S.Denot). IsOnlyRead g.S.Store c.args.connection h) (sym same) c.in-Ok.ensures.read)
     (subst (λ (Q : Register). GivesText IsMemory (way_back_asked_for Q c.args.args.now) c.wayback_of-printed.result) register
     c.wayback_of-printed.ensures.answer)

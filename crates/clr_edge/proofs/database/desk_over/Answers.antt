@@ -12,7 +12,7 @@ use Rattle.clr_edge.specs.Database.{IsOfLine, IsRefused}
 use Rattle.clr_edge.specs.Fault.{of_desk}
 use Rattle.clr_edge.proofs.Databases.{IsOfCommand-shut, IsOfLine-of_command, IsOfLine-of_version, IsOfLine-unfit}
 use Rattle.clr_edge.proofs.Databases.{RefusesTables-unfit, RefusesVersion-of_command, SqlHasCause-unfit}
-use Rattle.clr_edge.proofs.Databases.{of_desk-of_store, survives_on, was_clean}
+use Rattle.clr_edge.proofs.Databases.{of_desk-of_store, rows_of-opened, survives_on, was_clean}
 use Rattle.clr_desk.specs.Faults.{IsOfCommand}
 use Rattle.clr_edge.proofs.database.desk_over.Goals as goal
 
@@ -28,6 +28,12 @@ returns-in-Ok-expect_good-clause-register g c R known clean =
     let was_open = c.in-Ok-open.ensures.was_open clean in
     let same = c.in-Ok.ensures.opened (was_clean _ _ _ c.in-Ok-open.ensures.survives clean) was_open in
     c.in-Ok-open.ensures.again clean R known.good (subst (λ db. HasTables db (tables_of R)) (sym same) known.tables)
+
+-- and so of any tables
+pub returns-in-Ok-expect_good-clause-reads : goal.returns-in-Ok-expect_good-clause-reads
+returns-in-Ok-expect_good-clause-reads g c clean t has =
+    let same = c.in-Ok.ensures.opened (was_clean _ _ _ c.in-Ok-open.ensures.survives clean) (c.in-Ok-open.ensures.was_open clean) in
+    rows_of-opened _ c.in-Ok-open.desk.book (c.in-Ok-open.ensures.opened clean t (subst (λ db. HasTables db t) (sym same) has))
 
 pub returns-in-Err-open-clause-fault : goal.returns-in-Err-open-clause-fault
 returns-in-Err-open-clause-fault g c R known clean_back =
