@@ -19,6 +19,7 @@ use Rattle.clr_http.specs.Registrar.{Keeper}
 use Rattle.clr_http.specs.Response.{Content, response_bytes}
 use Rattle.clr_http.specs.Served.{IsWritten}
 use Rattle.clr_http.specs.declared.options.Service.{Service}
+use Rattle.clr_http.specs.declared.registrar.Registrar as registrar
 use Rattle.clr_http.specs.declared.serve.HttpFault.{HttpFault}
 use Rattle.clr_http.specs.declared.serve.HttpFault.TheVariants.{NoMemory, ReadFailed, WriteFailed}
 use Rattle.clr_http.specs.declared.serve.Served.{Served}
@@ -85,87 +86,87 @@ run_step R S (Some q) later response others reply rest = record {
       (own_replies d (commands_asked later) (replies (after R q) (commands_asked later))) (rest.texts d));
 }
 
-module _ {M L R W : Type 0} (net : loopback.Ghosts M L R W) (seen : Seen R W) (terms : Terms) (listener : L) where
-  next_carries : (number : ℕ) (k k' : Keeper) (errors errors' : Stream) (old new : M)
-      → TakesNext net seen terms listener number k k' errors errors' old new → IsGood k.register
-      → (carried : Option Command) × (response : List ℕ) × CarriesNext net seen terms listener number k k' errors errors' old new carried response
+module _ {D M L R W : Type 0} (by : registrar.Ghosts D) (net : loopback.Ghosts M L R W) (seen : Seen R W) (terms : Terms) (listener : L) where
+  next_carries : (number : ℕ) (k k' : D) (errors errors' : Stream) (old new : M)
+      → TakesNext by net seen terms listener number k k' errors errors' old new → IsGood (by.keeper k).register
+      → (carried : Option Command) × (response : List ℕ) × CarriesNext by net seen terms listener number k k' errors errors' old new carried response
   next_carries number k k' errors errors' old new (inl it) good =
-      let (carried, response, out) = one_carries _ _ k k' _ _ it.served.0 (it.served.1.carries good) in (carried, response, inl (it, out))
+      let (carried, response, out) = one_carries _ _ (by.keeper k) (by.keeper k') _ _ it.served.0 (it.served.1.carries good) in (carried, response, inl (it, out))
   next_carries number k k' errors errors' old new (inr missed) good = (None, [], inr (missed, refl, refl))
 
-  next_good : (number : ℕ) (k k' : Keeper) (errors errors' : Stream) (old new : M)
-      → TakesNext net seen terms listener number k k' errors errors' old new → IsGood k.register → IsGood k'.register
+  next_good : (number : ℕ) (k k' : D) (errors errors' : Stream) (old new : M)
+      → TakesNext by net seen terms listener number k k' errors errors' old new → IsGood (by.keeper k).register → IsGood (by.keeper k').register
   next_good number k k' errors errors' old new (inl it) good = it.served.1.good good
-  next_good number k k' errors errors' old new (inr (kind, missed, kept, reported)) good = subst (λ (x : Keeper). IsGood x.register) (sym kept) good
+  next_good number k k' errors errors' old new (inr (kind, missed, kept, reported)) good = subst (λ (x : D). IsGood (by.keeper x).register) (sym kept) good
 
-  first_good : (n : ℕ) (k k' : Keeper) (errors errors' : Stream) (old new : M)
-      → TakesFirst net seen terms listener n k k' errors errors' old new → IsGood k.register → IsGood k'.register
+  first_good : (n : ℕ) (k k' : D) (errors errors' : Stream) (old new : M)
+      → TakesFirst by net seen terms listener n k k' errors errors' old new → IsGood (by.keeper k).register → IsGood (by.keeper k').register
   unfolding TakesFirst
-  first_good zero k k' errors errors' old new (same, kept, quiet) good = subst (λ (x : Keeper). IsGood x.register) (sym kept) good
+  first_good zero k k' errors errors' old new (same, kept, quiet) good = subst (λ (x : D). IsGood (by.keeper x).register) (sym kept) good
   first_good (suc n) k k' errors errors' old new (middle, between, reported, first, next) good =
       next_good (n + 1) between k' reported errors' middle new next (first_good n k between errors reported old middle first good)
 
-  record Carried (n : ℕ) (k k' : Keeper) (errors errors' : Stream) (old new : M) : Type 0 where
+  record Carried (n : ℕ) (k k' : D) (errors errors' : Stream) (old new : M) : Type 0 where
     carried : List (Option Command)
     responses : List (List ℕ)
-    each : CarriesAll net seen terms listener 1 k k' errors errors' old new carried responses
+    each : CarriesAll by net seen terms listener 1 k k' errors errors' old new carried responses
     count : length carried ≡ n
 
   -- the first connections, and then the others: what all of them carry out
-  first_carries : (n m : ℕ) (k k' l : Keeper) (errors errors' last : Stream) (old new end : M) (later : List (Option Command)) (others : List (List ℕ))
-      → TakesFirst net seen terms listener n k k' errors errors' old new → IsGood k.register
-      → CarriesAll net seen terms listener (n + 1) k' l errors' last new end later others → length later + n ≡ m
+  first_carries : (n m : ℕ) (k k' l : D) (errors errors' last : Stream) (old new end : M) (later : List (Option Command)) (others : List (List ℕ))
+      → TakesFirst by net seen terms listener n k k' errors errors' old new → IsGood (by.keeper k).register
+      → CarriesAll by net seen terms listener (n + 1) k' l errors' last new end later others → length later + n ≡ m
       → Carried m k l errors last old end
   unfolding TakesFirst CarriesAll
   first_carries zero m k k' l errors errors' last old new end later others (same, kept, quiet) good rest count =
-      let at_keeper : CarriesAll net seen terms listener 1 k l errors' last new end later others =
-      subst (λ (x : Keeper). CarriesAll net seen terms listener 1 x l errors' last new end later others) kept rest in
-      let at_stream : CarriesAll net seen terms listener 1 k l errors last new end later others =
-      subst (λ (x : Stream). CarriesAll net seen terms listener 1 k l x last new end later others) quiet at_keeper in
+      let at_keeper : CarriesAll by net seen terms listener 1 k l errors' last new end later others =
+      subst (λ (x : D). CarriesAll by net seen terms listener 1 x l errors' last new end later others) kept rest in
+      let at_stream : CarriesAll by net seen terms listener 1 k l errors last new end later others =
+      subst (λ (x : Stream). CarriesAll by net seen terms listener 1 k l x last new end later others) quiet at_keeper in
       record {
         carried = later;
         responses = others;
-        each = subst (λ (x : M). CarriesAll net seen terms listener 1 k l errors last x end later others) same at_stream;
+        each = subst (λ (x : M). CarriesAll by net seen terms listener 1 k l errors last x end later others) same at_stream;
         count = omega (arith, count);
       }
   first_carries (suc n) m k k' l errors errors' last old new end later others (middle, between, reported, first, next) good rest count =
       let good_between = first_good n k between errors reported old middle first good in
       let (carried, response, step) = next_carries (n + 1) between k' reported errors' middle new next good_between in
       let number : suc n + 1 ≡ n + 1 + 1 = omega arith in
-      let after : CarriesAll net seen terms listener (n + 1 + 1) k' l errors' last new end later others =
-      subst (λ (x : ℕ). CarriesAll net seen terms listener x k' l errors' last new end later others) number rest in
+      let after : CarriesAll by net seen terms listener (n + 1 + 1) k' l errors' last new end later others =
+      subst (λ (x : ℕ). CarriesAll by net seen terms listener x k' l errors' last new end later others) number rest in
       first_carries n m k between l errors reported last old middle end (carried ∷ later) (response ∷ others) first good
       (new, k', errors', step, after) (omega (arith, count))
 
-  all_run : (number : ℕ) (k k' : Keeper) (errors errors' : Stream) (old new : M) (carried : List (Option Command)) (responses : List (List ℕ))
-      → CarriesAll net seen terms listener number k k' errors errors' old new carried responses → Runs k.register carried responses k'.register
+  all_run : (number : ℕ) (k k' : D) (errors errors' : Stream) (old new : M) (carried : List (Option Command)) (responses : List (List ℕ))
+      → CarriesAll by net seen terms listener number k k' errors errors' old new carried responses → Runs (by.keeper k).register carried responses (by.keeper k').register
   unfolding CarriesAll commands_asked after_all own_among replies own_replies
-  all_run number k k' errors errors' old new [] [] (same, kept, quiet) = record { register = ap (λ (x : Keeper). x.register) kept; texts = λ c. refl }
+  all_run number k k' errors errors' old new [] [] (same, kept, quiet) = record { register = ap (λ (x : D). (by.keeper x).register) kept; texts = λ c. refl }
   all_run number k k' errors errors' old new (command ∷ later) (response ∷ others) (middle, between, reported, step, rest) =
       let more = all_run (number + 1) between k' reported errors' middle new later others rest in
       let one = left_by number k between errors reported old middle command response step in
-      run_step k.register k'.register command later response others one.1 (subst (λ (X : Register). Runs X later others k'.register) one.0 more)
+      run_step (by.keeper k).register (by.keeper k').register command later response others one.1 (subst (λ (X : Register). Runs X later others (by.keeper k').register) one.0 more)
     where
-      left_by : (number : ℕ) (k k' : Keeper) (errors errors' : Stream) (old new : M) (command : Option Command) (response : List ℕ)
-          → CarriesNext net seen terms listener number k k' errors errors' old new command response
-          → (k'.register ≡ after_all k.register (with_asked command [])) × HasReply k.register command response
+      left_by : (number : ℕ) (k k' : D) (errors errors' : Stream) (old new : M) (command : Option Command) (response : List ℕ)
+          → CarriesNext by net seen terms listener number k k' errors errors' old new command response
+          → ((by.keeper k').register ≡ after_all (by.keeper k).register (with_asked command [])) × HasReply (by.keeper k).register command response
       left_by number k k' errors errors' old new command response (inl (it, out)) = (out.left, out.reply)
-      left_by number k k' errors errors' old new None response (inr ((kind, missed, kept, reported), none, empty)) = (ap (λ (x : Keeper). x.register) kept, tt)
+      left_by number k k' errors errors' old new None response (inr ((kind, missed, kept, reported), none, empty)) = (ap (λ (x : D). (by.keeper x).register) kept, tt)
       left_by number k k' errors errors' old new (Some q) response (inr (missed, none, empty)) = cc none
   all_run number k k' errors errors' old new [] (response ∷ others) all = absurd all
   all_run number k k' errors errors' old new (command ∷ later) [] all = absurd all
 
   -- WHAT THE FIRST CONNECTIONS CARRY OUT IS A RUN
-  connections_have_run : RunsChangeNoReply → RunsTakeNothing → RunsStandAlone → (n : ℕ) (k k' : Keeper) (errors errors' : Stream) (old new : M)
-      → TakesFirst net seen terms listener n k k' errors errors' old new → IsGood k.register
-      → ConnectionsHaveRun net seen terms listener n k k' errors errors' old new
+  connections_have_run : RunsChangeNoReply → RunsTakeNothing → RunsStandAlone → (n : ℕ) (k k' : D) (errors errors' : Stream) (old new : M)
+      → TakesFirst by net seen terms listener n k k' errors errors' old new → IsGood (by.keeper k).register
+      → ConnectionsHaveRun by net seen terms listener n k k' errors errors' old new
   unfolding CarriesAll
   connections_have_run same nothing alone n k k' errors errors' old new taken good =
-      let none : CarriesAll net seen terms listener (n + 1) k' k' errors' errors' new new [] [] = (refl, refl, refl) in
+      let none : CarriesAll by net seen terms listener (n + 1) k' k' errors' errors' new new [] [] = (refl, refl, refl) in
       let all = first_carries n n k k' k' errors errors' errors' old new new [] [] taken good none (omega arith) in
       let here = all_run 1 k k' errors errors' old new all.carried all.responses all.each in
-      let told = replies k.register (commands_asked all.carried) in
-      let run : IsRun k.register (commands_asked all.carried) told k'.register = record { replied = refl; register = here.register } in
+      let told = replies (by.keeper k).register (commands_asked all.carried) in
+      let run : IsRun (by.keeper k).register (commands_asked all.carried) told (by.keeper k').register = record { replied = refl; register = here.register } in
       record {
         carried = all.carried;
         responses = all.responses;
@@ -173,18 +174,18 @@ module _ {M L R W : Type 0} (net : loopback.Ghosts M L R W) (seen : Seen R W) (t
         count = all.count;
         told = told;
         run = record { run = run; responses_are = here.texts };
-        headline = same k.register (commands_asked all.carried) told k'.register run;
-        untouched = nothing k.register (commands_asked all.carried);
-        alone = alone k.register (commands_asked all.carried) told k'.register run;
+        headline = same (by.keeper k).register (commands_asked all.carried) told (by.keeper k').register run;
+        untouched = nothing (by.keeper k).register (commands_asked all.carried);
+        alone = alone (by.keeper k).register (commands_asked all.carried) told (by.keeper k').register run;
       }
 
   -- and so it is once all were taken
-  pub all_have_run : RunsChangeNoReply → RunsTakeNothing → RunsStandAlone → (n count : ℕ) → n ≤ count → count ≤ n → (k k' : Keeper) (errors errors' : Stream)
-      (old new : M) → TakesFirst net seen terms listener n k k' errors errors' old new → IsGood k.register
-      → ConnectionsHaveRun net seen terms listener count k k' errors errors' old new
+  pub all_have_run : RunsChangeNoReply → RunsTakeNothing → RunsStandAlone → (n count : ℕ) → n ≤ count → count ≤ n → (k k' : D) (errors errors' : Stream)
+      (old new : M) → TakesFirst by net seen terms listener n k k' errors errors' old new → IsGood (by.keeper k).register
+      → ConnectionsHaveRun by net seen terms listener count k k' errors errors' old new
   all_have_run same nothing alone n count most all k k' errors errors' old new taken good =
       let end : n ≡ count = omega (arith, most, all) in
-      subst (λ (x : ℕ). ConnectionsHaveRun net seen terms listener x k k' errors errors' old new) end
+      subst (λ (x : ℕ). ConnectionsHaveRun by net seen terms listener x k k' errors errors' old new) end
       (connections_have_run same nothing alone n k k' errors errors' old new taken good)
 
 -- ---- two runs

@@ -7,7 +7,7 @@ use Rattle.clr_rules.specs.Good.{IsGood}
 use Rattle.clr_rules.specs.Register.{Register}
 use Rattle.clr_rules.specs.Run.{after_all}
 use Rattle.clr_rules.proofs.keeps.EveryKind.{runs_keep_good}
-use Rattle.clr_http.specs.Registrar.{Keeper}
+use Rattle.clr_http.specs.declared.registrar.Registrar as registrar
 use Rattle.clr_http.specs.RequestLaws.{ComesWithin}
 use Rattle.clr_http.proofs.RequestRuns.{carried_one, comes_further}
 use Rattle.clr_http.specs.declared.serve.HttpFault.{HttpFault}
@@ -33,82 +33,82 @@ none_within n R Q e = ([], omega arith, e)
 within_good : (n : ℕ) (R Q : Register) → ComesWithin n R Q → IsGood R → IsGood Q
 within_good n R Q (commands, few, e) good = subst IsGood (sym e) (runs_keep_good R commands good)
 
-module _ {M L R W : Type 0} (net : loopback.Ghosts M L R W) (seen : Seen R W) (terms : Terms) (listener : L) where
+module _ {D M L R W : Type 0} (by : registrar.Ghosts D) (net : loopback.Ghosts M L R W) (seen : Seen R W) (terms : Terms) (listener : L) where
   -- before the first connection nothing was done
-  pub first_taken : (k : Keeper) (errors : Stream) (old : M) → TakesFirst net seen terms listener 0 k k errors errors old old
+  pub first_taken : (k : D) (errors : Stream) (old : M) → TakesFirst by net seen terms listener 0 k k errors errors old old
   unfolding TakesFirst
   first_taken k errors old = (refl, refl, refl)
 
-  taken_after : (n : ℕ) (k between k' : Keeper) (errors reported errors' : Stream) (old middle new : M)
-      → TakesFirst net seen terms listener n k between errors reported old middle
-      → TakesNext net seen terms listener (n + 1) between k' reported errors' middle new
-      → TakesFirst net seen terms listener (suc n) k k' errors errors' old new
+  taken_after : (n : ℕ) (k between k' : D) (errors reported errors' : Stream) (old middle new : M)
+      → TakesFirst by net seen terms listener n k between errors reported old middle
+      → TakesNext by net seen terms listener (n + 1) between k' reported errors' middle new
+      → TakesFirst by net seen terms listener (suc n) k k' errors errors' old new
   unfolding TakesFirst
   taken_after n k between k' errors reported errors' old middle new first next = (middle, between, reported, first, next)
 
   -- one connection more
-  pub next_taken : (n : ℕ) (k between k' : Keeper) (errors reported errors' : Stream) (old middle new : M)
-      → TakesFirst net seen terms listener n k between errors reported old middle
-      → TakesNext net seen terms listener (n + 1) between k' reported errors' middle new
-      → TakesFirst net seen terms listener (n + 1) k k' errors errors' old new
+  pub next_taken : (n : ℕ) (k between k' : D) (errors reported errors' : Stream) (old middle new : M)
+      → TakesFirst by net seen terms listener n k between errors reported old middle
+      → TakesNext by net seen terms listener (n + 1) between k' reported errors' middle new
+      → TakesFirst by net seen terms listener (n + 1) k k' errors errors' old new
   next_taken n k between k' errors reported errors' old middle new first next =
-      let P : ℕ → Type 0 = λ m. TakesFirst net seen terms listener m k k' errors errors' old new in
+      let P : ℕ → Type 0 = λ m. TakesFirst by net seen terms listener m k k' errors errors' old new in
       let e : suc n ≡ n + 1 = omega arith in
       subst P e (taken_after n k between k' errors reported errors' old middle new first next)
 
-  next_follows : (number : ℕ) (k k' : Keeper) (errors errors' : Stream) (old new : M)
-      → TakesNext net seen terms listener number k k' errors errors' old new → IsGood k.register → ComesWithin 1 k.register k'.register
+  next_follows : (number : ℕ) (k k' : D) (errors errors' : Stream) (old new : M)
+      → TakesNext by net seen terms listener number k k' errors errors' old new → IsGood (by.keeper k).register → ComesWithin 1 (by.keeper k).register (by.keeper k').register
   next_follows number k k' errors errors' old new (inl answers) good =
-      let (served, answered, reported) = answers.served in
-      carried_one _ k k' _ _ served (answered.carries good)
+      let (served, answered, put, reported) = answers.served in
+      carried_one _ (by.keeper k) (by.keeper k') _ _ served (answered.carries good)
   next_follows number k k' errors errors' old new (inr (kind, missed, kept, reported)) good =
-      none_within 1 k.register k'.register (ap (λ (it : Keeper). it.register) kept)
+      none_within 1 (by.keeper k).register (by.keeper k').register (ap (λ (it : D). (by.keeper it).register) kept)
 
   -- the first connections lead to the register by as many commands at most
-  first_within : (n : ℕ) (k k' : Keeper) (errors errors' : Stream) (old new : M)
-      → TakesFirst net seen terms listener n k k' errors errors' old new → IsGood k.register → ComesWithin n k.register k'.register
+  first_within : (n : ℕ) (k k' : D) (errors errors' : Stream) (old new : M)
+      → TakesFirst by net seen terms listener n k k' errors errors' old new → IsGood (by.keeper k).register → ComesWithin n (by.keeper k).register (by.keeper k').register
   unfolding TakesFirst
   first_within zero k k' errors errors' old new (same, kept, quiet) good =
-      none_within 0 k.register k'.register (ap (λ (it : Keeper). it.register) kept)
+      none_within 0 (by.keeper k).register (by.keeper k').register (ap (λ (it : D). (by.keeper it).register) kept)
   first_within (suc n) k k' errors errors' old new (middle, between, reported, first, next) good =
       let far = first_within n k between errors reported old middle first good in
-      comes_further n (suc n) k.register between.register k'.register far
-      (next_follows (n + 1) between k' reported errors' middle new next (within_good n k.register between.register far good))
+      comes_further n (suc n) (by.keeper k).register (by.keeper between).register (by.keeper k').register far
+      (next_follows (n + 1) between k' reported errors' middle new next (within_good n (by.keeper k).register (by.keeper between).register far good))
       (omega arith)
 
 -- and so does a server, whatever it came to
-pub server_within : {M L R W : Type 0} (net : loopback.Ghosts M L R W) (seen : Seen R W) (terms : Terms)
-    (output output' errors errors' : Stream) (k k' : Keeper) (served : Done) (old new : M)
-    → ServesKeeper net seen output output' errors errors' terms k k' served old new
-    → IsGood k.register → ComesWithin terms.count k.register k'.register
-server_within net seen terms output output' errors errors' k k' (Ok value) old new (listener, middle, stands, went, taken, run) good =
-    first_within net seen terms listener terms.count k k' errors errors' middle new taken good
-server_within net seen terms output output' errors errors' k k' (Err fault) old new (kept, quiet, rest) good =
-    none_within terms.count k.register k'.register (ap (λ (it : Keeper). it.register) kept)
+pub server_within : {D M L R W : Type 0} (by : registrar.Ghosts D) (net : loopback.Ghosts M L R W) (seen : Seen R W) (terms : Terms)
+    (output output' errors errors' : Stream) (k k' : D) (served : Done) (old new : M)
+    → ServesKeeper by net seen output output' errors errors' terms k k' served old new
+    → IsGood (by.keeper k).register → ComesWithin terms.count (by.keeper k).register (by.keeper k').register
+server_within by net seen terms output output' errors errors' k k' (Ok value) old new (listener, middle, stands, went, taken, run) good =
+    first_within by net seen terms listener terms.count k k' errors errors' middle new taken good
+server_within {D = D} by net seen terms output output' errors errors' k k' (Err fault) old new (kept, quiet, rest) good =
+    none_within terms.count (by.keeper k).register (by.keeper k').register (ap (λ (it : D). (by.keeper it).register) kept)
 
 -- and so does one that is asked for, whose logins the staff may lack
-pub asked_within : {M L R W : Type 0} (net : loopback.Ghosts M L R W) (seen : Seen R W) (args : ServeArgs) (logins : Option (List LoginRow))
-    (output output' errors errors' : Stream) (k k' : Keeper) (served : Done) (old new : M)
-    → ServesOn net seen output output' errors errors' (terms_of args k.register.staff logins) k k' served old new
-    → IsGood k.register → ComesWithin args.count k.register k'.register
-asked_within net seen args None output output' errors errors' k k' served old new serves good =
-    server_within net seen (terms_with args None) output output' errors errors' k k' served old new serves good
-asked_within net seen args (Some rows) output output' errors errors' k k' served old new serves good =
-    of (known_logins k.register.staff rows) serves
+pub asked_within : {D M L R W : Type 0} (by : registrar.Ghosts D) (net : loopback.Ghosts M L R W) (seen : Seen R W) (args : ServeArgs) (logins : Option (List LoginRow))
+    (output output' errors errors' : Stream) (k k' : D) (served : Done) (old new : M)
+    → ServesOn by net seen output output' errors errors' (terms_of args (by.keeper k).register.staff logins) k k' served old new
+    → IsGood (by.keeper k).register → ComesWithin args.count (by.keeper k).register (by.keeper k').register
+asked_within by net seen args None output output' errors errors' k k' served old new serves good =
+    server_within by net seen (terms_with args None) output output' errors errors' k k' served old new serves good
+asked_within {D = D} by net seen args (Some rows) output output' errors errors' k k' served old new serves good =
+    of (known_logins (by.keeper k).register.staff rows) serves
   where
     of : (known : Result (List LoginRow) Fault)
-        → ServesOn net seen output output' errors errors' (known >>= (λ rows. Ok (terms_with args (Some rows)))) k k' served old new
-        → ComesWithin args.count k.register k'.register
-    of (Ok rows) serves = server_within net seen (terms_with args (Some rows)) output output' errors errors' k k' served old new serves good
-    of (Err fault) (kept, unserved) = none_within args.count k.register k'.register (ap (λ (it : Keeper). it.register) kept)
+        → ServesOn by net seen output output' errors errors' (known >>= (λ rows. Ok (terms_with args (Some rows)))) k k' served old new
+        → ComesWithin args.count (by.keeper k).register (by.keeper k').register
+    of (Ok rows) serves = server_within by net seen (terms_with args (Some rows)) output output' errors errors' k k' served old new serves good
+    of (Err fault) (kept, unserved) = none_within args.count (by.keeper k).register (by.keeper k').register (ap (λ (it : D). (by.keeper it).register) kept)
 
 -- a server whose line could not be written
-pub server_cut : {M L R W : Type 0} (net : loopback.Ghosts M L R W) (seen : Seen R W) (terms : Terms) (output output' errors : Stream)
-    (k : Keeper) (result : Done) (fault : Fault) (text : List ℕ) (listener : L) (old new : M) → IsErrAnd result (λ cause. cause ≡ fault) → fault ≡ Output
+pub server_cut : {D M L R W : Type 0} (by : registrar.Ghosts D) (net : loopback.Ghosts M L R W) (seen : Seen R W) (terms : Terms) (output output' errors : Stream)
+    (k : D) (result : Done) (fault : Fault) (text : List ℕ) (listener : L) (old new : M) → IsErrAnd result (λ cause. cause ≡ fault) → fault ≡ Output
     → StandsOn net.stands old terms.port listener new → text ≡ serving_line terms.port → IsCut output output' text
-    → ServesKeeper net seen output output' errors errors terms k k result old new
-server_cut net seen terms output output' errors k (Ok value) fault text listener old new is of_output stands same cut = absurd is
-server_cut net seen terms output output' errors k (Err cause) fault text listener old new is of_output stands same cut =
+    → ServesKeeper by net seen output output' errors errors terms k k result old new
+server_cut by net seen terms output output' errors k (Ok value) fault text listener old new is of_output stands same cut = absurd is
+server_cut by net seen terms output output' errors k (Err cause) fault text listener old new is of_output stands same cut =
     (refl, refl, inr (listener, stands, is ∙ of_output, subst (λ (t : List ℕ). IsCut output output' t) same cut))
 
 -- a connection that failed is reported

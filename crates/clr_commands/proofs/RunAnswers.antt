@@ -5,6 +5,8 @@ use Rattle.clr_stream.specs.Failures.{Rose}
 use Rattle.clr_rules.specs.Good.{IsGood}
 use Rattle.clr_rules.specs.Register.{Register}
 use Rattle.clr_desk.specs.Faults.{FailsAsStore}
+use Rattle.clr_desk.specs.Taking.{PassesOver, Taking}
+use Rattle.clr_desk.specs.declared.desk.Desk.{Desk}
 use Rattle.clr_journaled.specs.Journaling.{FailsToo}
 use Rattle.clr_journaled.specs.declared.journaled.Journaled.{Journaled}
 use Rattle.clr_load.specs.declared.fault.StoreFault.{StoreFault}
@@ -26,9 +28,10 @@ use Rattle.clr_edge.specs.declared.fault.InputFault.TheVariants.{ReadFailed}
 use Rattle.clr_edge.specs.declared.journals.Journals as journals
 use Rattle.clr_commands.specs.Answers.{Answers, IsMemory}
 use Rattle.clr_commands.specs.Faults.{FailsAsSubcommand, IsOfSubcommand}
+use Rattle.clr_commands.specs.Desks.{ThroughJournal}
 use Rattle.clr_commands.specs.Import.{FileRows}
 use Rattle.clr_commands.specs.Replies.{AnswersOver, PrintsAnswers, answers, asked_lines, readings_of}
-use Rattle.clr_commands.specs.Run.{IsOfInput, IsOpeningOf, IsRunOf, ReadsInput, RunsFrom, RunsLoggedFrom, RunsOnDesk, ended_by, printed_after, rows_fault}
+use Rattle.clr_commands.specs.Run.{IsOfInput, IsOpeningOf, IsRunOf, PutsInput, ReadsInput, RunsFrom, RunsLoggedFrom, RunsOnDesk, ended_by, printed_after, rows_fault}
 use Rattle.clr_commands.specs.declared.replies.Printed.{Printed}
 use Rattle.clr_commands.proofs.Faults.{answers_plain, input_plain, line_plain, of_store_plain, taking_up_plain}
 
@@ -50,10 +53,11 @@ ReadsInput-other input n n' before after (Err cause) fault other is same = recor
 }
 
 -- the input of a run over a desk
-pub ReadsInput-desk : {X : Type 0} (fails : DeskFault → Type 0) (old new : State) (R S : Register) (input : Option (List ℕ)) (n n' : ℕ) (before after : X) (result : Result Printed Fault)
-    → RunsOnDesk fails old new R S input result → (IsErrOf result (Input ReadFailed) → Rose n n') → ReadsInput input n n' before after result
-ReadsInput-desk fails old new R S input n n' before after (Ok printed) runs rose = record { cause = rose; waits = tt }
-ReadsInput-desk fails old new R S input n n' before after (Err fault) runs rose = record { cause = rose; waits = inr runs }
+pub ReadsInput-desk : {K X : Type 0} (fails : DeskFault → Type 0) (kept : K → State) (takes : Taking K) (old new : Desk K) (input : Option (List ℕ)) (n n' : ℕ)
+    (before after : X) (result : Result Printed Fault) → RunsOnDesk fails kept takes old new input result
+    → (IsErrOf result (Input ReadFailed) → Rose n n') → ReadsInput input n n' before after result
+ReadsInput-desk fails kept takes old new input n n' before after (Ok printed) runs rose = record { cause = rose; waits = tt }
+ReadsInput-desk fails kept takes old new input n n' before after (Err fault) runs rose = record { cause = rose; waits = inr runs }
 
 -- a fault of the store is none of the input
 pub of_store-no_input : (cause : StoreFault) (fault : Fault) → fault ≡ of_store cause → fault ≡ Input ReadFailed → ⊥
@@ -99,62 +103,69 @@ ReadsInput-closed input n n' before after printed closed result is reads =
 -- ---- over a desk
 
 -- what a run over a desk leaves in the database that the desk was opened over
-pub RunsFrom-run : {T X : Type 0} (g : Ghosts T) (store_of : X → Held T) (before after : Held T) (opened last : X) (R S : Register) (input : Option (List ℕ))
-    (result : Result Printed Fault) → IsOnlyRead g before (store_of opened) → IsGood R
-    → ((K : Register) → HasRegister g K before → HasCleanDisk (state g (store_of opened)) → R ≡ K)
-    → ReadsAs g before (store_of opened) R → after ≡ store_of last → RunsOnDesk FailsAsStore (state g (store_of opened)) (state g (store_of last)) R S input result
+pub RunsFrom-run : {T : Type 0} (g : Ghosts T) (before after : Held T) (opened last : Desk (Held T)) (input : Option (List ℕ))
+    (result : Result Printed Fault) → IsOnlyRead g before opened.store → IsGood opened.book.register
+    → ((K : Register) → HasRegister g K before → HasCleanDisk (state g opened.store) → opened.book.register ≡ K)
+    → ReadsAs g before opened.store opened.book.register → after ≡ last.store → RunsOnDesk FailsAsStore (state g) PassesOver opened last input result
     → OnErr result (last ≡ opened) → RunsFrom g input result before after
-RunsFrom-run {T} {X} g store_of before after opened last R S input (Ok printed) read good is_register reads same (bytes, is_input, answers) none = record {
-  opened = store_of opened;
+RunsFrom-run {T} g before after opened last input (Ok printed) read good is_register reads same (bytes, is_input, answers, put) none = record {
+  opened = opened.store;
   read = read;
-  register = R;
+  register = opened.book.register;
   good = good;
   is_register = is_register;
   reads = reads;
-  left = S;
+  left = last.book.register;
   bytes = bytes;
   is_input = is_input;
-  answers = subst (λ (h : Held T). AnswersOver FailsAsStore (state g (store_of opened)) (state g h) R S bytes printed) (sym same) answers;
+  answers = subst (λ (h : Held T). AnswersOver FailsAsStore (state g opened.store) (state g h) opened.book.register last.book.register bytes printed) (sym same)
+      answers;
 }
-RunsFrom-run {T} {X} g store_of before after opened last R S input (Err fault) read good is_register reads same of none =
-    let still = subst (λ (h : Held T). IsOnlyRead g before h) (sym (same ∙ ap store_of none)) read in record {
+RunsFrom-run {T} g before after opened last input (Err fault) read good is_register reads same of none =
+    let still = subst (λ (h : Held T). IsOnlyRead g before h) (sym (same ∙ ap (λ (d : Desk (Held T)). d.store) none)) read in record {
       unanswered = record { cause = inl (of, still); survives = still.survives };
       known = λ K has clean. inr of;
     }
 
 -- what a run over a desk with a journal leaves in the database
-pub RunsLoggedFrom-run : {M J C T X : Type 0} (logs : Logs M J C) (journal : List ℕ) (g : Ghosts T) (store_of : X → Journaled (Held T) J C) (old between new : M)
-    (before after : Held T) (log : J) (opened last : X) (R S : Register) (input : Option (List ℕ)) (result : Result Printed Fault) → IsGood R
-    → IsTakenUp g logs.steps journal old between before (store_of opened) R → after ≡ (store_of last).keeper
-    → log ≡ (store_of last).journal → logs.steps.lets_journal_go between log new
-    → GoThrough logs.log R (store_of opened) S (store_of last)
-    → RunsOnDesk (FailsToo FailsAsStore) (state g (store_of opened).keeper) (state g (store_of last).keeper) R S input result
+pub RunsLoggedFrom-run : {M J C T : Type 0} (logs : Logs M J C) (journal : List ℕ) (g : Ghosts T) (old between new : M) (before after : Held T)
+    (log : J) (opened last : Desk (Journaled (Held T) J C)) (input : Option (List ℕ)) (result : Result Printed Fault) → IsGood opened.book.register
+    → IsTakenUp g logs.steps journal old between before opened.store opened.book.register → after ≡ last.store.keeper
+    → log ≡ last.store.journal → logs.steps.lets_journal_go between log new
+    → GoThrough logs.log opened.book.register opened.store last.book.register last.store
+    → RunsOnDesk (FailsToo FailsAsStore) (λ (it : Journaled (Held T) J C). state g it.keeper) (ThroughJournal logs) opened last input result
     → OnErr result (last ≡ opened) → RunsLoggedFrom logs journal g input result old before after new
-RunsLoggedFrom-run {M} {J} {C} {T} {X} logs journal g store_of old between new before after log opened last R S input (Ok printed) good taken same kept gone went
-    (bytes, is_input, answers) none = record {
-      taken = store_of opened;
+RunsLoggedFrom-run {M} {J} {C} {T} logs journal g old between new before after log opened last input (Ok printed) good taken same kept gone went
+    (bytes, is_input, answers, put) none =
+    let over : (h : Held T) → Type 0 = λ h.
+    (it : AnswersOver (FailsToo FailsAsStore) (state g opened.store.keeper) (state g h) opened.book.register last.book.register bytes printed)
+    × PutsInput (ThroughJournal logs) last.book.register opened.store bytes it.told it.run.ended last.store in
+    let (all, puts) = subst over (sym same) (answers, put) in
+    record {
+      taken = opened.store;
       between = between;
-      register = R;
+      register = opened.book.register;
       good = good;
       taken_up = taken;
-      left = S;
-      ended = store_of last;
+      left = last.book.register;
+      ended = last.store;
       went = went;
       after_is = same;
       gone = subst (λ (j : J). logs.steps.lets_journal_go between j new) kept gone;
       bytes = bytes;
       is_input = is_input;
-      answers = subst (λ (h : Held T). AnswersOver (FailsToo FailsAsStore) (state g (store_of opened).keeper) (state g h) R S bytes printed) (sym same) answers;
+      answers = all;
+      put = puts;
     }
-RunsLoggedFrom-run {M} {J} {C} {T} {X} logs journal g store_of old between new before after log opened last R S input (Err fault) good taken same kept gone went of none =
+RunsLoggedFrom-run {M} {J} {C} {T} logs journal g old between new before after log opened last input (Err fault) good taken same kept gone went of none =
     inr (
       of,
-      R,
-      store_of opened,
+      opened.book.register,
+      opened.store,
       between,
       taken,
-      same ∙ ap (λ (x : X). (store_of x).keeper) none,
-      subst (λ (j : J). logs.steps.lets_journal_go between j new) (kept ∙ ap (λ (x : X). (store_of x).journal) none) gone,
+      same ∙ ap (λ (d : Desk (Journaled (Held T) J C)). d.store.keeper) none,
+      subst (λ (j : J). logs.steps.lets_journal_go between j new) (kept ∙ ap (λ (d : Desk (Journaled (Held T) J C)). d.store.journal) none) gone,
     )
 
 -- over a desk whose changes are kept nowhere, no fault but want of memory ends it
@@ -173,15 +184,15 @@ prints_memory texts ended printed cause (inl (all, same)) = subst (λ (f : Optio
 prints_memory texts ended printed cause (inr some) = subst (λ (f : Option Fault). IfSome f IsMemory) (sym some.memory) refl
 
 -- the run of rows whose opening register it is over
-pub IsRunOf-run : (old new : State) (R S : Register) (rows : FileRows) (input : Option (List ℕ)) (result : Result Printed Fault)
-    → rows_fault rows ≡ Ok tt → IsOpeningOf rows R → RunsOnDesk (λ _. ⊥) old new R S input result
+pub IsRunOf-run : {K : Type 0} (kept : K → State) (takes : Taking K) (old new : Desk K) (rows : FileRows) (input : Option (List ℕ)) (result : Result Printed Fault)
+    → rows_fault rows ≡ Ok tt → IsOpeningOf rows old.book.register → RunsOnDesk (λ _. ⊥) kept takes old new input result
     → Answers IsMemory (λ printed. printed) (IsRunOf input rows) result
-IsRunOf-run old new R S rows input (Ok printed) none opens (bytes, is_input, over) = (
+IsRunOf-run kept takes old new rows input (Ok printed) none opens (bytes, is_input, over, put) = (
   none,
-  R,
+  old.book.register,
   opens,
   record {
-    left = S;
+    left = new.book.register;
     bytes = bytes;
     told = over.told;
     is_input = is_input;
@@ -189,14 +200,14 @@ IsRunOf-run old new R S rows input (Ok printed) none opens (bytes, is_input, ove
     fault = prints_memory (answers (readings_of (asked_lines bytes)) over.told) over.run.ended printed over.run.cause over.run.prints;
   },
 )
-IsRunOf-run old new R S rows input (Err fault) none opens of = λ other. inr (none, of)
+IsRunOf-run kept takes old new rows input (Err fault) none opens of = λ other. inr (none, of)
 
 -- ---- which faults are reported
 
-pub FailsAsSubcommand-desk : (fails : DeskFault → Type 0) (old new : State) (R S : Register) (input : Option (List ℕ)) (result : Result Printed Fault)
-    → RunsOnDesk fails old new R S input result → FailsAsSubcommand result
-FailsAsSubcommand-desk fails old new R S input (Ok printed) (bytes, is_input, over) = answers_plain over.run
-FailsAsSubcommand-desk fails old new R S input (Err fault) of = input_plain input fault of
+pub FailsAsSubcommand-desk : {K : Type 0} (fails : DeskFault → Type 0) (kept : K → State) (takes : Taking K) (old new : Desk K) (input : Option (List ℕ))
+    (result : Result Printed Fault) → RunsOnDesk fails kept takes old new input result → FailsAsSubcommand result
+FailsAsSubcommand-desk fails kept takes old new input (Ok printed) (bytes, is_input, over, put) = answers_plain over.run
+FailsAsSubcommand-desk fails kept takes old new input (Err fault) of = input_plain input fault of
 
 refused_plain : {T : Type 0} (g : Ghosts T) (before after : Held T) (fault : Fault) → IsRefused g before fault after → IsOfSubcommand fault
 refused_plain g before after fault refused = subst (λ (f : Fault). IsOfSubcommand f) (sym refused.told_is) (of_store_plain refused.fault)

@@ -11,7 +11,7 @@ use Rattle.sqlite_disk.specs.declared.Files.{Files}
 use Rattle.sqlite_store.specs.declared.store.FileStore.{FileStore}
 use Rattle.sqlite_trees.specs.declared.store.Store.{Ghosts}
 use Rattle.clr_stream.specs.Streams.{IsCut, Stream, WentOut}
-use Rattle.clr_http.specs.Registrar.{Keeper}
+use Rattle.clr_http.specs.declared.registrar.Registrar as registrar
 use Rattle.clr_http.specs.declared.serve.HttpFault.{HttpFault}
 use Rattle.clr_http.specs.declared.serve.Served.{Served}
 use Rattle.clr_result.specs.Results.{◌>>=◌}
@@ -34,23 +34,24 @@ use Rattle.clr_edge.specs.declared.fault.Fault.TheVariants.{Output, UnknownEmplo
 use Rattle.clr_edge.specs.declared.journals.Journals as journals
 use Rattle.clr_edge.specs.declared.loopback.Loopback as loopback
 use Rattle.clr_commands.specs.Connections.{ReportsConnection, ReportsFirst, Seen, TakesFirst, TakesNext, accept_fault}
+use Rattle.clr_commands.specs.Desks.{over_store, with_journal}
 use Rattle.clr_commands.specs.Logins.{NamesLogins, terms_of, terms_with}
 use Rattle.clr_commands.specs.Paths.{AtPaths}
 use Rattle.clr_commands.specs.Serve.{ServesAt, ServesKeeper, ServesKept, ServesLogged, ServesLoggedPath, ServesOn, ServesOver, ServesPath, serving_line}
 use Rattle.clr_commands.specs.declared.serve.Terms.{Terms}
 use Rattle.clr_commands.proofs.Faults.{file_plain}
 
-module _ {M L R W : Type 0} (net : loopback.Ghosts M L R W) (seen : Seen R W) (terms : Terms) (listener : L) where
-  next_reported : (number : ℕ) (k k' : Keeper) (errors errors' : Stream) (old new : M)
-      → TakesNext net seen terms listener number k k' errors errors' old new → (served : Result Served HttpFault) × ReportsConnection number served errors errors'
+module _ {D M L R W : Type 0} (by : registrar.Ghosts D) (net : loopback.Ghosts M L R W) (seen : Seen R W) (terms : Terms) (listener : L) where
+  next_reported : (number : ℕ) (k k' : D) (errors errors' : Stream) (old new : M)
+      → TakesNext by net seen terms listener number k k' errors errors' old new → (served : Result Served HttpFault) × ReportsConnection number served errors errors'
   next_reported number k k' errors errors' old new (inl answers) =
-      let (served, answered, reported) = answers.served in
+      let (served, answered, put, reported) = answers.served in
       (served, reported)
   next_reported number k k' errors errors' old new (inr (kind, missed, kept, reported)) = (Err (accept_fault kind), reported)
 
   -- what is reported of connections that were taken
-  pub first_reported : (n : ℕ) (k k' : Keeper) (errors errors' : Stream) (old new : M)
-      → TakesFirst net seen terms listener n k k' errors errors' old new → ReportsFirst n errors errors'
+  pub first_reported : (n : ℕ) (k k' : D) (errors errors' : Stream) (old new : M)
+      → TakesFirst by net seen terms listener n k k' errors errors' old new → ReportsFirst n errors errors'
   unfolding TakesFirst ReportsFirst
   first_reported zero k k' errors errors' old new (same, kept, quiet) = quiet
   first_reported (suc n) k k' errors errors' old new (middle, between, reported, first, next) = (
@@ -113,19 +114,25 @@ named_other at None fault named = cc named
 named_other at (Some path) fault (Ok rows, are, e) = cc e
 named_other at (Some path) fault (Err cause, are, e) = let same : fault ≡ cause = cc e in other_as fault cause same (file_plain _ cause are.fault).0
 
-module _ {M L R W : Type 0} (net : loopback.Ghosts M L R W) (seen : Seen R W) (output output' errors errors' : Stream) where
-  keeper_written : (terms : Terms) (k k' : Keeper) (fault : Fault) (old new : M)
-      → ServesKeeper net seen output output' errors errors' terms k k' (Err fault) old new
+module _ (output output' errors errors' : Stream) where
+  unserved_written : (port count : ℕ) (fault : Fault) (result : Done) → fault ≢ Output → result ≡ Err fault → output' ≡ output → errors' ≡ errors
+      → Writes port count result output output' errors errors'
+  unserved_written port count fault result other is same quiet =
+      subst (λ (r : Done). Writes port count r output output' errors errors') (sym is) (inl (other, same, quiet))
+
+module _ {D M L R W : Type 0} (by : registrar.Ghosts D) (net : loopback.Ghosts M L R W) (seen : Seen R W) (output output' errors errors' : Stream) where
+  keeper_written : (terms : Terms) (k k' : D) (fault : Fault) (old new : M)
+      → ServesKeeper by net seen output output' errors errors' terms k k' (Err fault) old new
       → Writes terms.port terms.count (Err fault) output output' errors errors'
   keeper_written terms k k' fault old new (kept, quiet, inl ((address, kind, local, is, refuses), same)) =
       inl (other_as fault (listen_fault kind) is (listen_other kind), same, quiet)
   keeper_written terms k k' fault old new (kept, quiet, inr (listener, stands, is_output, cut)) = inr (inl (is_output, cut, quiet))
 
-  terms_written : (terms : Terms) (k k' : Keeper) (served closed : Done) (old new : M)
-      → ServesKeeper net seen output output' errors errors' terms k k' served old new
+  terms_written : (terms : Terms) (k k' : D) (served closed : Done) (old new : M)
+      → ServesKeeper by net seen output output' errors errors' terms k k' served old new
       → IfErr closed (λ fault. fault ≢ Output) → Writes terms.port terms.count (both served closed) output output' errors errors'
   terms_written terms k k' (Ok value) closed old new (listener, middle, stands, went, taken, run) other =
-      closed_written closed other (first_reported net seen terms listener terms.count k k' errors errors' middle new taken)
+      closed_written closed other (first_reported by net seen terms listener terms.count k k' errors errors' middle new taken)
     where
       closed_written : (closed : Done) → IfErr closed (λ fault. fault ≢ Output) → ReportsFirst terms.count errors errors'
           → Writes terms.port terms.count closed output output' errors errors'
@@ -133,25 +140,21 @@ module _ {M L R W : Type 0} (net : loopback.Ghosts M L R W) (seen : Seen R W) (o
       closed_written (Err fault) other reported = inr (inr (other, went, reported))
   terms_written terms k k' (Err fault) closed old new serves other = keeper_written terms k k' fault old new serves
 
-  unserved_written : (port count : ℕ) (fault : Fault) (result : Done) → fault ≢ Output → result ≡ Err fault → output' ≡ output → errors' ≡ errors
-      → Writes port count result output output' errors errors'
-  unserved_written port count fault result other is same quiet =
-      subst (λ (r : Done). Writes port count r output output' errors errors') (sym is) (inl (other, same, quiet))
-
   -- a server that is asked for, whose logins the staff may lack
-  asked_written : (args : ServeArgs) (staff : List StaffRow) (logins : Option (List LoginRow)) (k k' : Keeper) (served closed : Done) (old new : M)
-      → ServesOn net seen output output' errors errors' (terms_of args staff logins) k k' served old new
+  asked_written : (args : ServeArgs) (staff : List StaffRow) (logins : Option (List LoginRow)) (k k' : D) (served closed : Done) (old new : M)
+      → ServesOn by net seen output output' errors errors' (terms_of args staff logins) k k' served old new
       → IfErr closed (λ fault. fault ≢ Output) → Writes args.port args.count (both served closed) output output' errors errors'
   asked_written args staff None k k' served closed old new serves other = terms_written (terms_with args None) k k' served closed old new serves other
   asked_written args staff (Some rows) k k' served closed old new serves other = of (position (λ row. not (is_employee staff row.employee)) rows) serves
     where
       of : (place : Option ℕ)
-          → ServesOn net seen output output' errors errors' (unless_unknown rows place >>= (λ known. Ok (terms_with args (Some known)))) k k' served old new
+          → ServesOn by net seen output output' errors errors' (unless_unknown rows place >>= (λ known. Ok (terms_with args (Some known)))) k k' served old new
           → Writes args.port args.count (both served closed) output output' errors errors'
       of None serves = terms_written (terms_with args (Some rows)) k k' served closed old new serves other
       of (Some place) (kept, (is, untouched, same, quiet)) =
-          unserved_written args.port args.count (UnknownEmployee (place + 1)) (both served closed) (λ e. cc e) (ap (λ (r : Done). both r closed) is) same quiet
+          unserved_written output output' errors errors' args.port args.count (UnknownEmployee (place + 1)) (both served closed) (λ e. cc e) (ap (λ (r : Done). both r closed) is) same quiet
 
+module _ {M L R W : Type 0} (net : loopback.Ghosts M L R W) (seen : Seen R W) (output output' errors errors' : Stream) where
   over_written : {D : Type 0} (args : ServeArgs) (logins : Option (List LoginRow)) (g : Ghosts D) (served closed : Done) (old new : M) (before after : Held D)
       → ServesOver net seen args logins output output' errors errors' g served old new before after
       → IfErr closed (λ fault. fault ≢ Output) → Writes args.port args.count (both served closed) output output' errors errors'
@@ -163,13 +166,13 @@ module _ {M L R W : Type 0} (net : loopback.Ghosts M L R W) (seen : Seen R W) (o
       refused_other (inl (none, read)) = absurd none
       refused_other (inr refused) = other_as fault _ refused.told_is (store_other refused.fault)
   over_written args logins g served closed old new before after (inr opened) other =
-      asked_written args opened.keeper.register.staff logins opened.keeper opened.left served closed old new opened.serves other
+      asked_written (over_store g) net seen output output' errors errors' args opened.opened.book.register.staff logins opened.opened opened.left served closed old new opened.serves other
 
   path_written : {D : Type 0} (args : ServeArgs) (logins : Option (List LoginRow)) (g : disk.Ghosts D) (opens : Opening M D) (shuts : Shutting M) (ends : Ending M D)
       (path : List ℕ) (result : Done) (old new : M) → ServesPath net seen args logins output output' errors errors' g opens shuts ends path result old new
       → Writes args.port args.count result output output' errors errors'
   path_written args logins g opens shuts ends path result old new (inl (fault, is, line, (shut, same, quiet))) =
-      unserved_written args.port args.count fault result (line_other fault line) is same quiet
+      unserved_written output output' errors errors' args.port args.count fault result (line_other fault line) is same quiet
   path_written args logins g opens shuts ends path result old new (inr visits) =
       let (files, left, back) = visits.ended in
       let did = visits.does in
@@ -186,7 +189,7 @@ module _ {M L R W J C : Type 0} (logs : Logs M J C) (net : loopback.Ghosts M L R
   logged_written args logins g journal (Err fault) closed old new before after (inl (not, same, quiet)) other =
       inl (not_taken_other g logs.steps journal old new before after fault not, same, quiet)
   logged_written args logins g journal served closed old new before after (inr taken) other =
-      asked_written net seen output output' errors errors' args taken.keeper.register.staff logins taken.keeper taken.left served closed taken.between taken.later
+      asked_written (with_journal g logs) net seen output output' errors errors' args taken.taken.book.register.staff logins taken.taken taken.left served closed taken.between taken.later
       taken.serves other
 
   logged_path_written : {D : Type 0} (args : ServeArgs) (logins : Option (List LoginRow)) (g : disk.Ghosts D) (opens : Opening M D) (shuts : Shutting M)
@@ -194,7 +197,7 @@ module _ {M L R W J C : Type 0} (logs : Logs M J C) (net : loopback.Ghosts M L R
       → ServesLoggedPath logs net seen args logins output output' errors errors' g opens shuts ends journal path result old new
       → Writes args.port args.count result output output' errors errors'
   logged_path_written args logins g opens shuts ends journal path result old new (inl (fault, is, line, (shut, same, quiet))) =
-      unserved_written net seen output output' errors errors' args.port args.count fault result (line_other fault line) is same quiet
+      unserved_written output output' errors errors' args.port args.count fault result (line_other fault line) is same quiet
   logged_path_written args logins g opens shuts ends journal path result old new (inr visits) =
       let (files, left, back) = visits.ended in
       let did = visits.does in
@@ -218,4 +221,4 @@ module _ {M L R W J C : Type 0} (logs : Logs M J C) (net : loopback.Ghosts M L R
   serve_written at args g opens shuts ends result old new (Ok logins, named, did) =
       kept_written args logins g opens shuts ends args.journal args.database.now result old new did
   serve_written at args g opens shuts ends result old new (Err fault, named, (is, untouched, same, quiet)) =
-      unserved_written net seen output output' errors errors' args.port args.count fault result (named_other at args.logins fault named) is same quiet
+      unserved_written output output' errors errors' args.port args.count fault result (named_other at args.logins fault named) is same quiet

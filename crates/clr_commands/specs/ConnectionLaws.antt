@@ -19,6 +19,7 @@ use Rattle.clr_http.specs.RequestLaws.{AreRun}
 use Rattle.clr_http.specs.Response.{response_bytes}
 use Rattle.clr_http.specs.Served.{IsWritten}
 use Rattle.clr_http.specs.declared.options.Service.{Service}
+use Rattle.clr_http.specs.declared.registrar.Registrar as registrar
 use Rattle.clr_http.specs.declared.serve.HttpFault.{HttpFault}
 use Rattle.clr_http.specs.declared.serve.Served.{Served}
 use Rattle.clr_edge.specs.declared.loopback.Loopback as loopback
@@ -42,45 +43,47 @@ pub record CarriesOut (service : Service) (input : Option (List ℕ)) (old new :
       IsToldAt service input carried old new c × (response ≡ response_bytes c))
       before behind served
 
-module _ {M L R W : Type 0} (net : loopback.Ghosts M L R W) (seen : Seen R W) (terms : Terms)
-    (listener : L) where
+module _ {D M L R W : Type 0} (by : registrar.Ghosts D) (net : loopback.Ghosts M L R W)
+    (seen : Seen R W) (terms : Terms) (listener : L) where
   -- THE NEXT CONNECTION carries this out, with this response; where none could be taken, nothing
-  abbrev pub CarriesNext : ℕ → Keeper → Keeper → Stream → Stream → M → M → Option Command → List ℕ
+  abbrev pub CarriesNext : ℕ → D → D → Stream → Stream → M → M → Option Command → List ℕ
       → Type 0
-  CarriesNext number k k' errors errors' old new carried response =
-      ((it : Answers net seen terms listener number k k' errors errors' old new)
-      × CarriesOut terms.service (seen.source it.connection.reader).remaining k k'
+  CarriesNext number d d' errors errors' old new carried response =
+      ((it : Answers by net seen terms listener number d d' errors errors' old new)
+      × CarriesOut terms.service (seen.source it.connection.reader).remaining
+      (by.keeper d) (by.keeper d')
       (seen.stream it.connection.writer) (seen.stream it.answered.writer) it.served.0
       carried response)
-      ⊎ (Misses net seen terms listener number k k' errors errors' old new
+      ⊎ (Misses by net seen terms listener number d d' errors errors' old new
       × (carried ≡ None) × (response ≡ []))
 
   -- CONNECTIONS FROM THIS NUMBER ON, one after the other: what each carries out, and its response,
   -- at the place of the connection
-  unfoldable pub CarriesAll : ℕ → Keeper → Keeper → Stream → Stream → M → M
+  unfoldable pub CarriesAll : ℕ → D → D → Stream → Stream → M → M
       → List (Option Command) → List (List ℕ) → Type 0
-  CarriesAll number k k' errors errors' old new [] [] =
-      (new ≡ old) × (k' ≡ k) × (errors' ≡ errors)
-  CarriesAll number k k' errors errors' old new (carried ∷ later) (response ∷ others) =
-      (middle : M) × (between : Keeper) × (reported : Stream)
-      × CarriesNext number k between errors reported old middle carried response
-      × CarriesAll (number + 1) between k' reported errors' middle new later others
-  CarriesAll number k k' errors errors' old new [] (response ∷ others) = ⊥
-  CarriesAll number k k' errors errors' old new (carried ∷ later) [] = ⊥
+  CarriesAll number d d' errors errors' old new [] [] =
+      (new ≡ old) × (d' ≡ d) × (errors' ≡ errors)
+  CarriesAll number d d' errors errors' old new (carried ∷ later) (response ∷ others) =
+      (middle : M) × (between : D) × (reported : Stream)
+      × CarriesNext number d between errors reported old middle carried response
+      × CarriesAll (number + 1) between d' reported errors' middle new later others
+  CarriesAll number d d' errors errors' old new [] (response ∷ others) = ⊥
+  CarriesAll number d d' errors errors' old new (carried ∷ later) [] = ⊥
 
   -- WHAT IS SAID OF THE FIRST CONNECTIONS: what each carries out, of which the responses are a run,
   -- and the three statements hold of it
-  pub record ConnectionsHaveRun (n : ℕ) (k k' : Keeper) (errors errors' : Stream) (old new : M)
+  pub record ConnectionsHaveRun (n : ℕ) (d d' : D) (errors errors' : Stream) (old new : M)
       : Type 0 where
     pub carried : List (Option Command)
     pub responses : List (List ℕ)
-    pub each : CarriesAll 1 k k' errors errors' old new carried responses
+    pub each : CarriesAll 1 d d' errors errors' old new carried responses
     pub count : length carried ≡ n
     pub told : List Reply
-    pub run : AreRun k.register carried responses told k'.register
-    pub headline : OthersChangeNoReply k.register (commands_asked carried) told k'.register
-    pub untouched : OthersTakeNothing k.register (commands_asked carried)
-    pub alone : OwnStandAlone k.register (commands_asked carried) told
+    pub run : AreRun (by.keeper d).register carried responses told (by.keeper d').register
+    pub headline : OthersChangeNoReply (by.keeper d).register (commands_asked carried) told
+        (by.keeper d').register
+    pub untouched : OthersTakeNothing (by.keeper d).register (commands_asked carried)
+    pub alone : OwnStandAlone (by.keeper d).register (commands_asked carried) told
 
 -- TWO RUNS THAT SHOW A CLEARANCE THE SAME, of connections of ports or of requests in memory: the
 -- responses to its own requests are the same bytes, and the registers that are left agree again

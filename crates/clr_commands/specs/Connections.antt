@@ -6,8 +6,9 @@ use Rattle.std.specs.declared.io.ErrorKind.{ErrorKind}
 use Rattle.std.specs.declared.io.ErrorKind.TheVariants.{OutOfMemory}
 use Rattle.clr_stream.specs.Streams.{Sends, Stream}
 use Rattle.clr_http.specs.Answered.{IsAnsweredAt, Source}
-use Rattle.clr_http.specs.Registrar.{Keeper}
+use Rattle.clr_http.specs.Puts.{PutsAt}
 use Rattle.clr_http.specs.declared.options.Service.{Service}
+use Rattle.clr_http.specs.declared.registrar.Registrar as registrar
 use Rattle.clr_http.specs.declared.serve.HttpFault.{HttpFault}
 use Rattle.clr_http.specs.declared.serve.HttpFault.TheVariants.{NoMemory, ReadFailed, WriteFailed}
 use Rattle.clr_http.specs.declared.serve.Served.{Served}
@@ -54,43 +55,44 @@ seen remaining failures stream = record {
   stream = stream;
 }
 
--- A CONNECTION OF THIS NUMBER WAS ANSWERED by a service from the register of a keeper, as its reader
--- and its writer show, and reported if that failed
-abbrev pub Serves : {R W : Type 0} → Seen R W → Service → ℕ → Keeper → Keeper → Connection R W
-    → Connection R W → Stream → Stream → Type 0
-Serves seen service number k k' c c' errors errors' = (served : Result Served HttpFault)
-    × IsAnsweredAt service k k' (seen.source c.reader) (seen.source c'.reader)
-    (seen.stream c.writer) (seen.stream c'.writer) served
+-- A CONNECTION OF THIS NUMBER WAS ANSWERED by a service from a register, as its reader and its writer
+-- show, and reported if that failed. It put at most the command that it asks, once, at its login
+abbrev pub Serves : {D R W : Type 0} → registrar.Ghosts D → Seen R W → Service → ℕ → D → D
+    → Connection R W → Connection R W → Stream → Stream → Type 0
+Serves by seen service number d d' c c' errors errors' = (served : Result Served HttpFault)
+    × IsAnsweredAt service (by.keeper d) (by.keeper d') (seen.source c.reader)
+    (seen.source c'.reader) (seen.stream c.writer) (seen.stream c'.writer) served
+    × PutsAt by.hears by.takes service (seen.source c.reader).remaining served d d'
     × ReportsConnection number served errors errors'
 
-module _ {M L R W : Type 0} (net : loopback.Ghosts M L R W) (seen : Seen R W) (terms : Terms)
-    (listener : L) where
+module _ {D M L R W : Type 0} (by : registrar.Ghosts D) (net : loopback.Ghosts M L R W)
+    (seen : Seen R W) (terms : Terms) (listener : L) where
   -- a connection came to the listener, which has the deadline of the terms, was answered by their
   -- service, and was let go as that left it
-  pub record Answers (number : ℕ) (k k' : Keeper) (errors errors' : Stream) (old new : M)
+  pub record Answers (number : ℕ) (d d' : D) (errors errors' : Stream) (old new : M)
       : Type 0 where
     pub connection : Connection R W
     pub answered : Connection R W
     pub middle : M
     pub came : net.comes old listener terms.deadline connection middle
-    pub served : Serves seen terms.service number k k' connection answered errors errors'
+    pub served : Serves by seen terms.service number d d' connection answered errors errors'
     pub left : net.hangs_up middle answered new
 
   -- none could be taken, for a reason that is reported
-  abbrev pub Misses : ℕ → Keeper → Keeper → Stream → Stream → M → M → Type 0
-  Misses number k k' errors errors' old new =
-      (kind : ErrorKind) × net.misses old listener kind new × (k' ≡ k)
+  abbrev pub Misses : ℕ → D → D → Stream → Stream → M → M → Type 0
+  Misses number d d' errors errors' old new =
+      (kind : ErrorKind) × net.misses old listener kind new × (d' ≡ d)
       × ReportsConnection number (Err (accept_fault kind)) errors errors'
 
   -- THE NEXT CONNECTION was answered, or none could be taken
-  abbrev pub TakesNext : ℕ → Keeper → Keeper → Stream → Stream → M → M → Type 0
-  TakesNext number k k' errors errors' old new =
-      Answers number k k' errors errors' old new ⊎ Misses number k k' errors errors' old new
+  abbrev pub TakesNext : ℕ → D → D → Stream → Stream → M → M → Type 0
+  TakesNext number d d' errors errors' old new =
+      Answers number d d' errors errors' old new ⊎ Misses number d d' errors errors' old new
 
   -- THE FIRST CONNECTIONS, one after the other
-  unfoldable pub TakesFirst : ℕ → Keeper → Keeper → Stream → Stream → M → M → Type 0
-  TakesFirst zero k k' errors errors' old new = (new ≡ old) × (k' ≡ k) × (errors' ≡ errors)
-  TakesFirst (suc n) k k' errors errors' old new =
-      (middle : M) × (between : Keeper) × (reported : Stream)
-      × TakesFirst n k between errors reported old middle
-      × TakesNext (n + 1) between k' reported errors' middle new
+  unfoldable pub TakesFirst : ℕ → D → D → Stream → Stream → M → M → Type 0
+  TakesFirst zero d d' errors errors' old new = (new ≡ old) × (d' ≡ d) × (errors' ≡ errors)
+  TakesFirst (suc n) d d' errors errors' old new =
+      (middle : M) × (between : D) × (reported : Stream)
+      × TakesFirst n d between errors reported old middle
+      × TakesNext (n + 1) between d' reported errors' middle new

@@ -2,6 +2,7 @@ pub mod Answers
 pub mod Check
 pub mod Connections
 pub mod ConnectionLaws
+pub mod Desks
 pub mod Faults
 pub mod Fence
 pub mod Import

@@ -11,6 +11,8 @@ use Rattle.clr_rules.specs.Good.{IsGood}
 use Rattle.clr_rules.specs.Register.{Register, opening}
 use Rattle.clr_rules.specs.declared.reply.Reply.{Reply}
 use Rattle.clr_desk.specs.Faults.{FailsAsStore}
+use Rattle.clr_desk.specs.Taking.{Taking, TakesRun}
+use Rattle.clr_desk.specs.declared.desk.Desk.{Desk}
 use Rattle.clr_desk.specs.declared.desk_fault.DeskFault.{DeskFault}
 use Rattle.clr_journaled.specs.Journaling.{FailsToo}
 use Rattle.clr_journaled.specs.declared.journaled.Journaled.{Journaled}
@@ -32,9 +34,10 @@ use Rattle.clr_edge.specs.declared.fault.Fault.{Fault}
 use Rattle.clr_edge.specs.declared.fault.Fault.TheVariants.{Input, Memory}
 use Rattle.clr_edge.specs.declared.fault.InputFault.TheVariants.{ReadFailed, TooLong}
 use Rattle.clr_commands.specs.Answers.{Answers, IsMemory}
+use Rattle.clr_commands.specs.Desks.{ThroughJournal}
 use Rattle.clr_commands.specs.Import.{AnswersFiles, FileRows}
 use Rattle.clr_commands.specs.Paths.{AtPaths}
-use Rattle.clr_commands.specs.Replies.{AnswersInput, AnswersOver}
+use Rattle.clr_commands.specs.Replies.{AnswersInput, AnswersOver, asked_commands}
 use Rattle.clr_commands.specs.Stored.{IsUnanswered}
 use Rattle.clr_commands.specs.declared.replies.Printed.{Printed}
 
@@ -56,13 +59,22 @@ pub record ReadsInput {X : Type 0} (input : Option (List ℕ)) (failures failure
   pub cause : IsErrOf result (Input ReadFailed) → Rose failures failures'
   pub waits : IfErr result (λ fault. (after ≡ before) ⊎ IsOfInput input fault)
 
--- what a run over a desk answers, from one state of what keeps its changes and of its register to the
--- next: the replies to the lines of the input
-abbrev pub RunsOnDesk : (DeskFault → Type 0) → State → State → Register → Register
+-- WHAT A RUN PUTS to what keeps the register, from one state of it to the next: each command of the
+-- input once, in their order, up to the one that met the fault, if one did; and nothing else
+abbrev pub PutsInput : {K : Type 0} → Taking K → Register → K → List ℕ → List Reply
+    → Option DeskFault → K → Type 0
+PutsInput takes left old input told fault new =
+    TakesRun takes left old (asked_commands input) told fault new
+
+-- what a run over a desk answers, by what keeps its changes: the replies to the lines of the input,
+-- whose commands it put, and no others
+abbrev pub RunsOnDesk : {K : Type 0} → (DeskFault → Type 0) → (K → State) → Taking K → Desk K → Desk K
     → Option (List ℕ) → Result Printed Fault → Type 0
-RunsOnDesk fails old new R S input (Ok printed) = (bytes : List ℕ) × IsInput input bytes
-    × AnswersOver fails old new R S bytes printed
-RunsOnDesk fails old new R S input (Err fault) = IsOfInput input fault
+RunsOnDesk fails kept takes old new input (Ok printed) = (bytes : List ℕ) × IsInput input bytes
+    × (answers : AnswersOver fails (kept old.store) (kept new.store) old.book.register
+    new.book.register bytes printed)
+    × PutsInput takes new.book.register old.store bytes answers.told answers.run.ended new.store
+RunsOnDesk fails kept takes old new input (Err fault) = IsOfInput input fault
 
 -- ---- over three files
 
@@ -159,7 +171,8 @@ pub record RunsStored {T : Type 0} (g : Ghosts T) (input : Option (List ℕ))
 -- a machine that opens journals, and the path of one
 module _ {M J C : Type 0} (logs : Logs M J C) (journal : List ℕ) where
   -- WHAT A RUN WITH A JOURNAL LEAVES IN A DATABASE: its register was taken up with the journal at the
-  -- path, and the input was answered over it, through the journal, which is let go as that left it
+  -- path, and the input was answered over it, through the journal. Its commands were put there, and
+  -- no others, and so the journal is let go
   pub record RunsWithin {T : Type 0} (g : Ghosts T) (old new : M) (before after : Held T)
       (input : Option (List ℕ)) (printed : Printed) : Type 0 where
     pub taken : Journaled (Held T) J C
@@ -176,6 +189,7 @@ module _ {M J C : Type 0} (logs : Logs M J C) (journal : List ℕ) where
     pub is_input : IsInput input bytes
     pub answers : AnswersOver (FailsToo FailsAsStore) (state g taken.keeper) (state g after)
         register left bytes printed
+    pub put : PutsInput (ThroughJournal logs) left taken bytes answers.told answers.run.ended ended
 
   -- a run that answers nothing: the register was not taken up, or the input was not read, and then
   -- the journal is let go as it was taken up

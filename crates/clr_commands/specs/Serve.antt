@@ -13,9 +13,10 @@ use Rattle.clr_rules.specs.Good.{IsGood}
 use Rattle.clr_rules.specs.Register.{Register}
 use Rattle.clr_logins.specs.declared.logins.LoginRow.{LoginRow}
 use Rattle.clr_desk.specs.Kept.{Keeps}
+use Rattle.clr_desk.specs.declared.desk.Desk.{Desk}
 use Rattle.clr_journaled.specs.declared.journaled.Journaled.{Journaled}
-use Rattle.clr_http.specs.Registrar.{Keeper}
 use Rattle.clr_http.specs.RequestLaws.{ComesWithin}
+use Rattle.clr_http.specs.declared.registrar.Registrar as registrar
 use Rattle.clr_args.specs.declared.asked.ServeArgs.{ServeArgs}
 use Rattle.clr_edge.specs.Database.{HasRegister, IsOfLine, IsOnlyRead, ReadsAs}
 use Rattle.clr_edge.specs.TakenUp.{GoThrough, IsNotTakenUp, IsTakenUp, Logs}
@@ -26,6 +27,7 @@ use Rattle.clr_edge.specs.declared.fault.Fault.TheVariants.{Output}
 use Rattle.clr_edge.specs.declared.loopback.Loopback as loopback
 use Rattle.clr_commands.specs.Connections.{Seen, TakesFirst}
 use Rattle.clr_commands.specs.ConnectionLaws.{ConnectionsHaveRun}
+use Rattle.clr_commands.specs.Desks.{over_store, with_journal}
 use Rattle.clr_commands.specs.Logins.{NamesLogins, terms_of}
 use Rattle.clr_commands.specs.Paths.{AtPaths}
 use Rattle.clr_commands.specs.Stored.{IsUnanswered}
@@ -35,34 +37,37 @@ use Rattle.clr_commands.specs.declared.serve.Terms.{Terms}
 abbrev pub serving_line : ℕ → List ℕ
 serving_line port = (codes "serving 127.0.0.1:" ++ decimal port) ++ 10 ∷ []
 
--- a server, with what went out and what was reported over all
-module _ {M L R W : Type 0} (net : loopback.Ghosts M L R W) (seen : Seen R W)
-    (output output' errors errors' : Stream) where
-  -- A SERVER ON TERMS over the keeper of a register: it listened on the port, said so, and took that
-  -- number of connections, which from a good register are a run; or it did not begin, and then the
-  -- keeper is as it was
-  abbrev pub ServesKeeper : Terms → Keeper → Keeper → Done → M → M → Type 0
-  ServesKeeper terms k k' (Ok value) old new =
-      (listener : L) × (middle : M) × StandsOn net.stands old terms.port listener middle
-      × WentOut output output' (serving_line terms.port)
-      × TakesFirst net seen terms listener terms.count k k' errors errors' middle new
-      × (IsGood k.register
-      → ConnectionsHaveRun net seen terms listener terms.count k k' errors errors' middle new)
-  ServesKeeper terms k k' (Err fault) old new =
-      (k' ≡ k) × (errors' ≡ errors)
-      × ((RefusesOn net.refuses old terms.port fault new × (output' ≡ output))
-      ⊎ ((listener : L) × StandsOn net.stands old terms.port listener new × (fault ≡ Output)
-      × IsCut output output' (serving_line terms.port)))
-
+-- what went out and what was reported over all, before and after
+module _ {M : Type 0} (output output' errors errors' : Stream) where
   -- nothing was done, and nothing was said but this fault
   abbrev pub IsUnserved : Fault → Done → M → M → Type 0
   IsUnserved fault served old new =
       (served ≡ Err fault) × (new ≡ old) × (output' ≡ output) × (errors' ≡ errors)
 
+-- a server, with these
+module _ {D M L R W : Type 0} (by : registrar.Ghosts D) (net : loopback.Ghosts M L R W)
+    (seen : Seen R W) (output output' errors errors' : Stream) where
+  -- A SERVER ON TERMS over one who keeps a register: it listened on the port, said so, and took that
+  -- number of connections, which from a good register are a run; or it did not begin, and then the
+  -- register is as it was, and all that is kept beside it
+  abbrev pub ServesKeeper : Terms → D → D → Done → M → M → Type 0
+  ServesKeeper terms d d' (Ok value) old new =
+      (listener : L) × (middle : M) × StandsOn net.stands old terms.port listener middle
+      × WentOut output output' (serving_line terms.port)
+      × TakesFirst by net seen terms listener terms.count d d' errors errors' middle new
+      × (IsGood (by.keeper d).register
+      → ConnectionsHaveRun by net seen terms listener terms.count d d' errors errors' middle new)
+  ServesKeeper terms d d' (Err fault) old new =
+      (d' ≡ d) × (errors' ≡ errors)
+      × ((RefusesOn net.refuses old terms.port fault new × (output' ≡ output))
+      ⊎ ((listener : L) × StandsOn net.stands old terms.port listener new × (fault ≡ Output)
+      × IsCut output output' (serving_line terms.port)))
+
   -- the same, unless there are no such terms: the staff lacks an employee whom a login names
-  abbrev pub ServesOn : Result Terms Fault → Keeper → Keeper → Done → M → M → Type 0
-  ServesOn (Ok terms) k k' served old new = ServesKeeper terms k k' served old new
-  ServesOn (Err fault) k k' served old new = (k' ≡ k) × IsUnserved fault served old new
+  abbrev pub ServesOn : Result Terms Fault → D → D → Done → M → M → Type 0
+  ServesOn (Ok terms) d d' served old new = ServesKeeper terms d d' served old new
+  ServesOn (Err fault) d d' served old new =
+      (d' ≡ d) × IsUnserved output output' errors errors' fault served old new
 
 -- a server that is asked for, with the logins of these rows
 module _ {M L R W : Type 0} (net : loopback.Ghosts M L R W) (seen : Seen R W) (args : ServeArgs)
@@ -71,19 +76,20 @@ module _ {M L R W : Type 0} (net : loopback.Ghosts M L R W) (seen : Seen R W) (a
   -- of it is what the database has; a server that did not begin left the database as it was read
   pub record ServesOpened {D : Type 0} (g : Ghosts D) (served : Done) (old new : M)
       (before after : Held D) : Type 0 where
-    pub opened : Held D
-    pub read : IsOnlyRead g before opened
-    pub keeper : Keeper
-    pub good : IsGood keeper.register
-    pub is_register : (R : Register) → HasRegister g R before → HasCleanDisk (state g opened)
-        → keeper.register ≡ R
-    pub reads : ReadsAs g before opened keeper.register
-    pub left : Keeper
-    pub serves : ServesOn net seen output output' errors errors'
-        (terms_of args keeper.register.staff logins) keeper left served old new
-    pub goes_on : ComesWithin args.count keeper.register left.register
-    pub keeps : Keeps (state g opened) keeper.register (state g after) left.register
-    pub unserved : OnErr served (after ≡ opened)
+    pub opened : Desk (Held D)
+    pub read : IsOnlyRead g before opened.store
+    pub good : IsGood opened.book.register
+    pub is_register : (R : Register) → HasRegister g R before
+        → HasCleanDisk (state g opened.store) → opened.book.register ≡ R
+    pub reads : ReadsAs g before opened.store opened.book.register
+    pub left : Desk (Held D)
+    pub serves : ServesOn (over_store g) net seen output output' errors errors'
+        (terms_of args opened.book.register.staff logins) opened left served old new
+    pub goes_on : ComesWithin args.count opened.book.register left.book.register
+    pub after_is : after ≡ left.store
+    pub keeps : Keeps (state g opened.store) opened.book.register (state g after)
+        left.book.register
+    pub unserved : OnErr served (after ≡ opened.store)
 
   -- the same, unless its tables were refused, and then nothing more was done; those of a register
   -- that is known are refused by the database alone, or since memory ran out
@@ -116,22 +122,22 @@ module _ {M L R W J C : Type 0} (logs : Logs M J C) (net : loopback.Ghosts M L R
     -- Its commands went through the journal, which is let go as they left it
     pub record ServesTaken {D : Type 0} (g : Ghosts D) (journal : List ℕ) (served : Done) (old new : M)
         (before after : Held D) : Type 0 where
-      pub taken : Journaled (Held D) J C
+      pub taken : Desk (Journaled (Held D) J C)
       pub between : M
       pub later : M
-      pub keeper : Keeper
-      pub good : IsGood keeper.register
-      pub taken_up : IsTakenUp g logs.steps journal old between before taken keeper.register
-      pub left : Keeper
-      pub ended : Journaled (Held D) J C
-      pub serves : ServesOn net seen output output' errors errors'
-          (terms_of args keeper.register.staff logins) keeper left served between later
-      pub goes_on : ComesWithin args.count keeper.register left.register
-      pub went : GoThrough logs.log keeper.register taken left.register ended
-      pub after_is : after ≡ ended.keeper
-      pub gone : logs.steps.lets_journal_go later ended.journal new
-      pub keeps : Keeps (state g taken.keeper) keeper.register (state g after) left.register
-      pub unserved : OnErr served (ended ≡ taken)
+      pub good : IsGood taken.book.register
+      pub taken_up : IsTakenUp g logs.steps journal old between before taken.store
+          taken.book.register
+      pub left : Desk (Journaled (Held D) J C)
+      pub serves : ServesOn (with_journal g logs) net seen output output' errors errors'
+          (terms_of args taken.book.register.staff logins) taken left served between later
+      pub goes_on : ComesWithin args.count taken.book.register left.book.register
+      pub went : GoThrough logs.log taken.book.register taken.store left.book.register left.store
+      pub after_is : after ≡ left.store.keeper
+      pub gone : logs.steps.lets_journal_go later left.store.journal new
+      pub keeps : Keeps (state g taken.store.keeper) taken.book.register (state g after)
+          left.book.register
+      pub unserved : OnErr served (left.store ≡ taken.store)
 
     -- the same, unless it was not taken up, and then nothing more was done
     abbrev pub ServesLogged : {D : Type 0} → Ghosts D → List ℕ → Done → M → M → Held D → Held D
@@ -171,7 +177,7 @@ module _ {M D L R W J C : Type 0} (logs : Logs M J C) (net : loopback.Ghosts M L
   ServesRead (Ok logins) served old new = ServesKept logs net seen args logins output output'
       errors errors' g opens shuts ends args.journal args.database.now served old new
   ServesRead (Err fault) served old new =
-      IsUnserved net seen output output' errors errors' fault served old new
+      IsUnserved output output' errors errors' fault served old new
 
   abbrev pub ServesAt : Done → M → M → Type 0
   ServesAt served old new = (read : Result (Option (List LoginRow)) Fault)

@@ -200,8 +200,8 @@ pub fn run_over<K: Commit, I: CountedRead>(
     desk: &mut Desk<K>,
     input: &mut I,
 ) -> Result<Printed, Fault>
-    ensures answer { RunsOnDesk K.fails (K.kept desk.old.store) (K.kept desk.new.store)
-        desk.old.book.register desk.new.book.register (I.remaining input.old) result }
+    ensures answer { RunsOnDesk K.fails K.kept K.takes desk.old desk.new (I.remaining input.old)
+        result }
     ensures none { OnErr result (desk.new ≡ desk.old) }
     ensures led { LeadsTo K.kept K.takes K.hears desk.old desk.new }
     ensures cause { IsErrOf result (Fault.Input InputFault.ReadFailed)

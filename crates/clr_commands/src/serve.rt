@@ -271,10 +271,10 @@ fn serve_on<D: Registrar, L: Loopback, W: CountedFlush, E: CountedFlush>(
     output: &mut W,
     errors: &mut E,
 ) -> Result<(), Fault>
-    ensures served { ServesOn L.Loopback
+    ensures served { ServesOn D.Registrar L.Loopback
         (seen L.Reader.remaining L.Reader.failure_count L.Writer.stream)
         (W.stream output.old) (W.stream output.new) (E.stream errors.old) (E.stream errors.new)
-        terms (D.keeper desk.old) (D.keeper desk.new) result net.old net.new }
+        terms desk.old desk.new result net.old net.new }
     ensures unserved { OnErr result (desk.new ≡ desk.old) }
     ensures led { D.leads_to desk.old desk.new }
 {
@@ -294,10 +294,10 @@ pub fn serve_desk<D: Registrar, L: Loopback, W: CountedFlush, E: CountedFlush>(
     output: &mut W,
     errors: &mut E,
 ) -> Result<(), Fault>
-    ensures served { ServesKeeper L.Loopback
+    ensures served { ServesKeeper D.Registrar L.Loopback
         (seen L.Reader.remaining L.Reader.failure_count L.Writer.stream)
         (W.stream output.old) (W.stream output.new) (E.stream errors.old) (E.stream errors.new)
-        terms.now (D.keeper desk.old) (D.keeper desk.new) result net.old net.new }
+        terms.now desk.old desk.new result net.old net.new }
     ensures unserved { OnErr result (desk.new ≡ desk.old) }
     ensures led { D.leads_to desk.old desk.new }
 {
@@ -318,14 +318,14 @@ pub fn serve_connections<D: Registrar, L: Loopback, E: CountedFlush>(
     terms: &Terms,
     errors: &mut E,
 )
-    ensures taken { TakesFirst L.Loopback
+    ensures taken { TakesFirst D.Registrar L.Loopback
         (seen L.Reader.remaining L.Reader.failure_count L.Writer.stream) terms.now listener.now
-        terms.now.count (D.keeper desk.old) (D.keeper desk.new) (E.stream errors.old)
-        (E.stream errors.new) net.old net.new }
-    ensures run { IsGood (D.keeper desk.old).register → ConnectionsHaveRun L.Loopback
+        terms.now.count desk.old desk.new (E.stream errors.old) (E.stream errors.new)
+        net.old net.new }
+    ensures run { IsGood (D.keeper desk.old).register → ConnectionsHaveRun D.Registrar L.Loopback
         (seen L.Reader.remaining L.Reader.failure_count L.Writer.stream) terms.now listener.now
-        terms.now.count (D.keeper desk.old) (D.keeper desk.new) (E.stream errors.old)
-        (E.stream errors.new) net.old net.new }
+        terms.now.count desk.old desk.new (E.stream errors.old) (E.stream errors.new)
+        net.old net.new }
     ensures led { D.leads_to desk.old desk.new }
 {
     headline_holds_of_runs();
@@ -345,10 +345,9 @@ fn serve_next<D: Registrar, L: Loopback, E: CountedFlush>(
     number: usize,
     errors: &mut E,
 )
-    ensures taken { TakesNext L.Loopback
+    ensures taken { TakesNext D.Registrar L.Loopback
         (seen L.Reader.remaining L.Reader.failure_count L.Writer.stream) terms.now listener.now
-        number (D.keeper desk.old) (D.keeper desk.new) (E.stream errors.old)
-        (E.stream errors.new) net.old net.new }
+        number desk.old desk.new (E.stream errors.old) (E.stream errors.new) net.old net.new }
     ensures led { D.leads_to desk.old desk.new }
 {
     match net.accept(listener, terms.deadline) {
@@ -371,9 +370,8 @@ fn answered<D: Registrar, R: CountedRead + Drop, W: CountedFlush + Drop, E: Coun
     number: usize,
     errors: &mut E,
 ) -> Connection<R, W>
-    ensures served { Serves (seen R.remaining R.failure_count W.stream) service.now number
-        (D.keeper desk.old) (D.keeper desk.new) connection result
-        (E.stream errors.old) (E.stream errors.new) }
+    ensures served { Serves D.Registrar (seen R.remaining R.failure_count W.stream) service.now
+        number desk.old desk.new connection result (E.stream errors.old) (E.stream errors.new) }
     ensures led { D.leads_to desk.old desk.new }
 {
     let Connection {

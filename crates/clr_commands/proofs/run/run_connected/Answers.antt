@@ -1,6 +1,6 @@
 use Rattle.std.proofs.Common.{◌≡◌, inl, inr, refl}
-use Rattle.sqlite.specs.Held.{Held}
-use Rattle.clr_desk.specs.declared.desk.Desk.{Desk}
+use Rattle.sqlite.specs.Held.{state}
+use Rattle.clr_desk.specs.Taking.{PassesOver}
 use Rattle.clr_commands.proofs.RunAnswers.{ReadsInput-desk, RunsFrom-run, of_store-no_input}
 use Rattle.clr_commands.proofs.run.run_connected.Goals as goal
 
@@ -8,13 +8,12 @@ use Rattle.clr_commands.proofs.run.run_connected.Goals as goal
 pub returns-in-Ok-clause-runs : goal.returns-in-Ok-clause-runs
 returns-in-Ok-clause-runs g c =
     let same : c.end-in-Ok.result ≡ c.run_over-printed.new.desk.store = cc in
-    RunsFrom-run g.S.Store (λ (desk : Desk (Held g.row.S.Denot)). desk.store) c.args.connection c.end-in-Ok.result c.in-Ok.desk c.run_over-printed.new.desk
-    c.in-Ok.desk.book.register c.run_over-printed.new.desk.book.register _ c.run_over-printed.result c.in-Ok.ensures.read
-    c.in-Ok.ensures.good c.in-Ok.ensures.register c.in-Ok.ensures.reads same c.run_over-printed.ensures.answer c.run_over-printed.ensures.none
+    RunsFrom-run g.S.Store c.args.connection c.end-in-Ok.result c.in-Ok.desk c.run_over-printed.new.desk _ c.run_over-printed.result
+    c.in-Ok.ensures.read c.in-Ok.ensures.good c.in-Ok.ensures.register c.in-Ok.ensures.reads same c.run_over-printed.ensures.answer c.run_over-printed.ensures.none
 
 pub returns-in-Ok-clause-input : goal.returns-in-Ok-clause-input
 returns-in-Ok-clause-input g c =
-    ReadsInput-desk _ _ _ _ _ _ _ _ _ _ c.run_over-printed.result c.run_over-printed.ensures.answer c.run_over-printed.ensures.cause
+    ReadsInput-desk _ (state g.S.Store) PassesOver c.in-Ok.desk c.run_over-printed.new.desk _ _ _ _ _ c.run_over-printed.result c.run_over-printed.ensures.answer c.run_over-printed.ensures.cause
 
 -- its tables were refused
 pub returns-in-Err-clause-runs : goal.returns-in-Err-clause-runs

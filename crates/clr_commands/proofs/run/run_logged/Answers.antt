@@ -1,8 +1,8 @@
 use Rattle.std.proofs.Common.{◌≡◌, inl, refl}
-use Rattle.sqlite.specs.Held.{Held}
-use Rattle.clr_desk.specs.declared.desk.Desk.{Desk}
+use Rattle.sqlite.specs.Held.{Held, state}
 use Rattle.clr_journaled.specs.declared.journaled.Journaled.{Journaled}
 use Rattle.clr_edge.specs.TakenUp.{logs}
+use Rattle.clr_commands.specs.Desks.{ThroughJournal}
 use Rattle.clr_commands.proofs.RunAnswers.{ReadsInput-desk, RunsLoggedFrom-run, not_taken-no_input}
 use Rattle.clr_commands.proofs.run.run_logged.Goals as goal
 
@@ -11,15 +11,15 @@ pub returns-in-Ok-clause-runs : goal.returns-in-Ok-clause-runs
 returns-in-Ok-clause-runs g c =
     let same : c.end-in-Ok.result ≡ c.run_over-printed.new.desk.store.keeper = cc in
     let kept : c.end-store.result.1 ≡ c.run_over-printed.new.desk.store.journal = cc in
-    RunsLoggedFrom-run (logs g.L.Journals g.L.Log.Journal) c.args.journal.now g.S.Store (λ (desk : Desk (Journaled (Held g.row.S.Denot) _ _)). desk.store)
-    c.args.rt.now c.journaled_desk.new.rt c.let_journal_go.new.self c.args.connection c.end-in-Ok.result c.end-store.result.1 c.in-Ok.desk
-    c.run_over-printed.new.desk c.in-Ok.desk.book.register c.run_over-printed.new.desk.book.register _ c.run_over-printed.result c.in-Ok.ensures.good
+    RunsLoggedFrom-run (logs g.L.Journals g.L.Log.Journal) c.args.journal.now g.S.Store c.args.rt.now c.journaled_desk.new.rt c.let_journal_go.new.self
+    c.args.connection c.end-in-Ok.result c.end-store.result.1 c.in-Ok.desk c.run_over-printed.new.desk _ c.run_over-printed.result c.in-Ok.ensures.good
     c.in-Ok.ensures.taken_up same kept c.let_journal_go.ensures (c.run_over-printed.ensures.led.given, c.run_over-printed.ensures.led.are_given)
     c.run_over-printed.ensures.answer c.run_over-printed.ensures.none
 
 pub returns-in-Ok-clause-input : goal.returns-in-Ok-clause-input
 returns-in-Ok-clause-input g c =
-    ReadsInput-desk _ _ _ _ _ _ _ _ _ _ c.run_over-printed.result c.run_over-printed.ensures.answer c.run_over-printed.ensures.cause
+    ReadsInput-desk _ (λ (it : Journaled (Held g.row.S.Denot) _ _). state g.S.Store it.keeper) (ThroughJournal (logs g.L.Journals g.L.Log.Journal))
+    c.in-Ok.desk c.run_over-printed.new.desk _ _ _ _ _ c.run_over-printed.result c.run_over-printed.ensures.answer c.run_over-printed.ensures.cause
 
 -- it was not taken up
 pub returns-in-Err-clause-runs : goal.returns-in-Err-clause-runs

@@ -1,4 +1,6 @@
 use Rattle.std.proofs.Common.{refl}
+use Rattle.clr_desk.specs.Commit.{nothing}
+use Rattle.clr_desk.specs.Taking.{NeverFails}
 use Rattle.clr_commands.specs.Import.{lists_of}
 use Rattle.clr_commands.proofs.Faults.{any_file_plain}
 use Rattle.clr_commands.proofs.MadeRegisters.{AnswersFiles-fault, AnswersFiles-rows, IsRunOf-rows}
@@ -35,10 +37,10 @@ returns-in_err-desk-clause-faults g c = FailsAsSubcommand-passed _ _ c.from_resi
 pub returns-clause-answer : goal.returns-clause-answer
 returns-clause-answer g c =
     AnswersFiles-rows _ _ _ _ c.run_over.result c.in_ok-rows.rows c.in_ok-rows.ensures.rows
-    (IsRunOf-run _ _ _ _ (lists_of c.in_ok-rows.rows) _ c.run_over.result c.in_ok-desk.ensures.faultless c.in_ok-desk.ensures.opens c.run_over.ensures.answer)
+    (IsRunOf-run (λ _. nothing) NeverFails c.in_ok-desk.desk c.run_over.new.desk (lists_of c.in_ok-rows.rows) _ c.run_over.result c.in_ok-desk.ensures.faultless c.in_ok-desk.ensures.opens c.run_over.ensures.answer)
 
 pub returns-clause-input : goal.returns-clause-input
-returns-clause-input g c = ReadsInput-desk _ _ _ _ _ _ _ _ _ _ c.run_over.result c.run_over.ensures.answer c.run_over.ensures.cause
+returns-clause-input g c = ReadsInput-desk _ (λ _. nothing) NeverFails c.in_ok-desk.desk c.run_over.new.desk _ _ _ _ _ c.run_over.result c.run_over.ensures.answer c.run_over.ensures.cause
 
 pub returns-clause-faults : goal.returns-clause-faults
-returns-clause-faults g c = FailsAsSubcommand-desk _ _ _ _ _ _ c.run_over.result c.run_over.ensures.answer
+returns-clause-faults g c = FailsAsSubcommand-desk _ (λ _. nothing) NeverFails c.in_ok-desk.desk c.run_over.new.desk _ c.run_over.result c.run_over.ensures.answer

@@ -4,17 +4,17 @@ use Rattle.clr_commands.proofs.serve.serve_connections.Goals as goal
 
 pub loop-done-init : goal.loop-done-init
 loop-done-init g c = record {
-  taken = first_taken _ _ _ _ _ _ _;
+  taken = first_taken _ _ _ _ _ _ _ _;
   led = g.met.D.Registrar.stays c.args.desk.now;
 }
 
 pub loop-done-preserved : goal.loop-done-preserved
 loop-done-preserved g c = record {
-  taken = next_taken _ _ _ _ c.loop-done.done _ _ _ _ _ _ _ _ _ c.loop-done.invariant.taken c.serve_next.ensures.taken;
+  taken = next_taken _ _ _ _ _ c.loop-done.done _ _ _ _ _ _ _ _ _ c.loop-done.invariant.taken c.serve_next.ensures.taken;
   led = g.met.D.Registrar.goes_on _ _ _ c.loop-done.invariant.led c.serve_next.ensures.led;
 }
 
 pub returns-clause-run : goal.returns-clause-run
 returns-clause-run g c good =
-    all_have_run _ _ _ _ c.headline_holds_of_runs.ensures.replies c.headline_holds_of_runs.ensures.nothing c.headline_holds_of_runs.ensures.alone
+    all_have_run _ _ _ _ _ c.headline_holds_of_runs.ensures.replies c.headline_holds_of_runs.ensures.nothing c.headline_holds_of_runs.ensures.alone
     _ _ c.loop-done.auto.done-end c.loop-done-test.false _ _ _ _ _ _ c.loop-done.invariant.taken good

@@ -16,7 +16,7 @@ returns-clause-served g c = (
 -- its line could not be written
 pub returns-in_err-write_out-clause-served : goal.returns-in_err-write_out-clause-served
 returns-in_err-write_out-clause-served g c =
-    server_cut _ _ _ _ _ _ _ _ c.in_err-write_out.field-0.0 c.as_str.result.now c.in_ok-listener.listener _ _
+    server_cut _ _ _ _ _ _ _ _ _ c.in_err-write_out.field-0.0 c.as_str.result.now c.in_ok-listener.listener _ _
     c.from_residual-in_err-write_out.ensures.1 c.in_err-write_out.ensures.fault c.in_ok-listener.ensures.stands (search rules) c.in_err-write_out.ensures.cut
 
 -- a desk that was not asked is as it was
