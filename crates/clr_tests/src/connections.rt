@@ -2,55 +2,21 @@
 ghost use Rattle.std.specs.Prelude.{◌≡◌, IfErr, IfOk};
 ghost use Rattle.clr_stream.specs.Failures.{one_more};
 
+use crate::at_desk::{AtDesk, at_new_desk};
 use clr_commands::serve::{Terms, serve_connections};
+use clr_desk::Desk;
 use clr_edge::loopback::{Connection, Loopback};
 use clr_http::{Registrar, Service};
+use clr_store::Store;
 use clr_stream::Counted;
-use clr_worked::{network, new_desk};
+use clr_worked::network;
+use sqlite::Alter;
 use std::alloc::Global;
 use std::io;
 use std::io::{Read, Write};
 use std::net::SocketAddr;
+use std::process::Abort;
 use std::test::Fail;
-
-/// The terms of a plain service of n connections.
-fn plain(count: usize) -> Terms {
-    Terms {
-        port: 0,
-        count,
-        deadline: None,
-        service: Service::plain(),
-    }
-}
-
-/// Serves connections on these terms from a new desk, and returns the lines that report which failed.
-/// Out of memory ends the test.
-fn failures<L: Loopback>(
-    alloc: Global,
-    net: &mut L,
-    listener: &L::Listener,
-    terms: &Terms,
-) -> Result<String, Fail> {
-    let desk = new_desk(alloc, network(alloc)?)?;
-    failures_at(alloc, desk, net, listener, terms)
-}
-
-/// The same from any desk.
-fn failures_at<D: Registrar + Drop, L: Loopback>(
-    alloc: Global,
-    mut desk: D,
-    net: &mut L,
-    listener: &L::Listener,
-    terms: &Terms,
-) -> Result<String, Fail> {
-    let mut errors = Counted::new(Vec::with_capacity(alloc, 256)?);
-    serve_connections(alloc, net, listener, &mut desk, terms, &mut errors);
-    let lines = String::from_utf8(errors.into_inner())?;
-    if lines.as_str().contains("NoMemory") {
-        return Err(Fail::new("out of memory"));
-    }
-    Ok(lines)
-}
 
 /// Connections on which nothing comes through: by turns one is not accepted, one cannot be read and
 /// one cannot be written to.
@@ -148,17 +114,63 @@ impl Loopback for Torn {
     }
 }
 
-#[test]
-fn connections_that_fail_are_reported(rt: HostRuntime) -> Result<(), Fail> {
+/// Serves three of them.
+struct ThreeTorn;
+
+impl AtDesk for ThreeTorn {
+    fn go<R: Abort, S: Alter + Drop>(
+        &self,
+        rt: &R,
+        alloc: Global,
+        mut desk: Desk<Store<S>>,
+    ) -> Result<(), Fail> {
+        expect_reported(rt, alloc, &mut desk)
+    }
+}
+
+/// Each of three connections has its line.
+fn expect_reported<R: Abort, D: Registrar>(
+    rt: &R,
+    alloc: Global,
+    desk: &mut D,
+) -> Result<(), Fail> {
     let mut torn = Torn {
         asked: 0,
         let_go: 0,
     };
-    let failures = failures(rt.alloc(), &mut torn, &(), &plain(3))?;
+    let lines = lines_of_three(alloc, desk, &mut torn, &())?;
     assert_eq!(rt;
-        failures.as_str(),
+        lines.as_str(),
         "connection 1 ReadFailed\nconnection 2 ReadFailed\nconnection 3 WriteFailed\n"
     );
     assert_eq!(rt; (torn.asked, torn.let_go), (3, 2));
     Ok(())
+}
+
+/// Serves three connections, and returns the lines that report which failed. Out of memory ends the
+/// test.
+fn lines_of_three<D: Registrar, L: Loopback>(
+    alloc: Global,
+    desk: &mut D,
+    net: &mut L,
+    listener: &L::Listener,
+) -> Result<String, Fail> {
+    let terms = Terms {
+        port: 0,
+        count: 3,
+        deadline: None,
+        service: Service::plain(),
+    };
+    let mut errors = Counted::new(Vec::with_capacity(alloc, 256)?);
+    serve_connections(alloc, net, listener, desk, &terms, &mut errors);
+    let lines = String::from_utf8(errors.into_inner())?;
+    if lines.as_str().contains("NoMemory") {
+        return Err(Fail::new("out of memory"));
+    }
+    Ok(lines)
+}
+
+#[test]
+fn connections_that_fail_are_reported(rt: HostRuntime) -> Result<(), Fail> {
+    at_new_desk(&rt, rt.alloc(), network(rt.alloc())?, &ThreeTorn)
 }

@@ -77,7 +77,7 @@ fn carry_on<S: Alter + Drop>(
 }
 
 /// The commands of these lines, but for the first few, which are answered.
-pub fn commands_after(alloc: Global, lines: &str, answered: usize) -> Result<Vec<Command>, Fail> {
+fn commands_after(alloc: Global, lines: &str, answered: usize) -> Result<Vec<Command>, Fail> {
     let mut commands = Vec::new(alloc);
     for line in lines.lines().skip(answered) {
         commands.push(command_of(alloc, line.as_bytes())?)?;
@@ -86,7 +86,7 @@ pub fn commands_after(alloc: Global, lines: &str, answered: usize) -> Result<Vec
 }
 
 /// Adds these replies, each on a line.
-pub fn add_lines(alloc: Global, replies: &[Reply], lines: &mut String) -> Result<(), Fail> {
+fn add_lines(alloc: Global, replies: &[Reply], lines: &mut String) -> Result<(), Fail> {
     for reply in replies {
         let text = reply_text(alloc, reply)?;
         writeln!(lines, "{text}")?;

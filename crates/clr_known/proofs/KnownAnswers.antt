@@ -1,0 +1,201 @@
+-- What `migrate`, `run` and `init` answer of a machine of which this much is known.
+use Rattle.std.proofs.Common.{◌≡◌, ◌∙◌, ℕ, ap, inl, inr, refl, subst, sym, List, Option, Some, Result, Ok, Err}
+use Rattle.std.specs.Prelude.{IfErr, IfOk, IfSome, None, OnOk, String, string_bytes}
+use Rattle.std.specs.declared.alloc.Global.{Global}
+use Rattle.sqlite.specs.Files.{over_files}
+use Rattle.sqlite.specs.Held.{state}
+use Rattle.sqlite_disk.specs.declared.Disk as disk
+use Rattle.sqlite_disk.specs.declared.Files.{Files}
+use Rattle.clr_net.specs.Grid.{Grid}
+use Rattle.clr_net.specs.declared.point.PointRow.{PointRow}
+use Rattle.clr_net.specs.declared.section.SectionRow.{SectionRow}
+use Rattle.clr_staff.specs.declared.employee.StaffRow.{StaffRow}
+use Rattle.clr_rules.specs.Register.{Register, opening}
+use Rattle.clr_examples.specs.Worked.{worked_net, worked_opening}
+use Rattle.clr_desk.specs.Faults.{FailsAsStore}
+use Rattle.clr_load.specs.Stored.{HasTables}
+use Rattle.clr_tables.specs.Tables.{tables_of}
+use Rattle.clr_edge.proofs.Databases.{line_of_error}
+use Rattle.clr_csv.specs.declared.fault.CsvFault.{CsvFault}
+use Rattle.clr_result.specs.Results.{◌>>=◌}
+use Rattle.clr_edge.specs.Answers.{After}
+use Rattle.clr_edge.specs.Files.{told_of}
+use Rattle.clr_edge.specs.declared.fault.ImportFile.TheVariants.{Points, Sections, Staff}
+use Rattle.clr_edge.specs.Database.{HasRegister, IsMade, IsOfLine}
+use Rattle.clr_edge.specs.Visit.{Alone, Comes, Done, Ending, IsLeft, MakesRegister, MovesRegister, Opening, Over, Shutting, Visits, both}
+use Rattle.clr_edge.specs.declared.fault.Fault.{Fault}
+use Rattle.clr_edge.specs.declared.fault.Fault.TheVariants.{Memory}
+use Rattle.clr_commands.specs.Answers.{Gives}
+use Rattle.clr_commands.specs.Import.{AreRead, Contents, FileRows, IsUnreadFile, rows_of}
+use Rattle.clr_commands.specs.Init.{Stores, counts_of}
+use Rattle.clr_commands.specs.Migrate.{Migrates, PrintsMoved}
+use Rattle.clr_commands.specs.Replies.{AnswersInput}
+use Rattle.clr_commands.specs.Run.{IsOpeningOf, RunsFrom, RunsStored, printed_after, rows_fault}
+use Rattle.clr_commands.specs.declared.replies.Printed.{Printed}
+use Rattle.clr_known.specs.Known.{IsAlwaysClean, IsRunOfJones, IsVersionTwo, KnowsJones, StoresWorked}
+use Rattle.clr_known.specs.Known.{jones_register, point_file, section_file, staff_file, worked_counts}
+use Rattle.clr_known.proofs.WorkedRows.{file_sections, file_staff, is_worked_net, is_worked_staff, points_read, sections_read, staff_read}
+
+-- the rows of the three files
+abbrev pub worked_rows : FileRows
+worked_rows = record { sections = file_sections; points = Grid.points worked_net; staff = file_staff }
+
+abbrev pub worked_files : Contents
+worked_files = record { sections = section_file; points = point_file; staff = staff_file }
+
+abbrev rows_with : Result (List SectionRow) CsvFault → Result (List PointRow) CsvFault → Result (List StaffRow) CsvFault → Result FileRows Fault
+rows_with s p e = do
+  sections ← told_of Sections s
+  points ← told_of Points p
+  staff ← told_of Staff e
+  Ok (record { sections = sections; points = points; staff = staff })
+
+rows_read : rows_of worked_files ≡ Ok worked_rows
+rows_read = λ i. rows_with (sections_read i) (points_read i) (staff_read i)
+
+-- the line of counts, where the rows are a network and a staff
+counts_given : (told : Result (Unit {0}) Fault) (text : List ℕ) → rows_fault worked_rows ≡ told → counts_of worked_rows ≡ Ok text
+    → text ≡ worked_counts
+counts_given (Ok value) text is counts =
+    let given : Ok worked_counts ≡ Ok text =
+    ap (λ (t : Result (Unit {0}) Fault). t >>= (λ _. Ok worked_counts)) (sym is) ∙ counts in
+    sym (cc given)
+counts_given (Err fault) text is counts =
+    let given : Err fault ≡ Ok text =
+    ap (λ (t : Result (Unit {0}) Fault). t >>= (λ _. Ok worked_counts)) (sym is) ∙ counts in
+    absurd (cc given)
+
+opening_given : (R : Register) → IsOpeningOf worked_rows R → R ≡ worked_opening
+opening_given R is =
+    is.register ∙ (λ i. opening (is_worked_net is.net is.is_network i) (is_worked_staff is.team is.is_staff i))
+
+moved_line : (told closed : Done) → IfErr told IsOfLine → IfErr closed IsOfLine → IfErr (both told closed) IsOfLine
+moved_line (Ok value) closed of_told of_closed = of_closed
+moved_line (Err fault) closed of_told of_closed = of_told
+
+-- a fault of closing is one of the database
+closing_line : {D : Type 0} {g : disk.Ghosts D} (c : Over g) (files : Files D) (closed : Done) → IsLeft c files closed → IfErr closed IsOfLine
+closing_line c files (Ok value) left = tt
+closing_line c files (Err fault) left =
+    let (error, is, fails) = left.copies in
+    subst (λ (f : Fault). IsOfLine f) (sym is) (line_of_error error)
+
+printed_moved : (moved : Done) (result : Result (String Global) Fault) → IfErr moved IsOfLine → PrintsMoved moved result → IsVersionTwo result
+printed_moved moved (Ok text) of_line prints = prints.1
+printed_moved moved (Err fault) of_line prints = subst (λ (d : Done). IfErr d IsOfLine) prints of_line
+
+-- memory may run out before the move
+without_memory : (result : Result (String Global) Fault) → result ≡ Err Memory → IsVersionTwo result
+without_memory result is = subst (λ (r : Result (String Global) Fault). IsVersionTwo r) (sym is) (inl refl)
+
+-- what was printed stays, however its database was closed
+still_given : (input : List ℕ) (printed : Result Printed Fault) (closed : Done) → IsRunOfJones input printed
+    → IsRunOfJones input (printed_after printed closed)
+still_given input (Ok printed) closed runs = runs
+still_given input (Err fault) closed runs = runs
+
+-- what is read of files that are the worked ones
+pub known_read : (s p e : Option (List ℕ)) → s ≡ Some section_file → p ≡ Some point_file → e ≡ Some staff_file
+    → (read : Result FileRows Fault) → AreRead s p e read → Gives IsUnreadFile (λ rows. rows) (rows_of worked_files) read
+known_read s p e sections points staff read are =
+    subst (λ (e : Option (List ℕ)). AreRead (Some section_file) (Some point_file) e read) staff
+    (subst (λ (p : Option (List ℕ)). AreRead (Some section_file) p e read) points
+    (subst (λ (s : Option (List ℕ)). AreRead s p e read) sections are))
+
+module _ {D : Type 0} (g : disk.Ghosts D) (clean : IsAlwaysClean g) where
+  -- a register that was made is that of the worked network
+  tables_told : (told closed : Done) (after : Over g) (R : Register) → R ≡ worked_opening → both told closed ≡ Ok tt
+      → OnOk told (HasTables (state over_files after).now (tables_of R)) → HasTables (state over_files after).now (tables_of worked_opening)
+  tables_told (Ok value) closed after R is whole made = subst (λ (S : Register). HasTables (state over_files after).now (tables_of S)) is made
+  tables_told (Err fault) closed after R is whole made = absurd (cc whole)
+
+  made_clean : (told : Done) (before after : Over g) (R : Register) → OnOk told (IsMade over_files before R after)
+      → OnOk told (HasTables (state over_files after).now (tables_of R))
+  made_clean (Ok value) before after R made = made.tables (clean after)
+  made_clean (Err fault) before after R made = tt
+
+  tables_made : (R : Register) (before after : Over g) (stored closed : Done) → R ≡ worked_opening → stored ≡ Ok tt
+      → MakesRegister over_files R stored before after closed → HasTables (state over_files after).now (tables_of worked_opening)
+  tables_made R before after stored closed is ok makes =
+      tables_told makes.told closed after R is (sym makes.result_is ∙ ok) (made_clean makes.told before after R makes.made)
+
+  module _ {M : Type 0} (opens : Opening M D) (shuts : Shutting M) (ends : Ending M D) where
+    -- the tables were moved, or why not
+    pub move_given : KnowsJones g opens → (path : List ℕ) (result : Result (String Global) Fault) (old new : M)
+        → Migrates (Comes g opens shuts ends path (Alone (MovesRegister over_files))) result old new → IsVersionTwo result
+    move_given knows path result old new (inl (is, same)) = without_memory result is
+    move_given knows path result old new (inr (moved, prints, inl (fault, is, of_line, shut))) =
+        printed_moved moved result (subst (λ (d : Done). IfErr d IsOfLine) (sym is) of_line) prints
+    move_given knows path result old new (inr (moved, prints, inr visit)) =
+        let moves = visit.does.1 in
+        let (files, left, back) = visit.ended in
+        printed_moved moved result
+        (subst (λ (d : Done). IfErr d IsOfLine) (sym moves.result_is)
+        (moved_line moves.told visit.closed (moves.known jones_register (knows _ _ _ _ visit.opened) (clean visit.after))
+        (closing_line visit.after files visit.closed left))) prints
+
+    ran_given : (input : List ℕ) (printed : Result Printed Fault) (before after : Over g) → HasRegister over_files jones_register before
+        → RunsFrom over_files (Some input) printed before after → IsRunOfJones input printed
+    ran_given input (Ok printed) before after has runs = (
+      runs.left,
+      runs.answers.told,
+      printed,
+      subst (λ (S : Register). AnswersInput FailsAsStore S runs.left input runs.answers.told printed) (runs.is_register _ has (clean runs.opened))
+          (subst (λ (b : List ℕ). AnswersInput FailsAsStore runs.register runs.left b runs.answers.told printed) runs.is_input.0 runs.answers.run),
+      refl,
+    )
+    ran_given input (Err fault) before after has runs = runs.known _ has (clean after)
+
+    -- the input was answered over the register, as far as its bytes are known
+    pub run_given : KnowsJones g opens → (path : List ℕ) (input : Option (List ℕ)) (result : Result Printed Fault) (old new : M)
+        → Comes g opens shuts ends path (Alone (RunsStored over_files input)) result old new
+        → IfSome input (λ bytes. IsRunOfJones bytes result)
+    run_given knows path None result old new comes = tt
+    run_given knows path (Some bytes) result old new (inl (fault, is, of_line, shut)) =
+        subst (λ (r : Result Printed Fault). IsRunOfJones bytes r) (sym is) (inl of_line)
+    run_given knows path (Some bytes) result old new (inr visit) =
+        let runs = visit.does.1 in
+        subst (λ (r : Result Printed Fault). IsRunOfJones bytes r) (sym runs.result_is)
+        (still_given bytes runs.printed visit.closed (ran_given bytes runs.printed visit.before visit.after (knows _ _ _ _ visit.opened) runs.runs))
+
+    stored_given : (path : List ℕ) (R : Register) (stored : Done) (old new : M) → R ≡ worked_opening → stored ≡ Ok tt
+        → Comes g opens shuts ends path (Alone (MakesRegister over_files R)) stored old new
+        → Visits g opens ends path (λ (middle : M) before after (closed : Done) (later : M).
+        HasTables (state over_files after).now (tables_of worked_opening)) old new
+    stored_given path R stored old new is ok (inl (fault, failed, of_line, shut)) = absurd (cc (sym ok ∙ failed))
+    stored_given path R stored old new is ok (inr visit) = record {
+      before = visit.before;
+      after = visit.after;
+      closed = visit.closed;
+      middle = visit.middle;
+      later = visit.later;
+      opened = visit.opened;
+      does = tables_made R visit.before visit.after stored visit.closed is ok visit.does.1;
+      ended = visit.ended;
+    }
+
+    rows_stored : (path : List ℕ) (rows : FileRows) (result : Result (String Global) Fault) (old new : M) → worked_rows ≡ rows
+        → Stores (λ R. Comes g opens shuts ends path (Alone (MakesRegister over_files R))) rows result old new
+        → StoresWorked g opens ends path result old new
+    rows_stored path rows (Err fault) old new is stores = tt
+    rows_stored path rows (Ok text) old new is (inl (refuses, same)) = absurd refuses
+    rows_stored path rows (Ok text) old new is (inr (R, opening_of, stored, (ok, counts), comes)) = (
+      counts_given (rows_fault worked_rows) (string_bytes text) refl (subst (λ (r : FileRows). counts_of r ≡ Ok (string_bytes text)) (sym is) counts),
+      stored_given path R stored old new (opening_given R (subst (λ (r : FileRows). IsOpeningOf r R) (sym is) opening_of)) ok comes,
+    )
+
+    -- the register of the worked files was stored
+    pub read_given : (path : List ℕ) (read : Result FileRows Fault) (result : Result (String Global) Fault) (old new : M)
+        → Gives IsUnreadFile (λ rows. rows) (rows_of worked_files) read
+        → After read (λ rows result. Stores (λ R. Comes g opens shuts ends path (Alone (MakesRegister over_files R))) rows result old new) result
+        → StoresWorked g opens ends path result old new
+    read_given path (Ok rows) result old new gives stores = rows_stored path rows result old new (cc (sym rows_read ∙ gives)) stores
+    read_given path (Err fault) result old new gives is =
+        subst (λ (r : Result (String Global) Fault). StoresWorked g opens ends path r old new) (sym is) tt
+
+-- the line of counts, wherever the register was stored
+pub counted : {M D : Type 0} (g : disk.Ghosts D) (makes : Opening M D) (ends : Ending M D) (path : List ℕ)
+    (result : Result (String Global) Fault) (old new : M) → StoresWorked g makes ends path result old new
+    → IfOk result (λ text. string_bytes text ≡ worked_counts)
+counted g makes ends path (Ok text) old new stores = stores.0
+counted g makes ends path (Err fault) old new stores = tt

@@ -1,0 +1,143 @@
+-- What comes of a visit of a database whose register is known: what is printed, and the response to a request for the board.
+use Rattle.std.proofs.Common.{◌≡◌, ◌∙◌, ℕ, ap, inl, inr, subst, sym, List, None, Option, Some, Result, Ok, Err}
+use Rattle.std.specs.Prelude.{OnOk, String}
+use Rattle.std.specs.Borrow.{Bor}
+use Rattle.std.specs.declared.alloc.Global.{Global}
+use Rattle.sqlite.specs.Files.{over_files}
+use Rattle.sqlite_disk.specs.declared.Disk as disk
+use Rattle.sqlite_disk.specs.declared.Files.{Files}
+use Rattle.clr_stream.specs.Streams.{Stream}
+use Rattle.clr_rules.specs.Good.{IsGood}
+use Rattle.clr_rules.specs.Register.{Register}
+use Rattle.clr_http.specs.declared.registrar.Registrar as registrar
+use Rattle.clr_logins.specs.declared.logins.LoginRow.{LoginRow}
+use Rattle.clr_args.specs.declared.asked.ServeArgs.{ServeArgs}
+use Rattle.clr_commands.specs.declared.serve.Terms.{Terms}
+use Rattle.clr_edge.specs.Database.{HasRegister, IsOfLine}
+use Rattle.clr_edge.specs.Visit.{Comes, Done, Ending, Opening, Over, Shutting, both}
+use Rattle.clr_edge.specs.declared.fault.Fault.{Fault}
+use Rattle.clr_edge.specs.TakenUp.{Logs}
+use Rattle.clr_edge.specs.declared.loopback.Loopback as loopback
+use Rattle.clr_journal.specs.Line.{Entry}
+use Rattle.clr_journaled.specs.Redo.{IsRead, redone_by}
+use Rattle.clr_commands.specs.Answers.{GivesText}
+use Rattle.clr_commands.specs.Connections.{ReportsConnection, Seen, TakesFirst, TakesNext}
+use Rattle.clr_commands.specs.Desks.{over_store, with_journal}
+use Rattle.clr_commands.specs.Logins.{NamesLogins, terms_with}
+use Rattle.clr_commands.specs.Paths.{AtPaths}
+use Rattle.clr_commands.specs.Serve.{ServesAt, ServesKeeper, ServesKept, ServesLogged, ServesOver, ServesRead}
+use Rattle.clr_commands.specs.Stored.{PrintsOf, WhileOpen}
+use Rattle.clr_known.specs.Known.{IsAlwaysClean, IsAskedForBoard, IsBoardResponse, KnowsJones, ServesOnce, fresh, jones_register, once_at}
+use Rattle.clr_known.proofs.BoardServed.{begins, board_sent}
+
+-- what holds where the first of two faults is none, and no more where there is one
+of_both : (served closed : Done) (P : Type 0) → OnOk served P → OnOk (both served closed) P
+of_both (Ok value) (Ok other) P holds = holds
+of_both (Ok value) (Err fault) P holds = tt
+of_both (Err fault) closed P holds = tt
+
+-- what premises give of a result, they give where it is none
+pub given_all : {A B : Type 0} (Z : Type 0) (result : Done) → (A → B → OnOk result Z) → OnOk result (A → B → Z)
+given_all Z (Ok value) given = given
+given_all Z (Err fault) given = tt
+
+module _ {M D : Type 0} (g : disk.Ghosts D) (clean : IsAlwaysClean g)
+    (opens : Opening M D) (shuts : Shutting M) (ends : Ending M D) (knows : KnowsJones g opens) where
+  -- what is printed is what is answered of the register
+  pub answer_given : (path : List ℕ) (IsOwn : Fault → Type 0) (answer : Register → Result (List ℕ) Fault) (result : Result (String Global) Fault)
+      (old new : M) → Comes g opens shuts ends path (WhileOpen (PrintsOf over_files IsOwn answer)) result old new
+      → GivesText IsOfLine (answer jones_register) result
+  answer_given path IsOwn answer result old new (inl (fault, is, of_line, shut)) =
+      subst (λ (r : Result (String Global) Fault). GivesText IsOfLine (answer jones_register) r) (sym is) (λ other. absurd (other of_line))
+  answer_given path IsOwn answer result old new (inr visit) =
+      visit.does.1.known jones_register (knows _ _ _ _ visit.opened) (clean visit.after)
+
+  module _ {L R W J C : Type 0} (logs : Logs M J C) (net : loopback.Ghosts M L R W) (seen : Seen R W) (response : M → List ℕ)
+      (asked : IsAskedForBoard ends logs.steps net seen response) where
+    module _ {X : Type 0} (by : registrar.Ghosts X) where
+      -- of a connection that was answered the response is kept
+      answered : (port : ℕ) (k k' : X) (l : L) (reported : Stream) (old new : M) → (by.keeper k).register ≡ jones_register
+          → IsGood (by.keeper k).register → reported ≡ fresh → TakesNext by net seen (once_at port) l 1 k k' reported fresh old new
+          → IsBoardResponse (response new)
+      answered port k k' l reported old new register good none (inr (kind, missed, same, told)) = absurd (asked.misses _ _ _ _ missed)
+      answered port k k' l reported old new register good none (inl it) =
+          let (served, is, put, reports) = it.served in
+          let (comes, empty) = asked.comes _ _ _ _ _ it.came in
+          let quiet = subst (λ (e : Stream). ReportsConnection 1 served e fresh) none reports in
+          board_sent (by.keeper k) (by.keeper k') _ _ served _ register empty (asked.keeps _ _ _ it.left) (is.served _ _ _ comes begins good) quiet
+
+      taken : (port : ℕ) (k k' : X) (l : L) (old new : M) → (by.keeper k).register ≡ jones_register → IsGood (by.keeper k).register
+          → TakesFirst by net seen (once_at port) l 1 k k' fresh fresh old new → IsBoardResponse (response new)
+      unfolding TakesFirst
+      taken port k k' l old new register good (middle, between, reported, first, next) =
+          answered port between k' l reported middle new (ap (λ (x : X). (by.keeper x).register) first.1 ∙ register)
+          (subst (λ (x : X). IsGood (by.keeper x).register) (sym first.1) good) first.2 next
+
+    module _ (at : AtPaths) (args : ServeArgs) (once : ServesOnce args) (output output' errors errors' : Stream) (quiet : errors ≡ fresh)
+        (quiet' : errors' ≡ fresh) where
+      -- of one who keeps the register
+      kept_so : {X : Type 0} (by : registrar.Ghosts X) (first last : X) (value : Unit {0}) (old new : M) → (by.keeper first).register ≡ jones_register
+          → IsGood (by.keeper first).register
+          → ServesKeeper by net seen output output' errors errors' (terms_with args None) first last (Ok value) old new → IsBoardResponse (response new)
+      kept_so {X} by first last value old new register good (listener, middle, begun, went, takes, runs) =
+          taken by args.port first last listener middle new register good
+          (subst (λ (e : Stream). TakesFirst by net seen (once_at args.port) listener 1 first last e fresh middle new) quiet
+          (subst (λ (e : Stream). TakesFirst by net seen (once_at args.port) listener 1 first last errors e middle new) quiet'
+          (subst (λ (t : Terms). TakesFirst by net seen t listener t.count first last errors errors' middle new) once.terms takes)))
+
+      served_so : (served : Done) (old new : M) (before after : Over g) → HasRegister over_files jones_register before
+          → ServesOver net seen args None output output' errors errors' over_files served old new before after
+          → OnOk served (IsBoardResponse (response new))
+      served_so (Err fault) old new before after has over = tt
+      served_so (Ok value) old new before after has (inl refused) = absurd refused.0
+      served_so (Ok value) old new before after has (inr it) =
+          kept_so (over_store over_files) it.opened it.left value old new (it.is_register _ has (clean it.opened.store)) it.good it.serves
+
+      -- the same with a journal, which is new: no line of it is redone
+      logged_so : (journal : List ℕ) (served : Done) (old new : M) (before after : Over g) → HasRegister over_files jones_register before
+          → ServesLogged logs net seen args None output output' errors errors' over_files journal served old new before after
+          → OnOk served (IsBoardResponse (response new))
+      logged_so journal (Err fault) old new before after has over = tt
+      logged_so journal (Ok value) old new before after has (inl refused) = absurd refused.0
+      logged_so journal (Ok value) old new before after has (inr it) =
+          let up = it.taken_up in
+          let unread : up.entry ≡ None =
+          subst (λ (last : Option (List ℕ)). IsRead last up.entry) (asked.logged _ _ _ _ _ up.journal.opened) up.journal.goes_on.read in
+          let register : it.taken.book.register ≡ jones_register =
+          up.register ∙ ap (λ (entry : Option Entry). redone_by entry up.kept.first) unread ∙ up.kept.is_register _ has (clean up.kept.opened) in
+          subst (λ (bytes : List ℕ). IsBoardResponse bytes) (sym (asked.gone _ _ _ it.gone))
+          (kept_so (with_journal over_files logs) it.taken it.left value it.between it.later register it.good it.serves)
+
+      -- the database is closed after it, which sends nothing
+      closed_so : (result served closed : Done) (files : Files D) (later new : M) → result ≡ both served closed → ends later files new
+          → OnOk served (IsBoardResponse (response later)) → OnOk result (IsBoardResponse (response new))
+      closed_so result served closed files later new is back sent =
+          subst (λ (r : Done). OnOk r (IsBoardResponse (response new))) (sym is) (of_both served closed _
+          (subst (λ (bytes : List ℕ). OnOk served (IsBoardResponse bytes)) (sym (asked.ended _ _ _ back)) sent))
+
+      no_visit : (result : Done) (fault : Fault) (P : Type 0) → result ≡ Err fault → OnOk result P
+      no_visit result fault P is = subst (λ (r : Done). OnOk r P) (sym is) tt
+
+      kept : (journal : Option (Bor (List ℕ))) (path : List ℕ) (result : Done) (old new : M)
+          → ServesKept logs net seen args None output output' errors errors' g opens shuts ends journal path result old new
+          → OnOk result (IsBoardResponse (response new))
+      kept None path result old new (inl (fault, is, of_line, shut)) = no_visit result fault _ is
+      kept None path result old new (inr visit) =
+          let stored = visit.does in
+          closed_so result stored.served visit.closed visit.ended.0 visit.later new stored.result_is visit.ended.2
+          (served_so stored.served visit.middle visit.later visit.before visit.after (knows _ _ _ _ visit.opened) stored.serves)
+      kept (Some journal) path result old new (inl (fault, is, of_line, shut)) = no_visit result fault _ is
+      kept (Some journal) path result old new (inr visit) =
+          let stored = visit.does in
+          closed_so result stored.served visit.closed visit.ended.0 visit.later new stored.result_is visit.ended.2
+          (logged_so journal.now stored.served visit.middle visit.later visit.before visit.after (knows _ _ _ _ visit.opened) stored.serves)
+
+      -- what goes out is the response to the request for the board
+      pub service_given : (result : Done) (old new : M)
+          → ServesAt logs net seen at args output output' errors errors' g opens shuts ends result old new
+          → OnOk result (IsBoardResponse (response new))
+      service_given result old new (read, names, serves) =
+          let none : read ≡ Ok None = subst (λ (path : Option (Bor (List ℕ))). NamesLogins at path read) once.no_logins names in
+          kept args.journal args.database.now result old new
+          (subst (λ (r : Result (Option (List LoginRow)) Fault).
+          ServesRead logs net seen at args output output' errors errors' g opens shuts ends r result old new) none serves)

@@ -1,0 +1,17 @@
+//! A machine in memory that meets what the clauses of the subcommands ask of one, by proof: its
+//! databases have a known register, and the board is asked for over its port. Calls of the
+//! subcommands are proved at any machine of which that much is known (`visits`, `answers`), and at
+//! this one.
+#![tactic(auto)]
+
+mod answers;
+mod databases;
+mod exchange;
+mod files;
+mod journals;
+mod machine;
+mod visits;
+
+pub use answers::{Answers, known_answers};
+pub use machine::Known;
+pub use visits::known_service;

@@ -1,0 +1,93 @@
+//! A machine of which this much is known, and what the clauses of `serve` say of it: its register
+//! answers, to the last byte. The machine in memory is one.
+ghost use Rattle.std.specs.Prelude.{◌≡◌, ℕ, List, OnOk};
+ghost use Rattle.clr_commands.specs.Connections.{seen};
+ghost use Rattle.clr_known.specs.Known.{IsAlwaysClean, IsAskedForBoard, IsBoardResponse};
+ghost use Rattle.clr_known.specs.Known.{KnowsJones, ServesOnce, fresh};
+
+use crate::files::KnownFiles;
+use crate::machine::Known;
+use clr_args::asked::ServeArgs;
+use clr_commands::serve::serve;
+use clr_edge::database::Makes;
+use clr_edge::fault::Fault;
+use clr_edge::journals::Journals;
+use clr_edge::loopback::Loopback;
+use clr_edge::paths::Opens;
+use clr_stream::CountedFlush;
+use std::alloc::Global;
+
+/// A machine whose databases have the register of JONES/1, and whose disks are clean. The board is
+/// asked for over each of its connections, and what went out over the last one is kept.
+pub trait JonesMachine: Makes + Journals + Loopback {
+    ghost response: { Self → List ℕ };
+
+    ghost knows: { KnowsJones Self.Medium.Disk Self.opens };
+
+    ghost clean: { IsAlwaysClean Self.Medium.Disk };
+
+    ghost asked: { IsAskedForBoard Self.ends Self.Journals Self.Loopback
+        (seen Self.Reader.remaining Self.Reader.failure_count Self.Writer.stream) response };
+}
+
+impl JonesMachine for Known {
+    ghost use Rattle.std.proofs.Common.{List, ℕ, Some, ap, sym};
+    ghost use Rattle.clr_known.specs.Clean.{always_clean};
+    ghost use Rattle.clr_known.specs.declared.machine.Known.{Known as AnyKnown};
+
+    ghost response = { λ known. known.response.items };
+
+    ghost knows = { λ old new path connection opened. opened.1 };
+
+    ghost clean = { λ connection. always_clean connection };
+
+    ghost asked = { record {
+      logged = λ old new path journal last begun. begun.1;
+      comes = λ old new listener deadline connection came.
+          (ap (λ (bytes : List ℕ). Some bytes) came.1, ap (λ (bytes : List ℕ). Some bytes) came.2);
+      misses = λ old new listener kind missed. missed;
+      keeps = λ old new connection left. ap (λ (m : AnyKnown). Some m.response.items) (sym left);
+      gone = λ old new journal let_go. ap (λ (m : AnyKnown). m.response.items) let_go;
+      ended = λ old new files back. ap (λ (m : AnyKnown). m.response.items) back;
+    } };
+}
+
+/// Answers one connection from the register at `jones.db`, with a journal or without one.
+fn service_of_jones<'a, R: JonesMachine, O: Opens<'a>, W: CountedFlush, E: CountedFlush>(
+    alloc: Global,
+    machine: &mut R,
+    paths: &O,
+    args: &ServeArgs<'a>,
+    output: &mut W,
+    errors: &mut E,
+) -> Result<(), Fault>
+    requires { ServesOnce args.now }
+    ensures { OnOk result (E.stream errors.old ≡ fresh → E.stream errors.new ≡ fresh
+        → IsBoardResponse (R.response machine.new)) }
+{
+    serve(alloc, machine, paths, args, output, errors)
+}
+
+/// The same of the machine in memory: what went out over the connection is the response to a request
+/// for the board, unless a failure was reported.
+pub fn known_service<W: CountedFlush, E: CountedFlush>(
+    machine: &mut Known,
+    journal: Option<&str>,
+    output: &mut W,
+    errors: &mut E,
+) -> Result<(), Fault>
+    ensures { OnOk result (E.stream errors.old ≡ fresh → E.stream errors.new ≡ fresh
+        → IsBoardResponse machine.new.response.items) }
+{
+    let args = ServeArgs {
+        database: "jones.db",
+        port: 8080,
+        count: 1,
+        deadline: None,
+        desk: false,
+        logins: None,
+        journal,
+    };
+    let paths = KnownFiles { all: &[] };
+    service_of_jones(machine.alloc, machine, &paths, &args, output, errors)
+}

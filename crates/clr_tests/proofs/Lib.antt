@@ -1,4 +1,0 @@
-pub mod Clean
-pub mod OneList
-pub mod WorkedRows
-pub mod JonesRegister
