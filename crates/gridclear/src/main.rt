@@ -3,12 +3,16 @@
 
 ghost use Rattle.std.specs.Prelude.{◌≡◌, ◌≤◌};
 ghost use Rattle.std.specs.Process.{exit_status};
+ghost use Rattle.clr_command_line.specs.Report.{IsReported};
 
 mod input;
 
 use crate::input::StandardInput;
 use clr_command_line::command_line::command_line;
 use clr_disk::{Behind, Host, System, Watch};
+use clr_edge::database::Makes;
+use clr_edge::journals::Journals;
+use clr_edge::loopback::Loopback;
 use clr_edge::machine::{AnyFiles, Machine};
 use clr_edge::paths::Paths;
 use clr_stream::{Counted, CountedFlush, CountedRead};
@@ -64,11 +68,36 @@ fn answer<Y: System + Drop, K: Clock, I: CountedRead, W: CountedFlush, E: Counte
     output: &mut W,
     errors: &mut E,
 ) -> u8
-    ensures { result ≤ 2 }
+    ensures status { result ≤ 2 }
+    ensures reported { IsReported result
+        (W.stream output.old) (W.stream output.new) (E.stream errors.old) (E.stream errors.new) }
 {
     let mut machine = Machine::watched(alloc, system, watch);
     let paths = Paths::new(files);
-    command_line(&mut machine, &paths, words, input, output, errors)
+    answer_on(&mut machine, &paths, words, input, output, errors)
+}
+
+/// Answers them on any machine. Only the paths have their type here, and only the machine has its own
+/// in `answer`: at both together the prover runs out of steps.
+fn answer_on<Y, R, I, W, E>(
+    machine: &mut R,
+    paths: &Paths<'_, Y>,
+    words: &io::Result<Vec<String>>,
+    input: &mut I,
+    output: &mut W,
+    errors: &mut E,
+) -> u8
+where
+    Y: System,
+    R: Makes + Journals + Loopback + AllocGlobal,
+    I: CountedRead,
+    W: CountedFlush,
+    E: CountedFlush,
+    ensures status { result ≤ 2 }
+    ensures reported { IsReported result
+        (W.stream output.old) (W.stream output.new) (E.stream errors.old) (E.stream errors.new) }
+{
+    command_line(machine, paths, words, input, output, errors)
 }
 
 /// The status as the system has it.
