@@ -31,10 +31,10 @@ gives_line : (Is IsToo : Result (List ℕ) Fault → Type 0) (result : Result (S
 gives_line Is IsToo (Ok value) same gives = same (Ok (string_bytes value)) gives
 gives_line Is IsToo (Err fault) same gives = λ other. same (Err fault) (gives (λ memory. other (inl memory)))
 
-unanswered : {T S : Type 0} (g : Ghosts S) (IsOwn : Fault → Type 0) (before after : Held S) (result : Result T Fault) → IfErr result IsOwn
-    → IsOnlyRead g before after → IfErr result (IsUnanswered g before after IsOwn)
-unanswered g IsOwn before after (Ok value) own read = tt
-unanswered g IsOwn before after (Err fault) own read = record { cause = inl (own, read); survives = read.survives }
+unanswered : {T S : Type 0} (g : Ghosts S) (IsOwn : Fault → Type 0) (before after : Held S) (Q : Register) (result : Result T Fault) → IfErr result IsOwn
+    → ReadsAs g before after Q → IsOnlyRead g before after → IfErr result (IsUnanswered g before after IsOwn)
+unanswered g IsOwn before after Q (Ok value) own reads read = tt
+unanswered g IsOwn before after Q (Err fault) own reads read = record { cause = inl (own, read, (Q, reads)); survives = read.survives }
 
 -- what is printed is of that register
 printed_of : {S : Type 0} (g : Ghosts S) (Is : Register → Result (List ℕ) Fault → Type 0) (result : Result (String Global) Fault) (before after : Held S) (Q : Register)
@@ -52,7 +52,7 @@ AnswersOf-read g IsOwn Is result before after Q is_register good reads read give
   known = λ R has clean. gives_line (Is Q) (Is R) result (λ known is. subst (λ (P : Register). Is P known) (is_register R has clean) is) gives;
   printed = printed_of g Is result before after Q good reads gives;
   read = OnOk-any result (IsOnlyRead g before after) read;
-  refused = unanswered g IsOwn before after result own read;
+  refused = unanswered g IsOwn before after Q result own reads read;
 }
 
 -- nothing is answered of one whose tables were refused

@@ -122,8 +122,10 @@ RunsFrom-run {T} g before after opened last input (Ok printed) read good is_regi
       answers;
 }
 RunsFrom-run {T} g before after opened last input (Err fault) read good is_register reads same of none =
-    let still = subst (λ (h : Held T). IsOnlyRead g before h) (sym (same ∙ ap (λ (d : Desk (Held T)). d.store) none)) read in record {
-      unanswered = record { cause = inl (of, still); survives = still.survives };
+    let left = sym (same ∙ ap (λ (d : Desk (Held T)). d.store) none) in
+    let still = subst (λ (h : Held T). IsOnlyRead g before h) left read in
+    let reads_still = subst (λ (h : Held T). ReadsAs g before h opened.book.register) left reads in record {
+      unanswered = record { cause = inl (of, still, (opened.book.register, reads_still)); survives = still.survives };
       known = λ K has clean. inr of;
     }
 
@@ -222,8 +224,8 @@ runs_plain : {T : Type 0} (g : Ghosts T) (before after : Held T) (input : Option
 runs_plain g before after input (Ok run) closed line runs = ended_plain run.fault closed (answers_plain runs.answers.run) line
 runs_plain g before after input (Err fault) closed line runs = by runs.unanswered.cause
   where
-    by : (IsOfInput input fault × IsOnlyRead g before after) ⊎ IsRefused g before fault after → IsOfSubcommand fault
-    by (inl (of, read)) = input_plain input fault of
+    by : (IsOfInput input fault × IsOnlyRead g before after × ((R : Register) × ReadsAs g before after R)) ⊎ IsRefused g before fault after → IsOfSubcommand fault
+    by (inl (of, read, reads)) = input_plain input fault of
     by (inr refused) = refused_plain g before after fault refused
 
 pub FailsAsSubcommand-closed : {T : Type 0} (g : Ghosts T) (before after : Held T) (input : Option (List ℕ)) (printed : Result Printed Fault)

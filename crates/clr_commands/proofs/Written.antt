@@ -22,7 +22,8 @@ use Rattle.clr_load.specs.declared.fault.StoreFault.{StoreFault}
 use Rattle.clr_load.specs.declared.fault.StoreFault.TheVariants as store
 use Rattle.clr_desk.specs.declared.desk_fault.DeskFault.{DeskFault}
 use Rattle.clr_desk.specs.declared.desk_fault.DeskFault.TheVariants as desk
-use Rattle.clr_edge.specs.Database.{IsOfLine, IsOnlyRead, IsRefused}
+use Rattle.clr_rules.specs.Register.{Register}
+use Rattle.clr_edge.specs.Database.{IsOfLine, IsOnlyRead, IsRefused, ReadsAs}
 use Rattle.clr_edge.specs.Fault.{of_desk, of_store}
 use Rattle.clr_edge.specs.Journals.{IsOfTakingUp}
 use Rattle.clr_edge.specs.TakenUp.{IsNotTakenUp, Logs}
@@ -162,8 +163,8 @@ module _ {M L R W : Type 0} (net : loopback.Ghosts M L R W) (seen : Seen R W) (o
   over_written args logins g (Err fault) closed old new before after (inl ((unanswered, known), same, quiet, rest)) other =
       inl (refused_other unanswered.cause, same, quiet)
     where
-      refused_other : (⊥ × IsOnlyRead g before after) ⊎ IsRefused g before fault after → fault ≢ Output
-      refused_other (inl (none, read)) = absurd none
+      refused_other : (⊥ × IsOnlyRead g before after × ((R : Register) × ReadsAs g before after R)) ⊎ IsRefused g before fault after → fault ≢ Output
+      refused_other (inl (none, read, reads)) = absurd none
       refused_other (inr refused) = other_as fault _ refused.told_is (store_other refused.fault)
   over_written args logins g served closed old new before after (inr opened) other =
       asked_written (over_store g) net seen output output' errors errors' args opened.opened.book.register.staff logins opened.opened opened.left served closed old new opened.serves other

@@ -24,11 +24,12 @@ abbrev pub IsOfOrder : Fault → Type 0
 IsOfOrder fault = (fault ≡ Memory) ⊎ (fault ≡ NoSuch)
 
 -- WHY NOTHING CAME OF A DATABASE that was opened: a fault of the subcommand's own, once its register
--- was read, or the one with which the tables were refused. The database was not changed: a crash
--- leaves what it left before.
+-- was read from the tables, or the one with which these were refused. The database was not changed:
+-- a crash leaves what it left before.
 pub record IsUnanswered {S : Type 0} (g : Ghosts S) (before after : Held S)
     (IsOwn : Fault → Type 0) (fault : Fault) : Type 0 where
-  pub cause : (IsOwn fault × IsOnlyRead g before after) ⊎ IsRefused g before fault after
+  pub cause : (IsOwn fault × IsOnlyRead g before after × ((R : Register) × ReadsAs g before after R))
+      ⊎ IsRefused g before fault after
   pub survives : Survives (state g before) (state g after) (λ _. ⊥)
 
 -- WHAT IS ANSWERED OF A DATABASE while it is open: of the register that it is known to have, unless
