@@ -49,16 +49,16 @@ const WAY_BACK: &str = r#"{"at":104,"by":"JONES","clearance":"JONES/1","do":"can
 "#;
 
 /// A text, or that there is none.
-fn text(told: &Result<String, Fault>) -> &str {
-    match told {
+fn text(answer: &Result<String, Fault>) -> &str {
+    match answer {
         Ok(text) => text.as_str(),
         Err(_fault) => "a fault",
     }
 }
 
 /// What a run printed, or that it did not.
-fn replies(told: &Result<Printed, Fault>) -> &str {
-    match told {
+fn replies(answer: &Result<Printed, Fault>) -> &str {
+    match answer {
         Ok(printed) => printed.text.as_str(),
         Err(_fault) => "a fault",
     }
