@@ -8,4 +8,6 @@ pub mod Inside
 pub mod Found
 pub mod Contract
 pub mod Reading
+pub mod Filling
+pub mod Loads
 pub mod Listed

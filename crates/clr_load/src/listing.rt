@@ -15,7 +15,7 @@ use clr_tables::TableName;
 use sqlite::{Alter, Row, Transaction};
 
 /// Lists all rows of a table, in the order of the whole key.
-fn select_sql(table: TableName) -> &'static str
+pub(crate) fn select_sql(table: TableName) -> &'static str
     ensures { result.now ≡ select_sql table }
 {
     match table {

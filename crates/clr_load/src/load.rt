@@ -1,71 +1,57 @@
 //! The rows of a register, read back from the tables.
-ghost use Rattle.std.specs.Prelude.{◌≡◌, ◌⊎◌, false, map, IsTrue, IfErr, IfOk, IsErrAnd};
+ghost use Rattle.std.specs.Prelude.{◌≡◌, ◌⊎◌, false, map, IsTrue, IfErr, IfOk, IsErrAnd, Ok};
 ghost use Rattle.sqlite.specs.Held.{state};
 ghost use Rattle.sqlite.specs.State.{HasCleanDisk, Survives};
-ghost use Rattle.clr_tables.specs.RowsRead.{rows_read};
+ghost use Rattle.clr_tables.specs.RowsRead.{all_read, rows_read};
 ghost use Rattle.clr_tables.specs.Tables.{Tables};
+ghost use Rattle.clr_tables.specs.declared.table_name.TableName.TheVariants.{Meta};
 ghost use Rattle.clr_load.specs.Cause.{SqlHasCause};
-ghost use Rattle.clr_load.specs.Contract.{GivesRows, IsSaved, YieldsRows};
+ghost use Rattle.clr_load.specs.Contract.{GivesRows, IsSaved};
 ghost use Rattle.clr_load.specs.Fault.{IsOfDatabase};
-ghost use Rattle.clr_load.specs.Found.{Lists};
-ghost use Rattle.clr_load.specs.Layout.{is_two};
-ghost use Rattle.clr_load.specs.Listed.{both_fit, both_of, tables_in};
-ghost use Rattle.clr_load.specs.Stored.{HasTables};
+ghost use Rattle.clr_load.specs.Filling.{GivesInto, IsLoaded};
+ghost use Rattle.clr_load.specs.Layout.{has_table, is_two};
+ghost use Rattle.clr_load.specs.Listed.{both_fit};
+ghost use Rattle.clr_load.specs.Loads.{Loads, both_read};
+ghost use Rattle.clr_load.specs.Stored.{HasTables, rows_in};
 
 use crate::fault::StoreFault;
-use crate::listing::list_rows;
-use crate::rows::Rows;
-use crate::table_row::{PointRead, all_read};
+use crate::fill::Fill;
+use crate::listing::select_sql;
+use crate::rows::{Loaded, Rows};
+use crate::table::read_table;
+use crate::table_row::{PointRead, TableRow};
 use crate::version::version_in;
-use clr_net::PointRow;
-use clr_rules::PointState;
+use clr_net::{PointRow, SectionRow};
+use clr_rules::{Hold, PointState, Record, StepRow};
+use clr_staff::StaffRow;
 use clr_tables::TableName;
-use sqlite::{Alter, Connection, Row, Transaction};
+use sqlite::{Alter, Connection, Row};
 use std::alloc::{AllocError, Global};
 
-/// The rows of all tables, as the database lists them.
-#[derive(Drop)]
-struct Listed {
-    meta: Vec<Row>,
-    sections: Vec<Row>,
-    points: Vec<Row>,
-    staff: Vec<Row>,
-    clearances: Vec<Row>,
-    steps: Vec<Row>,
-    holds: Vec<Row>,
+/// The rows that have the version.
+fn read_meta<S: Alter>(conn: &mut Connection<S>) -> Result<Vec<Row>, StoreFault>
+    ensures { Loads S.Store conn.old conn.new (λ l. has_table l Meta) (λ l t. Ok t.meta)
+        (λ rows meta. rows.items ≡ meta) result }
+{
+    let rows = conn.query_all(select_sql(TableName::Meta), &[])?;
+    Ok(rows)
 }
 
-/// Lists the rows of two tables.
-fn list_both<S: Alter>(
-    tx: &mut Transaction<'_, S>,
+/// Reads two tables, one after the other.
+fn read_both<S: Alter, T: TableRow, F: Fill<T>, U: TableRow, G: Fill<U>>(
+    conn: &mut Connection<S>,
+    alloc: Global,
     one: TableName,
     other: TableName,
-) -> Result<(Vec<Row>, Vec<Row>), StoreFault>
-    ensures { Lists S.Store tx.old tx.new IsOfDatabase (both_fit one other) (both_of one other)
-        (λ listed. (listed.0.items, listed.1.items)) result }
+) -> Result<(F, G), StoreFault>
+    ensures { Loads S.Store conn.old conn.new (both_fit one other)
+        (λ l t. both_read (all_read T.TableRow.values (rows_in l one t))
+        (all_read U.TableRow.values (rows_in l other t)))
+        (λ both read. F.has both.0 read.0 × G.has both.1 read.1) result }
 {
-    let first = list_rows(tx, one)?;
-    let second = list_rows(tx, other)?;
+    let first = read_table::<S, T, F>(conn, alloc, one)?;
+    let second = read_table::<S, U, G>(conn, alloc, other)?;
     Ok((first, second))
-}
-
-/// Lists the rows of all tables.
-fn list_tables<S: Alter>(tx: &mut Transaction<'_, S>) -> Result<Listed, StoreFault>
-    ensures { Lists S.Store tx.old tx.new IsOfDatabase is_two (λ l t. t) tables_in result }
-{
-    let meta = list_rows(tx, TableName::Meta)?;
-    let network = list_both(tx, TableName::Section, TableName::NetworkPoint)?;
-    let people = list_both(tx, TableName::Staff, TableName::Clearance)?;
-    let work = list_both(tx, TableName::Step, TableName::Hold)?;
-    Ok(Listed {
-        meta,
-        sections: network.0,
-        points: network.1,
-        staff: people.0,
-        clearances: people.1,
-        steps: work.0,
-        holds: work.1,
-    })
 }
 
 /// The switching points of what was read.
@@ -83,20 +69,36 @@ fn states_of(alloc: Global, read: &[PointRead]) -> Result<Vec<PointState>, Alloc
 }
 
 /// Reads the rows of all tables, up to the first that does not read.
-fn rows_of(listed: &Listed) -> Result<Rows, StoreFault>
-    ensures { YieldsRows (rows_read (tables_in listed.now)) result }
+fn read_tables<S: Alter, C: Fill<Record>, T: Fill<StepRow>, H: Fill<Hold>>(
+    conn: &mut Connection<S>,
+) -> Result<Loaded<C, T, H>, StoreFault>
+    ensures { Loads S.Store conn.old conn.new is_two (λ l t. rows_read t)
+        (IsLoaded C.has T.has H.has) result }
 {
-    let alloc = *listed.meta.allocator();
-    let version = version_in(&listed.meta)?;
-    let sections = all_read(alloc, &listed.sections)?;
-    let read = all_read::<PointRead>(alloc, &listed.points)?;
-    let staff = all_read(alloc, &listed.staff)?;
-    let records = all_read(alloc, &listed.clearances)?;
-    let steps = all_read(alloc, &listed.steps)?;
-    let holds = all_read(alloc, &listed.holds)?;
+    let meta = read_meta(conn)?;
+    let alloc = *meta.allocator();
+    let version = version_in(&meta)?;
+    let (sections, read) = read_both::<S, SectionRow, Vec<SectionRow>, PointRead, Vec<PointRead>>(
+        conn,
+        alloc,
+        TableName::Section,
+        TableName::NetworkPoint,
+    )?;
+    let (staff, records) = read_both::<S, StaffRow, Vec<StaffRow>, Record, C>(
+        conn,
+        alloc,
+        TableName::Staff,
+        TableName::Clearance,
+    )?;
+    let (steps, holds) = read_both::<S, StepRow, T, Hold, H>(
+        conn,
+        alloc,
+        TableName::Step,
+        TableName::Hold,
+    )?;
     let points = points_of(alloc, &read)?;
     let states = states_of(alloc, &read)?;
-    Ok(Rows {
+    Ok(Loaded {
         version,
         sections,
         points,
@@ -108,7 +110,34 @@ fn rows_of(listed: &Listed) -> Result<Rows, StoreFault>
     })
 }
 
-/// Reads the rows of all tables, in a transaction that changes nothing.
+/// Reads the rows of all tables, and changes nothing. Clearances, steps and holds are read into what
+/// the caller keeps them in.
+pub fn load_into<S: Alter, C: Fill<Record>, T: Fill<StepRow>, H: Fill<Hold>>(
+    conn: &mut Connection<S>,
+) -> Result<Loaded<C, T, H>, StoreFault>
+    ensures mode { conn.old.in_transaction ≡ false → conn.new.in_transaction ≡ false }
+    ensures rows { HasCleanDisk (state S.Store conn.new) → (t : Tables)
+        → HasTables (state S.Store conn.old).now t
+        → GivesInto (IsLoaded C.has T.has H.has) (rows_read t) result }
+    ensures cause { conn.old.in_transaction ≡ false → HasCleanDisk (state S.Store conn.new)
+        → (t : Tables) → HasTables (state S.Store conn.old).now t
+        → IfErr result (SqlHasCause (state S.Store conn.old) (state S.Store conn.new)) }
+    ensures was_open { HasCleanDisk (state S.Store conn.new)
+        → IsTrue (state S.Store conn.old).is_open ⊎ IsErrAnd result IsOfDatabase }
+    ensures saved { conn.old.in_transaction ≡ false → HasCleanDisk (state S.Store conn.new)
+        → IsTrue (state S.Store conn.new).is_open → IsSaved (state S.Store conn.new) }
+    ensures same { HasCleanDisk (state S.Store conn.new) → IsTrue (state S.Store conn.new).is_open
+        → (state S.Store conn.new).now ≡ (state S.Store conn.old).now }
+    ensures survives { Survives (state S.Store conn.old) (state S.Store conn.new) (λ _. ⊥) }
+{
+    if !conn.is_autocommit() {
+        return Err(StoreFault::Sql);
+    }
+    let loaded = read_tables(conn)?;
+    Ok(loaded)
+}
+
+/// Reads the rows of all tables, and changes nothing.
 pub fn load_rows<S: Alter>(conn: &mut Connection<S>) -> Result<Rows, StoreFault>
     ensures mode { conn.old.in_transaction ≡ false → conn.new.in_transaction ≡ false }
     ensures rows { HasCleanDisk (state S.Store conn.new) → (t : Tables)
@@ -124,11 +153,15 @@ pub fn load_rows<S: Alter>(conn: &mut Connection<S>) -> Result<Rows, StoreFault>
         → (state S.Store conn.new).now ≡ (state S.Store conn.old).now }
     ensures survives { Survives (state S.Store conn.old) (state S.Store conn.new) (λ _. ⊥) }
 {
-    if !conn.is_autocommit() {
-        return Err(StoreFault::Sql);
-    }
-    let mut tx = conn.transaction();
-    let listed = list_tables(&mut tx)?;
-    let rows = rows_of(&listed)?;
-    Ok(rows)
+    let loaded = load_into::<S, Vec<Record>, Vec<StepRow>, Vec<Hold>>(conn)?;
+    Ok(Rows {
+        version: loaded.version,
+        sections: loaded.sections,
+        points: loaded.points,
+        states: loaded.states,
+        staff: loaded.staff,
+        records: loaded.records,
+        steps: loaded.steps,
+        holds: loaded.holds,
+    })
 }

@@ -19,3 +19,17 @@ pub struct Rows {
     pub steps: Vec<StepRow>,
     pub holds: Vec<Hold>,
 }
+
+/// The same, where clearances, steps and holds are read into what the caller keeps them in, so that
+/// no list of all of them is made.
+#[derive(Drop)]
+pub struct Loaded<C, T, H> {
+    pub version: i64,
+    pub sections: Vec<SectionRow>,
+    pub points: Vec<PointRow>,
+    pub states: Vec<PointState>,
+    pub staff: Vec<StaffRow>,
+    pub records: C,
+    pub steps: T,
+    pub holds: H,
+}

@@ -15,6 +15,7 @@ ghost use Rattle.clr_load.specs.Schema.{no_schema};
 ghost use Rattle.clr_load.specs.Stored.{AreTables, HasMeta, HasOldTables, HasTables};
 ghost use Rattle.clr_load.specs.Cause.{SqlHasCause};
 ghost use Rattle.clr_load.specs.Fault.{IsOfDatabase};
+ghost use Rattle.clr_load.specs.Filling.{GivesInto, IsLoaded};
 ghost use Rattle.clr_load.specs.Contract.{GivesBack, GivesRows, IsSaved, old_points};
 ghost use Rattle.clr_load.specs.declared.fault.StoreFault.TheVariants.{Sql};
 ghost use Rattle.clr_store.specs.Contract.{AreEdited, IsOfOpening, MakesEdits, RefusesVersion};
@@ -23,9 +24,9 @@ ghost use Rattle.clr_store.specs.Moving.{IsOfMove, LeavesMoved, RefusesMove, Ref
 use crate::create::make_register;
 use crate::edits::make_all;
 use crate::migrate::move_tables;
-use clr_load::{Rows, StoreFault, load_rows, read_version};
+use clr_load::{Fill, Loaded, Rows, StoreFault, load_into, load_rows, read_version};
 use clr_net::Network;
-use clr_rules::Change;
+use clr_rules::{Change, Hold, Record, StepRow};
 use clr_staff::Staff;
 use sqlite::{Alter, Connection};
 use std::marker::Model;
@@ -238,7 +239,7 @@ impl<S: Alter + Drop> Store<S> {
         self.connection
     }
 
-    /// Reads all rows of the tables, in one transaction that changes nothing.
+    /// Reads all rows of the tables, and changes nothing.
     ///
     /// `BadRow` names the first table, of meta, section, network_point, staff, clearance, step
     /// and hold, with a row that reads no value of its type. `Sql` where the database refuses or
@@ -263,6 +264,29 @@ impl<S: Alter + Drop> Store<S> {
         ensures crash { Survives (state S.Store self.old) (state S.Store self.new) (λ _. ⊥) }
     {
         load_rows(&mut self.connection)
+    }
+
+    /// Reads all rows of the tables as `load` does, with the same faults; clearances, steps and holds
+    /// go into what the caller keeps them in, one after another.
+    pub fn load_into<C: Fill<Record>, T: Fill<StepRow>, H: Fill<Hold>>(
+        &mut self,
+    ) -> Result<Loaded<C, T, H>, StoreFault>
+        ensures rows { HasCleanDisk (state S.Store self.new) → (t : Tables)
+            → HasTables (state S.Store self.old).now t
+            → GivesInto (IsLoaded C.has T.has H.has) (rows_read t) result }
+        ensures cause { HasCleanDisk (state S.Store self.new) → (t : Tables)
+            → HasTables (state S.Store self.old).now t
+            → IfErr result (SqlHasCause (state S.Store self.old) (state S.Store self.new)) }
+        ensures was_open { HasCleanDisk (state S.Store self.new)
+            → IsTrue (state S.Store self.old).is_open ⊎ IsErrAnd result IsOfDatabase }
+        ensures saved { HasCleanDisk (state S.Store self.new)
+            → IsTrue (state S.Store self.new).is_open → IsSaved (state S.Store self.new) }
+        ensures same { HasCleanDisk (state S.Store self.new)
+            → IsTrue (state S.Store self.new).is_open
+            → (state S.Store self.new).now ≡ (state S.Store self.old).now }
+        ensures crash { Survives (state S.Store self.old) (state S.Store self.new) (λ _. ⊥) }
+    {
+        load_into(&mut self.connection)
     }
 
     /// Makes the edits of a change, in one transaction.

@@ -1,0 +1,47 @@
+-- WHAT ROWS ARE READ INTO: the rows of a shelf that took them, and what was loaded of tables.
+use Rattle.std.specs.Prelude.{◌≡◌, List, [], ◌∷◌, Result, Ok, Err, ⊤}
+use Rattle.std.specs.declared.cmp.Ordering.{Ordering}
+use Rattle.clr_rules.specs.declared.hold.Hold.{Hold}
+use Rattle.clr_rules.specs.declared.record.Record.{Record}
+use Rattle.clr_rules.specs.declared.step_row.StepRow.{StepRow}
+use Rattle.clr_shelf.specs.Rows.{with_row}
+use Rattle.clr_tables.specs.RowsRead.{Rows}
+use Rattle.clr_tables.specs.declared.table_name.TableName.{TableName}
+use Rattle.clr_load.specs.declared.fault.StoreFault.{StoreFault}
+use Rattle.clr_load.specs.declared.fault.StoreFault.TheVariants.{Sql, WrongVersion, BadRow}
+use Rattle.clr_load.specs.declared.fault.StoreFault.TheVariants.{NoMemory}
+use Rattle.clr_load.specs.declared.rows.Loaded.{Loaded}
+
+-- rows put on a shelf, one after another
+unfoldable pub put_all : {Key Row : Type 0} → (Key → Key → Ordering) → (Row → Key) → List Row
+    → List Row → List Row
+put_all compare key_of [] shelf = shelf
+put_all compare key_of (row ∷ rows) shelf =
+    put_all compare key_of rows (with_row compare key_of row shelf)
+
+-- the rows of a shelf that took these alone
+abbrev pub shelved : {Key Row : Type 0} → (Key → Key → Ordering) → (Row → Key) → List Row → List Row
+shelved compare key_of rows = put_all compare key_of rows []
+
+-- what was read into is told by `has`: the value that is read, unless the database refuses or memory
+-- runs out, or the table with the row that does not read
+abbrev pub GivesInto : {A X : Type 0} → (X → A → Type 0) → Result A TableName
+    → Result X StoreFault → Type 0
+GivesInto {A} has read (Ok x) = (value : A) × (read ≡ Ok value) × has x value
+GivesInto has read (Err (BadRow table)) = read ≡ Err table
+GivesInto has read (Err (WrongVersion n)) = ⊥
+GivesInto has read (Err Sql) = ⊤
+GivesInto has read (Err NoMemory) = ⊤
+
+-- what was loaded has these rows
+pub record IsLoaded {C T H : Type 0} (records : C → List Record → Type 0)
+    (steps : T → List StepRow → Type 0) (holds : H → List Hold → Type 0) (loaded : Loaded C T H)
+    (rows : Rows) : Type 0 where
+  pub version : loaded.version ≡ rows.version
+  pub sections : loaded.sections.items ≡ rows.sections
+  pub points : loaded.points.items ≡ rows.points
+  pub states : loaded.states.items ≡ rows.states
+  pub staff : loaded.staff.items ≡ rows.staff
+  pub records_are : records loaded.records rows.records
+  pub steps_are : steps loaded.steps rows.steps
+  pub holds_are : holds loaded.holds rows.holds
