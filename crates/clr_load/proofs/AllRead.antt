@@ -27,7 +27,7 @@ in_front_fails (Ok y) (Err u) after xs t more h = absurd cc
 in_front_fails (Ok y) (Ok ys) after xs t more h = rw (more ys refl) refl
 
 -- one row more
-read_append : {A : Type 0} (read : Row → Result A TableName) (rows : List Row) (row : Row) (xs : List A) (x : A)
+pub read_append : {A : Type 0} (read : Row → Result A TableName) (rows : List Row) (row : Row) (xs : List A) (x : A)
     → read row ≡ Ok x → all_read read rows ≡ Ok xs → all_read read (rows ++ row ∷ []) ≡ Ok (xs ++ x ∷ [])
 unfolding all_read
 read_append read [] row xs x gives so = rw gives (ap (λ l. Ok (l ++ x ∷ [])) (same_value so))
@@ -51,6 +51,14 @@ read_fails read [] k row xs t within is fails so = absurd (omega arith)
 read_fails read (r ∷ rows) zero row xs t within is fails so = rw (ap read (sym is) ∙ fails) refl
 read_fails read (r ∷ rows) (suc k) row xs t within is fails so =
     in_front_fails (read r) (all_read read (take k rows)) (all_read read rows) xs t (λ ys f. read_fails read rows k row ys t (omega arith) is fails f) so
+
+-- and whatever comes after it
+pub read_stops : {A : Type 0} (read : Row → Result A TableName) (rows : List Row) (row : Row) (rest : List Row) (xs : List A) (t : TableName)
+    → read row ≡ Err t → all_read read rows ≡ Ok xs → all_read read ((rows ++ row ∷ []) ++ rest) ≡ Err t
+unfolding all_read
+read_stops read [] row rest xs t fails so = rw fails refl
+read_stops read (r ∷ rows) row rest xs t fails so =
+    in_front_fails (read r) (all_read read rows) (all_read read ((rows ++ row ∷ []) ++ rest)) xs t (λ ys f. read_stops read rows row rest ys t fails f) so
 
 pub read_whole : {A : Type 0} (read : Row → Result A TableName) (rows : List Row) (k : ℕ) (xs : List A)
     → length rows ≤ k → all_read read (take k rows) ≡ Ok xs → all_read read rows ≡ Ok xs

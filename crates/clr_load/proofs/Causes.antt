@@ -114,15 +114,19 @@ module _ (l : Layout) (name : TableName) (schema : Schema) (reads : understood s
       let here : it.0 ≡ old.now = subst (λ b. IsSourceOf b old.now it.0) (ap (λ s. reads_listing s (select_sql name)) has ∙ unlisted) it.1 in
       takes it.0 e (ap (λ (db : Database). db.schema) here ∙ has) (rw able.unlimited at it.2)
 
-  query_cause : (old new : State) (e : Error) → old.now.schema ≡ schema → IsTrue old.in_transaction → IsAble old
-      → FailsToQuery (select_sql name) [] old new e ⊎ IsTooLate (select_sql name) [] old new e → fault_of e ≡ Sql → MoreFaults old.faults new.faults
+  failed_cause : (old new : State) (e : Error) → old.now.schema ≡ schema → IsAble old
+      → FailsToQuery (select_sql name) [] old new e → fault_of e ≡ Sql → MoreFaults old.faults new.faults
   unfolding FailsToQuery IsNotRun
-  query_cause old new e has inside able (inl (inl (inl h))) is = absurd (is_statement old schema (select_sql name) (selecting l name) has reads e h.0)
-  query_cause old new e has inside able (inl (inl (inr h))) is = store_cause old new h.0 able h.2 (ap fault_of (sym h.1) ∙ is)
-  query_cause old new e has inside able (inl (inr h)) is =
+  failed_cause old new e has able (inl (inl h)) is = absurd (is_statement old schema (select_sql name) (selecting l name) has reads e h.0)
+  failed_cause old new e has able (inl (inr h)) is = store_cause old new h.0 able h.2 (ap fault_of (sym h.1) ∙ is)
+  failed_cause old new e has able (inr h) is =
       let both = sym h.1.is ∙ ap (λ x. understood x (select_sql name)) has ∙ reads in
       let same : h.0 ≡ all_of (select_sql name) 0 (selecting l name) = cc in
       absurd (show_refused old new e h.0 h.1.now has able same h.2)
+
+  query_cause : (old new : State) (e : Error) → old.now.schema ≡ schema → IsTrue old.in_transaction → IsAble old
+      → FailsToQuery (select_sql name) [] old new e ⊎ IsTooLate (select_sql name) [] old new e → fault_of e ≡ Sql → MoreFaults old.faults new.faults
+  query_cause old new e has inside able (inl h) is = failed_cause old new e has able h is
   query_cause old new e has inside able (inr h) is = absurd (let o = rw h.3 at inside in cc)
 
   listing_cause : (old new : State) (e : Error) (fault : StoreFault) → old.now.schema ≡ schema → IsTrue old.in_transaction → fault ≡ fault_of e
@@ -132,6 +136,12 @@ module _ (l : Layout) (name : TableName) (schema : Schema) (reads : understood s
 pub list_cause : (l : Layout) (name : TableName) → has_table l name ≡ true → (old new : State) (e : Error) (fault : StoreFault) → old.now.schema ≡ schema_in l → IsTrue old.in_transaction → fault ≡ fault_of e
     → FailsToQuery (select_sql name) [] old new e ⊎ IsTooLate (select_sql name) [] old new e → SqlHasCause old new fault
 list_cause l name there = listing_cause l name (schema_in l) (select_known l name there) (select_unlisted l name there) (never_refused l name there)
+
+-- the same outside a transaction
+pub read_cause : (l : Layout) (name : TableName) → has_table l name ≡ true → (old new : State) (e : Error) (fault : StoreFault) → old.now.schema ≡ schema_in l → fault ≡ fault_of e
+    → FailsToQuery (select_sql name) [] old new e → SqlHasCause old new fault
+read_cause l name there old new e fault has is h =
+    has_cause old new fault (λ sql able. failed_cause l name (schema_in l) (select_known l name there) (select_unlisted l name there) (never_refused l name there) old new e has able h (sym is ∙ sql))
 
 pub meta_cause : (others : Schema) (old new : State) (e : Error) (fault : StoreFault) → old.now.schema ≡ behind_meta others → IsTrue old.in_transaction → fault ≡ fault_of e
     → FailsToQuery (select_sql Meta) [] old new e ⊎ IsTooLate (select_sql Meta) [] old new e → SqlHasCause old new fault

@@ -3,6 +3,9 @@ pub mod Texts
 pub mod Columns
 pub mod Causes
 pub mod Loading
+pub mod Staying
+pub mod Selecting
+pub mod Streaming
 pub mod Versions
 pub mod TextsRead
 pub mod AllRead
