@@ -1,4 +1,5 @@
 pub mod Inside
+pub mod Filled
 pub mod Texts
 pub mod Columns
 pub mod Causes

@@ -159,3 +159,14 @@ stops g a b fits read has e mode survives rests of cause = record {
   was_open = λ clean. inr of;
   gives = λ clean l fit t there. (gives_fault has (read l t) e of, cause clean l fit t there);
 }
+
+-- what is given in some layouts is given in fewer
+pub loads_in : {S A X : Type 0} (g : Ghosts S) (a b : Held S) (fits fewer : Layout → Bool) → ((l : Layout) → fewer l ≡ true → fits l ≡ true)
+    → (read : Layout → Tables → Result A TableName) (has : X → A → Type 0) (r : Result X StoreFault) → Loads g a b fits read has r → Loads g a b fewer read has r
+loads_in g a b fits fewer within read has r it = record {
+  mode = it.mode;
+  survives = it.survives;
+  rests = it.rests;
+  was_open = it.was_open;
+  gives = λ clean l fit t there. it.gives clean l (within l fit) t there;
+}
