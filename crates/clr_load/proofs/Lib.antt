@@ -11,6 +11,7 @@ pub mod Versions
 pub mod TextsRead
 pub mod AllRead
 pub mod AllGiven
+pub mod Whole
 pub mod Reopened
 pub mod Blamed
 pub mod OldPoints
