@@ -2,9 +2,7 @@
 use Rattle.std.proofs.Common.{◌≡◌, ◌∙◌, ℤ, Ok, Err, List, [], ◌∷◌, map, Result, true, refl, sym, ap}
 use Rattle.std.specs.Prelude.{is_ok}
 use Rattle.sqlite.specs.Order.{Row}
-use Rattle.sqlite.specs.State.{State}
 use Rattle.sqlite_trees.proofs.ListLemmas.{map-map}
-use Rattle.clr_load.specs.Cause.{SqlHasCause}
 use Rattle.clr_net.specs.declared.point.PointRow.{PointRow}
 use Rattle.clr_net.specs.declared.section.SectionRow.{SectionRow}
 use Rattle.clr_result.specs.Results.{◌>>=◌}
@@ -17,7 +15,8 @@ use Rattle.clr_rules.specs.declared.step_row.StepRow.{StepRow}
 use Rattle.clr_tables.specs.RowsRead.{PointRead as ReadPoint, Rows, all_read, read_clearance, read_hold, read_point, read_section, read_staff, read_step, read_version, rows_by, rows_of, rows_read}
 use Rattle.clr_tables.specs.Tables.{Tables}
 use Rattle.clr_tables.specs.declared.table_name.TableName.{TableName}
-use Rattle.clr_load.specs.Contract.{GivesBack, GivesRows, Yields, YieldsRows}
+use Rattle.clr_load.specs.Contract.{GivesBack, GivesRows}
+use Rattle.clr_load.specs.Filling.{GivesInto}
 use Rattle.clr_load.specs.Reading.{in_fields, point_values}
 use Rattle.clr_load.specs.declared.fault.StoreFault.{StoreFault}
 use Rattle.clr_load.specs.declared.fault.StoreFault.TheVariants.{Sql, WrongVersion, BadRow, NoMemory}
@@ -25,27 +24,12 @@ use Rattle.clr_load.specs.declared.rows.Rows.{Rows as Loaded}
 use Rattle.clr_load.specs.declared.table_row.PointRead.{PointRead}
 use Rattle.clr_load.proofs.AllRead.{same_value}
 
--- a fault of a part is that of the whole, where the whole does not read wherever the part does not
-pub fault_gives : {A B Y : Type 0} (view : Y → B) (part : Result A TableName) (whole : Result B TableName) (fault : StoreFault)
-    → ((t : TableName) → part ≡ Err t → whole ≡ Err t) → Yields (λ value. value) part (Err fault) → Yields view whole (Err fault)
-fault_gives view part whole Sql fails gives = absurd gives
-fault_gives view part whole NoMemory fails gives = tt
-fault_gives view part whole (BadRow t) fails gives = fails t gives
-fault_gives view part whole (WrongVersion n) fails gives = absurd gives
-
--- what rows in memory yield a database gives, and a fault of theirs is not `Sql`
-pub yields_gives : (read : Result Rows TableName) (result : Result Loaded StoreFault) → YieldsRows read result → GivesRows read result
-yields_gives read (Ok rows) yields = yields
-yields_gives read (Err NoMemory) yields = tt
-yields_gives read (Err (BadRow t)) yields = yields
-yields_gives read (Err (WrongVersion n)) yields = absurd yields
-yields_gives read (Err Sql) yields = absurd yields
-
-pub yields_cause : (read : Result Rows TableName) (fault : StoreFault) (old new : State) → YieldsRows read (Err fault) → SqlHasCause old new fault
-yields_cause read NoMemory old new yields = tt
-yields_cause read (BadRow t) old new yields = tt
-yields_cause read (WrongVersion n) old new yields = tt
-yields_cause read Sql old new yields = absurd yields
+-- a fault that is given into anything is given as rows
+pub gives_rows : {X : Type 0} (has : X → Rows → Type 0) (read : Result Rows TableName) (fault : StoreFault) → GivesInto has read (Err fault) → GivesRows read (Err fault)
+gives_rows has read Sql h = tt
+gives_rows has read NoMemory h = tt
+gives_rows has read (BadRow t) h = h
+gives_rows has read (WrongVersion n) h = absurd h
 
 -- tables that read as the rows of a register give these rows
 pub gives_back : (R : Register) (read : Result Rows TableName) (result : Result Loaded StoreFault) → read ≡ Ok (rows_of R)

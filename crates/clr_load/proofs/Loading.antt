@@ -13,7 +13,7 @@ use Rattle.sqlite.specs.Query.{IsAnswer, Output, output, output_cmp}
 use Rattle.sqlite.specs.Clock.{timed}
 use Rattle.sqlite.specs.Effect.{Database}
 use Rattle.sqlite.specs.Listing.{understood}
-use Rattle.sqlite.specs.State.{State, HasCleanDisk, Survives, Shown, ShowsRows, IsUnchanged, IsRolledBack, KeepsCommit, RunsCommand, FailsToShow, FailsToQuery, IsNotRun, IsTooLate}
+use Rattle.sqlite.specs.State.{State, Shown, ShowsRows, IsUnchanged, IsRolledBack, KeepsCommit, RunsCommand, FailsToShow, FailsToQuery, IsNotRun, IsTooLate}
 use Rattle.sqlite.specs.Held.{state}
 use Rattle.sqlite.specs.Store.{Ghosts}
 use Rattle.sqlite.specs.declared.error.Error.{Error}
@@ -37,8 +37,6 @@ use Rattle.clr_load.specs.Schema.{behind_meta, columns_in, keys_in, no_schema, s
 use Rattle.clr_load.specs.Sql.{select_sql}
 use Rattle.clr_load.specs.Stored.{HasMeta, HasRows, HasTablesIn, Holds, IsInOrder, bodies, fits_columns, rows_in}
 use Rattle.clr_load.specs.declared.fault.StoreFault.{StoreFault}
-use Rattle.clr_load.proofs.Causes.{then_cause}
-use Rattle.clr_load.proofs.Inside.{fails_on, fails_so, runs_on}
 use Rattle.clr_load.proofs.Columns.{both_true, fits_length, key_order, met_values, values_all, values_from, values_shift, values_take}
 use Rattle.clr_load.proofs.Texts.{listing, meta_is, meta_unlisted, order_from, select_is, select_unknown, select_unlisted, width_of}
 
@@ -262,26 +260,6 @@ module _ (f g : Layout → Bool) (fewer : (l : Layout) → g l ≡ true → f l 
   pub fails_in : (a b : State) (fault : StoreFault) → Fails a b f fault → Fails a b g fault
   fails_in a b fault p = record { kept = p.kept; cause = λ l fit. p.cause l (fewer l fit) }
 
-pub then_finds : {A B : Type 0} (a b c : State) (fits : Layout → Bool) (f : Layout → Tables → A) (g : Layout → Tables → B) (x : A) (y : B)
-    → Finds a b fits f x → Finds b c fits g y → Finds {A = A × B} a c fits (λ l t. (f l t, g l t)) (x, y)
-then_finds a b c fits f g x y p q = record {
-  was_open = p.was_open;
-  inside = q.inside;
-  kept = then_kept a b c p.kept q.kept;
-  found_is = λ l fit t has ordered.
-      let first = p.found_is l fit t has ordered in
-      let second = q.found_is l fit t first.1 ordered in
-      (λ i. (first.0 i, second.0 i), second.1);
-}
-
--- what fails after something was found has failed from there on
-pub then_fails : {A : Type 0} (a b c : State) (fits : Layout → Bool) (f : Layout → Tables → A) (x : A) (fault : StoreFault) (Commits : Trees → Type 0)
-    → Finds a b fits f x → Survives a b Commits → HasCleanDisk b → b.faults ≤ c.faults → Fails b c fits fault → Fails a c fits fault
-then_fails a b c fits f x fault Commits found first clean later failed = record {
-  kept = then_kept a b c found.kept failed.kept;
-  cause = λ l fit t has ordered. then_cause a b c Commits fault first clean later (failed.cause l fit t (found.found_is l fit t has ordered).1 ordered);
-}
-
 -- ---- the tables of version 2
 pub both_in_two : (l : Layout) → is_two l ≡ true → has_table l NetworkPoint ≡ true
 both_in_two OfOne two = absurd cc
@@ -302,46 +280,5 @@ lists_in g a b F f h fewer of items (Err e) it = record {
   same_reference = it.same_reference;
   step = λ clean inside. fails_in f h fewer (state g a.conn.now) (state g b.conn.now) e (it.step clean inside);
   fault = it.fault;
-  survives = it.survives;
-}
-
-pub lists_pair : {S A B X Y : Type 0} (g : Ghosts S) (a b c : Transaction S) (F : StoreFault → Type 0) (fits : Layout → Bool) (of : Layout → Tables → A) (next : Layout → Tables → B)
-    (items : X → A) (others : Y → B) (x : X) (y : Y) → Lists g a b F fits of items (Ok x) → Lists g b c F fits next others (Ok y)
-    → Lists {A = A × B} {X = X × Y} g a c F fits (λ l t. (of l t, next l t)) (λ p. (items p.0, others p.1)) (Ok (x, y))
-lists_pair g a b c F fits of next items others x y first second =
-    runs_on g a b c F F F _ _ _ _ _ _ x y (x, y) first second (λ found. found.inside)
-    (λ early p q. then_finds (state g a.conn.now) (state g b.conn.now) (state g c.conn.now) fits of next (items x) (others y) p q)
-
--- something is listed, and then a call fails
-pub lists_stop : {S A B C X Y Z : Type 0} (g : Ghosts S) (a b c : Transaction S) (F : StoreFault → Type 0) (fits : Layout → Bool) (of : Layout → Tables → A) (next : Layout → Tables → B)
-    (all : Layout → Tables → C) (items : X → A) (others : Y → B) (told : Z → C) (x : X) (e : StoreFault)
-    → Lists g a b F fits of items (Ok x) → Lists g b c F fits next others (Err e) → Lists g a c F fits all told (Err e)
-lists_stop g a b c F fits of next all items others told x e first second =
-    fails_on g a b c F F F _ _ _ _ _ _ x e first second (λ found. found.inside)
-    (λ early found failed. then_fails (state g a.conn.now) (state g b.conn.now) (state g c.conn.now) fits of (items x) e _ found first.survives early second.survives.counts failed)
-    (λ fault. fault)
-
--- a call that failed has listed nothing else either
-pub lists_none : {S A B X Y : Type 0} (g : Ghosts S) (a b : Transaction S) (F : StoreFault → Type 0) (fits : Layout → Bool) (of : Layout → Tables → A) (all : Layout → Tables → B)
-    (items : X → A) (told : Y → B) (e : StoreFault) → Lists g a b F fits of items (Err e) → Lists g a b F fits all told (Err e)
-lists_none g a b F fits of all items told e failed = fails_so g a b F F _ _ _ _ e failed (λ stops. stops) (λ fault. fault)
-
--- what is listed, seen otherwise
-pub lists_as : {S A B X Y : Type 0} (g : Ghosts S) (a b : Transaction S) (F : StoreFault → Type 0) (fits : Layout → Bool) (of : Layout → Tables → A) (all : Layout → Tables → B)
-    (items : X → A) (told : Y → B) (view : A → B) (x : X) (y : Y) → ((l : Layout) (t : Tables) → view (of l t) ≡ all l t) → view (items x) ≡ told y
-    → Lists g a b F fits of items (Ok x) → Lists g a b F fits all told (Ok y)
-lists_as g a b F fits of all items told view x y same seen it = record {
-  same_reference = it.same_reference;
-  step = λ clean inside.
-      let found = it.step clean inside in
-      record {
-        was_open = found.was_open;
-        inside = found.inside;
-        kept = found.kept;
-        found_is = λ l fit t has ordered.
-            let one = found.found_is l fit t has ordered in
-            (sym seen ∙ ap view one.0 ∙ same l t, one.1);
-      };
-  fault = tt;
   survives = it.survives;
 }

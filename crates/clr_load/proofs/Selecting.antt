@@ -1,5 +1,5 @@
 -- A listing is no write, whatever the tables are.
-use Rattle.std.proofs.Common.{◌≡◌, ◌∙◌, ℕ, Bool, true, false, if◌then◌else◌, List, [], None, Result, Ok, Err, refl, sym, subst, inl, inr}
+use Rattle.std.proofs.Common.{◌≡◌, ℕ, Bool, true, false, if◌then◌else◌, List, [], None, Result, Ok, Err, refl, sym, subst, inl, inr}
 use Rattle.std.specs.Prelude.{⊤, ◌+◌, IfOk, Option}
 use Rattle.sqlite.specs.Clock.{timed as timed_row}
 use Rattle.sqlite.specs.Given.{HasBegun, HasGiven, Returns}
@@ -9,7 +9,6 @@ use Rattle.sqlite.specs.Order.{Row}
 use Rattle.sqlite.specs.Schema.{Schema}
 use Rattle.sqlite.specs.State.{State, CommitsShowing, FailsToQuery, FailsToShow, IsUnchanged, Shown, ShowsRows, IsNotRun, Survives}
 use Rattle.sqlite.specs.Store.{Ghosts}
-use Rattle.sqlite.specs.Tree.{Trees}
 use Rattle.sqlite.specs.declared.error.Error.{Error}
 use Rattle.sqlite.proofs.StateLemmas.{survives_weaker}
 use Rattle.sqlite_resolve.specs.Compile.{command, compiled, first, meaning, planned, returning, small, timed, with_command}

@@ -1,6 +1,5 @@
 -- Calls that read tables, one after another.
-use Rattle.std.proofs.Common.{◌≡◌, ◌∙◌, ◌⊎◌, inl, inr, Bool, true, false, IsTrue, Result, Ok, Err, ap, arith, subst, sym}
-use Rattle.std.specs.Prelude.{IfErr, IsErrAnd}
+use Rattle.std.proofs.Common.{◌≡◌, ◌∙◌, inl, inr, Bool, true, false, Result, Ok, Err, arith, subst, sym}
 use Rattle.sqlite.specs.Effect.{Database}
 use Rattle.sqlite.specs.Held.{Held, state}
 use Rattle.sqlite.specs.State.{HasCleanDisk, IsRolledBack, IsUnchanged, State, Survives}
@@ -137,9 +136,10 @@ module _ {S A X : Type 0} (g : Ghosts S) (a b : Held S) (fits : Layout → Bool)
       gives = λ clean l fit t there.
           let early : HasCleanDisk (state g b) = omega (arith, second.survives.clean) in
           let p = (first.gives early l fit t there).0 in
-          let q = second.gives clean l fit t (still (first.rests early) l t there) in
-          (given (h l t) (k l t) e (λ bad is. fails l t p.0 bad fit p.1 p.2 is) q.0,
-          then_cause (state g a) (state g b) (state g c) _ e first.survives early second.survives.counts q.1);
+          let q = second.gives clean l fit t (still (first.rests early) l t there) in (
+            given (h l t) (k l t) e (λ bad is. fails l t p.0 bad fit p.1 p.2 is) q.0,
+            then_cause (state g a) (state g b) (state g c) _ e first.survives early second.survives.counts q.1,
+          );
     }
       where
         given : (p : Result B TableName) (q : Result C TableName) (e : StoreFault) → ((bad : TableName) → p ≡ Err bad → q ≡ Err bad) → GivesInto others p (Err e) → GivesInto has q (Err e)

@@ -1,13 +1,12 @@
 -- A table that is read row by row.
-use Rattle.std.proofs.Common.{◌≡◌, ◌∙◌, ◌⊎◌, inl, inr, true, false, IsTrue, List, [], ◌∷◌, ◌++◌, Some, None, Result, Ok, Err, ap, arith, refl, subst, sym}
-use Rattle.std.specs.Prelude.{Option}
+use Rattle.std.proofs.Common.{◌≡◌, ◌∙◌, inl, true, false, List, [], ◌∷◌, ◌++◌, Some, None, Result, Ok, Err, ap, arith, refl, subst, sym}
 use Rattle.sqlite.specs.Effect.{Database}
 use Rattle.sqlite.specs.Given.{Advances, FailsToAdvance, HasBegun, HasGiven}
 use Rattle.sqlite.specs.Held.{Held, state}
-use Rattle.sqlite.specs.Listing.{IsSourceOf, reads_listing, understood}
+use Rattle.sqlite.specs.Listing.{understood}
 use Rattle.sqlite.specs.Order.{Row}
 use Rattle.sqlite.specs.Clock.{timed}
-use Rattle.sqlite.specs.State.{Begins, CommitsShowing, FailsToQuery, HasCleanDisk, IsStatement, IsUnchanged, Shown, State, Survives}
+use Rattle.sqlite.specs.State.{CommitsShowing, HasCleanDisk, IsStatement, IsUnchanged, State, Survives}
 use Rattle.sqlite.specs.Store.{Ghosts}
 use Rattle.sqlite.specs.declared.error.Error.{Error}
 use Rattle.sqlite.proofs.Callers.{EndsIn, begins_shown, given_begin}
@@ -15,15 +14,13 @@ use Rattle.sqlite_resolve.specs.declared.compiled.Compiled.{Compiled}
 use Rattle.clr_tables.specs.RowsRead.{all_read}
 use Rattle.clr_tables.specs.Tables.{Tables}
 use Rattle.clr_tables.specs.declared.table_name.TableName.{TableName}
-use Rattle.clr_load.specs.Cause.{SqlHasCause, fault_of}
-use Rattle.clr_load.specs.Filling.{GivesInto}
+use Rattle.clr_load.specs.Cause.{fault_of}
 use Rattle.clr_load.specs.Layout.{Layout, has_table}
-use Rattle.clr_load.specs.Loads.{Loads, Stays}
-use Rattle.clr_load.specs.Schema.{schema_in}
+use Rattle.clr_load.specs.Loads.{Loads}
 use Rattle.clr_load.specs.Sql.{select_sql}
 use Rattle.clr_load.specs.Stored.{HasTablesIn, rows_in}
 use Rattle.clr_load.specs.declared.fault.StoreFault.{StoreFault}
-use Rattle.clr_load.specs.declared.fault.StoreFault.TheVariants.{Sql, BadRow, NoMemory}
+use Rattle.clr_load.specs.declared.fault.StoreFault.TheVariants.{BadRow, NoMemory}
 use Rattle.clr_load.proofs.AllRead.{read_append, read_none, read_stops}
 use Rattle.clr_load.proofs.Causes.{read_cause, then_cause, told_of_database}
 use Rattle.clr_load.proofs.Loading.{lists}

@@ -1,13 +1,11 @@
 -- The tables read in turn: the version, the network, the people, and their work.
-use Rattle.std.proofs.Common.{◌≡◌, ◌∙◌, ℤ, List, Result, Ok, Err, true, map, ap, refl, sym}
+use Rattle.std.proofs.Common.{◌≡◌, ◌∙◌, ℤ, List, Result, Ok, Err, true, ap, refl}
 use Rattle.sqlite.specs.Held.{Held}
 use Rattle.sqlite.specs.Order.{Row}
 use Rattle.sqlite.specs.Store.{Ghosts}
-use Rattle.clr_net.specs.declared.point.PointRow.{PointRow}
 use Rattle.clr_net.specs.declared.section.SectionRow.{SectionRow}
 use Rattle.clr_staff.specs.declared.employee.StaffRow.{StaffRow}
 use Rattle.clr_rules.specs.declared.hold.Hold.{Hold as HoldRow}
-use Rattle.clr_rules.specs.declared.point_state.PointState.{PointState}
 use Rattle.clr_rules.specs.declared.record.Record.{Record}
 use Rattle.clr_rules.specs.declared.step_row.StepRow.{StepRow}
 use Rattle.clr_tables.specs.RowsRead.{PointRead as ReadPoint, Rows, all_read, read_clearance, read_hold, read_point, read_section, read_staff, read_step, read_version, rows_read}
@@ -23,7 +21,7 @@ use Rattle.clr_load.specs.Stored.{rows_in}
 use Rattle.clr_load.specs.declared.fault.StoreFault.{StoreFault}
 use Rattle.clr_load.specs.declared.fault.StoreFault.TheVariants.{BadRow}
 use Rattle.clr_load.specs.declared.table_row.PointRead.{PointRead}
-use Rattle.clr_load.proofs.AllGiven.{PointsAre, joined, points_are, points_fail, rows_joined}
+use Rattle.clr_load.proofs.AllGiven.{joined, points_are, points_fail, rows_joined}
 use Rattle.clr_load.proofs.Loading.{both_in_two}
 use Rattle.clr_load.proofs.Staying.{loads_in, loads_not, none_loads, then_fails, then_loads}
 

@@ -54,10 +54,6 @@ rows_told rows = record {
 abbrev pub GivesRows : Result Rows TableName → Result Loaded StoreFault → Type 0
 GivesRows read result = Gives rows_told read result
 
--- the same of the rows that were listed
-abbrev pub YieldsRows : Result Rows TableName → Result Loaded StoreFault → Type 0
-YieldsRows read result = Yields rows_told read result
-
 -- the rows of a register are given, unless the database refuses or memory runs out
 abbrev pub GivesBack : Register → Result Loaded StoreFault → Type 0
 GivesBack R (Ok rows) = rows_told rows ≡ rows_of R

@@ -1,7 +1,5 @@
-use Rattle.std.proofs.Common.{◌≡◌, ◌∙◌, Err, FitsSigned, List, Ok, Vec, ap, map, of_z, refl, rules, subst, sym, to_z, to_z-of_z, w64}
-use Rattle.sqlite.specs.Order.{Row}
+use Rattle.std.proofs.Common.{◌≡◌, ◌∙◌, Err, FitsSigned, Ok, ap, map, refl, rules, sym, to_z-of_z, w64}
 use Rattle.clr_tables.specs.RowsRead.{read_version}
-use Rattle.clr_load.specs.Filling.{IsLoaded}
 use Rattle.clr_load.specs.declared.fault.StoreFault.TheVariants.{BadRow}
 use Rattle.clr_load.specs.declared.table_row.PointRead.{PointRead}
 use Rattle.clr_load.proofs.AllGiven.{all_told}
@@ -51,14 +49,17 @@ returns g c =
     c.read_both-3.new.conn _ _ (c.in_ok-steps.steps, c.in_ok-steps.holds) _ c.in_ok-steps.ensures
     (λ t network people work version s p e r w h net them done.
     let points = c.in_ok-points.ensures ∙ ap (map (λ (q : PointRead). q.point)) (c.deref-2.ensures.value ∙ net.1) in
-    let states = c.in_ok-states.ensures ∙ ap (map (λ (q : PointRead). q.state)) (c.deref-3.ensures.value ∙ net.1) in
-    (_, all_told t _ _ _ _ _ _ _ _ _ version s p e r w h points states, record {
-      version = to_z-of_z fits;
-      sections = net.0;
-      points = refl;
-      states = refl;
-      staff = them.0;
-      records_are = them.1;
-      steps_are = done.0;
-      holds_are = done.1;
-    }))
+    let states = c.in_ok-states.ensures ∙ ap (map (λ (q : PointRead). q.state)) (c.deref-3.ensures.value ∙ net.1) in (
+      _,
+      all_told t _ _ _ _ _ _ _ _ _ version s p e r w h points states,
+      record {
+        version = to_z-of_z fits;
+        sections = net.0;
+        points = refl;
+        states = refl;
+        staff = them.0;
+        records_are = them.1;
+        steps_are = done.0;
+        holds_are = done.1;
+      },
+    ))

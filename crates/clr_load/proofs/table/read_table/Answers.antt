@@ -1,8 +1,7 @@
-use Rattle.std.proofs.Common.{◌≡◌, ◌∙◌, Err, Ok, refl, rules, subst, sym, arith}
+use Rattle.std.proofs.Common.{◌≡◌, ◌∙◌, Err, Ok, refl, rules, subst, sym}
 use Rattle.sqlite.specs.Held.{state}
 use Rattle.sqlite.specs.State.{HasCleanDisk}
 use Rattle.clr_load.specs.Cause.{fault_of}
-use Rattle.clr_load.specs.Loads.{Loads}
 use Rattle.clr_load.specs.declared.fault.StoreFault.TheVariants.{BadRow, NoMemory}
 use Rattle.clr_load.proofs.Causes.{read_cause, told_of_database}
 use Rattle.clr_load.proofs.Selecting.{failed_rests, survives_listed}
