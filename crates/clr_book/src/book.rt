@@ -114,6 +114,24 @@ impl<P: Shelf<PointState>, C: Shelf<Record>, T: Shelf<StepRow>, H: Shelf<Hold>> 
         (&self.states, &self.records, &self.steps, &self.holds)
     }
 
+    /// The book with these shelves in place of its own of records, steps and holds. The room is
+    /// theirs.
+    pub fn with_shelves(self, records: C, steps: T, holds: H) -> Self
+        ensures register { result.register ≡ record self.register {
+          records = C.rows records;
+          steps = T.rows steps;
+          holds = H.rows holds;
+        } }
+        ensures network { result.network ≡ self.network }
+    {
+        Book {
+            records,
+            steps,
+            holds,
+            ..self
+        }
+    }
+
     /// The position of a point, and whose order is at work on it.
     pub fn state(&self, point: &Name) -> Option<&PointState>
         ensures { option_copied result ≡ state_of self.now.register.states point.now }
