@@ -44,6 +44,7 @@ use Rattle.clr_rules.specs.declared.hold.Hold.{Hold}
 use Rattle.clr_rules.specs.declared.point_state.PointState.{PointState}
 use Rattle.clr_rules.specs.declared.record.Record.{Record}
 use Rattle.clr_rules.specs.declared.step_row.StepRow.{StepRow}
+use Rattle.clr_load.specs.Filling.{put_all, shelved}
 use Rattle.clr_tables.specs.RowsRead.{with_its_position}
 use Rattle.clr_tables.specs.Tables.{state_at}
 use Rattle.clr_desk.specs.Filling.{filling, hand_edit}
@@ -59,23 +60,19 @@ unhanded state = record state { hand = None }
 
 -- ---- rows put one after the other, in the order of their keys, are those rows
 
-unfoldable pub put_rows : {Key Row : Type 0} → (Key → Key → Ordering) → (Row → Key) → List Row → List Row → List Row
-put_rows compare key_of [] front = front
-put_rows compare key_of (row ∷ rows) front = put_rows compare key_of rows (with_row compare key_of row front)
-
 module _ {Key Row : Type 0} (compare : Key → Key → Ordering) (key_of : Row → Key) (order : IsTotalOrder compare) where
   -- rows above the first are put after it
   put_behind : (first : Row) (rows front : List Row) → list_all (λ next. is_lt (compare (key_of first) (key_of next))) rows ≡ true
-      → put_rows compare key_of rows (first ∷ front) ≡ first ∷ put_rows compare key_of rows front
-  unfolding put_rows
+      → put_all compare key_of rows (first ∷ front) ≡ first ∷ put_all compare key_of rows front
+  unfolding put_all
   put_behind first [] front above = refl
   put_behind first (row ∷ rows) front above =
       let parts = and_parts (is_lt (compare (key_of first) (key_of row))) (list_all (λ next. is_lt (compare (key_of first) (key_of next))) rows) above in
-      ap (put_rows compare key_of rows) (with_row-after compare key_of order row first front (less (compare (key_of first) (key_of row)) parts.0))
+      ap (put_all compare key_of rows) (with_row-after compare key_of order row first front (less (compare (key_of first) (key_of row)) parts.0))
       ∙ put_behind first rows (with_row compare key_of row front) parts.1
 
-  put_into_none : (rows : List Row) → in_key_order compare key_of rows ≡ true → put_rows compare key_of rows [] ≡ rows
-  unfolding put_rows with_row
+  put_into_none : (rows : List Row) → in_key_order compare key_of rows ≡ true → put_all compare key_of rows [] ≡ rows
+  unfolding put_all with_row
   put_into_none [] ordered = refl
   put_into_none (row ∷ rows) ordered =
       let parts = and_parts (list_all (λ next. is_lt (compare (key_of row) (key_of next))) rows) (in_key_order compare key_of rows) ordered in
@@ -149,23 +146,23 @@ unfolding after_edits
 edited_all-append [] back R = refl
 edited_all-append (edit ∷ front) back R = edited_all-append front back (after_edit edit R)
 
-hands_edited : (states : List PointState) (R : Register) → after_edits (map hand_edit states) R ≡ record R { states = set_hands states R.states }
+pub hands_edited : (states : List PointState) (R : Register) → after_edits (map hand_edit states) R ≡ record R { states = set_hands states R.states }
 unfolding after_edits set_hands
 hands_edited [] R = refl
 hands_edited (state ∷ states) R = hands_edited states (after_edit (hand_edit state) R)
 
-holds_edited : (holds : List Hold) (R : Register) → after_edits (map PutHold holds) R ≡ record R { holds = put_rows hold_cmp hold_key holds R.holds }
-unfolding after_edits put_rows
+holds_edited : (holds : List Hold) (R : Register) → after_edits (map PutHold holds) R ≡ record R { holds = put_all hold_cmp hold_key holds R.holds }
+unfolding after_edits put_all
 holds_edited [] R = refl
 holds_edited (h ∷ holds) R = holds_edited holds (after_edit (PutHold h) R)
 
-records_edited : (records : List Record) (R : Register) → after_edits (map PutRecord records) R ≡ record R { records = put_rows id_cmp record_key records R.records }
-unfolding after_edits put_rows
+records_edited : (records : List Record) (R : Register) → after_edits (map PutRecord records) R ≡ record R { records = put_all id_cmp record_key records R.records }
+unfolding after_edits put_all
 records_edited [] R = refl
 records_edited (r ∷ records) R = records_edited records (after_edit (PutRecord r) R)
 
-steps_edited : (steps : List StepRow) (R : Register) → after_edits (map PutStep steps) R ≡ record R { steps = put_rows step_key_cmp step_key steps R.steps }
-unfolding after_edits put_rows
+steps_edited : (steps : List StepRow) (R : Register) → after_edits (map PutStep steps) R ≡ record R { steps = put_all step_key_cmp step_key steps R.steps }
+unfolding after_edits put_all
 steps_edited [] R = refl
 steps_edited (row ∷ steps) R = steps_edited steps (after_edit (PutStep row) R)
 
@@ -173,9 +170,9 @@ pub all_edited : (states : List PointState) (holds : List Hold) (records : List 
     → after_edits (filling states holds records steps) R
     ≡ record R {
       states = set_hands states R.states;
-      holds = put_rows hold_cmp hold_key holds R.holds;
-      records = put_rows id_cmp record_key records R.records;
-      steps = put_rows step_key_cmp step_key steps R.steps;
+      holds = put_all hold_cmp hold_key holds R.holds;
+      records = put_all id_cmp record_key records R.records;
+      steps = put_all step_key_cmp step_key steps R.steps;
     }
 all_edited states holds records steps R =
     edited_all-append (map hand_edit states ++ map PutHold holds ++ map PutRecord records) (map PutStep steps) R
@@ -185,6 +182,19 @@ all_edited states holds records steps R =
     ∙ holds_edited holds _)
     ∙ records_edited records _)
     ∙ steps_edited steps _
+
+-- where hands are set, and shelves that took the other rows are taken in, the register is that which is filled
+pub shelves_fill : (states : List PointState) (holds : List Hold) (records : List Record) (steps : List StepRow) (g : Grid) (staff : List StaffRow)
+    (handed R : Register) (record_shelf : List Record) (step_shelf : List StepRow) (hold_shelf : List Hold)
+    → handed ≡ after_edits (map hand_edit states) (opening g staff)
+    → R ≡ record handed { records = record_shelf; steps = step_shelf; holds = hold_shelf }
+    → record_shelf ≡ shelved id_cmp record_key records → step_shelf ≡ shelved step_key_cmp step_key steps → hold_shelf ≡ shelved hold_cmp hold_key holds
+    → R ≡ after_edits (filling states holds records steps) (opening g staff)
+shelves_fill states holds records steps g staff handed R record_shelf step_shelf hold_shelf hands taken of_records of_steps of_holds =
+    let set : handed ≡ record (opening g staff) { states = set_hands states (map first_state (Grid.points g)) } = hands ∙ hands_edited states (opening g staff) in
+    taken
+    ∙ (λ i. record (set i) { records = of_records i; steps = of_steps i; holds = of_holds i })
+    ∙ sym (all_edited states holds records steps (opening g staff))
 
 -- ---- the network with the positions of a register
 

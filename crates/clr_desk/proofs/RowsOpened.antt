@@ -7,7 +7,7 @@ use Rattle.clr_rules.specs.Good.{IsGood}
 use Rattle.clr_rules.specs.Register.{Register}
 use Rattle.sqlite.specs.State.{State}
 use Rattle.clr_load.specs.Cause.{SqlHasCause}
-use Rattle.clr_load.specs.Contract.{GivesRows}
+use Rattle.clr_load.specs.Filling.{GivesInto}
 use Rattle.clr_load.specs.Fault.{IsOfDatabase}
 use Rattle.clr_load.specs.declared.fault.StoreFault.{StoreFault}
 use Rattle.clr_load.specs.declared.fault.StoreFault.TheVariants.{Sql, WrongVersion, BadRow, NoMemory}
@@ -24,14 +24,24 @@ bad_or other (Ok rows) = other
 bad_or other (Err bad) = bad
 
 -- rows that were not loaded
-pub not_loaded : (told : Result Rows TableName) (fault : StoreFault) → GivesRows told (Err fault) → OpensAs (λ (book : Shelved). book.register) told (Err fault)
-not_loaded (Ok rows) (BadRow name) gives = cc
-not_loaded (Err bad) (BadRow name) gives = ap (bad_or bad) gives
-not_loaded (Ok rows) Sql gives = tt
-not_loaded (Err bad) Sql gives = tt
-not_loaded (Ok rows) NoMemory gives = tt
-not_loaded (Err bad) NoMemory gives = tt
-not_loaded told (WrongVersion n) gives = absurd gives
+pub not_loaded : {X : Type 0} (has : X → Rows → Type 0) (told : Result Rows TableName) (fault : StoreFault) → GivesInto has told (Err fault)
+    → OpensAs (λ (book : Shelved). book.register) told (Err fault)
+not_loaded has (Ok rows) (BadRow name) gives = cc
+not_loaded has (Err bad) (BadRow name) gives = ap (bad_or bad) gives
+not_loaded has (Ok rows) Sql gives = tt
+not_loaded has (Err bad) Sql gives = tt
+not_loaded has (Ok rows) NoMemory gives = tt
+not_loaded has (Err bad) NoMemory gives = tt
+not_loaded has told (WrongVersion n) gives = absurd gives
+
+-- rows that were loaded, and gave no book
+pub fails_to_open : (told : Result Rows TableName) (rows : Rows) (fault : StoreFault) → told ≡ Ok rows → FailsToOpen rows fault
+    → OpensAs (λ (book : Shelved). book.register) told (Err fault)
+fails_to_open told rows fault is fails = subst (λ (read : Result Rows TableName). OpensAs (λ (book : Shelved). book.register) read (Err fault)) (sym is) (at fails)
+  where
+    at : FailsToOpen rows fault → OpensAs (λ (book : Shelved). book.register) (Ok rows) (Err fault)
+    at (inl memory) = subst (λ (f : StoreFault). OpensAs (λ (book : Shelved). book.register) (Ok rows) (Err f)) (sym memory) tt
+    at (inr bad) = subst (λ (f : StoreFault). OpensAs (λ (book : Shelved). book.register) (Ok rows) (Err f)) (sym bad.2) bad.1
 
 -- rows that were loaded, and gave a book
 pub loaded : (told : Result Rows TableName) (rows : Rows) (book : Shelved) → told ≡ Ok rows → IsRegisterOf rows book.register

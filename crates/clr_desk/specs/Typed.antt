@@ -1,16 +1,11 @@
--- VALUES WITHIN THEIR TYPES, where a value is of several lists: networks, staffs, loaded rows.
+-- VALUES WITHIN THEIR TYPES, where a value is of several lists: networks and staffs.
 use Rattle.std.specs.Prelude.{Bool, ◌&&◌, List}
 use Rattle.std.specs.List.{list_all}
 use Rattle.clr_staff.specs.declared.employee.StaffRow.{StaffRow}
 use Rattle.clr_net.specs.Grid.{Grid}
 use Rattle.clr_net.specs.Name.{is_name}
 use Rattle.clr_order.specs.declared.step.Step.{Step}
-use Rattle.clr_load.specs.Contract.{rows_told}
-use Rattle.clr_load.specs.declared.rows.Rows.{Rows as Loaded}
-use Rattle.clr_tables.specs.RowsRead.{Rows}
-use Rattle.clr_tables.specs.TypedRows.{is_typed_employee, is_typed_hold, is_typed_point}
-use Rattle.clr_tables.specs.TypedRows.{is_typed_record, is_typed_section, is_typed_state}
-use Rattle.clr_tables.specs.TypedRows.{is_typed_step}
+use Rattle.clr_tables.specs.TypedRows.{is_typed_employee, is_typed_point, is_typed_section}
 
 -- the point of a step is named; how far the step has come is no part of a command
 abbrev pub has_typed_point : Step → Bool
@@ -21,15 +16,3 @@ is_typed_network g = list_all is_typed_section g.sections && list_all is_typed_p
 
 abbrev pub is_typed_staff : List StaffRow → Bool
 is_typed_staff staff = list_all is_typed_employee staff
-
--- the rows that a register is made of
-abbrev pub is_typed_rows : Rows → Bool
-is_typed_rows rows = list_all is_typed_section rows.sections
-    && (list_all is_typed_point rows.points
-    && (list_all is_typed_state rows.states
-    && (list_all is_typed_employee rows.staff
-    && (list_all is_typed_record rows.records
-    && (list_all is_typed_step rows.steps && list_all is_typed_hold rows.holds)))))
-
-abbrev pub is_typed_loaded : Loaded → Bool
-is_typed_loaded rows = is_typed_rows (rows_told rows)

@@ -1,14 +1,17 @@
 //! A copy of a book, in which commands can be tried.
 ghost use Rattle.std.specs.Prelude.{◌≡◌, IfOk, map};
-ghost use Rattle.clr_load.specs.Contract.{rows_told};
+ghost use Rattle.clr_load.specs.Filling.{shelved};
 ghost use Rattle.clr_net.specs.Grid.{unplaced};
 ghost use Rattle.clr_rules.specs.Good.{IsGood};
 ghost use Rattle.clr_tables.specs.RowsRead.{rows_of, with_its_position};
+ghost use Rattle.clr_desk.specs.Loaded.{HasRows};
 
 use crate::book::DeskBook;
-use crate::opening::book_of;
+use crate::opening::{LoadedShelves, book_of};
+use crate::typed::Typed;
+use crate::typed_shelf::TypedShelf;
 use clr_book::{Book, all_rows};
-use clr_load::Rows;
+use clr_load::{Fill, Loaded};
 use clr_net::{PointRow, Position};
 use clr_rules::{Hold, PointState, Record, StepRow};
 use clr_shelf::{Row, Shelf};
@@ -19,31 +22,31 @@ pub fn copy_of(alloc: Global, book: &DeskBook) -> Result<DeskBook, AllocError>
     ensures { IsGood book.now.register
         → IfOk result (λ copy. copy.register ≡ book.now.register) }
 {
-    let rows = rows_of(alloc, book)?;
-    match book_of(rows) {
+    let loaded = rows_of(alloc, book)?;
+    match book_of(loaded) {
         Ok(copy) => Ok(copy),
         Err(_) => Err(AllocError),
     }
 }
 
 /// All rows of a book, as a store that has its tables loads them.
-fn rows_of<P, C, T, H>(alloc: Global, book: &Book<P, C, T, H>) -> Result<Rows, AllocError>
+fn rows_of<P, C, T, H>(alloc: Global, book: &Book<P, C, T, H>) -> Result<LoadedShelves, AllocError>
 where
     P: Shelf<PointState>,
     C: Shelf<Record>,
     T: Shelf<StepRow>,
     H: Shelf<Hold>,
-    ensures { IfOk result (λ rows. rows_told rows ≡ rows_of book.now.register) }
+    ensures { IfOk result (λ loaded. HasRows loaded (rows_of book.now.register)) }
 {
     let (states, records, steps, holds) = book.shelves();
     let sections = Vec::from_slice(alloc, book.network().sections())?;
     let points = points_now(alloc, book, book.network().points())?;
     let states = copied(alloc, states)?;
     let staff = Vec::from_slice(alloc, book.staff().rows())?;
-    let records = copied(alloc, records)?;
-    let steps = copied(alloc, steps)?;
-    let holds = copied(alloc, holds)?;
-    Ok(Rows {
+    let records = copied_shelf(alloc, records)?;
+    let steps = copied_shelf(alloc, steps)?;
+    let holds = copied_shelf(alloc, holds)?;
+    Ok(Loaded {
         version: 2,
         sections,
         points,
@@ -60,15 +63,27 @@ fn copied<R: Row + Copy, S: Shelf<R>>(alloc: Global, shelf: &S) -> Result<Vec<R>
     ensures { IfOk result (λ rows. rows.items ≡ S.rows shelf.now) }
 {
     let rows = all_rows(alloc, shelf)?;
-    copied_rows(alloc, &rows)
+    filled(alloc, &rows)
 }
 
-fn copied_rows<R: Row + Copy>(alloc: Global, rows: &[&R]) -> Result<Vec<R>, AllocError>
-    ensures { IfOk result (λ found. found.items ≡ map (λ row. row.now) rows.now) }
+/// A shelf with copies of the rows of a shelf, put in key order.
+fn copied_shelf<R: Row + Typed + Copy, S: Shelf<R>, T: Shelf<R>>(
+    alloc: Global,
+    shelf: &S,
+) -> Result<TypedShelf<R, T>, AllocError>
+    ensures { IfOk result (λ copy. copy ≡ shelved R.key_cmp R.key_of (S.rows shelf.now)) }
 {
-    let mut found = Vec::with_capacity(alloc, rows.len())?;
+    let rows = all_rows(alloc, shelf)?;
+    filled(alloc, &rows)
+}
+
+/// Copies of rows, in what takes them one after another.
+fn filled<R: Row + Copy, F: Fill<R>>(alloc: Global, rows: &[&R]) -> Result<F, AllocError>
+    ensures { IfOk result (λ found. F.has found (map (λ row. row.now) rows.now)) }
+{
+    let mut found = F::empty(alloc);
     for row in rows {
-        found.push(**row)?;
+        found.fill(**row)?;
     }
     Ok(found)
 }

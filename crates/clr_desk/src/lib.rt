@@ -12,6 +12,7 @@ pub mod laws;
 mod opening;
 mod run;
 mod typed;
+mod typed_shelf;
 
 pub use book::DeskBook;
 pub use commit::{Commit, Unkept};

@@ -1,57 +1,47 @@
 //! Opening: the book of the rows that a store has loaded.
 ghost use Rattle.std.specs.Prelude.{◌≡◌, ◌⊎◌, ℕ, List, Option, Some, None, IfErr, IfOk, IsErrAnd};
-ghost use Rattle.std.specs.Prelude.{IsTrue, OnOk, true, length, map, nat_lt};
+ghost use Rattle.std.specs.Prelude.{IsTrue, length, map, nat_lt};
 ghost use Rattle.clr_staff.specs.Staff.{IsStaffOf, first_fault as staff_fault};
 ghost use Rattle.clr_net.specs.Network.{IsGridOf, first_fault as network_fault};
-ghost use Rattle.clr_rules.specs.Edits.{after_edits, fit};
-ghost use Rattle.clr_rules.specs.Register.{opening, unplaced_net};
+ghost use Rattle.clr_rules.specs.Edits.{after_edits};
+ghost use Rattle.clr_rules.specs.Register.{opening};
 ghost use Rattle.clr_tables.specs.declared.table_name.TableName.TheVariants as table;
 ghost use Rattle.clr_book.specs.Book.{Shelved};
-ghost use Rattle.clr_book.specs.Growth.{network_after_all};
-ghost use Rattle.clr_load.specs.Contract.{IsSaved, rows_told};
+ghost use Rattle.clr_load.specs.Contract.{IsSaved};
 ghost use Rattle.clr_load.specs.Cause.{SqlHasCause};
 ghost use Rattle.clr_load.specs.Fault.{IsOfDatabase};
 ghost use Rattle.clr_load.specs.Stored.{HasTables};
-ghost use Rattle.clr_tables.specs.RowsRead.{rows_read};
+ghost use Rattle.clr_tables.specs.RowsRead.{Rows, rows_read};
 ghost use Rattle.clr_tables.specs.Tables.{Tables};
 ghost use Rattle.clr_tables.specs.TypedRows.{IsTyped};
 ghost use Rattle.sqlite.specs.Held.{state};
 ghost use Rattle.sqlite.specs.State.{HasCleanDisk, Survives};
-ghost use Rattle.clr_desk.specs.Filling.{filling, hand_edit};
-ghost use Rattle.clr_rules.specs.declared.change.Edit.TheVariants.{PutHold, PutRecord, PutStep};
+ghost use Rattle.clr_desk.specs.Filling.{hand_edit};
+ghost use Rattle.clr_desk.specs.Loaded.{HasRows};
 ghost use Rattle.clr_desk.specs.Opening.{FailsToOpen, HasNetworkOf, IsRegisterOf, OpensAs, bad_table, table_of};
 ghost use Rattle.clr_load.specs.declared.fault.StoreFault.TheVariants.{BadRow, NoMemory};
 
 use crate::book::{DeskBook, apply, opening_book};
-use crate::typed::Typed;
-use clr_load::{Rows, StoreFault};
+use crate::typed::{Typed, all_typed};
+use crate::typed_shelf::TypedShelf;
+use clr_load::{Loaded, StoreFault};
 use clr_net::{MAX_SECTIONS, NetFault, Network, PointRow, SectionRow};
 use clr_rules::{Change, Edit, Hold, PointState, Record, StepRow};
+use clr_shelf::SortedShelf;
 use clr_staff::{Staff, StaffFault, StaffRow};
 use clr_store::Store;
 use clr_tables::TableName;
 use sqlite::Alter;
 use std::alloc::{AllocError, Global};
 
-/// The edits that fill a book that was opened: each point into the hand that it is in, and then all
-/// holds, records and steps.
-fn filling(
-    alloc: Global,
-    states: &[PointState],
-    holds: &[Hold],
-    records: &[Record],
-    steps: &[StepRow],
-) -> Result<Change, AllocError>
-    ensures { IfOk result
-        (λ change. change.edits.items ≡ filling states.now holds.now records.now steps.now) }
-{
-    let mut edits = hand_edits(alloc, states)?;
-    edits.extend_from_slice(&hold_edits(alloc, holds)?)?;
-    edits.extend_from_slice(&record_edits(alloc, records)?)?;
-    edits.extend_from_slice(&step_edits(alloc, steps)?)?;
-    Ok(Change { edits })
-}
+/// What a store has loaded: clearances, steps and holds on the shelves of a book.
+pub(crate) type LoadedShelves = Loaded<
+    TypedShelf<Record, SortedShelf<Record>>,
+    TypedShelf<StepRow, SortedShelf<StepRow>>,
+    TypedShelf<Hold, SortedShelf<Hold>>,
+>;
 
+/// The edits that put each point into the hand that it is in.
 fn hand_edits(alloc: Global, states: &[PointState]) -> Result<Vec<Edit>, AllocError>
     ensures { IfOk result (λ edits. edits.items ≡ map hand_edit states.now) }
 {
@@ -62,40 +52,22 @@ fn hand_edits(alloc: Global, states: &[PointState]) -> Result<Vec<Edit>, AllocEr
     hands.collect(alloc)
 }
 
-fn hold_edits(alloc: Global, holds: &[Hold]) -> Result<Vec<Edit>, AllocError>
-    ensures { IfOk result (λ edits. edits.items ≡ map PutHold holds.now) }
-{
-    holds.iter().map(|hold| Edit::PutHold(*hold)).collect(alloc)
-}
-
-fn record_edits(alloc: Global, records: &[Record]) -> Result<Vec<Edit>, AllocError>
-    ensures { IfOk result (λ edits. edits.items ≡ map PutRecord records.now) }
-{
-    records
-        .iter()
-        .map(|record| Edit::PutRecord(*record))
-        .collect(alloc)
-}
-
-fn step_edits(alloc: Global, steps: &[StepRow]) -> Result<Vec<Edit>, AllocError>
-    ensures { IfOk result (λ edits. edits.items ≡ map PutStep steps.now) }
-{
-    steps.iter().map(|row| Edit::PutStep(*row)).collect(alloc)
-}
-
-/// A book that is opened and filled.
-fn filled_book(
+/// The book of a network and a staff, with each point in the hand that it is in.
+fn handed_book(
     alloc: Global,
     network: Network,
     staff: Staff,
-    change: Change,
+    states: &[PointState],
 ) -> Result<DeskBook, AllocError>
-    requires { fit (unplaced_net network) change.edits.items ≡ true }
-    ensures register { IfOk result (λ book. book.register ≡ after_edits change.edits.items
-        (opening network staff)) }
-    ensures network { IfOk result
-        (λ book. book.network ≡ network_after_all change.edits.items network) }
+    ensures register { IfOk result (λ book. book.register
+        ≡ after_edits (map hand_edit states.now) (opening network staff)) }
+    ensures network { IfOk result (λ book. book.network ≡ network) }
+    ensures typed { IfOk result (λ book. IsTyped book.register) }
 {
+    all_typed(states);
+    let change = Change {
+        edits: hand_edits(alloc, states)?,
+    };
     let mut book = opening_book(alloc, network, staff)?;
     book.reserve(&change)?;
     apply(&mut book, change);
@@ -153,22 +125,28 @@ fn built_staff(alloc: Global, rows: Vec<StaffRow>) -> Result<Staff, StoreFault>
     }
 }
 
-/// The book of loaded rows.
-pub(crate) fn book_of(rows: Rows) -> Result<DeskBook, StoreFault>
-    ensures register { IfOk result (λ book. IsRegisterOf (rows_told rows) book.register) }
-    ensures network { IfOk result
-        (λ book. IsGridOf (rows_told rows).sections (rows_told rows).points book.network) }
+/// The book of loaded rows. It takes their shelves, and copies no row of these.
+pub(crate) fn book_of(loaded: LoadedShelves) -> Result<DeskBook, StoreFault>
+    ensures register { (rows : Rows) → HasRows loaded rows
+        → IfOk result (λ book. IsRegisterOf rows book.register) }
+    ensures network { (rows : Rows) → HasRows loaded rows
+        → IfOk result (λ book. IsGridOf rows.sections rows.points book.network) }
     ensures typed { IfOk result (λ book. IsTyped book.register) }
-    ensures none { IfOk result (λ _. bad_table (rows_told rows) ≡ None) }
-    ensures fault { IfErr result (λ fault. FailsToOpen (rows_told rows) fault) }
+    ensures none { (rows : Rows) → HasRows loaded rows
+        → IfOk result (λ _. bad_table rows ≡ None) }
+    ensures fault { (rows : Rows) → HasRows loaded rows → IfErr result (FailsToOpen rows) }
 {
-    rows.typed();
-    let alloc = *rows.sections.allocator();
-    let change = filling(alloc, &rows.states, &rows.holds, &rows.records, &rows.steps)?;
-    let network = built_network(alloc, rows.sections, rows.points)?;
-    let staff = built_staff(alloc, rows.staff)?;
-    let book = filled_book(alloc, network, staff, change)?;
-    Ok(book)
+    loaded.records.typed();
+    loaded.steps.typed();
+    loaded.holds.typed();
+    let alloc = *loaded.sections.allocator();
+    let network = built_network(alloc, loaded.sections, loaded.points)?;
+    let staff = built_staff(alloc, loaded.staff)?;
+    let book = handed_book(alloc, network, staff, &loaded.states)?;
+    let records = loaded.records.into_shelf();
+    let steps = loaded.steps.into_shelf();
+    let holds = loaded.holds.into_shelf();
+    Ok(book.with_shelves(records, steps, holds))
 }
 
 /// The book of what a store has. The store is only read.
@@ -194,8 +172,8 @@ pub(crate) fn book_in<S: Alter + Drop>(store: &mut Store<S>) -> Result<DeskBook,
         → (state S.Store store.new).now ≡ (state S.Store store.old).now }
     ensures survives { Survives (state S.Store store.old) (state S.Store store.new) (λ _. ⊥) }
 {
-    match store.load() {
-        Ok(rows) => match book_of(rows) {
+    match store.load_into() {
+        Ok(loaded) => match book_of(loaded) {
             Ok(book) => Ok(book),
             Err(fault) => Err(fault),
         },

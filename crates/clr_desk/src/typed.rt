@@ -10,9 +10,7 @@ ghost use Rattle.clr_tables.specs.TypedRows.{is_typed_employee, is_typed_hold, i
 ghost use Rattle.clr_tables.specs.TypedRows.{is_typed_point, is_typed_record, is_typed_section};
 ghost use Rattle.clr_tables.specs.TypedRows.{is_typed_state, is_typed_step, is_typed_task};
 ghost use Rattle.clr_desk.specs.Typed.{has_typed_point, is_typed_network, is_typed_staff};
-ghost use Rattle.clr_desk.specs.Typed.{is_typed_loaded};
 
-use clr_load::Rows;
 use clr_net::{Name, Network, PointRow, SectionRow};
 use clr_order::Step;
 use clr_rules::{
@@ -175,20 +173,6 @@ impl Typed for Staff {
 
     fn typed(&self) {
         all_typed(self.rows());
-    }
-}
-
-impl Typed for Rows {
-    ghost is_typed = { is_typed_loaded };
-
-    fn typed(&self) {
-        all_typed(&self.sections);
-        all_typed(&self.points);
-        all_typed(&self.states);
-        all_typed(&self.staff);
-        all_typed(&self.records);
-        all_typed(&self.steps);
-        all_typed(&self.holds);
     }
 }
 

@@ -1,6 +1,13 @@
-use Rattle.std.proofs.Common.{◌≡◌, ◌∙◌, ap, map, pos, rules, sym}
+use Rattle.std.proofs.Common.{◌≡◌, ◌∙◌, ap, map, refl, rules, sym}
 use Rattle.clr_net.proofs.ListFacts.{map-map}
 use Rattle.clr_net.specs.Grid.{unplaced}
+use Rattle.clr_rules.specs.Hold.{hold_cmp}
+use Rattle.clr_rules.specs.Holds.{hold_key}
+use Rattle.clr_rules.specs.Id.{id_cmp}
+use Rattle.clr_rules.specs.Records.{record_key}
+use Rattle.clr_rules.specs.Register.{Register}
+use Rattle.clr_rules.specs.StepKey.{step_key, step_key_cmp}
+use Rattle.clr_load.specs.Filling.{shelved}
 use Rattle.clr_tables.specs.RowsRead.{with_its_position}
 use Rattle.clr_desk.proofs.copy.rows_of.Goals as goal
 
@@ -14,16 +21,13 @@ returns g c =
     c.in_ok-points.ensures ∙ sym (map-map (with_its_position R.states) unplaced rows) ∙ ap (map (with_its_position R.states)) shown in
     let states : c.in_ok-states.states.items ≡ R.states = search rules in
     let staff : c.in_ok-staff.staff.items ≡ R.staff = search rules in
-    let records : c.in_ok-records.records.items ≡ R.records = search rules in
-    let steps : c.in_ok-steps.steps.items ≡ R.steps = search rules in
-    let holds : c.in_ok-holds.holds.items ≡ R.holds = search rules in
-    (λ i. record {
-      version = pos 2;
-      sections = sections i;
-      points = points i;
-      states = states i;
-      staff = staff i;
-      records = records i;
-      steps = steps i;
-      holds = holds i;
-    })
+    record {
+      version = refl;
+      sections = sections;
+      points = points;
+      states = states;
+      staff = staff;
+      records_are = c.in_ok-records.ensures ∙ ap (λ (r : Register). shelved id_cmp record_key r.records) (sym c.shelves.ensures);
+      steps_are = c.in_ok-steps.ensures ∙ ap (λ (r : Register). shelved step_key_cmp step_key r.steps) (sym c.shelves.ensures);
+      holds_are = c.in_ok-holds.ensures ∙ ap (λ (r : Register). shelved hold_cmp hold_key r.holds) (sym c.shelves.ensures);
+    }

@@ -1,27 +1,32 @@
-use Rattle.std.proofs.Common.{rules, ◌∙◌, ap, subst, sym}
+use Rattle.std.proofs.Common.{◌∙◌, List, ap, map, subst}
 use Rattle.clr_net.specs.Network.{IsGridOf}
-use Rattle.clr_rules.specs.Edits.{fit}
-use Rattle.clr_rules.specs.Register.{unplaced_net}
-use Rattle.clr_load.specs.Contract.{rows_told}
-use Rattle.clr_book.specs.Growth.{network_after_all}
-use Rattle.clr_desk.specs.Opening.{IsRegisterOf}
-use Rattle.clr_desk.proofs.Filling.{filling_keeps, filling_taken}
-use Rattle.clr_desk.proofs.TypedRegisters.{rows_typed}
+use Rattle.clr_net.specs.declared.point.PointRow.{PointRow}
+use Rattle.clr_net.specs.declared.section.SectionRow.{SectionRow}
+use Rattle.clr_staff.specs.Staff.{IsStaffOf}
+use Rattle.clr_staff.specs.declared.employee.StaffRow.{StaffRow}
+use Rattle.clr_rules.specs.Edits.{after_edits}
+use Rattle.clr_rules.specs.Register.{opening}
+use Rattle.clr_rules.specs.declared.point_state.PointState.{PointState}
+use Rattle.clr_desk.specs.Filling.{hand_edit}
+use Rattle.clr_desk.proofs.Filled.{shelves_fill}
 use Rattle.clr_desk.proofs.opening.book_of.Goals as goal
 
-pub filled_book-requires : goal.filled_book-requires
-filled_book-requires c =
-    ap (fit (unplaced_net c.in_ok-network.network)) c.in_ok-change.ensures
-    ∙ filling_taken (unplaced_net c.in_ok-network.network) _ _ _ _
-
-pub returns-clause-network : goal.returns-clause-network
-returns-clause-network c =
+pub returns-clause-register : goal.returns-clause-register
+returns-clause-register c rows has =
     let network = c.in_ok-network.network in
-    subst (IsGridOf (rows_told c.args.rows).sections (rows_told c.args.rows).points)
-    (sym (c.in_ok-book.ensures.network ∙ ap (λ edits. network_after_all edits network) c.in_ok-change.ensures ∙ filling_keeps network _ _ _ _))
-    c.in_ok-network.ensures.built
-
-pub returns-clause-typed : goal.returns-clause-typed
-returns-clause-typed c =
-    let of : IsRegisterOf (rows_told c.args.rows) c.in_ok-book.book.register = search rules in
-    rows_typed (rows_told c.args.rows) c.in_ok-book.book.register of c.typed.ensures
+    let staff = c.in_ok-staff.staff in
+    record {
+      grid = network;
+      staff = staff;
+      network =
+          subst (λ (points : List PointRow). IsGridOf rows.sections points network) has.points
+          (subst (λ (sections : List SectionRow). IsGridOf sections c.args.loaded.points.items network) has.sections c.in_ok-network.ensures.built);
+      employees = subst (λ (employees : List StaffRow). IsStaffOf employees staff) has.staff c.in_ok-staff.ensures.built;
+      filled =
+          shelves_fill rows.states rows.holds rows.records rows.steps network staff c.in_ok-book.book.register c.with_shelves.result.register _ _ _
+          (c.in_ok-book.ensures.register ∙ ap (λ (states : List PointState). after_edits (map hand_edit states) (opening network staff)) (c.deref.ensures.value ∙ has.states))
+          c.with_shelves.ensures.register
+          (c.into_shelf-records.ensures ∙ has.records_are)
+          (c.into_shelf-steps.ensures ∙ has.steps_are)
+          (c.into_shelf-holds.ensures ∙ has.holds_are);
+    }
