@@ -44,7 +44,7 @@ use Rattle.clr_rules.specs.declared.hold.Hold.{Hold}
 use Rattle.clr_rules.specs.declared.point_state.PointState.{PointState}
 use Rattle.clr_rules.specs.declared.record.Record.{Record}
 use Rattle.clr_rules.specs.declared.step_row.StepRow.{StepRow}
-use Rattle.clr_load.specs.Filling.{put_all, shelved}
+use Rattle.clr_desk.specs.Shelving.{put_all, shelved}
 use Rattle.clr_tables.specs.RowsRead.{with_its_position}
 use Rattle.clr_tables.specs.Tables.{state_at}
 use Rattle.clr_desk.specs.Filling.{filling, hand_edit}

@@ -2,6 +2,7 @@ pub mod Asking
 pub mod Filling
 pub mod Typed
 pub mod Opening
+pub mod Shelving
 pub mod Loaded
 pub mod AtFault
 pub mod Faults

@@ -8,7 +8,8 @@ use Rattle.clr_rules.specs.StepKey.{step_key, step_key_cmp}
 use Rattle.clr_rules.specs.declared.hold.Hold.{Hold}
 use Rattle.clr_rules.specs.declared.record.Record.{Record}
 use Rattle.clr_rules.specs.declared.step_row.StepRow.{StepRow}
-use Rattle.clr_load.specs.Filling.{IsLoaded, shelved}
+use Rattle.clr_load.specs.Filling.{IsLoaded}
+use Rattle.clr_desk.specs.Shelving.{shelved}
 use Rattle.clr_load.specs.declared.rows.Loaded.{Loaded}
 use Rattle.clr_tables.specs.RowsRead.{Rows}
 

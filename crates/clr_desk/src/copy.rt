@@ -1,6 +1,6 @@
 //! A copy of a book, in which commands can be tried.
 ghost use Rattle.std.specs.Prelude.{◌≡◌, IfOk, map};
-ghost use Rattle.clr_load.specs.Filling.{shelved};
+ghost use Rattle.clr_desk.specs.Shelving.{shelved};
 ghost use Rattle.clr_net.specs.Grid.{unplaced};
 ghost use Rattle.clr_rules.specs.Good.{IsGood};
 ghost use Rattle.clr_tables.specs.RowsRead.{rows_of, with_its_position};

@@ -1,7 +1,7 @@
 //! Shelves whose rows are within their types.
 ghost use Rattle.std.specs.Prelude.{◌≡◌};
 ghost use Rattle.std.specs.List.{list_all};
-ghost use Rattle.clr_load.specs.Filling.{shelved};
+ghost use Rattle.clr_desk.specs.Shelving.{shelved};
 
 use crate::typed::Typed;
 use clr_load::Fill;

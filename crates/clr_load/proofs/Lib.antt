@@ -1,5 +1,4 @@
 pub mod Inside
-pub mod Filled
 pub mod Texts
 pub mod Columns
 pub mod Causes

@@ -1,27 +1,14 @@
--- WHAT ROWS ARE READ INTO: the rows of a shelf that took them, and what was loaded of tables.
-use Rattle.std.specs.Prelude.{◌≡◌, List, [], ◌∷◌, Result, Ok, Err, ⊤}
-use Rattle.std.specs.declared.cmp.Ordering.{Ordering}
+-- WHAT ROWS ARE READ INTO, and what was loaded of tables.
+use Rattle.std.specs.Prelude.{◌≡◌, List, Result, Ok, Err, ⊤}
 use Rattle.clr_rules.specs.declared.hold.Hold.{Hold}
 use Rattle.clr_rules.specs.declared.record.Record.{Record}
 use Rattle.clr_rules.specs.declared.step_row.StepRow.{StepRow}
-use Rattle.clr_shelf.specs.Rows.{with_row}
 use Rattle.clr_tables.specs.RowsRead.{Rows}
 use Rattle.clr_tables.specs.declared.table_name.TableName.{TableName}
 use Rattle.clr_load.specs.declared.fault.StoreFault.{StoreFault}
 use Rattle.clr_load.specs.declared.fault.StoreFault.TheVariants.{Sql, WrongVersion, BadRow}
 use Rattle.clr_load.specs.declared.fault.StoreFault.TheVariants.{NoMemory}
 use Rattle.clr_load.specs.declared.rows.Loaded.{Loaded}
-
--- rows put on a shelf, one after another
-unfoldable pub put_all : {Key Row : Type 0} → (Key → Key → Ordering) → (Row → Key) → List Row
-    → List Row → List Row
-put_all compare key_of [] shelf = shelf
-put_all compare key_of (row ∷ rows) shelf =
-    put_all compare key_of rows (with_row compare key_of row shelf)
-
--- the rows of a shelf that took these alone
-abbrev pub shelved : {Key Row : Type 0} → (Key → Key → Ordering) → (Row → Key) → List Row → List Row
-shelved compare key_of rows = put_all compare key_of rows []
 
 -- what was read into is told by `has`: the value that is read, unless the database refuses or memory
 -- runs out, or the table with the row that does not read

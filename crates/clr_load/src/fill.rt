@@ -1,8 +1,6 @@
 //! What rows are read into.
-ghost use Rattle.std.specs.Prelude.{◌≡◌, [], ◌∷◌, ◌++◌, IfOk, OnOk, List};
-ghost use Rattle.clr_load.specs.Filling.{shelved};
+ghost use Rattle.std.specs.Prelude.{◌≡◌, [], ◌∷◌, ◌++◌, OnOk, List};
 
-use clr_shelf::{Row, Shelf};
 use std::alloc::{AllocError, Global};
 
 /// Takes rows, one after another. Want of memory is its only error.
@@ -32,28 +30,6 @@ impl<R: Drop> Fill<R> for Vec<R> {
 
     fn fill(&mut self, row: R) -> Result<(), AllocError> {
         self.push(row)?;
-        Ok(())
-    }
-}
-
-/// A shelf that takes rows: each in place of the row of its key, if there is one.
-#[derive(Drop)]
-pub struct Filling<S> {
-    pub shelf: S,
-}
-
-impl<R: Row, S: Shelf<R>> Fill<R> for Filling<S> {
-    ghost has = { λ it rows. S.rows it.shelf ≡ shelved R.key_cmp R.key_of rows };
-
-    fn empty(alloc: Global) -> Self {
-        Filling {
-            shelf: S::empty(alloc),
-        }
-    }
-
-    fn fill(&mut self, row: R) -> Result<(), AllocError> {
-        self.shelf.reserve(1)?;
-        self.shelf.put(row);
         Ok(())
     }
 }

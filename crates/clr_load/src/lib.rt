@@ -15,7 +15,7 @@ mod table_row;
 mod version;
 
 pub use fault::StoreFault;
-pub use fill::{Fill, Filling};
+pub use fill::Fill;
 pub use laws::tables_open_again;
 pub use load::{load_into, load_rows};
 pub use old::check_old_points;

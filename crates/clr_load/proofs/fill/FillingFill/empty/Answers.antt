@@ -1,6 +1,0 @@
-use Rattle.std.proofs.Common.{◌∙◌, sym}
-use Rattle.clr_load.proofs.Filled.{shelved_none}
-use Rattle.clr_load.proofs.fill.FillingFill.empty.Goals as goal
-
-pub returns : goal.returns
-returns g c = c.empty.ensures ∙ sym (shelved_none g.R.Row.key_cmp g.R.Row.key_of)
