@@ -1,5 +1,5 @@
 -- Registers whose values are within their types: opening ones, those that are filled, and those that commands leave.
-use Rattle.std.proofs.Common.{◌≡◌, ◌∙◌, ℕ, Bool, true, ◌&&◌, List, [], ◌∷◌, map, take, Option, None, Some, IsTrue, refl, subst, sym}
+use Rattle.std.proofs.Common.{◌≡◌, ℕ, Bool, true, List, [], ◌∷◌, map, take, Option, None, Some, IsTrue, subst, sym}
 use Rattle.std.specs.List.{list_all}
 use Rattle.std.specs.Cmp.{IsTotalOrder}
 use Rattle.std.specs.declared.cmp.Ordering.{Ordering}
@@ -17,12 +17,9 @@ use Rattle.clr_rules.specs.Register.{Register, opening}
 use Rattle.clr_rules.specs.Run.{after, after_all}
 use Rattle.clr_rules.specs.States.{change_state, changed_state, state_key, state_of}
 use Rattle.clr_rules.specs.declared.command.Command.{Command}
-use Rattle.clr_rules.specs.declared.hold.Hold.{Hold}
 use Rattle.clr_rules.specs.declared.point_state.PointState.{PointState}
-use Rattle.clr_rules.specs.declared.record.Record.{Record}
-use Rattle.clr_rules.specs.declared.step_row.StepRow.{StepRow}
 use Rattle.clr_rules.specs.Edits.{after_edits}
-use Rattle.clr_tables.specs.TypedRows.{IsTyped, is_id_or_none, is_typed_command, is_typed_employee, is_typed_hold, is_typed_point, is_typed_record, is_typed_section, is_typed_state, is_typed_step}
+use Rattle.clr_tables.specs.TypedRows.{IsTyped, is_id_or_none, is_typed_command, is_typed_point, is_typed_section, is_typed_state}
 use Rattle.clr_tables.proofs.TypedEdits.{commands_keep_typed, openings_are_typed}
 use Rattle.clr_desk.specs.Filling.{hand_edit}
 use Rattle.clr_desk.specs.Typed.{is_typed_network, is_typed_staff}
@@ -70,19 +67,6 @@ handed_typed states R hands typed =
       holds = typed.holds;
     } in
     subst IsTyped (sym (hands_edited states R)) handed
-
--- shelves are taken in
-pub shelves_typed : (R : Register) (records : List Record) (steps : List StepRow) (holds : List Hold) → IsTyped R → list_all is_typed_record records ≡ true
-    → list_all is_typed_step steps ≡ true → list_all is_typed_hold holds ≡ true → IsTyped (record R { records = records; steps = steps; holds = holds })
-shelves_typed R records steps holds typed of_records of_steps of_holds = record {
-  sections = typed.sections;
-  points = typed.points;
-  states = typed.states;
-  staff = typed.staff;
-  records = of_records;
-  steps = of_steps;
-  holds = of_holds;
-}
 
 -- ---- runs
 

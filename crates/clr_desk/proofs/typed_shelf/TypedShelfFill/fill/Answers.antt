@@ -1,4 +1,4 @@
-use Rattle.std.proofs.Common.{◌≡◌, ◌∙◌, List, IsTrue, ap, rules, subst, sym}
+use Rattle.std.proofs.Common.{◌≡◌, ◌∙◌, List, IsTrue, ap, subst, sym}
 use Rattle.std.specs.List.{list_all}
 use Rattle.clr_shelf.specs.Rows.{with_row}
 use Rattle.clr_load.proofs.Filled.{shelved_more}
