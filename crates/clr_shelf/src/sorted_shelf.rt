@@ -53,6 +53,36 @@ impl<R: Row> SortedShelf<R> {
         }
     }
 
+    // Whether there are rows, all of lower keys.
+    fn ends_below(&self, key: &R::Key) -> bool
+        ensures { IsTrue result
+            → IsGapFor (place_cmp R.key_cmp R.group_of R.group_cmp) R.key_of key.now
+            (items_of self.now.list) (length (items_of self.now.list)) }
+    {
+        let len = self.list.len();
+        if len == 0 {
+            return false;
+        }
+        let group = R::group_of(key);
+        let row = self.list.at(len - 1);
+        row.compare_group(&group).then(row.compare_key(key)).is_lt()
+    }
+
+    // The same as `place_of`, quicker where the key is above those of all rows.
+    fn place_to_put(&self, key: &R::Key) -> Result<usize, usize>
+        ensures found { IfOk result
+            (IsPlaceOf (place_cmp R.key_cmp R.group_of R.group_cmp) R.key_of key.now
+            (items_of self.now.list)) }
+        ensures absent { IfErr result
+            (IsGapFor (place_cmp R.key_cmp R.group_of R.group_cmp) R.key_of key.now
+            (items_of self.now.list)) }
+    {
+        if self.ends_below(key) {
+            return Err(self.list.len());
+        }
+        self.place_of(key)
+    }
+
     // Where the rows of a group begin, or would.
     fn start_of(&self, group: &R::Group) -> usize
         ensures in_range { result ≤ length (items_of self.now.list) }
@@ -175,7 +205,7 @@ impl<R: Row> Shelf<R> for SortedShelf<R> {
     }
 
     fn put(&mut self, row: R) {
-        match self.place_of(&row.key()) {
+        match self.place_to_put(&row.key()) {
             Ok(place) => {
                 let _old = self.list.replace(place, row);
             }

@@ -1,4 +1,4 @@
-use Rattle.std.proofs.Common.{◌≡◌, ◌∙◌, true, false, ◌+◌, ◌<◌, sym, ap, rules, arith, get_or, length, is_eq, is_le, is_lt}
+use Rattle.std.proofs.Common.{◌≡◌, ◌∙◌, true, false, sym, ap, rules, arith, get_or, length, is_eq, is_le, is_lt}
 use Rattle.std.specs.declared.cmp.Ordering.{Ordering}
 use Rattle.std.specs.declared.cmp.Ordering.TheVariants.{Less, Equal, Greater}
 use Rattle.std.proofs.lemmas.List.{get_or_read}
