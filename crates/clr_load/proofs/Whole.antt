@@ -14,8 +14,7 @@ use Rattle.clr_tables.specs.declared.table_name.TableName.{TableName}
 use Rattle.clr_tables.specs.declared.table_name.TableName.TheVariants.{Meta, Section, Staff, Clearance, Step, Hold, NetworkPoint}
 use Rattle.clr_load.specs.Filling.{GivesInto}
 use Rattle.clr_load.specs.Layout.{Layout, has_table, is_two}
-use Rattle.clr_load.specs.Listed.{both_fit}
-use Rattle.clr_load.specs.Loads.{Loads, both_read}
+use Rattle.clr_load.specs.Loads.{Loads, both_fit, both_read}
 use Rattle.clr_load.specs.Reading.{point_values}
 use Rattle.clr_load.specs.Stored.{rows_in}
 use Rattle.clr_load.specs.declared.fault.StoreFault.{StoreFault}

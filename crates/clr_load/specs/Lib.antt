@@ -10,4 +10,3 @@ pub mod Contract
 pub mod Reading
 pub mod Filling
 pub mod Loads
-pub mod Listed

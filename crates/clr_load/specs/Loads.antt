@@ -1,5 +1,5 @@
 -- A CALL THAT READS TABLES over a connection, outside a transaction.
-use Rattle.std.specs.Prelude.{◌≡◌, ◌⊎◌, Bool, true, false, IsTrue, IfErr, IsErrAnd, MatchResult}
+use Rattle.std.specs.Prelude.{◌≡◌, ◌⊎◌, Bool, true, false, ◌&&◌, IsTrue, IfErr, IsErrAnd, MatchResult}
 use Rattle.std.specs.Prelude.{Ok, Result}
 use Rattle.sqlite.specs.Held.{Held, state}
 use Rattle.sqlite.specs.State.{HasCleanDisk, IsUnchanged, State, Survives}
@@ -10,7 +10,7 @@ use Rattle.clr_tables.specs.declared.table_name.TableName.{TableName}
 use Rattle.clr_load.specs.Cause.{SqlHasCause}
 use Rattle.clr_load.specs.Fault.{IsOfDatabase}
 use Rattle.clr_load.specs.Filling.{GivesInto}
-use Rattle.clr_load.specs.Layout.{Layout}
+use Rattle.clr_load.specs.Layout.{Layout, has_table}
 use Rattle.clr_load.specs.Stored.{HasTablesIn}
 use Rattle.clr_load.specs.declared.fault.StoreFault.{StoreFault}
 
@@ -42,3 +42,7 @@ both_read one other = do
   a ← one
   b ← other
   Ok (a, b)
+
+-- the layouts that have two tables
+abbrev pub both_fit : TableName → TableName → Layout → Bool
+both_fit one other l = has_table l one && has_table l other

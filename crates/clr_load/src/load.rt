@@ -10,8 +10,7 @@ ghost use Rattle.clr_load.specs.Contract.{GivesRows, IsSaved};
 ghost use Rattle.clr_load.specs.Fault.{IsOfDatabase};
 ghost use Rattle.clr_load.specs.Filling.{GivesInto, IsLoaded};
 ghost use Rattle.clr_load.specs.Layout.{has_table, is_two};
-ghost use Rattle.clr_load.specs.Listed.{both_fit};
-ghost use Rattle.clr_load.specs.Loads.{Loads, both_read};
+ghost use Rattle.clr_load.specs.Loads.{Loads, both_fit, both_read};
 ghost use Rattle.clr_load.specs.Stored.{HasTables, rows_in};
 
 use crate::fault::StoreFault;

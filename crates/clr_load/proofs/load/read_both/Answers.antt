@@ -1,6 +1,6 @@
 use Rattle.std.proofs.Common.{◌≡◌, Err, true, refl, rules}
 use Rattle.clr_load.specs.Layout.{Layout, has_table}
-use Rattle.clr_load.specs.Listed.{both_fit}
+use Rattle.clr_load.specs.Loads.{both_fit}
 use Rattle.clr_load.proofs.Columns.{both_true}
 use Rattle.clr_load.proofs.Staying.{none_loads, then_fails, then_loads, loads_in}
 use Rattle.clr_load.proofs.load.read_both.Goals as goal
