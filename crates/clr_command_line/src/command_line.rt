@@ -76,7 +76,7 @@ where
 }
 
 /// The same of words that there are.
-pub fn command_line_over<'a, R, O, S, I, W, E>(
+fn command_line_over<'a, R, O, S, I, W, E>(
     rt: &mut R,
     paths: &O,
     words: &'a [S],

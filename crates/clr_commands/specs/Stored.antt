@@ -34,7 +34,7 @@ pub record IsUnanswered {S : Type 0} (g : Ghosts S) (before after : Held S)
 
 -- WHAT IS ANSWERED OF A DATABASE while it is open: of the register that it is known to have, unless
 -- the database refuses or memory runs out. What is printed is of a good register that its tables
--- read as, so nothing is printed of tables that read as none. It was only read
+-- read as, on a clean disk: of tables that read as none nothing is printed there. It was only read
 pub record AnswersOf {S : Type 0} (g : Ghosts S) (IsOwn : Fault → Type 0)
     (Is : Register → Result (List ℕ) Fault → Type 0) (result : Result (String Global) Fault)
     (before after : Held S) : Type 0 where

@@ -70,7 +70,7 @@ pub record IsOnlyRead {S : Type 0} (g : Ghosts S) (before after : Held S) : Type
   pub survives : Survives (state g before) (state g after) (λ _. ⊥)
 
 -- A REGISTER IS READ FROM A DATABASE that has tables: these read as rows, and the rows give that
--- register, where the disk is clean. So none is answered of in place of tables that give none
+-- register, where the disk is clean. So of tables that give no register there is no such answer
 abbrev pub ReadsAs : {S : Type 0} → Ghosts S → Held S → Held S → Register → Type 0
 ReadsAs g before after R = HasCleanDisk (state g after) → (t : Tables)
     → HasTables (state g before).now t
