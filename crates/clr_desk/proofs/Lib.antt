@@ -1,4 +1,5 @@
 pub mod Filling
+pub mod Shelved
 pub mod Filled
 pub mod TypedRegisters
 pub mod RowsOpened

@@ -1,5 +1,5 @@
 use Rattle.std.proofs.Common.{◌∙◌, sym}
-use Rattle.clr_load.proofs.Filled.{shelved_none}
+use Rattle.clr_desk.proofs.Shelved.{shelved_none}
 use Rattle.clr_desk.proofs.typed_shelf.TypedShelfFill.empty.Goals as goal
 
 pub returns : goal.returns

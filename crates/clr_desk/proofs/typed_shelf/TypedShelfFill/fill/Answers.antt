@@ -1,7 +1,7 @@
 use Rattle.std.proofs.Common.{◌≡◌, ◌∙◌, List, IsTrue, ap, subst, sym}
 use Rattle.std.specs.List.{list_all}
 use Rattle.clr_shelf.specs.Rows.{with_row}
-use Rattle.clr_load.proofs.Filled.{shelved_more}
+use Rattle.clr_desk.proofs.Shelved.{shelved_more}
 use Rattle.clr_desk.proofs.TypedRegisters.{with_typed}
 use Rattle.clr_desk.proofs.typed_shelf.TypedShelfFill.fill.Goals as goal
 
