@@ -50,7 +50,7 @@ pub(crate) fn places_beside(
     ensures same { IfOk result (λ places. (k : ℕ)
         → has_place places.items k ≡ has_place (points_around (around_of ways.now) inside.now) k) }
 {
-    let mut points = Vec::new(alloc);
+    let mut points = Vec::with_capacity(alloc, inside.len())?;
     for place in inside {
         push_points(&mut points, ways.out_of(*place))?;
     }
@@ -74,7 +74,7 @@ fn cut_places(alloc: Global, points: &[PointRow], cut: &[Name]) -> Result<Vec<us
     ensures rising { IfOk result (λ places. IsStrictlyIncreasing places.items) }
     ensures cut { IfOk result (λ places. ListsCut (point_names points.now) cut.now places.items) }
 {
-    let mut places = Vec::new(alloc);
+    let mut places = Vec::with_capacity(alloc, cut.len())?;
     for name in cut {
         if let Some(place) = place_of(points, *name) {
             places.push(place)?;

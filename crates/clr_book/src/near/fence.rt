@@ -128,7 +128,7 @@ fn first_points(alloc: Global, steps: &[&StepRow]) -> Result<Vec<Name>, AllocErr
         ≡ map (λ row. row.step.point)
         (filter (λ row. row.round == 1) (map (λ row. row.now) steps.now))) }
 {
-    let mut points = Vec::new(alloc);
+    let mut points = Vec::with_capacity(alloc, steps.len())?;
     for row in steps {
         if row.round == 1 {
             points.push(row.step.point)?;
