@@ -17,7 +17,8 @@ pub runs_none : {S X : Type 0} (g : Ghosts S) (tx : Transaction S) (F : StoreFau
     → (IsTrue (state g tx.conn.now).in_transaction → Done x) → RunsInside g tx tx F Done Failed (Ok x)
 runs_none g tx F Done Failed x done = record { same_reference = refl; step = λ _ inside. done inside; fault = tt; survives = survives_still (state g tx.conn.now) }
 
-both_survive : (a b c : State) → Survives a b (λ _. ⊥) → Survives b c (λ _. ⊥) → Survives a c (λ _. ⊥)
+-- a crash in one of two calls leaves no more than it would in that call alone
+pub both_survive : (a b c : State) → Survives a b (λ _. ⊥) → Survives b c (λ _. ⊥) → Survives a c (λ _. ⊥)
 both_survive a b c first second = survives_then a b c (λ _. ⊥) (λ _. ⊥) (λ _. ⊥) (λ _ _ none. none) (λ _ _ none. none) first second
 
 -- one call is done, and then another

@@ -4,7 +4,7 @@ use Rattle.sqlite.specs.Effect.{Database}
 use Rattle.sqlite.specs.Held.{Held, state}
 use Rattle.sqlite.specs.State.{HasCleanDisk, IsRolledBack, IsUnchanged, State, Survives}
 use Rattle.sqlite.specs.Store.{Ghosts}
-use Rattle.sqlite.proofs.StateLemmas.{survives_then}
+use Rattle.sqlite.proofs.Callers.{unchanged_then}
 use Rattle.clr_tables.specs.Tables.{Tables}
 use Rattle.clr_tables.specs.declared.table_name.TableName.{TableName}
 use Rattle.clr_load.specs.Cause.{SqlHasCause}
@@ -16,6 +16,7 @@ use Rattle.clr_load.specs.Stored.{HasTablesIn}
 use Rattle.clr_load.specs.declared.fault.StoreFault.{StoreFault}
 use Rattle.clr_load.specs.declared.fault.StoreFault.TheVariants.{Sql, WrongVersion, BadRow, NoMemory}
 use Rattle.clr_load.proofs.Causes.{then_cause}
+use Rattle.clr_load.proofs.Inside.{both_survive}
 
 pub unchanged_stays : (old new : State) → IsUnchanged old new → Stays old new
 unchanged_stays old new h = record { was_open = λ _. h.0.was_open; same = λ _ saved. (h.0.now_is, h.0.committed_is ∙ sym saved) }
@@ -31,16 +32,6 @@ then_stays a b c first second = record {
       (here.0 ∙ first.0.now_is, here.1 ∙ first.0.now_is);
 }
 
-pub then_unchanged : (a b c : State) → IsUnchanged a b → IsUnchanged b c → IsUnchanged a c
-then_unchanged a b c p q = (
-  record { was_open = p.0.was_open; is_open = q.0.is_open; now_is = q.0.now_is ∙ p.0.now_is; committed_is = q.0.committed_is ∙ p.0.committed_is; mode = q.0.mode ∙ p.0.mode },
-  record { changes = q.1.changes ∙ p.1.changes; last_rowid = q.1.last_rowid ∙ p.1.last_rowid },
-  q.2 ∙ p.2,
-)
-
-pub both_survive : (a b c : State) → Survives a b (λ _. ⊥) → Survives b c (λ _. ⊥) → Survives a c (λ _. ⊥)
-both_survive a b c first second = survives_then a b c (λ _. ⊥) (λ _. ⊥) (λ _. ⊥) (λ _ _ none. none) (λ _ _ none. none) first second
-
 -- a fault of the database is given whatever is read
 pub gives_fault : {B Z : Type 0} (has : Z → B → Type 0) (read : Result B TableName) (fault : StoreFault) → IsOfDatabase fault → GivesInto has read (Err fault)
 gives_fault has read Sql of = tt
@@ -55,7 +46,7 @@ module _ {S A X : Type 0} (g : Ghosts S) (a b : Held S) (fits : Layout → Bool)
   none_loads {C} {Z} k has e first fails = record {
     mode = first.mode;
     survives = first.survives;
-    rests = first.rests;
+    unchanged = first.unchanged;
     was_open = first.was_open;
     gives = λ clean l fit t there.
         let it = first.gives clean l fit t there in
@@ -74,8 +65,8 @@ module _ {S A X : Type 0} (g : Ghosts S) (a b : Held S) (fits : Layout → Bool)
   loads_as k has x z first seen = record {
     mode = first.mode;
     survives = first.survives;
-    rests = first.rests;
-    was_open = λ clean. inl (first.rests clean).0.was_open;
+    unchanged = first.unchanged;
+    was_open = λ clean. inl (first.unchanged clean).0.was_open;
     gives = λ clean l fit t there.
         let it = (first.gives clean l fit t there).0 in
         (seen l t it.0 fit it.1 it.2, tt);
@@ -87,8 +78,8 @@ module _ {S A X : Type 0} (g : Ghosts S) (a b : Held S) (fits : Layout → Bool)
   loads_not k has x e first cause seen = record {
     mode = first.mode;
     survives = first.survives;
-    rests = λ clean. unchanged_stays (state g a) (state g b) (first.rests clean);
-    was_open = λ clean. inl (first.rests clean).0.was_open;
+    unchanged = λ clean. unchanged_stays (state g a) (state g b) (first.unchanged clean);
+    was_open = λ clean. inl (first.unchanged clean).0.was_open;
     gives = λ clean l fit t there.
         let it = (first.gives clean l fit t there).0 in
         (seen l t it.0 fit it.1 it.2, cause (state g a) (state g b));
@@ -106,16 +97,16 @@ module _ {S A X : Type 0} (g : Ghosts S) (a b : Held S) (fits : Layout → Bool)
     then_loads k has x y z first second joined = record {
       mode = λ out. second.mode (first.mode out);
       survives = both_survive (state g a) (state g b) (state g c) first.survives second.survives;
-      rests = λ clean.
+      unchanged = λ clean.
           let early : HasCleanDisk (state g b) = omega (arith, second.survives.clean) in
-          then_unchanged (state g a) (state g b) (state g c) (first.rests early) (second.rests clean);
+          unchanged_then (state g a) (state g b) (state g c) (first.unchanged early) (second.unchanged clean);
       was_open = λ clean.
           let early : HasCleanDisk (state g b) = omega (arith, second.survives.clean) in
-          inl (first.rests early).0.was_open;
+          inl (first.unchanged early).0.was_open;
       gives = λ clean l fit t there.
           let early : HasCleanDisk (state g b) = omega (arith, second.survives.clean) in
           let p = (first.gives early l fit t there).0 in
-          let q = (second.gives clean l fit t (still (first.rests early) l t there)).0 in
+          let q = (second.gives clean l fit t (still (first.unchanged early) l t there)).0 in
           (joined l t p.0 q.0 fit p.1 p.2 q.1 q.2, tt);
     }
 
@@ -127,16 +118,16 @@ module _ {S A X : Type 0} (g : Ghosts S) (a b : Held S) (fits : Layout → Bool)
     then_fails {C} {Z} k has x e first second fails = record {
       mode = λ out. second.mode (first.mode out);
       survives = both_survive (state g a) (state g b) (state g c) first.survives second.survives;
-      rests = λ clean.
+      unchanged = λ clean.
           let early : HasCleanDisk (state g b) = omega (arith, second.survives.clean) in
-          then_stays (state g a) (state g b) (state g c) (first.rests early) (second.rests clean);
+          then_stays (state g a) (state g b) (state g c) (first.unchanged early) (second.unchanged clean);
       was_open = λ clean.
           let early : HasCleanDisk (state g b) = omega (arith, second.survives.clean) in
-          inl (first.rests early).0.was_open;
+          inl (first.unchanged early).0.was_open;
       gives = λ clean l fit t there.
           let early : HasCleanDisk (state g b) = omega (arith, second.survives.clean) in
           let p = (first.gives early l fit t there).0 in
-          let q = second.gives clean l fit t (still (first.rests early) l t there) in (
+          let q = second.gives clean l fit t (still (first.unchanged early) l t there) in (
             given (h l t) (k l t) e (λ bad is. fails l t p.0 bad fit p.1 p.2 is) q.0,
             then_cause (state g a) (state g b) (state g c) _ e first.survives early second.survives.counts q.1,
           );
@@ -152,10 +143,10 @@ module _ {S A X : Type 0} (g : Ghosts S) (a b : Held S) (fits : Layout → Bool)
 pub stops : {S A X : Type 0} (g : Ghosts S) (a b : Held S) (fits : Layout → Bool) (read : Layout → Tables → Result A TableName) (has : X → A → Type 0) (e : StoreFault)
     → (a.in_transaction ≡ false → b.in_transaction ≡ false) → Survives (state g a) (state g b) (λ _. ⊥) → (HasCleanDisk (state g b) → Stays (state g a) (state g b)) → IsOfDatabase e
     → (HasCleanDisk (state g b) → (l : Layout) → fits l ≡ true → (t : Tables) → HasTablesIn l (state g a).now t → SqlHasCause (state g a) (state g b) e) → Loads g a b fits read has (Err e)
-stops g a b fits read has e mode survives rests of cause = record {
+stops g a b fits read has e mode survives unchanged of cause = record {
   mode = mode;
   survives = survives;
-  rests = rests;
+  unchanged = unchanged;
   was_open = λ clean. inr of;
   gives = λ clean l fit t there. (gives_fault has (read l t) e of, cause clean l fit t there);
 }
@@ -166,7 +157,7 @@ pub loads_in : {S A X : Type 0} (g : Ghosts S) (a b : Held S) (fits fewer : Layo
 loads_in g a b fits fewer within read has r it = record {
   mode = it.mode;
   survives = it.survives;
-  rests = it.rests;
+  unchanged = it.unchanged;
   was_open = it.was_open;
   gives = λ clean l fit t there. it.gives clean l (within l fit) t there;
 }

@@ -9,7 +9,7 @@ use Rattle.sqlite.specs.Clock.{timed}
 use Rattle.sqlite.specs.State.{CommitsShowing, HasCleanDisk, IsStatement, IsUnchanged, State, Survives}
 use Rattle.sqlite.specs.Store.{Ghosts}
 use Rattle.sqlite.specs.declared.error.Error.{Error}
-use Rattle.sqlite.proofs.Callers.{EndsIn, begins_shown, given_begin}
+use Rattle.sqlite.proofs.Callers.{EndsIn, begins_shown, given_begin, unchanged_then}
 use Rattle.sqlite_resolve.specs.declared.compiled.Compiled.{Compiled}
 use Rattle.clr_tables.specs.RowsRead.{all_read}
 use Rattle.clr_tables.specs.Tables.{Tables}
@@ -25,7 +25,8 @@ use Rattle.clr_load.proofs.AllRead.{read_append, read_none, read_stops}
 use Rattle.clr_load.proofs.Causes.{read_cause, then_cause, told_of_database}
 use Rattle.clr_load.proofs.Loading.{lists}
 use Rattle.clr_load.proofs.Selecting.{begun_listing, failed_rests, survives_listed}
-use Rattle.clr_load.proofs.Staying.{both_survive, stops, then_stays, then_unchanged, unchanged_stays}
+use Rattle.clr_load.proofs.Inside.{both_survive}
+use Rattle.clr_load.proofs.Staying.{stops, then_stays, unchanged_stays}
 use Rattle.clr_load.proofs.Texts.{all_of, select_known, selecting}
 
 -- some rows of a table were given, and each was read into this
@@ -62,8 +63,8 @@ module _ {S A X : Type 0} (g : Ghosts S) (name : TableName) (read : Row → Resu
     still clean l t there = subst (λ (db : Database). HasTablesIn l db t) (sym (was.so_far clean).2.0.now_is) there
 
     module _ (same : HasCleanDisk (state g new) → IsUnchanged (state g now) (state g new)) where
-      rests : HasCleanDisk (state g new) → IsUnchanged (state g start) (state g new)
-      rests clean = then_unchanged (state g start) (state g now) (state g new) (was.so_far (early clean)).2 (same clean)
+      unchanged : HasCleanDisk (state g new) → IsUnchanged (state g start) (state g new)
+      unchanged clean = unchanged_then (state g start) (state g now) (state g new) (was.so_far (early clean)).2 (same clean)
 
       -- one row more
       pub goes_on : (row : Row) (item : A) (more : X) → (HasCleanDisk (state g new) → Advances g now new (Some row)) → read row ≡ Ok item
@@ -75,7 +76,7 @@ module _ {S A X : Type 0} (g : Ghosts S) (name : TableName) (read : Row → Resu
         has_items = filled was.items was.has_items;
         so_far = λ clean.
             let it = was.so_far (early clean) in
-            (it.0 ++ row ∷ [], advances clean (select_sql name) [] it.0 it.1, rests clean, read_append read it.0 row was.items item is it.3);
+            (it.0 ++ row ∷ [], advances clean (select_sql name) [] it.0 it.1, unchanged clean, read_append read it.0 row was.items item is it.3);
       }
 
       -- the last row was read
@@ -83,8 +84,8 @@ module _ {S A X : Type 0} (g : Ghosts S) (name : TableName) (read : Row → Resu
       ends advances = record {
         mode = λ out. mode (was.mode out);
         survives = both_survive (state g start) (state g now) (state g new) was.survives survives;
-        rests = rests;
-        was_open = λ clean. inl (rests clean).0.was_open;
+        unchanged = unchanged;
+        was_open = λ clean. inl (unchanged clean).0.was_open;
         gives = λ clean l there t tables.
             let it = was.so_far (early clean) in
             let here = still (early clean) l t tables in
@@ -95,19 +96,19 @@ module _ {S A X : Type 0} (g : Ghosts S) (name : TableName) (read : Row → Resu
       -- memory ran out
       pub runs_out : Reads start new (Err NoMemory)
       runs_out = stops g start new _ _ has NoMemory (λ out. mode (was.mode out)) (both_survive (state g start) (state g now) (state g new) was.survives survives)
-          (λ clean. unchanged_stays (state g start) (state g new) (rests clean)) tt (λ clean l there t tables. tt)
+          (λ clean. unchanged_stays (state g start) (state g new) (unchanged clean)) tt (λ clean l there t tables. tt)
 
       -- a row does not read, whatever comes after it
       pub reads_not : (row : Row) (bad : TableName) → (HasCleanDisk (state g new) → Advances g now new (Some row)) → read row ≡ Err bad → Reads start new (Err (BadRow bad))
       reads_not row bad advances is = record {
         mode = λ out. mode (was.mode out);
         survives = both_survive (state g start) (state g now) (state g new) was.survives survives;
-        rests = λ clean. unchanged_stays (state g start) (state g new) (rests clean);
-        was_open = λ clean. inl (rests clean).0.was_open;
+        unchanged = λ clean. unchanged_stays (state g start) (state g new) (unchanged clean);
+        was_open = λ clean. inl (unchanged clean).0.was_open;
         gives = λ clean l there t tables.
             let it = was.so_far (early clean) in
             let given = advances clean (select_sql name) [] it.0 it.1 in
-            let whole = rests clean in
+            let whole = unchanged clean in
             let here : HasTablesIn l (state g new).now t = subst (λ (db : Database). HasTablesIn l db t) (sym whole.0.now_is) tables in
             let s = state g new in
             let open_now : IsUnchanged s s = (record { was_open = whole.0.is_open; is_open = whole.0.is_open; now_is = refl; committed_is = refl; mode = refl }, record { changes = refl; last_rowid = refl }, refl) in

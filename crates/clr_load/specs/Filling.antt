@@ -10,8 +10,8 @@ use Rattle.clr_load.specs.declared.fault.StoreFault.TheVariants.{Sql, WrongVersi
 use Rattle.clr_load.specs.declared.fault.StoreFault.TheVariants.{NoMemory}
 use Rattle.clr_load.specs.declared.rows.Loaded.{Loaded}
 
--- what was read into is told by `has`: the value that is read, unless the database refuses or memory
--- runs out, or the table with the row that does not read
+-- what was read into has, as `has` says, the value that is read, unless the database refuses, memory
+-- runs out, or a table has a row that does not read
 abbrev pub GivesInto : {A X : Type 0} → (X → A → Type 0) → Result A TableName
     → Result X StoreFault → Type 0
 GivesInto {A} has read (Ok x) = (value : A) × (read ≡ Ok value) × has x value

@@ -27,7 +27,7 @@ pub record Loads {S A X : Type 0} (g : Ghosts S) (old new : Held S) (fits : Layo
     (result : Result X StoreFault) : Type 0 where
   pub mode : old.in_transaction ≡ false → new.in_transaction ≡ false
   pub survives : Survives (state g old) (state g new) (λ _. ⊥)
-  pub rests : HasCleanDisk (state g new) → MatchResult result
+  pub unchanged : HasCleanDisk (state g new) → MatchResult result
       (λ _. IsUnchanged (state g old) (state g new)) (λ _. Stays (state g old) (state g new))
   pub was_open : HasCleanDisk (state g new)
       → IsTrue (state g old).is_open ⊎ IsErrAnd result IsOfDatabase

@@ -28,7 +28,7 @@ returns g c =
     record {
       mode = c.query_all.ensures.mode;
       survives = survives_listed Meta old new (rw c.select_sql.ensures at c.query_all.ensures.survives);
-      rests = λ clean. shown_rests Meta old new _ (rw c.select_sql.ensures at (c.in_ok-rows.ensures.ok clean));
+      unchanged = λ clean. shown_rests Meta old new _ (rw c.select_sql.ensures at (c.in_ok-rows.ensures.ok clean));
       was_open = λ clean. inl (shown_rests Meta old new _ (rw c.select_sql.ensures at (c.in_ok-rows.ensures.ok clean))).0.was_open;
       gives = λ clean l there t has. (
         (t.meta, refl, lists l old new Meta t _ there has.holds has.in_order (rw c.select_sql.ensures at (c.in_ok-rows.ensures.ok clean))),
