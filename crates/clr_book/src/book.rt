@@ -123,6 +123,11 @@ impl<P: Shelf<PointState>, C: Shelf<Record>, T: Shelf<StepRow>, H: Shelf<Hold>> 
           holds = H.rows holds;
         } }
         ensures network { result.network ≡ self.network }
+        ensures room { result.room ≡ record self.room {
+          records = C.room records;
+          steps = T.room steps;
+          holds = H.room holds;
+        } }
     {
         Book {
             records,
