@@ -1,7 +1,7 @@
 -- The rows of several groups: one group's rows and those of the rest are all.
 use Rattle.std.proofs.Common.{◌≡◌, ◌∙◌, Bool, true, false, ◌||◌, List, [], ◌∷◌, ◌++◌, filter, refl, sym, ap, subst}
 use Rattle.std.specs.Cmp.{IsTotalOrder}
-use Rattle.std.specs.List.{AllByRecursion, list_any}
+use Rattle.std.specs.List.{AllByRecursion, flat_map, list_any}
 use Rattle.std.specs.List.Sorted.{IsPermutation, IsStrictlySortedBy}
 use Rattle.std.specs.Ordering.{is_eq}
 use Rattle.std.specs.declared.cmp.Ordering.{Ordering}
@@ -10,6 +10,7 @@ use Rattle.std.proofs.lemmas.List.{append_assoc, append-nil}
 use Rattle.std.proofs.lemmas.List.Sorted.{IsPermutation-refl, IsPermutation-append_right, IsPermutation-cons, IsPermutation-middle, IsPermutation-sym, IsPermutation-trans}
 use mathlib.Core.Bool.{true≢false}
 use Rattle.clr_shelf.proofs.Keys.{equal}
+use Rattle.clr_shelf.proofs.NextGroups.{rising-first}
 
 module _ {X : Type 0} (p q : X → Bool) (apart : (x : X) → p x ≡ true → q x ≡ false) where
   filter-or_step : (x : X) (xs : List X) (first second : Bool) → p x ≡ first → q x ≡ second
@@ -41,10 +42,6 @@ module _ {Row Group : Type 0} (group_cmp : Group → Group → Ordering) (order 
       let below : group_cmp (group_of row) next ≡ Less = order.congr (group_of row) group next tied ∙ rise.0 in
       rw (in_one_group next row ∙ ap is_eq below) (in_none_above group above row rise.1 here)
 
-  pub rising-first : (group : Group) (above : List Group) → IsStrictlySortedBy group_cmp (group ∷ above) → AllByRecursion (λ next. group_cmp group next ≡ Less) above
-  unfolding IsStrictlySortedBy
-  rising-first group above rise = rise.0
-
   pub rising-rest : (group : Group) (above : List Group) → IsStrictlySortedBy group_cmp (group ∷ above) → IsStrictlySortedBy group_cmp above
   unfolding IsStrictlySortedBy
   rising-rest group above rise = rise.1
@@ -58,7 +55,7 @@ module _ {Row Group : Type 0} (group_cmp : Group → Group → Ordering) (order 
       let later = filter (λ row. list_any (λ next. is_in next row) above) rows in
       let both = filter (λ row. list_any (λ next. is_in next row) (group ∷ above)) rows in
       let split : IsPermutation both (one ++ later) =
-      filter-or (is_in group) (λ row. list_any (λ next. is_in next row) above) (λ row here. in_none_above group above row (rising-first group above rise) here) rows in
+      filter-or (is_in group) (λ row. list_any (λ next. is_in next row) above) (λ row here. in_none_above group above row (rising-first group_cmp group above rise) here) rows in
       subst (λ (rows : List Row). IsPermutation all rows) (sym (append_assoc found one later))
       (IsPermutation-trans all (found ++ both) (found ++ (one ++ later)) so_far (IsPermutation-append_right found both (one ++ later) split))
 
@@ -70,3 +67,16 @@ module _ {Row Group : Type 0} (group_cmp : Group → Group → Ordering) (order 
   pub groups_done : (rows all found : List Row) → IsPermutation all (found ++ filter (λ row. list_any (λ next. is_in next row) []) rows) → IsPermutation all found
   groups_done rows all found moved =
       subst (λ (rows : List Row). IsPermutation all rows) (ap (λ later. found ++ later) (none_left rows) ∙ append-nil found) moved
+
+  -- the rows of groups that rise, group by group, are all
+  pub rows_of_groups : (groups : List Group) (rows : List Row) → IsStrictlySortedBy group_cmp groups
+      → IsPermutation (filter (λ row. list_any (λ next. is_in next row) groups) rows) (flat_map (λ group. filter (is_in group) rows) groups)
+  rows_of_groups [] rows rise = rw (none_left rows) (IsPermutation-refl [])
+  rows_of_groups (group ∷ above) rows rise =
+      let one = filter (is_in group) rows in
+      let later = filter (λ row. list_any (λ next. is_in next row) above) rows in
+      let both = filter (λ row. list_any (λ next. is_in next row) (group ∷ above)) rows in
+      let by_group = flat_map (λ group. filter (is_in group) rows) above in
+      IsPermutation-trans both (one ++ later) (one ++ by_group)
+      (filter-or (is_in group) (λ row. list_any (λ next. is_in next row) above) (λ row here. in_none_above group above row (rising-first group_cmp group above rise) here) rows)
+      (IsPermutation-append_right one later by_group (rows_of_groups above rows (rising-rest group above rise)))

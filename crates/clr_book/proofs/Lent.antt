@@ -1,15 +1,15 @@
 -- Rows that are given as they were found: those that a test keeps go by their names, and what
 -- is read at each name in turn is what a filter keeps.
-use Rattle.std.proofs.Common.{◌≡◌, ◌∙◌, ℕ, Bool, true, false, ◌||◌, List, [], ◌∷◌, ◌++◌, Some, None, map, filter, Contains, refl, sym, ap, subst}
+use Rattle.std.proofs.Common.{◌≡◌, ◌∙◌, ℕ, Bool, true, false, ◌||◌, List, [], ◌∷◌, ◌++◌, None, map, filter, Contains, refl, sym, ap, subst}
 use Rattle.std.specs.Cmp.{IsTotalOrder}
 use Rattle.std.specs.Cmp.Lexicographic.{texts_ties}
-use Rattle.std.specs.List.{AllByRecursion, list_any}
+use Rattle.std.specs.List.{AllByRecursion}
 use Rattle.std.specs.List.Sorted.{IsStrictlySortedBy}
 use Rattle.std.specs.Ordering.{is_eq, is_lt}
 use Rattle.std.specs.declared.cmp.Ordering.{Ordering}
 use Rattle.std.specs.declared.cmp.Ordering.TheVariants.{Less}
 use Rattle.std.proofs.lemmas.Bool.{true≢false}
-use Rattle.std.proofs.lemmas.Cmp.{nat_list_cmp_total, nat_list_eq_equiv}
+use Rattle.std.proofs.lemmas.Cmp.{nat_list_cmp_total}
 use Rattle.std.proofs.lemmas.Option.{same_Some}
 use Rattle.clr_net.proofs.Walks.{one_name}
 use Rattle.clr_net.specs.Name.{name_cmp, same_name}
@@ -25,7 +25,8 @@ use Rattle.clr_rules.proofs.lists.Filters.{filter-kept, kept_there}
 use Rattle.clr_rules.proofs.lists.NamedRows.{Contains-filter, has_name-row, row_named}
 use Rattle.clr_rules.specs.States.{state_key, state_of}
 use Rattle.clr_rules.specs.declared.point_state.PointState.{PointState}
-use Rattle.clr_book.proofs.Grouped.{rising-first, rising-rest}
+use Rattle.clr_shelf.proofs.NextGroups.{rising-first}
+use Rattle.clr_book.proofs.Grouped.{rising-rest}
 use Rattle.clr_book.proofs.LookedUp.{listed}
 
 -- ---- rows that a test keeps, by their names
@@ -108,7 +109,7 @@ states_more point above states rise ordered =
     ap (λ (same : PointState → Bool). filter (λ state. same state || has_name above state.point) states) (λ i state. texts_ties state.point point i)
     ∙ filter-first name_cmp state_key nat_list_cmp_total point (λ state. has_name above state.point)
     (λ state named. all_above point above state.point
-    (rising-first name_cmp nat_list_cmp_total (λ name row. same_name row name) (λ (row : List ℕ). row) (λ name row. texts_ties row name) point above rise) named)
+    (rising-first name_cmp point above rise) named)
     states ordered
 
 pub points_rest : (point : List ℕ) (above : List (List ℕ)) → IsStrictlySortedBy name_cmp (point ∷ above) → IsStrictlySortedBy name_cmp above

@@ -8,6 +8,8 @@ pub mod Lists
 pub mod Members
 pub mod Places
 pub mod Reading
+pub mod NextGroups
+pub mod RunOfGroup
 pub mod SameRows
 mod SortedPlaces
 pub mod Spread

@@ -1,5 +1,6 @@
 //! A shelf over a list of rows in key order.
-ghost use Rattle.std.specs.Prelude.{◌≡◌, ◌-◌, IsTrue, IfOk, IfErr, vec_len, vec_capacity};
+ghost use Rattle.std.specs.Prelude.{◌≡◌, ◌-◌, ◌++◌, IsTrue, IfOk, IfErr, OnOk, vec_len, vec_capacity};
+ghost use Rattle.std.specs.Prelude.{filter, map};
 ghost use Rattle.std.proofs.lemmas.List.Sorted.{IsPermutation-refl};
 ghost use Rattle.clr_shelf.specs.Rows.{in_key_order};
 ghost use Rattle.clr_shelf.specs.Places.{IsPlaceOf, IsGapFor};
@@ -24,6 +25,20 @@ impl<R: Row> ListShelf<R> {
         ensures absent { IfErr result (IsGapFor R.key_cmp R.key_of key.now self.now.list.items) }
     {
         self.list.binary_search_by(|row| row.compare_key(key))
+    }
+
+    // Puts the rows of a group after those that were found, in key order.
+    fn push_group<'a>(&'a self, group: &R::Group, found: &mut Vec<&'a R>) -> Result<(), AllocError>
+        ensures { OnOk result (map (λ row. row.now) found.new.items
+            ≡ map (λ row. row.now) found.old.items
+            ++ filter (R.is_in group.now) self.now.list.items) }
+    {
+        for row in &self.list {
+            if row.belongs_to(group) {
+                found.push(row)?;
+            }
+        }
+        Ok(())
     }
 }
 
@@ -62,15 +77,13 @@ impl<R: Row> Shelf<R> for ListShelf<R> {
             .collect(*self.list.allocator())
     }
 
-    fn push_group<'a>(
+    fn push_groups<'a>(
         &'a self,
-        group: &R::Group,
+        groups: &[R::Group],
         found: &mut Vec<&'a R>,
     ) -> Result<(), AllocError> {
-        for row in &self.list {
-            if row.belongs_to(group) {
-                found.push(row)?;
-            }
+        for group in groups {
+            self.push_group(group, found)?;
         }
         Ok(())
     }

@@ -2,8 +2,8 @@
 ghost use Rattle.std.specs.Prelude.{◌≡◌, ℕ, ◌+◌, ◌++◌, ◌<◌, ◌≤◌, List, [], Option, Some, length, map};
 ghost use Rattle.std.specs.Prelude.{filter, slice_get, IsTrue, IsOk, OnOk, OnErr, IfOk, OnSome};
 ghost use Rattle.std.specs.Prelude.{IfNone, option_copied};
-ghost use Rattle.std.specs.List.{last_or};
-ghost use Rattle.std.specs.List.Sorted.{IsPermutation};
+ghost use Rattle.std.specs.List.{flat_map, last_or};
+ghost use Rattle.std.specs.List.Sorted.{IsPermutation, IsStrictlySortedBy};
 ghost use Rattle.clr_shelf.specs.Rows.{in_key_order, row_of, with_row, without_row};
 
 use crate::row::Row;
@@ -11,7 +11,7 @@ use std::alloc::{AllocError, Global};
 
 /// A finite map from a key to its row.
 ///
-/// Only `reserve`, `group` and `push_group` ask for memory, and want of it is their only error.
+/// Only `reserve`, `group` and `push_groups` ask for memory, and want of it is their only error.
 pub trait Shelf<R: Row>: Drop {
     // The rows in key order, one row a key.
     ghost rows: { Self → List R };
@@ -42,12 +42,17 @@ pub trait Shelf<R: Row>: Drop {
         ensures { IfOk result (λ found. map (λ row. row.now) found.items
             ≡ filter (R.is_in group.now) (rows self.now)) };
 
-    /// Puts the rows of a group after those that were found, in key order. It asks for memory where
-    /// there is no room for them.
-    fn push_group<'a>(&'a self, group: &R::Group, found: &mut Vec<&'a R>) -> Result<(), AllocError>
+    /// Puts the rows of these groups after those that were found, group by group, and of each in key
+    /// order. It asks for memory where there is no room for them.
+    fn push_groups<'a>(
+        &'a self,
+        groups: &[R::Group],
+        found: &mut Vec<&'a R>,
+    ) -> Result<(), AllocError>
+        requires { IsStrictlySortedBy R.group_cmp groups.now }
         ensures { OnOk result (map (λ row. row.now) found.new.items
             ≡ map (λ row. row.now) found.old.items
-            ++ filter (R.is_in group.now) (rows self.now)) };
+            ++ flat_map (λ group. filter (R.is_in group) (rows self.now)) groups.now) };
 
     /// The last row of a group in key order, if it has one.
     fn last(&self, group: &R::Group) -> Option<&R>

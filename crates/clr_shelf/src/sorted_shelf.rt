@@ -1,5 +1,8 @@
 //! A shelf over a list of rows by group and then key.
-ghost use Rattle.std.specs.Prelude.{◌≡◌, ◌≤◌, true, false, length, map, filter, IsTrue, IfOk};
+ghost use Rattle.std.specs.Prelude.{◌≡◌, ◌≤◌, ◌+◌, ℕ, true, false, length, map, filter, IsTrue, IfOk};
+ghost use Rattle.std.specs.Prelude.{get_or};
+ghost use Rattle.std.specs.List.{flat_map};
+ghost use Rattle.std.specs.List.Sorted.{IsStrictlySortedBy};
 ghost use Rattle.std.specs.Prelude.{IfErr};
 ghost use Rattle.std.specs.List.{slice_range};
 ghost use Rattle.std.specs.List.Sorted.{IsPartitionPoint};
@@ -13,6 +16,7 @@ use crate::blocks::Blocks;
 use crate::row::Row;
 use crate::shelf::Shelf;
 use std::alloc::{AllocError, Global};
+use std::cmp::Ordering;
 use std::ops::Range;
 
 /// Rows in blocks, by group and then key. A key, a group and a place are looked up by halves.
@@ -107,8 +111,32 @@ impl<R: Row> SortedShelf<R> {
             .partition_point(|row| row.compare_group(group).is_le())
     }
 
+    // Where the rows of a group end, or would, if the row before a place is in it. Nothing is looked
+    // up where the row at the place is above the group.
+    fn end_after(&self, group: &R::Group, place: usize) -> usize
+        requires in_range { place ≤ length (items_of self.now.list) }
+        requires before { (k : ℕ) (d : R) → k + 1 ≡ place
+            → is_le (R.group_cmp (R.group_of (R.key_of (get_or (items_of self.now.list) k d)))
+            group.now) ≡ true }
+        ensures in_range { result ≤ length (items_of self.now.list) }
+        ensures parts { IsPartitionPoint
+            (λ row. is_le (R.group_cmp (R.group_of (R.key_of row)) group.now)
+            ≡ true) (λ row. is_le (R.group_cmp (R.group_of (R.key_of row)) group.now)
+            ≡ false) (items_of self.now.list) result }
+    {
+        if place == self.list.len() {
+            return place;
+        }
+        let row = self.list.at(place);
+        if row.compare_group(group).is_le() {
+            self.end_of(group)
+        } else {
+            place
+        }
+    }
+
     // Where the rows of a group end that begin at a place, or would. Nothing is looked up where no
-    // row of the group is there.
+    // row of the group is there, or one.
     fn end_from(&self, group: &R::Group, start: usize) -> usize
         requires in_range { start ≤ length (items_of self.now.list) }
         requires parts { IsPartitionPoint
@@ -126,7 +154,7 @@ impl<R: Row> SortedShelf<R> {
         }
         let row = self.list.at(start);
         if row.compare_group(group).is_eq() {
-            self.end_of(group)
+            self.end_after(group, start + 1)
         } else {
             start
         }
@@ -138,10 +166,38 @@ impl<R: Row> SortedShelf<R> {
             ≡ filter (R.is_in group.now) (rows_by_key R.key_cmp R.key_of (items_of self.now.list)) }
         ensures rises { result.start ≤ result.end }
         ensures in_range { result.end ≤ length (items_of self.now.list) }
+        ensures before { (k : ℕ) (d : R) → k + 1 ≡ result.end
+            → is_le (R.group_cmp (R.group_of (R.key_of (get_or (items_of self.now.list) k d)))
+            group.now) ≡ true }
     {
         let start = self.start_of(group);
         let end = self.end_from(group, start);
         start..end
+    }
+
+    // The places of a group's rows, if the row before a place is below the group. The group is
+    // looked up only if the row at the place is below it too.
+    fn places_from(&self, group: &R::Group, place: usize) -> Range<usize>
+        requires in_range { place ≤ length (items_of self.now.list) }
+        requires before { (k : ℕ) (d : R) → k + 1 ≡ place
+            → is_lt (R.group_cmp (R.group_of (R.key_of (get_or (items_of self.now.list) k d)))
+            group.now) ≡ true }
+        ensures run { slice_range (items_of self.now.list) result.start result.end
+            ≡ filter (R.is_in group.now) (rows_by_key R.key_cmp R.key_of (items_of self.now.list)) }
+        ensures rises { result.start ≤ result.end }
+        ensures in_range { result.end ≤ length (items_of self.now.list) }
+        ensures before { (k : ℕ) (d : R) → k + 1 ≡ result.end
+            → is_le (R.group_cmp (R.group_of (R.key_of (get_or (items_of self.now.list) k d)))
+            group.now) ≡ true }
+    {
+        if place == self.list.len() {
+            return place..place;
+        }
+        match self.list.at(place).compare_group(group) {
+            Ordering::Less => self.places_of(group),
+            Ordering::Equal => place..self.end_after(group, place + 1),
+            Ordering::Greater => place..place,
+        }
     }
 }
 
@@ -182,13 +238,18 @@ impl<R: Row> Shelf<R> for SortedShelf<R> {
         self.list.between(run.start, run.end)
     }
 
-    fn push_group<'a>(
+    fn push_groups<'a>(
         &'a self,
-        group: &R::Group,
+        groups: &[R::Group],
         found: &mut Vec<&'a R>,
     ) -> Result<(), AllocError> {
-        let run = self.places_of(group);
-        self.list.push_between(run.start, run.end, found)
+        let mut place = 0;
+        for group in groups {
+            let run = self.places_from(group, place);
+            self.list.push_between(run.start, run.end, found)?;
+            place = run.end;
+        }
+        Ok(())
     }
 
     fn last(&self, group: &R::Group) -> Option<&R> {

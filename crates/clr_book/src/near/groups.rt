@@ -6,7 +6,7 @@ ghost use Rattle.std.specs.List.Sorted.{IsStrictlySortedBy};
 use clr_shelf::{Row, Shelf};
 use std::alloc::{AllocError, Global};
 
-/// The rows of these groups, in key order. Each group is looked up.
+/// The rows of these groups, in key order.
 pub(crate) fn rows_in<'a, R: Row, S: Shelf<R>>(
     alloc: Global,
     shelf: &'a S,
@@ -16,10 +16,8 @@ pub(crate) fn rows_in<'a, R: Row, S: Shelf<R>>(
     ensures { IfOk result (λ found. map (λ row. row.now) found.items
         ≡ filter (λ row. list_any (λ group. R.is_in group row) groups.now) (S.rows shelf.now)) }
 {
-    let mut found = Vec::new(alloc);
-    for group in groups {
-        shelf.push_group(group, &mut found)?;
-    }
+    let mut found = Vec::with_capacity(alloc, groups.len())?;
+    shelf.push_groups(groups, &mut found)?;
     found.sort_unstable_by(|a, b| a.compare_key(&b.key()));
     Ok(found)
 }

@@ -5,8 +5,7 @@ use Rattle.std.proofs.lemmas.List.{append-nil, append_assoc, drop_all, drop_more
 use Rattle.clr_net.specs.Name.{name_cmp}
 use Rattle.clr_net.specs.Names.{has_name}
 use Rattle.clr_rules.specs.declared.point_state.PointState.{PointState}
-use Rattle.clr_rules.specs.Good.{ListsAreInOrder}
-use Rattle.clr_rules.specs.States.{state_key, state_of}
+use Rattle.clr_rules.specs.States.{state_key}
 use Rattle.clr_shelf.specs.Rows.{in_key_order}
 use Rattle.clr_book.specs.Book.{Shelved}
 use Rattle.clr_book.proofs.Lent.{points_rest, states_done, states_more}

@@ -1,5 +1,5 @@
 use Rattle.std.proofs.Common.{◌≡◌, ◌++◌, map, filter, drop}
-use Rattle.clr_shelf.proofs.list_shelf.ListShelfShelf.push_group.Given as goal
+use Rattle.clr_shelf.proofs.list_shelf.ListShelf.push_group.Given as goal
 
 -- the rows so far, and those of the group that are left, are all
 abbrev pub invariant-loop-row : goal.invariant-loop-row
