@@ -1,0 +1,95 @@
+// The board: every clearance and switch order that is not closed, and the jumpers.
+
+import { presentStep } from "../clearances/offers.js";
+import { holdWord, phaseWord, stateWord } from "../replies/words.js";
+import { el, panel, table, unbroken } from "../shared/elements.js";
+import { liveUnder, untested } from "../shared/live-alarms.js";
+import { shortTime, wholeTime } from "../shared/moments.js";
+import { room, viewOf } from "../shared/watch.js";
+
+const MOST_NAMED = 3;
+
+// A holder without a supervisor is marked: in an emergency nobody can take the clearance over.
+export function holderCell(holder, work, staff) {
+  const alone = work && work !== "-" && !staff.get(holder)?.supervisor;
+  return el("span", {}, holder,
+    alone ? [" ", el("span", { class: "chip warn", title: "In an emergency nobody can transfer this clearance" }, "no supervisor")] : null);
+}
+
+export function stepsWords(view) {
+  if (!view) return "";
+  const { done, steps } = view.card;
+  if (!steps) return "no steps";
+  const step = presentStep(view);
+  const next = step ? `; ${step.number} ${step.text} ${stateWord(step.state)}` : "";
+  return `${done} of ${steps} done${next}`;
+}
+
+// Alarms, missing tests, tests, grounds and crews of the clearance, each as [class, text].
+function workWords(view) {
+  if (!view) return [];
+  const own = view.holds.filter((hold) => hold.by === view.card.clearance && (hold.kind === "Tested" || hold.kind === "Ground"));
+  const grounded = new Set(own.filter((hold) => hold.kind === "Ground").map((hold) => hold.place));
+  const missing = untested(view);
+  return [
+    ...liveUnder(view.card.clearance).map((section) => ["live", `⚠ ${section} TESTED LIVE`]),
+    ...(missing.length ? [["bad", `${missing.slice(0, MOST_NAMED).join(", ")}${missing.length > MOST_NAMED ? ` and ${missing.length - MOST_NAMED} more` : ""} not tested`]] : []),
+    ...own.filter((hold) => hold.kind === "Ground" || !grounded.has(hold.place)).map((hold) => ["", `${hold.place} ${holdWord(hold.kind)}`]),
+    ...(view.crews.length ? [["", `crews ${view.crews.join(", ")}`]] : []),
+  ];
+}
+
+// Each record in words, as its row on paper.
+export function recordRows() {
+  return room.board.map((row) => {
+    const view = viewOf(row.id);
+    return [row.id, row.phase, row.work === "-" ? "switch order" : row.work, stepsWords(view), workWords(view).map(([, text]) => text).join("; "), row.holder, shortTime(row.last)];
+  });
+}
+
+function boardRow(row, staff, chosen) {
+  const view = viewOf(row.id);
+  const hatched = row.id === chosen && view?.fence.length;
+  return el("tr", { "data-id": row.id, class: liveUnder(row.id).length ? "live" : null },
+    el("th", { scope: "row" }, el("a", { href: `#/clearance/${row.id}`, "data-name": row.id }, row.id)),
+    el("td", {}, el("span", { class: `phase ${row.phase}`, title: phaseWord(row.phase) }, row.phase)),
+    el("td", {}, row.work === "-" ? "switch order" : row.work, hatched ? [" ", el("span", { class: "chip" }, "fence hatched")] : null),
+    el("td", { class: "steps-so-far" }, unbroken(stepsWords(view))),
+    el("td", {}, workWords(view).map(([kind, text], place) => [place ? "; " : "", el("span", { class: kind || null }, unbroken(text))]).flat()),
+    el("td", { "data-head": "holder" }, holderCell(row.holder, row.work, staff)),
+    el("td", { class: "moment", "data-head": "last moment", title: wholeTime(row.last) }, shortTime(row.last)));
+}
+
+function jumperRow({ point, from, to, position }) {
+  return el("tr", {}, el("th", { scope: "row" }, el("a", { href: `#/points/${point}` }, point)), [from, to, position].map((text) => el("td", {}, text)));
+}
+
+function recordsTable(staff, chosen) {
+  if (!room.board.length) return el("p", {}, "Nothing is open: no clearance and no switch order.");
+  return table(["Name", "Phase", "Section", "Steps", "Work", "Holder", "Last moment"], room.board.map((row) => boardRow(row, staff, chosen)), { class: "wide" });
+}
+
+export class BoardPage {
+  #desk; #rows = el("div", { class: "sheet" });
+  title = "Board";
+  node;
+
+  constructor(desk) {
+    this.#desk = desk;
+    this.node = el("section", { class: "board" }, el("h2", { tabindex: -1 }, "Board"), this.#rows, el("div", { class: "diagram-place" }));
+    this.update();
+  }
+
+  update() {
+    const { staff } = this.#desk.network;
+    const chosen = this.#desk.chosen();
+    const views = room.board.map((row) => viewOf(row.id)).map((view) => [view?.card, view?.fence.length, stepsWords(view), workWords(view)]);
+    const lines = [...room.board, ...room.jumpers].map((row) => row.line);
+    panel(this.#rows, [room.read === null, lines, views, chosen, Boolean(this.#desk.caller)], () => {
+      if (room.read === null) return el("p", {}, "The board was not read yet.");
+      const nobody = this.#desk.caller ? null : el("p", { class: "warning" }, "Say who you are, above: without a name no steps and no work are shown.");
+      const jumpers = room.jumpers.length ? table(["Jumper", "From", "To", "Position"], room.jumpers.map(jumperRow)) : null;
+      return [nobody, recordsTable(staff, chosen), jumpers];
+    });
+  }
+}

@@ -1,0 +1,65 @@
+// Who may do what next with a clearance, by its phase, its present step, its holder and the staff's roles. It is what
+// the page offers; whether a command is accepted, the register alone says.
+
+import { namesOfRole } from "../shared/network.js";
+
+// The first step that is not done, with its number; null where none is left.
+export function presentStep(view) {
+  const place = view.steps.findIndex((step) => step.state !== "Done");
+  return place < 0 ? null : { number: place + 1, ...view.steps[place] };
+}
+
+function stepOffers(view, staff) {
+  const step = presentStep(view);
+  if (!step) return [];
+  const fields = namesOfRole(staff, "field");
+  const name = `step ${step.number}, ${step.text}`;
+  if (step.state === "Waiting") return [{ does: "instruct", says: `instruct ${name}`, names: namesOfRole(staff, "operator") }];
+  if (step.state === "Instructed") return [{ does: "repeat", says: `repeat ${name}`, names: fields }];
+  return [
+    { does: "report", says: `report ${name}`, names: [step.reader] },
+    { does: "repeat", says: `repeat ${name}, and so take it over`, names: fields.filter((one) => one !== step.reader) },
+  ];
+}
+
+// A grant is offered when all steps are done, not before.
+function grantOffers(view, operators) {
+  return presentStep(view) ? [] : [{ does: "grant", says: "grant the clearance", names: operators }];
+}
+
+function handing(view, staff) {
+  const { holder } = view.card;
+  const supervisor = staff.get(holder)?.supervisor;
+  const offers = [{ does: "transfer", says: "transfer the clearance", names: [holder] }];
+  if (supervisor) offers.push({ does: "emergency", says: "transfer it in an emergency", names: [supervisor] });
+  return offers;
+}
+
+const OFFERS = {
+  Requested: (view, staff, operators) => [
+    { does: "order", says: "write the isolating order", names: operators },
+    { does: "cancel", says: "cancel the request", names: [view.card.holder] }, ...handing(view, staff)],
+  Ordered: (view, staff, operators) => [
+    ...stepOffers(view, staff), ...grantOffers(view, operators),
+    { does: "cancel", says: "cancel the order", names: [view.card.holder] }, ...handing(view, staff)],
+  Granted: (view, staff) => [
+    { does: "work", says: "test, ground, sign crews on and off", names: [view.card.holder] },
+    { does: "release", says: "release the clearance", names: [view.card.holder] }, ...handing(view, staff)],
+  Released: (view, staff, operators) => [{ does: "restore", says: "write the restoring order", names: operators }],
+  Restoring: (view, staff, operators) => [
+    ...stepOffers(view, staff),
+    ...(waitingCloses(view).length ? [{ does: "amend", says: "amend a CLOSE to a LEAVE", names: operators }] : [])],
+  Switching: (view, staff) => [
+    ...stepOffers(view, staff), { does: "cancel", says: "cancel the switch order", names: [view.card.holder] }],
+  Closed: () => [],
+};
+
+export function offersOf(view, staff) {
+  const offers = OFFERS[view.card.phase] ?? (() => []);
+  return offers(view, staff, namesOfRole(staff, "operator"));
+}
+
+export function waitingCloses(view) {
+  return view.steps.map((step, place) => ({ number: place + 1, ...step }))
+    .filter((step) => step.state === "Waiting" && step.text.startsWith("CLOSE "));
+}

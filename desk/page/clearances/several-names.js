@@ -1,0 +1,93 @@
+// One row for the present step, where this desk speaks for several: it is given, repeated and reported, each by the name
+// that is chosen there. Enter goes on from one to the next, and nothing goes on by itself.
+
+import { mayUse } from "../shared/caller.js";
+import { el, button, choice, field } from "../shared/elements.js";
+import { namesOfRole } from "../shared/network.js";
+import { keepIn, readKept } from "../shared/storage.js";
+import { instruct, stepNotes } from "./instruct.js";
+import { presentStep } from "./offers.js";
+import { heardInput, repeatAs } from "./steps.js";
+
+const KEPT = "gridclear-several";
+const PARTS = { Waiting: "giver", Instructed: "hearer", Repeated: "reporter" };
+
+const kept = readKept("sessionStorage", KEPT) ?? {}; // whether the desk speaks for several, and the names that were chosen last
+
+function keep(changes) {
+  Object.assign(kept, changes);
+  keepIn("sessionStorage", KEPT, kept);
+}
+
+export function isSeveral() {
+  return kept.on === true;
+}
+
+export function startSeveral(box, changed) {
+  box.checked = isSeveral();
+  box.addEventListener("change", () => {
+    keep({ on: box.checked });
+    changed();
+  });
+}
+
+// The row in place of the offers that are those of a step.
+export function withRow(offers, view, caller) {
+  const steps = ["instruct", "repeat", "report"];
+  if (!isSeveral() || !caller || !offers.some(({ does }) => steps.includes(does))) return offers;
+  return [{ does: "several", says: "", names: [caller] }, ...offers.filter(({ does }) => !steps.includes(does))];
+}
+
+function nameChoice(part, names, chosen) {
+  const known = names.includes(chosen) ? chosen : "";
+  return choice([["", "choose"], ...names.map((name) => [name, name])], { "data-name": part, onchange: (event) => keep({ [part]: event.target.value }) }, known);
+}
+
+// Where no name is chosen yet, that is next.
+function by(pick) {
+  if (!pick.value) pick.focus();
+  return pick.value ? { by: pick.value } : null;
+}
+
+function cell(title, now, pick, ...controls) {
+  for (const control of controls) if (!now) control.querySelectorAll("input, button").forEach((one) => { one.disabled = true; });
+  return el("div", { class: now ? "cell now" : "cell" }, field(title, pick), ...controls);
+}
+
+export function severalControl({ view, act, staff, desk, caller }) {
+  const step = presentStep(view), part = PARTS[step.state];
+  const fields = namesOfRole(staff, "field").filter(mayUse), { clearance } = view.card;
+  const giver = nameChoice("giver", namesOfRole(staff, "operator").filter(mayUse), kept.giver ?? caller?.name);
+  const hearer = nameChoice("hearer", fields, kept.hearer), reporter = nameChoice("reporter", fields, step.reader ?? kept.hearer);
+  const heard = heardInput(view, step);
+  const does = {
+    giver: () => by(giver) && instruct(desk, view, step, act, by(giver)),
+    hearer: () => by(hearer) && repeatAs(view, step, heard.value.trim(), act, by(hearer)),
+    reporter: (done) => by(reporter) && act({ do: "report", clearance, step: step.number, done, ...by(reporter) }),
+  };
+  heard.size = 16;
+  (part === "hearer" ? heard : null)?.setAttribute("data-goes", "yes");
+  const goes = (own) => (own === part && own !== "hearer" ? "yes" : null);
+  const send = (event) => {
+    event.preventDefault();
+    if (part === "hearer") does.hearer();
+  };
+  // Enter in a list of names goes on to what is to be done.
+  const goOn = (event) => {
+    if (event.key !== "Enter" || event.target.tagName !== "SELECT") return;
+    event.preventDefault();
+    event.currentTarget.querySelector("[data-goes]")?.focus();
+  };
+  return el("form", { class: "offer several step-place", onsubmit: send, onkeydown: goOn },
+    el("p", {}, `Step ${step.number} of ${view.steps.length}, `, el("span", { class: "text" }, step.text),
+      part === "giver" ? ". Say nothing on the line before the register has accepted it." : ""),
+    part === "giver" ? stepNotes(desk, view, step) : null,
+    el("div", { class: "cells" },
+      cell("Given by", part === "giver", giver,
+        el("div", { class: "answers" }, button(`Instruct step ${step.number}`, does.giver, { class: "main", "data-name": "instruct", "data-goes": goes("giver") }))),
+      cell("Repeated by", part === "hearer", hearer,
+        el("div", { class: "answers" }, field("As it was heard", heard), el("button", { class: "main", "data-name": "repeat" }, `Repeat step ${step.number}`))),
+      cell("Reported by", part === "reporter", reporter,
+        el("div", { class: "answers" }, button(`Step ${step.number} is done`, () => does.reporter(true), { class: "main", "data-name": "done", "data-goes": goes("reporter") }),
+          button(`Step ${step.number} was not done`, () => does.reporter(false), { "data-name": "not-done" })))));
+}

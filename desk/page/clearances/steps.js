@@ -1,0 +1,97 @@
+// The steps of a clearance: their table, the repeat and the report of a step, and amend beside them.
+
+import { findingsList } from "../orders/findings-shown.js";
+import { findingsOfSteps } from "../orders/findings.js";
+import { stateWord } from "../replies/words.js";
+import { drafted, draftName } from "../shared/drafts.js";
+import { el, button, field, table, unbroken } from "../shared/elements.js";
+import { exampleStep } from "../shared/network.js";
+import { ask } from "../shared/question.js";
+import { presentStep, waitingCloses } from "./offers.js";
+
+const SIGNS = { Waiting: "○", Instructed: "◔", Repeated: "◑", Done: "●" };
+
+// What is in the way of each step that is not done.
+export function stepsFindings(view, desk) {
+  const left = view.steps.filter((step) => step.state !== "Done").map((step) => step.text);
+  const found = findingsOfSteps(desk, left, view.card.clearance).map((one) => one.found);
+  return view.steps.map((step) => (step.state === "Done" ? [] : found.shift()));
+}
+
+export function stepsTable(view, found) {
+  const present = presentStep(view)?.number;
+  const rows = view.steps.map((step, place) =>
+    el("tr", { class: `step ${step.state}`, "aria-current": place + 1 === present ? "step" : null },
+      el("td", { class: "number" }, String(place + 1)),
+      el("td", {}, el("span", { class: "text" }, unbroken(step.text)), findingsList(found[place])),
+      el("td", {}, el("span", { class: "sign", "aria-hidden": "true" }, SIGNS[step.state]), `\u00a0${stateWord(step.state)}`),
+      el("td", {}, step.reader ?? "–")));
+  return table(["No", "Step", "State", "Reader"], rows, { class: "steps" });
+}
+
+// Where two texts begin to differ.
+function differenceWords(said, typed) {
+  let place = 0;
+  while (place < said.length && said[place] === typed[place]) place++;
+  const rest = (text) => (text.length > place ? `“${text.slice(place)}”` : "nothing more");
+  return `${place ? `The same as far as “${said.slice(0, place)}”; then the step` : "The step"} has ${rest(said)}, and you typed ${rest(typed)}.`;
+}
+
+// Sends what was heard; where that is not the step's text, only after a question.
+export async function repeatAs(view, step, text, act, by = {}) {
+  if (text !== step.text) {
+    const answer = await ask("The repeat differs", [
+      `The step says: ${step.text}`, `You typed: ${text || "nothing"}`, differenceWords(step.text, text),
+    ], [["send", "Send it as typed"], [null, "Correct it"]]);
+    if (answer !== "send") return null;
+  }
+  return act({ do: "repeat", clearance: view.card.clearance, step: step.number, text, ...by });
+}
+
+// The field for what was heard, in capitals.
+export function heardInput(view, step) {
+  const input = el("input", { type: "text", autocomplete: "off", autocapitalize: "characters", spellcheck: "false", "data-name": "repeat-text", size: 24 });
+  input.addEventListener("input", () => {
+    const place = input.selectionStart;
+    input.value = input.value.toUpperCase();
+    input.setSelectionRange(place, place);
+  });
+  return drafted(input, draftName(`repeat ${view.card.round}.${step.number}`, view.card.clearance));
+}
+
+export function repeatControl({ view, act, network }) {
+  const step = presentStep(view), point = step.text.split(" ")[1];
+  const input = heardInput(view, step);
+  const send = (event) => {
+    event.preventDefault();
+    repeatAs(view, step, input.value.trim(), act);
+  };
+  return el("form", { class: "offer", onsubmit: send },
+    field(`Step ${step.number}, repeated as you heard it`, input, `word for word, as ${exampleStep(network, point)}`),
+    el("button", { class: "main", "data-name": "repeat" }, `Repeat step ${step.number}`));
+}
+
+export function reportControl({ view, act }) {
+  const step = presentStep(view);
+  const report = (done) => act({ do: "report", clearance: view.card.clearance, step: step.number, done });
+  return el("div", { class: "offer" },
+    el("p", { class: "readout" }, "You repeated: ", el("strong", {}, step.text)),
+    el("div", { class: "answers" },
+      button(`Step ${step.number} is done`, () => report(true), { class: "main", "data-name": "done" }),
+      button(`Step ${step.number} was not done`, () => report(false), { "data-name": "not-done" })));
+}
+
+async function amendStep(view, step, act) {
+  const point = step.text.split(" ")[1];
+  const answer = await ask(`Amend step ${step.number} of ${view.card.clearance}`, [
+    `${step.text} becomes LEAVE ${point}: the point stays open, and the step's hold is taken off.`,
+  ], [["yes", `Amend to LEAVE ${point}`], [null, "Leave it as it is"]]);
+  if (answer === "yes") await act({ do: "amend", clearance: view.card.clearance, step: step.number });
+}
+
+export function amendControl({ view, act }) {
+  return el("div", { class: "offer" },
+    el("p", {}, "A CLOSE that cannot be done may be amended to a LEAVE:"),
+    el("div", { class: "answers" }, waitingCloses(view).map((step) =>
+      button(`Amend step ${step.number}, ${step.text}`, () => amendStep(view, step, act), { "data-name": `amend ${step.number}` }))));
+}

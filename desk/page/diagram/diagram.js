@@ -1,0 +1,275 @@
+// The one-line diagram: sections, the points between them, and what the register says of both.
+
+import { sectionWords } from "../orders/findings.js";
+import { holdWord } from "../replies/words.js";
+import { el, svg, button, unbroken } from "../shared/elements.js";
+import { isOffNormal } from "../shared/point-states.js";
+import { Roving } from "./arrow-keys.js";
+import { BOX, layOut } from "./layout.js";
+import { sectionMarks } from "./mark-words.js";
+import { Writing } from "./texts.js";
+import { Zoom } from "./zoom.js";
+
+export const MOST_DRAWN = 1000;
+const MOVES = [["←", "To the left", -160, 0], ["→", "To the right", 160, 0], ["↑", "Up", 0, -160], ["↓", "Down", 0, 160]];
+const FLASH = "M5,-11L1.5,-4.5H4L2.5,1L7.5,-6.5H5L6.5,-11Z"; // at the left upper edge of a section's box
+const KEYS = "Plus and minus zoom, arrows move it, 0 shows all. The points are also listed under Points.";
+const BY_KEYS = "By keys: Tab into the diagram, arrows from one to the next, Space picks.";
+
+function pointTitle(state) {
+  const { point } = state;
+  return [
+    `${point.jumper ? "jumper " : ""}${point.name}, between ${point.from} and ${point.to}`,
+    `${state.position}${point.normal ? `; normally ${point.normal}` : ""}`,
+    state.hand ? `in hand of ${state.hand}` : "",
+    ...state.holds.map((hold) => `${holdWord(hold.kind)} by ${hold.by}`),
+  ].filter(Boolean).join("\n");
+}
+
+// Closed is full, open is hollow with a gap.
+function pointSymbol(state, picked, found) {
+  const parts = [svg("rect", { class: "hit", x: -16, y: -16, width: 32, height: 32 })];
+  if (found) parts.push(svg("circle", { class: "found", r: 17 }));
+  if (picked) parts.push(svg("rect", { class: "ring", x: -12, y: -12, width: 24, height: 24, rx: 4 }));
+  parts.push(svg("rect", { class: "box", x: -7, y: -7, width: 14, height: 14 }));
+  if (state.position === "open") parts.push(svg("path", { class: "gap", d: "M-4,4L4,-4" }));
+  return parts;
+}
+
+// What the title of a section says: live and dead are the register's words, and no test.
+function sectionTitle(section, marks, fenced) {
+  const fed = section.live ? "live: closed points lead here from a source" : "dead by the positions of the points; a test shows it in the field";
+  return [`section ${section.name}${section.source ? ", a source" : ""}`, fed, fenced ? "in the fence" : "",
+    ...marks.filter(({ kind }) => kind !== "dead").map(({ text }) => text)].filter(Boolean).join("\n");
+}
+
+// A live section has a filled box with a flash in it; the box of a dead one is empty, and its border is broken.
+function sectionParts(spot, section, marks, fenced, found) {
+  const { width } = spot, top = -BOX / 2;
+  return [
+    svg("title", {}, sectionTitle(section, marks, fenced)),
+    section.source ? svg("g", { class: "feed" },
+      svg("circle", { cx: -16, cy: 0, r: 11 }), svg("path", { d: "M-22,1c3,-7 5,-7 6,-1s4,6 6,-1" }), svg("path", { d: "M-5,0H0" })) : null,
+    found ? svg("rect", { class: "found", x: -7, y: top - 7, width: width + 14, height: BOX + 14, rx: 9 }) : null,
+    svg("rect", { class: "box", x: 0, y: top, width, height: BOX, rx: 4 }),
+    fenced ? svg("rect", { class: "hatch", x: 0, y: top, width, height: BOX, rx: 4, fill: "url(#hatch)" }) : null,
+    section.live ? svg("path", { class: "flash", d: FLASH }) : null,
+  ].filter(Boolean);
+}
+
+function hatch() {
+  return svg("defs", {},
+    svg("pattern", { id: "hatch", width: 8, height: 8, patternUnits: "userSpaceOnUse", patternTransform: "rotate(45)" },
+      svg("path", { d: "M0,0V8", class: "stroke" })));
+}
+
+// Where a press or a key on a point or section leads to, as long as it was no drag; `moves(event)` is whether a key moved on.
+function pressable(group, does, moves) {
+  let from = null;
+  group.addEventListener("pointerdown", (event) => { from = [event.clientX, event.clientY]; });
+  group.addEventListener("click", (event) => {
+    if (from && Math.hypot(event.clientX - from[0], event.clientY - from[1]) > 5) return;
+    does();
+  });
+  group.addEventListener("keydown", (event) => {
+    const picks = event.key === "Enter" || event.key === " ";
+    if (!picks && !moves(event)) return;
+    event.preventDefault();
+    event.stopPropagation();
+    if (picks) does();
+  });
+}
+
+export class Diagram {
+  #network; #plan; #zoom; #frame; #writing; #points = new Map(); #sections = new Map(); #keys = new Map(); #roving;
+  #picking = null; #press; #found = new Set(); #finding = el("span", { class: "hint", role: "status" }); #last = null;
+  #dead = el("p", { class: "hint", "data-name": "dead" }); #byKeys = el("p", { class: "hint by-keys" });
+  node;
+
+  // `press(kind, name)` is called where nothing is being picked.
+  constructor(network, press) {
+    this.#network = network;
+    this.#press = press;
+    this.#plan = layOut(network);
+    this.#writing = new Writing(network, this.#plan);
+    const drawing = this.#draw();
+    this.#frame = el("div", { class: "net", tabindex: 0, role: "group", "aria-label": `One-line diagram. ${KEYS}` }, drawing);
+    // At the frame: a browser takes each part of a drawing that listens for the focus for a stop of Tab.
+    this.#frame.addEventListener("focusin", ({ target: { dataset } }) => { if (dataset.kind === this.#picking?.kind) this.#roving[dataset.kind]?.onFocus(dataset.name); });
+    this.#zoom = new Zoom(this.#frame, drawing, this.#plan, (scale) => this.#writing.atScale(scale));
+    this.#roving = this.#rovings();
+    this.node = el("div", { class: "diagram" }, this.#tools(), this.#byKeys, this.#frame, this.#dead, legend());
+  }
+
+  // One for each kind that may be picked.
+  #rovings() {
+    const reveal = (place) => this.#zoom.reveal(place);
+    const sections = new Map([...this.#plan.spots.values()].map(({ name, x, y, width }) => [name, { x: x + width / 2, y }]));
+    const points = new Map(this.#plan.edges.map(({ point, x, y }) => [point.name, { x, y }]));
+    return { section: new Roving(sections, this.#sections, reveal), point: new Roving(points, this.#points, reveal) };
+  }
+
+  // Tab leads to what is picked, or to what is in the middle.
+  #placeStop() {
+    const roving = this.#roving[this.#picking?.kind];
+    roving?.begin([...this.#picking.picked].find((name) => this.#plan.spots.has(name) || this.#points.has(name)) ?? roving.nearest(this.#zoom.middle()));
+  }
+
+  // Shows the whole network where that can be read; otherwise these sections in the middle.
+  lookAt(names) {
+    const spots = names.map((name) => this.#plan.spots.get(name)).filter(Boolean);
+    const mean = (key) => spots.reduce((sum, spot) => sum + spot[key], 0) / spots.length;
+    this.#zoom.lookAt(spots.length ? { x: mean("x") + spots[0].width / 2, y: mean("y") } : null);
+    this.#placeStop();
+  }
+
+  #draw() {
+    const base = this.#plan.edges.map((edge) => svg("path", { class: "line", d: edge.path }));
+    const dots = this.#plan.edges.flatMap((edge) => [edge.dot, edge.other]).filter(Boolean)
+      .map(([cx, cy]) => svg("circle", { class: "dot", cx, cy, r: 2.5 }));
+    const sections = [...this.#plan.spots.values()].map((spot) => this.#group("section", spot.name, spot.x, spot.y, this.#sections));
+    const points = this.#plan.edges.map((edge) => this.#group("point", edge.point.name, edge.x, edge.y, this.#points));
+    const { width, height } = this.#plan;
+    return svg("svg", { class: "drawing", role: "presentation", width, height, viewBox: `0 0 ${width} ${height}` },
+      hatch(), svg("g", {}, base, dots), svg("g", {}, sections), svg("g", {}, points), this.#writing.node);
+  }
+
+  #group(kind, name, x, y, groups) {
+    const group = svg("g", { "data-kind": kind, "data-name": name, transform: `translate(${x},${y})` });
+    const picks = () => this.#picking?.kind === kind;
+    pressable(group, () => (picks() ? this.#picking.toggle(name) : this.#press(kind, name)), (event) => picks() && this.#roving[kind].onKey(event, name));
+    groups.set(name, { group });
+    return group;
+  }
+
+  #tools() {
+    const find = el("input", { type: "search", placeholder: "section or point", "aria-label": "Find a section or point", size: 13 });
+    const go = () => this.find(find.value.trim().toUpperCase());
+    find.addEventListener("keydown", (event) => { if (event.key === "Enter") go(); });
+    return el("div", { class: "tools" },
+      button("Whole network", () => this.#zoom.all()),
+      button("Closer", () => this.#zoom.closer()),
+      button("Farther", () => this.#zoom.farther()),
+      el("span", { class: "moves" }, MOVES.map(([sign, words, x, y]) => button(sign, () => this.#zoom.pan(x, y), { "aria-label": words, title: words }))),
+      find, button("Find", go), this.#finding);
+  }
+
+  // Marks the section or point of this name, or those with it in their name, and brings the first to the middle.
+  find(name) {
+    const names = [...this.#plan.spots.keys(), ...this.#points.keys()];
+    const exact = names.filter((one) => one === name);
+    const found = !name || exact.length ? exact : names.filter((one) => one.includes(name));
+    this.#found = new Set(found);
+    this.#finding.textContent = !name ? "" : !found.length ? `nothing has ${name} in its name`
+      : `${found.length === 1 ? found[0] : `${found.length} found, as ${found[0]}`}, ringed`;
+    const spot = this.#plan.spots.get(found[0]) ?? this.#plan.edges.find((edge) => edge.point.name === found[0]);
+    if (spot) this.#zoom.bringToMiddle(spot);
+    const kind = this.#picking?.kind, first = found.find((one) => (kind === "point" ? this.#points : this.#sections).has(one));
+    if (kind && first) this.#roving[kind].begin(first);
+    if (this.#last) this.update(this.#last);
+  }
+
+  // What is being picked: { kind, picked: Set, toggle(name), way() }, or null.
+  pick(picking) {
+    this.#picking = picking;
+    this.#frame.classList.toggle("picking-points", picking?.kind === "point");
+    this.#frame.classList.toggle("picking-sections", picking?.kind === "section");
+    this.#byKeys.textContent = picking ? BY_KEYS : "";
+    this.#placeStop();
+  }
+
+  // Draws what has changed since the last time.
+  update(seen) {
+    const { states, room, fence, turned } = this.#last = seen;
+    const marks = sectionMarks(room, turned);
+    const picked = (kind, name) => this.#picking?.kind === kind && this.#picking.picked.has(name);
+    for (const [name, { group }] of this.#points) {
+      const state = states.get(name), chosen = picked("point", name), found = this.#found.has(name);
+      this.#redraw(group, [state.position, state.hand, state.holds, chosen, found, this.#picking?.kind], () => {
+        this.#dressPoint(group, state, chosen);
+        return [svg("title", {}, pointTitle(state)), ...pointSymbol(state, chosen, found)];
+      });
+    }
+    for (const [name, { group }] of this.#sections) {
+      const own = marks.get(name) ?? [], chosen = picked("section", name), fenced = fence.has(name), found = this.#found.has(name);
+      const section = this.#network.sections.get(name), alarmed = own.some(({ kind }) => kind === "live");
+      this.#redraw(group, [own, section.live, chosen, fenced, found, this.#picking?.kind], () => {
+        group.setAttribute("class", ["section", section.live ? "fed" : "dead", section.source ? "source" : "", fenced ? "fenced" : "", chosen ? "picked" : "", alarmed ? "live" : ""].join(" "));
+        this.#offerPicking(group, "section", name, chosen, name);
+        return sectionParts(this.#plan.spots.get(name), section, own, fenced, found);
+      });
+    }
+    this.#sayDead();
+    this.#markWay();
+    this.#writing.write({ states, marks, fence, found: this.#found, picked });
+  }
+
+  #sayDead() {
+    const all = [...this.#network.sections.values()], dead = all.filter(({ live }) => !live).map(({ name }) => name);
+    const text = dead.length ? `${dead.length} of ${all.length} sections ${dead.length === 1 ? "is" : "are"} dead by the register's positions: ${sectionWords(dead)}` : `all ${all.length} sections are live by the register's positions`;
+    if (this.#dead.textContent !== text) this.#dead.replaceChildren(...unbroken(text));
+  }
+
+  // The way to a source that the picked points leave open: section, point, section and so on.
+  #markWay() {
+    const way = this.#picking?.way?.() ?? [];
+    for (const [groups, turn] of [[this.#sections, 0], [this.#points, 1]]) {
+      const names = new Set(way.filter((_, place) => place % 2 === turn));
+      for (const [name, { group }] of groups) group.classList.toggle("way", names.has(name));
+    }
+  }
+
+  #dressPoint(group, state, chosen) {
+    group.setAttribute("class", `point ${state.position}${chosen ? " picked" : ""}`);
+    this.#offerPicking(group, "point", state.point.name, chosen, `${state.point.name}, ${state.position}`);
+  }
+
+  #offerPicking(group, kind, name, chosen, label) {
+    const tabindex = this.#roving[kind].isStop(name) ? "0" : "-1", on = this.#picking?.kind === kind;
+    for (const [attribute, value] of [["tabindex", tabindex], ["role", "checkbox"], ["aria-checked", String(chosen)], ["aria-label", label]]) {
+      if (on) group.setAttribute(attribute, value);
+      else group.removeAttribute(attribute);
+    }
+  }
+
+  #redraw(group, key, draw) {
+    const text = JSON.stringify(key);
+    if (this.#keys.get(group) === text) return;
+    this.#keys.set(group, text);
+    group.replaceChildren(...draw());
+  }
+}
+
+function sample(className, position, marks = {}) {
+  const state = { position, point: { name: "" } };
+  return svg("svg", { class: "net sample", viewBox: "-14 -12 28 24", width: 28, height: 24, "aria-hidden": "true" },
+    svg("path", { class: "line", d: "M-14,0H14" }), svg("g", { class: className }, pointSymbol(state, marks.picked)));
+}
+
+function sectionSample(className, live) {
+  return svg("svg", { class: "net sample", viewBox: "0 -14 40 28", width: 40, height: 24, "aria-hidden": "true" },
+    svg("g", { class: `section ${className}` }, svg("rect", { class: "box", x: 2, y: -11, width: 36, height: 22, rx: 4 }),
+      live ? svg("path", { class: "flash", d: FLASH, transform: "translate(3,2)" }) : null));
+}
+
+function fenceSample() {
+  return svg("svg", { class: "net sample", viewBox: "0 -14 40 28", width: 40, height: 24, "aria-hidden": "true" },
+    svg("g", { class: "section fenced" }, svg("rect", { class: "box", x: 2, y: -11, width: 36, height: 22, rx: 4 }),
+      svg("rect", { class: "hatch", x: 2, y: -11, width: 36, height: 22, rx: 4, fill: "url(#hatch)" })));
+}
+
+function legend() {
+  const entry = (mark, text) => el("li", {}, mark, el("span", {}, text));
+  const sign = (text) => el("b", {}, text);
+  return el("details", { class: "legend" }, el("summary", {}, "Signs"), el("ul", {},
+    entry(sample("point closed"), "closed"), entry(sample("point open"), "open"),
+    entry(sectionSample("fed", true), "live by the register: closed points lead there from a source"),
+    entry(sectionSample("dead", false), "dead by the positions of the points; only a test shows it in the field"),
+    entry(sign("→ live, → dead"), "what the step at hand, or the order that is being written, would make of it, by this page's reckoning"),
+    entry(sign("≠"), "not in its normal position"),
+    entry(fenceSample(), "in the fence of the chosen clearance, or of the points that are picked"),
+    entry(sample("point closed way"), "purple: on the way to a source that the picked points leave open"),
+    entry(sign("red"), "tested live, until it is tested dead"),
+    entry(sign("O B C T"), "held open, blocked, control off, tagged, after the owner's name"),
+    entry(sign("hand"), "its owner's step is given out there")));
+}

@@ -1,0 +1,78 @@
+// The points: position, normal position, hand, holds and steps under way; who is at a point, and what is not normal.
+
+import { holdWord, stateWord } from "../replies/words.js";
+import { el, field, panel, table } from "../shared/elements.js";
+import { shortTime } from "../shared/moments.js";
+import { marksOf } from "../shared/network.js";
+import { isOffNormal } from "../shared/point-states.js";
+import { room } from "../shared/watch.js";
+
+const MOST_LISTED = 300;
+
+const KINDS = {
+  all: ["all points", () => true],
+  off: ["not in their normal position", (state) => isOffNormal(state)],
+  held: ["held by somebody", (state) => state.holds.length > 0],
+  hand: ["in hand: a step is given out", (state) => state.hand !== null],
+};
+
+function links(ids) {
+  return ids.flatMap((id, place) => [place ? ", " : "", el("a", { href: `#/clearance/${id}` }, id)]);
+}
+
+function holdsCell(state) {
+  const owners = [...new Set(state.holds.map((hold) => hold.by))];
+  return owners.length ? owners.map((owner) => el("p", {}, ...links([owner]),
+    `: ${state.holds.filter((hold) => hold.by === owner).map((hold) => holdWord(hold.kind)).join(", ")}`)) : null;
+}
+
+function stepsCell(state) {
+  const left = state.steps.filter((step) => step.state !== "Done");
+  return left.length ? left.map((step) => el("p", {}, ...links([step.id]),
+    ` step ${step.number} ${step.text}: ${stateWord(step.state)}${step.reader ? `, ${step.reader}` : ""}`)) : null;
+}
+
+function cell(content, head = null) {
+  return el("td", { class: content ? null : "none", "data-head": head }, content ?? "–");
+}
+
+function row(state) {
+  const { point } = state;
+  return el("tr", { "data-point": point.name },
+    el("th", { scope: "row" }, point.name), el("td", {}, `${point.from} – ${point.to}`), el("td", { "data-head": "marks" }, marksOf(point)),
+    el("td", { "data-head": "now" }, el("strong", {}, state.position), isOffNormal(state) ? " ≠" : ""),
+    el("td", { "data-head": "normally" }, point.normal ?? "not known"), cell(state.hand ? links([state.hand]) : null, "in hand of"),
+    cell(holdsCell(state)), cell(stepsCell(state)));
+}
+
+export class PointsPage {
+  #desk; #filter; #kind = "all"; #rows = el("div", { class: "sheet" }); #count = el("p", { class: "hint" });
+  title = "Points";
+  node;
+
+  constructor(desk, name = "") {
+    this.#desk = desk;
+    this.#filter = el("input", { type: "search", size: 16, value: name, "data-name": "filter", oninput: () => this.update() });
+    const kinds = el("fieldset", { class: "kinds" }, el("legend", {}, "Show"), Object.entries(KINDS).map(([kind, [text]]) =>
+      el("label", { class: "radio" }, el("input", { type: "radio", name: "kind", checked: kind === "all", onchange: () => { this.#kind = kind; this.update(); } }), text)));
+    this.node = el("section", { class: "points" }, el("h2", { tabindex: -1 }, "Points"),
+      el("div", { class: "line" }, field("Point or section", this.#filter), kinds), this.#count, this.#rows);
+    this.update();
+  }
+
+  #found(states) {
+    const text = this.#filter.value.trim().toUpperCase();
+    const fits = ({ point }) => !text || point.name.includes(text) || point.from.includes(text) || point.to.includes(text);
+    const exact = [...states.values()].filter(({ point }) => point.name === text);
+    const found = exact.length ? exact : [...states.values()].filter(fits);
+    return found.filter(KINDS[this.#kind][1]);
+  }
+
+  update() {
+    const states = this.#desk.states();
+    const found = this.#found(states), shown = found.slice(0, MOST_LISTED);
+    this.#count.textContent = `${shown.length} of ${found.length} points, as the register had them at ${shortTime(room.network)}.`;
+    panel(this.#rows, [shown.map((state) => [state.point.name, state.position, state.hand, state.holds, state.steps])], () =>
+      table(["Point", "Between", "Marks", "Position", "Normally", "In hand of", "Holds", "Steps left"], shown.map((state) => row(state)), { class: "wide" }));
+  }
+}

@@ -1,0 +1,140 @@
+// The journal as a log: what each entry says in words, with the texts of steps, and the story of a record.
+
+import { SAID } from "../replies/words.js";
+import { shortTime, span } from "../shared/moments.js";
+import { journal } from "./journal.js";
+
+const LATE = 60; // seconds from the stated moment to that of the machine that are said
+const STEP_WORDS = { instruct: "given out", repeat: "repeated", amend: "amended to LEAVE" };
+const OTHER_WORDS = {
+  request: (c) => `asked for, section ${c.section}`,
+  order: (c) => `isolating order: points ${c.points.join(", ")}, ${c.steps.length} steps`,
+  restore: (c) => `restoring order: ${c.steps.length} steps`,
+  switch: (c) => `switch order: ${c.steps.join(", ")}`,
+  grant: () => "granted", cancel: () => "cancelled", release: () => "released: all notified, all clear",
+  test: (c) => `${c.section} tested ${c.dead ? "dead" : "live"}`,
+  ground: (c) => `ground on at ${c.section}`, unground: (c) => `ground off at ${c.section}`,
+  sign_on: (c) => `crew ${c.crew} on`, sign_off: (c) => `crew ${c.crew} off`,
+  show: () => "looked at",
+  transfer: (c) => `transferred to ${c.to}${c.emergency ? " in an emergency" : ""}`,
+};
+
+export function recordOf({ command, reply }) {
+  return command.clearance ?? reply.card?.clearance ?? null;
+}
+
+function isDone({ reply, withdrawn }) {
+  return !withdrawn && (reply.reply === "accepted" || reply.reply === "added");
+}
+
+// The texts of steps that were repeated: "JONES/1 1.3" and so on.
+function repeatedTexts() {
+  const repeats = journal.entries.filter((entry) => entry.command.do === "repeat" && isDone(entry));
+  return new Map(repeats.map(({ command, reply }) => [`${command.clearance} ${reply.card.round}.${command.step}`, command.text]));
+}
+
+let made = { entries: null, rows: [] };
+
+// Each entry as { entry, id, at, by, text, what, done }: `text` is that of its step, by its order; or, where that is not in
+// the part that was read, by its repeat.
+export function logRows() {
+  if (made.entries !== journal.entries) made = { entries: journal.entries, rows: rowsOf(journal.entries) };
+  return made.rows;
+}
+
+function rowsOf(entries) {
+  const orders = new Map(), repeated = repeatedTexts(); // record and round: the texts of its steps
+  return entries.map((entry) => {
+    const { command, reply } = entry, id = recordOf(entry), done = isDone(entry), round = reply.card?.round ?? 0;
+    if (done && command.steps) orders.set(`${id} ${round}`, [...command.steps]);
+    const texts = orders.get(`${id} ${round}`) ?? [];
+    const text = command.step ? texts[command.step - 1] ?? repeated.get(`${id} ${round}.${command.step}`) ?? null : null;
+    if (done && command.do === "amend" && text) texts[command.step - 1] = text.replace(/^CLOSE/, "LEAVE");
+    return { entry, id, round, at: command.at ?? entry.received, by: command.by, text, done, what: whatWords(command, text) };
+  });
+}
+
+function whatWords(command, text) {
+  if (command.step) return `step ${command.step}${text ? `, ${text}` : ""}: ${command.do === "report" ? (command.done ? "done" : "not done") : STEP_WORDS[command.do]}`;
+  return (OTHER_WORDS[command.do] ?? SAID[command.do])?.(command) ?? command.do;
+}
+
+// Who gave it, with the login where that is another.
+export function whoWords({ command, login }) {
+  return login && login !== command.by ? `${command.by} (login ${login})` : command.by;
+}
+
+export function replyWords({ reply, withdrawn }) {
+  if (withdrawn) return "withdrawn: it was not carried out";
+  return reply.reply === "refused" ? `refused: ${reply.refusal}` : reply.reply;
+}
+
+// When the machine took it, where that is far from the moment that was stated.
+export function lateWords({ command, received }) {
+  if (command.at === undefined || Math.abs(received - command.at) <= LATE) return "";
+  return `taken ${span(received - command.at)} ${received > command.at ? "later" : "earlier"}, at ${shortTime(received)}`;
+}
+
+const STEP_PARTS = { instruct: "given", repeat: "repeated", report: "reported" };
+
+// The story of a record: for each step of each round who gave it, repeated it and reported it last, and all else that was
+// done in its name. { steps: [{ round, number, text, given, repeated, reported }], others: rows }.
+export function storyOf(id) {
+  const steps = new Map(), others = [];
+  for (const row of logRows().filter((one) => one.id === id && one.done)) {
+    const { command } = row.entry, part = STEP_PARTS[command.do];
+    if (!part || (command.do === "report" && !command.done)) {
+      others.push(row);
+      continue;
+    }
+    const key = `${row.round}.${command.step}`, step = steps.get(key) ?? { round: row.round, number: command.step, text: row.text };
+    if (part === "given") step.repeated = step.reported = undefined;
+    steps.set(key, { ...step, text: row.text ?? step.text, [part]: row });
+  }
+  return { steps: [...steps.values()].sort((a, b) => a.round - b.round || a.number - b.number), others };
+}
+
+const MADE = { OPEN: "open", CLOSE: "closed", LEAVE: "open" };
+
+// How a point was moved last before this clearance opened it, { position, text, id }; null where what was read does not say.
+export function movedBefore(clearance, point) {
+  let last = null;
+  for (const { entry, id, text, done } of logRows()) {
+    const [action, name] = (text ?? "").split(" ");
+    if (!done || name !== point || entry.command.do !== "report" || !entry.command.done || !MADE[action]) continue;
+    if (id === clearance && action === "OPEN") return last;
+    last = { position: MADE[action], text, id };
+  }
+  return null;
+}
+
+const keyOf = ({ id, section }) => `${id} ${section}`;
+let alarmed = { rows: null, found: [] };
+
+// The sections that were found live, { id, section }, and neither tested dead since nor given back.
+export function liveByLog() {
+  const rows = logRows();
+  if (alarmed.rows !== rows) alarmed = { rows, found: foundLive(rows) };
+  return alarmed.found;
+}
+
+function foundLive(rows) {
+  const live = new Map();
+  for (const { id, entry: { command }, done } of rows) {
+    const alarm = { id, section: command.section };
+    if (done && command.do === "test") (command.dead ? live.delete(keyOf(alarm)) : live.set(keyOf(alarm), alarm));
+    if (done && command.do === "release") for (const [key, one] of [...live]) if (one.id === id) live.delete(key);
+  }
+  return [...live.values()];
+}
+
+// The points that an entry is about.
+export function pointsIn({ entry, text }) {
+  const { command } = entry;
+  return [...(command.points ?? []), ...(command.point ? [command.point] : []), ...[...(command.steps ?? []), ...(text ? [text] : [])].map((one) => one.split(" ")[1])];
+}
+
+// Those whom an entry names.
+export function employeesIn({ entry }) {
+  return [entry.command.by, entry.command.to, entry.reply.card?.holder].filter(Boolean);
+}

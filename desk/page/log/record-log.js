@@ -1,0 +1,51 @@
+// The log of one record: who gave, repeated and reported each step, and all else, with the moments.
+
+import { el, panel, table } from "../shared/elements.js";
+import { wholeTime } from "../shared/moments.js";
+import { isWhole, journal, newest } from "./journal.js";
+import { lateWords, storyOf, whoWords } from "./log-words.js";
+
+function cell(row, head) {
+  if (!row) return el("td", { "data-head": head }, "–");
+  const late = lateWords(row.entry);
+  return el("td", { "data-head": head }, whoWords(row.entry), el("p", { class: "hint" }, wholeTime(row.at)), late ? el("p", { class: "hint" }, late) : null);
+}
+
+function stepRow({ round, number, text, given, repeated, reported }) {
+  return el("tr", {}, el("td", { class: "number" }, `${round}.${number}`), el("td", { class: "text" }, text ?? "not read"), cell(given, "given by"), cell(repeated, "repeated by"), cell(reported, "done, by"));
+}
+
+function otherRow(row) {
+  const late = lateWords(row.entry);
+  return el("tr", {}, el("td", { class: "moment" }, wholeTime(row.at)), el("td", {}, whoWords(row.entry)), el("td", {}, row.what, late ? el("p", { class: "hint" }, late) : null));
+}
+
+const NOT_WHOLE = "Only the newest part of the journal is read: earlier entries are missing here. The page Log reads them.";
+
+function drawn(id) {
+  const { steps, others } = storyOf(id);
+  if (journal.state === "failed") return [el("p", { class: "hint" }, "The journal could not be read.")];
+  if (journal.state !== "read") return [];
+  return [
+    el("h3", {}, "Log"), isWhole() ? null : el("p", { class: "hint" }, NOT_WHOLE),
+    others.length ? table(["Moment", "Who", "What"], others.map(otherRow), { class: "log" }) : null,
+    steps.length ? table(["No", "Step", "Given by", "Repeated by", "Reported done by"], steps.map(stepRow), { class: "log" }) : null,
+    steps.length || others.length ? null : el("p", { class: "hint" }, "The journal has nothing of it."),
+  ];
+}
+
+// Where this desk has a journal; nothing otherwise.
+export class Story {
+  #id;
+  node = el("div", { class: "story" });
+
+  constructor(id) {
+    this.#id = id;
+    this.draw();
+    newest().then(() => this.draw());
+  }
+
+  draw() {
+    panel(this.node, [journal.state, journal.begin, journal.end], () => drawn(this.#id));
+  }
+}

@@ -1,0 +1,180 @@
+// Giving a command: its moment is looked at, it is sent once, and its reply goes to the replies.
+
+import { noteGiven } from "../clearances/given-here.js";
+import { clockIsMeant, meantNow } from "../shared/clocks.js";
+import { dropDraftOf } from "../shared/drafts.js";
+import { noteTest } from "../shared/live-alarms.js";
+import { now, secondsOfField, shortTime, span, wholeTime } from "../shared/moments.js";
+import { network } from "../shared/network.js";
+import { ask } from "../shared/question.js";
+import { postCommand } from "../shared/register.js";
+import { keepIn, readKept } from "../shared/storage.js";
+import { asOwn } from "../shared/waiting-lists.js";
+import { boardLine, lookAt, lookNow, room, viewOf } from "../shared/watch.js";
+import { giveAgain } from "./give-again.js";
+import { lost } from "./lost-reply.js";
+import { addReply, plainLines, replyOf } from "./replies.js";
+import { saidOf } from "./words.js";
+
+const FAR = 120;     // seconds off the clock that are asked about
+const PENDING = "gridclear-pending";
+const TIMELESS = new Set(["jumper"]); // commands without a moment
+const DOUBLE = 1000; // milliseconds within which a second press is none
+
+let caller = null;
+let momentField = null;
+let sending = false;
+let since = 0; // when what is being sent was begun
+const listeners = [];
+
+export function setCaller(name) {
+  caller = name;
+}
+
+export function setMomentField(input) {
+  momentField = input;
+}
+
+// Listeners are called when a command goes out and when it is over.
+export function onSending(listener) {
+  listeners.push(listener);
+}
+
+export function isSending() {
+  return sending;
+}
+
+function noteSending(value) {
+  sending = value;
+  since = Date.now();
+  for (const listener of listeners) listener();
+}
+
+// The moment that the operator has set, or that of the clock; null where the operator does not say which clock.
+async function statedMoment() {
+  const set = momentField?.value ? secondsOfField(momentField.value) : null;
+  if (set !== null) return set;
+  return (await clockIsMeant()) ? meantNow() : null;
+}
+
+// The register's last moment of the clearance is later: by how much, and which moment is to be sent.
+async function notBeforeLast(command, at) {
+  const last = command.clearance ? boardLine(command.clearance)?.last ?? null : null;
+  if (last === null || last <= at) return { at, asked: false };
+  const far = last - meantNow() > FAR;
+  const answer = await ask("The register is ahead of this moment", [
+    `The last moment of ${command.clearance} in the register is ${wholeTime(last)}.`,
+    `The moment of this command is ${wholeTime(at)}, ${span(last - at)} before it: it would be refused (EARLIER).`,
+    far ? `That last moment is ${span(last - meantNow())} after the clock. Is the clock right, or was a moment mistyped?` : "",
+  ].filter(Boolean), [
+    ["last", `Give it with ${shortTime(last)}`],
+    ["same", "Give it as it is"],
+    [null, "Do not give it"],
+  ]);
+  return answer === null ? null : { at: answer === "last" ? last : at, asked: far && answer === "last" };
+}
+
+function isNear(at) {
+  return Math.abs(at - meantNow()) <= FAR;
+}
+
+async function nearTheClock(at) {
+  const off = at - meantNow();
+  if (isNear(at)) return true;
+  const answer = await ask("The moment is far from the clock", [
+    `The moment of this command is ${wholeTime(at)}.`,
+    `That is ${span(off)} ${off < 0 ? "before" : "after"} this desk's clock, ${wholeTime(meantNow())}.`,
+    "The register takes it as it is, and takes nothing earlier for this clearance afterwards.",
+  ], [["yes", "Give it with this moment"], [null, "Do not give it"]]);
+  return answer === "yes";
+}
+
+async function momentFor(command) {
+  const stated = await statedMoment();
+  if (stated === null) return null;
+  const found = await notBeforeLast(command, stated);
+  if (!found) return null;
+  if (!found.asked && !(await nearTheClock(found.at))) return null;
+  return found.at;
+}
+
+function noteUnsent(command, text) {
+  addReply({ kind: "unsent", at: now(), said: saidOf(command), clearance: command.clearance, lines: plainLines(text) });
+}
+
+// What was known before the command, for the case that its reply is lost.
+function before(command) {
+  const view = command.clearance ? viewOf(command.clearance) : null;
+  const ids = new Set([...room.closed.keys(), ...room.board.map((row) => row.id)]);
+  return { view: view ? JSON.stringify(view) : null, ids, had: network.points.has(command.point) };
+}
+
+// Gives the command; the answer is whether it was accepted, with the clearance's name.
+export async function give(parts) {
+  const command = { by: caller, ...parts };
+  if (sending) {
+    if (Date.now() - since > DOUBLE) noteUnsent(command, "Another command still waits for its reply. Look at the replies, and give this one when that is over.");
+    return { accepted: false };
+  }
+  noteSending(true);
+  try {
+    const at = TIMELESS.has(command.do) ? undefined : await momentFor(command);
+    if (at === null) {
+      noteUnsent(command, "You did not let it be sent. The register is as it was.");
+      return { accepted: false };
+    }
+    return await send({ ...command, at });
+  } finally {
+    noteSending(false);
+  }
+}
+
+// The command that is under way is kept in the tab's storage, so that a page that is loaded again meanwhile knows of it.
+function keepPending(pending) {
+  keepIn("sessionStorage", PENDING, pending);
+}
+
+// What was under way when the page was loaded again: its reply is lost.
+export async function takeUpPending() {
+  const pending = readKept("sessionStorage", PENDING);
+  if (!pending) return;
+  const { command, view, ids, had } = pending;
+  noteSending(true);
+  try {
+    await lost(command, "the page was loaded again before it", { view, ids: new Set(ids), had }, () => giveAgain(command, give));
+  } finally {
+    keepPending(null);
+    noteSending(false);
+  }
+}
+
+async function send(command) {
+  const known = before(command);
+  keepPending({ command, view: known.view, ids: [...known.ids], had: known.had });
+  try {
+    return await sendKnowing(command, known);
+  } finally {
+    keepPending(null);
+  }
+}
+
+async function sendKnowing(command, known) {
+  const answer = await postCommand(command);
+  if (answer.kind === "lost") {
+    noteTest(command, false);
+    await lost(command, answer.why, known, () => giveAgain(command, give));
+    return { accepted: false };
+  }
+  addReply(replyOf(command, answer, now()));
+  if (momentField) momentField.value = "";
+  const accepted = ["accepted", "added"].includes(answer.body?.reply);
+  if (accepted && command.do === "instruct") noteGiven({ ...command, round: answer.body.card.round }, isNear(command.at));
+  if (accepted) {
+    noteTest(command, true);
+    dropDraftOf(command);
+  }
+  const id = answer.body?.card?.clearance ?? command.clearance;
+  if (id) await asOwn(() => lookAt(id));
+  asOwn(lookNow);
+  return { accepted, id };
+}

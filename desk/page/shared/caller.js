@@ -1,0 +1,58 @@
+// Who speaks: the name that is chosen at the top. Offered are all names, or those that this login may use.
+
+import { journal } from "../log/journal.js";
+import { el } from "./elements.js";
+import { namesOfRole } from "./network.js";
+import { ownLogin } from "./served-files.js";
+import { keepIn, readKept } from "./storage.js";
+import { room } from "./watch.js";
+
+const KEPT = "gridclear-caller"; // the name that this tab speaks in, over a reload
+const ROLES = [["operator", "Operators"], ["charge", "May be in charge"], ["field", "Field"]];
+
+const at = (id) => document.getElementById(id);
+let own = { login: "", names: null };
+
+export async function readLogin() {
+  own = await ownLogin();
+  at("believed").textContent = own.names ? `${own.login || "Without a login nobody"} may use these names.` : "The register believes this name.";
+}
+
+export function keptName() {
+  return readKept("sessionStorage", KEPT) ?? "";
+}
+
+export function mayUse(name) {
+  return own.names === null || own.names.has(name);
+}
+
+// The names to choose from; one that is chosen stays.
+export function listCallers(staff) {
+  const chosen = at("caller").value;
+  const group = ([role, label]) => {
+    const names = namesOfRole(staff, role).filter(mayUse);
+    return names.length ? el("optgroup", { label }, names.map((name) => el("option", { value: name }, name))) : null;
+  };
+  at("caller").replaceChildren(el("option", { value: "" }, "choose your name"), ...ROLES.map(group).filter(Boolean));
+  at("caller").value = staff.has(chosen) && mayUse(chosen) ? chosen : "";
+}
+
+function roleWords({ role, supervisor }) {
+  return `${role === "charge" ? "may be in charge" : role}${supervisor ? `, supervisor ${supervisor}` : ""}`;
+}
+
+// Shows who speaks now, or that nobody does.
+export function showCaller(row) {
+  at("caller").value = row?.name ?? "";
+  at("role").textContent = row ? roleWords(row) : "";
+  keepIn("sessionStorage", KEPT, row?.name ?? null);
+  drawNameless(row);
+}
+
+// Without a name, or in one that this login may not use, no clearance is read, and so no alarm.
+export function drawNameless(row) {
+  const node = at("nameless");
+  node.hidden = Boolean(row) && room.barred !== row.name;
+  const alarms = journal.state === "read" ? "the alarms of the log, and its own" : "no alarms but its own";
+  node.textContent = row ? `⚠ Your login may not speak as ${row.name}: choose another name.` : `⚠ No name is chosen: this desk shows ${alarms}.`;
+}

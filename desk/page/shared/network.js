@@ -1,0 +1,65 @@
+// The network and the staff as the register has them: sections, points with their positions, hands and holds, and who
+// works here. It is asked for at the start and whenever the board has changed, and kept in the same maps all the time,
+// since a jumper may come.
+
+import { normalPositions } from "./served-files.js";
+
+export const network = {
+  sections: new Map(), // name: { name, source, live, holds }
+  points: new Map(),   // name: { name, from, to, lockable, remote, jumper, position, hand, holds, normal, first }
+  staff: new Map(),    // name: { name, role, supervisor }
+  ways: new Map(),     // section: the points with an end there
+  shape: "",           // what the diagram is drawn from: it is drawn again where this has changed
+};
+
+function refill(map, rows) {
+  map.clear();
+  for (const row of rows) map.set(row.name, row);
+}
+
+const KINDS = ["HeldOpen", "Block", "Control", "Tag"]; // of holds at a point, as they are put there
+
+function inOrder(holds) {
+  return [...holds].sort((a, b) => KINDS.indexOf(a.kind) - KINDS.indexOf(b.kind));
+}
+
+function sectionOf({ section: name, source, live, holds }) {
+  return { name, source, live, holds };
+}
+
+// Normal positions come from the points file, where it is there: the register keeps none. `first` is what this page saw
+// first: by it the diagram lies as it did when another position comes.
+function pointOf({ point: name, from, to, lockable, remote, jumper, position, hand, holds }, normal) {
+  const first = network.points.get(name)?.first ?? position;
+  return { name, from, to, lockable, remote, jumper, position, hand, holds: inOrder(holds), first, normal: normal.get(name) ?? null };
+}
+
+function fillWays() {
+  network.ways.clear();
+  for (const name of network.sections.keys()) network.ways.set(name, []);
+  for (const point of network.points.values()) for (const end of [point.from, point.to]) network.ways.get(end)?.push(point);
+}
+
+// Takes what the register has answered.
+export async function takeNetwork({ sections, points, staff }) {
+  const normal = await normalPositions();
+  refill(network.sections, sections.map(sectionOf));
+  refill(network.points, points.map((row) => pointOf(row, normal)));
+  refill(network.staff, staff.map(({ employee: name, role, supervisor }) => ({ name, role, supervisor })));
+  fillWays();
+  network.shape = [...network.sections.keys(), "|", ...network.points.keys()].join(" ");
+}
+
+export function marksOf(point) {
+  return [point.lockable ? "lockable" : null, point.remote ? "remote" : null, point.jumper ? "jumper" : null].filter(Boolean).join(", ") || "none";
+}
+
+export function namesOfRole(staff, role) {
+  return [...staff.values()].filter((row) => row.role === role).map((row) => row.name);
+}
+
+// A step as it is said, at a point of this network that is not this one.
+export function exampleStep(network, name) {
+  const other = [...network.points.keys()].find((point) => point !== name);
+  return other ? `OPEN ${other}` : "it was read out";
+}

@@ -1,0 +1,123 @@
+// Speaking to the register: one request at a time, in turn, each once. What comes back is one of
+//   { kind: "answered", status, body }   the register has answered; body is its JSON, or text
+//   { kind: "barred", status }           the proxy did not pass it on
+//   { kind: "lost", why }                nobody knows: no answer, or a proxy's word that there was none
+
+import { noteDate } from "./clocks.js";
+import { now, shortTime } from "./moments.js";
+
+const FRESH = 6000;     // milliseconds for which an answer shows that the register answers
+const PATIENCE = 15000; // the proxy gives up after 10 seconds, and says so
+
+// When the register last answered, and when it first did not since then; null: it answers. Trouble is what it, or the
+// proxy, answers in place of what was asked.
+export const contact = { answered: null, silentSince: null, why: "", trouble: "" };
+
+let last = Promise.resolve();
+let begun = moments(); // when it last answered, or when the page began, by two clocks
+const listeners = [];
+
+export function onContact(listener) {
+  listeners.push(listener);
+}
+
+// One clock may stop while the machine sleeps, and the other may be set.
+function moments() {
+  return [performance.now(), Date.now()];
+}
+
+// Whether an answer came just now; a page that nobody sees asks less often.
+export function isFresh() {
+  return document.hidden || moments().every((moment, clock) => moment - begun[clock] < FRESH);
+}
+
+function noteAnswer(answer) {
+  if (answer.kind === "lost") {
+    contact.silentSince = contact.silentSince ?? now();
+    contact.why = answer.why;
+  } else {
+    if (answer.kind === "answered") {
+      contact.answered = now();
+      begun = moments();
+    }
+    contact.silentSince = null;
+    contact.trouble = troubleIn(answer);
+  }
+  for (const listener of listeners) listener();
+}
+
+function troubleIn(answer) {
+  const last = contact.answered ? ` Its last answer came at ${shortTime(contact.answered)}.` : "";
+  if (answer.kind === "barred") return `The proxy lets nothing through: status ${answer.status}.${last}`;
+  if (answer.body?.fault === "Foreign") return `The register takes what the proxy passes on for another page's (Foreign): the proxy is not that of this desk.${last}`;
+  if (answer.status === 503) return "The register answers, but its database or memory refuses (503). Is its disk full?";
+  return "";
+}
+
+function parsed(text, type) {
+  if (!type.includes("json")) return text;
+  try {
+    return JSON.parse(text);
+  } catch {
+    return undefined;
+  }
+}
+
+// Where the body is none of the register's, the proxy has answered in its place.
+function judged(status, type, text) {
+  const body = parsed(text, type);
+  const printed = status === 200 && type.includes("text/plain");
+  if (printed || body?.reply || body?.fault || body?.sections) return { kind: "answered", status, body };
+  if (status >= 400 && status < 500) return { kind: "barred", status };
+  return { kind: "lost", why: `the proxy said ${status}${text.includes("<title>") ? titleOf(text) : ""}` };
+}
+
+function titleOf(text) {
+  return `, ${/<title>\d* ?([^<]*)<\/title>/.exec(text)?.[1] ?? ""}`;
+}
+
+async function once(method, path, body) {
+  const signal = AbortSignal.timeout(PATIENCE);
+  const headers = body === undefined ? {} : { "Content-Type": "application/json" };
+  try {
+    const answer = await fetch(path, { method, body, headers, signal, cache: "no-store" });
+    noteDate(answer.headers.get("Date"));
+    return judged(answer.status, answer.headers.get("Content-Type") ?? "", await answer.text());
+  } catch (fault) {
+    const why = fault.name === "TimeoutError" ? `no answer within ${PATIENCE / 1000} seconds` : "nothing answers at this address";
+    return { kind: "lost", why };
+  }
+}
+
+function inTurn(method, path, body) {
+  const turn = last.then(() => once(method, path, body));
+  last = turn;
+  return turn.then((answer) => {
+    noteAnswer(answer);
+    return answer;
+  });
+}
+
+export function getBoard() {
+  return inTurn("GET", "board");
+}
+
+export function getNetwork() {
+  return inTurn("GET", "network");
+}
+
+export function getView(caller, clearance) {
+  return inTurn("GET", `clearance/${caller}/${clearance}`);
+}
+
+export function getOrder(clearance, round) {
+  return inTurn("GET", `order/${clearance}/${round}`);
+}
+
+export function getWayBack(clearance) {
+  return inTurn("GET", `wayback/${clearance}`);
+}
+
+export function postCommand(command) {
+  return inTurn("POST", "command", JSON.stringify(command));
+}
