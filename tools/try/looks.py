@@ -32,6 +32,8 @@ def same(title, found, wanted):
 
 def main(*parts):
     """Carries out the looks, each in a new folder. The last line says that all were made."""
+    if "GRIDCLEAR" not in os.environ and subprocess.run([GRIDCLEAR, "--there"], check=False).returncode:
+        sys.exit("the program of these sources has to be proved first: set GRIDCLEAR to another, or run tools/gridclear --prove --help")
     for part in parts:
         with tempfile.TemporaryDirectory(prefix="look-") as folder:
             part(pathlib.Path(folder))
