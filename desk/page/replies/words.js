@@ -1,42 +1,6 @@
-// Each refusal, fault and status in words: what it means, and what to do.
+import { REFUSALS } from "./refusals.js";
 
-const REFUSALS = {
-  UNKNOWN_CALLER: ["The caller is not in the staff.", "Use a name of the staff list; the list is fixed when the register is made."],
-  WRONG_ROLE: ["The caller's role is not the one that this command asks for.", "Let one of that role give it."],
-  UNKNOWN_SECTION: ["The network has no such section.", "Look at the section's name."],
-  TOO_MANY_CLEARANCES: ["The caller has used all numbers up to 9,999.", "Let another employee ask, and transfer it if need be; numbers are never used again."],
-  UNKNOWN_CLEARANCE: ["The register has no clearance or switch order of this name.", "Look at the name; a refused request made none."],
-  NOT_HOLDER: ["The caller is not the present holder.", "Let the holder give it, or have the clearance transferred first; in an emergency the holder's supervisor may transfer it."],
-  EARLIER: ["The moment of the command is before the last moment of the record.", "Give it again with a moment that is not before the last; an equal one is accepted."],
-  WRONG_PHASE: ["The clearance is not in a phase in which this may be given.", "Look at its phase, and give the command that comes before."],
-  EMPTY_ORDER: ["The order has no points, or no steps.", "Name at least one. A section that no point joins to others can have no order."],
-  LONG_ORDER: ["There are more than 64 points, or more than 256 steps.", "Order a smaller part, or split a switch order."],
-  POINT_TWICE: ["A point is given twice among the points of the order.", "Name it once."],
-  SOURCE_INSIDE: ["A source can be reached from the work section without passing a point of the order.", "Add a point on each way to that source; an open point is a way in, too. A work section that is itself a source can have no order: cancel the request."],
-  NOT_ON_FENCE: ["A point of the order is unknown, or has both ends or none inside the fence.", "Look at its name; or leave it out; or, where it lies inside, cut the way round it too."],
-  STEPS_WRONG: ["The steps at this point are not exactly the ones that are needed there, or it is no point of the order.", "Isolating: OPEN, BLOCK if lockable, CONTROL if remote, TAG. Restoring: UNTAG, UNCONTROL, UNBLOCK for what is held there, then CLOSE or LEAVE. Switching: OPEN and CLOSE alone."],
-  UNKNOWN_POINT: ["The network has no such point.", "Look at the point's name."],
-  NO_STEP: ["The present round has no step of this number.", "Look at the steps; they count from 1."],
-  OUT_OF_TURN: ["An earlier step of the round is not done.", "Run the earlier steps first."],
-  STEP_STATE: ["The step is not in the state that the command needs.", "Look at the steps' states. A step is given out while it waits, repeated when it was given out, reported when it was repeated; only a CLOSE that waits is amended. Before a cancel let a step that is out be repeated, and reported as done or not."],
-  IN_HAND: ["Another clearance has the point in hand: its step there is given out.", "Wait for its report."],
-  HELD: ["The point is to be closed, and a hold is there.", "Wait until that clearance's holds there are off; or amend the CLOSE of a restoring order to a LEAVE; or cancel the switch order."],
-  REPEAT_DIFFERS: ["The text is not the step's.", "The operator reads the step out again; then repeat it."],
-  WRONG_REPORTER: ["The caller is not the one who repeated the step last.", "Let the reader report, or repeat the step first: then the new reader reports."],
-  STEPS_LEFT: ["A step of round 1 is not done.", "Run the steps that are left."],
-  OUTSIDE_FENCE: ["The section is not in the fence of the clearance, or is unknown.", "Look at the fence; work elsewhere needs its own clearance."],
-  NOT_TESTED: ["This clearance has not tested the section and found it dead.", "Test it. Another's test does not serve."],
-  GROUNDED: ["This clearance's ground is on.", "For a ground there is nothing to do; before a release take the grounds off."],
-  NOT_GROUNDED: ["This clearance has no ground there, or none at its work section.", "Look at the section; or ground the work section first."],
-  CREWS_ON: ["A crew is signed on.", "Sign the crews off first, when they have left."],
-  CREW_STATE: ["The crew is on already, or is not on.", "Look at the crews."],
-  BAD_TRANSFER: ["The named employee is not in the staff, may not be in charge, or is the holder.", "Name another of the role charge."],
-  NOT_ATTESTED: ["It was not attested that all employees are notified and clear.", "Notify all employees, see that all are clear, and say so."],
-  POINT_EXISTS: ["The network has a point of this name.", "Give the jumper another name."],
-  CROSSES_FENCE: ["The jumper would have exactly one end in the fence of a clearance that is not closed: it would be a way in.", "Lay it when that clearance is closed, or between two sections of its fence."],
-  NETWORK_FULL: ["There would be more than 10,000 points or 5,000 sections.", "Nothing is ever taken out: a larger network is a new register."],
-  SAME_ENDS: ["Both ends are one section.", "Name two sections."],
-};
+// Each fault and status in words: what it means, and what to do.
 
 const FAULTS = {
   NotJson: ["The register could not read the command.", "This is a fault of the page: look at the clearance, and report it to whoever keeps this desk."],
