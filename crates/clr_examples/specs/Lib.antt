@@ -14,4 +14,5 @@ pub mod Refusals
 pub mod Runs
 pub mod Sequence
 pub mod Sight
+pub mod Twice
 pub mod WayBack

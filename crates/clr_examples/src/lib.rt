@@ -16,4 +16,5 @@ pub mod refusals;
 pub mod runs;
 pub mod sequence;
 pub mod sight;
+pub mod twice;
 pub mod way_back;
