@@ -4,12 +4,13 @@ import { BoardPage } from "./board/board-page.js";
 import { ShiftPage } from "./board/hand-over.js";
 import { MinePage } from "./board/records-of-name.js";
 import { ClearancePage } from "./clearances/clearance-page.js";
-import { watchGiven } from "./clearances/given-here.js";
 import { presentStep } from "./clearances/offers.js";
 import { startSeveral } from "./clearances/several-names.js";
+import { watchGiven } from "./clearances/steps-given-out.js";
 import { Diagram, MOST_DRAWN } from "./diagram/diagram.js";
 import { NetList } from "./diagram/network-list.js";
 import { PointsPage } from "./diagram/points-page.js";
+import { noteLacking } from "./log/board-lacks.js";
 import { journal, newest } from "./log/journal.js";
 import { LogPage } from "./log/log-page.js";
 import { learn } from "./orders/findings-shown.js";
@@ -19,6 +20,7 @@ import { noteBefore } from "./orders/position-before.js";
 import { RequestForm } from "./orders/request.js";
 import { SwitchEditor } from "./orders/switch-order.js";
 import { give, isSending, onSending, setCaller, takeUpPending } from "./replies/commands.js";
+import { lookUpOpen, recallRefused } from "./replies/not-known.js";
 import { showReplies } from "./replies/replies.js";
 import { drawNameless, keptName, listCallers, mayUse, readLogin, showCaller } from "./shared/caller.js";
 import { tidyDrafts } from "./shared/drafts.js";
@@ -30,6 +32,7 @@ import { namesOfRole, network } from "./shared/network.js";
 import { pointStates } from "./shared/point-states.js";
 import { guardPresses } from "./shared/press-guard.js";
 import { onContact } from "./shared/register.js";
+import { namePage } from "./shared/tab-title.js";
 import { drawAlarms, drawContact, startTop } from "./shared/top.js";
 import { fromAfar, keepStill } from "./shared/waiting-lists.js";
 import { onRoom, room, startWatch, viewOf, watchAs } from "./shared/watch.js";
@@ -97,7 +100,7 @@ function turn(focus = true) {
   }
   at("main").replaceChildren(page.node);
   placeDiagram();
-  document.title = `${page.title} · gridclear desk`;
+  namePage(page.title);
   for (const link of document.querySelectorAll("nav a")) {
     if (link.hash === (location.hash || "#/board")) link.setAttribute("aria-current", "page");
     else link.removeAttribute("aria-current");
@@ -203,9 +206,11 @@ let logged = 0;
 async function followLog() {
   if (logged === room.turns) return;
   logged = room.turns;
+  noteLacking();
   const before = journal.entries;
   await newest();
   if (journal.entries !== before) fromAfar(update);
+  lookUpOpen();
 }
 
 // Until the register has said what there is, nothing can be shown.
@@ -223,6 +228,7 @@ async function start() {
   keepStill();
   recallAlarms();
   showReplies(at("replies"));
+  recallRefused();
   onContact(drawContact);
   startTop();
   startMoment();

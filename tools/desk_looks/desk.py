@@ -2,7 +2,9 @@
 
 import json
 import os
+import resource
 import shutil
+import signal
 import sqlite3
 import subprocess
 import tempfile
@@ -13,6 +15,7 @@ TOP = os.path.dirname(os.path.dirname(os.path.dirname(os.path.realpath(__file__)
 GRIDCLEAR = os.environ.get("GRIDCLEAR", os.path.join(TOP, "tools", "gridclear"))
 DESK = os.environ.get("DESK", os.path.join(TOP, "tools", "desk"))
 FILES = ("sections.csv", "points.csv", "staff.csv")
+ROOM = 32768  # bytes, of a file on a disk that is full: a journal has room yet, and a database's log no longer
 EXAMPLES = [os.path.join(TOP, "examples", name) for name in FILES]
 
 
@@ -32,7 +35,8 @@ class Desk:
         self.starts += 1
         environment = dict(os.environ, GRIDCLEAR=GRIDCLEAR, DESK_FOLDER=self.run_folder())
         words = [DESK, "--points", self.files[1], *self.options, self.base, *map(str, self.ports)]
-        self.process = subprocess.Popen(words, env=environment, stdout=subprocess.DEVNULL, stderr=subprocess.DEVNULL)
+        self.process = subprocess.Popen(words, env=environment, stdout=subprocess.DEVNULL, stderr=subprocess.DEVNULL,
+                                        preexec_fn=lambda: signal.signal(signal.SIGXFSZ, signal.SIG_IGN))
         wait_until(lambda: self.answers(status), "the desk's board")
 
     def run_folder(self):
@@ -51,6 +55,19 @@ class Desk:
     def register(self):
         with open(os.path.join(self.run_folder(), "desk", "run", "register.pid"), encoding="utf-8") as file:
             return int(file.read())
+
+    def fill_disk(self, room=ROOM):
+        """The register may write no file beyond so many bytes, as on a disk that is full."""
+        resource.prlimit(self.register(), resource.RLIMIT_FSIZE, (room, resource.RLIM_INFINITY))
+
+    def free_disk(self):
+        resource.prlimit(self.register(), resource.RLIMIT_FSIZE, (resource.RLIM_INFINITY, resource.RLIM_INFINITY))
+
+    def restart(self):
+        """The register ends, and tools/desk starts it again."""
+        before = self.register()
+        os.kill(before, signal.SIGTERM)
+        wait_until(lambda: self.register() != before and self.answers(200), "the register again")
 
     def stop(self):
         if self.process and self.process.poll() is None:

@@ -25,13 +25,13 @@ class Hand:
         self.browser.go("about:blank")
         self.browser.go(f"{self.desk.address}#/{page}")
         wait_until(lambda: self.browser.script("return document.body.dataset.ready === 'yes'"), "the page")
-        self.number = 0
+        self.number = self.newest()[0]
 
     def reload(self):
         """The page, loaded again."""
         self.browser.own("POST", "/refresh", {})
         wait_until(lambda: self.browser.script("return document.body.dataset.ready === 'yes'"), "the page again")
-        self.number = 0
+        self.number = self.newest()[0]
 
     def speak(self, name):
         self.browser.click(f'#caller option[value="{name}"]')
@@ -113,6 +113,16 @@ class Hand:
         """The reply that was lost now says what the page found."""
         wait_until(lambda: self.newest()[1] == "found", "what was found after a lost reply")
         self.same_reply("found", *texts)
+
+    def title(self):
+        return self.browser.script("return document.title")
+
+    def tab_says(self, text):
+        """The title of the tab begins with an alarm that says this."""
+        wait_until(lambda: self.title().startswith("⚠ ") and text in self.title(), f"the tab's title to say {text}")
+
+    def tab_is_quiet(self):
+        wait_until(lambda: "⚠" not in self.title(), "a title of the tab without an alarm")
 
     def shows(self, text, css="main"):
         look = "const node = document.querySelector(arguments[0]); return node?.innerText ?? node?.textContent ?? ''"

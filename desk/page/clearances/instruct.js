@@ -5,8 +5,8 @@ import { livingFindings, mayGo } from "../orders/findings-shown.js";
 import { findingsAt } from "../orders/findings.js";
 import { el, button } from "../shared/elements.js";
 import { boardLine } from "../shared/watch.js";
-import { gaveHere, noteGiven } from "./given-here.js";
 import { presentStep } from "./offers.js";
+import { gaveHere, noteGiven } from "./steps-given-out.js";
 
 function findingsOf(desk, view, step) {
   const [action, name] = step.text.split(" ");

@@ -3,6 +3,7 @@
 import { drafted, draftName } from "../shared/drafts.js";
 import { el, button, field, panel, table } from "../shared/elements.js";
 import { wholeTime } from "../shared/moments.js";
+import { isLackedByBoard } from "./board-lacks.js";
 import { earlier, isWhole, journal, newest } from "./journal.js";
 import { employeesIn, lateWords, logRows, pointsIn, replyWords, whoWords } from "./log-words.js";
 
@@ -17,7 +18,7 @@ const STATES = {
 
 function logRow(row) {
   const { entry, id } = row, late = lateWords(entry);
-  return el("tr", { class: row.done ? null : "undone", "data-number": entry.number }, el("td", { class: "number" }, String(entry.number)),
+  return el("tr", { class: isLackedByBoard(entry) ? "lacking" : row.done ? null : "undone", "data-number": entry.number }, el("td", { class: "number" }, String(entry.number)),
     el("td", { class: "moment" }, wholeTime(row.at), late ? el("p", { class: "hint" }, late) : null),
     el("td", {}, id ? el("a", { href: `#/clearance/${id}` }, id) : "–"), el("td", {}, whoWords(entry)),
     el("td", {}, row.what), el("td", {}, replyWords(entry)));
@@ -61,7 +62,7 @@ export class LogPage {
     }
     const found = logRows().filter((row) => this.#fits(row)).reverse(), shown = found.slice(0, MOST_LISTED);
     this.#count.textContent = `${shown.length} of ${found.length} entries found, the newest first. ${isWhole() ? "The whole journal was read." : "Earlier entries of the journal were not read yet."}`;
-    panel(this.#rows, [shown.map(({ entry }) => [entry.number, entry.withdrawn]), journal.begin], () =>
+    panel(this.#rows, [shown.map(({ entry }) => [entry.number, replyWords(entry)]), journal.begin], () =>
       table(["No", "Moment", "Clearance", "Who", "What", "Reply"], shown.map(logRow), { class: "wide log" }));
   }
 }

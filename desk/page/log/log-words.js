@@ -2,6 +2,7 @@
 
 import { SAID } from "../replies/words.js";
 import { shortTime, span } from "../shared/moments.js";
+import { isLackedByBoard } from "./board-lacks.js";
 import { journal } from "./journal.js";
 
 const LATE = 60; // seconds from the stated moment to that of the machine that are said
@@ -64,8 +65,15 @@ export function whoWords({ command, login }) {
   return login && login !== command.by ? `${command.by} (login ${login})` : command.by;
 }
 
-export function replyWords({ reply, withdrawn }) {
+// An accepted entry that the board lacks is not carried out yet.
+export function lackingWords(entry) {
+  return isLackedByBoard(entry) ? "the board lacks it: it is carried out when the register is started again" : "";
+}
+
+export function replyWords(entry) {
+  const { reply, withdrawn } = entry;
   if (withdrawn) return "withdrawn: it was not carried out";
+  if (isLackedByBoard(entry)) return `${reply.reply}; ${lackingWords(entry)}`;
   return reply.reply === "refused" ? `refused: ${reply.refusal}` : reply.reply;
 }
 

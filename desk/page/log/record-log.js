@@ -2,13 +2,19 @@
 
 import { el, panel, table } from "../shared/elements.js";
 import { wholeTime } from "../shared/moments.js";
+import { lacking } from "./board-lacks.js";
 import { isWhole, journal, newest } from "./journal.js";
-import { lateWords, storyOf, whoWords } from "./log-words.js";
+import { lackingWords, lateWords, storyOf, whoWords } from "./log-words.js";
+
+// When the machine took it, where that is another moment; and that the board lacks it.
+function furtherWords({ entry }) {
+  const late = lateWords(entry), lacks = lackingWords(entry);
+  return [late ? el("p", { class: "hint" }, late) : null, lacks ? el("p", { class: "bad" }, lacks) : null];
+}
 
 function cell(row, head) {
   if (!row) return el("td", { "data-head": head }, "–");
-  const late = lateWords(row.entry);
-  return el("td", { "data-head": head }, whoWords(row.entry), el("p", { class: "hint" }, wholeTime(row.at)), late ? el("p", { class: "hint" }, late) : null);
+  return el("td", { "data-head": head }, whoWords(row.entry), el("p", { class: "hint" }, wholeTime(row.at)), furtherWords(row));
 }
 
 function stepRow({ round, number, text, given, repeated, reported }) {
@@ -16,8 +22,7 @@ function stepRow({ round, number, text, given, repeated, reported }) {
 }
 
 function otherRow(row) {
-  const late = lateWords(row.entry);
-  return el("tr", {}, el("td", { class: "moment" }, wholeTime(row.at)), el("td", {}, whoWords(row.entry)), el("td", {}, row.what, late ? el("p", { class: "hint" }, late) : null));
+  return el("tr", {}, el("td", { class: "moment" }, wholeTime(row.at)), el("td", {}, whoWords(row.entry)), el("td", {}, row.what, furtherWords(row)));
 }
 
 const NOT_WHOLE = "Only the newest part of the journal is read: earlier entries are missing here. The page Log reads them.";
@@ -46,6 +51,6 @@ export class Story {
   }
 
   draw() {
-    panel(this.node, [journal.state, journal.begin, journal.end], () => drawn(this.#id));
+    panel(this.node, [journal.state, journal.begin, journal.end, lacking.entry?.number], () => drawn(this.#id));
   }
 }

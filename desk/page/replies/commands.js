@@ -1,19 +1,18 @@
 // Giving a command: its moment is looked at, it is sent once, and its reply goes to the replies.
 
-import { noteGiven } from "../clearances/given-here.js";
-import { clockIsMeant, meantNow } from "../shared/clocks.js";
+import { noteGiven } from "../clearances/steps-given-out.js";
+import { clockIsMeant, isNear, meantNow } from "../shared/clocks.js";
 import { dropDraftOf } from "../shared/drafts.js";
 import { noteTest } from "../shared/live-alarms.js";
-import { now, secondsOfField, shortTime, span, wholeTime } from "../shared/moments.js";
-import { network } from "../shared/network.js";
+import { secondsOfField, shortTime, span, wholeTime } from "../shared/moments.js";
 import { ask } from "../shared/question.js";
 import { postCommand } from "../shared/register.js";
 import { keepIn, readKept } from "../shared/storage.js";
 import { asOwn } from "../shared/waiting-lists.js";
-import { boardLine, lookAt, lookNow, room, viewOf } from "../shared/watch.js";
+import { boardLine, lookAt, lookNow } from "../shared/watch.js";
 import { giveAgain } from "./give-again.js";
-import { lost } from "./lost-reply.js";
-import { addReply, plainLines, replyOf } from "./replies.js";
+import { addLost, addRefused, knownBefore, lookUp } from "./not-known.js";
+import { addReply, changeReply, onReplyAct, plainLines, repliesOf, replyOf } from "./replies.js";
 import { saidOf } from "./words.js";
 
 const FAR = 120;     // seconds off the clock that are asked about
@@ -74,10 +73,6 @@ async function notBeforeLast(command, at) {
   return answer === null ? null : { at: answer === "last" ? last : at, asked: far && answer === "last" };
 }
 
-function isNear(at) {
-  return Math.abs(at - meantNow()) <= FAR;
-}
-
 async function nearTheClock(at) {
   const off = at - meantNow();
   if (isNear(at)) return true;
@@ -99,14 +94,7 @@ async function momentFor(command) {
 }
 
 function noteUnsent(command, text) {
-  addReply({ kind: "unsent", at: now(), said: saidOf(command), clearance: command.clearance, lines: plainLines(text) });
-}
-
-// What was known before the command, for the case that its reply is lost.
-function before(command) {
-  const view = command.clearance ? viewOf(command.clearance) : null;
-  const ids = new Set([...room.closed.keys(), ...room.board.map((row) => row.id)]);
-  return { view: view ? JSON.stringify(view) : null, ids, had: network.points.has(command.point) };
+  addReply({ kind: "unsent", said: saidOf(command), clearance: command.clearance, lines: plainLines(text) });
 }
 
 // Gives the command; the answer is whether it was accepted, with the clearance's name.
@@ -129,52 +117,59 @@ export async function give(parts) {
   }
 }
 
+// What is given again is a command of its own: the first is not looked for any more.
+onReplyAct("again", "Give it again", (reply) => {
+  changeReply(reply, { kind: "found" });
+  giveAgain(reply.asked.command, give);
+});
+
 // The command that is under way is kept in the tab's storage, so that a page that is loaded again meanwhile knows of it.
 function keepPending(pending) {
   keepIn("sessionStorage", PENDING, pending);
 }
 
-// What was under way when the page was loaded again: its reply is lost.
+// What was under way when the page was loaded again: its reply is lost, or was lost before that.
 export async function takeUpPending() {
   const pending = readKept("sessionStorage", PENDING);
-  if (!pending) return;
-  const { command, view, ids, had } = pending;
+  if (pending) addLost(pending.command, "the page was loaded again before it", pending.known);
+  keepPending(null);
+  if (!repliesOf("lost").length) return;
   noteSending(true);
   try {
-    await lost(command, "the page was loaded again before it", { view, ids: new Set(ids), had }, () => giveAgain(command, give));
+    for (const reply of repliesOf("lost").reverse()) await lookUp(reply);
   } finally {
-    keepPending(null);
     noteSending(false);
   }
 }
 
 async function send(command) {
-  const known = before(command);
-  keepPending({ command, view: known.view, ids: [...known.ids], had: known.had });
-  try {
-    return await sendKnowing(command, known);
-  } finally {
-    keepPending(null);
-  }
+  const known = knownBefore(command);
+  keepPending({ command, known });
+  const answer = await postCommand(command), isKnown = answer.kind !== "lost" && answer.status !== 503;
+  const reply = isKnown ? addReply(replyOf(command, answer)) : noteUnknown(command, answer, known);
+  keepPending(null);
+  if (isKnown) return noteKnown(command, answer.body ?? {});
+  await lookUp(reply);
+  return { accepted: false };
 }
 
-async function sendKnowing(command, known) {
-  const answer = await postCommand(command);
-  if (answer.kind === "lost") {
-    noteTest(command, false);
-    await lost(command, answer.why, known, () => giveAgain(command, give));
-    return { accepted: false };
-  }
-  addReply(replyOf(command, answer, now()));
+function noteUnknown(command, { kind, why }, known) {
+  noteTest(command, false);
+  return kind === "lost" ? addLost(command, why, known) : addRefused(command, known);
+}
+
+async function noteKnown(command, body) {
   if (momentField) momentField.value = "";
-  const accepted = ["accepted", "added"].includes(answer.body?.reply);
-  if (accepted && command.do === "instruct") noteGiven({ ...command, round: answer.body.card.round }, isNear(command.at));
-  if (accepted) {
-    noteTest(command, true);
-    dropDraftOf(command);
-  }
-  const id = answer.body?.card?.clearance ?? command.clearance;
+  const accepted = ["accepted", "added"].includes(body.reply);
+  if (accepted) noteAccepted(command, body.card);
+  const id = body.card?.clearance ?? command.clearance;
   if (id) await asOwn(() => lookAt(id));
   asOwn(lookNow);
   return { accepted, id };
+}
+
+function noteAccepted(command, card) {
+  if (command.do === "instruct") noteGiven({ ...command, round: card.round }, isNear(command.at));
+  noteTest(command, true);
+  dropDraftOf(command);
 }

@@ -1,6 +1,6 @@
 // What became of a command without a reply: judged by what it does, at the record as it was before and as it is now.
 // Each judgement is { found, text }: found is "yes", "no", "either" where another desk may have given the same, or
-// "unknown" where the register keeps nothing that would show it.
+// "unknown" where the register keeps nothing that would show it. The log, where there is one, has the reply itself.
 
 import { shortTime } from "../shared/moments.js";
 import { stateWord } from "./words.js";
@@ -157,4 +157,27 @@ export function judgeNew(command, made) {
   }
   const text = `New on the board: ${words(own)}.`;
   return own.length === 1 && own[0].row.last === command.at ? yes(`${text} Its moment is that of this command.`) : either(text);
+}
+
+const sortedText = (command) => JSON.stringify(Object.entries(command).filter(([, value]) => value !== undefined).sort(([one], [other]) => (one < other ? -1 : 1)));
+const isAccepted = ({ reply, withdrawn }) => !withdrawn && reply.reply !== "refused";
+
+function entryWords({ number, reply, withdrawn }) {
+  return `Number ${number} ${withdrawn ? "was withdrawn" : reply.reply === "refused" ? `was refused (${reply.refusal})` : "was accepted"}.`;
+}
+
+// What the log has of the same act by others.
+function explains({ command: { clearance, do: what, step } }, own) {
+  return clearance === own.clearance && what === own.do && step === own.step;
+}
+
+// By the log: `entries` are those since the command was sent, and `login` is this desk's, "" without one. `entry` is its
+// line; `sure`: it can be no other desk's; `explains`: the log has the same act of another desk.
+export function judgeLogged(command, entries, login) {
+  const wanted = sortedText(command), own = entries.filter((entry) => (entry.login ?? "") === login && sortedText(entry.command) === wanted);
+  const text = own.map(entryWords).join(" "), accepted = own.filter(isAccepted);
+  if (!own.length) return { ...no("It has no line of this desk's command."), explains: entries.some((entry) => isAccepted(entry) && explains(entry, command)) };
+  if (!accepted.length) return { found: "refused", text };
+  if (own.length > 1) return either(text);
+  return { ...yes(text), entry: own[0], sure: login !== "" };
 }

@@ -1,17 +1,25 @@
-// The last twenty replies, in words, with their moments.
+// The last twenty replies, in words, with their moments. The tab keeps them through a reload, so a reply is plain data: its
+// lines are { class, parts }, a part is a text or { strong }, and what may be done about it is named.
 
 import { el, button, panel } from "../shared/elements.js";
-import { shortTime, wholeTime } from "../shared/moments.js";
+import { now, shortTime, wholeTime } from "../shared/moments.js";
+import { keepIn, readKept } from "../shared/storage.js";
 import { cardWords, faultWords, refusalWords, saidOf, statusWords } from "./words.js";
 
-const KEPT = 20;
-const replies = [];
+const STORED = "gridclear-replies", MOST = 20;
+const replies = readKept("sessionStorage", STORED) ?? [];
+const acts = new Map(); // name: { text, does }
 let node = null;
-let count = 0;
+let count = replies[0]?.number ?? 0;
 
 export function showReplies(where) {
   node = where;
   draw();
+}
+
+// What is done about a reply: `does` gets it.
+export function onReplyAct(name, text, does) {
+  acts.set(name, { text, does });
 }
 
 // What a reply is called, beside its colour and its sign.
@@ -20,7 +28,8 @@ const HEADS = {
   refused: ["✗", "Refused"],
   fault: ["✗", "Not carried out"],
   lost: ["?", "Reply lost"],
-  found: ["?", "Reply lost, then looked up"],
+  open: ["?", "Not known"],
+  found: ["?", "Not known, then looked up"],
   unsent: ["–", "Not sent"],
 };
 
@@ -28,17 +37,34 @@ function linkTo(id) {
   return el("a", { href: `#/clearance/${id}` }, id);
 }
 
+export function line(...parts) {
+  return { parts };
+}
+
+export function plainLines(...texts) {
+  return texts.map((text) => line(text));
+}
+
 function refusedLines({ name, named, means, todo }) {
   return [
-    el("p", { class: "refusal" }, el("strong", {}, name), named ? ` — ${named}` : ""),
-    el("p", {}, means),
-    el("p", {}, el("strong", {}, "What to do: "), todo),
+    { class: "refusal", parts: [{ strong: name }, named ? ` — ${named}` : ""] },
+    line(means),
+    line({ strong: "What to do: " }, todo),
   ];
 }
 
+function drawnLine({ class: kind, parts }) {
+  return el("p", { class: kind }, parts.map((part) => (part.strong ? el("strong", {}, part.strong) : part)));
+}
+
+function act(reply, name) {
+  changeReply(reply, { actions: [] });
+  acts.get(name).does(reply);
+}
+
 function actionsOf(reply) {
-  return el("div", { class: "answers" }, (reply.actions ?? []).map(([text, does]) =>
-    button(text, () => { reply.actions = []; reply.version += 1; draw(); does(); }, { "data-name": `${reply.number} ${text}` })));
+  return el("div", { class: "answers" }, reply.actions.map((name) =>
+    button(acts.get(name).text, () => act(reply, name), { "data-name": `${reply.number} ${acts.get(name).text}` })));
 }
 
 function item(reply) {
@@ -47,7 +73,7 @@ function item(reply) {
     el("h3", {}, el("span", { class: "sign", "aria-hidden": "true" }, sign), ` ${head} `,
       el("time", { title: wholeTime(reply.at) }, shortTime(reply.at))),
     el("p", { class: "said" }, reply.said),
-    reply.lines(),
+    reply.lines.map(drawnLine),
     reply.actions?.length ? actionsOf(reply) : null,
     reply.clearance ? el("p", { class: "where" }, "Show ", linkTo(reply.clearance)) : null);
 }
@@ -58,36 +84,45 @@ function draw() {
     replies.length ? replies.map(item) : [el("li", { class: "none" }, "No replies yet.")]);
 }
 
+function keep() {
+  keepIn("sessionStorage", STORED, replies);
+  draw();
+}
+
+// Of more replies than are kept, those are dropped that have the longest been settled.
+function dropOldest() {
+  const place = replies.findLastIndex(({ kind }) => kind !== "lost" && kind !== "open");
+  replies.splice(place < 0 ? MOST : place, 1);
+}
+
 // Puts a reply on top; gives it back, so that it can be changed when more is known.
 export function addReply(reply) {
-  replies.unshift({ number: ++count, version: 0, ...reply });
-  replies.length = Math.min(replies.length, KEPT);
-  draw();
+  replies.unshift({ number: ++count, version: 0, at: now(), ...reply });
+  if (replies.length > MOST) dropOldest();
+  keep();
   return replies[0];
 }
 
 export function changeReply(reply, changes) {
   Object.assign(reply, changes);
   reply.version += 1;
-  draw();
+  keep();
+}
+
+export function repliesOf(kind) {
+  return replies.filter((reply) => reply.kind === kind);
 }
 
 // What the register answered to a command, or the proxy in its place.
-export function replyOf(command, answer, at) {
+export function replyOf(command, answer) {
   const clearance = answer.body?.card?.clearance ?? command.clearance;
-  const base = { at, said: saidOf(command), clearance };
-  if (answer.kind === "barred") {
-    return { ...base, kind: "fault", lines: () => refusedLines(statusWords(answer.status)) };
-  }
-  const { status, body } = answer;
-  if (body.reply === "accepted") {
-    return { ...base, kind: "accepted", lines: () => [el("p", {}, cardWords(body.card))] };
-  }
-  if (body.reply === "added") return { ...base, kind: "accepted", lines: () => [el("p", {}, `Jumper ${body.point} is in the register, open.`)] };
-  if (body.reply === "refused") return { ...base, kind: "refused", lines: () => refusedLines(refusalWords(body)) };
-  return { ...base, kind: "fault", lines: () => refusedLines(faultWords(status, body)) };
+  return { said: saidOf(command), clearance, ...answered(answer) };
 }
 
-export function plainLines(...texts) {
-  return () => texts.map((text) => el("p", {}, text));
+function answered({ kind, status, body }) {
+  if (kind === "barred") return { kind: "fault", lines: refusedLines(statusWords(status)) };
+  if (body.reply === "accepted") return { kind: "accepted", lines: plainLines(cardWords(body.card)) };
+  if (body.reply === "added") return { kind: "accepted", lines: plainLines(`Jumper ${body.point} is in the register, open.`) };
+  if (body.reply === "refused") return { kind: "refused", lines: refusedLines(refusalWords(body)) };
+  return { kind: "fault", lines: refusedLines(faultWords(status, body)) };
 }

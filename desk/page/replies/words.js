@@ -10,7 +10,7 @@ const FAULTS = {
   UnknownCommand: ["The register does not know this command.", "The page and the register are of different versions: report it to whoever keeps this desk."],
   BadValue: ["A part of the command has a value of the wrong kind.", "Names have 1 to 24 of A to Z, 0 to 9 and -. A moment is between 1970 and 2099."],
   NoSuch: ["There is no such clearance or round.", "Look at the name; a round without steps has no printed order."],
-  Unavailable: ["The database or the memory refused. The register is as it was.", "Try again; if it comes back, is the disk full?"],
+  Unavailable: ["The database, the journal or the memory refused.", "Is the disk full? Look again once the register answers."],
   BadHead: ["The request was not HTTP.", "Is the proxy that of this desk? Report it to whoever keeps it."],
   HeadTooLarge: ["The head of the request is too long for the register.", "Report it to whoever keeps this desk."],
   HeadCut: ["The request ended too early. It was not carried out.", "Give the command again."],

@@ -18,6 +18,11 @@ export async function readLogin() {
   at("believed").textContent = own.names ? `${own.login || "Without a login nobody"} may use these names.` : "The register believes this name.";
 }
 
+// "" without one.
+export function loginUsed() {
+  return own.login;
+}
+
 export function keptName() {
   return readKept("sessionStorage", KEPT) ?? "";
 }

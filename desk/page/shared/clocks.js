@@ -4,7 +4,8 @@
 import { now, shortTime, span } from "./moments.js";
 import { ask } from "./question.js";
 
-const FAR = 30; // seconds
+const FAR = 30;   // seconds between the two clocks
+const NEAR = 120; // seconds between a moment and the clock
 
 let off = 0;       // how far the server's clock is ahead of this desk's
 let choice = null; // { which, off }: what was answered, and how far apart they were then
@@ -27,6 +28,10 @@ export function clockWords() {
 // The moment by the clock that is meant.
 export function meantNow() {
   return now() + (isFar() && choice?.which === "server" ? off : 0);
+}
+
+export function isNear(moment) {
+  return Math.abs(moment - meantNow()) <= NEAR;
 }
 
 // Asks which clock is meant, where that was not answered for this difference. Whether the command may go on.

@@ -10,8 +10,8 @@ const FRESH = 6000;     // milliseconds for which an answer shows that the regis
 const PATIENCE = 15000; // the proxy gives up after 10 seconds, and says so
 
 // When the register last answered, and when it first did not since then; null: it answers. Trouble is what it, or the
-// proxy, answers in place of what was asked.
-export const contact = { answered: null, silentSince: null, why: "", trouble: "" };
+// proxy, answers in place of what was asked. Refused is when a command was last answered with 503; null: it takes commands.
+export const contact = { answered: null, silentSince: null, why: "", trouble: "", refused: null };
 
 let last = Promise.resolve();
 let begun = moments(); // when it last answered, or when the page began, by two clocks
@@ -31,26 +31,40 @@ export function isFresh() {
   return document.hidden || moments().every((moment, clock) => moment - begun[clock] < FRESH);
 }
 
+function report() {
+  for (const listener of listeners) listener();
+}
+
 function noteAnswer(answer) {
   if (answer.kind === "lost") {
     contact.silentSince = contact.silentSince ?? now();
     contact.why = answer.why;
   } else {
-    if (answer.kind === "answered") {
-      contact.answered = now();
-      begun = moments();
-    }
+    if (answer.kind === "answered") noteContact();
     contact.silentSince = null;
     contact.trouble = troubleIn(answer);
   }
-  for (const listener of listeners) listener();
+  report();
+}
+
+// After a silence it was started again, and decides then what it could not carry out.
+function noteContact() {
+  contact.answered = now();
+  begun = moments();
+  if (contact.silentSince !== null) contact.refused = null;
+}
+
+// Since when it takes no command; null where it does.
+export function noteRefused(moment) {
+  contact.refused = moment;
+  report();
 }
 
 function troubleIn(answer) {
   const last = contact.answered ? ` Its last answer came at ${shortTime(contact.answered)}.` : "";
   if (answer.kind === "barred") return `The proxy lets nothing through: status ${answer.status}.${last}`;
   if (answer.body?.fault === "Foreign") return `The register takes what the proxy passes on for another page's (Foreign): the proxy is not that of this desk.${last}`;
-  if (answer.status === 503) return "The register answers, but its database or memory refuses (503). Is its disk full?";
+  if (answer.status === 503) return "The register answers, but its database, its journal or its memory refuses (503). Is its disk full?";
   return "";
 }
 
@@ -118,6 +132,8 @@ export function getWayBack(clearance) {
   return inTurn("GET", `wayback/${clearance}`);
 }
 
-export function postCommand(command) {
-  return inTurn("POST", "command", JSON.stringify(command));
+export async function postCommand(command) {
+  const answer = await inTurn("POST", "command", JSON.stringify(command));
+  if (answer.kind === "answered") noteRefused(answer.status === 503 ? contact.refused ?? now() : null);
+  return answer;
 }

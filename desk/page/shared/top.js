@@ -1,10 +1,13 @@
 // On every page: whether the register answers, whether the clocks agree, and the alarms.
 
+import { lacking } from "../log/board-lacks.js";
+import { saidOf } from "../replies/words.js";
 import { clockWords } from "./clocks.js";
 import { el, panel } from "./elements.js";
 import { alarms } from "./live-alarms.js";
 import { now, shortTime } from "./moments.js";
 import { contact, isFresh } from "./register.js";
+import { alarmTab } from "./tab-title.js";
 
 const PERIOD = 500; // milliseconds
 
@@ -18,14 +21,27 @@ function silentWords() {
   return `The register does not answer since ${shortTime(since ?? now())}${why}. ${last}`;
 }
 
+function refusedWords() {
+  const since = contact.refused === null ? "" : ` since ${shortTime(contact.refused)}`, { entry } = lacking;
+  const lacks = entry ? ` The log has number ${entry.number} as accepted (${saidOf(entry.command)}), and the board lacks it.` : "";
+  return `NO COMMAND IS TAKEN${since}: the register answers them with 503.${lacks} Is its disk full? Whether they are carried out, a restart of the register decides.`;
+}
+
+// What is amiss, in the tab's title and at the top; nothing where all is well.
+function troubleWords() {
+  if (contact.silentSince !== null || !isFresh()) return { tab: "NO ANSWER", text: silentWords() };
+  if (contact.trouble) return { tab: "NOTHING GOES THROUGH", text: contact.trouble };
+  if (contact.refused !== null || lacking.entry) return { tab: "503: NO COMMAND IS TAKEN", text: refusedWords() };
+  return null;
+}
+
 function contactWords() {
-  if (contact.silentSince !== null || !isFresh()) return { silent: true, text: silentWords() };
-  if (contact.trouble) return { silent: true, text: contact.trouble };
-  return { silent: false, text: contact.answered ? `The register answers; last at ${shortTime(contact.answered)}.` : "Asking the register…" };
+  return contact.answered ? `The register answers; last at ${shortTime(contact.answered)}.` : "Asking the register…";
 }
 
 export function drawContact() {
-  const { silent, text } = contactWords();
+  const trouble = troubleWords(), silent = trouble !== null, text = trouble?.text ?? contactWords();
+  alarmTab("contact", trouble?.tab ?? "");
   const node = at("contact"), shown = `${silent ? "⚠ " : "✓ "}${text}`;
   if (silent !== (node.dataset.silent === "yes")) at("spoken").textContent = text;
   node.dataset.silent = silent ? "yes" : "no";
@@ -43,6 +59,7 @@ function drawClocks() {
 // Each section that was tested live, on every page.
 export function drawAlarms() {
   const found = alarms(), node = at("alarms");
+  alarmTab("live", found.length ? `TESTED LIVE ${found.map(({ section }) => section).join(", ")}` : "");
   node.hidden = !found.length;
   panel(node, found.map(({ id, section }) => [id, section]), () => found.map(({ id, section }) =>
     el("p", {}, el("strong", {}, `⚠ TESTED LIVE: ${section}`), ` under `, el("a", { href: `#/clearance/${id}` }, id),

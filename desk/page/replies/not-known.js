@@ -1,0 +1,179 @@
+// A command of which it is not known whether it was carried out: its reply was lost, or the register answered 503. It is
+// never sent again by itself. The page waits until the register answers, looks into the log where this desk has one and
+// otherwise at the board, and says what it found before it offers the command again.
+
+import { noteGiven } from "../clearances/steps-given-out.js";
+import { isLacking } from "../log/board-lacks.js";
+import { journal, newest } from "../log/journal.js";
+import { loginUsed } from "../shared/caller.js";
+import { isNear } from "../shared/clocks.js";
+import { dropDraftOf } from "../shared/drafts.js";
+import { shortTime } from "../shared/moments.js";
+import { network } from "../shared/network.js";
+import { contact, noteRefused } from "../shared/register.js";
+import { asOwn } from "../shared/waiting-lists.js";
+import { boardLine, lookAt, lookNow, room, viewOf } from "../shared/watch.js";
+import { judgeJumper, judgeLogged, judgeNew, judgeRecord } from "./outcome.js";
+import { addReply, changeReply, line, onReplyAct, plainLines, repliesOf } from "./replies.js";
+import { saidOf } from "./words.js";
+
+const WAIT = 3000;    // between two looks
+const LOOKS = 1200;   // an hour of looks, then the operator has to look
+
+const newestNumber = () => journal.entries.at(-1)?.number ?? 0;
+
+// What is known before a command is sent, for the case that its outcome is not known afterwards.
+export function knownBefore(command) {
+  const view = command.clearance ? viewOf(command.clearance) ?? null : null;
+  const ids = [...room.closed.keys(), ...room.board.map((row) => row.id)];
+  return { view, ids, had: network.points.has(command.point), number: newestNumber(), near: isNear(command.at) };
+}
+
+// What is new of this caller: a request or a switch order has no name before it is answered.
+async function newRecords(command, known) {
+  const rows = room.board.filter((row) => row.id.startsWith(`${command.by}/`) && !known.ids.includes(row.id));
+  for (const { id } of rows) if (!viewOf(id)) await lookAt(id);
+  return rows.map((row) => ({ row, view: viewOf(row.id) }));
+}
+
+async function judgedByBoard(command, known) {
+  if (command.do === "jumper") return judgeJumper(command, known.had, network.points.get(command.point));
+  if (!command.clearance) return judgeNew(command, await newRecords(command, known));
+  await lookAt(command.clearance);
+  return judgeRecord(command, known.view, viewOf(command.clearance), boardLine(command.clearance)?.last ?? null);
+}
+
+// The entries since then; all, where the journal begins anew.
+function entriesSince(number) {
+  return journal.entries.filter((entry) => entry.number > (newestNumber() < number ? 0 : number));
+}
+
+async function judgedByLog(command, number) {
+  await newest();
+  if (journal.state !== "read") return null;
+  const found = judgeLogged(command, entriesSince(number), loginUsed());
+  const lacks = found.entry && isLacking(found.entry, room);
+  return lacks ? { ...found, found: "waits", text: `${found.text} The board lacks it.` } : found;
+}
+
+// What the log says, where it can: one that has nothing of what the board shows is not this register's.
+async function judged({ command, known }) {
+  const seen = await judgedByBoard(command, known), logged = await judgedByLog(command, known.number);
+  const isOther = logged?.found === "no" && seen.found === "yes" && !logged.explains;
+  return !logged || isOther ? { ...seen, by: `The board at ${shortTime(room.read)}` } : { ...logged, by: "The log", isLogged: true };
+}
+
+function pause(milliseconds) {
+  return new Promise((settle) => setTimeout(settle, milliseconds));
+}
+
+async function lookUntilAnswered() {
+  for (let looks = 0; looks < LOOKS; looks++) {
+    if (await lookNow()) return true;
+    await pause(WAIT);
+  }
+  return false;
+}
+
+// A reply that says so at once.
+export function addLost(command, why, known) {
+  return addReply({
+    kind: "lost", said: saidOf(command), clearance: command.clearance, asked: { command, why: `No reply came: ${why}.`, known },
+    lines: plainLines(`No reply came: ${why}.`,
+      "It may have been carried out, or may still be. It is not sent again by itself; the page looks for it as soon as the register answers."),
+  });
+}
+
+const REFUSES = "The register answered 503: its database, its journal or its memory refuses.";
+
+export function addRefused(command, known) {
+  return addReply({
+    kind: "open", said: saidOf(command), clearance: command.clearance, asked: { command, why: REFUSES, known },
+    lines: plainLines(REFUSES, "Whether it is carried out is not known: a restart of the register may do it. It is not sent again by itself; the page looks for it."),
+  });
+}
+
+// Looks it up once the register answers.
+export async function lookUp(reply) {
+  if (await lookUntilAnswered()) await sayFound(reply);
+}
+
+const FOUND = {
+  yes: "So it was carried out.",
+  either: "So it was carried out: this command, or another desk's like it. The register does not say which.",
+  refused: "So it was not carried out.",
+  no: "So far it was not carried out.",
+  waits: "It is carried out when the register is started again.",
+  unknown: "Whether this command was carried out cannot be known from that.",
+};
+const OVER = ["yes", "either", "refused"];
+const ACTS = { waits: ["look"], no: ["look", "again", "leave"], unknown: ["look", "again", "leave"] };
+const MAY_STILL = "What waits before the register may still be carried out: look once more before you give the command again.";
+const MAY_RESTART = "While the register answers commands with 503 it may still be carried out, by a restart.";
+const NEVER = "So it was not carried out, and no restart carries it out.";
+
+// Whether it is to be looked up with each board: the log has it and the board does not; or there is no log, and the
+// register takes no command yet.
+function staysOpen(reply, { found, isLogged }) {
+  return found === "waits" || (reply.kind === "open" && !isLogged && !OVER.includes(found) && contact.refused !== null);
+}
+
+// A register that answered 503 has nothing waiting before it; and it carries out alone what the log has.
+function foundLines(reply, { found, text, by, isLogged }, stays) {
+  const isRefused = reply.kind === "open", so = isRefused && isLogged && found === "no" ? NEVER : FOUND[found];
+  const further = isRefused ? (stays && found !== "waits" ? [MAY_RESTART] : []) : found === "no" || found === "unknown" ? [MAY_STILL] : [];
+  return [line(reply.asked.why), { class: "finding", parts: [{ strong: `${by}: ` }, `${text} ${so}`] }, ...plainLines(...further)];
+}
+
+// What the log, or the board, says now. What was carried out is not offered again.
+async function sayFound(reply) {
+  const answer = await asOwn(() => judged(reply.asked)), stays = staysOpen(reply, answer);
+  if (answer.found === "yes" || answer.found === "either") noteCarriedOut(reply.asked, answer.sure === true);
+  changeReply(reply, { kind: stays ? "open" : "found", lines: foundLines(reply, answer, stays), actions: ACTS[answer.found] ?? [] });
+}
+
+// `sure`: the log says that it was this desk's.
+function noteCarriedOut({ command, known }, sure) {
+  dropDraftOf(command);
+  if (command.do === "instruct") noteGiven({ ...command, round: viewOf(command.clearance)?.card.round }, sure && known.near);
+}
+
+async function lookAgain(reply) {
+  await lookNow();
+  await sayFound(reply);
+}
+
+onReplyAct("look", "Look again", lookAgain);
+onReplyAct("leave", "Leave it", (reply) => changeReply(reply, { kind: "found" }));
+
+let shown = null; // the board and the log since the register takes no command
+let turn = 0;     // the board at which was last looked
+let busy = false;
+
+// The register takes commands again where one has come to the board, or to the log.
+function noteTaken() {
+  const now = JSON.stringify([room.board.map((row) => row.line), newestNumber()]);
+  if (shown !== null && shown !== now) noteRefused(null);
+  shown = contact.refused === null ? null : now;
+}
+
+// With each board those are looked up that are still open, in the order in which they were given.
+export async function lookUpOpen() {
+  const open = repliesOf("open").reverse();
+  if (busy || turn === room.turns || (!open.length && contact.refused === null)) return;
+  busy = true;
+  turn = room.turns;
+  try {
+    await newest();
+    noteTaken();
+    for (const reply of open) if (reply.kind === "open") await sayFound(reply);
+  } finally {
+    busy = false;
+  }
+}
+
+// After a reload it is known from what is still open that the register took no command.
+export function recallRefused() {
+  const [open] = repliesOf("open");
+  if (open) noteRefused(open.at);
+}
