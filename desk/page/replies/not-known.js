@@ -88,14 +88,14 @@ const REFUSES = "The register answered 503: its database, its journal or its mem
 
 export function addRefused(command, known) {
   return addReply({
-    kind: "open", said: saidOf(command), clearance: command.clearance, asked: { command, why: REFUSES, known },
+    kind: "open", said: saidOf(command), clearance: command.clearance, asked: { command, why: REFUSES, known, isRefused: true },
     lines: plainLines(REFUSES, "Whether it is carried out is not known: a restart of the register may do it. It is not sent again by itself; the page looks for it."),
   });
 }
 
 // Looks it up once the register answers.
 export async function lookUp(reply) {
-  if (await lookUntilAnswered()) await sayFound(reply);
+  if (await lookUntilAnswered() && reply.kind !== "found") await sayFound(reply);
 }
 
 const FOUND = {
@@ -115,12 +115,12 @@ const NEVER = "So it was not carried out, and no restart carries it out.";
 // Whether it is to be looked up with each board: the log has it and the board does not; or there is no log, and the
 // register takes no command yet.
 function staysOpen(reply, { found, isLogged }) {
-  return found === "waits" || (reply.kind === "open" && !isLogged && !OVER.includes(found) && contact.refused !== null);
+  return found === "waits" || (reply.asked.isRefused && !isLogged && !OVER.includes(found) && contact.refused !== null);
 }
 
 // A register that answered 503 has nothing waiting before it; and it carries out alone what the log has.
 function foundLines(reply, { found, text, by, isLogged }, stays) {
-  const isRefused = reply.kind === "open", so = isRefused && isLogged && found === "no" ? NEVER : FOUND[found];
+  const { isRefused } = reply.asked, so = isRefused && isLogged && found === "no" ? NEVER : FOUND[found];
   const further = isRefused ? (stays && found !== "waits" ? [MAY_RESTART] : []) : found === "no" || found === "unknown" ? [MAY_STILL] : [];
   return [line(reply.asked.why), { class: "finding", parts: [{ strong: `${by}: ` }, `${text} ${so}`] }, ...plainLines(...further)];
 }
