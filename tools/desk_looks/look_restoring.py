@@ -63,13 +63,13 @@ def restoring_joins(stage):
 
 
 def switching_joins(stage):
-    """A coupler between two stations of one source closes a loop, one between two sources joins them."""
+    """A coupler between two stations of one source closes a loop, which is said; one between two sources joins them, which is asked."""
     hand = stage.network([], "switch", speaker="DISP1")
     for point, words in (("CPL-N11-N12", "closes a loop"), ("CPL-N12-N13", "joins the sources GRID-1 and GRID-2")):
         hand.pick(point)
         hand.press(f"CLOSE {point}")
         hand.shows(words, ".order-notes")
-        hand.declined("switch", words)
+    hand.declined("switch", "joins the sources GRID-1 and GRID-2")
     hand.picture("switch-joins")
 
 

@@ -10,9 +10,10 @@ import { el, button, choice, field, panel, table } from "../shared/elements.js";
 import { liveIn } from "../shared/live-alarms.js";
 import { shortTime, wholeTime } from "../shared/moments.js";
 import { waits } from "../shared/waiting-lists.js";
-import { boardLine, choose, lookAt, viewOf } from "../shared/watch.js";
-import { cancelControl, emergencyControl, grantControl, releaseControl, transferControl } from "./grant-release.js";
+import { choose, lookAt, viewOf } from "../shared/watch.js";
+import { cancelControl, emergencyControl, grantControl, releaseControl, releaseObstacles, transferControl } from "./grant-release.js";
 import { instructControl, readingOf } from "./instruct.js";
+import { askLastMoment, lastMoment } from "./last-moment.js";
 import { offersOf, presentStep } from "./offers.js";
 import { printedOrders } from "./printed-order.js";
 import { severalControl, withRow } from "./several-names.js";
@@ -32,6 +33,7 @@ const SHOWN = {
   order: () => [],
   restore: (view) => view.holds.filter((hold) => hold.by === view.card.clearance),
   work: (view) => [view.fence, view.holds, view.crews, liveIn(view.fence)],
+  release: (view) => [view.card, releaseObstacles(view)],
   transfer: (view) => view.card.holder,
   emergency: (view) => view.card.holder,
   cancel: (view) => view.card.phase,
@@ -91,15 +93,20 @@ function facts(view) {
   return parts;
 }
 
-function card(view, line, staff) {
-  const { phase, holder, done, steps, round } = view.card;
+function momentCell(id) {
+  const last = lastMoment(id);
+  return last === null ? "not known here" : el("span", { title: wholeTime(last) }, shortTime(last));
+}
+
+function card(view, staff) {
+  const { clearance, phase, holder, done, steps, round } = view.card;
   const fact = (name, ...value) => el("div", {}, el("dt", {}, name), el("dd", {}, ...value));
   return el("dl", { class: "card" },
     fact("Phase", el("span", { class: `phase ${phase}` }, phase), el("span", { class: "words" }, ` ${phaseWord(phase)}`)),
     fact(view.work ? "Work section" : "Kind", view.work ?? "switch order"),
     fact("Holder", holderCell(holder, view.work, staff)),
     fact("Steps", steps ? `${done} of ${steps} done, round ${round}` : "none"),
-    fact("Last moment", line ? el("span", { title: wholeTime(line.last) }, shortTime(line.last)) : "not on the board"),
+    fact("Last moment", momentCell(clearance)),
     fact("Crews", view.crews.join(", ") || "none"));
 }
 
@@ -149,8 +156,8 @@ export class ClearancePage {
       panel(this.#card, text, () => el("p", {}, text));
       return;
     }
-    const line = boardLine(this.#id);
-    panel(this.#card, [view.card, view.work, view.crews, line?.last], () => card(view, line, this.#desk.network.staff));
+    askLastMoment(view, () => this.update());
+    panel(this.#card, [view.card, view.work, view.crews, lastMoment(this.#id)], () => card(view, this.#desk.network.staff));
     this.#drawNext(view);
     const found = stepsFindings(view, this.#desk);
     panel(this.#steps, [view.steps, found], () => (view.steps.length ? [el("h3", {}, `Steps of round ${view.card.round}`), stepsTable(view, found)] : []));

@@ -23,8 +23,26 @@ export function grantControl({ view, act }) {
 
 const NO = [null, "No: do not release"];
 
+// What a release would be refused for.
+export function releaseObstacles({ card, crews, holds }) {
+  const grounds = holds.filter(({ kind, by }) => kind === "Ground" && by === card.clearance).map(({ place }) => place);
+  return [
+    ...(crews.length ? [`would be refused (CREWS_ON): ${crews.length === 1 ? "crew" : "crews"} ${crews.join(", ")} on`] : []),
+    ...(grounds.length ? [`would be refused (GROUNDED): a ground is on at ${grounds.join(", ")}`] : []),
+  ];
+}
+
+function notYet(clearance, obstacles) {
+  return ask(`Release ${clearance}: not yet`, [...obstacles.map((text) => `It ${text}.`),
+    "Sign each crew off when it has left, and say that each ground is off. Then release."], [[null, "Go back"]]);
+}
+
 export async function release(view, act) {
-  const { clearance } = view.card;
+  const { clearance } = view.card, obstacles = releaseObstacles(view);
+  if (obstacles.length) {
+    await notYet(clearance, obstacles);
+    return;
+  }
   const notified = await ask(`Release ${clearance}: first of two`, [
     "Releasing gives the line back: from then on it may be switched in.",
     `Are all employees who work under ${clearance} notified that it is released?`,
@@ -38,9 +56,10 @@ export async function release(view, act) {
 }
 
 export function releaseControl({ view, act }) {
+  const [obstacle] = releaseObstacles(view);
   return el("div", { class: "offer" },
     button(`Release ${view.card.clearance}`, () => release(view, act), { "data-name": "release" }),
-    el("span", { class: "hint" }, "two questions come first"));
+    el("span", { class: "hint" }, obstacle ?? "two questions come first"));
 }
 
 async function cancel(view, act) {

@@ -22,6 +22,16 @@ function stepOffers(view, staff) {
   ];
 }
 
+// Whether a step is given out, and not reported yet.
+export function isStepOut(view) {
+  return ["Instructed", "Repeated"].includes(presentStep(view)?.state);
+}
+
+// While a step is out a cancel would be refused.
+function cancelOffers(view, says) {
+  return isStepOut(view) ? [] : [{ does: "cancel", says, names: [view.card.holder] }];
+}
+
 // A grant is offered when all steps are done, not before.
 function grantOffers(view, operators) {
   return presentStep(view) ? [] : [{ does: "grant", says: "grant the clearance", names: operators }];
@@ -37,11 +47,9 @@ function handing(view, staff) {
 
 const OFFERS = {
   Requested: (view, staff, operators) => [
-    { does: "order", says: "write the isolating order", names: operators },
-    { does: "cancel", says: "cancel the request", names: [view.card.holder] }, ...handing(view, staff)],
+    { does: "order", says: "write the isolating order", names: operators }, ...cancelOffers(view, "cancel the request"), ...handing(view, staff)],
   Ordered: (view, staff, operators) => [
-    ...stepOffers(view, staff), ...grantOffers(view, operators),
-    { does: "cancel", says: "cancel the order", names: [view.card.holder] }, ...handing(view, staff)],
+    ...stepOffers(view, staff), ...grantOffers(view, operators), ...cancelOffers(view, "cancel the order"), ...handing(view, staff)],
   Granted: (view, staff) => [
     { does: "work", says: "test, ground, sign crews on and off", names: [view.card.holder] },
     { does: "release", says: "release the clearance", names: [view.card.holder] }, ...handing(view, staff)],
@@ -49,8 +57,7 @@ const OFFERS = {
   Restoring: (view, staff, operators) => [
     ...stepOffers(view, staff),
     ...(waitingCloses(view).length ? [{ does: "amend", says: "amend a CLOSE to a LEAVE", names: operators }] : [])],
-  Switching: (view, staff) => [
-    ...stepOffers(view, staff), { does: "cancel", says: "cancel the switch order", names: [view.card.holder] }],
+  Switching: (view, staff) => [...stepOffers(view, staff), ...cancelOffers(view, "cancel the switch order")],
   Closed: () => [],
 };
 

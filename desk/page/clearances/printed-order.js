@@ -26,8 +26,8 @@ async function show(clearance, round, place) {
     return;
   }
   place.replaceChildren(
-    el("div", { class: "paper" }, el("pre", {}, answer.body), new Story(clearance).node,
-      el("p", {}, `Printed ${wholeTime(now())}. The moment above is in Greenwich time.`)),
+    el("div", { class: "paper" }, el("p", { class: "each-page" }, `Order of ${clearance}, round ${round}, printed ${wholeTime(now())}`),
+      el("div", { class: "whole" }, el("pre", {}, answer.body), new Story(clearance).node, el("p", {}, "The moment above is in Greenwich time."))),
     button("Print", () => window.print(), { "data-name": "print" }),
     button("Put it away", () => place.replaceChildren()));
 }

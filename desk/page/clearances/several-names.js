@@ -12,7 +12,8 @@ import { heardInput, repeatAs } from "./steps.js";
 const KEPT = "gridclear-several";
 const PARTS = { Waiting: "giver", Instructed: "hearer", Repeated: "reporter" };
 
-const kept = readKept("sessionStorage", KEPT) ?? {}; // whether the desk speaks for several, and the names that were chosen last
+// Whether the desk speaks for several, who gives, and by clearance who hears and reports: { on, giver, fields }.
+const kept = readKept("sessionStorage", KEPT) ?? {};
 
 function keep(changes) {
   Object.assign(kept, changes);
@@ -38,9 +39,15 @@ export function withRow(offers, view, caller) {
   return [{ does: "several", says: "", names: [caller] }, ...offers.filter(({ does }) => !steps.includes(does))];
 }
 
-function nameChoice(part, names, chosen) {
+function nameChoice(part, names, chosen, keepName) {
   const known = names.includes(chosen) ? chosen : "";
-  return choice([["", "choose"], ...names.map((name) => [name, name])], { "data-name": part, onchange: (event) => keep({ [part]: event.target.value }) }, known);
+  return choice([["", "choose"], ...names.map((name) => [name, name])], { "data-name": part, onchange: (event) => keepName(event.target.value) }, known);
+}
+
+// Those in the field are others at another record: a name that was chosen there is not chosen here.
+function fieldNames(clearance) {
+  const own = kept.fields?.[clearance] ?? {};
+  return { ...own, keepName: (part) => (name) => keep({ fields: { ...kept.fields, [clearance]: { ...kept.fields?.[clearance], [part]: name } } }) };
 }
 
 // Where no name is chosen yet, that is next.
@@ -57,8 +64,10 @@ function cell(title, now, pick, ...controls) {
 export function severalControl({ view, act, staff, desk, caller }) {
   const step = presentStep(view), part = PARTS[step.state];
   const fields = namesOfRole(staff, "field").filter(mayUse), { clearance } = view.card;
-  const giver = nameChoice("giver", namesOfRole(staff, "operator").filter(mayUse), kept.giver ?? caller?.name);
-  const hearer = nameChoice("hearer", fields, kept.hearer), reporter = nameChoice("reporter", fields, step.reader ?? kept.hearer);
+  const known = fieldNames(clearance);
+  const giver = nameChoice("giver", namesOfRole(staff, "operator").filter(mayUse), kept.giver ?? caller?.name, (name) => keep({ giver: name }));
+  const hearer = nameChoice("hearer", fields, known.hearer, known.keepName("hearer"));
+  const reporter = nameChoice("reporter", fields, step.reader ?? known.hearer, known.keepName("reporter"));
   const heard = heardInput(view, step);
   const does = {
     giver: () => by(giver) && instruct(desk, view, step, act, by(giver)),

@@ -60,14 +60,13 @@ export function heardInput(view, step) {
 }
 
 export function repeatControl({ view, act, network }) {
-  const step = presentStep(view), point = step.text.split(" ")[1];
-  const input = heardInput(view, step);
+  const step = presentStep(view), input = heardInput(view, step);
   const send = (event) => {
     event.preventDefault();
     repeatAs(view, step, input.value.trim(), act);
   };
   return el("form", { class: "offer", onsubmit: send },
-    field(`Step ${step.number}, repeated as you heard it`, input, `word for word, as ${exampleStep(network, point)}`),
+    field(`Step ${step.number}, repeated as you heard it`, input, `word for word, as ${exampleStep(network)}`),
     el("button", { class: "main", "data-name": "repeat" }, `Repeat step ${step.number}`));
 }
 

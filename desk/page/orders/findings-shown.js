@@ -46,11 +46,11 @@ export function pickedNotes(desk, picked, { own = null, action = null, more = ()
   });
 }
 
-// The steps of an order that is being written, each with what is to be asked about.
+// The steps of an order that is being written, each with what is to be asked about, and with the loop that it closes.
 export function orderNotes(desk, steps, own) {
   const node = el("div", { class: "order-notes", role: "status" });
   return living(node, () => {
-    const rows = findingsOfSteps(desk, steps(), own).map(({ text, found }) => [text, found.filter(({ asks }) => asks)]).filter(([, found]) => found.length);
+    const rows = findingsOfSteps(desk, steps(), own).map(({ text, found }) => [text, found.filter(({ asks, loops }) => asks || loops)]).filter(([, found]) => found.length);
     panel(node, rows, () => (rows.length ? el("ul", { class: "ways" },
       rows.map(([text, found]) => el("li", {}, el("span", { class: "text" }, text), findingsList(found)))) : []));
   });
@@ -73,7 +73,7 @@ function askedLines(found) {
   for (const { text, found: own } of found) {
     for (const one of own.filter(({ asks }) => asks)) {
       const key = `${text.split(" ")[1]} ${one.text}`;
-      if (!lines.has(key)) lines.set(key, `${text}: ${one.text}.`);
+      if (!lines.has(key)) lines.set(key, `${text}: ${one.asked ?? one.text}.`);
     }
   }
   return [...lines.values()];

@@ -1,6 +1,7 @@
 // What is in the way of a step, and what it would do, by this page's reckoning: a hold, a hand, another's fence, a position
-// that is not normal, what a CLOSE would join, and what becomes live or dead. A finding is { text, asks, turns }; `asks`:
-// it is asked about before anything is sent; `turns`: it says what becomes live or dead.
+// that is not normal, what a CLOSE would join, and what becomes live or dead. A finding is { text, asks, turns, asked };
+// `asks`: it is asked about before anything is sent, by the text `asked` where that is another; `turns`: it says what
+// becomes live or dead; `loops`: it closes a loop.
 
 import { holdWord } from "../replies/words.js";
 import { Reckoning } from "../shared/feeding.js";
@@ -67,8 +68,26 @@ function closingFindings(network, reckoning, point) {
   if (positionOf(point.name) === "closed") return [];
   const found = closingOf(network, positionOf, point);
   if (!found) return [];
-  const text = found.loop ? `closes a loop: ${wayWords(found.loop)}` : `joins the sources ${found.joins.join(" and ")}: ${wayWords(found.way)}`;
-  return [{ text, asks: true }];
+  if (!found.loop) return [{ text: `joins the sources ${found.joins.join(" and ")}: ${wayWords(found.way)}`, asks: true }];
+  const people = peopleOn(network, found.loop);
+  return [{ text: `closes a loop${whereWords(people)}: ${wayWords(found.loop)}`, asks: people.length > 0, loops: true }];
+}
+
+// The records that have people on one of these sections: a crew is on in their fence, or a step is given out at a point there.
+function peopleOn(network, names) {
+  const crews = [...room.views].filter(([, view]) => view.crews.length && view.fence.some((name) => names.includes(name))).map(([id]) => id);
+  const hands = names.flatMap((name) => network.ways.get(name) ?? []).map(({ hand }) => hand).filter(Boolean);
+  return [...new Set([...crews, ...hands])];
+}
+
+function whereWords(people) {
+  return people.length ? `, where people are under ${people.map(nameWords).join(" and ")}` : "";
+}
+
+// Asked about with all names where people are on one of the sections, or where not all are named beside the button.
+function deadFinding(network, dead) {
+  const people = peopleOn(network, dead), words = (names) => `makes ${names} dead${whereWords(people)} (${OWN})`;
+  return { text: words(sectionWords(dead)), asked: words(dead.join(", ")), asks: people.length > 0 || dead.length > MOST_NAMED, turns: true };
 }
 
 // Those who have tested or grounded one of these sections.
@@ -82,7 +101,7 @@ function turnFindings(network, reckoning, point, position, own) {
   const trust = others.length ? `, which ${others.map(nameWords).join(" and ")} found dead or grounded` : "";
   return [
     ...(live.length ? [{ text: `makes ${sectionWords(live)} live${trust} (${OWN})`, asks: others.length > 0, turns: true }] : []),
-    ...(dead.length ? [{ text: `makes ${sectionWords(dead)} dead (${OWN})`, asks: false, turns: true }] : []),
+    ...(dead.length ? [deadFinding(network, dead)] : []),
   ];
 }
 

@@ -1,5 +1,6 @@
 // Giving a command: its moment is looked at, it is sent once, and its reply goes to the replies.
 
+import { viewAfter } from "../clearances/after-command.js";
 import { noteGiven } from "../clearances/steps-given-out.js";
 import { clockIsMeant, isNear, meantNow } from "../shared/clocks.js";
 import { dropDraftOf } from "../shared/drafts.js";
@@ -9,7 +10,7 @@ import { ask } from "../shared/question.js";
 import { postCommand } from "../shared/register.js";
 import { keepIn, readKept } from "../shared/storage.js";
 import { asOwn } from "../shared/waiting-lists.js";
-import { boardLine, lookAt, lookNow } from "../shared/watch.js";
+import { boardLine, lookAt, lookNow, putView, viewOf } from "../shared/watch.js";
 import { giveAgain } from "./give-again.js";
 import { addLost, addRefused, knownBefore, lookUp } from "./not-known.js";
 import { addReply, changeReply, onReplyAct, plainLines, repliesOf, replyOf } from "./replies.js";
@@ -162,10 +163,18 @@ async function noteKnown(command, body) {
   if (momentField) momentField.value = "";
   const accepted = ["accepted", "added"].includes(body.reply);
   if (accepted) noteAccepted(command, body.card);
-  const id = body.card?.clearance ?? command.clearance;
-  if (id) await asOwn(() => lookAt(id));
+  const id = body.card?.clearance ?? command.clearance, isShown = accepted && showAccepted(command, body.card);
+  const look = id ? asOwn(() => lookAt(id)) : null;
+  if (!isShown) await look;
   asOwn(lookNow);
   return { accepted, id };
+}
+
+// Whether what was accepted is shown without another answer of the register.
+function showAccepted(command, card) {
+  const view = viewOf(command.clearance), after = view && viewAfter(view, command, card);
+  if (after) asOwn(() => putView(after));
+  return Boolean(after);
 }
 
 function noteAccepted(command, card) {

@@ -57,10 +57,10 @@ async function judgedByLog(command, number) {
 }
 
 // What the log says, where it can: one that has nothing of what the board shows is not this register's.
-async function judged({ command, known }) {
+async function judged({ command, known, isRefused }) {
   const seen = await judgedByBoard(command, known), logged = await judgedByLog(command, known.number);
   const isOther = logged?.found === "no" && seen.found === "yes" && !logged.explains;
-  return !logged || isOther ? { ...seen, by: `The board at ${shortTime(room.read)}` } : { ...logged, by: "The log", isLogged: true };
+  return !logged || isOther ? { ...seen, by: isRefused ? "The board" : `The board at ${shortTime(room.read)}` } : { ...logged, by: "The log", isLogged: true };
 }
 
 function pause(milliseconds) {

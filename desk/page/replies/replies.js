@@ -103,7 +103,9 @@ export function addReply(reply) {
   return replies[0];
 }
 
+// What is found again as it was is not drawn, nor spoken, again.
 export function changeReply(reply, changes) {
+  if (Object.entries(changes).every(([name, value]) => JSON.stringify(reply[name]) === JSON.stringify(value))) return;
   Object.assign(reply, changes);
   reply.version += 1;
   keep();

@@ -2,6 +2,7 @@
 // and nothing is done yet. The access keys of the page do the same, where a browser has other keys for them.
 
 const ACTS = ["[data-goes]", ".main:not(:disabled)", "input:not(:disabled)", "button:not(:disabled)"];
+const GIVING_UP = "[data-does=cancel], [data-does=transfer], [data-does=emergency]"; // none of these is the next act
 
 function goTo(found) {
   found?.focus();
@@ -10,8 +11,9 @@ function goTo(found) {
 
 function nextAct() {
   for (const act of ACTS) {
-    const found = document.querySelector(`main .next-body ${act}, main .next .editor ${act}, main .next form ${act}`);
-    if (found) return found;
+    const found = [...document.querySelectorAll(`main .next-body ${act}, main .next .editor ${act}, main .next form ${act}`)];
+    const next = found.find((node) => !node.closest(GIVING_UP));
+    if (next) return next;
   }
   return document.querySelector("main h2");
 }

@@ -58,8 +58,9 @@ export function namesOfRole(staff, role) {
   return [...staff.values()].filter((row) => row.role === role).map((row) => row.name);
 }
 
-// A step as it is said, at a point of this network that is not this one.
-export function exampleStep(network, name) {
-  const other = [...network.points.keys()].find((point) => point !== name);
-  return other ? `OPEN ${other}` : "it was read out";
+// A step as it is said, at a point that this network does not have: what is read here is not taken for what was heard.
+export function exampleStep(network) {
+  let number = 1;
+  while (network.points.has(`EXAMPLE-${number}`)) number++;
+  return `OPEN EXAMPLE-${number}`;
 }

@@ -94,6 +94,14 @@ function keepView(id, view) {
   if (over) room.views.delete(id);
 }
 
+// What an accepted command has made of a view, until the register is asked for it.
+export function putView(view) {
+  const { clearance } = view.card;
+  keepView(clearance, view);
+  stale.add(clearance);
+  report();
+}
+
 async function readView(id) {
   const by = caller, answer = await getView(by, id);
   if (answer.kind !== "answered") return answer;

@@ -1,0 +1,32 @@
+// What a view shows once a command was accepted, until the register's own view comes: on a slow line what was accepted
+// is shown at once. Only what the command itself says is changed; tests, grounds and points are the register's.
+
+function withStep(view, number, changes) {
+  return { steps: view.steps.map((step, place) => (place === number - 1 ? { ...step, ...changes } : step)) };
+}
+
+function asWritten(texts) {
+  return { steps: texts.map((text) => ({ text, state: "Waiting", reader: null })) };
+}
+
+function amended(view, number) {
+  return withStep(view, number, { text: view.steps[number - 1].text.replace(/^CLOSE /, "LEAVE ") });
+}
+
+const CHANGES = {
+  order: (view, { steps }) => asWritten(steps),
+  restore: (view, { steps }) => asWritten(steps),
+  instruct: (view, { step }) => withStep(view, step, { state: "Instructed", reader: null }),
+  repeat: (view, { step, by }) => withStep(view, step, { state: "Repeated", reader: by }),
+  report: (view, { step, done }) => withStep(view, step, done ? { state: "Done" } : { state: "Waiting", reader: null }),
+  amend: (view, { step }) => amended(view, step),
+  sign_on: (view, { crew }) => ({ crews: [...view.crews, crew].sort() }),
+  sign_off: (view, { crew }) => ({ crews: view.crews.filter((one) => one !== crew) }),
+  grant: () => ({}), release: () => ({}), cancel: () => ({}), transfer: () => ({}),
+};
+
+// Null where the command changes what only the register can say.
+export function viewAfter(view, command, card) {
+  const changes = CHANGES[command.do];
+  return changes ? { ...view, ...changes(view, command), card } : null;
+}

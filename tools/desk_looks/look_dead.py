@@ -1,0 +1,41 @@
+"""What makes sections dead asks, with all their names, where more are than are named beside the button, or where people are;
+a harmless loop is said, and asks nothing."""
+
+from desk_looks.network import ordered, step, switch
+
+STATION = [f"N11-F{feeder}{place}" for feeder in (1, 2, 3) for place in (1, 2, 3)]
+FEEDER = "N14-F21, N14-F22, N14-F23"
+
+
+def many(stage):
+    """A whole station: at the form and at the step."""
+    hand = stage.network([switch(["OPEN N11-Q0"])], "clearance/DISP1/1", speaker="DISP1")
+    hand.declined("instruct", f"makes N11-BUS, {', '.join(STATION)} dead")
+    hand.picture("dead-asked")
+    hand.turn("switch")
+    hand.pick("N11-Q0")
+    hand.press("OPEN N11-Q0")
+    hand.declined("switch", f"makes N11-BUS, {', '.join(STATION)} dead")
+
+
+def few(stage):
+    """Three sections are named beside the button, and are not asked about."""
+    hand = stage.network([switch(["OPEN N14-Q21"])], "clearance/DISP1/1", speaker="DISP1")
+    hand.shows(f"makes {FEEDER} dead", "main .step-place")
+    hand.carry_out("instruct", "instruct step 1")
+
+
+def people(stage):
+    """One of three is where a step is given out."""
+    out = [*ordered("LEE", "N14-F23", ["N14-Q23", "TIE2-N13-N14", "TIE2-N14-N15"]), *step("LEE/1", 1, "OPEN N14-Q23", "instruct")]
+    hand = stage.network([switch(["OPEN N14-Q21"]), *out], "clearance/DISP1/1", speaker="DISP1")
+    hand.declined("instruct", f"makes {FEEDER} dead, where people are under LEE/1 (Ordered)")
+
+
+def loop(stage):
+    hand = stage.network([switch(["CLOSE CPL-N11-N12"])], "clearance/DISP1/1", speaker="DISP1")
+    hand.shows("closes a loop", "main .step-place")
+    hand.carry_out("instruct", "instruct step 1")
+
+
+LOOKS = {"dead many": many, "dead few": few, "dead people": people, "dead loop": loop}
