@@ -194,6 +194,14 @@ class Browser:
         self.picture(path)
         self.own("POST", "/goog/cdp/execute", dict(media, params={"media": ""}))
 
+    def printed(self, path):
+        """The page as a PDF, small enough that it has several pages."""
+        words = {"paperWidth": 5.8, "paperHeight": 5, "printBackground": False}
+        found = base64.b64decode(self.own("POST", "/goog/cdp/execute", {"cmd": "Page.printToPDF", "params": words})["data"])
+        with open(path, "wb") as file:
+            file.write(found)
+        return found
+
     def complaints(self):
         """Errors of the page's scripts; a refusal's status is none."""
         entries = self.own("POST", "/se/log", {"type": "browser"})

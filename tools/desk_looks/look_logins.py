@@ -16,12 +16,12 @@ MAY = [("anna", "DISP1"), ("anna", "REED"), ("anna", "DALE"), ("bert", "JONES")]
 OFFERED = "return [...document.querySelectorAll('#caller option')].map((one) => one.value).filter(Boolean).sort()"
 
 
-def with_logins(stage):
+def with_logins(stage, more=()):
     users, logins = (os.path.join(stage.work, name) for name in ("users", "logins.csv"))
     with open(users, "w", encoding="utf-8") as file:
         file.write("".join(f"{name}:{{PLAIN}}{word}\n" for name, word in USERS.items()))
     with open(logins, "w", encoding="utf-8") as file:
-        file.write("login,employee\n" + "".join(f"{login},{name}\n" for login, name in MAY))
+        file.write("login,employee\n" + "".join(f"{login},{name}\n" for login, name in [*MAY, *more]))
     desk = Desk(stage.work, "desk", write_files(stage.work), free_ports(2), ["--users", users, "--logins", logins])
     give(desk, ordered("JONES", "N13-F12", ["N13-Q11", "N13-B1", "TIE1-N12-N13", "TIE1-N13-N14"]))
     return desk
