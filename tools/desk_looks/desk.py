@@ -57,7 +57,7 @@ class Desk:
             return int(file.read())
 
     def fill_disk(self, room=ROOM):
-        """The register may write no file beyond so many bytes, as on a disk that is full."""
+        """The register may write no file beyond this many bytes, as on a disk that is full."""
         resource.prlimit(self.register(), resource.RLIMIT_FSIZE, (room, resource.RLIM_INFINITY))
 
     def free_disk(self):

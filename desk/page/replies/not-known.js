@@ -43,7 +43,7 @@ async function judgedByBoard(command, known) {
   return judgeRecord(command, known.view, viewOf(command.clearance), boardLine(command.clearance)?.last ?? null);
 }
 
-// The entries since then; all, where the journal begins anew.
+// The entries since then; all, where another journal has begun.
 function entriesSince(number) {
   return journal.entries.filter((entry) => entry.number > (newestNumber() < number ? 0 : number));
 }

@@ -1,4 +1,4 @@
-// The title of the browser's tab: the page that is shown, and before it each alarm, so that a tab behind others shows it.
+// The title of the browser's tab: the page that is shown, and before it each alarm, so that a tab that nobody looks at shows it.
 
 const alarms = { live: "", contact: "" };
 let page = "";
