@@ -9,9 +9,9 @@ import { closingOf, fenceOf } from "../../desk/page/shared/ways.js";
 import { Reckoning } from "../../desk/page/shared/feeding.js";
 import { networkOf, ROW, statesOf } from "./network.mjs";
 
-function found(rows, action, name) {
+function found(rows, action, name, own = null) {
   const network = networkOf(rows), known = statesOf(network);
-  return findingsAt({ network, states: () => known }, name, { action });
+  return findingsAt({ network, states: () => known }, name, { action, own });
 }
 
 test("what becomes dead, and where more is than is named it asks with all names", () => {
@@ -27,6 +27,7 @@ test("where a step is given out at one of them it asks", () => {
   const rows = ROW.map(([name, ...rest]) => (name === "S7" ? [name, "F", "H", "closed", "LEE/1"] : [name, ...rest]));
   const [dead] = found(rows, "OPEN", "S5");
   assert.deepEqual([dead.asks, /where people are under LEE\/1/.test(dead.text)], [true, true]);
+  assert.equal(found(rows, "OPEN", "S5", "LEE/1")[0].asks, false);
 });
 
 test("a harmless loop is said, and two sources that meet are asked about", () => {

@@ -63,20 +63,21 @@ function positionFindings(state, own) {
   return [{ text: `${state.position} now, normally ${state.point.normal}`, asks: false }];
 }
 
-function closingFindings(network, reckoning, point) {
+function closingFindings(network, reckoning, point, own) {
   const positionOf = (name) => reckoning.positionOf(name);
   if (positionOf(point.name) === "closed") return [];
   const found = closingOf(network, positionOf, point);
   if (!found) return [];
   if (!found.loop) return [{ text: `joins the sources ${found.joins.join(" and ")}: ${wayWords(found.way)}`, asks: true }];
-  const people = peopleOn(network, found.loop);
+  const people = peopleOn(network, found.loop, own);
   return [{ text: `closes a loop${whereWords(people)}: ${wayWords(found.loop)}`, asks: people.length > 0, loops: true }];
 }
 
-// The records that have people on one of these sections: a crew is on in their fence, or a step is given out at a point there.
-function peopleOn(network, names) {
+// The records that have people on one of these sections: a crew is on in their fence, or a step of another record is given
+// out at a point there.
+function peopleOn(network, names, own) {
   const crews = [...room.views].filter(([, view]) => view.crews.length && view.fence.some((name) => names.includes(name))).map(([id]) => id);
-  const hands = names.flatMap((name) => network.ways.get(name) ?? []).map(({ hand }) => hand).filter(Boolean);
+  const hands = names.flatMap((name) => network.ways.get(name) ?? []).map(({ hand }) => hand).filter((hand) => hand && hand !== own);
   return [...new Set([...crews, ...hands])];
 }
 
@@ -85,8 +86,8 @@ function whereWords(people) {
 }
 
 // Asked about with all names where people are on one of the sections, or where not all are named beside the button.
-function deadFinding(network, dead) {
-  const people = peopleOn(network, dead), words = (names) => `makes ${names} dead${whereWords(people)} (${OWN})`;
+function deadFinding(network, dead, own) {
+  const people = peopleOn(network, dead, own), words = (names) => `makes ${names} dead${whereWords(people)} (${OWN})`;
   return { text: words(sectionWords(dead)), asked: words(dead.join(", ")), asks: people.length > 0 || dead.length > MOST_NAMED, turns: true };
 }
 
@@ -101,7 +102,7 @@ function turnFindings(network, reckoning, point, position, own) {
   const trust = others.length ? `, which ${others.map(nameWords).join(" and ")} found dead or grounded` : "";
   return [
     ...(live.length ? [{ text: `makes ${sectionWords(live)} live${trust} (${OWN})`, asks: others.length > 0, turns: true }] : []),
-    ...(dead.length ? [deadFinding(network, dead)] : []),
+    ...(dead.length ? [deadFinding(network, dead, own)] : []),
   ];
 }
 
@@ -116,7 +117,7 @@ export function findingsAt({ network, states }, name, { action = null, own = nul
     ...holdFindings(state, action, own),
     ...handFindings(state, own, now),
     ...fenceFindings(state, own),
-    ...(action === "CLOSE" ? closingFindings(network, reckoning, state.point) : []),
+    ...(action === "CLOSE" ? closingFindings(network, reckoning, state.point, own) : []),
     ...(MADE[action] ? turnFindings(network, reckoning, state.point, MADE[action], own) : []),
     ...positionFindings(state, own),
   ];
@@ -177,6 +178,6 @@ function crossed({ from, to }, refused) {
 
 function closedJumper(network, known, jumper) {
   const reckoning = new Reckoning(network, known);
-  return [...closingFindings(network, reckoning, jumper), ...turnFindings(network, reckoning, jumper, "closed", null)]
+  return [...closingFindings(network, reckoning, jumper, null), ...turnFindings(network, reckoning, jumper, "closed", null)]
     .map(({ text }) => ({ text: `closed, it ${text.replace(/^(\w+)s /, "would $1 ")}`, asks: false }));
 }

@@ -13,6 +13,9 @@ const PATIENCE = 15000; // the proxy gives up after 10 seconds, and says so
 // proxy, answers in place of what was asked. Refused is when a command was last answered with 503; null: it takes commands.
 export const contact = { answered: null, silentSince: null, why: "", trouble: "", refused: null };
 
+let leaving = false; // whether the page is being left: its requests are ended then
+globalThis.addEventListener?.("beforeunload", () => { leaving = true; });
+
 let last = Promise.resolve();
 let begun = moments(); // when it last answered, or when the page began, by two clocks
 const listeners = [];
@@ -90,6 +93,10 @@ function titleOf(text) {
   return `, ${/<title>\d* ?([^<]*)<\/title>/.exec(text)?.[1] ?? ""}`;
 }
 
+function whyLost({ name }) {
+  return name === "TimeoutError" ? `no answer within ${PATIENCE / 1000} seconds` : "nothing answers at this address";
+}
+
 async function once(method, path, body) {
   const signal = AbortSignal.timeout(PATIENCE);
   const headers = body === undefined ? {} : { "Content-Type": "application/json" };
@@ -98,8 +105,7 @@ async function once(method, path, body) {
     noteDate(answer.headers.get("Date"));
     return judged(answer.status, answer.headers.get("Content-Type") ?? "", await answer.text());
   } catch (fault) {
-    const why = fault.name === "TimeoutError" ? `no answer within ${PATIENCE / 1000} seconds` : "nothing answers at this address";
-    return { kind: "lost", why };
+    return { kind: "lost", why: leaving ? "the page was loaded again before it" : whyLost(fault) };
   }
 }
 
