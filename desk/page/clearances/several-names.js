@@ -50,6 +50,16 @@ function fieldNames(clearance) {
   return { ...own, keepName: (part) => (name) => keep({ fields: { ...kept.fields, [clearance]: { ...kept.fields?.[clearance], [part]: name } } }) };
 }
 
+function nameChoices(clearance, step, staff, caller) {
+  const operators = namesOfRole(staff, "operator").filter(mayUse), fields = namesOfRole(staff, "field").filter(mayUse);
+  const known = fieldNames(clearance);
+  return {
+    giver: nameChoice("giver", operators, kept.giver ?? caller?.name, (name) => keep({ giver: name })),
+    hearer: nameChoice("hearer", fields, known.hearer, known.keepName("hearer")),
+    reporter: nameChoice("reporter", fields, step.reader ?? known.hearer, known.keepName("reporter")),
+  };
+}
+
 // Where no name is chosen yet, that is next.
 function by(pick) {
   if (!pick.value) pick.focus();
@@ -62,12 +72,8 @@ function cell(title, now, pick, ...controls) {
 }
 
 export function severalControl({ view, act, staff, desk, caller }) {
-  const step = presentStep(view), part = PARTS[step.state];
-  const fields = namesOfRole(staff, "field").filter(mayUse), { clearance } = view.card;
-  const known = fieldNames(clearance);
-  const giver = nameChoice("giver", namesOfRole(staff, "operator").filter(mayUse), kept.giver ?? caller?.name, (name) => keep({ giver: name }));
-  const hearer = nameChoice("hearer", fields, known.hearer, known.keepName("hearer"));
-  const reporter = nameChoice("reporter", fields, step.reader ?? known.hearer, known.keepName("reporter"));
+  const step = presentStep(view), part = PARTS[step.state], { clearance } = view.card;
+  const { giver, hearer, reporter } = nameChoices(clearance, step, staff, caller);
   const heard = heardInput(view, step);
   const does = {
     giver: () => by(giver) && instruct(desk, view, step, act, by(giver)),
