@@ -122,9 +122,10 @@ function followNetwork() {
   const staff = [...network.staff.keys()].join(" ");
   if (drawnShape !== network.shape) {
     drawnShape = network.shape;
+    const before = desk.diagram;
     desk.diagram = makeDiagram();
     desk.diagram.pick(desk.picking);
-    looked = "";
+    if (before) desk.diagram.viewAs(before);
     placeDiagram();
   }
   if (listedStaff !== staff) {

@@ -88,7 +88,8 @@ class Hand:
 
     def post(self, command, at=None):
         """Another desk's command, now; it is accepted."""
-        body = json.dumps(dict(command, at=int(time.time()) if at is None else at)).encode()
+        timed = command if command["do"] == "jumper" else dict(command, at=int(time.time()) if at is None else at)
+        body = json.dumps(timed).encode()
         request = urllib.request.Request(f"{self.desk.address}command", body, {"Content-Type": "application/json"})
         try:
             direct.open(request, timeout=20).close()

@@ -5,7 +5,8 @@ import { holdWord } from "../replies/words.js";
 import { el, svg, button, unbroken } from "../shared/elements.js";
 import { isOffNormal } from "../shared/point-states.js";
 import { Roving } from "./arrow-keys.js";
-import { BOX, layOut } from "./layout.js";
+import { BOX } from "./boxes.js";
+import { layOut } from "./layout.js";
 import { sectionMarks } from "./mark-words.js";
 import { Writing } from "./texts.js";
 import { Zoom } from "./zoom.js";
@@ -96,7 +97,7 @@ export class Diagram {
     this.#frame = el("div", { class: "net", tabindex: 0, role: "group", "aria-label": `One-line diagram. ${KEYS}` }, drawing);
     // At the frame: a browser takes each part of a drawing that listens for the focus for a stop of Tab.
     this.#frame.addEventListener("focusin", ({ target: { dataset } }) => { if (dataset.kind === this.#picking?.kind) this.#roving[dataset.kind]?.onFocus(dataset.name); });
-    this.#zoom = new Zoom(this.#frame, drawing, this.#plan, (scale) => this.#writing.atScale(scale));
+    this.#zoom = new Zoom(this.#frame, drawing, this.#plan, (scale, view) => this.#writing.atView(scale, view));
     this.#roving = this.#rovings();
     this.node = el("div", { class: "diagram" }, this.#tools(), this.#byKeys, this.#frame, this.#dead, legend());
   }
@@ -107,6 +108,11 @@ export class Diagram {
     const sections = new Map([...this.#plan.spots.values()].map(({ name, x, y, width }) => [name, { x: x + width / 2, y }]));
     const points = new Map(this.#plan.edges.map(({ point, x, y }) => [point.name, { x, y }]));
     return { section: new Roving(sections, this.#sections, reveal), point: new Roving(points, this.#points, reveal) };
+  }
+
+  // Shows what another drawing of the same register showed: all but jumpers lies in the same places.
+  viewAs(other) {
+    if (other instanceof Diagram) this.#zoom.viewAs(other.#zoom);
   }
 
   // Tab leads to what is picked, or to what is in the middle.
@@ -124,7 +130,7 @@ export class Diagram {
   }
 
   #draw() {
-    const base = this.#plan.edges.map((edge) => svg("path", { class: "line", d: edge.path }));
+    const base = this.#plan.edges.map((edge) => svg("path", { class: `line ${edge.kind}`, d: edge.path }));
     const dots = this.#plan.edges.flatMap((edge) => [edge.dot, edge.other]).filter(Boolean)
       .map(([cx, cy]) => svg("circle", { class: "dot", cx, cy, r: 2.5 }));
     const sections = [...this.#plan.spots.values()].map((spot) => this.#group("section", spot.name, spot.x, spot.y, this.#sections));

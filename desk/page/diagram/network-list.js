@@ -21,6 +21,8 @@ export class NetList {
 
   lookAt() {}
 
+  viewAs() {}
+
   update(seen) {
     this.#last = seen;
     if (!seen) return;

@@ -3,7 +3,7 @@
 
 import { svg } from "../shared/elements.js";
 import { isOffNormal } from "../shared/point-states.js";
-import { BOX } from "./layout.js";
+import { BOX, pointBox, sectionBox } from "./boxes.js";
 import { formsOf, holdMarks } from "./mark-words.js";
 import { Labels, LINE, leaderTo } from "./text-places.js";
 
@@ -11,38 +11,35 @@ const NAME = 12.5, LABEL = 11, MARK = 10.5; // sizes in the drawing, from near b
 const LEAST = 8;                            // the size of a label on the screen, in pixels, from far off
 const LEAST_INSIDE = 7.4;                   // that of a name in its box
 const PART = 8;                             // a size is rounded up to such a part of itself
-const HALF = 7, FEED = 28;                  // half a point; what a source has at its left
+const FEED = 28;                            // what a source has at its left
 const KINDS = ["live", "bad", "turn", "plain", "dead"]; // of the marks at a section, the worst first
-const SIDES = { row: ["above", "below", "right", "left"], upright: ["right", "left", "below", "above"], lane: ["above", "below", "right", "left"] };
+const SIDES = { row: ["above", "below", "right", "left"], upright: ["right", "left", "below", "above"], lane: ["above", "below", "right", "left"], jumper: ["right", "left", "above", "below"] };
 
 export class Writing {
-  #network; #plan; #labels; #factor = 0; #inside = NAME; #seen = null; #key = "";
+  #network; #plan; #labels; #factor = 0; #inside = NAME; #view = null; #seen = null; #key = "";
   node = svg("g", { class: "writing" });
 
   constructor(network, plan) {
     this.#network = network;
     this.#plan = plan;
-    const sections = [...plan.spots.values()].map((spot) => this.#boxOf(spot));
+    const sections = [...plan.spots.values()].map(sectionBox);
     const feeds = [...plan.spots.values()].filter((spot) => network.sections.get(spot.name).source)
       .map(({ x, y }) => [x - FEED, y - BOX / 2, x, y + BOX / 2]);
-    this.#labels = new Labels([...sections, ...feeds, ...plan.edges.map((edge) => this.#pointBox(edge))], plan.edges.map((edge) => edge.path), plan);
+    this.#labels = new Labels([...sections, ...feeds, ...plan.edges.map(pointBox)], plan.edges, plan);
+    addEventListener("beforeprint", () => this.#writeWhole());
   }
 
-  #boxOf({ x, y, width }) {
-    return [x, y - BOX / 2, x + width, y + BOX / 2];
+  // The scale at which the drawing is shown, once it is still, and what of it is in view. Before that is known nothing is written.
+  atView(scale, view) {
+    this.#factor = Math.max(1, Math.ceil((LEAST / (LABEL * scale)) * PART) / PART);
+    this.#inside = NAME * scale >= LEAST_INSIDE ? NAME : 0;
+    this.#view = view;
+    if (this.#seen) this.write(this.#seen);
   }
 
-  #pointBox({ x, y }) {
-    return [x - HALF, y - HALF, x + HALF, y + HALF];
-  }
-
-  // The scale at which the drawing is shown, once it is still. Before that is known nothing is written.
-  atScale(scale) {
-    const factor = Math.max(1, Math.ceil((LEAST / (LABEL * scale)) * PART) / PART);
-    const inside = NAME * scale >= LEAST_INSIDE ? NAME : 0;
-    if (factor === this.#factor && inside === this.#inside) return;
-    this.#factor = factor;
-    this.#inside = inside;
+  // On paper there is no edge of a view.
+  #writeWhole() {
+    this.#view = null;
     if (this.#seen) this.write(this.#seen);
   }
 
@@ -51,14 +48,14 @@ export class Writing {
     this.#seen = seen;
     if (!this.#factor) return;
     const labels = [...this.#sectionLabels(seen), ...this.#pointLabels(seen)];
-    const key = JSON.stringify([this.#factor, this.#inside, labels.map(({ rank, forms, kind }) => [rank, forms, kind])]);
+    const key = JSON.stringify([this.#factor, this.#inside, this.#view, labels.map(({ rank, forms, kind }) => [rank, forms, kind])]);
     if (key === this.#key) return;
     this.#key = key;
     labels.sort((a, b) => a.rank - b.rank);
-    const places = this.#labels.place(labels);
+    const places = this.#labels.place(labels, this.#view);
     const drawn = labels.flatMap((label, place) => (places[place] ? this.#drawn(label, places[place]) : []));
-    const isText = (node) => node.localName === "text";
-    this.node.replaceChildren(...drawn.filter((node) => !isText(node)), ...drawn.filter(isText)); // no leader over a text
+    const of = (tag) => drawn.filter((node) => node.localName === tag);
+    this.node.replaceChildren(...of("path"), ...of("rect"), ...of("text")); // no leader over a text
   }
 
   // Ranks: from near by names come first, so that they do not move; from far off what is being worked on.
@@ -72,7 +69,7 @@ export class Writing {
 
   #sectionLabels({ marks, fence, found, picked }) {
     return [...this.#plan.spots.values()].flatMap((spot) => {
-      const { name } = spot, own = marks.get(name) ?? [], box = this.#boxOf(spot), { source } = this.#network.sections.get(name);
+      const { name } = spot, own = marks.get(name) ?? [], box = sectionBox(spot), { source } = this.#network.sections.get(name);
       const said = own.some(({ kind }) => kind !== "dead"), matters = found.has(name) || said || fence.has(name);
       const names = this.#label(NAME, { of: name, kind: "name", box, inside: this.#inside, sides: ["above", "below"],
         forms: [[`${picked("section", name) ? "✓ " : ""}${name}`]], rank: this.#rank(0, matters ? 0.5 : source ? 3 : 5) });
@@ -86,7 +83,7 @@ export class Writing {
   #pointLabels({ states, found, picked }) {
     return this.#plan.edges.flatMap((edge) => {
       const { name } = edge.point, state = states.get(name), chosen = picked("point", name), held = holdMarks(state);
-      const box = this.#pointBox(edge), sides = SIDES[edge.kind];
+      const box = pointBox(edge), sides = SIDES[edge.kind];
       const matters = found.has(name) || chosen || held.length || isOffNormal(state);
       const names = this.#label(LABEL, { of: name, kind: "label", box, sides,
         forms: [[`${chosen ? "✓ " : ""}${name}${isOffNormal(state) ? " ≠" : ""}`]], rank: this.#rank(1, matters ? 4 : 6) });
@@ -95,9 +92,12 @@ export class Writing {
     });
   }
 
-  #drawn({ of, kind, kinds = [], box }, { x, y, size, anchor, form, ring, rect }) {
+  // A text over a line lies on a plate, so that no line strikes it through.
+  #drawn({ of, kind, kinds = [], box }, { x, y, size, anchor, form, ring, rect, over }) {
     const texts = form.map((text, line) => svg("text", {
       class: `${kind} ${kinds[line] ?? ""}`, "data-of": of, x, y: y + line * size * LINE + size * 0.93, "font-size": size, "text-anchor": anchor }, text));
-    return ring > 0 ? [svg("path", { class: "leader", d: leaderTo(box, rect) }), ...texts] : texts;
+    const plate = over ? [svg("rect", { class: "plate", x: rect[0], y: rect[1], width: rect[2] - rect[0], height: rect[3] - rect[1] })] : [];
+    const leader = ring > 0 ? [svg("path", { class: "leader", d: leaderTo(box, rect) })] : [];
+    return [...leader, ...plate, ...texts];
   }
 }

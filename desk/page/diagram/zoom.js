@@ -1,7 +1,7 @@
 // Zoom and pan of a drawing, by wheel, drag, buttons and keys. The drawing is as large as it is, and is moved and scaled
 // within its frame as one picture: while that goes on nothing is drawn again, and it is drawn sharply once it is still.
 
-const MOST = 3, LEAST = 0.05, READABLE = 0.6, FAR = 0.42, CLOSE = 0.8, LARGEST = 1.4, STEP = 1.25, PAN = 80, DRAG = 5;
+const MOST = 3, LEAST = 0.05, READABLE = 0.6, FAR = 0.42, CLOSE = 0.8, LARGEST = 2, STEP = 1.25, PAN = 80, DRAG = 5;
 const EDGE = 40;   // pixels from the edge of the frame, within which a place is not in view
 const STILL = 10;  // frames without a move, after which it is still: on a slow machine they take longer
 
@@ -18,7 +18,7 @@ export class Zoom {
   #later = null;   // the next look at whether it is still
   #quiet = 0;      // frames since it was moved
 
-  // `changed(scale)` is called whenever the drawing is shown at a scale.
+  // `changed(scale, view)` is called whenever the drawing is shown at a scale; `view` is what of it is seen, as a rectangle.
   constructor(frame, drawing, size, changed) {
     this.#frame = frame;
     this.#drawing = drawing;
@@ -42,7 +42,22 @@ export class Zoom {
     this.#place();
     this.#drawing.classList.remove("moving");
     this.#frame.classList.toggle("far", this.#scale < FAR);
-    this.#changed(this.#scale);
+    this.#changed(this.#scale, this.#view());
+  }
+
+  // What is seen of the drawing, in whole places of it: [left, top, right, bottom].
+  #view() {
+    const { width, height } = this.#box(), within = 1 / this.#scale;
+    return [Math.ceil(this.#x + within), Math.ceil(this.#y + within), Math.floor(this.#x + width / this.#scale - within), Math.floor(this.#y + height / this.#scale - within)];
+  }
+
+  // Shows what another one showed.
+  viewAs(other) {
+    this.#byHand = other.#byHand;
+    this.#middle = other.#middle;
+    this.#x = other.#x;
+    this.#y = other.#y;
+    this.#scale = other.#scale;
   }
 
   #move() {

@@ -6,7 +6,7 @@ import { normalPositions } from "./served-files.js";
 
 export const network = {
   sections: new Map(), // name: { name, source, live, holds }
-  points: new Map(),   // name: { name, from, to, lockable, remote, jumper, position, hand, holds, normal, first }
+  points: new Map(),   // name: { name, from, to, lockable, remote, jumper, position, hand, holds, normal }
   staff: new Map(),    // name: { name, role, supervisor }
   ways: new Map(),     // section: the points with an end there
   shape: "",           // what the diagram is drawn from: it is drawn again where this has changed
@@ -27,11 +27,9 @@ function sectionOf({ section: name, source, live, holds }) {
   return { name, source, live, holds };
 }
 
-// Normal positions come from the points file, where it is there: the register keeps none. `first` is what this page saw
-// first: by it the diagram lies as it did when another position comes.
+// Normal positions come from the points file that the register was made from, where that is served. A jumper has none.
 function pointOf({ point: name, from, to, lockable, remote, jumper, position, hand, holds }, normal) {
-  const first = network.points.get(name)?.first ?? position;
-  return { name, from, to, lockable, remote, jumper, position, hand, holds: inOrder(holds), first, normal: normal.get(name) ?? null };
+  return { name, from, to, lockable, remote, jumper, position, hand, holds: inOrder(holds), normal: jumper ? null : normal.of(name, from, to) };
 }
 
 function fillWays() {
@@ -47,7 +45,7 @@ export async function takeNetwork({ sections, points, staff }) {
   refill(network.points, points.map((row) => pointOf(row, normal)));
   refill(network.staff, staff.map(({ employee: name, role, supervisor }) => ({ name, role, supervisor })));
   fillWays();
-  network.shape = [...network.sections.keys(), "|", ...network.points.keys()].join(" ");
+  network.shape = [normal.known, ...network.sections.keys(), "|", ...network.points.keys()].join(" ");
 }
 
 export function marksOf(point) {

@@ -1,26 +1,42 @@
 // Files that the proxy serves where they are there: the points file, whose positions are the normal ones, and the list of
 // logins. Names have no comma, no quote and no blank, so a field is what lies between two commas.
 
+// The text of a file: empty where it is not there, null where no answer came.
 async function text(path) {
   const answer = await fetch(path, { cache: "no-store" }).catch(() => null);
-  return answer?.ok ? answer.text() : null;
+  if (answer?.ok) return answer.text();
+  return answer && answer.status < 500 ? "" : null;
 }
 
-// The rows of a file as objects by its header; null where the file is not there, or is another one.
-async function rows(path, header) {
-  const lines = ((await text(path)) ?? "").replace(/^\uFEFF/, "").split(/\r\n|\n|\r/).filter(Boolean)
+// The rows of a file as objects by its header; null where the file is not there, or is another one, and where no answer came.
+async function rows(path, header, found = text(path)) {
+  const lines = ((await found) ?? "").replace(/^\uFEFF/, "").split(/\r\n|\n|\r/).filter(Boolean)
     .map((line) => line.split(",").map((part) => part.replace(/^"|"$/g, "")));
   const [head = [], ...rest] = lines;
   if (head.join() !== header) return null;
   return rest.map((fields) => Object.fromEntries(head.map((name, place) => [name, fields[place]])));
 }
 
+const NOTHING = { known: false, of: () => null };
 let normal = null;
 
-// Each point's normal position, as the points file has it; asked for once.
-export function normalPositions() {
-  normal ??= rows("normal", "point,from,to,lockable,remote,position").then((found) => new Map((found ?? []).map(({ point, position }) => [point, position])));
-  return normal;
+// The normal position of each point of that name between these two sections: a row with other ends is of another file.
+function normalIn(found) {
+  const rowOf = new Map(found.map((row) => [row.point, row]));
+  const of = (name, from, to) => {
+    const row = rowOf.get(name);
+    return row && row.from === from && row.to === to && ["open", "closed"].includes(row.position) ? row.position : null;
+  };
+  return { known: true, of };
+}
+
+// Normal positions, by the points file that the register was made from: { known, of(name, from, to) }. Asked for once, and
+// again where no answer came.
+export async function normalPositions() {
+  if (normal) return normal;
+  const file = await text("normal"), found = await rows("normal", "point,from,to,lockable,remote,position", file);
+  if (file !== null) normal = found ? normalIn(found) : NOTHING;
+  return normal ?? NOTHING;
 }
 
 // Whose login this is, and the names that it may use: null for all, where there is no list of logins.

@@ -1,0 +1,107 @@
+// The tree by which the diagram lies, and the columns and rows of its sections. It is a function of the file's network:
+// jumpers, the positions of now, and when a page was opened never shape it, so that each desk draws the same picture.
+
+const MOST_STRIPS = 12;
+
+// The sections and points that are no jumpers: `ways` has the points of each section that has any.
+function fixedOf({ sections, points }) {
+  const ways = new Map();
+  for (const point of points.values()) {
+    if (point.jumper) continue;
+    for (const end of [point.from, point.to]) (ways.get(end) ?? ways.set(end, []).get(end)).push(point);
+  }
+  return { sections: [...sections.values()].filter(({ name }) => ways.has(name)), ways };
+}
+
+const other = (point, name) => (point.from === name ? point.to : point.from);
+
+// First over the points that are not normally open, so that it follows the feeders; all, where that is not known.
+function spanning({ sections, ways }) {
+  const parent = new Map(), order = [], roots = [];
+  const reach = (name, from, point) => { parent.set(name, from ? { from, point } : null); order.push(name); };
+  const grow = (start) => {
+    for (let place = start; place < order.length; place++) {
+      for (const point of ways.get(order[place])) {
+        const next = other(point, order[place]);
+        if (point.normal !== "open" && !parent.has(next)) reach(next, order[place], point);
+      }
+    }
+  };
+  const growOverOpen = () => {
+    for (let place = 0; place < order.length; place++) {
+      for (const point of ways.get(order[place])) {
+        const next = other(point, order[place]);
+        if (parent.has(next)) continue;
+        reach(next, order[place], point);
+        grow(order.length - 1);
+      }
+    }
+  };
+  const plant = (name) => { roots.push(name); reach(name); };
+  for (const { name, source } of sections) if (source) plant(name);
+  grow(0);
+  growOverOpen();
+  for (const { name } of sections) {
+    if (parent.has(name)) continue;
+    plant(name);
+    grow(order.length - 1);
+    growOverOpen();
+  }
+  return { parent, order, roots };
+}
+
+// Each section's children, the one with the longest way after it first.
+function childrenOf({ parent, order }) {
+  const children = new Map(order.map((name) => [name, []])), long = new Map();
+  for (const name of [...order].reverse()) {
+    const own = children.get(name).sort((a, b) => long.get(b) - long.get(a) || (a < b ? -1 : 1));
+    long.set(name, 1 + (own.length ? long.get(own[0]) : 0));
+    const up = parent.get(name);
+    if (up) children.get(up.from).push(name);
+  }
+  return children;
+}
+
+export function treeOf(network) {
+  const tree = spanning(fixedOf(network));
+  return { ...tree, children: childrenOf(tree) };
+}
+
+// Columns and rows. A chain of first children keeps one row; what branches off goes below, from its end backwards, so
+// that no line down runs through a section. Where a strip has its rows, the next source begins a strip beside it.
+function placed({ roots, children }, limit) {
+  const spots = new Map();
+  let bottom = [], begin = 0, columns = 0, rows = 0;
+  const place = (first, column) => {
+    const chain = [first];
+    while (children.get(chain.at(-1)).length) chain.push(children.get(chain.at(-1))[0]);
+    const row = Math.max(...chain.map((_, step) => (bottom[column + step] ?? -1) + 1));
+    chain.forEach((name, step) => {
+      spots.set(name, { name, column: column + step, row });
+      bottom[column + step] = row;
+    });
+    columns = Math.max(columns, column + chain.length);
+    rows = Math.max(rows, row + 1);
+    for (let step = chain.length - 1; step >= 0; step--) {
+      for (const child of children.get(chain[step]).slice(1)) place(child, column + step + 1);
+    }
+  };
+  for (const root of roots) {
+    if (Math.max(0, ...bottom.filter((row) => row !== undefined)) + 1 >= limit && bottom.length) {
+      begin = columns;
+      bottom = [];
+    }
+    place(root, begin);
+  }
+  return { spots, columns, rows };
+}
+
+// The ways to place a tree: in one strip, in two beside one another, and so on.
+export function placings(tree) {
+  const whole = placed(tree, Infinity), found = [whole];
+  for (let strips = 2; strips <= MOST_STRIPS && strips <= tree.roots.length; strips++) {
+    const next = placed(tree, Math.ceil(whole.rows / strips)), last = found.at(-1);
+    if (next.columns !== last.columns || next.rows !== last.rows) found.push(next);
+  }
+  return found;
+}
