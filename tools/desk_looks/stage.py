@@ -49,6 +49,16 @@ class Stage:
             hand.speak(speaker)
         return hand
 
+    def add_normal(self, *rows):
+        """Puts rows into the file of normal positions that the page is served."""
+        folder = os.path.join(self.desk.run_folder(), "desk", "files")
+        served = next(path for path in (os.path.join(folder, name) for name in ("normal.csv", "points.csv")) if os.path.exists(path))
+        with open(served, encoding="utf-8") as file:
+            own = {row.split(",")[0] for row in rows}
+            kept = [line.rstrip("\n") for line in file if line.split(",")[0] not in own]
+        with open(served, "w", encoding="utf-8") as file:
+            file.write("".join(f"{line}\n" for line in [*kept, *rows]))
+
     def window(self, page="board"):
         """A window more, each a browser of its own."""
         hand = self.bare_window()

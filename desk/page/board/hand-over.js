@@ -6,7 +6,7 @@ import { el, button, choice, field, panel, table, unbroken } from "../shared/ele
 import { alarms } from "../shared/live-alarms.js";
 import { shortTime, wholeTime } from "../shared/moments.js";
 import { namesOfRole, network } from "../shared/network.js";
-import { isOffNormal } from "../shared/point-states.js";
+import { isOffNormal, knowsNormal } from "../shared/point-states.js";
 import { room } from "../shared/watch.js";
 import { recordRows } from "./board-page.js";
 
@@ -63,7 +63,7 @@ export class ShiftPage {
       el("h3", {}, `Open: ${room.board.length} ${room.board.length === 1 ? "record" : "records"}`),
       this.#desk.caller ? null : el("p", {}, "No name is chosen: steps, work and crews are not read."),
       records.length ? table(HEADS, records.map(recordRow)) : el("p", {}, "None."),
-      list("Points held, in hand, or not normal", moved), list("Jumpers", jumpers),
+      list(knowsNormal() ? "Points held, in hand, or not normal" : "Points held or in hand", moved), list("Jumpers", jumpers),
       list("Dead by the register's positions", dead.length ? [sectionWords(dead, dead.length)] : []),
       this.#notes.value ? [el("h3", {}, "Further"), el("p", { class: "notes" }, this.#notes.value)] : null,
       el("p", {}, CHECKED),

@@ -4,7 +4,7 @@ import { holdWord, stateWord } from "../replies/words.js";
 import { el, field, panel, table } from "../shared/elements.js";
 import { shortTime } from "../shared/moments.js";
 import { marksOf } from "../shared/network.js";
-import { isOffNormal } from "../shared/point-states.js";
+import { isOffNormal, knowsNormal } from "../shared/point-states.js";
 import { room } from "../shared/watch.js";
 
 const MOST_LISTED = 300;
@@ -41,7 +41,7 @@ function row(state) {
   return el("tr", { "data-point": point.name },
     el("th", { scope: "row" }, point.name), el("td", {}, `${point.from} – ${point.to}`), el("td", { "data-head": "marks" }, marksOf(point)),
     el("td", { "data-head": "now" }, el("strong", {}, state.position), isOffNormal(state) ? " ≠" : ""),
-    el("td", { "data-head": "normally" }, point.normal ?? "not known"), cell(state.hand ? links([state.hand]) : null, "in hand of"),
+    cell(point.normal, "normally"), cell(state.hand ? links([state.hand]) : null, "in hand of"),
     cell(holdsCell(state)), cell(stepsCell(state)));
 }
 
@@ -53,7 +53,7 @@ export class PointsPage {
   constructor(desk, name = "") {
     this.#desk = desk;
     this.#filter = el("input", { type: "search", size: 16, value: name, "data-name": "filter", oninput: () => this.update() });
-    const kinds = el("fieldset", { class: "kinds" }, el("legend", {}, "Show"), Object.entries(KINDS).map(([kind, [text]]) =>
+    const kinds = el("fieldset", { class: "kinds" }, el("legend", {}, "Show"), Object.entries(KINDS).filter(([kind]) => kind !== "off" || knowsNormal()).map(([kind, [text]]) =>
       el("label", { class: "radio" }, el("input", { type: "radio", name: "kind", checked: kind === "all", onchange: () => { this.#kind = kind; this.update(); } }), text)));
     this.node = el("section", { class: "points" }, el("h2", { tabindex: -1 }, "Points"),
       el("div", { class: "line" }, field("Point or section", this.#filter), kinds), this.#count, this.#rows);

@@ -1,7 +1,7 @@
-// What is in the way of a step, and what it would do, by this page's reckoning: a hold, a hand, another's fence, a position
-// that is not normal, what a CLOSE would join, and what becomes live or dead. A finding is { text, asks, turns, asked };
-// `asks`: it is asked about before anything is sent, by the text `asked` where that is another; `turns`: it says what
-// becomes live or dead; `loops`: it closes a loop.
+// What is in the way of a step, and what it would do, by this page's reckoning: a position that it has already, a hold, a
+// hand, another's fence, a position that is not normal, what a CLOSE would join, and what becomes live or dead. A finding
+// is { text, asks, turns, asked }; `asks`: it is asked about before anything is sent, by the text `asked` where that is
+// another; `turns`: it says what becomes live or dead; `loops`: it closes a loop.
 
 import { holdWord } from "../replies/words.js";
 import { Reckoning } from "../shared/feeding.js";
@@ -37,6 +37,12 @@ function holdFindings(state, action, own) {
     if (action === "CLOSE") return { text: `would be refused (HELD) for ${nameWords(by)}, which has it ${kinds}`, asks: true };
     return { text: `${nameWords(by)} has it ${kinds}${action ? "" : "; a CLOSE would be refused for it"}`, asks: false };
   });
+}
+
+// A step that changes nothing may be meant for another point.
+function sameFindings(reckoning, name, action) {
+  const position = { OPEN: "open", CLOSE: "closed" }[action];
+  return position && reckoning.positionOf(name) === position ? [{ text: `is ${position} already`, asks: true }] : [];
 }
 
 // Where a step is to go out now, a hand refuses it; while an order is written it may be gone by then.
@@ -114,6 +120,7 @@ export function findingsAt({ network, states }, name, { action = null, own = nul
   const state = known.get(name);
   if (!state) return [{ text: "not in the network, as this page last read it", asks: action === "CLOSE" }];
   return [
+    ...sameFindings(reckoning, name, action),
     ...holdFindings(state, action, own),
     ...handFindings(state, own, now),
     ...fenceFindings(state, own),
@@ -131,7 +138,7 @@ export function flagOf({ states }, name, own = null, known = states()) {
     holders.length ? `held by ${holders.join(", ")}` : "",
     state.hand && state.hand !== own ? `in hand of ${state.hand}` : "",
     around.length ? `in the fence of ${around.map(([id]) => id).join(", ")}` : "",
-    isOffNormal(state) && !holders.length ? `${state.position}, normally ${state.point.normal}` : "",
+    isOffNormal(state) && !holders.length ? `normally ${state.point.normal}` : "",
   ].filter(Boolean).join("; ");
 }
 

@@ -7,7 +7,7 @@ import { flagOf } from "./findings.js";
 
 const MOST_LISTED = 150;
 
-// A list of all points with a box each, and a word where something is in the way; the diagram beside it picks the same.
+// A list of all points with a box each, their positions, and a word where something is in the way; the diagram beside it picks the same.
 export class PointPicker {
   #desk; #network; #own; #changed; #filter; #list; #count;
   picked = new Set();
@@ -54,14 +54,14 @@ export class PointPicker {
     const shown = [...first, ...found.filter((point) => !this.picked.has(point.name))].slice(0, MOST_LISTED);
     this.#count.textContent = shown.length < found.length ? `the first ${shown.length} of ${found.length}` : `${found.length} ${found.length === 1 ? "point" : "points"}`;
     const known = this.#desk.states();
-    const rows = shown.map((point) => [point.name, this.picked.has(point.name), flagOf(this.#desk, point.name, this.#own, known)]);
+    const rows = shown.map(({ name }) => [name, this.picked.has(name), known.get(name).position, flagOf(this.#desk, name, this.#own, known)]);
     panel(this.#list, rows, () => rows.map((row) => this.#row(...row)));
   }
 
-  #row(name, picked, flag) {
+  #row(name, picked, position, flag) {
     const point = this.#network.points.get(name);
     const box = el("input", { type: "checkbox", checked: picked, "data-name": `pick ${name}`, onchange: () => this.toggle(name) });
-    return el("li", {}, el("label", {}, box, el("strong", {}, name), ` ${point.from} – ${point.to} `,
+    return el("li", {}, el("label", {}, box, el("strong", {}, name), ` ${point.from} – ${point.to} `, el("strong", { class: "position" }, position), " ",
       el("span", { class: "hint" }, `marks: ${marksOf(point)}`), " ", flag ? el("span", { class: "flag" }, flag) : null));
   }
 }

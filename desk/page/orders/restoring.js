@@ -80,7 +80,7 @@ export class RestoreEditor {
     return el("tr", { "data-point": held.place },
       el("th", { scope: "row" }, held.place, el("p", { class: "hint" }, held.kinds.map(holdWord).join(", ")),
         livingFindings(() => findingsAt(this.#desk, held.place, { own: clearance }))),
-      el("td", { "data-name": "normal", "data-head": "Normally" }, normal ? el("strong", {}, state.point.normal) : "not known"),
+      el("td", { "data-name": "normal", "data-head": normal ? "Normally" : null }, normal ? el("strong", {}, state.point.normal) : "–"),
       this.#before(held.place),
       el("td", { class: "choices" }, (normal === "LEAVE" ? ["LEAVE", "CLOSE"] : ["CLOSE", "LEAVE"]).map(end)));
   }

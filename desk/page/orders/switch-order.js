@@ -1,13 +1,13 @@
 // Writing a switch order: points that are opened and closed, and nothing is held.
 
 import { draft, draftName, keepDraft } from "../shared/drafts.js";
-import { el, button } from "../shared/elements.js";
-import { learn, mayGo, orderNotes, pickedNotes, turnNotes } from "./findings-shown.js";
+import { el, button, panel } from "../shared/elements.js";
+import { learn, living, mayGo, orderNotes, pickedNotes, turnNotes } from "./findings-shown.js";
 import { findingsOfSteps, turnedBySteps } from "./findings.js";
 import { PointPicker, StepList } from "./point-picker.js";
 import { StandardOrders } from "./standard-orders.js";
 
-const DRAFT = draftName("switch");
+const DRAFT = draftName("switch"), MADE = [["OPEN", "open"], ["CLOSE", "closed"]];
 
 // Puts a step to what is half written here, and shows it.
 export function offerStep(text) {
@@ -17,7 +17,7 @@ export function offerStep(text) {
 }
 
 export class SwitchEditor {
-  #desk; #picker; #chosen = el("div", { class: "answers" }); #list;
+  #desk; #picker; #chosen = el("div", { class: "chosen-points" }); #list;
   node;
 
   constructor(desk) {
@@ -32,6 +32,7 @@ export class SwitchEditor {
       el("h3", {}, "Steps, in their order"), this.#list.node, orderNotes(desk, () => this.#list.steps, null), turnNotes(desk, () => this.#list.steps),
       button("Give the switch order", () => this.#send(), { class: "main", "data-name": "switch" }));
     desk.pick(this.#picker);
+    living(this.#chosen, () => this.#drawChosen());
     this.#recall();
   }
 
@@ -62,9 +63,15 @@ export class SwitchEditor {
     this.#desk.redraw();
   }
 
+  // Each picked point with its position, and what may be done there.
   #drawChosen() {
-    this.#chosen.replaceChildren(...[...this.#picker.picked].flatMap((point) => ["OPEN", "CLOSE"].map((action) =>
-      button(`${action} ${point}`, () => this.#list.set([...this.#list.steps, `${action} ${point}`]), { "data-name": `${action} ${point}` }))));
+    const known = this.#desk.states(), rows = [...this.#picker.picked].map((name) => [name, known.get(name)?.position]);
+    panel(this.#chosen, rows, () => rows.map(([name, position]) => el("p", { class: "chosen" }, el("span", {}, el("strong", {}, name), ` is ${position}`),
+      MADE.flatMap(([action, made]) => this.#chooser(`${action} ${name}`, position === made ? `is ${made} already` : null)))));
+  }
+
+  #chooser(text, already) {
+    return [button(text, () => this.#list.set([...this.#list.steps, text]), { "data-name": text }), already ? el("span", { class: "already" }, `${already} `) : null];
   }
 
   async #send() {

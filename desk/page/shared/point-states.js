@@ -16,6 +16,11 @@ export function pointStates(room) {
   return known;
 }
 
+// Whether the normal position of any point is known.
+export function knowsNormal() {
+  return [...network.points.values()].some(({ normal }) => normal !== null);
+}
+
 // Where the normal position is known, and is not the present one.
 export function isOffNormal({ position, point }) {
   return point.normal !== null && position !== point.normal;
