@@ -13,6 +13,7 @@ import { PointsPage } from "./diagram/points-page.js";
 import { noteLacking } from "./log/board-lacks.js";
 import { journal, newest } from "./log/journal.js";
 import { LogPage } from "./log/log-page.js";
+import { readBackTo } from "./log/reading-back.js";
 import { learn } from "./orders/findings-shown.js";
 import { turnedBySteps } from "./orders/findings.js";
 import { JumperForm } from "./orders/jumper.js";
@@ -210,6 +211,7 @@ async function followLog() {
   noteLacking();
   const before = journal.entries;
   await newest();
+  await readBackTo(room.board.filter(({ phase }) => phase === "Granted").map(({ id }) => id)); // for what was found live there
   if (journal.entries !== before) fromAfar(update);
   lookUpOpen();
 }

@@ -23,7 +23,7 @@ def rows(hand):
 
 def search(hand, **parts):
     """Types what is searched for; the other fields are empty."""
-    for name in ("clearance", "point", "employee", "day"):
+    for name in ("clearance", "point", "section", "employee", "login", "day", "reply"):
         hand.browser.script("""const input = document.querySelector('main [data-name="' + arguments[0] + '"]');
             input.value = arguments[1]; input.dispatchEvent(new Event('input'))""", name, parts.get(name, ""))
     time.sleep(0.3)

@@ -6,6 +6,8 @@ import { el, panel, table, unbroken } from "../shared/elements.js";
 import { liveUnder, untested } from "../shared/live-alarms.js";
 import { shortTime, wholeTime } from "../shared/moments.js";
 import { room, viewOf } from "../shared/watch.js";
+import { ageOf, ageWords, isTooLong, outFor } from "./ages.js";
+import { BoardChoice } from "./board-choice.js";
 
 const MOST_NAMED = 3;
 
@@ -54,42 +56,55 @@ function boardRow(row, staff, chosen) {
     el("th", { scope: "row" }, el("a", { href: `#/clearance/${row.id}`, "data-name": row.id }, row.id)),
     el("td", {}, el("span", { class: `phase ${row.phase}`, title: phaseWord(row.phase) }, row.phase)),
     el("td", {}, row.work === "-" ? "switch order" : row.work, hatched ? [" ", el("span", { class: "chip" }, "fence hatched")] : null),
-    el("td", { class: "steps-so-far" }, unbroken(stepsWords(view))),
+    el("td", { class: "steps-so-far" }, unbroken(stepsWords(view)), outChip(outWords(view, row))),
     el("td", {}, workWords(view).map(([kind, text], place) => [place ? "; " : "", el("span", { class: kind || null }, unbroken(text))]).flat()),
     el("td", { "data-head": "holder" }, holderCell(row.holder, row.work, staff)),
-    el("td", { class: "moment", "data-head": "last moment", title: wholeTime(row.last) }, shortTime(row.last)));
+    el("td", { class: "moment", "data-head": "last moment", title: wholeTime(row.last) }, shortTime(row.last)),
+    el("td", { class: "moment", "data-head": "ago" }, ageWords(ageOf(row))));
+}
+
+// How long the present step is out, as [class, text]: marked where that is too long; null where none is out.
+function outWords(view, row) {
+  const seconds = outFor(view, row);
+  return seconds === null ? null : [isTooLong(seconds) ? "chip warn" : "chip", `out ${ageWords(seconds)}`];
+}
+
+function outChip(words) {
+  return words && el("p", {}, el("span", { class: words[0] }, words[1]));
 }
 
 function jumperRow({ point, from, to, position }) {
   return el("tr", {}, el("th", { scope: "row" }, el("a", { href: `#/points/${point}` }, point)), [from, to, position].map((text) => el("td", {}, text)));
 }
 
-function recordsTable(staff, chosen) {
+function recordsTable(rows, staff, chosen) {
   if (!room.board.length) return el("p", {}, "Nothing is open: no clearance and no switch order.");
-  return table(["Name", "Phase", "Section", "Steps", "Work", "Holder", "Last moment"], room.board.map((row) => boardRow(row, staff, chosen)), { class: "wide" });
+  return table(["Name", "Phase", "Section", "Steps", "Work", "Holder", "Last moment", "Ago"], rows.map((row) => boardRow(row, staff, chosen)), { class: "wide" });
 }
 
 export class BoardPage {
-  #desk; #rows = el("div", { class: "sheet" });
+  #desk; #rows = el("div", { class: "sheet" }); #choice = new BoardChoice(() => this.update());
   title = "Board";
   node;
 
   constructor(desk) {
     this.#desk = desk;
-    this.node = el("section", { class: "board" }, el("h2", { tabindex: -1 }, "Board"), this.#rows, el("div", { class: "diagram-place" }));
+    this.node = el("section", { class: "board" }, el("h2", { tabindex: -1 }, "Board"), this.#choice.node, this.#rows, el("div", { class: "diagram-place" }));
     this.update();
   }
 
   update() {
     const { staff } = this.#desk.network;
     const chosen = this.#desk.chosen();
-    const views = room.board.map((row) => viewOf(row.id)).map((view) => [view?.card, view?.fence.length, stepsWords(view), workWords(view)]);
-    const lines = [...room.board, ...room.jumpers].map((row) => row.line);
+    const rows = this.#choice.rows(room.board);
+    const views = rows.map((row) => [viewOf(row.id), row]).map(([view, row]) => [view?.card, view?.fence.length, stepsWords(view), workWords(view), ageWords(ageOf(row)), outWords(view, row)]);
+    const lines = [...rows, ...room.jumpers].map((row) => row.line);
+    this.#choice.node.hidden = !room.board.length;
     panel(this.#rows, [room.read === null, lines, views, chosen, Boolean(this.#desk.caller)], () => {
       if (room.read === null) return el("p", {}, "The board was not read yet.");
       const nobody = this.#desk.caller ? null : el("p", { class: "warning" }, "Say who you are, above: without a name no steps and no work are shown.");
       const jumpers = room.jumpers.length ? table(["Jumper", "From", "To", "Position"], room.jumpers.map(jumperRow)) : null;
-      return [nobody, recordsTable(staff, chosen), jumpers];
+      return [nobody, recordsTable(rows, staff, chosen), jumpers];
     });
   }
 }

@@ -1,9 +1,10 @@
-// The clearances and switch orders of one name, closed ones too: each by its number, through what the register shows.
+// What waits for one name, and its clearances and switch orders, closed ones too: each by its number, through what the register shows.
 
 import { el, button, choice, field, panel, table } from "../shared/elements.js";
 import { shortTime } from "../shared/moments.js";
 import { boardLine, recordsOf, room } from "../shared/watch.js";
 import { stepsWords } from "./board-page.js";
+import { waitingList } from "./waiting.js";
 
 const byNumber = (a, b) => Number(b.card.clearance.split("/")[1]) - Number(a.card.clearance.split("/")[1]);
 
@@ -22,11 +23,11 @@ export class MinePage {
 
   constructor(desk) {
     this.#desk = desk;
-    const names = [...desk.network.staff.values()].filter((one) => one.role !== "field").map((one) => one.name);
+    const names = [...desk.network.staff.keys()];
     const own = names.includes(desk.caller?.name) ? desk.caller.name : "";
     this.#whose = choice([["", "choose"], ...names.map((name) => [name, name])], { "data-name": "whose", onchange: () => this.#ask() }, own);
     this.node = el("section", {}, el("h2", { tabindex: -1 }, "My clearances"),
-      el("div", { class: "line" }, field("Asked for, or held, by", this.#whose), button("Ask again", () => this.#ask())), this.#rows);
+      el("div", { class: "line" }, field("Of", this.#whose), button("Ask again", () => this.#ask())), this.#rows);
     this.#ask();
   }
 
@@ -42,11 +43,15 @@ export class MinePage {
     const views = [...room.views.values(), ...room.closed.values()];
     const own = views.filter((view) => view.card.clearance.startsWith(`${name}/`)).sort(byNumber);
     const held = views.filter((view) => view.card.holder === name && !own.includes(view));
-    panel(this.#rows, [name, own, held, Boolean(this.#desk.caller)], () => {
+    const waiting = waitingList(name, this.#desk.network.staff);
+    panel(this.#rows, [waiting.key, own, held, Boolean(this.#desk.caller)], () => {
       if (!this.#desk.caller) return el("p", {}, "Say who you are, above.");
-      if (!name) return el("p", {}, "Choose a name.");
-      if (!own.length && !held.length) return el("p", {}, `${name} has no clearance and no switch order.`);
-      return table(["Name", "Phase", "Section", "Steps", "Holder", "Last moment"], [...own, ...held].map(row), { class: "wide" });
+      return name ? [waiting.draw(), el("h3", {}, `Asked for, or held, by ${name}`), this.#records(name, own, held)] : el("p", {}, "Choose a name.");
     });
+  }
+
+  #records(name, own, held) {
+    if (!own.length && !held.length) return el("p", {}, `${name} has no clearance and no switch order.`);
+    return table(["Name", "Phase", "Section", "Steps", "Holder", "Last moment"], [...own, ...held].map(row), { class: "wide" });
   }
 }

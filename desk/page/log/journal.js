@@ -1,30 +1,21 @@
-// The register's journal, as the proxy serves it where this desk has one: read from its end backwards, a piece at a time.
-// Each entry is a line of it: { command, login, number, received, reply }, and `withdrawn` where a later line says so.
+// The register's journal, as the proxy serves it where this desk has one: read from its end backwards, a piece at a time, and
+// on through its parts. Each entry is a line of it: { command, login, number, received, reply }, and `withdrawn` where a
+// later line says so.
+
+import { bytesOf, NEWEST, partFiles } from "./journal-files.js";
 
 const PIECE = 1 << 20; // bytes
 const LINE_FEED = 10;
 const AGAIN = 30000; // milliseconds after which a journal that was not there is asked for again
 
-// `state`: "new" until it was asked for, "read", "none" where there is no journal, or "failed".
-export const journal = { state: "new", entries: [], begin: 0, end: 0 };
+// `state`: "new" until it was asked for, "read", "none" where there is no journal, or "failed". `end` is where the newest file
+// ends; `file` is the one that is being read backwards, as far as `begin`; `older` are the parts before that one, null while
+// they are not known.
+export const journal = { state: "new", entries: [], begin: 0, end: 0, file: NEWEST, older: null };
 
 let withdrawn = new Set();
 let turn = Promise.resolve();
 let missed = -AGAIN; // when it was not there
-
-// The bytes of a range, where they begin, and the size of the whole; null where there are none.
-async function bytesOf(range) {
-  const answer = await fetch("journal", { headers: { Range: `bytes=${range}` }, cache: "no-store" }).catch(() => null);
-  if (answer?.status === 416) return { bytes: new Uint8Array(), from: null, size: Number(/\/(\d+)$/.exec(answer.headers.get("Content-Range") ?? "")?.[1] ?? 0) };
-  if (!answer?.ok) {
-    journal.state = answer?.status === 404 ? "none" : "failed";
-    missed = performance.now();
-    return null;
-  }
-  const bytes = new Uint8Array(await answer.arrayBuffer());
-  const [, from = 0, size = bytes.length] = /^bytes (\d+)-\d+\/(\d+)$/.exec(answer.headers.get("Content-Range") ?? "") ?? [];
-  return { bytes, from: Number(from), size: Number(size) };
-}
 
 function entryIn(line) {
   try {
@@ -41,42 +32,88 @@ function entriesIn(bytes) {
   return found.filter((entry) => entry.command);
 }
 
-function forget() {
-  Object.assign(journal, { entries: [], begin: 0, end: 0 });
-  withdrawn = new Set();
-}
-
 function keep(entries) {
   for (const entry of entries) entry.withdrawn = withdrawn.has(entry.number);
   journal.entries = entries;
   journal.state = "read";
 }
 
-// The end of the journal, or what has come to it since: the last line counts once its line feed is there.
-async function readNewest() {
-  if (journal.state !== "read" && performance.now() - missed < AGAIN) return;
-  const first = journal.state !== "read", found = await bytesOf(first ? `-${PIECE}` : `${journal.end}-`);
-  if (!found) return;
-  if (!first && (found.from === null ? found.size < journal.end : found.from !== journal.end)) {
-    forget();
-    journal.state = "new";
-    return readNewest(); // another journal
+// What was read goes on with these entries: they overlap it, or follow it. Otherwise they are of another journal.
+function joins(known, found) {
+  const last = known.at(-1), [first] = found;
+  if (!last || !first) return true;
+  const same = known.findLast(({ number }) => number === first.number);
+  return same ? same.received === first.received && JSON.stringify(same.command) === JSON.stringify(first.command) : first.number === last.number + 1;
+}
+
+function forget() {
+  journal.entries = [];
+  withdrawn = new Set();
+}
+
+// The whole lines of what was found, and where they begin and end.
+function linesOf({ bytes, from }, isBegin) {
+  const skip = isBegin || !from ? 0 : bytes.indexOf(LINE_FEED) + 1, last = Math.max(bytes.lastIndexOf(LINE_FEED) + 1, skip);
+  return { found: entriesIn(bytes.slice(skip, last)), begin: (from ?? 0) + skip, end: (from ?? 0) + last };
+}
+
+// The newest file from its end, at first and where it is another one than before, as after a rotation.
+async function readFromEnd() {
+  const answer = await bytesOf(NEWEST, `-${PIECE}`);
+  if (!answer.bytes) {
+    journal.state = answer.status === 404 ? "none" : "failed";
+    missed = performance.now();
+    return;
   }
-  if (!first && !found.bytes.length) return;
-  const { bytes, from } = found, last = bytes.lastIndexOf(LINE_FEED) + 1;
-  const skip = first && from ? bytes.indexOf(LINE_FEED) + 1 : 0;
-  if (first) journal.begin = (from ?? 0) + skip;
-  if (last > skip || first) journal.end = (from ?? 0) + Math.max(last, skip);
-  keep([...journal.entries, ...entriesIn(bytes.slice(skip, Math.max(last, skip)))]);
+  const { found, begin, end } = linesOf(answer, false);
+  if (!joins(journal.entries, found)) forget();
+  Object.assign(journal, { begin, end, file: NEWEST, older: null });
+  keep([...journal.entries.filter(({ number }) => number < (found[0]?.number ?? Infinity)), ...found]);
+  if (!begin && !isWhole()) journal.older = await partFiles();
+}
+
+// What has come to the journal since: the last line counts once its line feed is there.
+async function readNewest() {
+  if (journal.state !== "read") {
+    if (performance.now() - missed >= AGAIN) await readFromEnd();
+    return;
+  }
+  const answer = await bytesOf(NEWEST, `${journal.end}-`);
+  if (!answer.bytes) {
+    missed = performance.now();
+    if (answer.status) journal.state = answer.status === 404 ? "none" : "failed";
+    return;
+  }
+  const isOther = answer.from === null ? answer.size < journal.end : answer.from !== journal.end;
+  const { found, end } = isOther ? { found: [] } : linesOf(answer, true), last = journal.entries.at(-1);
+  if (isOther || (found.length && last && found[0].number !== last.number + 1)) {
+    await readFromEnd();
+    return;
+  }
+  if (answer.bytes.length && end > journal.end) {
+    journal.end = end;
+    keep([...journal.entries, ...found]);
+  }
+}
+
+// Where a file is read to its beginning, on to the part before it; false where there is none.
+async function goOn() {
+  if (journal.begin) return true;
+  journal.older ??= await partFiles();
+  if (!journal.older?.length) return false;
+  const file = journal.older.at(-1), answer = await bytesOf(file, "-1");
+  if (!answer.bytes) return false;
+  Object.assign(journal, { file, older: journal.older.slice(0, -1), begin: answer.size });
+  return journal.begin ? true : goOn();
 }
 
 async function readEarlier() {
-  if (journal.state !== "read" || journal.begin === 0) return;
-  const start = Math.max(0, journal.begin - PIECE), found = await bytesOf(`${start}-${journal.begin - 1}`);
-  if (!found || found.from !== start) return;
-  const skip = start ? found.bytes.indexOf(LINE_FEED) + 1 : 0;
-  journal.begin = start + skip;
-  keep([...entriesIn(found.bytes.slice(skip)), ...journal.entries]);
+  if (journal.state !== "read" || isWhole() || !(await goOn())) return;
+  const start = Math.max(0, journal.begin - PIECE), answer = await bytesOf(journal.file, `${start}-${journal.begin - 1}`);
+  if (answer.from !== start) return;
+  const { found, begin } = linesOf(answer, false), first = journal.entries[0]?.number ?? Infinity;
+  journal.begin = begin;
+  keep([...found.filter(({ number }) => number < first), ...journal.entries]);
 }
 
 function inTurn(read) {
@@ -87,7 +124,17 @@ function inTurn(read) {
 export const newest = () => inTurn(readNewest);
 export const earlier = () => inTurn(readEarlier);
 
-// Whether it reaches back to its first line.
+// Whether the first of all commands was read, or there is none.
 export function isWhole() {
-  return journal.state === "read" && journal.begin === 0;
+  return journal.state === "read" && (journal.entries.length ? journal.entries[0].number === 1 : isAtEnd());
+}
+
+// Whether all that is served was read.
+function isAtEnd() {
+  return journal.begin === 0 && journal.older?.length === 0;
+}
+
+// Whether more can be read.
+export function hasEarlier() {
+  return journal.state === "read" && !isWhole() && !isAtEnd();
 }

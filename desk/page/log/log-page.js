@@ -1,14 +1,15 @@
-// The log of the whole register: searched by clearance, point, employee and day, printed as it is shown.
+// The log of the whole register: searched, and printed as it is shown.
 
-import { drafted, draftName } from "../shared/drafts.js";
-import { el, button, field, panel, table } from "../shared/elements.js";
+import { el, button, panel, table } from "../shared/elements.js";
 import { wholeTime } from "../shared/moments.js";
 import { isLackedByBoard } from "./board-lacks.js";
-import { earlier, isWhole, journal, newest } from "./journal.js";
-import { employeesIn, lateWords, logRows, pointsIn, replyWords, whoWords } from "./log-words.js";
+import { earlier, hasEarlier, isWhole, journal, newest } from "./journal.js";
+import { LogSearch } from "./log-search.js";
+import { lateWords, logRows, replyWords, whoWords } from "./log-words.js";
+import { readBackTo } from "./reading-back.js";
 
 const MOST_LISTED = 500;
-const FILTERS = { clearance: ["Clearance", "search", 12], point: ["Point", "search", 12], employee: ["Employee", "search", 12], day: ["Day", "date", null] };
+const RECORD = /^[A-Z0-9-]+\/\d+$/;
 
 const STATES = {
   new: "The journal is being read…",
@@ -25,18 +26,22 @@ function logRow(row) {
 }
 
 export class LogPage {
-  #inputs; #count = el("p", { class: "hint", role: "status" }); #rows = el("div", { class: "sheet" });
+  #search = new LogSearch(() => this.update()); #count = el("p", { class: "hint", role: "status" }); #rows = el("div", { class: "sheet" });
   #more = button("Read earlier entries", () => this.#read(earlier), { "data-name": "earlier" });
   title = "Log";
   node;
 
   constructor() {
-    this.#inputs = Object.fromEntries(Object.entries(FILTERS).map(([part, [, type, size]]) =>
-      [part, drafted(el("input", { type, size, "data-name": part, oninput: () => this.#draw() }), draftName(`log ${part}`))]));
     this.node = el("section", { class: "log-page" }, el("h2", { tabindex: -1 }, "Log"),
-      el("div", { class: "line" }, Object.entries(FILTERS).map(([part, [text]]) => field(text, this.#inputs[part])),
+      el("div", { class: "line" }, this.#search.fields,
         this.#more, button("Print", () => window.print(), { "data-name": "print-log" })), this.#count, this.#rows);
-    this.#read(newest);
+    this.update();
+  }
+
+  // As much as is listed is read; a record that is named whole is read back to its beginning.
+  #fill() {
+    const id = this.#search.said("clearance");
+    return newest().then(() => readBackTo(RECORD.test(id) ? [id] : [], MOST_LISTED));
   }
 
   async #read(read) {
@@ -46,23 +51,25 @@ export class LogPage {
 
   update() {
     this.#draw();
+    this.#read(() => this.#fill());
   }
 
-  #fits(row) {
-    const { clearance, point, employee, day } = Object.fromEntries(Object.entries(this.#inputs).map(([part, input]) => [part, input.value.trim().toUpperCase()]));
-    const among = (names, text) => !text || names.some((name) => name.includes(text));
-    return among([row.id ?? ""], clearance) && among(pointsIn(row), point) && among(employeesIn(row), employee) && (!day || wholeTime(row.at).startsWith(day));
+  // How far back the journal was read.
+  #reachWords() {
+    if (isWhole()) return "The whole journal was read.";
+    if (hasEarlier()) return "Earlier entries of the journal were not read yet.";
+    return `The entries before number ${journal.entries[0]?.number} are in no part of the journal that is served here.`;
   }
 
   #draw() {
-    this.#more.hidden = journal.state !== "read" || isWhole();
+    this.#more.hidden = !hasEarlier();
     if (journal.state !== "read") {
       panel(this.#rows, journal.state, () => [el("p", {}, STATES[journal.state])]);
       return;
     }
-    const found = logRows().filter((row) => this.#fits(row)).reverse(), shown = found.slice(0, MOST_LISTED);
-    this.#count.textContent = `${shown.length} of ${found.length} entries found, the newest first. ${isWhole() ? "The whole journal was read." : "Earlier entries of the journal were not read yet."}`;
-    panel(this.#rows, [shown.map(({ entry }) => [entry.number, replyWords(entry)]), journal.begin], () =>
+    const found = logRows().filter((row) => this.#search.fits(row)).reverse(), shown = found.slice(0, MOST_LISTED);
+    this.#count.textContent = `${shown.length} of ${found.length} entries found, the newest first. ${this.#reachWords()}`;
+    panel(this.#rows, [shown.map(({ entry }) => [entry.number, replyWords(entry)]), journal.begin, journal.file], () =>
       table(["No", "Moment", "Clearance", "Who", "What", "Reply"], shown.map(logRow), { class: "wide log" }));
   }
 }

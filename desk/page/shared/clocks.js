@@ -15,6 +15,11 @@ export function noteDate(header) {
   if (!Number.isNaN(time)) off = Math.floor(time / 1000) - now();
 }
 
+// Now, by the server's clock.
+export function serverNow() {
+  return now() + off;
+}
+
 function isFar() {
   return Math.abs(off) > FAR;
 }
