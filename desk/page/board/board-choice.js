@@ -46,7 +46,7 @@ export class BoardChoice {
     } });
     this.#all = button("Show all", () => this.#showAll(changed), { class: "quiet", "data-name": "show-all" });
     this.node = el("div", {}, el("div", { class: "line board-choice" }, field("Search", this.#search), field("Show", this.#kind), field("Sort by", this.#sort),
-      field("A step is out too long after minutes", this.#minutes)), el("div", { class: "answers" }, this.#count, this.#all));
+      field("Minutes after which a step is out too long", this.#minutes)), el("div", { class: "answers" }, this.#count, this.#all));
   }
 
   #showAll(changed) {

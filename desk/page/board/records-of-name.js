@@ -27,7 +27,7 @@ export class MinePage {
     const own = names.includes(desk.caller?.name) ? desk.caller.name : "";
     this.#whose = choice([["", "choose"], ...names.map((name) => [name, name])], { "data-name": "whose", onchange: () => this.#ask() }, own);
     this.node = el("section", {}, el("h2", { tabindex: -1 }, "My clearances"),
-      el("div", { class: "line" }, field("Of", this.#whose), button("Ask again", () => this.#ask())), this.#rows);
+      el("div", { class: "line" }, field("Whose", this.#whose), button("Ask again", () => this.#ask())), this.#rows);
     this.#ask();
   }
 
