@@ -209,11 +209,16 @@ async function followLog() {
   if (logged === room.turns) return;
   logged = room.turns;
   noteLacking();
-  const before = journal.entries;
-  await newest();
-  await readBackTo(room.board.filter(({ phase }) => phase === "Granted").map(({ id }) => id)); // for what was found live there
-  if (journal.entries !== before) fromAfar(update);
+  await updatedBy(newest);
   lookUpOpen();
+  const granted = room.board.filter(({ phase }) => phase === "Granted").map(({ id }) => id);
+  await updatedBy(() => readBackTo(granted)); // for what was found live there
+}
+
+async function updatedBy(read) {
+  const before = journal.entries;
+  await read();
+  if (journal.entries !== before) fromAfar(update);
 }
 
 // Until the register has said what there is, nothing can be shown.

@@ -131,6 +131,7 @@ def request_and_order(keys):
     keys.act("down OPEN N11-Q33")
     keys.act("up OPEN N11-Q33")
     keys.act("order")
+    keys.answer("send")  # the tie is open already
     keys.accepted("order JONES/1")
 
 

@@ -12,6 +12,11 @@ from desk_looks.network import needed, undoing, write_files
 JONES, KIM = ("JONES", "N11-F33", ["N11-Q33", "TIE3-N11-N12"]), ("KIM", "N16-F33", ["N16-Q33", "TIE3-N15-N16"])
 
 
+def already(*texts):
+    """What the page is answered where it asks: a tie is open already."""
+    return ["send"] if any(text.startswith("OPEN TIE") for text in texts) else []
+
+
 class Shift:
     """Three windows: the operators', the field employee's, the holders'."""
 
@@ -31,7 +36,7 @@ class Shift:
             if hand.browser.script("return location.hash") != f"#/clearance/{clearance}":
                 hand.turn(f"clearance/{clearance}")
         self.room.speak(operator)
-        self.room.carry_out("instruct", f"instruct step {number} of {clearance}")
+        self.room.carry_out("instruct", f"instruct step {number} of {clearance}", answers=already(text))
         self.room.shows(text, "main .read-out")
         self.room.rest()
         self.field.repeat(text)
@@ -51,7 +56,7 @@ class Shift:
         self.room.speak(operator)
         self.room.turn(f"clearance/{clearance}")
         self.room.pick(*cut)
-        self.room.carry_out("order", f"order {clearance}")
+        self.room.carry_out("order", f"order {clearance}", answers=already(*needed(cut)))
         self.steps(clearance, needed(cut), operator)
         self.room.carry_out("grant", f"grant {clearance}", answers=["yes"])
 

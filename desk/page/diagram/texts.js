@@ -16,7 +16,7 @@ const KINDS = ["live", "bad", "turn", "plain", "dead"]; // of the marks at a sec
 const SIDES = { row: ["above", "below", "right", "left"], upright: ["right", "left", "below", "above"], lane: ["above", "below", "right", "left"], jumper: ["right", "left", "above", "below"] };
 
 export class Writing {
-  #network; #plan; #labels; #factor = 0; #inside = NAME; #view = null; #seen = null; #key = "";
+  #network; #plan; #labels; #factor = 0; #inside = NAME; #view = null; #onPaper = false; #seen = null; #key = "";
   node = svg("g", { class: "writing" });
 
   constructor(network, plan) {
@@ -26,7 +26,8 @@ export class Writing {
     const feeds = [...plan.spots.values()].filter((spot) => network.sections.get(spot.name).source)
       .map(({ x, y }) => [x - FEED, y - BOX / 2, x, y + BOX / 2]);
     this.#labels = new Labels([...sections, ...feeds, ...plan.edges.map(pointBox)], plan.edges, plan);
-    addEventListener("beforeprint", () => this.#writeWhole());
+    addEventListener("beforeprint", () => this.#turn(true));
+    addEventListener("afterprint", () => this.#turn(false));
   }
 
   // The scale at which the drawing is shown, once it is still, and what of it is in view. Before that is known nothing is written.
@@ -38,21 +39,22 @@ export class Writing {
   }
 
   // On paper there is no edge of a view.
-  #writeWhole() {
-    this.#view = null;
-    if (this.#seen) this.write(this.#seen);
+  #turn(onPaper) {
+    this.#onPaper = onPaper;
+    if (this.#seen && this.node.isConnected) this.write(this.#seen);
   }
 
   // What is known now: `picked(kind, name)` is whether it is picked.
   write(seen) {
     this.#seen = seen;
     if (!this.#factor) return;
+    const view = this.#onPaper ? null : this.#view;
     const labels = [...this.#sectionLabels(seen), ...this.#pointLabels(seen)];
-    const key = JSON.stringify([this.#factor, this.#inside, this.#view, labels.map(({ rank, forms, kind }) => [rank, forms, kind])]);
+    const key = JSON.stringify([this.#factor, this.#inside, view, labels.map(({ rank, forms, kind }) => [rank, forms, kind])]);
     if (key === this.#key) return;
     this.#key = key;
     labels.sort((a, b) => a.rank - b.rank);
-    const places = this.#labels.place(labels, this.#view);
+    const places = this.#labels.place(labels, view);
     const drawn = labels.flatMap((label, place) => (places[place] ? this.#drawn(label, places[place]) : []));
     const of = (tag) => drawn.filter((node) => node.localName === tag);
     this.node.replaceChildren(...of("path"), ...of("rect"), ...of("text")); // no leader over a text
