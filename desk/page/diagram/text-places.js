@@ -66,12 +66,12 @@ function partsOf(path) {
 // The places around a box, from the best on: [left, top, cost, ring]; beside the edge of the view also what is moved in.
 function* around([left, top, right, bottom], width, height, sides, rings, view) {
   const middle = (left + right - width) / 2, level = (top + bottom - height) / 2;
-  const moved = view ? Math.min(Math.max(middle, view[0] + PAD), view[2] - width - PAD) : middle;
+  const moved = view ? Math.min(Math.max(middle, view[0] + PAD), view[2] - width - PAD) : middle, isMoved = moved !== middle;
   for (let ring = 0; ring < rings; ring++) {
     const out = GAP + ring * RING;
     const ways = {
-      above: [[middle, top - out - height], [left, top - out - height], [right - width, top - out - height], [moved, top - out - height]],
-      below: [[middle, bottom + out], [left, bottom + out], [right - width, bottom + out], [moved, bottom + out]],
+      above: [[middle, top - out - height], [left, top - out - height], [right - width, top - out - height], ...(isMoved ? [[moved, top - out - height]] : [])],
+      below: [[middle, bottom + out], [left, bottom + out], [right - width, bottom + out], ...(isMoved ? [[moved, bottom + out]] : [])],
       right: [[right + out, level], [right + out, level + RING], [right + out, level - RING]],
       left: [[left - out - width, level], [left - out - width, level + RING], [left - out - width, level - RING]],
     };

@@ -32,8 +32,10 @@ export class Writing {
 
   // The scale at which the drawing is shown, once it is still, and what of it is in view. Before that is known nothing is written.
   atView(scale, view) {
-    this.#factor = Math.max(1, Math.ceil((LEAST / (LABEL * scale)) * PART) / PART);
-    this.#inside = NAME * scale >= LEAST_INSIDE ? NAME : 0;
+    const factor = Math.max(1, Math.ceil((LEAST / (LABEL * scale)) * PART) / PART), inside = NAME * scale >= LEAST_INSIDE ? NAME : 0;
+    if (factor === this.#factor && inside === this.#inside && view.join() === this.#view?.join()) return;
+    this.#factor = factor;
+    this.#inside = inside;
     this.#view = view;
     if (this.#seen) this.write(this.#seen);
   }
