@@ -56,3 +56,11 @@ test("moves one after another", () => {
 test("how long", () => {
   assert.deepEqual([span(7), span(-200), span(7500), span(0)], ["7 seconds", "3 minutes 20 seconds", "2 hours 5 minutes", "0 seconds"]);
 });
+
+test("a step at a point that has that position already asks", () => {
+  for (const [action, name, text] of [["CLOSE", "S3", "is closed already"], ["OPEN", "TIE", "is open already"]]) {
+    const [first] = found(ROW, action, name);
+    assert.deepEqual(first, { text, asks: true });
+  }
+  for (const [action, name] of [["OPEN", "S3"], ["CLOSE", "TIE"], ["LEAVE", "TIE"]]) assert.equal(found(ROW, action, name).some(({ text }) => /already/.test(text)), false);
+});

@@ -1,0 +1,65 @@
+// The journal, read from its end backwards and through its parts; how old a record is.
+
+import assert from "node:assert/strict";
+import test from "node:test";
+
+import { ageWords } from "../../desk/page/board/ages.js";
+import { earlier, hasEarlier, isWhole, journal, newest } from "../../desk/page/log/journal.js";
+import { isBegun, readBackTo } from "../../desk/page/log/reading-back.js";
+
+const files = new Map(); // path: text, as a proxy serves it
+
+// A proxy that serves these files by ranges, and the list of the parts.
+globalThis.fetch = async (path, { headers = {} } = {}) => {
+  if (path === "journals/") return Response.json([...files.keys()].filter((name) => name !== "journal").map((name) => ({ name: name.slice(9), type: "file" })));
+  const whole = new TextEncoder().encode(files.get(path) ?? ""), [, begin, end] = /^bytes=(\d*)-(\d*)$/.exec(headers.Range);
+  if (!files.has(path)) return new Response("", { status: 404 });
+  const from = begin === "" ? Math.max(0, whole.length - Number(end)) : Number(begin), to = begin === "" || end === "" ? whole.length : Number(end) + 1;
+  if (from >= whole.length) return new Response("", { status: 416, headers: { "Content-Range": `bytes */${whole.length}` } });
+  return new Response(whole.slice(from, to), { status: 206, headers: { "Content-Range": `bytes ${from}-${Math.min(to, whole.length) - 1}/${whole.length}` } });
+};
+
+const line = (number, at = 1000) => `${JSON.stringify({ command: { at: at + number, by: "OPS", do: "switch", steps: ["OPEN S1"] }, login: null, number, received: at + number, reply: { card: { clearance: `OPS/${number}`, round: 1 }, reply: "accepted" } })}\n`;
+const lines = (first, last, at) => Array.from({ length: last - first + 1 }, (_, place) => line(first + place, at)).join("");
+const numbers = () => journal.entries.map(({ number }) => number);
+const upTo = (last, first = 1) => Array.from({ length: last - first + 1 }, (_, place) => first + place);
+
+test("a journal that is rotated while it is read, and one that is read after", async () => {
+  files.set("journal", lines(1, 20));
+  await newest();
+  assert.deepEqual([numbers(), isWhole()], [upTo(20), true]);
+  files.set("journals/journal-2026-01-01T000000Z", lines(1, 19));
+  files.set("journal", lines(20, 23));
+  await newest();
+  assert.deepEqual([numbers(), isWhole()], [upTo(23), true]);
+  files.set("journal", lines(20, 24) + line(25).slice(0, 9));
+  await newest();
+  assert.deepEqual(numbers(), upTo(24));
+});
+
+test("another register's journal is read from its end, and back as far as a record needs it", async () => {
+  files.clear();
+  files.set("journals/journal-2026-01-01T000000Z", lines(1, 4, 5000));
+  files.set("journals/journal-2026-01-02T000000Z", lines(4, 8, 5000));
+  files.set("journals/room.db", "none of the parts");
+  files.set("journal", `{"number":8,"withdrawn":true}\n${lines(9, 10, 5000)}`);
+  await newest();
+  assert.deepEqual([numbers(), isWhole(), hasEarlier()], [[9, 10], false, true]);
+  await readBackTo(["OPS/6"]);
+  assert.deepEqual([numbers(), isBegun("OPS/6"), isBegun("OPS/2")], [upTo(10, 4), true, false]);
+  assert.equal(journal.entries.find(({ number }) => number === 8).withdrawn, true);
+  await earlier();
+  assert.deepEqual([numbers(), isWhole(), hasEarlier()], [upTo(10), true, false]);
+});
+
+test("a part that is gone", async () => {
+  files.clear();
+  files.set("journal", lines(30, 31));
+  await newest();
+  await readBackTo(["OPS/6"]);
+  assert.deepEqual([numbers(), isWhole(), hasEarlier()], [[30, 31], false, false]);
+});
+
+test("ages", () => {
+  assert.deepEqual([ageWords(59), ageWords(3599), ageWords(3661), ageWords(172800)], ["0 min", "59 min", "1 h 1 min", "2 days"]);
+});
