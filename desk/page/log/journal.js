@@ -46,11 +46,6 @@ function joins(known, found) {
   return same ? same.received === first.received && JSON.stringify(same.command) === JSON.stringify(first.command) : first.number === last.number + 1;
 }
 
-function forget() {
-  journal.entries = [];
-  withdrawn = new Set();
-}
-
 // The whole lines of what was found, and where they begin and end.
 function linesOf({ bytes, from }, isBegin) {
   const skip = isBegin || !from ? 0 : bytes.indexOf(LINE_FEED) + 1, last = Math.max(bytes.lastIndexOf(LINE_FEED) + 1, skip);
@@ -65,8 +60,11 @@ async function readFromEnd() {
     missed = performance.now();
     return;
   }
+  const before = withdrawn;
+  withdrawn = new Set();
   const { found, begin, end } = linesOf(answer, false);
-  if (!joins(journal.entries, found)) forget();
+  if (joins(journal.entries, found)) withdrawn = new Set([...before, ...withdrawn]);
+  else journal.entries = [];
   Object.assign(journal, { begin, end, file: NEWEST, older: null });
   keep([...journal.entries.filter(({ number }) => number < (found[0]?.number ?? Infinity)), ...found]);
   if (!begin && !isWhole()) journal.older = await partFiles();
