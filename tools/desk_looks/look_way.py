@@ -57,7 +57,7 @@ def not_normal(stage):
     moved = [switch(["OPEN N14-Q12"]), *steps("DISP1/1", ["OPEN N14-Q12"]), *JONES, {"by": "LEE", "do": "request", "section": "N14-F13"}]
     hand = stage.network(moved, "clearance/LEE/1", speaker="DISP2")
     hand.write("filter", "N14-")
-    for words in ("N14-Q12 N14-F11 – N14-F12 marks: lockable open, normally closed", "TIE1-N13-N14 N13-F13 – N14-F13 marks: lockable held by JONES/1"):
+    for words in ("N14-Q12 N14-F11 – N14-F12 open marks: lockable normally closed", "TIE1-N13-N14 N13-F13 – N14-F13 open marks: lockable held by JONES/1"):
         wait_until(lambda: words in " ".join(hand.text(".picks").split()), f"in the list: {words}")
     hand.pick("TIE1-N13-N14", "N14-Q12")
     hand.shows("JONES/1 (Granted, crew C1 on) has it held open, blocked, tagged", '.picked-notes [data-at="TIE1-N13-N14"]')
