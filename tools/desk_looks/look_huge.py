@@ -10,7 +10,7 @@ from desk_looks.network import HEADS
 
 SOURCES, FEEDERS, LONG_FEEDER = 50, 9, 11  # with the sources 5,000 sections
 POINTS = 10000
-FIRST, CHANGE = 2.0, 5.0  # seconds
+FIRST, LISTED, CHANGE = 2.0, 1.0, 5.0  # seconds: from the address, from the network, from a change elsewhere
 TRIES = 3
 
 
@@ -35,17 +35,17 @@ def huge_files(work):
 
 
 def first_drawing(hand):
-    """Seconds from the address to what is drawn; the best of some tries, since the machine may be busy."""
-    best = None
+    """Seconds to what is drawn, from the address and from the network; the best of some tries, since the machine may be busy."""
+    best = listed = None
     for _ in range(TRIES):
         hand.open("diagram")
         entry = hand.browser.script("const one = performance.getEntriesByName('drawn')[0]; return [one.startTime, one.duration]")
         took = sum(entry) / 1000
-        best = min(best or took, took)
+        best, listed = min(best or took, took), min(listed or took, entry[1] / 1000)
         say(f"  shown {took:.2f} seconds after the address was opened, {entry[1]:.0f} ms after the network was read")
-        if best < FIRST:
+        if best < FIRST and listed < LISTED:
             break
-    return best
+    return best, listed
 
 
 def change(one, two, point, number):
@@ -67,14 +67,14 @@ def huge(stage):
     desk = Desk(stage.work, "desk", files, free_ports(2))
     one = stage.begin(desk, "board")
     two = stage.window("diagram")
-    took = first_drawing(two)
+    took, listed = first_drawing(two)
     two.write("filter", "S00-F0-01")
     two.shows("Q-S00-F0-01 to S00-F0-00: closed", "main .diagram")
     changed = change(one, two, "Q-S00-F0-01", 1)
     say(f"  a change is shown at a second desk after {changed:.1f} seconds")
     two.picture("huge")
-    if took >= FIRST or changed >= CHANGE:
-        raise Differs(f"it was to be shown within {FIRST:.0f} seconds, and a change within {CHANGE:.0f}")
+    if took >= FIRST or listed >= LISTED or changed >= CHANGE:
+        raise Differs(f"it was to be shown within {FIRST:.0f} seconds, listed within {LISTED:.0f}, and a change within {CHANGE:.0f}")
 
 
 LOOKS = {"huge": huge}
