@@ -258,6 +258,10 @@ function sectionSample(className, live) {
       live ? svg("path", { class: "flash", d: FLASH, transform: "translate(3,2)" }) : null));
 }
 
+function jumperSample() {
+  return svg("svg", { class: "net sample", viewBox: "-14 -12 28 24", width: 28, height: 24, "aria-hidden": "true" }, svg("path", { class: "line jumper", d: "M-14,0H14" }));
+}
+
 function fenceSample() {
   return svg("svg", { class: "net sample", viewBox: "0 -14 40 28", width: 40, height: 24, "aria-hidden": "true" },
     svg("g", { class: "section fenced" }, svg("rect", { class: "box", x: 2, y: -11, width: 36, height: 22, rx: 4 }),
@@ -269,6 +273,7 @@ function legend() {
   const sign = (text) => el("b", {}, text);
   return el("details", { class: "legend" }, el("summary", {}, "Signs"), el("ul", {},
     entry(sample("point closed"), "closed"), entry(sample("point open"), "open"),
+    entry(jumperSample(), "a jumper"),
     entry(sectionSample("fed", true), "live by the register: closed points lead there from a source"),
     entry(sectionSample("dead", false), "dead by the positions of the points; only a test shows it in the field"),
     entry(sign("→ live, → dead"), "what the step at hand, or the order that is being written, would make of it, by this page's reckoning"),
