@@ -78,8 +78,15 @@ def install(root, tally):
     tally.check("and in the journal, which the page reads", root.curl("/journal")[1].count('"number":1,') == 1, root.curl("/journal"))
     log = root.path(f"{LOGS}/commands.log").read_text()
     tally.check("the log has it", log.count("\n") == 1 and "JONES" in log, log)
-    wanted = {DATA: "710 gridclear:www-data", f"{DATA}/room.db": "600 gridclear:gridclear", f"{DATA}/staff.csv": "600 gridclear:gridclear",
-              f"{DATA}/journal": "640 gridclear:www-data", BACKUPS: "700 gridclear:gridclear", LOGS: "2750 www-data:adm",
+    time.sleep(1)
+    log = root.path(f"{LOGS}/refused.log")
+    tally.check("what was refused is in a log", log.exists() and '"refused":"site","status":403,"request":"GET /board ' in log.read_text(), log.exists())
+    normal = root.curl("/normal")
+    root.run("sed -i s/closed/open/ /etc/gridclear/network/points.csv")
+    tally.check("the normal positions are the register's own copy", normal[0] == "200" and "closed" in normal[1] and root.curl("/normal") == normal, normal)
+    root.run("cp points.csv /etc/gridclear/network")
+    wanted = {DATA: "750 gridclear:www-data", f"{DATA}/room.db": "600 gridclear:gridclear", f"{DATA}/staff.csv": "600 gridclear:gridclear",
+              f"{DATA}/journal": "640 gridclear:www-data", f"{DATA}/normal.csv": "640 gridclear:www-data", f"{LOGS}/refused.log": "640 www-data:adm", BACKUPS: "700 gridclear:gridclear", LOGS: "2750 www-data:adm",
               f"{LOGS}/commands.log": "640 www-data:adm", ETC: "755 root:root", f"{ETC}/gridclear.conf": "644 root:root"}
     for name, owner in wanted.items():
         tally.check(f"/{name} is {owner}", root.owner(name) == owner, root.owner(name))
@@ -103,7 +110,10 @@ def refusals(root, tally):
     tally.check("not while it is served", status == 1 and "is served" in out, out)
     status, out = root.run("gridclear-setup --login OPS NOBODY", "a word\n")
     tally.check("a login speaks as employees alone", status == 1 and "nobody in" in out and not root.path(f"{ETC}/users").exists(), out)
-    for call in ("--login", "--other"):
+    for words in ("XX A...", "OPS 'OPS|KIM'", "ops OPS", f"{'A' * 25} OPS"):
+        status, out = root.run(f"gridclear-setup --login {words}", "a word\n")
+        tally.check(f"--login {words} is refused", status == 1 and "is not a name" in out and not root.path(f"{ETC}/logins.csv").exists(), out)
+    for call in ("--login", "--remove-login", "--restore", "--other"):
         tally.check(f"{call} is no call", root.run(f"gridclear-setup {call}")[0] == 2)
     for name, old, new in (("staff", "operator", "field"), ("sections", "yes", "no"), ("points", "S2,", "s2,")):
         file = root.path(f"{ETC}/network/{name}.csv")
@@ -133,13 +143,14 @@ def logins(root, tally):
     tally.check("other ports", found == ("200", "200", "000"), found)
     config.write_text(config.read_text().replace("=8180", "=8080").replace("=8190", "=8090"))
     employees(root, tally)
+    removed(root, tally)
     root.run("rm /etc/gridclear/users /etc/gridclear/logins.csv; systemctl restart gridclear gridclear-desk")
     given = root.path(f"{LOGS}/commands.log").read_text().count("\n")
     status, out = root.run("logrotate -f /etc/logrotate.d/gridclear")
     time.sleep(2)
     root.curl("/command", "-d", COMMAND)
     time.sleep(2)
-    logs = {one.name: one.read_text().count("\n") for one in root.path(LOGS).iterdir()}
+    logs = {one.name: one.read_text().count("\n") for one in root.path(LOGS).glob("commands*")}
     tally.check("the log is rotated, and goes on", status == 0 and logs == {"commands.log": 1, "commands.log.1": given}, f"{out} {logs}")
     tally.check("the new one is nobody else's", root.owner(f"{LOGS}/commands.log") == "640 www-data:adm", root.owner(f"{LOGS}/commands.log"))
 
@@ -157,6 +168,19 @@ def employees(root, tally):
     tally.check("a login speaks as its employees", found == ["403", "403", "200"], found)
     found = root.curl("/command", "-H", "X-Forwarded-User: OPS", "-u", "KIM:of KIM", "-d", command % "OPS")
     tally.check("nobody names another login", found == ("403", '{"fault":"NotCaller"}'), found)
+
+
+def removed(root, tally):
+    """Logins are listed, and removed; the last one opens nothing."""
+    status, out = root.run("gridclear-setup --logins")
+    tally.check("the logins", status == 0 and out == "KIM: KIM\nOPS: OPS REED DALE\n", out)
+    status, out = root.run("gridclear-setup --remove-login KIM && systemctl restart gridclear gridclear-desk")
+    found = [root.curl("/board", "-u", f"{name}:of {name}")[0] for name in ("KIM", "OPS")]
+    tally.check("one is removed", status == 0 and found == ["401", "200"] and root.run("gridclear-setup --logins")[1] == "OPS: OPS REED DALE\n", f"{out} {found}")
+    status, out = root.run("gridclear-setup --remove-login OPS && systemctl restart gridclear gridclear-desk")
+    found = root.curl("/board")[0], root.curl("/board", "-u", "OPS:of OPS")[0], root.curl("/clearance/OPS/JONES/1", port=8080)[0]
+    tally.check("without the last one nobody comes in", status == 0 and found == ("401", "401", "403"), f"{out} {found}")
+    tally.check("what is left has its owners", [root.owner(f"{ETC}/{name}") for name in ("users", "logins.csv")] == ["640 root:www-data", "644 root:root"])
 
 
 def backup(root, tally):
@@ -188,15 +212,56 @@ def backup(root, tally):
     status, out = root.run("systemctl start gridclear-backup; s=$?; cat /run/gridclear-backup.out; exit $s")
     tally.check("without a journal there is none", status != 0 and "has no journal" in out and not list(root.path(BACKUPS).glob("*.part")), out)
     root.run(f"mv /srv/journal /{DATA}; systemctl start gridclear")
+    status, out = root.curl("/journals/")
+    names = [one["name"] for one in json.loads(out) if one["name"].startswith("journal-2")] if status == "200" else [status]
+    found = [root.curl(f"/journals/{name}") for name in names]
+    tally.check("the page gets the part too", len(names) == 1 and found[0][0] == "200" and found[0][1].encode() == parts[0], names)
+    tally.check("and nothing besides of that folder", {root.curl(f"/journals/{name}")[0] for name in ("room.db", "staff.csv", "journal-2/../room.db")} <= {"404", "403"})
+
+
+OWNERS = {f"{DATA}/journal": "640 gridclear:www-data", f"{DATA}/room.db": "600 gridclear:gridclear", f"{DATA}/points.csv": "600 gridclear:gridclear",
+          f"{DATA}/normal.csv": "640 gridclear:www-data", f"{ETC}/users": "640 root:www-data", f"{ETC}/logins.csv": "644 root:root", f"{ETC}/gridclear.conf": "644 root:root"}
+
+
+def restore(root, tally):
+    """A backup with logins and configuration, put back on a machine that has none, and over one."""
+    print("restores", flush=True)
+    root.run("gridclear-setup --login OPS OPS REED; echo '# ours' >> /etc/gridclear/gridclear.conf; systemctl restart gridclear gridclear-desk", "a word\n")
+    root.run("sleep 1; systemctl start gridclear-backup")
+    copy = max(root.path(BACKUPS).iterdir(), key=lambda one: one.name)
+    etc = {name: root.path(f"{ETC}/{name}").read_bytes() for name in ("users", "logins.csv", "gridclear.conf")}
+    tally.check("a backup has logins and configuration", all((copy / name).exists() and (copy / name).read_bytes() == text for name, text in etc.items()), list(copy.iterdir()))
+    words = "-u", "OPS:a word"
+    board = root.curl("/board", *words)
+    lines = "; ".join(guide("$backup"))
+    clean = f"systemctl stop gridclear; rm -rf /{DATA}/* /{ETC}/users /{ETC}/logins.csv; dpkg-deb --fsys-tarfile gridclear_*.deb | tar -xO ./etc/gridclear/gridclear.conf > /{ETC}/gridclear.conf"
+    status, out = root.run(f"{clean}; backup=/{BACKUPS}/{copy.name}; cd /{DATA}; set -e; {lines}")
+    tally.check("on a machine without a register", status == 0 and ": verified" not in out and "verified " in out, out)
+    for name, owner in OWNERS.items():
+        tally.check(f"/{name} is {owner}", root.owner(name) == owner, root.owner(name))
+    tally.check("logins and configuration are those of the backup", all(root.path(f"{ETC}/{name}").exists() and root.path(f"{ETC}/{name}").read_bytes() == text for name, text in etc.items()), out)
+    tally.check("its board, which asks for the login", root.curl("/board", *words) == board and root.curl("/board")[0] == "401", root.curl("/board", *words))
+    found = root.curl("/journal", *words)
+    tally.check("the page gets its log", found[0] == "200" and found[1].encode() == (copy / "journal").read_bytes(), found[0])
+    tally.check("and normal positions", root.curl("/normal", *words) == ("200", (TOP / "examples" / "points.csv").read_text()), root.curl("/normal", *words))
+    root.run("gridclear-setup --login KIM KIM; gridclear-setup --remove-login OPS", "other\n")
+    status, out = root.run(f"backup=/{BACKUPS}/{copy.name}; cd /{DATA}; set -e; {lines}")
+    tally.check("logins of this machine stay", status == 0 and "look: /etc/gridclear/users is another" in out and root.run("gridclear-setup --logins")[1] == "KIM: KIM\n", out)
+    root.run("rm /etc/gridclear/users /etc/gridclear/logins.csv; systemctl restart gridclear gridclear-desk")
 
 
 def port_443(root, tally):
     """Desks on other machines: the package's lines for Debian's own nginx."""
-    status, out = root.run(" && ".join([*guide("openssl req")[:3], "nginx"]))
+    status, out = root.run(" && ".join([*guide("openssl req")[:-1], "nginx"]))
     tally.check("nginx takes the lines of port 443", status == 0, out)
+    tally.check("Debian's default site is off", not os.path.lexists(root.path("etc/nginx/sites-enabled/default")) and "Welcome to nginx" not in root.curl("/", port=80)[1])
     call = "curl -s -m 20 -k --resolve register.example:443:127.0.0.1 -w ' %{http_code}' https://register.example"
     found = [root.run(f"{call}{words}")[1][-3:] for words in ("/board", "/board -u OPS:first", "/board -u KIM:other", f"/command -u KIM:other -d '{COMMAND}'")]
     tally.check("port 443 asks for the same logins", found[:3] == ["401", "401", "200"] and found[3] in ("200", "409"), found)
+    root.run(f"{call}/board -H 'Origin: https://evil.example'")
+    time.sleep(2)
+    log = root.path("var/log/nginx/register-refused.log")
+    tally.check("port 443 logs what it refuses", log.exists() and '"origin":"https://evil.example"' in log.read_text(), log.exists())
     logs = [json.loads(root.path(name).read_text().splitlines()[-1]) for name in ("var/log/nginx/register.log", f"{LOGS}/commands.log")]
     tally.check("both logs have the login, and one id", [one["login"] for one in logs] == ["KIM", "KIM"] and logs[0]["id"] == logs[1]["id"], logs)
     root.run("nginx -s stop; rm /etc/nginx/conf.d/register.conf")
@@ -205,11 +270,12 @@ def port_443(root, tally):
 def upgrade(root, tally):
     print("an upgrade, removing, purging, and the package again", flush=True)
     board = root.curl("/board", port=8080)
-    pid = root.run("cat /run/gridclear.pid /run/gridclear-desk.pid")[1]
+    pid = root.run(f"rm -f /{DATA}/normal.csv; cat /run/gridclear.pid /run/gridclear-desk.pid")[1]
     status, out = root.run("apt install ./next/gridclear_*_amd64.deb")
     tally.check("the next package is installed over a served register", status == 0, out)
     tally.check("both were restarted", root.run("cat /run/gridclear.pid /run/gridclear-desk.pid")[1] != pid and root.curl("/board")[0] == "200", out)
     tally.check("the board is that from before", root.curl("/board", port=8080) == board)
+    tally.check("a register from before has its normal positions", root.owner(f"{DATA}/normal.csv") == "640 gridclear:www-data" and root.curl("/normal")[0] == "200", out)
     tally.check("the old program is kept", root.path("var/backups/gridclear").is_dir() and os.listdir(root.path("var/backups/gridclear")) != [])
     tally.check("the changed configuration is kept", "OFFSET=-300" in root.path(f"{ETC}/gridclear.conf").read_text())
     status, out = root.run("apt-get remove -y gridclear")
@@ -267,7 +333,7 @@ def main():
     for name, kind in (("proc", "proc"), ("run", "tmpfs")):
         subprocess.run(["mount", "-t", kind, kind, str(root.path(name))], check=True)
     root.run("mkdir -p /run/systemd/system")
-    for part in (install, refusals, logins, backup, upgrade, migrate):
+    for part in (install, refusals, logins, backup, restore, upgrade, migrate):
         part(root, tally)
     asked = root.path("run/asked").read_text()
     tally.check("systemd was asked to read the units again", "--system daemon-reload" in asked, asked)
