@@ -110,7 +110,7 @@ def refusals(root, tally):
     tally.check("not while it is served", status == 1 and "is served" in out, out)
     status, out = root.run("gridclear-setup --login OPS NOBODY", "a word\n")
     tally.check("a login speaks as employees alone", status == 1 and "nobody in" in out and not root.path(f"{ETC}/users").exists(), out)
-    for words in ("XX A...", "OPS 'OPS|KIM'", "ops OPS", f"{'A' * 25} OPS"):
+    for words in ("XX D..E", "OPS 'OPS|KIM'", "ops OPS", f"{'A' * 25} OPS"):
         status, out = root.run(f"gridclear-setup --login {words}", "a word\n")
         tally.check(f"--login {words} is refused", status == 1 and "is not a name" in out and not root.path(f"{ETC}/logins.csv").exists(), out)
     for call in ("--login", "--remove-login", "--restore", "--other"):
